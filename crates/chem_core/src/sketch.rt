@@ -1,0 +1,86 @@
+ghost use Rattle.std.specs.Prelude.{◌≡◌, ◌++◌, [], ◌∷◌, length, OnOk};
+use std::alloc::AllocError;
+use std::marker::Model;
+
+/// Where the hydrogens of a written atom come from.
+#[derive(Clone, Copy, Debug, PartialEq, Eq)]
+pub enum Fill {
+    /// As written, in brackets.
+    Given,
+    /// By the valence table of the organic subset.
+    Organic,
+    /// By the valence table of molfiles, beside so many radical electrons (at most 2).
+    Table { radicals: u8 },
+    /// By a valence that is written (at most 15).
+    Fixed { valence: u8 },
+}
+
+/// An atom as it is written.
+#[derive(Clone, Copy, Debug, PartialEq, Eq)]
+pub struct SketchAtom {
+    /// The atomic number, 0 to 103; 0 is `*`.
+    pub number: u8,
+    /// The mass number, at most 999; 0 where none is written.
+    pub isotope: u16,
+    /// -15 to 15.
+    pub charge: i8,
+    /// Whether the symbol is written in lower case.
+    pub lower: bool,
+    pub fill: Fill,
+    /// Hydrogens that are no atoms of the sketch, at most 27.
+    pub hydrogens: u8,
+    /// The atom's place as written, from 0.
+    pub written: u16,
+}
+
+/// A bond's kind as it is written.
+#[derive(Clone, Copy, Debug, PartialEq, Eq)]
+pub enum SketchKind {
+    /// No symbol.
+    Unwritten,
+    Single,
+    Double,
+    Triple,
+    Quad,
+    /// `:`, the symbol of an aromatic bond.
+    Colon,
+}
+
+/// A bond as it is written, between the atoms at places `a` and `b`.
+#[derive(Clone, Copy, Debug, PartialEq, Eq)]
+pub struct SketchBond {
+    pub a: u16,
+    pub b: u16,
+    pub kind: SketchKind,
+}
+
+/// A structure as it is written: atoms in the order of the text, and the bonds between them.
+///
+/// Contracts see it as two lists.
+#[derive(Debug, Drop)]
+pub struct Sketch {
+    pub atoms: Vec<SketchAtom>,
+    pub bonds: Vec<SketchBond>,
+}
+
+impl Model for Sketch {
+    ghost use Rattle.chem_core.specs.Drawing.{Drawing};
+
+    ghost Value = { Drawing };
+
+    ghost view = { λ s. record { atoms = s.atoms.items; bonds = s.bonds.items } };
+}
+
+pub fn atom_count(s: &Sketch) -> usize
+    ensures { result ≡ length s.now.atoms }
+{
+    s.atoms.len()
+}
+
+pub fn push(s: &mut Sketch, b: SketchBond) -> Result<(), AllocError>
+    ensures a { OnOk result (s.new.bonds ≡ s.old.bonds ++ b ∷ []) }
+    ensures b { s.new.atoms ≡ s.old.atoms }
+{
+    s.bonds.push(b)?;
+    Ok(())
+}
