@@ -1,9 +1,7 @@
-//! The data that every other crate speaks of: elements, sketches as written, molecules as meant, prints.
 #![tactic(auto)]
 
-
-
-
+mod mol;
 mod sketch;
 
+pub use mol::{Atom, Bond, BondKind};
 pub use sketch::{Fill, Sketch, SketchAtom, SketchBond, SketchKind};

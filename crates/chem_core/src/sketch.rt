@@ -1,5 +1,3 @@
-ghost use Rattle.std.specs.Prelude.{◌≡◌, ◌++◌, [], ◌∷◌, length, OnOk};
-use std::alloc::AllocError;
 use std::marker::Model;
 
 /// Where the hydrogens of a written atom come from.
@@ -69,18 +67,4 @@ impl Model for Sketch {
     ghost Value = { Drawing };
 
     ghost view = { λ s. record { atoms = s.atoms.items; bonds = s.bonds.items } };
-}
-
-pub fn atom_count(s: &Sketch) -> usize
-    ensures { result ≡ length s.now.atoms }
-{
-    s.atoms.len()
-}
-
-pub fn push(s: &mut Sketch, b: SketchBond) -> Result<(), AllocError>
-    ensures a { OnOk result (s.new.bonds ≡ s.old.bonds ++ b ∷ []) }
-    ensures b { s.new.atoms ≡ s.old.atoms }
-{
-    s.bonds.push(b)?;
-    Ok(())
 }
