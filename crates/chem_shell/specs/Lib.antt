@@ -1,0 +1,3 @@
+pub mod SmilesChain
+pub mod Meaning
+pub mod Flat

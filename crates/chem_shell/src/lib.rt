@@ -1,0 +1,2 @@
+//! The top call of chemdb, and what it still reads and matches by itself.
+#![tactic(auto)]

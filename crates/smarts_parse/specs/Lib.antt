@@ -1,0 +1,5 @@
+pub mod Pattern
+pub mod Sound
+pub mod Truth
+pub mod Embedding
+pub mod Chain
