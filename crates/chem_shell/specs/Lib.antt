@@ -1,3 +1,9 @@
 pub mod SmilesChain
 pub mod Meaning
 pub mod Flat
+pub mod History
+pub mod Hits
+pub mod Command
+pub mod CommandView
+pub mod Reply
+pub mod Words

@@ -1,2 +1,5 @@
 //! The top call of chemdb, and what it still reads and matches by itself.
 #![tactic(auto)]
+
+pub mod command;
+pub mod reply;
