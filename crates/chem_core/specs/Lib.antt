@@ -4,3 +4,4 @@ pub mod Drawing
 pub mod Sound
 pub mod Molecule
 pub mod Bits
+pub mod Inside
