@@ -5,3 +5,4 @@ pub mod Sound
 pub mod Molecule
 pub mod Bits
 pub mod Inside
+pub mod Words
