@@ -61,7 +61,7 @@ pub bits_of-set : (words : List ℕ) (bit : ℕ) → bit / 64 < length words →
 bits_of-set words bit within =
     let word : ℕ = bit_or (get_or words (bit / 64) 0) (1 * 2 ^ (bit % 64) % 2 ^ 64) in
     let after : List ℕ = set words (bit / 64) word in
-    let len : length (bits_of after) ≡ length (set (bits_of words) bit true) = rw (length-bits_of, length-set, length-set, length-bits_of) in
+    let len : length (bits_of after) ≡ length (set (bits_of words) bit true) = length-bits_of after ∙ ap (λ n. 64 * n) (length-set words (bit / 64) word) ∙ sym (length-bits_of words) ∙ sym (length-set (bits_of words) bit true) in
     let there : bit < length (bits_of words) = rw length-bits_of (omega arith) in
     let low : bit % 64 < 64 = omega arith in
     ext_get_or false _ _ len (λ k _. elim (cases_eq k bit) [
