@@ -52,6 +52,14 @@ shape chlorine = two 67 108 refl (capital (omega arith) (omega arith)) (inl refl
 shape bromine = two 66 114 refl (capital (omega arith) (omega arith)) (inr refl)
 shape iodine = one 73 refl (capital (omega arith) (omega arith))
 
+symbol_length : (x : List ℕ) → Shape x → 1 ≤ length x
+symbol_length x (one a e _) = let l : length x ≡ 1 = ap length e in omega arith
+symbol_length x (two a b e _ _) = let l : length x ≡ 2 = ap length e in omega arith
+
+-- a symbol has a byte
+pub symbol_is_some : (s : Organic) → 1 ≤ length (symbol_bytes s)
+symbol_is_some s = symbol_length (symbol_bytes s) (shape s)
+
 -- what follows a symbol does not begin with a symbol's second letter
 not_second : (xs : List ℕ) (b : ℕ) (bs : List ℕ) → FollowsSymbol xs → xs ≡ b ∷ bs → (b ≡ 108) ⊎ (b ≡ 114) → ⊥
 not_second xs b bs f e h = let g : FollowsSymbol (b ∷ bs) = subst FollowsSymbol e f in elim h [ inl l ↦ g.0 l | inr r ↦ g.1 r ]

@@ -98,5 +98,4 @@ pub fn chain(alloc: Global, text: &[u8]) -> Result<tree::Chain, SmartsFault>
 /// A text has at most one tree.
 pub fn one_tree()
     ensures { (c d : Chain) → spelling c ≡ spelling d → c ≡ d }
-{
-}
+{}

@@ -7,9 +7,8 @@ ghost use Rattle.smarts_parse.specs.Chain.{Chain, spelling, chain_pattern, IsSho
 ghost use Rattle.smarts_parse.specs.declared.fault.SmartsFault.TheVariants.{Syntax, NoMemory};
 
 use crate::fault::SmartsFault;
-use crate::parser;
 use crate::pattern::Pattern;
-use crate::translate;
+use crate::{parser, translate};
 use std::alloc::Global;
 
 /// Reads a SMARTS pattern (Daylight Theory Manual, chapter SMARTS).
