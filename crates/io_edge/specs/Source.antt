@@ -10,6 +10,12 @@ use Rattle.io_edge.specs.declared.sources.Take.TheVariants.{Bytes, End, Failed}
 abbrev pub Leaves : Option (List ℕ) → List ℕ → Option (List ℕ) → Type 0
 Leaves old bytes new = Consumes old new bytes
 
+-- how many bytes were moved
+abbrev pub number_of : Take → ℕ
+number_of (Bytes n) = n
+number_of End = 0
+number_of Failed = 0
+
 -- P holds of the number of bytes, where bytes were moved
 abbrev pub IfBytes : Take → (ℕ → Type 0) → Type 0
 IfBytes (Bytes n) P = P n

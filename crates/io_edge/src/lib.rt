@@ -1,6 +1,8 @@
 //! The edge of bytes in and bytes out: sources and sinks that count their faults, and the lines of a source.
 #![tactic(auto)]
 
+mod buffer;
+mod lines;
 mod memory;
 mod sinks;
 mod sources;

@@ -2,7 +2,7 @@
 ghost use Rattle.std.specs.Prelude.{◌<◌, ◌≤◌, ◌≡◌, ◌^◌, ℕ, List, [], Option, length, take, drop};
 ghost use Rattle.std.specs.Io.KnownBytes.{IsAtEnd};
 ghost use Rattle.io_edge.specs.Faults.{Rose};
-ghost use Rattle.io_edge.specs.Source.{Leaves, IfBytes, OnEnd, OnFailed};
+ghost use Rattle.io_edge.specs.Source.{Leaves, number_of, IfBytes, OnEnd, OnFailed};
 
 /// What a take answers.
 #[derive(Clone, Copy, Debug, PartialEq, Eq)]
@@ -13,6 +13,18 @@ pub enum Take {
     End,
     /// The source failed, and counted a fault. Nothing was moved.
     Failed,
+}
+
+impl Take {
+    /// How many bytes were moved.
+    pub fn number(self) -> usize
+        ensures { result ≡ number_of self }
+    {
+        match self {
+            Take::Bytes(n) => n,
+            Take::End | Take::Failed => 0,
+        }
+    }
 }
 
 /// What bytes are taken from, piece by piece.
