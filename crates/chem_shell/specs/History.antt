@@ -33,3 +33,7 @@ snapshot h v = fold_from 0 (take v h) (λ _. None)
 -- the states now
 abbrev pub head : History → States
 head h = snapshot h (length h)
+
+-- the most commits that a store may have
+abbrev pub most_commits : ℕ
+most_commits = 16777215

@@ -6,4 +6,5 @@ pub mod Hits
 pub mod Command
 pub mod CommandView
 pub mod Reply
+pub mod Store
 pub mod Words

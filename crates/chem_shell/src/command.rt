@@ -1,4 +1,4 @@
-ghost use Rattle.std.specs.Prelude.{IfSome, OnNone, IfNone};
+ghost use Rattle.std.specs.Prelude.{IfSome, IfNone};
 ghost use Rattle.chem_shell.specs.Command.{Spells, IsUnread};
 ghost use Rattle.chem_shell.specs.CommandView.{command_of};
 
