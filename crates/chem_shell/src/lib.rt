@@ -2,5 +2,7 @@
 #![tactic(auto)]
 
 pub mod command;
+pub mod request;
 pub mod reply;
 pub mod store;
+pub mod words;
