@@ -107,27 +107,27 @@ same_pairs [] (y ∷ ys) up0 up1 to from = let q = from y (Contains-cons_first y
 same_pairs (x ∷ xs) [] up0 up1 to from = let q = to x (Contains-cons_first x xs) in absurd (omega (arith, q.1))
 same_pairs (x ∷ xs) (y ∷ ys) up0 up1 to from =
     let head : x ≡ y = elim (Contains-cons_cases y ys x (to x (Contains-cons_first x xs))) [
-      inl e ↦ sym e
+      | inl e ↦ sym e
       | inr q ↦ elim (Contains-cons_cases x xs y (from y (Contains-cons_first y ys))) [
-        inl e ↦ e
+        | inl e ↦ e
         | inr r ↦
-          let low = first_below x xs y up0 r in
-          let high = first_below y ys x up1 q in
-          absurd (omega arith)
+            let low = first_below x xs y up0 r in
+            let high = first_below y ys x up1 q in
+            absurd (omega arith)
       ]
     ] in
     let to' : (p : ℕ × ℕ) → Contains xs p → Contains ys p = λ p q. elim (Contains-cons_cases y ys p (to p (Contains-cons_rest x xs p q))) [
-      inl e ↦
-        let low = first_below x xs p up0 q in
-        let same : x.0 ≡ p.0 = ap (λ v. v.0) (head ∙ e) in
-        absurd (omega arith)
+      | inl e ↦
+          let low = first_below x xs p up0 q in
+          let same : x.0 ≡ p.0 = ap (λ v. v.0) (head ∙ e) in
+          absurd (omega arith)
       | inr r ↦ r
     ] in
     let from' : (p : ℕ × ℕ) → Contains ys p → Contains xs p = λ p q. elim (Contains-cons_cases x xs p (from p (Contains-cons_rest y ys p q))) [
-      inl e ↦
-        let low = first_below y ys p up1 q in
-        let same : y.0 ≡ p.0 = ap (λ v. v.0) (sym head ∙ e) in
-        absurd (omega arith)
+      | inl e ↦
+          let low = first_below y ys p up1 q in
+          let same : y.0 ≡ p.0 = ap (λ v. v.0) (sym head ∙ e) in
+          absurd (omega arith)
       | inr r ↦ r
     ] in
     let tails : xs ≡ ys = same_pairs xs ys (ascending-tail x.0 (map (λ p. p.0) xs) up0) (ascending-tail y.0 (map (λ p. p.0) ys) up1) to' from' in

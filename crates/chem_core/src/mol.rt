@@ -110,8 +110,7 @@ impl Mol {
 pub fn one_neighbour_list()
     ensures { (ends : Ends) (a : ℕ) (xs ys : List (ℕ × ℕ))
         → AreNeighbours ends a xs → AreNeighbours ends a ys → xs ≡ ys }
-{
-}
+{}
 
 // For each atom its neighbours, found in one pass over the bonds.
 fn neighbour_lists(
