@@ -1,6 +1,6 @@
-ghost use Rattle.std.specs.Prelude.{◌≡◌, ◌+◌, ◌<◌, ◌∷◌, ℕ, [], length, map, replicate, take, Contains, IsPermutation, nat_lt, position, unwrap_or, IfOk, OnOk};
+ghost use Rattle.std.specs.Prelude.{◌≡◌, ◌+◌, ◌<◌, ◌∷◌, ℕ, List, [], length, map, replicate, take, Contains, IsPermutation, nat_lt, position, unwrap_or, IfOk, OnOk};
 ghost use Rattle.std.specs.List.Sorted.{IsStrictlyIncreasing};
-ghost use Rattle.chem_core.specs.Graph.{IsSimpleGraph, AreNeighbours, AreNeighbourLists};
+ghost use Rattle.chem_core.specs.Graph.{Ends, IsSimpleGraph, AreNeighbours, AreNeighbourLists};
 ghost use Rattle.chem_core.specs.Molecule.{IsMolecule, bond_ends, ends_of};
 
 use smallvec::SmallVec;
@@ -105,6 +105,12 @@ impl Mol {
         self.neighbours[usize::from(atom)].as_slice()
     }
 }
+
+/// A law: an atom has one list of neighbours.
+pub fn one_neighbour_list()
+    ensures { (ends : Ends) (a : ℕ) (xs ys : List (ℕ × ℕ))
+        → AreNeighbours ends a xs → AreNeighbours ends a ys → xs ≡ ys }
+{}
 
 // For each atom its neighbours, found in one pass over the bonds.
 fn neighbour_lists(
