@@ -1,3 +1,4 @@
 pub mod SmilesChain
 pub mod Meaning
 pub mod Flat
+pub mod Reading

@@ -1,2 +1,6 @@
 //! The top call of chemdb, and what it still reads and matches by itself.
 #![tactic(auto)]
+
+mod smiles;
+
+pub use smiles::{SmilesFault, one_tree, read_smiles};
