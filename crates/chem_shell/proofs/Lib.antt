@@ -1,1 +1,2 @@
 pub mod SmilesLemmas
+pub mod SmilesSound

@@ -1,6 +1,7 @@
 -- The grammar of chains is unambiguous, and a chain's sketch is sound.
-use Rattle.std.proofs.Common.{◌≡◌, ◌≢◌, ◌⊎◌, ℕ, ◌+◌, ◌<◌, ◌≤◌, ◌==◌, Bool, true, false, cond, List, [], ◌∷◌, ◌++◌, length, Option, Some, None, refl, sym, ap, ◌∙◌, subst, inl, inr, ⊎_elim, append_assoc, arith, rules, length-append, get_or, take, drop, ◌-◌}
+use Rattle.std.proofs.Common.{◌≡◌, ◌≢◌, ◌⊎◌, ℕ, ◌<◌, ◌≤◌, ◌==◌, cond, List, [], ◌∷◌, ◌++◌, length, Option, Some, None, refl, sym, ap, ◌∙◌, subst, inl, inr, ⊎_elim, append_assoc, arith, length-append, get_or, take, drop, ◌-◌}
 use Rattle.std.proofs.Math.Seq.{take-length}
+use Rattle.std.proofs.lemmas.Bool.{cases_lt}
 use Rattle.std.specs.List.{flat_map}
 use Rattle.chem_core.specs.Organic.{Organic, BondMark, minus, equals, hash, symbol_bytes, mark_byte, boron, carbon, nitrogen, oxygen, phosphorus, sulfur, fluorine, chlorine, bromine, iodine}
 use Rattle.chem_shell.specs.SmilesChain.{Chain, Link, mark_bytes, link_bytes, spelling}
@@ -59,7 +60,7 @@ same_symbol s t e = sym (symbol_of-bytes s) ∙ ap (λ b. symbol_of (first b) (s
 
 -- the longer of two symbols at the front is the one before clean bytes
 fronts_agree : (p q x y : List ℕ) → Shape p → Shape q → p ++ x ≡ q ++ y → length x ≤ length y → IsClean y → (p ≡ q) × (x ≡ y)
-fronts_agree p q x y (one b e h) (one c f k) g le clean = 
+fronts_agree p q x y (one b e h) (one c f k) g le clean =
     let g2 : b ∷ x ≡ c ∷ y = subst (λ w. w ++ x ≡ c ∷ y) e (subst (λ w. p ++ x ≡ w ++ y) f g) in (cc, cc)
 fronts_agree p q x y (one b e h) (two c d f k i) g le clean =
     let g2 : b ∷ x ≡ c ∷ d ∷ y = subst (λ w. w ++ x ≡ c ∷ d ∷ y) e (subst (λ w. p ++ x ≡ w ++ y) f g) in
@@ -153,5 +154,70 @@ links_agree l m x y e le clean =
   where
     append_assoc_at : (mark_bytes l.mark ++ symbol_bytes l.atom) ++ x ≡ mark_bytes l.mark ++ (symbol_bytes l.atom ++ x)
     append_assoc_at = append_assoc (mark_bytes l.mark) (symbol_bytes l.atom) x
+
     append_assoc_of : (mark_bytes m.mark ++ symbol_bytes m.atom) ++ y ≡ mark_bytes m.mark ++ (symbol_bytes m.atom ++ y)
     append_assoc_of = append_assoc (mark_bytes m.mark) (symbol_bytes m.atom) y
+
+symbol_clean : (s : Organic) (x : List ℕ) → IsClean (symbol_bytes s ++ x)
+symbol_clean boron x = (omega arith, omega arith)
+symbol_clean carbon x = (omega arith, omega arith)
+symbol_clean nitrogen x = (omega arith, omega arith)
+symbol_clean oxygen x = (omega arith, omega arith)
+symbol_clean phosphorus x = (omega arith, omega arith)
+symbol_clean sulfur x = (omega arith, omega arith)
+symbol_clean fluorine x = (omega arith, omega arith)
+symbol_clean chlorine x = (omega arith, omega arith)
+symbol_clean bromine x = (omega arith, omega arith)
+symbol_clean iodine x = (omega arith, omega arith)
+
+mark_clean : (m : BondMark) (x : List ℕ) → IsClean (mark_byte m ∷ x)
+mark_clean m x = let low = mark_low m in (λ e. omega arith, λ e. omega arith)
+
+link_clean : (m : Option BondMark) (s : Organic) (x : List ℕ) → IsClean ((mark_bytes m ++ symbol_bytes s) ++ x)
+link_clean None s x = symbol_clean s x
+link_clean (Some m) s x = mark_clean m (symbol_bytes s ++ x)
+
+-- what follows an atom begins with no second letter of a symbol
+pub links_clean : (links : List Link) → IsClean (flat_map link_bytes links)
+links_clean [] = tt
+links_clean (link ∷ links) = link_clean link.mark link.atom (flat_map link_bytes links)
+
+pub symbol_some : (s : Organic) → 0 < length (symbol_bytes s)
+symbol_some boron = omega arith
+symbol_some carbon = omega arith
+symbol_some nitrogen = omega arith
+symbol_some oxygen = omega arith
+symbol_some phosphorus = omega arith
+symbol_some sulfur = omega arith
+symbol_some fluorine = omega arith
+symbol_some chlorine = omega arith
+symbol_some bromine = omega arith
+symbol_some iodine = omega arith
+
+-- a link has a byte
+pub link_some : (link : Link) → 0 < length (link_bytes link)
+link_some link = omega (arith, symbol_some link.atom, length-append (mark_bytes link.mark) (symbol_bytes link.atom))
+
+-- of two ways to go on after clean bytes one is no longer than the other
+same_link : (l m : Link) (x y : List ℕ) → link_bytes l ++ x ≡ link_bytes m ++ y → IsClean x → IsClean y → (l ≡ m) × (x ≡ y)
+same_link l m x y e f g = ⊎_elim (λ lt. links_agree l m x y e (omega (arith, lt)) g) (λ le. let both = links_agree m l y x (sym e) le f in (sym both.0, sym both.1)) (cases_lt (length x) (length y))
+
+same_links : (ls ms : List Link) → flat_map link_bytes ls ≡ flat_map link_bytes ms → ls ≡ ms
+same_links [] [] e = refl
+same_links [] (m ∷ ms) e = absurd (omega (arith, link_some m, length-append (link_bytes m) (flat_map link_bytes ms), ap length e))
+same_links (l ∷ ls) [] e = absurd (omega (arith, link_some l, length-append (link_bytes l) (flat_map link_bytes ls), ap length e))
+same_links (l ∷ ls) (m ∷ ms) e =
+    let both = same_link l m (flat_map link_bytes ls) (flat_map link_bytes ms) e (links_clean ls) (links_clean ms) in
+    let heads : l ≡ m = both.0 in
+    let tails : ls ≡ ms = same_links ls ms both.1 in
+    cc
+
+same_symbols : (s t : Organic) (x y : List ℕ) → symbol_bytes s ++ x ≡ symbol_bytes t ++ y → IsClean x → IsClean y → (s ≡ t) × (x ≡ y)
+same_symbols s t x y e f g = ⊎_elim (λ lt. symbols_agree s t x y e (omega (arith, lt)) g) (λ le. let both = symbols_agree t s y x (sym e) le f in (sym both.0, sym both.1)) (cases_lt (length x) (length y))
+
+-- A text has at most one tree.
+pub same_chain : (c d : Chain) → spelling c ≡ spelling d → c ≡ d
+same_chain c d e =
+    let both = same_symbols c.first d.first (flat_map link_bytes c.links) (flat_map link_bytes d.links) e (links_clean c.links) (links_clean d.links) in
+    let tails = same_links c.links d.links both.1 in
+    ap (λ s. record { first = s; links = c.links }) both.0 ∙ ap (λ ls. record { first = d.first; links = ls }) tails

@@ -149,7 +149,7 @@ fn add_links(sketch: &mut Sketch, text: &[u8]) -> Result<(), SmilesFault>
     ensures syntax { IsErrOf result SmilesFault.Syntax → (links : List Link) → text.now ≢ flat_map link_bytes links }
 {
     let mut rest = text;
-    while !rest.is_empty() {
+    'links: while !rest.is_empty() {
         let Some((next, after)) = link_at(rest) else {
             return Err(SmilesFault::Syntax);
         };
@@ -186,5 +186,4 @@ pub fn read_smiles(alloc: Global, text: &[u8]) -> Result<Sketch, SmilesFault>
 /// A text has at most one tree.
 pub fn one_tree()
     ensures { (c d : Chain) → spelling c ≡ spelling d → c ≡ d }
-{
-}
+{}

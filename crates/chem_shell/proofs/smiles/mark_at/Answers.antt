@@ -1,5 +1,5 @@
 -- which bond symbol each byte is
-use Rattle.std.proofs.Common.{refl, rules, Some, None}
+use Rattle.std.proofs.Common.{refl, rules, Some}
 use Rattle.chem_core.specs.Organic.{minus, equals, hash}
 use Rattle.chem_shell.proofs.SmilesLemmas.{one_front}
 use Rattle.chem_shell.proofs.smiles.mark_at.Goals as goal

@@ -1,5 +1,5 @@
 -- which symbol each letter is
-use Rattle.std.proofs.Common.{refl, ap, sym, ◌∷◌, [], ℕ, List}
+use Rattle.std.proofs.Common.{refl}
 use Rattle.chem_core.specs.Organic.{boron, carbon, nitrogen, oxygen, phosphorus, sulfur, fluorine, iodine}
 use Rattle.chem_shell.proofs.smiles.one_letter.Goals as goal
 

@@ -1,5 +1,5 @@
 -- the two symbols of two letters
-use Rattle.std.proofs.Common.{refl, rules, arith}
+use Rattle.std.proofs.Common.{refl, rules}
 use Rattle.chem_core.specs.Organic.{chlorine, bromine}
 use Rattle.chem_shell.proofs.SmilesLemmas.{two_front}
 use Rattle.chem_shell.proofs.smiles.symbol_at.Goals as goal
