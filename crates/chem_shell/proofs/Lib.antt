@@ -1,2 +1,3 @@
 pub mod SmilesLemmas
 pub mod SmilesSound
+pub mod MeaningLemmas

@@ -3,4 +3,4 @@
 
 mod smiles;
 
-pub use smiles::{SmilesFault, one_tree, read_smiles};
+pub use smiles::{SmilesFault, one_structure, one_tree, read_smiles, structure};

@@ -1,15 +1,17 @@
 //! SMILES as they are read today: chains of symbols of the organic subset (OpenSMILES 1.0, sections 3.1.5 and 3.2).
 
-ghost use Rattle.std.specs.Prelude.{◌≡◌, ◌≢◌, ◌++◌, ◌∷◌, [], ◌+◌, ◌-◌, ◌≤◌, ◌<◌, ◌^◌, ◌⊎◌, length, List, ℕ, IfNone, IfOk, IfErr, IfSome, IsErrOf, Option, MatchResult, OnOk, vec_len};
+ghost use Rattle.std.specs.Prelude.{◌≡◌, ◌≢◌, ◌++◌, ◌∷◌, [], ◌+◌, ◌-◌, ◌≤◌, ◌<◌, ◌^◌, ◌⊎◌, length, List, ℕ, IfNone, IfOk, IfErr, IfSome, IsErrOf, Option, MatchResult, OnOk, map};
 ghost use Rattle.std.specs.List.{flat_map};
 ghost use Rattle.chem_core.specs.Organic.{Organic, BondMark, atomic_number, symbol_bytes, mark_byte};
+ghost use Rattle.chem_core.specs.Molecule.{Molecule};
 ghost use Rattle.chem_core.specs.Sound.{IsSound};
 ghost use Rattle.smarts_parse.specs.Chain.{IsShortText};
 ghost use Rattle.chem_shell.specs.SmilesChain.{Chain, Link, chain_sketch, kind_of, link_bytes, mark_bytes, sketch_atom, spelling};
+ghost use Rattle.chem_shell.specs.Meaning.{IsStructureOf, meant_atom, meant_bond, meant_kind, molecule_of};
 ghost use Rattle.chem_shell.specs.Reading.{AddsLinks};
 ghost use Rattle.chem_shell.specs.declared.smiles.SmilesFault.TheVariants.{NoMemory};
 
-use chem_core::{Fill, Sketch, SketchAtom, SketchBond, SketchKind};
+use chem_core::{Atom, Bond, BondKind, Fill, Mol, Sketch, SketchAtom, SketchBond, SketchKind};
 use std::alloc::{AllocError, AllocFailed, Global};
 use thiserror::Error;
 
@@ -187,3 +189,79 @@ pub fn read_smiles(alloc: Global, text: &[u8]) -> Result<Sketch, SmilesFault>
 pub fn one_tree()
     ensures { (c d : Chain) → spelling c ≡ spelling d → c ≡ d }
 {}
+
+fn bond_kind(kind: SketchKind) -> BondKind
+    ensures { result ≡ meant_kind kind }
+{
+    match kind {
+        SketchKind::Unwritten | SketchKind::Single | SketchKind::Colon => BondKind::Single,
+        SketchKind::Double => BondKind::Double,
+        SketchKind::Triple => BondKind::Triple,
+        SketchKind::Quad => BondKind::Quad,
+    }
+}
+
+fn atom_of(atom: &SketchAtom) -> Atom
+    ensures { result ≡ meant_atom atom.now }
+{
+    Atom {
+        number: atom.number,
+        isotope: atom.isotope,
+        charge: atom.charge,
+        hydrogens: 0,
+        aromatic: false,
+        valence: 0,
+    }
+}
+
+fn bond_of(bond: &SketchBond) -> Bond
+    ensures { result ≡ meant_bond bond.now }
+{
+    Bond {
+        a: bond.a,
+        b: bond.b,
+        kind: bond_kind(bond.kind),
+    }
+}
+
+fn atoms_of(alloc: Global, atoms: &[SketchAtom]) -> Result<Vec<Atom>, AllocError>
+    ensures { IfOk result (λ v. v.items ≡ map meant_atom atoms.now) }
+{
+    atoms.iter().map(atom_of).collect(alloc)
+}
+
+fn bonds_of(alloc: Global, bonds: &[SketchBond]) -> Result<Vec<Bond>, AllocError>
+    ensures { IfOk result (λ v. v.items ≡ map meant_bond bonds.now) }
+{
+    bonds.iter().map(bond_of).collect(alloc)
+}
+
+// The molecule that a sketch means.
+fn molecule(alloc: Global, sketch: &Sketch) -> Result<Mol, AllocError>
+    requires { IsSound sketch.now }
+    ensures { IfOk result (λ m. m ≡ molecule_of sketch.now) }
+{
+    let atoms = atoms_of(alloc, &sketch.atoms)?;
+    let bonds = bonds_of(alloc, &sketch.bonds)?;
+    Mol::make(alloc, atoms, bonds)
+}
+
+/// The molecule that a text is a SMILES of, at most 32 bytes.
+///
+/// `Syntax` comes exactly where the text is a SMILES of none.
+pub fn structure(alloc: Global, text: &[u8]) -> Result<Mol, SmilesFault>
+    requires { IsShortText text.now }
+    ensures ok { IfOk result (λ m. IsStructureOf text.now m) }
+    ensures accepts { (m : Molecule) → IsStructureOf text.now m → MatchResult result (λ made. made ≡ m) (λ e. e ≡ NoMemory) }
+    ensures syntax { IsErrOf result SmilesFault.Syntax → (m : Molecule) → ¬ IsStructureOf text.now m }
+    ensures refuses { ((m : Molecule) → ¬ IsStructureOf text.now m) → IsErrOf result SmilesFault.Syntax ⊎ IsErrOf result SmilesFault.NoMemory }
+{
+    let sketch = read_smiles(alloc, text)?;
+    Ok(molecule(alloc, &sketch)?)
+}
+
+/// A text is a SMILES of at most one molecule.
+pub fn one_structure()
+    ensures { (text : List ℕ) (m n : Molecule) → IsStructureOf text m → IsStructureOf text n → m ≡ n }
+{
+}
