@@ -1,1 +1,4 @@
 pub mod HistoryLemmas
+pub mod SmilesLemmas
+pub mod SmilesSound
+pub mod MeaningLemmas

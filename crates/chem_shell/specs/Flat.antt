@@ -1,10 +1,10 @@
 -- Patterns whose truth needs no rings and no recursive parts: what is matched today.
-use Rattle.std.specs.Prelude.{ℕ, List, All}
+use Rattle.std.specs.Prelude.{All}
 use Rattle.smarts_parse.specs.declared.pattern.AtomPrim.{AtomPrim}
 use Rattle.smarts_parse.specs.declared.pattern.AtomPrim.TheVariants as atoms
 use Rattle.smarts_parse.specs.declared.pattern.BondPrim.{BondPrim}
 use Rattle.smarts_parse.specs.declared.pattern.BondPrim.TheVariants as bonds
-use Rattle.smarts_parse.specs.Pattern.{Term, Prim, Not, And, Or, GraphTerm, PatternTerm}
+use Rattle.smarts_parse.specs.Pattern.{Term, Prim, Not, And, Or, PatternTerm}
 
 -- each primitive of the expression has P
 abbrev pub AllPrims : {A : Type 0} → (A → Type 0) → Term A → Type 0

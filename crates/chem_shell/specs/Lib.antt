@@ -8,3 +8,4 @@ pub mod CommandView
 pub mod Reply
 pub mod Store
 pub mod Words
+pub mod Reading

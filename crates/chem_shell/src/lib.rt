@@ -2,7 +2,8 @@
 #![tactic(auto)]
 
 pub mod command;
-pub mod request;
 pub mod reply;
+pub mod request;
+pub mod smiles;
 pub mod store;
 pub mod words;
