@@ -7,5 +7,6 @@ pub mod Command
 pub mod CommandView
 pub mod Reply
 pub mod Store
+pub mod Answer
 pub mod Words
 pub mod Reading

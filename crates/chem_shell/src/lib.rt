@@ -1,6 +1,7 @@
 //! The top call of chemdb, and what it still reads and matches by itself.
 #![tactic(auto)]
 
+pub mod answer;
 pub mod command;
 pub mod reply;
 pub mod request;
