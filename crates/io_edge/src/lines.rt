@@ -1,7 +1,19 @@
 // The lines of a source.
-ghost use Rattle.std.specs.Prelude.{◌≡◌, ◌≤◌, ◌<◌, ℕ, length, take, slice_index, IfSome, IfNone};
-ghost use Rattle.io_edge.specs.Lines.{without_cr};
+ghost use Rattle.std.specs.Prelude.{◌≡◌, ◌≤◌, ◌<◌, ℕ, IsTrue, false, true, List, [], ◌∷◌, ◌++◌, length, take, drop, slice_index, IfSome, IfNone, IfOk, IfErr, OnOk, OnErr, position, ◌==◌};
+ghost use Rattle.std.specs.Io.KnownBytes.{IsAtEnd};
+ghost use Rattle.io_edge.specs.Faults.{Rose};
+ghost use Rattle.io_edge.specs.Source.{Leaves};
 ghost use Rattle.io_edge.specs.Cut.{HasNoLf, EndsAt};
+ghost use Rattle.io_edge.specs.Lines.{without_cr, HasWholeLine, IsAtLimit, IsFinished, done_bytes};
+ghost use Rattle.io_edge.specs.NextLine.{Answers, Counts, Told, OnLine, OnText, OnNoText, CanAnswer};
+ghost use Rattle.io_edge.specs.Steps.{front_line, behind_line, CutsLine, Reads};
+
+use crate::buffer::{Buffer, CAPACITY};
+use crate::sources::{Source, Take};
+use std::alloc::{AllocError, Global};
+use std::error::Error;
+use std::fmt;
+use std::marker::Model;
 
 /// The longest line that is answered, in bytes, without its end.
 pub const LONGEST_LINE: usize = 65_536;
@@ -10,6 +22,130 @@ const LF: u8 = b'\n';
 
 const CR: u8 = b'\r';
 
+/// What a call for the next line answers.
+#[derive(Clone, Copy, Debug, PartialEq, Eq)]
+pub enum Line {
+    /// A line, which `Lines::text` shows until the next call.
+    Text,
+    /// A line of more than `LONGEST_LINE` bytes, which was taken up to its end.
+    Long,
+    /// The source's end was met, and nothing is left to answer.
+    End,
+}
+
+/// Why a call for the next line answers none.
+#[derive(Clone, Copy, Debug, PartialEq, Eq)]
+pub enum LineFault {
+    /// The source failed, and no whole line is left to answer. Nothing is lost: the call can be made again.
+    Source,
+    /// As many bytes were taken as the limit allows, the end was not met, and no whole line is left to answer.
+    TooLong,
+}
+
+impl fmt::Display for LineFault {
+    fn fmt<W: fmt::Write>(&self, f: &mut fmt::Formatter<W>) -> fmt::Result {
+        match self {
+            LineFault::Source => write!(f, "the source failed"),
+            LineFault::TooLong => write!(f, "the input is too long"),
+        }
+    }
+}
+
+impl Error for LineFault {}
+
+/// The lines of a source, one after the other. A line ends at LF, and one CR directly before the LF is
+/// dropped. A last line without LF is a line, and keeps its CR. All memory is taken at the start.
+#[derive(Drop)]
+pub struct Lines {
+    buffer: Buffer,
+    // So many of the bytes in the buffer are known to have no LF.
+    scanned: usize,
+    long: bool,
+    taken: u64,
+    limit: u64,
+    ended: bool,
+}
+
+impl Model for Lines {
+    ghost use Rattle.std.specs.Prelude.{◌≤◌, ◌<◌, IsTrue, length, take};
+    ghost use Rattle.io_edge.specs.Lines.{Reading};
+    ghost use Rattle.io_edge.specs.Cut.{HasNoLf};
+
+    ghost Value = { Reading };
+
+    ghost view = { λ s. record { pending = s.buffer.bytes; long = s.long; taken = s.taken; limit = s.limit; ended = s.ended; text = s.buffer.text } };
+
+    ghost invariant = { λ s. record {
+        scanned : s.scanned ≤ length s.buffer.bytes;
+        none : HasNoLf (take s.scanned s.buffer.bytes);
+        pending : length s.buffer.bytes ≤ s.taken;
+        limit : s.taken ≤ s.limit;
+        long : IsTrue s.long → 0 < length s.buffer.bytes;
+    } };
+}
+
+impl Lines {
+    /// The lines of a source of which at most `limit` bytes are taken. All its memory is taken here.
+    pub fn new(alloc: Global, limit: u64) -> Result<Lines, AllocError>
+        ensures { IfOk result (λ lines. lines ≡ record { pending = []; long = false; taken = 0; limit = limit; ended = false; text = [] }) }
+    {
+        let buffer = Buffer::new(alloc)?;
+        Ok(Lines {
+            buffer,
+            scanned: 0,
+            long: false,
+            taken: 0,
+            limit,
+            ended: false,
+        })
+    }
+
+    /// The text of the line that the last call answered. It is empty where that call answered no text.
+    pub fn text(&self) -> &[u8]
+        ensures { result.now ≡ self.now.text }
+    {
+        self.buffer.text()
+    }
+
+    /// Where the first LF of the pending bytes stands. The text is gone.
+    fn line_end(&mut self) -> Option<usize>
+        ensures same { self.new ≡ record self.old { text = [] } }
+        ensures none { IfNone result (HasNoLf self.old.pending) }
+        ensures some { IfSome result (EndsAt self.old.pending) }
+    {
+        self.buffer.cut(0, 0);
+        let bytes = self.buffer.bytes();
+        match first_line_end(bytes, self.scanned) {
+            Some(at) => {
+                self.scanned = at;
+                Some(at)
+            }
+            None => {
+                self.scanned = bytes.len();
+                None
+            }
+        }
+    }
+
+    /// Answers the first `len` pending bytes, a line whose text are their first `text_len`.
+    fn answer(&mut self, text_len: usize, len: usize) -> Line
+        requires text { text_len ≤ len }
+        requires within { len ≤ length self.old.pending }
+        ensures line { result ≡ front_line self.old text_len }
+        ensures after { self.new ≡ behind_line self.old text_len len }
+    {
+        let is_long = self.long || text_len > LONGEST_LINE;
+        self.long = false;
+        self.scanned = 0;
+        if is_long {
+            self.buffer.cut(0, len);
+            return Line::Long;
+        }
+        self.buffer.cut(text_len, len);
+        Line::Text
+    }
+}
+
 /// Where the first LF stands, if none stands before `from`.
 fn first_line_end(bytes: &[u8], from: usize) -> Option<usize>
     requires within { from ≤ length bytes.now }
@@ -17,16 +153,23 @@ fn first_line_end(bytes: &[u8], from: usize) -> Option<usize>
     ensures none { IfNone result (HasNoLf bytes.now) }
     ensures some { IfSome result (EndsAt bytes.now) }
 {
-    let at = bytes[from..].iter().position(|b| *b == LF)?;
+    let at = first_lf(&bytes[from..])?;
     Some(from + at)
+}
+
+/// Where the first LF stands.
+fn first_lf(bytes: &[u8]) -> Option<usize>
+    ensures { result ≡ position (λ b. b == LF) bytes.now }
+{
+    bytes.iter().position(|b| *b == LF)
 }
 
 /// A line's text: the line without the one CR at its end, if there is one.
 fn text_of(line: &[u8]) -> &[u8]
     ensures { result.now ≡ without_cr line.now }
 {
-    match line {
-        [text @ .., CR] => text,
+    match line.split_last() {
+        Some((last, text)) if *last == CR => text,
         _ => line,
     }
 }
