@@ -1,3 +1,4 @@
 pub mod Blocks
 pub mod Cuts
 pub mod TextLines
+pub mod Answering

@@ -1,11 +1,20 @@
 -- The steps of a call for the next line.
-use Rattle.std.specs.Prelude.{◌≡◌, ◌≤◌, ◌<◌, ℕ, Bool, false, ◌||◌, nat_lt, if◌then◌else◌, Option, Ok, List, [], ◌++◌, take, drop}
+use Rattle.std.specs.Prelude.{◌≡◌, ◌≢◌, ◌≤◌, ◌<◌, ℕ, Bool, false, IsTrue, ◌||◌, nat_lt, if◌then◌else◌, Option, Result, Ok, Err, List, [], ◌++◌, length, take, drop}
 use Rattle.io_edge.specs.declared.lines.Line.{Line}
-use Rattle.io_edge.specs.declared.lines.Line.TheVariants.{Text, Long}
+use Rattle.io_edge.specs.declared.lines.Line.TheVariants.{Text, Long, End}
+use Rattle.io_edge.specs.declared.lines.LineFault.{LineFault}
+use Rattle.io_edge.specs.declared.lines.LineFault.TheVariants as fault
 use Rattle.io_edge.specs.declared.lines.TheConstants.{LONGEST_LINE}
 use Rattle.io_edge.specs.Source.{Leaves}
-use Rattle.io_edge.specs.Lines.{Reading, lines_left, done_bytes}
-use Rattle.io_edge.specs.NextLine.{Answers, Counts}
+use Rattle.io_edge.specs.Cut.{HasNoLf}
+use Rattle.io_edge.specs.Lines.{Reading, lines_left, HasWholeLine, IsAtLimit, IsFinished, done_bytes}
+use Rattle.io_edge.specs.NextLine.{Answers, Counts, OnLine, OnText, OnNoText}
+
+-- what holds of each reading
+pub record IsSound (reading : Reading) : Type 0 where
+  pub pending : length reading.pending ≤ reading.taken
+  pub within : reading.taken ≤ reading.limit
+  pub long : IsTrue reading.long → 0 < length reading.pending
 
 -- whether the next line is too long, if its text has so many bytes behind those that were dropped
 abbrev pub is_long : Reading → ℕ → Bool
@@ -25,11 +34,38 @@ behind_line reading text_len len = record reading {
 
 -- a whole line was cut off what was taken
 pub record CutsLine (line : Line) (old new : Reading) : Type 0 where
+  pub whole : HasWholeLine old
+  pub is_line : line ≢ End
   pub lines : Answers (Ok line) old [] new
   pub taken : new.taken ≡ old.taken
   pub limit : new.limit ≡ old.limit
   pub ended : new.ended ≡ old.ended
   pub progress : done_bytes old < done_bytes new
+  pub fits : OnText (Ok line) (length new.text ≤ LONGEST_LINE)
+  pub none : OnNoText (Ok line) (new.text ≡ [])
+
+-- what was taken was enough for an answer
+pub record AnswersHeld (answer : Result Line LineFault) (old new : Reading) : Type 0 where
+  pub lines : Answers answer old [] new
+  pub taken : new.taken ≡ old.taken
+  pub limit : new.limit ≡ old.limit
+  pub ended : new.ended ≡ old.ended
+  pub progress : done_bytes old ≤ done_bytes new
+  pub rises : OnLine answer (done_bytes old < done_bytes new)
+  pub fits : OnText answer (length new.text ≤ LONGEST_LINE)
+  pub none : OnNoText answer (new.text ≡ [])
+  pub source : answer ≢ Err fault.Source
+  pub too_long : answer ≡ Err fault.TooLong → IsAtLimit new
+  pub at_limit : IsAtLimit old → answer ≡ Err fault.TooLong
+  pub end : answer ≡ Ok End → IsFinished new
+  pub finished : IsFinished old → answer ≡ Ok End
+
+-- more bytes are needed for an answer, and may be taken
+pub record NeedsMore (reading : Reading) : Type 0 where
+  pub none : HasNoLf reading.pending
+  pub line : ¬ HasWholeLine reading
+  pub not_ended : reading.ended ≡ false
+  pub below : reading.taken < reading.limit
 
 -- bytes were taken, and no line was answered
 pub record Reads (old new : Reading) (left_old left_new : Option (List ℕ)) : Type 0 where

@@ -1,12 +1,12 @@
 // The lines of a source.
-ghost use Rattle.std.specs.Prelude.{◌≡◌, ◌≤◌, ◌<◌, ℕ, IsTrue, false, true, List, [], ◌∷◌, ◌++◌, length, take, drop, slice_index, IfSome, IfNone, IfOk, IfErr, OnOk, OnErr, position, ◌==◌};
+ghost use Rattle.std.specs.Prelude.{◌≡◌, ◌≤◌, ◌<◌, ◌+◌, ℕ, IsTrue, false, true, List, [], ◌∷◌, ◌++◌, length, take, drop, slice_index, IfSome, IfNone, IfOk, IfErr, OnOk, OnErr, position, ◌==◌};
 ghost use Rattle.std.specs.Io.KnownBytes.{IsAtEnd};
 ghost use Rattle.io_edge.specs.Faults.{Rose};
 ghost use Rattle.io_edge.specs.Source.{Leaves};
 ghost use Rattle.io_edge.specs.Cut.{HasNoLf, EndsAt};
-ghost use Rattle.io_edge.specs.Lines.{without_cr, HasWholeLine, IsAtLimit, IsFinished, done_bytes};
+ghost use Rattle.io_edge.specs.Lines.{without_cr, lines_left, HasWholeLine, IsAtLimit, IsFinished, done_bytes};
 ghost use Rattle.io_edge.specs.NextLine.{Answers, Counts, Told, OnLine, OnText, OnNoText, CanAnswer};
-ghost use Rattle.io_edge.specs.Steps.{front_line, behind_line, CutsLine, Reads};
+ghost use Rattle.io_edge.specs.Steps.{IsSound, front_line, behind_line, CutsLine, AnswersHeld, NeedsMore, Reads};
 
 use crate::buffer::{Buffer, CAPACITY};
 use crate::sources::{Source, Take};
@@ -112,6 +112,7 @@ impl Lines {
         ensures same { self.new ≡ record self.old { text = [] } }
         ensures none { IfNone result (HasNoLf self.old.pending) }
         ensures some { IfSome result (EndsAt self.old.pending) }
+        ensures sound { IsSound self.old }
     {
         self.buffer.cut(0, 0);
         let bytes = self.buffer.bytes();
@@ -144,6 +145,63 @@ impl Lines {
         self.buffer.cut(text_len, len);
         Line::Text
     }
+
+    /// Answers a whole line, if one is left to answer in what was taken. The text is gone where none is.
+    fn whole_line(&mut self) -> Option<Line>
+        ensures some { IfSome result (λ line. CutsLine line self.old self.new) }
+        ensures none { IfNone result (HasNoLf self.old.pending) }
+        ensures line { IfNone result (¬ HasWholeLine self.old) }
+        ensures same { IfNone result (self.new ≡ record self.old { text = [] }) }
+        ensures sound { IsSound self.old }
+    {
+        if let Some(at) = self.line_end() {
+            let text_len = text_of(&self.buffer.bytes()[..at]).len();
+            return Some(self.answer(text_len, at + 1));
+        }
+        let len = self.buffer.bytes().len();
+        if self.ended && len > 0 {
+            return Some(self.answer(len, len));
+        }
+        None
+    }
+
+    /// Answers what can be answered with no more bytes, if something can. The text is gone where nothing can.
+    fn held_answer(&mut self) -> Option<Result<Line, LineFault>>
+        ensures some { IfSome result (λ answer. AnswersHeld answer self.old self.new) }
+        ensures none { IfNone result (NeedsMore self.old) }
+        ensures same { IfNone result (self.new ≡ record self.old { text = [] }) }
+        ensures sound { IsSound self.old }
+    {
+        if let Some(line) = self.whole_line() {
+            return Some(Ok(line));
+        }
+        if self.ended {
+            return Some(Ok(Line::End));
+        }
+        if self.taken == self.limit {
+            return Some(Err(LineFault::TooLong));
+        }
+        None
+    }
+
+    /// Drops the pending bytes but the last, where their line is too long whatever follows.
+    fn drop_front(&mut self)
+        requires { HasNoLf self.old.pending }
+        ensures lines { (rest : List ℕ) → lines_left self.new rest ≡ lines_left self.old rest }
+        ensures none { HasNoLf self.new.pending }
+        ensures short { length self.new.pending ≤ LONGEST_LINE + 1 }
+        ensures taken { self.new.taken ≡ self.old.taken }
+        ensures limit { self.new.limit ≡ self.old.limit }
+        ensures ended { self.new.ended ≡ self.old.ended }
+        ensures progress { done_bytes self.old ≤ done_bytes self.new }
+    {
+        let len = self.buffer.bytes().len();
+        if len > 1 && (self.long || len > LONGEST_LINE + 1) {
+            self.buffer.cut(0, len - 1);
+            self.long = true;
+            self.scanned = 0;
+        }
+    }
 }
 
 /// Where the first LF stands, if none stands before `from`.
@@ -166,7 +224,8 @@ fn first_lf(bytes: &[u8]) -> Option<usize>
 
 /// A line's text: the line without the one CR at its end, if there is one.
 fn text_of(line: &[u8]) -> &[u8]
-    ensures { result.now ≡ without_cr line.now }
+    ensures text { result.now ≡ without_cr line.now }
+    ensures short { length result.now ≤ length line.now }
 {
     match line.split_last() {
         Some((last, text)) if *last == CR => text,
