@@ -1,10 +1,11 @@
 -- The steps of a call for the next line.
-use Rattle.std.specs.Prelude.{◌≡◌, ◌≢◌, ◌≤◌, ◌<◌, ℕ, Bool, false, IsTrue, ◌||◌, nat_lt, if◌then◌else◌, Option, Result, Ok, Err, List, [], ◌++◌, length, take, drop}
+use Rattle.std.specs.Prelude.{◌≡◌, ◌≢◌, ◌≤◌, ◌<◌, ℕ, Bool, false, IsTrue, ◌||◌, nat_lt, if◌then◌else◌, Option, None, Some, Result, Ok, Err, List, [], ◌++◌, length, take, drop}
 use Rattle.io_edge.specs.declared.lines.Line.{Line}
 use Rattle.io_edge.specs.declared.lines.Line.TheVariants.{Text, Long, End}
 use Rattle.io_edge.specs.declared.lines.LineFault.{LineFault}
 use Rattle.io_edge.specs.declared.lines.LineFault.TheVariants as fault
 use Rattle.io_edge.specs.declared.lines.TheConstants.{LONGEST_LINE}
+use Rattle.std.specs.Io.KnownBytes.{IsAtEnd}
 use Rattle.io_edge.specs.Source.{Leaves}
 use Rattle.io_edge.specs.Cut.{HasNoLf}
 use Rattle.io_edge.specs.Lines.{Reading, lines_left, HasWholeLine, IsAtLimit, IsFinished, done_bytes}
@@ -66,6 +67,11 @@ pub record NeedsMore (reading : Reading) : Type 0 where
   pub line : ¬ HasWholeLine reading
   pub not_ended : reading.ended ≡ false
   pub below : reading.taken < reading.limit
+
+-- where the source tells what is left, before and then now, nothing is left now
+abbrev pub IsEndOf : Option (List ℕ) → Option (List ℕ) → Type 0
+IsEndOf None new = Unit {0}
+IsEndOf (Some xs) new = IsAtEnd new
 
 -- bytes were taken, and no line was answered
 pub record Reads (old new : Reading) (left_old left_new : Option (List ℕ)) : Type 0 where

@@ -1,12 +1,12 @@
 // The lines of a source.
-ghost use Rattle.std.specs.Prelude.{◌≡◌, ◌≤◌, ◌<◌, ◌+◌, ℕ, IsTrue, false, true, List, [], ◌∷◌, ◌++◌, length, take, drop, slice_index, IfSome, IfNone, IfOk, IfErr, OnOk, OnErr, position, ◌==◌};
+ghost use Rattle.std.specs.Prelude.{◌≡◌, ◌≤◌, ◌<◌, ◌+◌, ◌⊎◌, ℕ, IsTrue, false, true, List, [], ◌∷◌, ◌++◌, length, take, drop, slice_index, IfSome, IfNone, IfOk, IfErr, OnOk, OnErr, position, ◌==◌};
 ghost use Rattle.std.specs.Io.KnownBytes.{IsAtEnd};
 ghost use Rattle.io_edge.specs.Faults.{Rose};
 ghost use Rattle.io_edge.specs.Source.{Leaves};
 ghost use Rattle.io_edge.specs.Cut.{HasNoLf, EndsAt};
 ghost use Rattle.io_edge.specs.Lines.{without_cr, lines_left, HasWholeLine, IsAtLimit, IsFinished, done_bytes};
 ghost use Rattle.io_edge.specs.NextLine.{Answers, Counts, Told, OnLine, OnText, OnNoText, CanAnswer};
-ghost use Rattle.io_edge.specs.Steps.{IsSound, front_line, behind_line, CutsLine, AnswersHeld, NeedsMore, Reads};
+ghost use Rattle.io_edge.specs.Steps.{IsSound, front_line, behind_line, CutsLine, AnswersHeld, NeedsMore, IsEndOf, Reads};
 
 use crate::buffer::{Buffer, CAPACITY};
 use crate::sources::{Source, Take};
@@ -201,6 +201,36 @@ impl Lines {
             self.long = true;
             self.scanned = 0;
         }
+    }
+
+    /// Takes the next bytes of the source, as many as the limit leaves and the buffer has room for, or meets
+    /// the source's end.
+    fn take_piece<S: Source>(&mut self, source: &mut S) -> Result<(), LineFault>
+        requires none { HasNoLf self.old.pending }
+        requires not_ended { self.old.ended ≡ false }
+        requires below { self.old.taken < self.old.limit }
+
+        ensures reads { Reads self.old self.new (S.left source.old) (S.left source.new) }
+        ensures goes { OnOk result ((self.old.taken < self.new.taken) ⊎ IsTrue self.new.ended) }
+        ensures end { IsTrue self.new.ended → IsEndOf (S.left source.old) (S.left source.new) }
+
+        ensures fault { IfErr result (λ fault. fault ≡ LineFault.Source) }
+        ensures rose { OnErr result (Rose (S.faults source.old) (S.faults source.new)) }
+        ensures not_ended { OnErr result (self.new.ended ≡ false) }
+        ensures none { OnErr result (HasNoLf self.new.pending) }
+        ensures text { self.new.text ≡ [] }
+
+        ensures count { S.faults source.old ≤ S.faults source.new }
+    {
+        self.drop_front();
+        let answer = self.buffer.fill(source, self.limit - self.taken);
+        self.taken += answer.number() as u64;
+        match answer {
+            Take::Failed => return Err(LineFault::Source),
+            Take::End => self.ended = true,
+            Take::Bytes(_) => {}
+        }
+        Ok(())
     }
 }
 
