@@ -2,3 +2,4 @@ pub mod Blocks
 pub mod Cuts
 pub mod TextLines
 pub mod Answering
+pub mod Outcome

@@ -107,6 +107,42 @@ impl Lines {
         self.buffer.text()
     }
 
+    /// Answers the next line of a source, and takes bytes of it where no whole line is left to answer in what
+    /// was taken. It takes no memory. All calls are to be given one source, whose end stays its end.
+    pub fn next_line<S: Source>(&mut self, source: &mut S) -> Result<Line, LineFault>
+        // What was taken, and that the answer is right, however the input goes on.
+        ensures bytes { (got : List ℕ) × Leaves (S.left source.old) got (S.left source.new) × Counts self.old got self.new
+            × Answers result self.old got self.new }
+
+        // The same, where the source tells what is left, and has nothing left once its end was met.
+        ensures told { (l l' : List ℕ) → S.left source.old ≡ Some l → S.left source.new ≡ Some l'
+            → (IsTrue self.old.ended → l ≡ []) → Told result self.old self.new l l' }
+        ensures met { (l l' : List ℕ) → S.left source.old ≡ Some l → S.left source.new ≡ Some l'
+            → (IsTrue self.old.ended → l ≡ []) → IsTrue self.new.ended → l' ≡ [] }
+
+        ensures progress { done_bytes self.old ≤ done_bytes self.new }
+        ensures rises { OnLine result (done_bytes self.old < done_bytes self.new) }
+
+        ensures text { OnText result (length self.new.text ≤ LONGEST_LINE) }
+        ensures no_text { OnNoText result (self.new.text ≡ []) }
+
+        ensures source_fault { result ≡ Err LineFault.Source → Rose (S.faults source.old) (S.faults source.new) × ¬ HasWholeLine self.new }
+        ensures too_long { result ≡ Err LineFault.TooLong → IsAtLimit self.new }
+        ensures at_limit { IsAtLimit self.old → result ≡ Err LineFault.TooLong }
+        ensures end { result ≡ Ok Line.End → IsFinished self.new }
+        ensures finished { IsFinished self.old → result ≡ Ok Line.End }
+
+        ensures count { S.faults source.old ≤ S.faults source.new }
+        ensures untouched { CanAnswer self.old → source.new ≡ source.old }
+    {
+        loop {
+            if let Some(answer) = self.held_answer() {
+                return answer;
+            }
+            self.take_piece(source)?;
+        }
+    }
+
     /// Where the first LF of the pending bytes stands. The text is gone.
     fn line_end(&mut self) -> Option<usize>
         ensures same { self.new ≡ record self.old { text = [] } }
