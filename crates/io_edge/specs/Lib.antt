@@ -4,3 +4,5 @@ pub mod Sink
 pub mod Buffer
 pub mod Lines
 pub mod Cut
+pub mod NextLine
+pub mod Steps

@@ -67,7 +67,7 @@ HasWholeLine reading = Contains reading.pending LF ⊎ (IsTrue reading.ended × 
 -- as many bytes were taken as may be, the end was not met, and no whole line is left to answer
 pub record IsAtLimit (reading : Reading) : Type 0 where
   pub all : reading.taken ≡ reading.limit
-  pub open : reading.ended ≡ false
+  pub not_ended : reading.ended ≡ false
   pub none : ¬ HasWholeLine reading
 
 -- the end was met, and nothing is left to answer

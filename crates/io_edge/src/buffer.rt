@@ -84,7 +84,8 @@ impl Buffer {
         requires some { 0 < most }
         requires room { length self.old.bytes < CAPACITY }
 
-        ensures number { IfBytes result (λ n. (0 < n) × (n ≤ most)) }
+        ensures some { IfBytes result (λ n. 0 < n) }
+        ensures few { number_of result ≤ most }
         ensures gained { Gains self.old.bytes self.new.bytes (number_of result) (S.left source.old) (S.left source.new) }
         ensures text { self.new.text ≡ [] }
         ensures end { OnEnd result (IsAtEnd (S.left source.old)) }
@@ -128,7 +129,8 @@ fn take_at<S: Source>(source: &mut S, block: &mut [u8], at: usize, most: usize) 
     requires some { 0 < most }
     requires room { at + most ≤ length block.old }
 
-    ensures number { IfBytes result (λ n. (0 < n) × (n ≤ most)) }
+    ensures some { IfBytes result (λ n. 0 < n) }
+    ensures few { number_of result ≤ most }
     ensures moved { Leaves (S.left source.old) (take (number_of result) (drop at block.new)) (S.left source.new) }
     ensures before { take at block.new ≡ take at block.old }
     ensures end { OnEnd result (IsAtEnd (S.left source.old)) }

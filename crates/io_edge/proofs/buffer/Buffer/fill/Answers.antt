@@ -3,14 +3,13 @@ use Rattle.std.proofs.lemmas.List.{take_at}
 use Rattle.std.specs.List.{between}
 use Rattle.io_edge.specs.Buffer.{Held}
 use Rattle.io_edge.specs.Source.{number_of}
-use Rattle.io_edge.proofs.Blocks.{filled, number_of-le}
+use Rattle.io_edge.proofs.Blocks.{filled}
 use Rattle.io_edge.proofs.buffer.Buffer.fill.Goals as goal
 
 pub returns-clause-gained : goal.returns-clause-gained
 returns-clause-gained g c =
     let b = c.self.inside in
     let held = ap (λ (h : Held). h.bytes) c.self.view_is in
-    let few = number_of-le c.take_at-answer.result _ c.take_at-answer.ensures.number in
     let moved_len : length c.with_room-start.new.block ≡ b.block.len = omega arith in
     let now_len : length c.take_at-answer.new.block ≡ b.block.len = omega arith in
     let fits : c.with_room-start.result.1 + number_of c.take_at-answer.result ≤ b.block.len = omega arith in
