@@ -1,3 +1,5 @@
+//! What a structure is made of: sketches as they are written, molecules as they are meant, fingerprints, and the table
+//! of the elements. The definitions that contracts share stand in `specs/`.
 #![tactic(auto)]
 
 mod element;
