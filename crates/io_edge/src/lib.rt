@@ -7,7 +7,10 @@ mod memory;
 mod sinks;
 mod sources;
 mod standard;
+#[cfg(test)]
+mod tests;
 
+pub use lines::{LONGEST_LINE, Line, LineFault, Lines};
 pub use memory::{MemSink, MemSource};
 pub use sinks::{PutFault, Sink};
 pub use sources::{Source, Take};
