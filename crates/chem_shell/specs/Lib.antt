@@ -10,6 +10,7 @@ pub mod Store
 pub mod Answer
 pub mod Transcript
 pub mod Answered
+pub mod Turn
 pub mod Served
 pub mod Words
 pub mod Reading

@@ -1,6 +1,6 @@
 //! What a command is answered.
-ghost use Rattle.std.specs.Prelude.{◌≡◌, ◌++◌, IfOk, OnOk, List};
-ghost use Rattle.io_edge.specs.Lines.{Whole};
+ghost use Rattle.std.specs.Prelude.{◌≡◌, [], ◌++◌, IfOk, OnOk, List};
+ghost use Rattle.io_edge.specs.Lines.{Whole, TooLong};
 ghost use Rattle.chem_shell.specs.declared.reply.Reply.{Reply};
 ghost use Rattle.chem_shell.specs.Reply.{text_of};
 ghost use Rattle.chem_shell.specs.Transcript.{LineAnswer};
@@ -44,6 +44,23 @@ pub struct Desk {
 }
 
 impl Desk {
+    /// An empty store.
+    pub fn new(alloc: Global) -> Desk
+        ensures { result.store ≡ [] }
+    {
+        Desk {
+            store: Store::new(alloc),
+            out: Vec::new(alloc),
+        }
+    }
+
+    /// Answers a line that is too long; the answer is then in `out`.
+    pub fn refuse_long(&mut self) -> Result<(), AllocError>
+        ensures { OnOk result (AnswersLine self.old.store TooLong self.new.out.items self.new.store) }
+    {
+        Err(AllocError)
+    }
+
     /// Answers a line; the answer is then in `out`.
     pub fn answer(&mut self, alloc: Global, text: &[u8]) -> Result<(), AllocError>
         ensures { OnOk result (AnswersLine self.old.store (Whole text.now) self.new.out.items self.new.store) }
