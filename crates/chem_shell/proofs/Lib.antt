@@ -2,3 +2,4 @@ pub mod HistoryLemmas
 pub mod SmilesLemmas
 pub mod SmilesSound
 pub mod MeaningLemmas
+pub mod SessionLemmas

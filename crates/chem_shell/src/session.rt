@@ -1,5 +1,5 @@
 //! A session: the lines of a source are answered into a sink, from an empty store on.
-ghost use Rattle.std.specs.Prelude.{◌≡◌, ◌<◌, ◌∷◌, [], ◌++◌, ℕ, IfSome, IfOk, OnOk, IsErrOf, IsTrue, List, Some, Ok, Err, true, false, length};
+ghost use Rattle.std.specs.Prelude.{◌≡◌, ◌<◌, ◌≤◌, ◌∷◌, [], ◌++◌, ℕ, IfSome, IfOk, OnOk, IsErrOf, IsTrue, List, Some, Ok, Err, true, false, length};
 ghost use Rattle.io_edge.specs.Faults.{Rose};
 ghost use Rattle.io_edge.specs.Lines.{TextLine, done_bytes};
 ghost use Rattle.io_edge.specs.NextLine.{Counts};
@@ -80,6 +80,7 @@ fn answer_next<S: Source>(
         → (IsTrue lines.old.ended → l ≡ []) → IsTrue lines.new.ended → l' ≡ [] }
     ensures progress { result ≡ Ok true → done_bytes lines.old < done_bytes lines.new }
     ensures source_fault { IsErrOf result SessionFault.Source → Rose (S.faults source.old) (S.faults source.new) }
+    ensures source_count { S.faults source.old ≤ S.faults source.new }
     ensures no_sink_fault { IsErrOf result SessionFault.Sink → ⊥ }
     ensures too_long { IsErrOf result SessionFault.InputTooLong → lines.new.taken ≡ lines.new.limit }
 {
@@ -111,6 +112,8 @@ fn turn<S: Source, K: Sink>(
     ensures progress { result ≡ Ok true → done_bytes lines.old < done_bytes lines.new }
     ensures source_fault { IsErrOf result SessionFault.Source → Rose (S.faults source.old) (S.faults source.new) }
     ensures sink_fault { IsErrOf result SessionFault.Sink → Rose (K.faults sink.old) (K.faults sink.new) }
+    ensures source_count { S.faults source.old ≤ S.faults source.new }
+    ensures sink_count { K.faults sink.old ≤ K.faults sink.new }
     ensures too_long { IsErrOf result SessionFault.InputTooLong → lines.new.taken ≡ lines.new.limit }
 {
     if answer_next(alloc, lines, desk, source)? {
