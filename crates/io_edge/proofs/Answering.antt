@@ -77,9 +77,9 @@ cuts_lf r at n sound ends len =
       whole = inl (at, ends.within, get_or_default r.pending at LF 0 ends.within ∙ lf);
       is_line = line_not_end (is_long r n);
       lines = λ rest met.
-        left_line r.long (r.pending ++ rest) xs (ys ++ rest) (ap (λ l. l ++ rest) split ∙ append_assoc xs (LF ∷ ys) rest) ends.before
-        ∙ line_as r.long n (without_cr xs) (lines_of (ys ++ rest)) (sym len)
-        ∙ ap (λ t. answered (Ok (front_line r n)) (cond (is_long r n) [] t) ++ lines_of (ys ++ rest)) (sym text);
+          left_line r.long (r.pending ++ rest) xs (ys ++ rest) (ap (λ l. l ++ rest) split ∙ append_assoc xs (LF ∷ ys) rest) ends.before
+          ∙ line_as r.long n (without_cr xs) (lines_of (ys ++ rest)) (sym len)
+          ∙ ap (λ t. answered (Ok (front_line r n)) (cond (is_long r n) [] t) ++ lines_of (ys ++ rest)) (sym text);
       taken = refl;
       limit = refl;
       ended = refl;
@@ -99,12 +99,12 @@ cuts_last r sound none ended some =
       whole = inr (ended, inl some);
       is_line = line_not_end (is_long r n);
       lines = λ rest met.
-        ap (λ l. lines_left r l) (met ended)
-        ∙ ap (λ l. cond r.long (TooLong ∷ lines_of (behind_lf l)) (lines_of l)) (append-nil xs)
-        ∙ left_last r.long xs none some
-        ∙ line_as r.long n xs [] refl
-        ∙ ap (λ t. answered (Ok (front_line r n)) (cond (is_long r n) [] t) ++ []) (sym text)
-        ∙ ap (λ l. answered (Ok (front_line r n)) (cond (is_long r n) [] (take n xs)) ++ lines_of l) (sym (ap (λ l. l ++ rest) behind ∙ met ended));
+          ap (λ l. lines_left r l) (met ended)
+          ∙ ap (λ l. cond r.long (TooLong ∷ lines_of (behind_lf l)) (lines_of l)) (append-nil xs)
+          ∙ left_last r.long xs none some
+          ∙ line_as r.long n xs [] refl
+          ∙ ap (λ t. answered (Ok (front_line r n)) (cond (is_long r n) [] t) ++ []) (sym text)
+          ∙ ap (λ l. answered (Ok (front_line r n)) (cond (is_long r n) [] (take n xs)) ++ lines_of l) (sym (ap (λ l. l ++ rest) behind ∙ met ended));
       taken = refl;
       limit = refl;
       ended = refl;

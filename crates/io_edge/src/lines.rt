@@ -76,11 +76,11 @@ impl Model for Lines {
     ghost view = { λ s. record { pending = s.buffer.bytes; long = s.long; taken = s.taken; limit = s.limit; ended = s.ended; text = s.buffer.text } };
 
     ghost invariant = { λ s. record {
-        scanned : s.scanned ≤ length s.buffer.bytes;
-        none : HasNoLf (take s.scanned s.buffer.bytes);
-        pending : length s.buffer.bytes ≤ s.taken;
-        limit : s.taken ≤ s.limit;
-        long : IsTrue s.long → 0 < length s.buffer.bytes;
+      scanned : s.scanned ≤ length s.buffer.bytes;
+      none : HasNoLf (take s.scanned s.buffer.bytes);
+      pending : length s.buffer.bytes ≤ s.taken;
+      limit : s.taken ≤ s.limit;
+      long : IsTrue s.long → 0 < length s.buffer.bytes;
     } };
 }
 
