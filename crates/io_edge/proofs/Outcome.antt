@@ -1,5 +1,5 @@
 -- What a call for the next line did, from its steps.
-use Rattle.std.proofs.Common.{◌≡◌, ◌≢◌, ℕ, ◌+◌, ◌-◌, ◌<◌, ◌≤◌, ◌⊎◌, Bool, true, false, List, [], ◌∷◌, ◌++◌, Option, None, Some, Result, Ok, Err, length, cond, refl, sym, ap, ◌∙◌, subst, inl, inr, arith, append-nil, append_assoc, length-append}
+use Rattle.std.proofs.Common.{◌≡◌, ℕ, ◌<◌, ◌≤◌, ◌⊎◌, Bool, false, List, [], ◌∷◌, ◌++◌, Option, None, Some, Result, Ok, Err, cond, refl, sym, ap, ◌∙◌, subst, inl, inr, arith, append_assoc, length-append}
 use Rattle.std.specs.Prelude.{IsTrue}
 use Rattle.std.specs.Io.KnownBytes.{IsAtEnd}
 use Rattle.std.proofs.lemmas.Option.{same_Some}
@@ -11,7 +11,7 @@ use Rattle.io_edge.specs.declared.lines.LineFault.TheVariants as fault
 use Rattle.io_edge.specs.Source.{Leaves}
 use Rattle.io_edge.specs.declared.lines.TheConstants.{LF}
 use Rattle.io_edge.specs.Cut.{HasNoLf}
-use Rattle.io_edge.specs.Lines.{TextLine, Whole, TooLong, Reading, lines_of, behind_lf, lines_left, HasWholeLine, IsAtLimit, IsFinished, done_bytes}
+use Rattle.io_edge.specs.Lines.{TooLong, Reading, lines_of, behind_lf, lines_left, HasWholeLine, IsAtLimit, IsFinished}
 use Rattle.io_edge.specs.NextLine.{answered, Answers, Counts, Told, OnLine, CanAnswer}
 use Rattle.io_edge.specs.Steps.{IsSound, AnswersHeld, NeedsMore, IsEndOf, Reads}
 
