@@ -1,3 +1,4 @@
 pub mod SmilesLemmas
 pub mod SmilesSound
 pub mod MeaningLemmas
+pub mod TruthLemmas
