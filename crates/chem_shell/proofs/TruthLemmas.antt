@@ -1,14 +1,12 @@
 -- Truth of expressions at an atom or a bond.
-use Rattle.std.proofs.Common.{◌≡◌, ◌↔◌, ℕ, ◌<◌, Bool, IsTrue, List, length, slice_get, Some, refl, sym, ap, ◌∙◌, subst, arith, get_or, ◌⊎◌, ◌≤◌, None, inl, inr}
-use Rattle.std.proofs.lemmas.Option.{slice_get_cases, slice_get_within}
+use Rattle.std.proofs.Common.{◌≡◌, ◌↔◌, ℕ, Bool, IsTrue, slice_get, Some, subst}
 use Rattle.chem_core.specs.declared.mol.Atom.{Atom}
 use Rattle.chem_core.specs.declared.mol.Bond.{Bond}
 use Rattle.chem_core.specs.Molecule.{Molecule}
 use Rattle.smarts_parse.specs.declared.pattern.AtomPrim.{AtomPrim}
 use Rattle.smarts_parse.specs.declared.pattern.BondPrim.{BondPrim}
-use Rattle.smarts_parse.specs.Pattern.{Term, Prim, Not, And, Or}
+use Rattle.smarts_parse.specs.Pattern.{Prim}
 use Rattle.smarts_parse.specs.Truth.{AtomTrue, AtomPrimTrue, BondTrue, BondPrimTrue}
-use Rattle.chem_shell.specs.Flat.{AllPrims, IsFlatAtom, NoParts}
 
 -- a primitive at the bond that is read at the place
 pub BondTrue-prim : (m : Molecule) (b : ℕ) (p : BondPrim) (r : Bool) (x : Bond) → slice_get m.bonds b ≡ Some x → IsTrue r ↔ BondPrimTrue p m b x → IsTrue r ↔ BondTrue (Prim p) m b

@@ -8,4 +8,4 @@ returns-in-Prim t c =
     let m = c.args.mol.now in
     let a = c.args.atom in
     rw c.in-Prim.is (AtomTrue-prim NoParts m a c.in-Prim.prim c.atom_prim_true.result _
-        (rw (c.atoms.ensures.value, c.from.ensures) (slice_get-get_or m.atoms a _ c.requires.in_range)) c.atom_prim_true.ensures)
+    (rw (c.atoms.ensures.value, c.from.ensures) (slice_get-get_or m.atoms a _ c.requires.in_range)) c.atom_prim_true.ensures)
