@@ -14,3 +14,4 @@ pub mod Turn
 pub mod Served
 pub mod Words
 pub mod Reading
+pub mod Partial

@@ -263,5 +263,4 @@ pub fn structure(alloc: Global, text: &[u8]) -> Result<Mol, SmilesFault>
 /// A text is a SMILES of at most one molecule.
 pub fn one_structure()
     ensures { (text : List ℕ) (m n : Molecule) → IsStructureOf text m → IsStructureOf text n → m ≡ n }
-{
-}
+{}
