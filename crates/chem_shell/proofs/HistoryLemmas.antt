@@ -2,7 +2,7 @@
 use Rattle.std.proofs.Common.{◌≡◌, ℕ, ◌+◌, ◌<◌, ◌≤◌, ◌==◌, Bool, true, false, cond, List, [], ◌∷◌, ◌++◌, length, take, Option, None, Some, MatchOption, refl, sym, ap, ◌∙◌, subst, arith, rules, add_assoc, length-append}
 use Rattle.std.proofs.lemmas.Bool.Decides.{nat_tests}
 use Rattle.std.specs.Ordering.{nat_cmp}
-use Rattle.std.specs.BTreeMap.{BTreeMap, get, is_at}
+use Rattle.std.specs.BTreeMap.{BTreeMap, get, is_at, btree_map_len}
 use Rattle.chem_core.specs.Molecule.{Molecule}
 use Rattle.chem_shell.specs.History.{History, Change, Register, Live, States, after, fold_from, snapshot, head, most_commits}
 use Rattle.chem_shell.specs.Meaning.{IsStructureOf}
@@ -44,9 +44,10 @@ each_push false was now old new live m is e f h =
     (subst (λ x. MatchOption old (x ≡ None) (λ n. (l : Live) × (x ≡ Some l) × IsStructureOf l.text n)) (sym e) h)
 
 -- what is live after one more registration
-pub IsLiveNow-push : (h : History) (old new : BTreeMap ℕ Molecule) (id : ℕ) (text : List ℕ) (m : Molecule) → length h < most_commits → IsStructureOf text m → ((q : ℕ) → get nat_cmp new q ≡ cond (is_at (nat_cmp id) q) (Some m) (get nat_cmp old q)) → IsLiveNow h old → IsLiveNow (h ++ Register id text ∷ []) new
-IsLiveNow-push h old new id text m few is updates was = record {
+pub IsLiveNow-push : (h : History) (old new : BTreeMap ℕ Molecule) (id : ℕ) (text : List ℕ) (m : Molecule) → length h < most_commits → IsStructureOf text m → ((q : ℕ) → get nat_cmp new q ≡ cond (is_at (nat_cmp id) q) (Some m) (get nat_cmp old q)) → btree_map_len new ≤ btree_map_len old + 1 → IsLiveNow h old → IsLiveNow (h ++ Register id text ∷ []) new
+IsLiveNow-push h old new id text m few is updates grew was = record {
   few = omega (arith, length-append h (Register id text ∷ []));
+  size = omega (arith, length-append h (Register id text ∷ []), was.size);
   each = λ q.
     each_push (q == id) (head h q) (head (h ++ Register id text ∷ []) q) (get nat_cmp old q) (get nat_cmp new q) (record { version = length h + 1; text = text }) m is
     (head-push h id text q) (updates q ∙ ap (λ b. cond b (Some m) (get nat_cmp old q)) (is_at_same id q)) (was.each q);

@@ -7,6 +7,7 @@ pub mod Command
 pub mod CommandView
 pub mod Reply
 pub mod Store
+pub mod Selects
 pub mod Answer
 pub mod Transcript
 pub mod Answered

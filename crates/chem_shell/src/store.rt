@@ -3,9 +3,17 @@ ghost use Rattle.std.specs.Prelude.{◌≡◌, ◌≢◌, ◌+◌, ◌<◌, ◌�
 ghost use Rattle.smarts_parse.specs.Pattern.{pattern_of};
 ghost use Rattle.smarts_parse.specs.Sound.{IsSoundPattern};
 ghost use Rattle.chem_shell.specs.History.{Register, head, most_commits};
+ghost use Rattle.std.specs.Ordering.{nat_cmp};
+ghost use Rattle.std.specs.BTreeMap.{IsOrdered};
+ghost use Rattle.smarts_parse.specs.Embedding.{Matches};
+ghost use Rattle.chem_shell.specs.Flat.{IsFlat};
+ghost use Rattle.chem_shell.specs.Hits.{AreHits};
 ghost use Rattle.chem_shell.specs.Meaning.{IsStructureOf};
+ghost use Rattle.chem_shell.specs.Selects.{Selects};
 
+use crate::matching::{Scratch, has};
 use chem_core::Mol;
+use smarts_parse::Pattern;
 use std::alloc::{AllocError, AllocFailed, Global};
 use std::collections::BTreeMap;
 use std::marker::Model;
@@ -98,6 +106,45 @@ impl Store {
         self.commits.push_reserved(Commit { id, text });
         Ok(self.commits.len() as u32)
     }
+}
+
+impl Store {
+    /// The live identifiers in whose structure the pattern embeds, ascending.
+    pub fn hits(
+        &self,
+        alloc: Global,
+        pattern: &Pattern,
+        scratch: &mut Scratch,
+    ) -> Result<Vec<u32>, AllocError>
+        requires sound { IsSoundPattern (pattern_of pattern.now) }
+        requires flat { IsFlat (pattern_of pattern.now) }
+        ensures hits { IfOk result (λ ids. AreHits self.now (length self.now) (pattern_of pattern.now) ids.items) }
+        ensures few { IfOk result (λ ids. length ids.items ≤ most_commits) }
+    {
+        let ids = matching_identifiers(alloc, &self.live, pattern, scratch)?;
+        Ok(ids)
+    }
+}
+
+// The identifiers of the structures in which the pattern embeds, ascending.
+fn matching_identifiers(
+    alloc: Global,
+    live: &BTreeMap<u32, Mol>,
+    pattern: &Pattern,
+    scratch: &mut Scratch,
+) -> Result<Vec<u32>, AllocError>
+    requires sound { IsSoundPattern (pattern_of pattern.now) }
+    requires flat { IsFlat (pattern_of pattern.now) }
+    ensures selects { IfOk result (λ ids. Selects (Matches (pattern_of pattern.now)) live.now.entries ids.items) }
+    ensures ordered { IfOk result (λ _. IsOrdered nat_cmp live.now) }
+{
+    let mut hits = Vec::new(alloc);
+    for (id, mol) in live {
+        if has(pattern, mol, scratch) {
+            hits.push(*id)?;
+        }
+    }
+    Ok(hits)
 }
 
 impl From<AllocError> for CommitFault {
