@@ -138,7 +138,7 @@ pub fn session<S: Source, K: Sink>(
     ensures too_long { IsErrOf result SessionFault.InputTooLong → TakesExactly (S.left source.old) (S.left source.new) 4294967296 }
 {
     let mut lines = Lines::new(alloc, INPUT_LIMIT)?;
-    let mut desk = Desk::new(alloc);
+    let mut desk = Desk::new(alloc)?;
     while turn(alloc, &mut lines, &mut desk, source, sink)? {}
     Ok(())
 }
