@@ -6,3 +6,4 @@ pub mod SessionLemmas
 pub mod TruthLemmas
 pub mod PartialLemmas
 pub mod FlatLemmas
+pub mod CommandLemmas
