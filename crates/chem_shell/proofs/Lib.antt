@@ -7,3 +7,4 @@ pub mod TruthLemmas
 pub mod PartialLemmas
 pub mod FlatLemmas
 pub mod HitsLemmas
+pub mod CommandLemmas
