@@ -8,3 +8,4 @@ pub mod PartialLemmas
 pub mod FlatLemmas
 pub mod HitsLemmas
 pub mod CommandLemmas
+pub mod ChainFlat

@@ -53,8 +53,9 @@ fn search(
 {
     let pattern = match smarts_parse::parse(alloc, text) {
         Ok(pattern) => pattern,
+        Err(SmartsFault::Syntax) => return Reply::Refused(Refusal::SmartsSyntax).push_line(out),
         Err(SmartsFault::NoMemory) => return Err(AllocError),
-        Err(_) => return Reply::Refused(Refusal::SmartsSyntax).push_line(out),
+        Err(_) => unreachable!(),
     };
     let ids = store.hits(alloc, &pattern, scratch)?;
     push_hits(&ids, out)?;
