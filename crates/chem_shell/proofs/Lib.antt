@@ -4,3 +4,4 @@ pub mod MeaningLemmas
 pub mod TruthLemmas
 pub mod PartialLemmas
 pub mod FlatLemmas
+pub mod ChainFlat

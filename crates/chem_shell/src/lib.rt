@@ -4,5 +4,5 @@
 mod matching;
 mod smiles;
 
-pub use matching::{Scratch, has};
+pub use matching::{Scratch, chains_are_flat, has};
 pub use smiles::{SmilesFault, one_structure, one_tree, read_smiles, structure};

@@ -3,6 +3,7 @@
 ghost use Rattle.std.specs.Prelude.{◌≡◌, ◌<◌, ◌≤◌, ◌+◌, ◌++◌, ◌∷◌, [], ◌↔◌, ℕ, List, length, map, max, slice_index_or, take, All, Contains, IfNone, IfSome, IsTrue, vec_len};
 ghost use Rattle.chem_core.specs.Graph.{Joined, JoinsAt};
 ghost use Rattle.chem_core.specs.Molecule.{IsMolecule, ends_of};
+ghost use Rattle.smarts_parse.specs.Chain.{Chain, chain_pattern};
 ghost use Rattle.smarts_parse.specs.Embedding.{BondEmbeds, Matches};
 ghost use Rattle.smarts_parse.specs.Pattern.{Prim, bond_of, graph_of, pattern_of, term_of};
 ghost use Rattle.smarts_parse.specs.Sound.{IsSoundPattern, pattern_ends};
@@ -234,3 +235,11 @@ pub fn has(pattern: &Pattern, mol: &Mol, scratch: &mut Scratch) -> bool
     }
     extend(&pattern.top, mol, &mut scratch.image, 0)
 }
+
+/// Every pattern that is read today is flat, so that `has` takes it.
+pub fn chains_are_flat()
+    ensures { (chain : Chain) → IsFlat (chain_pattern chain) }
+{}
+
+#[cfg(test)]
+mod tests;
