@@ -1,5 +1,5 @@
 -- Atoms of a pattern placed in turn: the first none, one more, all.
-use Rattle.std.proofs.Common.{◌≡◌, ◌≢◌, ℕ, ◌+◌, ◌<◌, ◌≤◌, List, [], ◌∷◌, ◌++◌, length, max, map, slice_get, slice_index, get_or, Some, All, Contains, refl, sym, ap, ◌∙◌, subst, ⊎_elim, append_assoc, arith, length-append}
+use Rattle.std.proofs.Common.{◌≡◌, ◌≢◌, ℕ, ◌+◌, ◌<◌, ◌≤◌, List, [], ◌∷◌, ◌++◌, length, max, map, slice_get, slice_index, get_or, Some, All, Contains, refl, sym, ap, ◌∙◌, subst, ⊎_elim, append_assoc, arith, length-append, inl, inr, min}
 use Rattle.std.proofs.lemmas.Bool.{cases_lt}
 use Rattle.std.proofs.Math.ListN.{get_or-append}
 use Rattle.std.proofs.Math.Seq.{get_or-append_seam}
@@ -7,12 +7,15 @@ use Rattle.std.proofs.lemmas.List.{append-nil, get_or-map, get_or_default, get_o
 use Rattle.std.proofs.lemmas.List.Elements.{All-push, Contains-get_or}
 use Rattle.std.proofs.lemmas.List.Kept.{AllPairs-from_increasing}
 use Rattle.std.proofs.lemmas.List.Quantifiers.{all_pairs_push}
-use Rattle.std.proofs.lemmas.Option.{slice_get-get_or, slice_get_within}
-use Rattle.chem_core.specs.Graph.{AreNeighbours, Ends, JoinsAt}
-use Rattle.chem_core.specs.Molecule.{Molecule, ends_of}
+use Rattle.std.proofs.lemmas.Option.{get_or_from_slice_get, slice_get-get_or, slice_get_within}
+use Rattle.chem_core.specs.Graph.{AreNeighbours, Ends, Joined, JoinsAt}
+use Rattle.chem_core.specs.Molecule.{IsMolecule, Molecule, ends_of}
 use Rattle.smarts_parse.specs.declared.pattern.AtomPrim.{AtomPrim}
 use Rattle.smarts_parse.specs.declared.pattern.AtomPrim.TheVariants as atoms
-use Rattle.smarts_parse.specs.Pattern.{Term, Prim, BondTerm, GraphTerm}
+use Rattle.smarts_parse.specs.declared.pattern.BondPrim.TheVariants as bonds
+use Rattle.smarts_parse.specs.declared.pattern.PatBond.{PatBond}
+use Rattle.smarts_parse.specs.declared.pattern.Expr.TheVariants as in_memory
+use Rattle.smarts_parse.specs.Pattern.{bond_of, Term, Prim, BondTerm, GraphTerm}
 use Rattle.smarts_parse.specs.Sound.{pattern_ends}
 use Rattle.smarts_parse.specs.Truth.{AtomTrue}
 use Rattle.smarts_parse.specs.Embedding.{BondEmbeds, IsEmbedding}
@@ -189,3 +192,98 @@ CanComplete-next g m front lt w = next w.0 w.1
           subst (λ x. x < length m.atoms) (get_or-append_seam front a rest 0) (h.in_range (length front) 0 place),
           (rest, subst (IsEmbedding NoParts g m) (sym (append_assoc front (a ∷ []) rest)) h),
         )
+
+-- a bond joins its ends either way
+joined_back : (ends : Ends) (b x y : ℕ) → JoinsAt ends b x y → JoinsAt ends b y x
+joined_back ends b x y (inl e) = inr e
+joined_back ends b x y (inr e) = inl e
+
+-- the pattern's bond at the place embeds where both its ends are placed
+bond_at : (g : GraphTerm) (m : Molecule) (image : List ℕ) (k x y : ℕ) → IsPartial g m image → x < length image → y < length image → slice_get (pattern_ends g) k ≡ Some (x, y) → Joined (ends_of m) (slice_index image x) (slice_index image y)
+bond_at g m image k x y h lx ly get =
+    let d : BondTerm = record { a = 0; b = 0; expr = Prim bonds.Any } in
+    let bond : BondTerm = get_or g.bonds k d in
+    let l : k < length g.bonds = subst (λ n. k < n) (length-map g.bonds (λ (b : BondTerm). (b.a, b.b))) (slice_get_within (pattern_ends g) k (x, y) get) in
+    let mine : ℕ × ℕ = (bond.a, bond.b) in
+    let given : ℕ × ℕ = (x, y) in
+    let same : mine ≡ given = sym (get_or-map (λ (b : BondTerm). (b.a, b.b)) g.bonds k d given l) ∙ get_or_from_slice_get (pattern_ends g) k given given get in
+    let left : bond.a ≡ x = ap (λ (e : ℕ × ℕ). e.0) same in
+    let right : bond.b ≡ y = ap (λ (e : ℕ × ℕ). e.1) same in
+    let embeds = h.bonds k d l (omega arith) in
+    (embeds.0, subst (λ i. JoinsAt (ends_of m) embeds.0 (slice_index image i) (slice_index image y)) left (subst (λ i. JoinsAt (ends_of m) embeds.0 (slice_index image bond.a) (slice_index image i)) right embeds.1))
+
+-- the next atom stands at a neighbour of each one that the pattern bonds it to
+pub near_earlier : (g : GraphTerm) (m : Molecule) (front : List ℕ) (e : ℕ) → e < length front → Joined (pattern_ends g) e (length front) → (a : ℕ) → CanComplete g m (front ++ a ∷ []) → Joined (ends_of m) (slice_index front e) a
+near_earlier g m front e l joined a w =
+    let h = IsPartial-from_completion g m (front ++ a ∷ []) w in
+    let size : length (front ++ a ∷ []) ≡ length front + 1 = length_push front a in
+    let before : slice_index (front ++ a ∷ []) e ≡ slice_index front e = index_front front (a ∷ []) e l in
+    let here : slice_index (front ++ a ∷ []) (length front) ≡ a = get_or_push front a 0 (length front) refl in
+    subst (λ x. Joined (ends_of m) x a) before (subst (λ y. Joined (ends_of m) (slice_index (front ++ a ∷ []) e) y) here (⊎_elim
+    (λ get. bond_at g m (front ++ a ∷ []) joined.0 e (length front) h (omega arith) (omega arith) get)
+    (λ get. let found = bond_at g m (front ++ a ∷ []) joined.0 (length front) e h (omega arith) (omega arith) get in
+    (found.0, joined_back (ends_of m) found.0 (slice_index (front ++ a ∷ []) (length front)) (slice_index (front ++ a ∷ []) e) found.1))
+    joined.1))
+
+-- a neighbour is an atom
+pub neighbour_in_range : (m : Molecule) (from : ℕ) (pairs : List (ℕ × ℕ)) (k : ℕ) (d : ℕ × ℕ) → IsMolecule m → AreNeighbours (ends_of m) from pairs → k < length pairs → (get_or pairs k d).0 < length m.atoms
+neighbour_in_range m from pairs k d valid h l = in_range (get_or pairs k d).1 from (get_or pairs k d).0 (h.joined (get_or pairs k d).0 (get_or pairs k d).1 (Contains-get_or pairs k d l))
+  where
+    at : (b x y : ℕ) → slice_get (ends_of m) b ≡ Some (x, y) → (x < length m.atoms) × (y < length m.atoms)
+    at b x y get = subst (λ (e : ℕ × ℕ). (e.0 < length m.atoms) × (e.1 < length m.atoms)) (get_or_from_slice_get (ends_of m) b (x, y) (x, y) get) (valid.graph.in_range b (x, y) (slice_get_within (ends_of m) b (x, y) get))
+
+    in_range : (b x y : ℕ) → JoinsAt (ends_of m) b x y → y < length m.atoms
+    in_range b x y (inl e) = (at b x y e).1
+    in_range b x y (inr e) = (at b y x e).0
+
+-- what is joined to an atom is among its neighbours
+pub among_neighbours : (ends : Ends) (from a : ℕ) (pairs : List (ℕ × ℕ)) → AreNeighbours ends from pairs → Joined ends from a → (k : ℕ) × (d : ℕ × ℕ) × (k < length pairs) × ((get_or pairs k d).0 ≡ a)
+among_neighbours ends from a pairs h joined = let w = h.each a joined.0 joined.1 in (w.0, (a, joined.0), w.1, ap (λ (e : ℕ × ℕ). e.0) w.2)
+
+-- the ends of the bonds of a pattern as it lies in memory
+abbrev ends_in : List PatBond → Ends
+ends_in bonds = map (λ b. (b.a, b.b)) (map bond_of bonds)
+
+ends_in-at : (bonds : List PatBond) (k : ℕ) (d : PatBond) → k < length bonds → slice_get (ends_in bonds) k ≡ Some ((get_or bonds k d).a, (get_or bonds k d).b)
+ends_in-at bonds k d l =
+    let inside : k < length (map bond_of bonds) = subst (λ n. k < n) (sym (length-map bonds bond_of)) l in
+    let both : k < length (ends_in bonds) = subst (λ n. k < n) (sym (length-map (map bond_of bonds) (λ (b : BondTerm). (b.a, b.b)))) inside in
+    let whole : ℕ × ℕ = ((get_or bonds k d).a, (get_or bonds k d).b) in
+    slice_get-get_or (ends_in bonds) k whole both ∙ ap (λ (e : ℕ × ℕ). Some e) (get_or-map (λ (b : BondTerm). (b.a, b.b)) (map bond_of bonds) k (bond_of d) whole inside
+    ∙ ap (λ (b : BondTerm). (b.a, b.b)) (get_or-map bond_of bonds k d (bond_of d) l))
+
+-- a bond whose higher end is the place joins it to the lower one
+pub joined_before : (bonds : List PatBond) (k place : ℕ) (bond : PatBond) → k < length bonds → bond ≡ get_or bonds k bond → max bond.a bond.b ≡ place → Joined (ends_in bonds) (min bond.a bond.b) place
+joined_before bonds k place bond l e high =
+    let at : slice_get (ends_in bonds) k ≡ Some (bond.a, bond.b) = subst (λ (b : PatBond). slice_get (ends_in bonds) k ≡ Some (b.a, b.b)) (sym e) (ends_in-at bonds k bond l) in (
+      k,
+      ⊎_elim (λ lt.
+          let low : bond.a ≡ min bond.a bond.b = omega arith in
+          let top : bond.b ≡ place = omega arith in
+          inl (subst (λ x. slice_get (ends_in bonds) k ≡ Some (x, place)) low (subst (λ y. slice_get (ends_in bonds) k ≡ Some (bond.a, y)) top at)))
+          (λ le.
+          let low : bond.b ≡ min bond.a bond.b = omega arith in
+          let top : bond.a ≡ place = omega arith in
+          inr (subst (λ x. slice_get (ends_in bonds) k ≡ Some (place, x)) low (subst (λ y. slice_get (ends_in bonds) k ≡ Some (y, bond.b)) top at)))
+          (cases_lt bond.a bond.b),
+    )
+
+no_bond : PatBond
+no_bond = record { a = 0; b = 0; expr = in_memory.Prim bonds.Any }
+
+-- where no bond has its higher end at the place and its lower before, none joins it to an earlier one
+pub not_joined_before : (bonds : List PatBond) (place : ℕ) → ((k : ℕ) (d : PatBond) → k < length bonds → max (get_or bonds k d).a (get_or bonds k d).b ≡ place → min (get_or bonds k d).a (get_or bonds k d).b < place → ⊥)
+    → (e : ℕ) → e < place → Joined (ends_in bonds) e place → ⊥
+not_joined_before bonds place none e lt joined = ⊎_elim (at e place (omega arith) (omega arith)) (at place e (omega arith) (omega arith)) joined.1
+  where
+    at : (x y : ℕ) → max x y ≡ place → min x y < place → slice_get (ends_in bonds) joined.0 ≡ Some (x, y) → ⊥
+    at x y high low get =
+        let bond : PatBond = get_or bonds joined.0 no_bond in
+        let l : joined.0 < length bonds = subst (λ n. joined.0 < n) (length-map (map bond_of bonds) (λ (b : BondTerm). (b.a, b.b)) ∙ length-map bonds bond_of) (slice_get_within (ends_in bonds) joined.0 (x, y) get) in
+        let mine : ℕ × ℕ = (bond.a, bond.b) in
+        let given : ℕ × ℕ = (x, y) in
+        let both : Some mine ≡ Some given = sym (ends_in-at bonds joined.0 no_bond l) ∙ get in
+        let same : mine ≡ given = cc in
+        let left : bond.a ≡ x = ap (λ (e : ℕ × ℕ). e.0) same in
+        let right : bond.b ≡ y = ap (λ (e : ℕ × ℕ). e.1) same in
+        none joined.0 no_bond l (omega arith) (omega arith)

@@ -9,4 +9,5 @@ pub mod request;
 pub mod session;
 pub mod smiles;
 pub mod store;
+pub mod top;
 pub mod words;

@@ -1,8 +1,9 @@
 //! Whether a pattern embeds in a molecule (Daylight Theory Manual, chapter SMARTS): today where it asks about no ring and no recursive part.
 
 ghost use Rattle.std.specs.Prelude.{◌≡◌, ◌<◌, ◌≤◌, ◌+◌, ◌++◌, ◌∷◌, [], ◌↔◌, ℕ, List, length, map, max, slice_index_or, take, All, Contains, IfNone, IfSome, IsTrue, vec_len};
-ghost use Rattle.chem_core.specs.Graph.{JoinsAt};
-ghost use Rattle.chem_core.specs.Molecule.{ends_of};
+ghost use Rattle.chem_core.specs.Graph.{Joined, JoinsAt};
+ghost use Rattle.chem_core.specs.Molecule.{IsMolecule, ends_of};
+ghost use Rattle.smarts_parse.specs.Chain.{Chain, chain_pattern};
 ghost use Rattle.smarts_parse.specs.Embedding.{BondEmbeds, Matches};
 ghost use Rattle.smarts_parse.specs.Pattern.{Prim, bond_of, graph_of, pattern_of, term_of};
 ghost use Rattle.smarts_parse.specs.Sound.{IsSoundPattern, pattern_ends};
@@ -109,6 +110,20 @@ fn last_fits(graph: &Graph, mol: &Mol, image: &[u16]) -> bool
     last_is_new(image) && last_is_true(graph, mol, image) && bonds_embed(&graph.bonds, mol, image)
 }
 
+// An atom of the pattern before the one at the place that is bonded to it, if there is one.
+fn bonded_before(bonds: &[PatBond], place: usize) -> Option<usize>
+    ensures found { IfSome result (λ e. (e < place) × Joined (map (λ b. (b.a, b.b)) (map bond_of bonds.now)) e place) }
+    ensures none { IfNone result ((e : ℕ) → e < place → ¬ Joined (map (λ b. (b.a, b.b)) (map bond_of bonds.now)) e place) }
+{
+    for bond in bonds {
+        let (low, high) = (bond.a.min(bond.b), bond.a.max(bond.b));
+        if usize::from(high) == place && low < high {
+            return Some(usize::from(low));
+        }
+    }
+    None
+}
+
 // Whether the pattern's other atoms can be placed after these, with the next at that atom.
 #[cycle(search)]
 fn extend_at(graph: &Graph, mol: &Mol, image: &mut [u16], placed: usize, atom: u16) -> bool
@@ -117,12 +132,56 @@ fn extend_at(graph: &Graph, mol: &Mol, image: &mut [u16], placed: usize, atom: u
     requires room { length graph.now.atoms.items ≤ length image.old }
     requires few { placed < length graph.now.atoms.items }
     requires in_range { atom < length mol.now.atoms }
+    requires valid { IsMolecule mol.now }
     requires partial { IsPartial (graph_of graph.now) mol.now (take placed image.old) }
     ensures kept { take placed image.new ≡ take placed image.old }
     ensures found { IsTrue result ↔ CanComplete (graph_of graph.now) mol.now (take placed image.old ++ atom ∷ []) }
 {
     image[placed] = atom;
     last_fits(graph, mol, &image[..placed + 1]) && extend(graph, mol, image, placed + 1)
+}
+
+// The same with the next atom at any atom of the molecule.
+#[cycle(search)]
+fn extend_anywhere(graph: &Graph, mol: &Mol, image: &mut [u16], placed: usize) -> bool
+    requires flat { IsFlatGraph (graph_of graph.now) }
+    requires sound { EndsInRange (graph_of graph.now) }
+    requires room { length graph.now.atoms.items ≤ length image.old }
+    requires few { placed < length graph.now.atoms.items }
+    requires valid { IsMolecule mol.now }
+    requires partial { IsPartial (graph_of graph.now) mol.now (take placed image.old) }
+    ensures kept { take placed image.new ≡ take placed image.old }
+    ensures found { IsTrue result ↔ CanComplete (graph_of graph.now) mol.now (take placed image.old) }
+{
+    for atom in 0..mol.atoms().len() as u16 {
+        if extend_at(graph, mol, image, placed, atom) {
+            return true;
+        }
+    }
+    false
+}
+
+// The same where the next atom can stand only at a neighbour of an atom.
+#[cycle(search)]
+fn extend_near(graph: &Graph, mol: &Mol, image: &mut [u16], placed: usize, from: u16) -> bool
+    requires flat { IsFlatGraph (graph_of graph.now) }
+    requires sound { EndsInRange (graph_of graph.now) }
+    requires room { length graph.now.atoms.items ≤ length image.old }
+    requires few { placed < length graph.now.atoms.items }
+    requires partial { IsPartial (graph_of graph.now) mol.now (take placed image.old) }
+    requires valid { IsMolecule mol.now }
+    requires in_range { from < length mol.now.atoms }
+    requires near { (a : ℕ) → CanComplete (graph_of graph.now) mol.now (take placed image.old ++ a ∷ []) → Joined (ends_of mol.now) from a }
+    ensures kept { take placed image.new ≡ take placed image.old }
+    ensures found { IsTrue result ↔ CanComplete (graph_of graph.now) mol.now (take placed image.old) }
+{
+    let neighbours = mol.neighbours(from);
+    for (atom, _) in neighbours {
+        if extend_at(graph, mol, image, placed, *atom) {
+            return true;
+        }
+    }
+    false
 }
 
 // Whether the pattern's other atoms can be placed after these.
@@ -132,6 +191,7 @@ fn extend(graph: &Graph, mol: &Mol, image: &mut [u16], placed: usize) -> bool
     requires sound { EndsInRange (graph_of graph.now) }
     requires room { length graph.now.atoms.items ≤ length image.old }
     requires few { placed ≤ length graph.now.atoms.items }
+    requires valid { IsMolecule mol.now }
     requires partial { IsPartial (graph_of graph.now) mol.now (take placed image.old) }
     ensures kept { take placed image.new ≡ take placed image.old }
     ensures found { IsTrue result ↔ CanComplete (graph_of graph.now) mol.now (take placed image.old) }
@@ -139,12 +199,13 @@ fn extend(graph: &Graph, mol: &Mol, image: &mut [u16], placed: usize) -> bool
     if placed == graph.atoms.len() {
         return true;
     }
-    for atom in 0..mol.atoms().len() as u16 {
-        if extend_at(graph, mol, image, placed, atom) {
-            return true;
+    match bonded_before(&graph.bonds, placed) {
+        Some(earlier) => {
+            let from = image[earlier];
+            extend_near(graph, mol, image, placed, from)
         }
+        None => extend_anywhere(graph, mol, image, placed),
     }
-    false
 }
 
 /// Scratch memory for matching: room for every pattern within the limits, taken once.
@@ -169,5 +230,16 @@ pub fn has(pattern: &Pattern, mol: &Mol, scratch: &mut Scratch) -> bool
     requires flat { IsFlat (pattern_of pattern.now) }
     ensures { IsTrue result ↔ Matches (pattern_of pattern.now) mol.now }
 {
+    if mol.atoms().is_empty() {
+        return false;
+    }
     extend(&pattern.top, mol, &mut scratch.image, 0)
 }
+
+/// Every pattern that is read today is flat, so that `has` takes it.
+pub fn chains_are_flat()
+    ensures { (chain : Chain) → IsFlat (chain_pattern chain) }
+{}
+
+#[cfg(test)]
+mod tests;

@@ -264,3 +264,6 @@ pub fn structure(alloc: Global, text: &[u8]) -> Result<Mol, SmilesFault>
 pub fn one_structure()
     ensures { (text : List ℕ) (m n : Molecule) → IsStructureOf text m → IsStructureOf text n → m ≡ n }
 {}
+
+#[cfg(test)]
+pub mod tests;
