@@ -13,6 +13,8 @@ pub mod Transcript
 pub mod Answered
 pub mod Turn
 pub mod Served
+pub mod Status
+pub mod Ends
 pub mod Words
 pub mod Reading
 pub mod Partial

@@ -7,7 +7,7 @@ use Rattle.chem_shell.specs.declared.reply.Reply.TheVariants.{Hit, End, Refused}
 use Rattle.chem_shell.specs.declared.reply.Refusal.TheVariants.{SmartsSyntax}
 use Rattle.chem_shell.specs.Reply.{text_of, reply_line}
 use Rattle.chem_shell.specs.Flat.{IsFlat}
-use Rattle.chem_shell.proofs.ChainFlat.{flat_chain}
+use Rattle.chem_shell.proofs.ChainFlat.{chain_flat}
 use Rattle.chem_shell.proofs.answer.search.Goals as goal
 
 pub returns-in-Err-Syntax : goal.returns-in-Err-Syntax
@@ -15,7 +15,7 @@ returns-in-Err-Syntax c =
     on_ok_weaker c.push_line.result (λ e. (Refused SmartsSyntax ∷ [], inl (refl, λ p h. c.in-Err-Syntax.ensures.syntax (ap Err c.in-Err-Syntax.field-0-is) h.0 h.1), e)) c.push_line.ensures
 
 pub hits-requires-clause-flat : goal.hits-requires-clause-flat
-hits-requires-clause-flat c = let p = c.in-Ok.ensures.ok in subst IsFlat (sym p.2) (flat_chain p.0)
+hits-requires-clause-flat c = let p = c.in-Ok.ensures.ok in subst IsFlat (sym p.2) (chain_flat p.0)
 
 -- the lines of the hits, and one behind them
 hits_and_end : (out new last : List ℕ) (hits : List Reply) (end : Reply) → new ≡ out ++ text_of hits → last ≡ new ++ reply_line end → last ≡ out ++ text_of (hits ++ end ∷ [])

@@ -11,9 +11,12 @@ fault_is r x y z p q e = cc
 pub returns-in_err-lines-clause-front : goal.returns-in_err-lines-clause-front
 returns-in_err-lines-clause-front g c = front_unmoved _ _
 
+pub returns-in_err-desk-clause-front : goal.returns-in_err-desk-clause-front
+returns-in_err-desk-clause-front g c = front_unmoved _ _
+
 pub loop-desk-init : goal.loop-desk-init
 loop-desk-init g c = record {
-  under_way = rw c.new-desk.ensures (IsUnderWay-start _ _ c.in_ok-lines.lines c.in_ok-lines.ensures);
+  under_way = rw c.in_ok-desk.ensures (IsUnderWay-start _ _ c.in_ok-lines.lines c.in_ok-lines.ensures);
   source_count = omega arith;
   sink_count = omega arith;
 }
