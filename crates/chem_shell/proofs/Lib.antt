@@ -9,3 +9,4 @@ pub mod FlatLemmas
 pub mod HitsLemmas
 pub mod CommandLemmas
 pub mod ChainFlat
+pub mod EndsLemmas

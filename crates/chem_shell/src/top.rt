@@ -79,10 +79,11 @@ fn serve<S: Source + Drop, K: Sink + Drop>(alloc: Global, end: &mut End<S, K>)
 }
 
 /// Serves the one end, and answers its status.
-fn serve_one<S: Source + Drop, K: Sink + Drop>(alloc: Global, ends: &mut [End<S, K>]) -> u8
-    requires { length ends.old ≡ 1 }
-    ensures served { AllZip (IsServed S.left S.faults K.written K.faults) ends.old ends.new }
-    ensures status { result ≡ first_fault (map (λ end. end.status) ends.new) }
+fn serve_one<S: Source + Drop, K: Sink + Drop>(alloc: Global, ends: &mut Vec<End<S, K>>) -> u8
+    requires { length ends.old.items ≡ 1 }
+    ensures served { AllZip (IsServed S.left S.faults K.written K.faults) ends.old.items ends.new.items }
+    ensures overall { result ≡ first_fault (map (λ end. end.status) ends.new.items) }
+    ensures status { IsEndStatus result }
 {
     let end = &mut ends[0];
     serve(alloc, end);
