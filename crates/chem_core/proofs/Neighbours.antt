@@ -8,6 +8,7 @@ use Rattle.std.proofs.lemmas.List.{get_or-map, get_or-set_same, get_or-set_other
 use Rattle.std.proofs.lemmas.List.Sorted.{Contains-permutation, IsPermutation-sym}
 use Rattle.smallvec.specs.SmallVec.{SmallVec}
 use Rattle.chem_core.specs.declared.mol.Bond.{Bond}
+use Rattle.chem_core.proofs.Ascending.{Contains-cons_cases, Contains-cons_first, Contains-cons_rest, same_pairs}
 use Rattle.chem_core.specs.Molecule.{bond_ends}
 use Rattle.chem_core.specs.Graph.{Ends, JoinsAt, AreNeighbours, AreNeighbourLists, IsSimpleGraph}
 
@@ -32,16 +33,6 @@ slice_get-take zero xs i v h = absurd (none-some v h)
 slice_get-take (suc n) [] i v h = h
 slice_get-take (suc n) (x ∷ xs) zero v h = h
 slice_get-take (suc n) (x ∷ xs) (suc i) v h = slice_get-take n xs i v h
-
-Contains-cons_cases : {X : Type 0} (x : X) (xs : List X) (y : X) → Contains (x ∷ xs) y → (x ≡ y) ⊎ Contains xs y
-Contains-cons_cases x xs y (zero, l, e) = inl e
-Contains-cons_cases x xs y (suc k, l, e) = inr (k, omega arith, e)
-
-Contains-cons_first : {X : Type 0} (x : X) (xs : List X) → Contains (x ∷ xs) x
-Contains-cons_first x xs = (zero, omega arith, refl)
-
-Contains-cons_rest : {X : Type 0} (x : X) (xs : List X) (y : X) → Contains xs y → Contains (x ∷ xs) y
-Contains-cons_rest x xs y h = (suc h.0, omega (arith, h.1), h.2)
 
 -- a bond that joins two atoms does so when one more bond has come
 JoinsAt-push : (ends : Ends) (e : ℕ × ℕ) (b x y : ℕ) → JoinsAt ends b x y → JoinsAt (ends ++ e ∷ []) b x y
@@ -136,6 +127,11 @@ no_neighbour_yet all n place lists graph h x y joins within b q =
     let same : b ≡ place = graph.once b place x y one joins in
     let low : b < length (take place all) = elim before [ inl r ↦ slice_get_within _ b _ r | inr r ↦ slice_get_within _ b _ r ] in
     omega (arith, length-take place all)
+
+-- an atom has one list of neighbours
+pub AreNeighbours-one : (ends : Ends) (a : ℕ) (xs ys : List (ℕ × ℕ)) → AreNeighbours ends a xs → AreNeighbours ends a ys → xs ≡ ys
+AreNeighbours-one ends a xs ys f g =
+    same_pairs xs ys f.ascending g.ascending (λ p q. g.each p.0 p.1 (f.joined p.0 p.1 q)) (λ p q. f.each p.0 p.1 (g.joined p.0 p.1 q))
 
 -- ---- the same of the lists as they lie in memory
 

@@ -1,3 +1,5 @@
+//! What a structure is made of: sketches as they are written, molecules as they are meant, fingerprints, and the table
+//! of the elements. The definitions that contracts share stand in `specs/`.
 #![tactic(auto)]
 
 mod element;
@@ -6,6 +8,9 @@ mod print;
 mod sketch;
 
 pub use element::{number_of, symbol_of};
-pub use mol::{Atom, Bond, BondKind, Mol};
+pub use mol::{Atom, Bond, BondKind, Mol, one_neighbour_list};
 pub use print::Print;
 pub use sketch::{Fill, Sketch, SketchAtom, SketchBond, SketchKind};
+
+#[cfg(test)]
+mod tests;

@@ -1,6 +1,7 @@
-ghost use Rattle.std.specs.Prelude.{◌≡◌, ◌+◌, ◌<◌, ◌∷◌, ℕ, [], length, map, replicate, take, Contains, IsPermutation, nat_lt, position, unwrap_or, IfOk, OnOk};
+//! Molecules: atoms and bonds as they are meant, and each atom's neighbours.
+ghost use Rattle.std.specs.Prelude.{◌≡◌, ◌+◌, ◌<◌, ◌∷◌, ℕ, List, [], length, map, replicate, take, Contains, IsPermutation, nat_lt, position, unwrap_or, IfOk, OnOk};
 ghost use Rattle.std.specs.List.Sorted.{IsStrictlyIncreasing};
-ghost use Rattle.chem_core.specs.Graph.{IsSimpleGraph, AreNeighbours, AreNeighbourLists};
+ghost use Rattle.chem_core.specs.Graph.{Ends, IsSimpleGraph, AreNeighbours, AreNeighbourLists};
 ghost use Rattle.chem_core.specs.Molecule.{IsMolecule, bond_ends, ends_of};
 
 use smallvec::SmallVec;
@@ -106,6 +107,12 @@ impl Mol {
     }
 }
 
+/// A law: an atom has one list of neighbours.
+pub fn one_neighbour_list()
+    ensures { (ends : Ends) (a : ℕ) (xs ys : List (ℕ × ℕ))
+        → AreNeighbours ends a xs → AreNeighbours ends a ys → xs ≡ ys }
+{}
+
 // For each atom its neighbours, found in one pass over the bonds.
 fn neighbour_lists(
     alloc: Global,
@@ -139,8 +146,8 @@ fn join(lists: &mut [Neighbours], bonds: &[Bond], place: usize) -> Result<(), Al
     requires in_range { place < length bonds.now }
     requires before { AreNeighbourLists (take place (bond_ends bonds.now)) (length lists.old)
         (map (λ v. v.items) lists.old) }
-    ensures { OnOk result (AreNeighbourLists (take (place + 1) (bond_ends bonds.now)) (length lists.old)
-        (map (λ v. v.items) lists.new)) }
+    ensures { OnOk result (AreNeighbourLists (take (place + 1) (bond_ends bonds.now))
+        (length lists.old) (map (λ v. v.items) lists.new)) }
 {
     let bond = bonds[place];
     put(&mut lists[usize::from(bond.a)], bond.b, place as u16)?;
@@ -162,7 +169,8 @@ fn put(list: &mut Neighbours, neighbour: u16, bond: u16) -> Result<(), AllocErro
 
 // Where a neighbour goes: before the first that is higher.
 fn place_of(list: &[(u16, u16)], neighbour: u16) -> usize
-    ensures { result ≡ unwrap_or (position (λ pair. nat_lt neighbour pair.0) list.now) (length list.now) }
+    ensures { result
+        ≡ unwrap_or (position (λ pair. nat_lt neighbour pair.0) list.now) (length list.now) }
 {
     list.iter()
         .position(|pair| pair.0 > neighbour)

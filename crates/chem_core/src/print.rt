@@ -1,3 +1,5 @@
+//! Fingerprints: a bit for each feature that a structure may have, so that most structures without what a pattern
+//! needs are told apart by sixteen words (Daylight Theory Manual, chapter Fingerprints).
 ghost use Rattle.std.specs.Prelude.{◌≡◌, ◌↔◌, ℕ, ◌^◌, ◌<◌, true, length, slice_index, slice_set, bit_and, EachIndex, IsTrue};
 ghost use Rattle.chem_core.specs.Bits.{HasBit};
 
@@ -20,9 +22,6 @@ impl Model for Print {
 }
 
 impl Print {
-    /// How many bits a print has.
-    pub const BITS: u16 = 1024;
-
     /// The print with no bit set.
     pub fn empty() -> Print
         ensures length { length result ≡ 1024 }
@@ -64,7 +63,8 @@ impl Print {
 fn covers(have: &[u64], want: &[u64]) -> bool
     requires { length have.now ≡ length want.now }
     ensures value { IsTrue result
-        ↔ EachIndex want.now (λ k. bit_and (slice_index have.now k) (slice_index want.now k) ≡ slice_index want.now k) }
+        ↔ EachIndex want.now (λ k.
+        bit_and (slice_index have.now k) (slice_index want.now k) ≡ slice_index want.now k) }
     ensures range { EachIndex want.now (λ k. slice_index want.now k < 2 ^ 64) }
 {
     for (word, wanted) in have.iter().zip(want) {
