@@ -7,3 +7,4 @@ pub mod Bits
 pub mod Organic
 pub mod Inside
 pub mod Words
+pub mod RingFacts

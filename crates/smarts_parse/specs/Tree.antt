@@ -32,7 +32,7 @@ link_of l = record { marks = map mark_of l.marks.items; atom = organic_of l.atom
 abbrev pub chain_of : chain.Chain → Chain
 chain_of c = record { first = organic_of c.first; links = map link_of c.links.items }
 
--- no such bytes begin with the second letter of a symbol, `l` or `r`
+-- the bytes do not begin with the second letter of a symbol, `l` or `r`
 abbrev pub FollowsSymbol : List ℕ → Type 0
 FollowsSymbol [] = Unit {0}
 FollowsSymbol (b ∷ bs) = (b ≢ 108) × (b ≢ 114)

@@ -11,4 +11,4 @@ mod tree;
 pub use fault::SmartsFault;
 pub use parser::one_tree;
 pub use pattern::{AtomPrim, BondPrim, Expr, Graph, PatBond, Pattern};
-pub use read::parse;
+pub use read::{is_short, parse};

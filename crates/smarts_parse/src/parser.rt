@@ -11,10 +11,11 @@ use crate::fault::SmartsFault;
 use crate::tree::{self, Mark, Symbol};
 use std::alloc::{AllocError, Global};
 
-/// The longest symbol that the bytes begin with.
+/// The longest symbol that the bytes begin with, and the bytes after it.
 fn symbol_at(bytes: &[u8]) -> Option<(Symbol, &[u8])>
     ensures found { IfSome result (λ r. bytes.now ≡ symbol_bytes (organic_of r.0) ++ r.1.now) }
-    ensures longest { IfSome result (λ r. (s : Organic) (rest : List ℕ) → bytes.now ≡ symbol_bytes s ++ rest → length (symbol_bytes s) ≤ length (symbol_bytes (organic_of r.0))) }
+    ensures longest { IfSome result (λ r. (s : Organic) (rest : List ℕ) → bytes.now ≡ symbol_bytes s ++ rest
+        → length (symbol_bytes s) ≤ length (symbol_bytes (organic_of r.0))) }
     ensures none { IfNone result ((s : Organic) (rest : List ℕ) → bytes.now ≢ symbol_bytes s ++ rest) }
 {
     if let [first, second, rest @ ..] = bytes
@@ -27,7 +28,7 @@ fn symbol_at(bytes: &[u8]) -> Option<(Symbol, &[u8])>
     Some((symbol, rest))
 }
 
-/// The bond mark that the bytes begin with.
+/// The bond mark that the bytes begin with, and the bytes after it.
 fn mark_at(bytes: &[u8]) -> Option<(Mark, &[u8])>
     ensures found { IfSome result (λ r. bytes.now ≡ mark_byte (mark_of r.0) ∷ r.1.now) }
     ensures none { IfNone result ((m : BondMark) (rest : List ℕ) → bytes.now ≢ mark_byte m ∷ rest) }
@@ -37,7 +38,7 @@ fn mark_at(bytes: &[u8]) -> Option<(Mark, &[u8])>
     Some((mark, rest))
 }
 
-/// All bond marks that the bytes begin with.
+/// All bond marks that the bytes begin with, and the bytes after them.
 fn marks_at(alloc: Global, bytes: &[u8]) -> Result<(Vec<Mark>, &[u8]), AllocError>
     ensures found { IfOk result (λ r. bytes.now ≡ map mark_byte (map mark_of r.0.items) ++ r.1.now) }
     ensures all { IfOk result (λ r. (m : BondMark) (rest : List ℕ) → r.1.now ≢ mark_byte m ∷ rest) }
@@ -51,12 +52,15 @@ fn marks_at(alloc: Global, bytes: &[u8]) -> Result<(Vec<Mark>, &[u8]), AllocErro
     Ok((marks, rest))
 }
 
-/// The link that the bytes begin with.
+/// The link that the bytes begin with, and the bytes after it.
 fn link_at(alloc: Global, bytes: &[u8]) -> Result<(tree::Link, &[u8]), SmartsFault>
     ensures found { IfOk result (λ r. bytes.now ≡ link_bytes (link_of r.0) ++ r.1.now) }
-    ensures only { IfOk result (λ r. (link : Link) (rest : List ℕ) → bytes.now ≡ link_bytes link ++ rest → FollowsSymbol rest → rest ≡ r.1.now) }
+    // No other bytes that may follow a symbol stand after a link at the front.
+    ensures only { IfOk result (λ r. (link : Link) (rest : List ℕ) → bytes.now ≡ link_bytes link ++ rest → FollowsSymbol rest
+        → rest ≡ r.1.now) }
     ensures shorter { IfOk result (λ r. length r.1.now < length bytes.now) }
-    ensures syntax { IsErrOf result SmartsFault.Syntax → (link : Link) (rest : List ℕ) → bytes.now ≢ link_bytes link ++ rest }
+    ensures syntax { IsErrOf result SmartsFault.Syntax → (link : Link) (rest : List ℕ)
+        → bytes.now ≢ link_bytes link ++ rest }
     ensures faults { IfErr result (λ e. (e ≡ Syntax) ⊎ (e ≡ NoMemory)) }
 {
     let (marks, rest) = marks_at(alloc, bytes)?;

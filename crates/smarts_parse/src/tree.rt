@@ -25,7 +25,8 @@ pub enum Symbol {
 impl Symbol {
     /// The symbol of one letter.
     pub fn of_letter(letter: u8) -> Option<Symbol>
-        ensures { MatchOption result ((s : Organic) → symbol_bytes s ≢ letter ∷ []) (λ symbol. symbol_bytes (organic_of symbol) ≡ letter ∷ []) }
+        ensures { MatchOption result ((s : Organic) → symbol_bytes s ≢ letter ∷ [])
+            (λ symbol. symbol_bytes (organic_of symbol) ≡ letter ∷ []) }
     {
         match letter {
             b'B' => Some(Symbol::Boron),
@@ -42,7 +43,8 @@ impl Symbol {
 
     /// The symbol of two letters.
     pub fn of_letters(first: u8, second: u8) -> Option<Symbol>
-        ensures { MatchOption result ((s : Organic) → symbol_bytes s ≢ first ∷ second ∷ []) (λ symbol. symbol_bytes (organic_of symbol) ≡ first ∷ second ∷ []) }
+        ensures { MatchOption result ((s : Organic) → symbol_bytes s ≢ first ∷ second ∷ [])
+            (λ symbol. symbol_bytes (organic_of symbol) ≡ first ∷ second ∷ []) }
     {
         match (first, second) {
             (b'C', b'l') => Some(Symbol::Chlorine),
