@@ -2,7 +2,6 @@
 use Rattle.std.proofs.Common.{ℕ, ◌+◌, List, [], ◌∷◌, All, fold, map}
 use Rattle.std.proofs.lemmas.List.Elements.{All-cons, All-nil}
 use Rattle.chem_core.specs.Organic.{BondMark, minus, equals, hash}
-use Rattle.smarts_parse.specs.declared.pattern.AtomPrim.{AtomPrim}
 use Rattle.smarts_parse.specs.declared.pattern.BondPrim.{BondPrim}
 use Rattle.smarts_parse.specs.Chain.{Chain, Link, atom_term, bond_term, bonds_from, chain_pattern, mark_prim}
 use Rattle.smarts_parse.specs.Pattern.{Term, Prim, And}

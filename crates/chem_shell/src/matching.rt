@@ -1,4 +1,8 @@
-//! Whether a pattern embeds in a molecule (Daylight Theory Manual, chapter SMARTS): today where it asks about no ring and no recursive part.
+//! Whether a pattern embeds in a molecule (Daylight Theory Manual, chapter SMARTS): today where it asks about no ring
+//! and no recursive part.
+//!
+//! The pattern's atoms are placed in turn, each at every atom of the molecule where it can stand, or, where the pattern
+//! bonds it to one that is placed, at every neighbour of that one. No number of tries is the last.
 
 ghost use Rattle.std.specs.Prelude.{◌≡◌, ◌<◌, ◌≤◌, ◌+◌, ◌++◌, ◌∷◌, [], ◌↔◌, ℕ, List, length, map, max, slice_index_or, take, All, Contains, IfNone, IfSome, IsTrue, vec_len};
 ghost use Rattle.chem_core.specs.Graph.{Joined, JoinsAt};
@@ -23,7 +27,8 @@ mod truth;
 fn bond_between(mol: &Mol, from: u16, to: u16) -> Option<u16>
     requires { from < length mol.now.atoms }
     ensures found { IfSome result (λ b. JoinsAt (ends_of mol.now) b from to) }
-    ensures only { IfSome result (λ b. (other : ℕ) → JoinsAt (ends_of mol.now) other from to → other ≡ b) }
+    ensures only { IfSome result
+        (λ b. (other : ℕ) → JoinsAt (ends_of mol.now) other from to → other ≡ b) }
     ensures none { IfNone result ((b : ℕ) → ¬ JoinsAt (ends_of mol.now) b from to) }
 {
     let neighbours = mol.neighbours(from);
@@ -39,7 +44,8 @@ fn bond_between(mol: &Mol, from: u16, to: u16) -> Option<u16>
 fn are_joined_by(expr: &Expr<BondPrim>, mol: &Mol, from: u16, to: u16) -> bool
     requires flat { AllPrims IsFlatBond (term_of expr.now) }
     requires in_range { from < length mol.now.atoms }
-    ensures { IsTrue result ↔ ((b : ℕ) × JoinsAt (ends_of mol.now) b from to × BondTrue (term_of expr.now) mol.now b) }
+    ensures { IsTrue result
+        ↔ ((b : ℕ) × JoinsAt (ends_of mol.now) b from to × BondTrue (term_of expr.now) mol.now b) }
 {
     match bond_between(mol, from, to) {
         Some(place) => bond_true(expr, mol, place),
@@ -66,7 +72,9 @@ fn bond_embeds(bond: &PatBond, mol: &Mol, image: &[u16]) -> bool
 fn bonds_embed(bonds: &[PatBond], mol: &Mol, image: &[u16]) -> bool
     requires flat { All (λ bond. AllPrims IsFlatBond bond.expr) (map bond_of bonds.now) }
     requires in_range { All (λ a. a < length mol.now.atoms) image.now }
-    ensures { IsTrue result ↔ All (λ bond. max bond.a bond.b + 1 ≡ length image.now → BondEmbeds mol.now image.now bond) (map bond_of bonds.now) }
+    ensures { IsTrue result ↔ All
+        (λ bond. max bond.a bond.b + 1 ≡ length image.now → BondEmbeds mol.now image.now bond)
+        (map bond_of bonds.now) }
 {
     for bond in bonds {
         if usize::from(bond.a.max(bond.b)) + 1 == image.len() && !bond_embeds(bond, mol, image) {
@@ -79,7 +87,8 @@ fn bonds_embed(bonds: &[PatBond], mol: &Mol, image: &[u16]) -> bool
 // Whether the last atom placed is none of those before it.
 fn last_is_new(image: &[u16]) -> bool
     requires { 0 < length image.now }
-    ensures { (front : List ℕ) (atom : ℕ) → image.now ≡ front ++ atom ∷ [] → (IsTrue result ↔ ¬ Contains front atom) }
+    ensures { (front : List ℕ) (atom : ℕ) → image.now ≡ front ++ atom ∷ []
+        → (IsTrue result ↔ ¬ Contains front atom) }
 {
     let last = image.len() - 1;
     !image[..last].contains(&image[last])
@@ -92,7 +101,8 @@ fn last_is_true(graph: &Graph, mol: &Mol, image: &[u16]) -> bool
     requires few { length image.now ≤ length graph.now.atoms.items }
     requires in_range { All (λ a. a < length mol.now.atoms) image.now }
     ensures { (front : List ℕ) (atom : ℕ) → image.now ≡ front ++ atom ∷ []
-        → (IsTrue result ↔ AtomTrue NoParts (slice_index_or (map term_of graph.now.atoms.items) (length front) (Prim atoms.Any)) mol.now atom) }
+        → let expr = slice_index_or (map term_of graph.now.atoms.items) (length front) (Prim atoms.Any)
+        in (IsTrue result ↔ AtomTrue NoParts expr mol.now atom) }
 {
     let last = image.len() - 1;
     atom_true(&graph.atoms[last], mol, image[last])
@@ -104,7 +114,8 @@ fn last_fits(graph: &Graph, mol: &Mol, image: &[u16]) -> bool
     requires some { 0 < length image.now }
     requires few { length image.now ≤ length graph.now.atoms.items }
     requires in_range { All (λ a. a < length mol.now.atoms) image.now }
-    ensures { (front : List ℕ) (atom : ℕ) → image.now ≡ front ++ atom ∷ [] → IsPartial (graph_of graph.now) mol.now front
+    ensures { (front : List ℕ) (atom : ℕ) → image.now ≡ front ++ atom ∷ []
+        → IsPartial (graph_of graph.now) mol.now front
         → (IsTrue result ↔ IsPartial (graph_of graph.now) mol.now image.now) }
 {
     last_is_new(image) && last_is_true(graph, mol, image) && bonds_embed(&graph.bonds, mol, image)
@@ -112,8 +123,10 @@ fn last_fits(graph: &Graph, mol: &Mol, image: &[u16]) -> bool
 
 // An atom of the pattern before the one at the place that is bonded to it, if there is one.
 fn bonded_before(bonds: &[PatBond], place: usize) -> Option<usize>
-    ensures found { IfSome result (λ e. (e < place) × Joined (map (λ b. (b.a, b.b)) (map bond_of bonds.now)) e place) }
-    ensures none { IfNone result ((e : ℕ) → e < place → ¬ Joined (map (λ b. (b.a, b.b)) (map bond_of bonds.now)) e place) }
+    ensures found { IfSome result
+        (λ e. (e < place) × Joined (map (λ b. (b.a, b.b)) (map bond_of bonds.now)) e place) }
+    ensures none { IfNone result
+        ((e : ℕ) → e < place → ¬ Joined (map (λ b. (b.a, b.b)) (map bond_of bonds.now)) e place) }
 {
     for bond in bonds {
         let (low, high) = (bond.a.min(bond.b), bond.a.max(bond.b));
@@ -135,7 +148,8 @@ fn extend_at(graph: &Graph, mol: &Mol, image: &mut [u16], placed: usize, atom: u
     requires valid { IsMolecule mol.now }
     requires partial { IsPartial (graph_of graph.now) mol.now (take placed image.old) }
     ensures kept { take placed image.new ≡ take placed image.old }
-    ensures found { IsTrue result ↔ CanComplete (graph_of graph.now) mol.now (take placed image.old ++ atom ∷ []) }
+    ensures found { IsTrue result
+        ↔ CanComplete (graph_of graph.now) mol.now (take placed image.old ++ atom ∷ []) }
 {
     image[placed] = atom;
     last_fits(graph, mol, &image[..placed + 1]) && extend(graph, mol, image, placed + 1)
@@ -171,7 +185,8 @@ fn extend_near(graph: &Graph, mol: &Mol, image: &mut [u16], placed: usize, from:
     requires partial { IsPartial (graph_of graph.now) mol.now (take placed image.old) }
     requires valid { IsMolecule mol.now }
     requires in_range { from < length mol.now.atoms }
-    requires near { (a : ℕ) → CanComplete (graph_of graph.now) mol.now (take placed image.old ++ a ∷ []) → Joined (ends_of mol.now) from a }
+    requires near { (a : ℕ) → CanComplete (graph_of graph.now) mol.now (take placed image.old ++ a ∷ [])
+        → Joined (ends_of mol.now) from a }
     ensures kept { take placed image.new ≡ take placed image.old }
     ensures found { IsTrue result ↔ CanComplete (graph_of graph.now) mol.now (take placed image.old) }
 {
@@ -224,12 +239,16 @@ impl Scratch {
     }
 }
 
-/// Whether the pattern has an embedding in the molecule. Takes no memory.
+/// Whether the pattern has an embedding in the molecule (Daylight Theory Manual, chapter SMARTS). Takes no memory.
+///
+/// The scratch memory may be used again, for any pattern. The depth of the calls is that of the pattern: at most 256
+/// atoms. The worst case takes exponential time.
 pub fn has(pattern: &Pattern, mol: &Mol, scratch: &mut Scratch) -> bool
     requires sound { IsSoundPattern (pattern_of pattern.now) }
     requires flat { IsFlat (pattern_of pattern.now) }
     ensures { IsTrue result ↔ Matches (pattern_of pattern.now) mol.now }
 {
+    // A molecule with no atoms: a pattern has one.
     if mol.atoms().is_empty() {
         return false;
     }

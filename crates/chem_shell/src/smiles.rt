@@ -1,4 +1,7 @@
 //! SMILES as they are read today: chains of symbols of the organic subset (OpenSMILES 1.0, sections 3.1.5 and 3.2).
+//!
+//! A text is read from the left, a link at a time: the longest bond symbol, and then the longest symbol of an atom. No
+//! text has two trees, so what is read is what the text spells.
 
 ghost use Rattle.std.specs.Prelude.{◌≡◌, ◌≢◌, ◌++◌, ◌∷◌, [], ◌+◌, ◌-◌, ◌≤◌, ◌<◌, ◌^◌, ◌⊎◌, length, List, ℕ, IfNone, IfOk, IfErr, IfSome, IsErrOf, Option, MatchResult, OnOk, map};
 ghost use Rattle.std.specs.List.{flat_map};
@@ -26,84 +29,6 @@ pub enum SmilesFault {
     NoMemory,
 }
 
-// The element whose symbol is this one letter.
-fn one_letter(letter: u8) -> Option<u8>
-    ensures found { IfSome result (λ n. (s : Organic) × (symbol_bytes s ≡ letter ∷ []) × (n ≡ atomic_number s)) }
-    ensures none { IfNone result ((s : Organic) → symbol_bytes s ≢ letter ∷ []) }
-{
-    match letter {
-        b'B' => Some(5),
-        b'C' => Some(6),
-        b'N' => Some(7),
-        b'O' => Some(8),
-        b'F' => Some(9),
-        b'P' => Some(15),
-        b'S' => Some(16),
-        b'I' => Some(53),
-        _ => None,
-    }
-}
-
-// The longest symbol at the front of the bytes: its element, and the bytes after it.
-fn symbol_at(bytes: &[u8]) -> Option<(u8, &[u8])>
-    ensures found { IfSome result (λ r. (s : Organic) × (bytes.now ≡ symbol_bytes s ++ r.1.now) × (r.0 ≡ atomic_number s)) }
-    ensures longest { IfSome result (λ r. (s : Organic) (rest : List ℕ) → bytes.now ≡ symbol_bytes s ++ rest → length r.1.now ≤ length rest) }
-    ensures none { IfNone result ((s : Organic) (rest : List ℕ) → bytes.now ≢ symbol_bytes s ++ rest) }
-{
-    match bytes {
-        [b'C', b'l', rest @ ..] => Some((17, rest)),
-        [b'B', b'r', rest @ ..] => Some((35, rest)),
-        [letter, rest @ ..] => Some((one_letter(*letter)?, rest)),
-        [] => None,
-    }
-}
-
-// The bond symbol at the front of the bytes, if one is written: its kind, and the bytes after it.
-fn mark_at(bytes: &[u8]) -> (SketchKind, &[u8])
-    ensures found { (mark : Option BondMark) × (bytes.now ≡ mark_bytes mark ++ result.1.now) × (result.0 ≡ kind_of mark) }
-    ensures longest { (mark : Option BondMark) (rest : List ℕ) → bytes.now ≡ mark_bytes mark ++ rest → length result.1.now ≤ length rest }
-{
-    match bytes {
-        [b'-', rest @ ..] => (SketchKind::Single, rest),
-        [b'=', rest @ ..] => (SketchKind::Double, rest),
-        [b'#', rest @ ..] => (SketchKind::Triple, rest),
-        _ => (SketchKind::Unwritten, bytes),
-    }
-}
-
-// An atom that is read, with the bond to the one before.
-#[derive(Clone, Copy)]
-struct NextAtom {
-    bond: SketchKind,
-    number: u8,
-}
-
-// The longest link at the front of the bytes, and the bytes after it.
-fn link_at(bytes: &[u8]) -> Option<(NextAtom, &[u8])>
-    ensures found { IfSome result (λ r. (link : Link) × (bytes.now ≡ link_bytes link ++ r.1.now) × (r.0.bond ≡ kind_of link.mark) × (r.0.number ≡ atomic_number link.atom)) }
-    ensures longest { IfSome result (λ r. (link : Link) (rest : List ℕ) → bytes.now ≡ link_bytes link ++ rest → length r.1.now ≤ length rest) }
-    ensures none { IfNone result ((link : Link) (rest : List ℕ) → bytes.now ≢ link_bytes link ++ rest) }
-{
-    let (bond, atom) = mark_at(bytes);
-    let (number, rest) = symbol_at(atom)?;
-    Some((NextAtom { bond, number }, rest))
-}
-
-// An atom of the organic subset in upper case.
-fn organic_atom(place: u16, number: u8) -> SketchAtom
-    ensures { (s : Organic) → number ≡ atomic_number s → result ≡ sketch_atom place s }
-{
-    SketchAtom {
-        number,
-        isotope: 0,
-        charge: 0,
-        lower: false,
-        fill: Fill::Organic,
-        hydrogens: 0,
-        written: place,
-    }
-}
-
 impl From<AllocError> for SmilesFault {
     ghost use Rattle.std.specs.Prelude.{◌≡◌};
     ghost use Rattle.chem_shell.specs.declared.smiles.SmilesFault.TheVariants.{NoMemory};
@@ -126,11 +51,97 @@ impl<T: Drop> From<AllocFailed<T>> for SmilesFault {
     }
 }
 
+// The element whose symbol is this one letter.
+fn one_letter(letter: u8) -> Option<u8>
+    ensures found { IfSome result
+        (λ n. (s : Organic) × (symbol_bytes s ≡ letter ∷ []) × (n ≡ atomic_number s)) }
+    ensures none { IfNone result ((s : Organic) → symbol_bytes s ≢ letter ∷ []) }
+{
+    match letter {
+        b'B' => Some(5),
+        b'C' => Some(6),
+        b'N' => Some(7),
+        b'O' => Some(8),
+        b'F' => Some(9),
+        b'P' => Some(15),
+        b'S' => Some(16),
+        b'I' => Some(53),
+        _ => None,
+    }
+}
+
+// The longest symbol at the front of the bytes: its element, and the bytes after it.
+fn symbol_at(bytes: &[u8]) -> Option<(u8, &[u8])>
+    ensures found { IfSome result
+        (λ r. (s : Organic) × (bytes.now ≡ symbol_bytes s ++ r.1.now) × (r.0 ≡ atomic_number s)) }
+    ensures longest { IfSome result (λ r. (s : Organic) (rest : List ℕ) →
+        bytes.now ≡ symbol_bytes s ++ rest → length r.1.now ≤ length rest) }
+    ensures none { IfNone result ((s : Organic) (rest : List ℕ) → bytes.now ≢ symbol_bytes s ++ rest) }
+{
+    match bytes {
+        [b'C', b'l', rest @ ..] => Some((17, rest)),
+        [b'B', b'r', rest @ ..] => Some((35, rest)),
+        [letter, rest @ ..] => Some((one_letter(*letter)?, rest)),
+        [] => None,
+    }
+}
+
+// The bond symbol at the front of the bytes, if one is written: its kind, and the bytes after it.
+fn mark_at(bytes: &[u8]) -> (SketchKind, &[u8])
+    ensures found { (mark : Option BondMark)
+        × (bytes.now ≡ mark_bytes mark ++ result.1.now) × (result.0 ≡ kind_of mark) }
+    ensures longest { (mark : Option BondMark) (rest : List ℕ) →
+        bytes.now ≡ mark_bytes mark ++ rest → length result.1.now ≤ length rest }
+{
+    match bytes {
+        [b'-', rest @ ..] => (SketchKind::Single, rest),
+        [b'=', rest @ ..] => (SketchKind::Double, rest),
+        [b'#', rest @ ..] => (SketchKind::Triple, rest),
+        _ => (SketchKind::Unwritten, bytes),
+    }
+}
+
+// An atom that is read, with the bond to the one before.
+#[derive(Clone, Copy)]
+struct NextAtom {
+    bond: SketchKind,
+    number: u8,
+}
+
+// The longest link at the front of the bytes, and the bytes after it.
+fn link_at(bytes: &[u8]) -> Option<(NextAtom, &[u8])>
+    ensures found { IfSome result (λ r. (link : Link) × (bytes.now ≡ link_bytes link ++ r.1.now)
+        × (r.0.bond ≡ kind_of link.mark) × (r.0.number ≡ atomic_number link.atom)) }
+    ensures longest { IfSome result (λ r. (link : Link) (rest : List ℕ) →
+        bytes.now ≡ link_bytes link ++ rest → length r.1.now ≤ length rest) }
+    ensures none { IfNone result ((link : Link) (rest : List ℕ) → bytes.now ≢ link_bytes link ++ rest) }
+{
+    let (bond, atom) = mark_at(bytes);
+    let (number, rest) = symbol_at(atom)?;
+    Some((NextAtom { bond, number }, rest))
+}
+
+// An atom of the organic subset in upper case.
+fn organic_atom(place: u16, number: u8) -> SketchAtom
+    ensures { (s : Organic) → number ≡ atomic_number s → result ≡ sketch_atom place s }
+{
+    SketchAtom {
+        number,
+        isotope: 0,
+        charge: 0,
+        lower: false,
+        fill: Fill::Organic,
+        hydrogens: 0,
+        written: place,
+    }
+}
+
 // Adds an atom, bonded to the last one.
 fn add_atom(sketch: &mut Sketch, next: NextAtom) -> Result<(), SmilesFault>
     requires some { 0 < length sketch.old.atoms }
     requires few { length sketch.old.atoms < 999 }
-    ensures ok { OnOk result ((link : Link) → next.bond ≡ kind_of link.mark → next.number ≡ atomic_number link.atom → AddsLinks sketch.old sketch.new (link ∷ [])) }
+    ensures ok { OnOk result ((link : Link) → next.bond ≡ kind_of link.mark
+        → next.number ≡ atomic_number link.atom → AddsLinks sketch.old sketch.new (link ∷ [])) }
     ensures err { IfErr result (λ e. e ≡ NoMemory) }
 {
     let place = sketch.atoms.len() as u16;
@@ -147,8 +158,10 @@ fn add_atom(sketch: &mut Sketch, next: NextAtom) -> Result<(), SmilesFault>
 fn add_links(sketch: &mut Sketch, text: &[u8]) -> Result<(), SmilesFault>
     requires some { 0 < length sketch.old.atoms }
     requires few { length sketch.old.atoms + length text.now ≤ 999 }
-    ensures ok { OnOk result ((links : List Link) × (text.now ≡ flat_map link_bytes links) × AddsLinks sketch.old sketch.new links) }
-    ensures syntax { IsErrOf result SmilesFault.Syntax → (links : List Link) → text.now ≢ flat_map link_bytes links }
+    ensures ok { OnOk result ((links : List Link)
+        × (text.now ≡ flat_map link_bytes links) × AddsLinks sketch.old sketch.new links) }
+    ensures syntax { IsErrOf result SmilesFault.Syntax
+        → (links : List Link) → text.now ≢ flat_map link_bytes links }
 {
     let mut rest = text;
     'links: while !rest.is_empty() {
@@ -167,10 +180,16 @@ fn add_links(sketch: &mut Sketch, text: &[u8]) -> Result<(), SmilesFault>
 /// outside the grammar.
 pub fn read_smiles(alloc: Global, text: &[u8]) -> Result<Sketch, SmilesFault>
     requires { IsShortText text.now }
-    ensures ok { IfOk result (λ s. (chain : Chain) × (text.now ≡ spelling chain) × (s ≡ chain_sketch chain)) }
-    ensures accepts { (chain : Chain) → text.now ≡ spelling chain → MatchResult result (λ s. s ≡ chain_sketch chain) (λ e. e ≡ NoMemory) }
+    // What is read is spelled so.
+    ensures ok { IfOk result
+        (λ s. (chain : Chain) × (text.now ≡ spelling chain) × (s ≡ chain_sketch chain)) }
+    // What is spelled so is read, unless memory runs out.
+    ensures accepts { (chain : Chain) → text.now ≡ spelling chain
+        → MatchResult result (λ s. s ≡ chain_sketch chain) (λ e. e ≡ NoMemory) }
+    // Nothing else is.
     ensures syntax { IsErrOf result SmilesFault.Syntax → (chain : Chain) → text.now ≢ spelling chain }
-    ensures refuses { ((chain : Chain) → text.now ≢ spelling chain) → IsErrOf result SmilesFault.Syntax ⊎ IsErrOf result SmilesFault.NoMemory }
+    ensures refuses { ((chain : Chain) → text.now ≢ spelling chain)
+        → IsErrOf result SmilesFault.Syntax ⊎ IsErrOf result SmilesFault.NoMemory }
     ensures sound { IfOk result (λ s. IsSound s) }
 {
     let Some((number, rest)) = symbol_at(text) else {
@@ -252,9 +271,11 @@ fn molecule(alloc: Global, sketch: &Sketch) -> Result<Mol, AllocError>
 pub fn structure(alloc: Global, text: &[u8]) -> Result<Mol, SmilesFault>
     requires { IsShortText text.now }
     ensures ok { IfOk result (λ m. IsStructureOf text.now m) }
-    ensures accepts { (m : Molecule) → IsStructureOf text.now m → MatchResult result (λ made. made ≡ m) (λ e. e ≡ NoMemory) }
+    ensures accepts { (m : Molecule) → IsStructureOf text.now m
+        → MatchResult result (λ made. made ≡ m) (λ e. e ≡ NoMemory) }
     ensures syntax { IsErrOf result SmilesFault.Syntax → (m : Molecule) → ¬ IsStructureOf text.now m }
-    ensures refuses { ((m : Molecule) → ¬ IsStructureOf text.now m) → IsErrOf result SmilesFault.Syntax ⊎ IsErrOf result SmilesFault.NoMemory }
+    ensures refuses { ((m : Molecule) → ¬ IsStructureOf text.now m)
+        → IsErrOf result SmilesFault.Syntax ⊎ IsErrOf result SmilesFault.NoMemory }
 {
     let sketch = read_smiles(alloc, text)?;
     Ok(molecule(alloc, &sketch)?)
@@ -262,7 +283,8 @@ pub fn structure(alloc: Global, text: &[u8]) -> Result<Mol, SmilesFault>
 
 /// A text is a SMILES of at most one molecule.
 pub fn one_structure()
-    ensures { (text : List ℕ) (m n : Molecule) → IsStructureOf text m → IsStructureOf text n → m ≡ n }
+    ensures { (text : List ℕ) (m n : Molecule) →
+        IsStructureOf text m → IsStructureOf text n → m ≡ n }
 {}
 
 #[cfg(test)]

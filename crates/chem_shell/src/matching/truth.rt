@@ -63,7 +63,8 @@ fn is_hydrogen_at(mol: &Mol, atom: u16) -> bool
 }
 
 fn joins_hydrogen(bond: &Bond, mol: &Mol, atom: u16) -> bool
-    ensures { result ≡ ((bond.now.a == atom) && is_hydrogen mol.now bond.now.b) || ((bond.now.b == atom) && is_hydrogen mol.now bond.now.a) }
+    ensures { result ≡ ((bond.now.a == atom) && is_hydrogen mol.now bond.now.b)
+        || ((bond.now.b == atom) && is_hydrogen mol.now bond.now.a) }
 {
     (bond.a == atom && is_hydrogen_at(mol, bond.b))
         || (bond.b == atom && is_hydrogen_at(mol, bond.a))

@@ -1,7 +1,6 @@
 -- The pattern of a chain is flat.
 use Rattle.std.proofs.Common.{subst, sym}
 use Rattle.std.proofs.lemmas.Result.{IfOk-weaker}
-use Rattle.smarts_parse.specs.Chain.{Chain, chain_pattern, spelling}
 use Rattle.smarts_parse.specs.Pattern.{pattern_of}
 use Rattle.chem_shell.specs.Flat.{IsFlat}
 use Rattle.chem_shell.proofs.ChainFlat.{chain_flat}
