@@ -21,7 +21,7 @@ for identifier in identifiers:
     print("register", identifier, text[:32].rstrip("="))
 print("search C=O")
 PY
-./chemdb mem </dev/null
+./chemdb mem </dev/null   # builds it
 /usr/bin/env python3 - "$script" "$output" "$lines" <<'PY'
 import resource
 import subprocess

@@ -49,6 +49,6 @@ IsLiveNow-push h old new id text m few is updates grew was = record {
   few = omega (arith, length-append h (Register id text ∷ []));
   size = omega (arith, length-append h (Register id text ∷ []), was.size);
   each = λ q.
-    each_push (q == id) (head h q) (head (h ++ Register id text ∷ []) q) (get nat_cmp old q) (get nat_cmp new q) (record { version = length h + 1; text = text }) m is
-    (head-push h id text q) (updates q ∙ ap (λ b. cond b (Some m) (get nat_cmp old q)) (is_at_same id q)) (was.each q);
+      each_push (q == id) (head h q) (head (h ++ Register id text ∷ []) q) (get nat_cmp old q) (get nat_cmp new q) (record { version = length h + 1; text = text }) m is
+      (head-push h id text q) (updates q ∙ ap (λ b. cond b (Some m) (get nat_cmp old q)) (is_at_same id q)) (was.each q);
 }

@@ -121,10 +121,10 @@ pub hits_from_selected : (h : History) (live : BTreeMap ℕ Molecule) (p : Patte
 hits_from_selected h live p ids ordered now s = record {
   ascending = increasing ids (Selects-ascends (Matches p) live.entries ids (ascends (map (λ e. e.0) live.entries) (IsStrictlyIncreasing-from_sorted (map (λ e. e.0) live.entries) ordered)) s);
   only = λ id c.
-    let w = Selects-only (Matches p) live.entries ids id s c in
-    let l = live_at h id (get nat_cmp live id) w.0 (now.each id) ((btree_map_get_iff nat_cmp_total exact_unsigned live ordered id w.0).1 w.1) in
-    (l.0, l.1, w.0, l.2, w.2);
+      let w = Selects-only (Matches p) live.entries ids id s c in
+      let l = live_at h id (get nat_cmp live id) w.0 (now.each id) ((btree_map_get_iff nat_cmp_total exact_unsigned live ordered id w.0).1 w.1) in
+      (l.0, l.1, w.0, l.2, w.2);
   all = λ id hit.
-    let e = kept_at h id hit.0 (get nat_cmp live id) hit.2 (now.each id) hit.1 hit.3 in
-    Selects-all (Matches p) live.entries ids id hit.2 s ((btree_map_get_iff nat_cmp_total exact_unsigned live ordered id hit.2).0 e) hit.4;
+      let e = kept_at h id hit.0 (get nat_cmp live id) hit.2 (now.each id) hit.1 hit.3 in
+      Selects-all (Matches p) live.entries ids id hit.2 s ((btree_map_get_iff nat_cmp_total exact_unsigned live ordered id hit.2).0 e) hit.4;
 }

@@ -76,15 +76,15 @@ appended old text (Some m) (Some n) p h = let e : m ≡ old = cc in rw (h, e) re
 pub IsUnderWay-line : (before now now' put0 put put' : Option (List ℕ)) (r r' : Reading) (h h' : History) (got : List ℕ) (line : TextLine) (text : List ℕ) → Consumes now now' got → Counts r got r' → ((l l' : List ℕ) → now ≡ Some l → now' ≡ Some l' → (IsTrue r.ended → l ≡ []) → IsTrue r'.ended → l' ≡ []) → TakesLine r r' now now' line → AnswersLine h line text h' → Appends put put' text → IsUnderWay before now put0 put r h → IsUnderWay before now' put0 put' r' h'
 IsUnderWay-line before now now' put0 put put' r r' h h' got line text took counts met takes answers appends u = record {
   told = λ input old p q.
-    let t = u.told input old p q in
-    let k = leaves t.0 got now now' t.2 took in
-    let e : lines_left r t.0 ≡ line ∷ lines_left r' k.0 = takes t.0 k.0 t.2 k.1 t.5 in
-    let a : put' ≡ Some ((old ++ t.1) ++ text) = appended (old ++ t.1) text put put' t.3 appends in
-    (k.0, t.1 ++ text, k.1, a ∙ ap Some (append_assoc old t.1 text), GoesOn-line (lines_of input) t.1 h h' line (lines_left r' k.0) text answers (subst (GoesOn (lines_of input) t.1 h) e t.4), met t.0 k.0 t.2 k.1 t.5);
+      let t = u.told input old p q in
+      let k = leaves t.0 got now now' t.2 took in
+      let e : lines_left r t.0 ≡ line ∷ lines_left r' k.0 = takes t.0 k.0 t.2 k.1 t.5 in
+      let a : put' ≡ Some ((old ++ t.1) ++ text) = appended (old ++ t.1) text put put' t.3 appends in
+      (k.0, t.1 ++ text, k.1, a ∙ ap Some (append_assoc old t.1 text), GoesOn-line (lines_of input) t.1 h h' line (lines_left r' k.0) text answers (subst (GoesOn (lines_of input) t.1 h) e t.4), met t.0 k.0 t.2 k.1 t.5);
   taken = λ input p.
-    let t = u.taken input p in
-    let k = leaves t.1 got now now' t.3 took in
-    (t.0 ++ got, k.0, t.2 ∙ (ap (λ x. t.0 ++ x) k.2 ∙ sym (append_assoc t.0 got k.0)), k.1, omega (arith, length-append t.0 got, t.4, counts.taken));
+      let t = u.taken input p in
+      let k = leaves t.1 got now now' t.3 took in
+      (t.0 ++ got, k.0, t.2 ∙ (ap (λ x. t.0 ++ x) k.2 ∙ sym (append_assoc t.0 got k.0)), k.1, omega (arith, length-append t.0 got, t.4, counts.taken));
   limit = counts.limit ∙ u.limit;
   within = counts.within;
 }
@@ -109,28 +109,28 @@ front_unmoved before put0 =
 pub whole_at_end : (before now now' put0 put put' : Option (List ℕ)) (r r' : Reading) (h : History) → TakesNone r now → Appends put put' [] → IsUnderWay before now put0 put r h → WritesAll before put0 put'
 whole_at_end before now now' put0 put put' r r' h none appends u =
     whole_told before put0 put' (λ input old p q.
-        let t = u.told input old p q in
-        let e : lines_left r t.0 ≡ [] = none t.0 t.2 t.5 in
-        let a : put' ≡ Some ((old ++ t.1) ++ []) = appended (old ++ t.1) [] put put' t.3 appends in
-        (t.1, a ∙ ap Some (append-nil (old ++ t.1)), subst (IsTranscript [] (lines_of input)) (append-nil t.1) (t.4.whole [] (subst (λ ls. IsTranscript h ls []) (sym e) refl))))
+    let t = u.told input old p q in
+    let e : lines_left r t.0 ≡ [] = none t.0 t.2 t.5 in
+    let a : put' ≡ Some ((old ++ t.1) ++ []) = appended (old ++ t.1) [] put put' t.3 appends in
+    (t.1, a ∙ ap Some (append-nil (old ++ t.1)), subst (IsTranscript [] (lines_of input)) (append-nil t.1) (t.4.whole [] (subst (λ ls. IsTranscript h ls []) (sym e) refl))))
 
 -- a turn put nothing more
 pub front_after_nothing : (before now put0 put put' : Option (List ℕ)) (r : Reading) (h : History) → Appends put put' [] → IsUnderWay before now put0 put r h → WritesFront before put0 put'
 front_after_nothing before now put0 put put' r h appends u =
     front_told before put0 put' (λ input old p q.
-        let t = u.told input old p q in
-        let a : put' ≡ Some ((old ++ t.1) ++ []) = appended (old ++ t.1) [] put put' t.3 appends in
-        (t.1, a ∙ ap Some (append-nil (old ++ t.1)), subst (IsTranscriptFront [] (lines_of input)) (append-nil t.1) (t.4.front [] (front_nothing h (lines_left r t.0)))))
+    let t = u.told input old p q in
+    let a : put' ≡ Some ((old ++ t.1) ++ []) = appended (old ++ t.1) [] put put' t.3 appends in
+    (t.1, a ∙ ap Some (append-nil (old ++ t.1)), subst (IsTranscriptFront [] (lines_of input)) (append-nil t.1) (t.4.front [] (front_nothing h (lines_left r t.0)))))
 
 -- a turn put a part of the answer to the next line
 pub front_after_part : (before now now' put0 put put' : Option (List ℕ)) (r r' : Reading) (h h' : History) (got : List ℕ) (line : TextLine) (text : List ℕ) → Consumes now now' got → TakesLine r r' now now' line → AnswersLine h line text h' → AppendsPrefix put put' text → IsUnderWay before now put0 put r h → WritesFront before put0 put'
 front_after_part before now now' put0 put put' r r' h h' got line text took takes answers part u =
     front_told before put0 put' (λ input old p q.
-        let t = u.told input old p q in
-        let k = leaves t.0 got now now' t.2 took in
-        let e : lines_left r t.0 ≡ line ∷ lines_left r' k.0 = takes t.0 k.0 t.2 k.1 t.5 in
-        let a : put' ≡ Some ((old ++ t.1) ++ part.0) = appended (old ++ t.1) part.0 put put' t.3 part.3 in
-        (t.1 ++ part.0, a ∙ ap Some (append_assoc old t.1 part.0), GoesOn-part (lines_of input) t.1 h h' line (lines_left r' k.0) text part.0 part.1 answers part.2 (subst (GoesOn (lines_of input) t.1 h) e t.4)))
+    let t = u.told input old p q in
+    let k = leaves t.0 got now now' t.2 took in
+    let e : lines_left r t.0 ≡ line ∷ lines_left r' k.0 = takes t.0 k.0 t.2 k.1 t.5 in
+    let a : put' ≡ Some ((old ++ t.1) ++ part.0) = appended (old ++ t.1) part.0 put put' t.3 part.3 in
+    (t.1 ++ part.0, a ∙ ap Some (append_assoc old t.1 part.0), GoesOn-part (lines_of input) t.1 h h' line (lines_left r' k.0) text part.0 part.1 answers part.2 (subst (GoesOn (lines_of input) t.1 h) e t.4)))
 
 -- what was put where a turn ended in a fault
 pub front_after_fault : (before now now' put0 put put' : Option (List ℕ)) (r r' : Reading) (h h' : History) (got : List ℕ) (fault : SessionFault) → Consumes now now' got → TurnPuts (Err fault) h h' r r' now now' put put' → IsUnderWay before now put0 put r h → WritesFront before put0 put'

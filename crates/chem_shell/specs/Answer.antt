@@ -34,7 +34,7 @@ abbrev pub SearchAnswer : History → List ℕ → List Reply → Type 0
 SearchAnswer h text replies =
     ((replies ≡ Refused SmartsSyntax ∷ []) × ((p : PatternTerm) → IsPatternOf text p → ⊥))
     ⊎ ((p : PatternTerm) × (ids : List ℕ) × IsPatternOf text p × AreHits h (length h) p ids
-        × (replies ≡ map Hit ids ++ End (length h) (length ids) ∷ []))
+    × (replies ≡ map Hit ids ++ End (length h) (length ids) ∷ []))
 
 -- what a command is answered; only `register` changes the history
 abbrev pub CommandAnswer : History → Command → List Reply → History → Type 0

@@ -1,6 +1,5 @@
 -- The status of an end and of the program.
 use Rattle.std.specs.Prelude.{◌≡◌, ◌⊎◌, ℕ, List, [], ◌∷◌, if◌then◌else◌, ◌==◌}
-
 use Rattle.chem_shell.specs.declared.session.SessionFault.{SessionFault}
 use Rattle.chem_shell.specs.declared.session.SessionFault.TheVariants.{Source, Sink, NoMemory, InputTooLong}
 

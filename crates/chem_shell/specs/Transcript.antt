@@ -30,4 +30,4 @@ abbrev pub IsTranscriptFront : History → List TextLine → List ℕ → Type 0
 IsTranscriptFront h [] text = text ≡ []
 IsTranscriptFront h (line ∷ lines) text =
     (text ≡ []) ⊎ ((replies : List Reply) × (h' : History) × LineAnswer h line replies h'
-        × (IsFrontOf text (text_of replies) ⊎ ((rest : List ℕ) × (text ≡ text_of replies ++ rest) × IsTranscriptFront h' lines rest)))
+    × (IsFrontOf text (text_of replies) ⊎ ((rest : List ℕ) × (text ≡ text_of replies ++ rest) × IsTranscriptFront h' lines rest)))

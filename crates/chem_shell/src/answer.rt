@@ -18,12 +18,7 @@ use smarts_parse::SmartsFault;
 use std::alloc::{AllocError, Global};
 
 /// Registers the structure of a text under an identifier, or says why not.
-pub fn register(
-    alloc: Global,
-    store: &mut Store,
-    id: u32,
-    text: &[u8],
-) -> Result<Reply, AllocError>
+pub fn register(alloc: Global, store: &mut Store, id: u32, text: &[u8]) -> Result<Reply, AllocError>
     requires { IsShortText text.now }
     ensures { IfOk result (λ reply. RegisterAnswer store.old id text.now reply store.new) }
 {

@@ -124,14 +124,12 @@ fn set_status<S, K>(ends: &mut [End<S, K>], status: u8)
 
 /// The program over the objects that it is handed: what the words ask for is done with the ends and the disks, and the statuses say how it ended.
 /// No disk is used yet. `mem` serves one end by a session over a store in memory.
-pub fn chemdb<R: Threads + Wait + Sync, D: Send + Drop, S: Source + Send + Drop, K: Sink + Send + Drop>(
-    _rt: &R,
-    alloc: Global,
-    words: &[&str],
-    a: D,
-    b: D,
-    mut ends: Vec<End<S, K>>,
-) -> Outcome<D, S, K>
+pub fn chemdb<
+    R: Threads + Wait + Sync,
+    D: Send + Drop,
+    S: Source + Send + Drop,
+    K: Sink + Send + Drop,
+>(_rt: &R, alloc: Global, words: &[&str], a: D, b: D, mut ends: Vec<End<S, K>>) -> Outcome<D, S, K>
     requires one_end { AsksMem (map (λ w. w.now) words.now) → length ends.items ≡ 1 }
 
     // The words that ask for nothing, and then nothing is taken or put.

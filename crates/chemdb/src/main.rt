@@ -6,12 +6,12 @@ ghost use Rattle.std.specs.Prelude.{◌≡◌, [], ◌∷◌, ◌++◌, IfOk};
 use chem_shell::top::{self, End, chemdb};
 use io_edge::{StdSink, StdSource};
 use std::alloc::{AllocError, Global};
+use std::env;
 use std::io::{self, ErrorKind};
 use std::process::ExitCode;
 use std::rt::Env;
 use std::sync::Wait;
 use std::thread::Threads;
-use std::env;
 
 /// What is printed where the words ask for nothing that is known.
 const USAGE: &str = "usage: chemdb mem < SCRIPT";
@@ -59,7 +59,11 @@ where
     for word in words {
         texts.push(word.as_str())?;
     }
-    let ends = one_end(alloc, StdSource::new(rt.reader()), StdSink::new(io::writer(rt)))?;
+    let ends = one_end(
+        alloc,
+        StdSource::new(rt.reader()),
+        StdSink::new(io::writer(rt)),
+    )?;
     Ok(chemdb(rt, alloc, &texts, (), (), ends).status)
 }
 

@@ -31,5 +31,5 @@ returns c =
     let ends : map Hit ids ++ End c.version.result c.len.result ∷ [] ≡ map Hit ids ++ End (length c.args.store.now) (length ids) ∷ [] = rw (c.version.ensures.version, count) refl in
     let hits : c.push_hits.new.out.items ≡ c.args.out.now.items ++ text_of (map Hit ids) = rw c.deref.ensures.value at c.in_ok-push_hits.ensures in
     on_ok_weaker c.push_line-2.result (λ e.
-        (map Hit c.in_ok-ids.ids.items ++ End c.version.result c.len.result ∷ [], inr (pattern_of c.in-Ok.pattern, c.in_ok-ids.ids.items, (p.0, p.1, p.2), c.in_ok-ids.ensures.hits, ends), hits_and_end _ _ _ (map Hit c.in_ok-ids.ids.items) (End c.version.result c.len.result) hits e))
+    (map Hit c.in_ok-ids.ids.items ++ End c.version.result c.len.result ∷ [], inr (pattern_of c.in-Ok.pattern, c.in_ok-ids.ids.items, (p.0, p.1, p.2), c.in_ok-ids.ensures.hits, ends), hits_and_end _ _ _ (map Hit c.in_ok-ids.ids.items) (End c.version.result c.len.result) hits e))
     c.push_line-2.ensures

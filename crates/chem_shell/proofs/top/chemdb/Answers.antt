@@ -43,15 +43,15 @@ returns-clause-usage g c =
     (λ two asks. never_usage c.serve_one-status.result c.serve_one-status.ensures.status two, λ none. absurd (none c.in-Ok.ensures.mem.0))
 
 pub returns-clause-source_fault : goal.returns-clause-source_fault
-returns-clause-source_fault g c = 
+returns-clause-source_fault g c =
     zip_weaker (IsServed g.S.Source.left g.S.Source.faults g.K.Sink.written g.K.Sink.faults) _ (λ old new served. served.source_fault) c.args.ends.items c.serve_one-status.new.ends.items c.serve_one-status.ensures.served
 
 pub returns-clause-sink_fault : goal.returns-clause-sink_fault
-returns-clause-sink_fault g c = 
+returns-clause-sink_fault g c =
     zip_weaker (IsServed g.S.Source.left g.S.Source.faults g.K.Sink.written g.K.Sink.faults) _ (λ old new served. served.sink_fault) c.args.ends.items c.serve_one-status.new.ends.items c.serve_one-status.ensures.served
 
 pub returns-clause-input_too_long : goal.returns-clause-input_too_long
-returns-clause-input_too_long g c = 
+returns-clause-input_too_long g c =
     zip_weaker (IsServed g.S.Source.left g.S.Source.faults g.K.Sink.written g.K.Sink.faults) _ (λ old new served. served.input_too_long) c.args.ends.items c.serve_one-status.new.ends.items c.serve_one-status.ensures.served
 
 pub returns-clause-mem_front : goal.returns-clause-mem_front

@@ -11,5 +11,5 @@ returns-in-None c = on_ok_weaker c.push_line.result (λ e. (Refused NotYet ∷ [
 pub returns-in_ok-register-in-Some-Register : goal.returns-in_ok-register-in-Some-Register
 returns-in_ok-register-in-Some-Register c =
     on_ok_weaker c.push_line-in-Some-Register.result (λ e.
-        (c.in_ok-register-in-Some-Register.field-0 ∷ [], inr (Register c.in-Some-Register.id c.in-Some-Register.text.now, rw c.in-Some-Register.field-0-is at c.in-Some-Register.ensures.some, (c.in_ok-register-in-Some-Register.field-0, refl, c.in_ok-register-in-Some-Register.ensures)), rw append-nil (rw c.clear.ensures.items at e)))
+    (c.in_ok-register-in-Some-Register.field-0 ∷ [], inr (Register c.in-Some-Register.id c.in-Some-Register.text.now, rw c.in-Some-Register.field-0-is at c.in-Some-Register.ensures.some, (c.in_ok-register-in-Some-Register.field-0, refl, c.in_ok-register-in-Some-Register.ensures)), rw append-nil (rw c.clear.ensures.items at e)))
     c.push_line-in-Some-Register.ensures
