@@ -1,0 +1,2 @@
+pub mod Electrons
+pub mod Huckel
