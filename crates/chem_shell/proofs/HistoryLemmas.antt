@@ -5,7 +5,7 @@ use Rattle.std.specs.Ordering.{nat_cmp}
 use Rattle.std.specs.BTreeMap.{BTreeMap, get, is_at, btree_map_len}
 use Rattle.chem_core.specs.Molecule.{Molecule}
 use Rattle.chem_shell.specs.History.{History, Change, Register, Live, States, after, fold_from, snapshot, head, most_commits}
-use Rattle.chem_shell.specs.Meaning.{IsStructureOf}
+use Rattle.mol_finish.specs.Structure.{IsStructureOf}
 use Rattle.chem_shell.specs.Store.{IsLiveNow}
 
 -- the states after two lists of changes, one after the other

@@ -9,7 +9,7 @@ use Rattle.chem_shell.specs.declared.reply.Refusal.TheVariants.{SmilesSyntax, Sm
 use Rattle.chem_shell.specs.History as history
 use Rattle.chem_shell.specs.History.{History, head, most_commits}
 use Rattle.chem_shell.specs.Hits.{AreHits}
-use Rattle.chem_shell.specs.Meaning.{IsStructureOf}
+use Rattle.mol_finish.specs.Structure.{IsStructureOf}
 use Rattle.chem_shell.specs.Command.{Command, Empty, Register, Search}
 
 -- the text is a SMILES of some molecule

@@ -5,7 +5,7 @@ use Rattle.chem_core.specs.Molecule.{Molecule}
 use Rattle.smarts_parse.specs.Pattern.{PatternTerm}
 use Rattle.smarts_parse.specs.Embedding.{Matches}
 use Rattle.chem_shell.specs.History.{History, Live, snapshot}
-use Rattle.chem_shell.specs.Meaning.{IsStructureOf}
+use Rattle.mol_finish.specs.Structure.{IsStructureOf}
 
 -- the identifier is live at the version, and the pattern has an embedding in its structure
 abbrev pub IsHit : History → ℕ → PatternTerm → ℕ → Type 0

@@ -1,5 +1,3 @@
-pub mod SmilesChain
-pub mod Meaning
 pub mod Flat
 pub mod History
 pub mod Hits
@@ -16,5 +14,4 @@ pub mod Served
 pub mod Status
 pub mod Ends
 pub mod Words
-pub mod Reading
 pub mod Partial

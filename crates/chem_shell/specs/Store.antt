@@ -5,7 +5,7 @@ use Rattle.std.specs.BTreeMap.{BTreeMap, get, btree_map_len}
 use Rattle.chem_core.specs.Molecule.{Molecule}
 use Rattle.chem_shell.specs.declared.store.Commit.{Commit}
 use Rattle.chem_shell.specs.History.{History, Change, Register, Live, head, most_commits}
-use Rattle.chem_shell.specs.Meaning.{IsStructureOf}
+use Rattle.mol_finish.specs.Structure.{IsStructureOf}
 
 abbrev pub change_of : Commit → Change
 change_of c = Register c.id c.text.items

@@ -7,7 +7,6 @@ pub mod matching;
 pub mod reply;
 pub mod request;
 pub mod session;
-pub mod smiles;
 pub mod store;
 pub mod top;
 pub mod words;

@@ -8,7 +8,7 @@ ghost use Rattle.std.specs.BTreeMap.{IsOrdered};
 ghost use Rattle.smarts_parse.specs.Embedding.{Matches};
 ghost use Rattle.chem_shell.specs.Flat.{IsFlat};
 ghost use Rattle.chem_shell.specs.Hits.{AreHits};
-ghost use Rattle.chem_shell.specs.Meaning.{IsStructureOf};
+ghost use Rattle.mol_finish.specs.Structure.{IsStructureOf};
 ghost use Rattle.chem_shell.specs.Selects.{Selects};
 
 use crate::matching::{Scratch, has};
