@@ -1,0 +1,53 @@
+-- The normal valences, and what the bonds of an atom sum to.
+use Rattle.std.specs.Prelude.{ℕ, zero, suc, ◌+◌, ◌==◌, ◌||◌, Bool, List, [], ◌∷◌, sum_by, if◌then◌else◌, ℤ, pos, negsuc}
+use Rattle.chem_core.specs.declared.sketch.SketchKind.{SketchKind}
+use Rattle.chem_core.specs.declared.sketch.SketchKind.TheVariants.{Unwritten, Single, Double, Triple, Quad, Colon}
+use Rattle.chem_core.specs.Drawing.{Drawing}
+
+-- the valences of the organic subset, ascending (OpenSMILES 1.0, section 3.1.5); none for every other element
+abbrev pub organic_valences : ℕ → List ℕ
+organic_valences number =
+    if number == 5 then 3 ∷ [] else
+    (if number == 6 then 4 ∷ [] else
+    (if (number == 7) || (number == 15) then 3 ∷ 5 ∷ [] else
+    (if number == 8 then 2 ∷ [] else
+    (if number == 16 then 2 ∷ 4 ∷ 6 ∷ [] else
+    (if (number == 9) || ((number == 17) || ((number == 35) || (number == 53))) then 1 ∷ [] else [])))))
+
+-- the valences of molfile atoms without a charge: those of the organic subset
+-- with the charge -1
+abbrev pub anion_valences : ℕ → List ℕ
+anion_valences number =
+    if number == 5 then 4 ∷ [] else
+    (if number == 6 then 3 ∷ [] else
+    (if (number == 7) || (number == 15) then 2 ∷ [] else
+    (if (number == 8) || (number == 16) then 1 ∷ [] else [])))
+
+-- with the charge +1
+abbrev pub cation_valences : ℕ → List ℕ
+cation_valences number =
+    if number == 5 then 2 ∷ [] else
+    (if number == 6 then 3 ∷ [] else
+    (if (number == 7) || (number == 15) then 4 ∷ [] else
+    (if number == 8 then 3 ∷ [] else
+    (if number == 16 then 3 ∷ 5 ∷ [] else []))))
+
+-- by element and charge; none for every other charge
+abbrev pub table_valences : ℕ → ℤ → List ℕ
+table_valences number (pos zero) = organic_valences number
+table_valences number (pos (suc zero)) = cation_valences number
+table_valences number (negsuc zero) = anion_valences number
+table_valences number _ = []
+
+-- what a bond adds at each of its ends; a bond without a symbol and `:` add 1
+abbrev pub order_of : SketchKind → ℕ
+order_of Unwritten = 1
+order_of Single = 1
+order_of Double = 2
+order_of Triple = 3
+order_of Quad = 4
+order_of Colon = 1
+
+-- the sum of the bonds that end at an atom
+abbrev pub bond_sum : Drawing → ℕ → ℕ
+bond_sum s a = sum_by (λ b. if (b.a == a) || (b.b == a) then order_of b.kind else 0) s.bonds

@@ -1,0 +1,2 @@
+//! Hydrogens that are not written, and hydrogen atoms that become counts (OpenSMILES 1.0, sections 3.1.5 and 3.5).
+#![tactic(auto)]
