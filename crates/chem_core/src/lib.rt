@@ -1,7 +1,16 @@
+//! What a structure is made of: sketches as they are written, molecules as they are meant, fingerprints, and the table
+//! of the elements. The definitions that contracts share stand in `specs/`.
 #![tactic(auto)]
 
+mod element;
 mod mol;
+mod print;
 mod sketch;
 
-pub use mol::{Atom, Bond, BondKind};
+pub use element::{number_of, symbol_of};
+pub use mol::{Atom, Bond, BondKind, Mol, one_neighbour_list};
+pub use print::Print;
 pub use sketch::{Fill, Sketch, SketchAtom, SketchBond, SketchKind};
+
+#[cfg(test)]
+mod tests;

@@ -1,3 +1,4 @@
+//! Sketches: structures as they are written, before hydrogens and aromaticity are worked out.
 use std::marker::Model;
 
 /// Where the hydrogens of a written atom come from.
