@@ -1,5 +1,5 @@
 -- A sketch with its hydrogens counted.
-use Rattle.std.specs.Prelude.{ℕ, ◌+◌, ◌-◌, Bool, true, false, List, [], ◌∷◌, map, find, nat_le, Option, None, Some, option_map, unwrap_or}
+use Rattle.std.specs.Prelude.{ℕ, ◌+◌, ◌-◌, true, false, List, [], ◌∷◌, map, find, nat_le, option_map, unwrap_or}
 use Rattle.std.specs.List.{enumerate_from}
 use Rattle.chem_core.specs.declared.sketch.SketchAtom.{SketchAtom}
 use Rattle.chem_core.specs.declared.sketch.Fill.{Fill}
@@ -23,9 +23,10 @@ hydrogens_of Organic atom total = elim atom.lower [ true ↦ missing_aromatic (o
 hydrogens_of (Table radicals) atom total = missing (table_valences atom.number atom.charge) (total + radicals)
 hydrogens_of (Fixed valence) atom total = valence - total
 
-abbrev pub filled_atom : Drawing → ℕ → SketchAtom → SketchAtom
-filled_atom s a atom = record atom { hydrogens = hydrogens_of atom.fill atom (bond_sum s a) }
+-- the atom with its hydrogens, where its bonds sum to the total
+abbrev pub filled_atom : ℕ → SketchAtom → SketchAtom
+filled_atom total atom = record atom { hydrogens = hydrogens_of atom.fill atom total }
 
 -- each atom with its hydrogens, and the bonds as they were
 abbrev pub filled : Drawing → Drawing
-filled s = record { atoms = map (λ p. filled_atom s p.0 p.1) (enumerate_from 0 s.atoms); bonds = s.bonds }
+filled s = record { atoms = map (λ p. filled_atom (bond_sum s p.0) p.1) (enumerate_from 0 s.atoms); bonds = s.bonds }

@@ -1,7 +1,8 @@
 -- The normal valences, and what the bonds of an atom sum to.
-use Rattle.std.specs.Prelude.{ℕ, zero, suc, ◌+◌, ◌==◌, ◌||◌, Bool, List, [], ◌∷◌, sum_by, if◌then◌else◌, ℤ, pos, negsuc}
+use Rattle.std.specs.Prelude.{ℕ, zero, suc, ◌==◌, ◌||◌, List, [], ◌∷◌, sum_by, if◌then◌else◌, ℤ, pos, negsuc}
 use Rattle.chem_core.specs.declared.sketch.SketchKind.{SketchKind}
 use Rattle.chem_core.specs.declared.sketch.SketchKind.TheVariants.{Unwritten, Single, Double, Triple, Quad, Colon}
+use Rattle.chem_core.specs.declared.sketch.SketchBond.{SketchBond}
 use Rattle.chem_core.specs.Drawing.{Drawing}
 
 -- the valences of the organic subset, ascending (OpenSMILES 1.0, section 3.1.5); none for every other element
@@ -48,6 +49,10 @@ order_of Triple = 3
 order_of Quad = 4
 order_of Colon = 1
 
+-- what a bond adds at an atom
+abbrev pub adds : ℕ → SketchBond → ℕ
+adds a b = if (b.a == a) || (b.b == a) then order_of b.kind else 0
+
 -- the sum of the bonds that end at an atom
 abbrev pub bond_sum : Drawing → ℕ → ℕ
-bond_sum s a = sum_by (λ b. if (b.a == a) || (b.b == a) then order_of b.kind else 0) s.bonds
+bond_sum s a = sum_by (adds a) s.bonds

@@ -1,2 +1,7 @@
 //! Hydrogens that are not written, and hydrogen atoms that become counts (OpenSMILES 1.0, sections 3.1.5 and 3.5).
 #![tactic(auto)]
+
+mod fill;
+mod table;
+
+pub use fill::fill_hydrogens;
