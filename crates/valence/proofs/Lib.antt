@@ -1,3 +1,5 @@
-pub mod Places
+pub mod Enumerated
 pub mod Sums
 pub mod Hydrogens
+pub mod Flags
+pub mod Renumbering

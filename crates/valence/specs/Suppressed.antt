@@ -1,11 +1,11 @@
 -- A sketch whose plain hydrogen atoms have become counts at their neighbours, all at once.
-use Rattle.std.specs.Prelude.{ℕ, ◌+◌, ◌==◌, ◌&&◌, ◌||◌, not, Bool, true, false, map, filter, count_by, take, slice_get, option_map, unwrap_or, pos}
-use Rattle.std.specs.List.{list_any, enumerate_from}
+use Rattle.std.specs.Prelude.{ℕ, ◌+◌, ◌==◌, ◌&&◌, ◌||◌, not, Bool, true, false, List, map, filter, count_by, slice_get, option_map, unwrap_or, pos}
+use Rattle.std.specs.List.{list_any, enumerate_from, range_with_len}
 use Rattle.std.specs.Ordering.{int_eq}
 use Rattle.chem_core.specs.declared.sketch.SketchAtom.{SketchAtom}
 use Rattle.chem_core.specs.declared.sketch.SketchBond.{SketchBond}
 use Rattle.chem_core.specs.declared.sketch.SketchKind.{SketchKind}
-use Rattle.chem_core.specs.declared.sketch.SketchKind.TheVariants.{Unwritten, Single}
+use Rattle.chem_core.specs.declared.sketch.SketchKind.TheVariants.{Unwritten, Single, Double, Triple, Quad, Colon}
 use Rattle.chem_core.specs.Drawing.{Drawing}
 use Rattle.chem_core.specs.Graph.{degree}
 use Rattle.chem_core.specs.Sound.{sketch_ends}
@@ -14,48 +14,64 @@ use Rattle.chem_core.specs.Sound.{sketch_ends}
 abbrev pub is_plain_kind : SketchKind → Bool
 is_plain_kind Unwritten = true
 is_plain_kind Single = true
-is_plain_kind _ = false
-
--- the atom is an element of this number
-abbrev pub has_number : Drawing → ℕ → ℕ → Bool
-has_number s number a = unwrap_or (option_map (λ x. x.number == number) (slice_get s.atoms a)) false
+is_plain_kind Double = false
+is_plain_kind Triple = false
+is_plain_kind Quad = false
+is_plain_kind Colon = false
 
 -- hydrogen without isotope and charge
 abbrev pub is_bare_hydrogen : SketchAtom → Bool
 is_bare_hydrogen x = (x.number == 1) && ((x.isotope == 0) && int_eq x.charge (pos 0))
 
--- a plain bond joins a to an atom that is no hydrogen
-abbrev pub leads_to_heavy : Drawing → ℕ → SketchBond → Bool
-leads_to_heavy s a b = is_plain_kind b.kind && (((b.a == a) && not (has_number s 1 b.b)) || ((b.b == a) && not (has_number s 1 b.a)))
+-- the atom at a place has the property
+abbrev pub atom_is : (SketchAtom → Bool) → List SketchAtom → ℕ → Bool
+atom_is p atoms a = unwrap_or (option_map p (slice_get atoms a)) false
+
+-- the atom at a place is an element other than hydrogen
+abbrev pub is_heavy : List SketchAtom → ℕ → Bool
+is_heavy atoms a = atom_is (λ x. not (x.number == 1)) atoms a
+
+-- a plain bond joins the atom a to an atom that is no hydrogen
+abbrev pub leads_to_heavy : List SketchAtom → ℕ → SketchBond → Bool
+leads_to_heavy atoms a b = is_plain_kind b.kind && (((b.a == a) && is_heavy atoms b.b) || ((b.b == a) && is_heavy atoms b.a))
 
 -- The atom is taken away: hydrogen without isotope and charge, whose only bond is plain and leads to an atom that is no hydrogen.
 abbrev pub is_suppressed : Drawing → ℕ → Bool
 is_suppressed s a =
-    unwrap_or (option_map is_bare_hydrogen (slice_get s.atoms a)) false
-    && ((degree (sketch_ends s) a == 1) && list_any (leads_to_heavy s a) s.bonds)
+    atom_is is_bare_hydrogen s.atoms a
+    && ((degree (sketch_ends s) a == 1) && list_any (leads_to_heavy s.atoms a) s.bonds)
 
--- the place of an atom that stays, among those that stay
-abbrev pub new_place : Drawing → ℕ → ℕ
-new_place s a = count_by (λ p. not (is_suppressed s p.0)) (enumerate_from 0 (take a s.atoms))
+-- of atoms of which those go, the place of an atom that stays among those that stay: how many before it do
+abbrev pub new_place : (ℕ → Bool) → ℕ → ℕ
+new_place goes a = count_by (λ k. not (goes k)) (range_with_len 0 a)
+
+-- the bond joins the atom a to one that goes
+abbrev pub brings : (ℕ → Bool) → ℕ → SketchBond → Bool
+brings goes a b = ((b.a == a) && goes b.b) || ((b.b == a) && goes b.a)
+
+-- neither end of the bond goes
+abbrev pub stays : (ℕ → Bool) → SketchBond → Bool
+stays goes b = not (goes b.a) && not (goes b.b)
+
+-- the atoms that stay, in order, each with so many hydrogens more
+abbrev pub staying_atoms : (ℕ → Bool) → (ℕ → ℕ) → List SketchAtom → List SketchAtom
+staying_atoms goes gain atoms = map (λ p. record p.1 { hydrogens = p.1.hydrogens + gain p.0 }) (filter (λ p. not (goes p.0)) (enumerate_from 0 atoms))
+
+-- the bond between the same atoms at other places
+abbrev pub renumbered : (ℕ → ℕ) → SketchBond → SketchBond
+renumbered place b = record b { a = place b.a; b = place b.b }
+
+-- the bonds between atoms that stay, in order, by their new places
+abbrev pub staying_bonds : (ℕ → Bool) → (ℕ → ℕ) → List SketchBond → List SketchBond
+staying_bonds goes place bonds = map (renumbered place) (filter (stays goes) bonds)
 
 -- how many of its neighbours are taken away
 abbrev pub gained : Drawing → ℕ → ℕ
-gained s a = count_by (λ b. ((b.a == a) && is_suppressed s b.b) || ((b.b == a) && is_suppressed s b.a)) s.bonds
+gained s a = count_by (brings (is_suppressed s) a) s.bonds
 
-abbrev pub stays : Drawing → SketchBond → Bool
-stays s b = not (is_suppressed s b.a) && not (is_suppressed s b.b)
-
--- an atom that stays, with the hydrogens that it gains
-abbrev pub with_gained : Drawing → ℕ × SketchAtom → SketchAtom
-with_gained s p = record p.1 { hydrogens = p.1.hydrogens + gained s p.0 }
-
--- a bond between atoms that stay, by their new places
-abbrev pub renumbered : Drawing → SketchBond → SketchBond
-renumbered s b = record b { a = new_place s b.a; b = new_place s b.b }
-
--- what stays, in order
+-- what stays: atoms with the hydrogens that they gain, and bonds
 abbrev pub suppressed : Drawing → Drawing
 suppressed s = record {
-  atoms = map (with_gained s) (filter (λ p. not (is_suppressed s p.0)) (enumerate_from 0 s.atoms));
-  bonds = map (renumbered s) (filter (stays s) s.bonds);
+  atoms = staying_atoms (is_suppressed s) (gained s) s.atoms;
+  bonds = staying_bonds (is_suppressed s) (new_place (is_suppressed s)) s.bonds;
 }

@@ -1,5 +1,5 @@
 -- The normal valences, and what the bonds of an atom sum to.
-use Rattle.std.specs.Prelude.{ℕ, zero, suc, ◌==◌, ◌||◌, List, [], ◌∷◌, sum_by, if◌then◌else◌, ℤ, pos, negsuc}
+use Rattle.std.specs.Prelude.{ℕ, zero, suc, Bool, ◌==◌, ◌||◌, List, [], ◌∷◌, sum_by, if◌then◌else◌, ℤ, pos, negsuc}
 use Rattle.chem_core.specs.declared.sketch.SketchKind.{SketchKind}
 use Rattle.chem_core.specs.declared.sketch.SketchKind.TheVariants.{Unwritten, Single, Double, Triple, Quad, Colon}
 use Rattle.chem_core.specs.declared.sketch.SketchBond.{SketchBond}
@@ -49,9 +49,13 @@ order_of Triple = 3
 order_of Quad = 4
 order_of Colon = 1
 
+-- the bond ends at the atom
+abbrev pub ends_at : ℕ → SketchBond → Bool
+ends_at a b = (b.a == a) || (b.b == a)
+
 -- what a bond adds at an atom
 abbrev pub adds : ℕ → SketchBond → ℕ
-adds a b = if (b.a == a) || (b.b == a) then order_of b.kind else 0
+adds a b = if ends_at a b then order_of b.kind else 0
 
 -- the sum of the bonds that end at an atom
 abbrev pub bond_sum : Drawing → ℕ → ℕ

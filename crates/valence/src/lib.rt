@@ -2,6 +2,9 @@
 #![tactic(auto)]
 
 mod fill;
+mod places;
+mod suppression;
 mod table;
 
 pub use fill::fill_hydrogens;
+pub use suppression::suppress;

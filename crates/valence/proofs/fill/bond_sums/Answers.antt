@@ -1,6 +1,7 @@
-use Rattle.std.proofs.Common.{refl}
+use Rattle.std.proofs.Common.{◌<◌, length, refl}
 use Rattle.std.proofs.lemmas.List.{length-set}
-use Rattle.valence.proofs.Sums.{zeros, sums-more}
+use Rattle.valence.specs.Valence.{adds}
+use Rattle.valence.proofs.Sums.{zeros, tally-more, adds-at}
 use Rattle.valence.proofs.fill.bond_sums.Goals as goal
 
 pub loop-bond-init : goal.loop-bond-init
@@ -14,6 +15,6 @@ loop-bond-preserved c =
     record {
       long = rw (length-set, length-set) long;
       each =
-          rw (c.from.ensures, c.from-in-loop-bond.ensures)
-          (sums-more _ c.args.bonds.now c.loop-bond.bond-index _ _ within (rw long range.0) (rw long range.1) (c.requires.distinct _ _ within) c.order-order.ensures c.loop-bond.invariant.each);
+        rw (c.from.ensures, c.from-in-loop-bond.ensures)
+        (tally-more adds _ c.args.bonds.now c.loop-bond.bond-index _ _ _ within (rw long range.0) (rw long range.1) (c.requires.distinct _ _ within) (adds-at _ _ c.order-order.ensures) c.loop-bond.invariant.each);
     }

@@ -1,7 +1,7 @@
 use Rattle.std.proofs.Common.{arith, sym, ap, subst}
 use Rattle.std.proofs.lemmas.Grind.{common_steps}
 use Rattle.chem_core.specs.Sound.{IsSound}
-use Rattle.valence.proofs.Sums.{ends_at, few_bonds_at}
+use Rattle.valence.proofs.Sums.{bond-in_graph, few_bonds_at}
 use Rattle.valence.proofs.Hydrogens.{filled-few, filled-sound}
 use Rattle.valence.proofs.fill.fill_hydrogens.Goals as goal
 
@@ -9,14 +9,14 @@ pub bond_sums-sums-requires-clause-in_range : goal.bond_sums-sums-requires-claus
 bond_sums-sums-requires-clause-in_range c =
     rw (c.deref.ensures.value, ap (λ s. s.bonds) c.sketch.view_is)
     (λ k d h.
-    let at = ends_at c.args.sketch.now.bonds _ k d c.requires.sound.graph h in
+    let at = bond-in_graph c.args.sketch.now.bonds _ k d c.requires.sound.graph h in
     let few = c.requires.sound.graph.few_atoms in
     (omega (arith, at.0), omega (arith, at.1)))
 
 pub bond_sums-sums-requires-clause-distinct : goal.bond_sums-sums-requires-clause-distinct
 bond_sums-sums-requires-clause-distinct c =
     rw (c.deref.ensures.value, ap (λ s. s.bonds) c.sketch.view_is)
-    (λ k d h. (ends_at c.args.sketch.now.bonds _ k d c.requires.sound.graph h).2)
+    (λ k d h. (bond-in_graph c.args.sketch.now.bonds _ k d c.requires.sound.graph h).2)
 
 pub bond_sums-sums-requires-clause-few : goal.bond_sums-sums-requires-clause-few
 bond_sums-sums-requires-clause-few c =
