@@ -3,3 +3,4 @@ pub mod Sums
 pub mod Hydrogens
 pub mod Flags
 pub mod Renumbering
+pub mod Kept
