@@ -4,3 +4,4 @@ pub mod Hydrogens
 pub mod Flags
 pub mod Renumbering
 pub mod Kept
+pub mod Staying

@@ -1,4 +1,4 @@
-//! Hydrogens that are not written, and hydrogen atoms that become counts (OpenSMILES 1.0, sections 3.1.5 and 3.5).
+//! Hydrogens that are not written (OpenSMILES 1.0, sections 3.1.5 and 3.5), and hydrogen atoms that become counts.
 #![tactic(auto)]
 
 mod fill;
