@@ -1,1 +1,10 @@
+//! Hydrogens that are not written (OpenSMILES 1.0, sections 3.1.5 and 3.5), and hydrogen atoms that become counts.
 #![tactic(auto)]
+
+mod fill;
+mod places;
+mod suppression;
+mod table;
+
+pub use fill::fill_hydrogens;
+pub use suppression::suppress;

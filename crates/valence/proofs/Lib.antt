@@ -1,0 +1,7 @@
+pub mod Enumerated
+pub mod Sums
+pub mod Hydrogens
+pub mod Flags
+pub mod Renumbering
+pub mod Kept
+pub mod Staying

@@ -1,0 +1,101 @@
+//! Which atoms go, and where the others move: one list for each fact, by the atom's place.
+ghost use Rattle.std.specs.Prelude.{◌≡◌, ◌≢◌, ◌<◌, ◌≤◌, ◌==◌, ◌&&◌, not, ℕ, length, count_by, slice_index, slice_index_or, false, All};
+ghost use Rattle.std.specs.List.{list_any};
+ghost use Rattle.valence.specs.Valence.{ends_at};
+ghost use Rattle.valence.specs.Suppressed.{is_plain_kind, is_bare_hydrogen, leads_to_heavy, is_suppressed, new_place, brings};
+
+use chem_core::{SketchAtom, SketchBond, SketchKind};
+
+/// Whether each atom becomes a count at its neighbour.
+pub(crate) fn suppressed_atoms(atoms: &[SketchAtom], bonds: &[SketchBond]) -> [bool; 999]
+    requires few { length atoms.now ≤ 999 }
+    requires in_range { All (λ b. (b.a < length atoms.now) × (b.b < length atoms.now)) bonds.now }
+    requires distinct { All (λ b. b.a ≢ b.b) bonds.now }
+    requires few_neighbours { (a : ℕ) → count_by (ends_at a) bonds.now ≤ 12 }
+    ensures { (a : ℕ) → slice_index_or result a false
+        ≡ is_suppressed (record { atoms = atoms.now; bonds = bonds.now }) a }
+{
+    let degrees = degrees(bonds);
+    let leads = heavy_neighbours(atoms, bonds);
+    let mut goes = [false; 999];
+    for (place, atom) in atoms.iter().enumerate() {
+        goes[place] = is_taken(atom, degrees[place], leads[place]);
+    }
+    goes
+}
+
+// Whether an atom goes that has so many neighbours, and a plain bond to one that is no hydrogen if `leads`.
+fn is_taken(atom: &SketchAtom, degree: u8, leads: bool) -> bool
+    ensures { result ≡ (is_bare_hydrogen atom.now && ((degree == 1) && leads)) }
+{
+    atom.number == 1 && atom.isotope == 0 && atom.charge == 0 && degree == 1 && leads
+}
+
+// How many neighbours each atom has.
+fn degrees(bonds: &[SketchBond]) -> [u8; 999]
+    requires in_range { All (λ b. (b.a < 999) × (b.b < 999)) bonds.now }
+    requires distinct { All (λ b. b.a ≢ b.b) bonds.now }
+    requires few { (a : ℕ) → count_by (ends_at a) bonds.now ≤ 12 }
+    ensures { (a : ℕ) → slice_index result a ≡ count_by (ends_at a) bonds.now }
+{
+    let mut degrees = [0; 999];
+    for bond in bonds {
+        degrees[usize::from(bond.a)] += 1;
+        degrees[usize::from(bond.b)] += 1;
+    }
+    degrees
+}
+
+// Whether each atom has a plain bond to an atom that is no hydrogen.
+fn heavy_neighbours(atoms: &[SketchAtom], bonds: &[SketchBond]) -> [bool; 999]
+    requires few { length atoms.now ≤ 999 }
+    requires in_range { All (λ b. (b.a < length atoms.now) × (b.b < length atoms.now)) bonds.now }
+    requires distinct { All (λ b. b.a ≢ b.b) bonds.now }
+    ensures { (a : ℕ) → slice_index_or result a false ≡ list_any (leads_to_heavy atoms.now a) bonds.now }
+{
+    let mut leads = [false; 999];
+    for bond in bonds {
+        let (a, b) = (usize::from(bond.a), usize::from(bond.b));
+        leads[a] |= is_plain_to(bond.kind, &atoms[b]);
+        leads[b] |= is_plain_to(bond.kind, &atoms[a]);
+    }
+    leads
+}
+
+// Whether a bond to the atom is plain, and the atom no hydrogen.
+fn is_plain_to(kind: SketchKind, atom: &SketchAtom) -> bool
+    ensures { result ≡ (is_plain_kind kind && not (atom.now.number == 1)) }
+{
+    matches!(kind, SketchKind::Unwritten | SketchKind::Single) && atom.number != 1
+}
+
+/// How many neighbours each atom has that go.
+pub(crate) fn gains(bonds: &[SketchBond], goes: &[bool]) -> [u8; 999]
+    requires long { length goes.now ≡ 999 }
+    requires in_range { All (λ b. (b.a < 999) × (b.b < 999)) bonds.now }
+    requires distinct { All (λ b. b.a ≢ b.b) bonds.now }
+    requires few { (a : ℕ) → count_by (ends_at a) bonds.now ≤ 12 }
+    ensures { (a : ℕ) → slice_index result a ≡ count_by (brings (λ k. slice_index_or goes.now k false) a) bonds.now }
+{
+    let mut gains = [0; 999];
+    for bond in bonds {
+        let (a, b) = (usize::from(bond.a), usize::from(bond.b));
+        gains[a] += u8::from(goes[b]);
+        gains[b] += u8::from(goes[a]);
+    }
+    gains
+}
+
+/// For each atom, how many atoms before it stay.
+pub(crate) fn new_places(goes: &[bool]) -> [u16; 999]
+    requires long { length goes.now ≡ 999 }
+    ensures { (a : ℕ) → a < 999 → slice_index result a ≡ new_place (λ k. slice_index_or goes.now k false) a }
+{
+    let mut places = [0; 999];
+    let mut kept = 0;
+    for (place, gone) in goes.iter().enumerate() {
+        places[place] = kept;
+        kept += u16::from(!*gone);
+    }
+    places
+}
