@@ -1,4 +1,9 @@
+//! Formats of structures, and why a text has none.
+ghost use Rattle.std.specs.Prelude.{◌≡◌};
+
 use smiles_read::SmilesFault;
+use std::alloc::AllocError;
+use thiserror::Error;
 
 /// How a structure is written.
 #[derive(Clone, Copy, Debug, PartialEq, Eq)]
@@ -10,12 +15,38 @@ pub enum Format {
 }
 
 /// Why a text has no structure.
-#[derive(Clone, Copy, Debug, PartialEq, Eq)]
+#[derive(Clone, Copy, Debug, PartialEq, Eq, Error)]
 pub enum TextFault {
-    /// The SMILES is refused; `NoMemory` never stands here.
+    /// The SMILES is refused. `NoMemory` never stands here.
+    #[error("{0}")]
     Smiles(SmilesFault),
-    /// The format is not read yet.
+    /// The text is a molfile, or a SMILES with a lower-case atom, a bond `:` or a ring.
+    #[error("not read yet")]
     NotYet,
     /// Memory ran out in some stage.
+    #[error("out of memory")]
     NoMemory,
+}
+
+impl From<SmilesFault> for TextFault {
+    ghost use Rattle.mol_finish.specs.Structure.{fault_of};
+
+    ghost from_gives = { λ fault e. e ≡ fault_of fault };
+
+    fn from(fault: SmilesFault) -> TextFault {
+        match fault {
+            SmilesFault::NoMemory => TextFault::NoMemory,
+            fault => TextFault::Smiles(fault),
+        }
+    }
+}
+
+impl From<AllocError> for TextFault {
+    ghost use Rattle.mol_finish.specs.declared.fault.TextFault.TheVariants.{NoMemory};
+
+    ghost from_gives = { λ _ e. e ≡ NoMemory };
+
+    fn from(_: AllocError) -> TextFault {
+        TextFault::NoMemory
+    }
 }

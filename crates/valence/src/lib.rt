@@ -6,5 +6,5 @@ mod places;
 mod suppression;
 mod table;
 
-pub use fill::fill_hydrogens;
+pub use fill::{fill_hydrogens, order_sums};
 pub use suppression::suppress;

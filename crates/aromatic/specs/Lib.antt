@@ -1,2 +1,0 @@
-pub mod Electrons
-pub mod Huckel
