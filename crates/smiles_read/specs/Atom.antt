@@ -1,0 +1,219 @@
+-- An atom as it is written (OpenSMILES 1.0, section 3.1). A text is an atom exactly where some AtomText that is one is spelled so.
+use Rattle.std.specs.Prelude.{◌≡◌, ◌≢◌, ℕ, zero, suc, ◌+◌, ◌*◌, ◌-◌, ◌<◌, ◌≤◌, Bool, true, false, List, [], ◌∷◌, ◌++◌, length, All, replicate, fold, slice_index_or, ℤ, pos, neg_ℤ, Option, None, Some, codes}
+use Rattle.std.specs.Fmt.{decimal}
+use Rattle.chem_core.specs.declared.sketch.SketchAtom.{SketchAtom}
+use Rattle.chem_core.specs.declared.sketch.Fill.TheVariants as fills
+use Rattle.chem_core.specs.Element.{symbols}
+use Rattle.chem_core.specs.Organic.{Organic, symbol_bytes, atomic_number}
+
+-- a digit, as its byte
+abbrev pub IsDigit : ℕ → Type 0
+IsDigit b = (48 ≤ b) × (b ≤ 57)
+
+-- the value of digits
+abbrev pub value_of : List ℕ → ℕ
+value_of digits = fold (λ n b. 10 * n + (b - 48)) 0 digits
+
+-- the symbols in lower case: without brackets b c n o p s, in brackets se and as too
+pub data Lower : Type 0 where
+  b : Lower
+  c : Lower
+  n : Lower
+  o : Lower
+  p : Lower
+  s : Lower
+  se : Lower
+  as_ : Lower
+
+abbrev pub lower_bytes : Lower → List ℕ
+lower_bytes b = codes "b"
+lower_bytes c = codes "c"
+lower_bytes n = codes "n"
+lower_bytes o = codes "o"
+lower_bytes p = codes "p"
+lower_bytes s = codes "s"
+lower_bytes se = codes "se"
+lower_bytes as_ = codes "as"
+
+abbrev pub lower_number : Lower → ℕ
+lower_number b = 5
+lower_number c = 6
+lower_number n = 7
+lower_number o = 8
+lower_number p = 15
+lower_number s = 16
+lower_number se = 34
+lower_number as_ = 33
+
+-- it stands without brackets too
+abbrev pub IsOrganicLower : Lower → Type 0
+IsOrganicLower se = ⊥
+IsOrganicLower as_ = ⊥
+IsOrganicLower _ = Unit {0}
+
+-- the symbol in brackets: `*` and the elements by their number, 0 to 103, or one in lower case
+pub data Symbol : Type 0 where
+  element : (number : ℕ) → Symbol
+  lower : Lower → Symbol
+
+abbrev pub symbol_text : Symbol → List ℕ
+symbol_text (element number) = slice_index_or symbols number []
+symbol_text (lower l) = lower_bytes l
+
+abbrev pub IsSymbol : Symbol → Type 0
+IsSymbol (element number) = number ≤ 103
+IsSymbol (lower l) = Unit {0}
+
+abbrev pub symbol_number : Symbol → ℕ
+symbol_number (element number) = number
+symbol_number (lower l) = lower_number l
+
+abbrev pub is_lower : Symbol → Bool
+is_lower (element number) = false
+is_lower (lower l) = true
+
+-- a chirality mark, which is read and dropped: a class, and its number
+pub data Chiral : Type 0 where
+  none : Chiral
+  one : Chiral
+  two : Chiral
+  th : (number : ℕ) → Chiral
+  al : (number : ℕ) → Chiral
+  sp : (number : ℕ) → Chiral
+  tb : (number : ℕ) → Chiral
+  oh : (number : ℕ) → Chiral
+
+abbrev pub chiral_text : Chiral → List ℕ
+chiral_text none = []
+chiral_text one = codes "@"
+chiral_text two = codes "@@"
+chiral_text (th number) = codes "@TH" ++ decimal number
+chiral_text (al number) = codes "@AL" ++ decimal number
+chiral_text (sp number) = codes "@SP" ++ decimal number
+chiral_text (tb number) = codes "@TB" ++ decimal number
+chiral_text (oh number) = codes "@OH" ++ decimal number
+
+abbrev pub IsChiral : Chiral → Type 0
+IsChiral none = Unit {0}
+IsChiral one = Unit {0}
+IsChiral two = Unit {0}
+IsChiral (th number) = (1 ≤ number) × (number ≤ 2)
+IsChiral (al number) = (1 ≤ number) × (number ≤ 2)
+IsChiral (sp number) = (1 ≤ number) × (number ≤ 3)
+IsChiral (tb number) = (1 ≤ number) × (number ≤ 20)
+IsChiral (oh number) = (1 ≤ number) × (number ≤ 30)
+
+-- the count of hydrogens: none, `H`, or `H` with a digit
+pub data Hydrogens : Type 0 where
+  unwritten : Hydrogens
+  single : Hydrogens
+  counted : (count : ℕ) → Hydrogens
+
+abbrev pub hydrogens_text : Hydrogens → List ℕ
+hydrogens_text unwritten = []
+hydrogens_text single = codes "H"
+hydrogens_text (counted count) = 72 ∷ (48 + count) ∷ []
+
+abbrev pub hydrogen_count : Hydrogens → ℕ
+hydrogen_count unwritten = 0
+hydrogen_count single = 1
+hydrogen_count (counted count) = count
+
+-- at most nine; and hydrogen itself has no count of hydrogens
+abbrev pub AreHydrogens : Symbol → Hydrogens → Type 0
+AreHydrogens symbol unwritten = Unit {0}
+AreHydrogens symbol single = symbol ≢ element 1
+AreHydrogens symbol (counted count) = (symbol ≢ element 1) × (count ≤ 9)
+
+-- a charge: a run of signs, or a sign and one or two digits
+pub data Charge : Type 0 where
+  neutral : Charge
+  pluses : (count : ℕ) → Charge
+  minuses : (count : ℕ) → Charge
+  plus : (digits : List ℕ) → Charge
+  minus : (digits : List ℕ) → Charge
+
+abbrev pub charge_text : Charge → List ℕ
+charge_text neutral = []
+charge_text (pluses count) = replicate count 43
+charge_text (minuses count) = replicate count 45
+charge_text (plus digits) = 43 ∷ digits
+charge_text (minus digits) = 45 ∷ digits
+
+abbrev pub charge_value : Charge → ℤ
+charge_value neutral = pos 0
+charge_value (pluses count) = pos count
+charge_value (minuses count) = neg_ℤ (pos count)
+charge_value (plus digits) = pos (value_of digits)
+charge_value (minus digits) = neg_ℤ (pos (value_of digits))
+
+-- one or two digits of value 0 to 15
+abbrev pub IsChargeNumber : List ℕ → Type 0
+IsChargeNumber digits = (1 ≤ length digits) × (length digits ≤ 2) × All IsDigit digits × (value_of digits ≤ 15)
+
+abbrev pub IsCharge : Charge → Type 0
+IsCharge neutral = Unit {0}
+IsCharge (pluses count) = (1 ≤ count) × (count ≤ 15)
+IsCharge (minuses count) = (1 ≤ count) × (count ≤ 15)
+IsCharge (plus digits) = IsChargeNumber digits
+IsCharge (minus digits) = IsChargeNumber digits
+
+-- what stands in brackets
+pub record Bracket : Type 0 where
+  pub isotope : List ℕ
+  pub symbol : Symbol
+  pub chiral : Chiral
+  pub hydrogens : Hydrogens
+  pub charge : Charge
+  pub class : Option (List ℕ)
+
+-- a class is dropped
+abbrev pub class_text : Option (List ℕ) → List ℕ
+class_text None = []
+class_text (Some digits) = 58 ∷ digits
+
+abbrev pub IsClass : Option (List ℕ) → Type 0
+IsClass None = Unit {0}
+IsClass (Some digits) = (1 ≤ length digits) × All IsDigit digits
+
+abbrev pub bracket_text : Bracket → List ℕ
+bracket_text x =
+    91 ∷ (x.isotope ++ (symbol_text x.symbol ++ (chiral_text x.chiral ++ (hydrogens_text x.hydrogens ++ (charge_text x.charge ++ (class_text x.class ++ 93 ∷ []))))))
+
+-- an isotope has at most three digits
+pub record IsBracket (x : Bracket) : Type 0 where
+  pub short : length x.isotope ≤ 3
+  pub digits : All IsDigit x.isotope
+  pub symbol : IsSymbol x.symbol
+  pub chiral : IsChiral x.chiral
+  pub hydrogens : AreHydrogens x.symbol x.hydrogens
+  pub charge : IsCharge x.charge
+  pub class : IsClass x.class
+
+pub data AtomText : Type 0 where
+  star : AtomText
+  organic : Organic → AtomText
+  aromatic : Lower → AtomText
+  bracket : Bracket → AtomText
+
+abbrev pub atom_text : AtomText → List ℕ
+atom_text star = codes "*"
+atom_text (organic x) = symbol_bytes x
+atom_text (aromatic x) = lower_bytes x
+atom_text (bracket x) = bracket_text x
+
+abbrev pub IsAtomText : AtomText → Type 0
+IsAtomText star = Unit {0}
+IsAtomText (organic x) = Unit {0}
+IsAtomText (aromatic x) = IsOrganicLower x
+IsAtomText (bracket x) = IsBracket x
+
+-- the atom that is written as the i-th
+abbrev pub atom_of : ℕ → AtomText → SketchAtom
+atom_of i star = record { number = 0; isotope = 0; charge = pos 0; lower = false; fill = fills.Given; hydrogens = 0; written = i }
+atom_of i (organic x) = record { number = atomic_number x; isotope = 0; charge = pos 0; lower = false; fill = fills.Organic; hydrogens = 0; written = i }
+atom_of i (aromatic x) = record { number = lower_number x; isotope = 0; charge = pos 0; lower = true; fill = fills.Organic; hydrogens = 0; written = i }
+atom_of i (bracket x) = record {
+  number = symbol_number x.symbol; isotope = value_of x.isotope; charge = charge_value x.charge; lower = is_lower x.symbol; fill = fills.Given;
+  hydrogens = hydrogen_count x.hydrogens; written = i;
+}

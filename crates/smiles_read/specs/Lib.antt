@@ -1,0 +1,4 @@
+pub mod Atom
+pub mod Tree
+pub mod Sketch
+pub mod Reading
