@@ -1,5 +1,5 @@
 -- A print: a list of 1024 truth values, by the number of the bit.
-use Rattle.std.specs.Prelude.{ℕ, ◌<◌, ◌≡◌, Bool, false, true, List, slice_index_or}
+use Rattle.std.specs.Prelude.{ℕ, ◌≡◌, Bool, false, true, List, slice_index_or}
 
 -- the bit is set
 abbrev pub HasBit : List Bool → ℕ → Type 0

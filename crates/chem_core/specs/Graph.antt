@@ -1,5 +1,5 @@
 -- Bonds as pairs of ends: what joins what, cycles, rings. Atoms and bonds are named by their places, from 0.
-use Rattle.std.specs.Prelude.{◌≡◌, ◌≢◌, ◌⊎◌, ℕ, ◌+◌, ◌%◌, ◌<◌, ◌≤◌, List, length, slice_get, slice_index, count_by, Some, All, AllPairs, Contains, ◌==◌, ◌||◌, map}
+use Rattle.std.specs.Prelude.{◌≡◌, ◌≢◌, ◌⊎◌, ℕ, ◌+◌, ◌%◌, ◌<◌, ◌≤◌, List, length, slice_get, slice_index, slice_index_or, [], count_by, Some, All, AllPairs, Contains, ◌==◌, ◌||◌, map}
 use Rattle.std.specs.List.Sorted.{IsStrictlyIncreasing}
 
 -- the two ends of each bond
@@ -33,6 +33,11 @@ pub record AreNeighbours (ends : Ends) (a : ℕ) (pairs : List (ℕ × ℕ)) : T
   pub joined : (n b : ℕ) → Contains pairs (n, b) → JoinsAt ends b a n
   pub each : (n b : ℕ) → JoinsAt ends b a n → Contains pairs (n, b)
 
+-- the lists of neighbours of all atoms, by the atom's place
+pub record AreNeighbourLists (ends : Ends) (atoms : ℕ) (lists : List (List (ℕ × ℕ))) : Type 0 where
+  pub count : length lists ≡ atoms
+  pub each : (a : ℕ) → a < atoms → AreNeighbours ends a (slice_index_or lists a [])
+
 -- the place after i in a list that is closed to a cycle
 abbrev pub next_place : List ℕ → ℕ → ℕ
 next_place atoms i = (i + 1) % length atoms
@@ -59,7 +64,7 @@ IsRingAtom ends a = (b n : ℕ) × JoinsAt ends b a n × IsRingBond ends b
 abbrev pub IsSmallestRing : Ends → ℕ → ℕ → Type 0
 IsSmallestRing ends a n = ((n ≡ 0) × ((atoms : List ℕ) → IsSimpleCycle ends atoms → Contains atoms a → ⊥))
     ⊎ ((atoms : List ℕ) × IsSimpleCycle ends atoms × Contains atoms a × (length atoms ≡ n)
-        × ((others : List ℕ) → IsSimpleCycle ends others → Contains others a → n ≤ length others))
+    × ((others : List ℕ) → IsSimpleCycle ends others → Contains others a → n ≤ length others))
 
 -- how many of the bonds that end at the atom are ring bonds: these, each once
 abbrev pub IsRingBondCount : Ends → ℕ → ℕ → Type 0

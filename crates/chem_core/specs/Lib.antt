@@ -5,3 +5,6 @@ pub mod Sound
 pub mod Molecule
 pub mod Bits
 pub mod Organic
+pub mod Inside
+pub mod Words
+pub mod RingFacts

@@ -1,5 +1,5 @@
 -- A molecule: atoms and bonds as they are meant.
-use Rattle.std.specs.Prelude.{ℕ, ◌≤◌, List, length, map, All, ℤ, pos, neg_ℤ, ◌≤ℤ◌}
+use Rattle.std.specs.Prelude.{◌≤◌, List, length, map, All, pos, neg_ℤ, ◌≤ℤ◌}
 use Rattle.chem_core.specs.declared.mol.Atom.{Atom}
 use Rattle.chem_core.specs.declared.mol.Bond.{Bond}
 use Rattle.chem_core.specs.Graph.{Ends, IsSimpleGraph}
@@ -8,9 +8,13 @@ pub record Molecule : Type 0 where
   pub atoms : List Atom
   pub bonds : List Bond
 
+-- the two ends of each bond of a list
+abbrev pub bond_ends : List Bond → Ends
+bond_ends bonds = map (λ b. (b.a, b.b)) bonds
+
 -- the two ends of each bond
 abbrev pub ends_of : Molecule → Ends
-ends_of m = map (λ b. (b.a, b.b)) m.bonds
+ends_of m = bond_ends m.bonds
 
 -- an atom: an element of number 1 to 103, or 0 for `*`, a mass number or 0, and a charge
 pub record IsAtom (atom : Atom) : Type 0 where

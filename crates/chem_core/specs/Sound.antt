@@ -1,5 +1,5 @@
 -- What every sketch keeps that a reader gives.
-use Rattle.std.specs.Prelude.{ℕ, ◌≤◌, List, length, map, All, ℤ, pos, neg_ℤ, ◌≤ℤ◌}
+use Rattle.std.specs.Prelude.{◌≤◌, length, map, All, pos, neg_ℤ, ◌≤ℤ◌}
 use Rattle.chem_core.specs.declared.sketch.SketchAtom.{SketchAtom}
 use Rattle.chem_core.specs.declared.sketch.Fill.{Fill}
 use Rattle.chem_core.specs.declared.sketch.Fill.TheVariants.{Given, Organic, Table, Fixed}

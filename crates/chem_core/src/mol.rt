@@ -1,6 +1,7 @@
-ghost use Rattle.std.specs.Prelude.{◌≡◌, ◌<◌, length, IfOk};
-ghost use Rattle.chem_core.specs.Graph.{AreNeighbours};
-ghost use Rattle.chem_core.specs.Molecule.{Molecule, IsMolecule, ends_of};
+ghost use Rattle.std.specs.Prelude.{◌≡◌, ◌+◌, ◌<◌, ◌∷◌, ℕ, List, [], length, map, replicate, take, Contains, IsPermutation, nat_lt, position, unwrap_or, IfOk, OnOk};
+ghost use Rattle.std.specs.List.Sorted.{IsStrictlyIncreasing};
+ghost use Rattle.chem_core.specs.Graph.{Ends, IsSimpleGraph, AreNeighbours, AreNeighbourLists};
+ghost use Rattle.chem_core.specs.Molecule.{IsMolecule, bond_ends, ends_of};
 
 use smallvec::SmallVec;
 use std::alloc::{AllocError, Global};
@@ -38,4 +39,138 @@ pub struct Bond {
     pub a: u16,
     pub b: u16,
     pub kind: BondKind,
+}
+
+/// The neighbours of an atom, each with the bond to it.
+type Neighbours = SmallVec<(u16, u16), 4>;
+
+/// A molecule: atoms and bonds as they are meant, and for each atom its neighbours.
+///
+/// It has at most 999 atoms and 999 bonds, and at most 12 neighbours at an atom. No two bonds join the same atoms, and
+/// none joins an atom to itself. Atoms and bonds are named by their places, from 0. Contracts see it as its two lists.
+#[derive(Debug, Drop)]
+pub struct Mol {
+    atoms: Vec<Atom>,
+    bonds: Vec<Bond>,
+    neighbours: Vec<Neighbours>,
+}
+
+impl Model for Mol {
+    ghost use Rattle.chem_core.specs.Molecule.{Molecule};
+
+    ghost Value = { Molecule };
+
+    ghost view = { λ m. record { atoms = m.atoms.items; bonds = m.bonds.items } };
+
+    ghost use Rattle.chem_core.specs.Inside.{IsSoundInside};
+
+    ghost invariant = { λ m. IsSoundInside m.atoms.items m.bonds.items m.neighbours.items };
+}
+
+impl Mol {
+    /// The molecule of these atoms and bonds. Fails only for want of memory.
+    pub fn make(alloc: Global, atoms: Vec<Atom>, bonds: Vec<Bond>) -> Result<Mol, AllocError>
+        requires { IsMolecule (record { atoms = atoms.items; bonds = bonds.items }) }
+        ensures { IfOk result (λ mol. mol ≡ record { atoms = atoms.items; bonds = bonds.items }) }
+    {
+        let neighbours = neighbour_lists(alloc, atoms.len(), &bonds)?;
+        Ok(Mol {
+            atoms,
+            bonds,
+            neighbours,
+        })
+    }
+
+    /// The atoms, by their places.
+    pub fn atoms(&self) -> &[Atom]
+        ensures value { result.now ≡ self.now.atoms }
+        ensures valid { IsMolecule self.now }
+    {
+        &self.atoms
+    }
+
+    /// The bonds, by their places.
+    pub fn bonds(&self) -> &[Bond]
+        ensures value { result.now ≡ self.now.bonds }
+        ensures valid { IsMolecule self.now }
+    {
+        &self.bonds
+    }
+
+    /// The neighbours of the atom at a place, each with the place of the bond to it, in ascending order.
+    pub fn neighbours(&self, atom: u16) -> &[(u16, u16)]
+        requires { atom < length self.now.atoms }
+        ensures { AreNeighbours (ends_of self.now) atom result.now }
+    {
+        self.neighbours[usize::from(atom)].as_slice()
+    }
+}
+
+/// A law: an atom has one list of neighbours.
+pub fn one_neighbour_list()
+    ensures { (ends : Ends) (a : ℕ) (xs ys : List (ℕ × ℕ))
+        → AreNeighbours ends a xs → AreNeighbours ends a ys → xs ≡ ys }
+{}
+
+// For each atom its neighbours, found in one pass over the bonds.
+fn neighbour_lists(
+    alloc: Global,
+    atoms: usize,
+    bonds: &[Bond],
+) -> Result<Vec<Neighbours>, AllocError>
+    requires { IsSimpleGraph atoms (bond_ends bonds.now) }
+    ensures { IfOk result
+        (λ lists. AreNeighbourLists (bond_ends bonds.now) atoms (map (λ v. v.items) lists.items)) }
+{
+    let mut lists = empty_lists(alloc, atoms)?;
+    for place in 0..bonds.len() {
+        join(&mut lists, bonds, place)?;
+    }
+    Ok(lists)
+}
+
+fn empty_lists(alloc: Global, count: usize) -> Result<Vec<Neighbours>, AllocError>
+    ensures { IfOk result (λ lists. map (λ v. v.items) lists.items ≡ replicate count []) }
+{
+    let mut lists = Vec::with_capacity(alloc, count)?;
+    for _ in 0..count {
+        lists.push(SmallVec::new(alloc))?;
+    }
+    Ok(lists)
+}
+
+// Puts each end of the bond at a place into the list of the other, where those of the bonds before it are in.
+fn join(lists: &mut [Neighbours], bonds: &[Bond], place: usize) -> Result<(), AllocError>
+    requires graph { IsSimpleGraph (length lists.old) (bond_ends bonds.now) }
+    requires in_range { place < length bonds.now }
+    requires before { AreNeighbourLists (take place (bond_ends bonds.now)) (length lists.old)
+        (map (λ v. v.items) lists.old) }
+    ensures { OnOk result (AreNeighbourLists (take (place + 1) (bond_ends bonds.now)) (length lists.old)
+        (map (λ v. v.items) lists.new)) }
+{
+    let bond = bonds[place];
+    put(&mut lists[usize::from(bond.a)], bond.b, place as u16)?;
+    put(&mut lists[usize::from(bond.b)], bond.a, place as u16)?;
+    Ok(())
+}
+
+// Puts a new neighbour at its place in a list that ascends. Such a list is at most 12 long.
+fn put(list: &mut Neighbours, neighbour: u16, bond: u16) -> Result<(), AllocError>
+    requires ascending { IsStrictlyIncreasing (map (λ p. p.0) list.old.items) }
+    requires new { (b : ℕ) → Contains list.old.items (neighbour, b) → ⊥ }
+    ensures ascending { OnOk result (IsStrictlyIncreasing (map (λ p. p.0) list.new.items)) }
+    ensures pair { OnOk result (IsPermutation ((neighbour, bond) ∷ list.old.items) list.new.items) }
+{
+    let place = place_of(list.as_slice(), neighbour);
+    list.insert(place, (neighbour, bond))?;
+    Ok(())
+}
+
+// Where a neighbour goes: before the first that is higher.
+fn place_of(list: &[(u16, u16)], neighbour: u16) -> usize
+    ensures { result ≡ unwrap_or (position (λ pair. nat_lt neighbour pair.0) list.now) (length list.now) }
+{
+    list.iter()
+        .position(|pair| pair.0 > neighbour)
+        .unwrap_or(list.len())
 }

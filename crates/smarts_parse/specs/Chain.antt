@@ -1,13 +1,13 @@
 -- The patterns that are read today: chains of symbols of the organic subset (Daylight Theory Manual, chapter SMARTS). A text is one exactly where some
 -- chain is spelled so.
-use Rattle.std.specs.Prelude.{◌≡◌, ℕ, ◌+◌, ◌≤◌, List, [], ◌∷◌, ◌++◌, length, map, fold, false, All, Contains, codes}
+use Rattle.std.specs.Prelude.{ℕ, ◌+◌, ◌≤◌, List, [], ◌∷◌, ◌++◌, length, map, fold, false, All, Contains, codes}
 use Rattle.std.specs.List.{flat_map}
 use Rattle.chem_core.specs.Organic.{Organic, BondMark, minus, equals, hash, symbol_bytes, atomic_number, mark_byte}
 use Rattle.smarts_parse.specs.declared.pattern.AtomPrim.{AtomPrim}
 use Rattle.smarts_parse.specs.declared.pattern.AtomPrim.TheVariants as atoms
 use Rattle.smarts_parse.specs.declared.pattern.BondPrim.{BondPrim}
 use Rattle.smarts_parse.specs.declared.pattern.BondPrim.TheVariants as bonds
-use Rattle.smarts_parse.specs.Pattern.{Term, Prim, And, BondTerm, GraphTerm, PatternTerm}
+use Rattle.smarts_parse.specs.Pattern.{Term, Prim, And, BondTerm, PatternTerm}
 
 -- the next atom, and the bond primitives before it; with none the bond is unwritten
 pub record Link : Type 0 where

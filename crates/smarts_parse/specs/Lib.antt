@@ -3,3 +3,4 @@ pub mod Sound
 pub mod Truth
 pub mod Embedding
 pub mod Chain
+pub mod Tree

@@ -1,0 +1,4 @@
+pub mod Ascending
+pub mod Elements
+pub mod Neighbours
+pub mod Prints

@@ -1,0 +1,76 @@
+ghost use Rattle.std.specs.Prelude.{◌≡◌, ◌↔◌, ℕ, ◌^◌, ◌<◌, true, length, slice_index, slice_set, bit_and, EachIndex, IsTrue};
+ghost use Rattle.chem_core.specs.Bits.{HasBit};
+
+use std::marker::Model;
+
+/// A fingerprint: 1024 bits, numbered from 0, each set where a structure has one of the features that fall on it
+/// (Daylight Theory Manual, chapter Fingerprints). Contracts see it as a list of truth values.
+#[derive(Clone, Debug, Drop)]
+pub struct Print {
+    words: [u64; 16],
+}
+
+impl Model for Print {
+    ghost use Rattle.std.specs.Prelude.{List, Bool};
+    ghost use Rattle.chem_core.specs.Words.{bits_of};
+
+    ghost Value = { List Bool };
+
+    ghost view = { λ p. bits_of p.words };
+}
+
+impl Print {
+    /// How many bits a print has.
+    pub const BITS: u16 = 1024;
+
+    /// The print with no bit set.
+    pub fn empty() -> Print
+        ensures length { length result ≡ 1024 }
+        ensures none { (bit : ℕ) → HasBit result bit → ⊥ }
+    {
+        Print { words: [0; 16] }
+    }
+
+    /// Sets a bit.
+    pub fn set(&mut self, bit: u16)
+        requires { bit < 1024 }
+        ensures value { self.new ≡ slice_set self.old bit true }
+        ensures length { length self.new ≡ 1024 }
+    {
+        self.words[usize::from(bit / 64)] |= 1 << (bit % 64);
+    }
+
+    /// Whether a bit is set. No print has a bit of a number above 1023.
+    pub fn has(&self, bit: u16) -> bool
+        ensures value { IsTrue result ↔ HasBit self.now bit }
+        ensures length { length self.now ≡ 1024 }
+    {
+        match self.words.get(usize::from(bit / 64)) {
+            Some(word) => (*word >> (bit % 64)) & 1 == 1,
+            None => false,
+        }
+    }
+
+    /// Whether this print has each bit that `need` has, as a structure's has where it holds the one of `need`.
+    pub fn holds(&self, need: &Print) -> bool
+        ensures value { IsTrue result ↔ ((bit : ℕ) → HasBit need.now bit → HasBit self.now bit) }
+        ensures length { length self.now ≡ 1024 }
+    {
+        covers(&self.words, &need.words)
+    }
+}
+
+// Whether each word of `have` has all bits of the word of `want` at its place.
+fn covers(have: &[u64], want: &[u64]) -> bool
+    requires { length have.now ≡ length want.now }
+    ensures value { IsTrue result
+        ↔ EachIndex want.now (λ k. bit_and (slice_index have.now k) (slice_index want.now k) ≡ slice_index want.now k) }
+    ensures range { EachIndex want.now (λ k. slice_index want.now k < 2 ^ 64) }
+{
+    for (word, wanted) in have.iter().zip(want) {
+        if *word & *wanted != *wanted {
+            return false;
+        }
+    }
+    true
+}

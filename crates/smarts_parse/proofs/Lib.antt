@@ -1,0 +1,2 @@
+pub mod ChainSound
+pub mod Unambiguous

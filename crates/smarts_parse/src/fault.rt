@@ -1,0 +1,52 @@
+//! Why a text is no pattern.
+
+ghost use Rattle.std.specs.Prelude.{◌≡◌};
+ghost use Rattle.smarts_parse.specs.declared.fault.SmartsFault.TheVariants.{NoMemory};
+
+use std::alloc::{AllocError, AllocFailed};
+use thiserror::Error;
+
+/// Why a text is no pattern. Today `Syntax` and `NoMemory` come alone.
+#[derive(Clone, Copy, Debug, PartialEq, Eq, Error)]
+pub enum SmartsFault {
+    /// `>`: reactions are not read.
+    #[error("a reaction")]
+    Reaction,
+    /// The text is not in the grammar.
+    #[error("not a SMARTS pattern")]
+    Syntax,
+    /// `/`, `\` or `@` in brackets: configurations are not read.
+    #[error("a configuration")]
+    Stereo,
+    /// `R<n>` with n above 0, in how many rings of a ring set an atom is: such sets are not unique.
+    #[error("a count of a ring set")]
+    RingSet,
+    /// A ring closure that is open at the end, has two bonds that differ, or joins atoms that are one or bonded.
+    #[error("a ring closure")]
+    Ring,
+    /// More than 256 atoms, 64 recursive parts, or a number above its limit.
+    #[error("above a limit")]
+    Limit,
+    /// Parentheses round components: which molecule of several an atom is in is not asked.
+    #[error("a grouping of components")]
+    Grouping,
+    /// Memory ran out.
+    #[error("out of memory")]
+    NoMemory,
+}
+
+impl From<AllocError> for SmartsFault {
+    ghost from_gives = { λ _ e. e ≡ NoMemory };
+
+    fn from(_e: AllocError) -> SmartsFault {
+        SmartsFault::NoMemory
+    }
+}
+
+impl<T: Drop> From<AllocFailed<T>> for SmartsFault {
+    ghost from_gives = { λ _ e. e ≡ NoMemory };
+
+    fn from(_e: AllocFailed<T>) -> SmartsFault {
+        SmartsFault::NoMemory
+    }
+}
