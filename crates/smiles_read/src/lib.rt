@@ -1,6 +1,11 @@
 //! SMILES, read into sketches (OpenSMILES 1.0; Daylight Theory Manual, chapter SMILES).
 #![tactic(auto)]
 
+mod bond;
+mod bracket;
+mod digit;
 mod fault;
+mod pairs;
+mod symbol;
 
 pub use fault::SmilesFault;
