@@ -5,7 +5,14 @@ use Rattle.chem_core.specs.declared.sketch.SketchBond.{SketchBond}
 use Rattle.chem_core.specs.Graph.{Ends, JoinsAt}
 use Rattle.smiles_read.specs.declared.pairs.Opening.{Opening}
 use Rattle.smiles_read.specs.declared.pairs.Pairs.{Pairs}
+use Rattle.smiles_read.specs.Atom.{Hydrogens, unwritten, single, counted}
 use Rattle.smiles_read.specs.Sketch.{Pairing, are_joined}
+
+-- the count of hydrogens, where one is written
+abbrev pub written_hydrogens : Hydrogens → Option ℕ
+written_hydrogens unwritten = None
+written_hydrogens single = Some 1
+written_hydrogens (counted count) = Some count
 
 -- the pairing so far, unless ring numbers clash
 abbrev pub pairing_of : Pairs → Option Pairing

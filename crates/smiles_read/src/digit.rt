@@ -1,7 +1,8 @@
 //! Runs of digits.
 
-ghost use Rattle.std.specs.Prelude.{◌≡◌, ◌≤◌, ◌++◌, ◌↔◌, IsTrue, length};
+ghost use Rattle.std.specs.Prelude.{◌≡◌, ◌⊎◌, ℕ, ◌≤◌, ◌++◌, ◌↔◌, IsTrue, length};
 ghost use Rattle.std.specs.List.{AllByRecursion};
+ghost use Rattle.std.specs.Fmt.{decimal};
 ghost use Rattle.smiles_read.specs.Atom.{IsDigit, value_of};
 ghost use Rattle.smiles_read.specs.Follow.{NoDigitFirst};
 
@@ -40,5 +41,24 @@ pub fn value(digits: &[u8]) -> u16
             100 * u16::from(*a - b'0') + 10 * u16::from(*b - b'0') + u16::from(*c - b'0')
         }
         _ => unreachable!(),
+    }
+}
+
+/// The number of one or two digits with no 0 in front; 0 for other digits.
+pub fn short_number(digits: &[u8]) -> u8
+    requires { AllByRecursion IsDigit digits.now }
+    ensures few { result ≤ 99 }
+    ensures found { (result ≡ 0) ⊎ (digits.now ≡ decimal result) }
+    ensures only { (n : ℕ) → n ≤ 99 → digits.now ≡ decimal n → result ≡ n }
+{
+    match digits {
+        [ones] => *ones - b'0',
+        [tens, ones] => {
+            if *tens == b'0' {
+                return 0;
+            }
+            10 * (*tens - b'0') + (*ones - b'0')
+        }
+        _ => 0,
     }
 }

@@ -24,3 +24,22 @@ fn lower_at(bytes: &[u8]) -> Option<(u8, &[u8])>
         _ => None,
     }
 }
+
+/// The number of the symbol that the bytes begin with, the longest, and whether it is in lower case. Then the bytes after it.
+pub fn symbol_at(bytes: &[u8]) -> Option<(u8, bool, &[u8])>
+    ensures found { IfSome result (λ r. (s : Symbol) × IsSymbol s × (bytes.now ≡ symbol_text s ++ r.2.now) × (r.0 ≡ symbol_number s) × (r.1 ≡ is_lower s)) }
+    ensures only { (s : Symbol) (rest : List ℕ) → IsSymbol s → bytes.now ≡ symbol_text s ++ rest → AfterSymbol rest
+        → IsSomeAnd result (λ r. (r.2.now ≡ rest) × (r.0 ≡ symbol_number s) × (r.1 ≡ is_lower s)) }
+{
+    if let Some((number, rest)) = lower_at(bytes) {
+        return Some((number, true, rest));
+    }
+    if let [first, second, rest @ ..] = bytes
+        && let Some(number) = number_of(&[*first, *second])
+    {
+        return Some((number, false, rest));
+    }
+    let (first, rest) = bytes.split_first()?;
+    let number = number_of(&[*first])?;
+    Some((number, false, rest))
+}
