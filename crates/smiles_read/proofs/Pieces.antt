@@ -1,10 +1,11 @@
 -- The pieces of a bracket: each is read back from its text by what may follow it.
-use Rattle.std.proofs.Common.{◌≡◌, ℕ, zero, suc, ◌+◌, ◌<◌, ◌≤◌, ◌⊎◌, inl, inr, Bool, cond, ◌==◌, List, [], ◌∷◌, ◌++◌, length, replicate, Option, Some, None, refl, sym, ◌∙◌, ap, subst, arith, append_assoc}
+use Rattle.std.proofs.Common.{◌≡◌, ℕ, zero, suc, ◌+◌, ◌<◌, ◌≤◌, inl, inr, cond, ◌==◌, List, [], ◌∷◌, ◌++◌, length, replicate, Option, Some, None, unwrap_or, refl, sym, ◌∙◌, ap, subst, arith, append_assoc}
 use Rattle.std.specs.List.{AllByRecursion}
 use Rattle.std.specs.Fmt.{decimal}
-use Rattle.smiles_read.specs.Atom.{IsDigit, ChiralClass, th, al, sp, tb, oh, class_bytes, most_of, Chiral, none, one, two, numbered, chiral_text, IsChiral, Hydrogens, unwritten, single, counted, hydrogens_text, hydrogen_count, Sign, plus, minus, sign_byte, Charge, neutral, run, amount, signed, charge_text, charge_value, value_of, IsCharge, class_text, IsClass}
+use Rattle.smiles_read.specs.Atom.{IsDigit, ChiralClass, th, al, sp, tb, oh, class_bytes, most_of, Chiral, none, one, two, numbered, chiral_text, IsChiral, Hydrogens, unwritten, single, counted, hydrogens_text, hydrogen_count, Sign, plus, minus, sign_byte, Charge, neutral, run, amount, signed, charge_text, charge_value, value_of, IsCharge, class_text, IsClass, Lower, small_b, small_c, small_n, small_o, small_p, small_s, small_se, small_as, lower_number, Symbol, element, lower, symbol_text, symbol_number, AreHydrogens, Bracket, bracket_text}
+use Rattle.smiles_read.specs.State.{written_hydrogens}
 use Rattle.smiles_read.specs.Follow.{NoDigitFirst, AfterClass, AfterCharge, AfterHydrogens, AfterChiral, AfterSymbol}
-use Rattle.smiles_read.proofs.Digits.{same_digits, no_digit, decimal_digits}
+use Rattle.smiles_read.proofs.Digits.{same_digits, no_digit}
 
 -- what may follow each piece begins with no digit
 pub class_no_digit : (r : List ℕ) → AfterClass r → NoDigitFirst r
@@ -240,3 +241,46 @@ amount_digits s g x rest b d r es is after h found some are all =
 pub run_found : (s : Sign) (g k : ℕ) (b r : List ℕ) → sign_byte s ≡ g → b ≡ replicate k g ++ r → g ∷ b ≡ charge_text (run s (k + 1)) ++ r
 run_found s g k b r es e =
     ap (λ w. g ∷ w) e ∙ ap (λ w. w ∷ (replicate k w ++ r)) (sym es) ∙ ap (λ n. replicate n (sign_byte s) ++ r) (let p : suc k ≡ k + 1 = omega arith in p)
+
+-- the whole bracket
+pub bracket_spelled : (x : Bracket) (rest : List ℕ) → bracket_text x ++ rest
+    ≡ 91 ∷ (x.isotope ++ (symbol_text x.symbol ++ (chiral_text x.chiral ++ (hydrogens_text x.hydrogens ++ (charge_text x.charge ++ (class_text x.class ++ 93 ∷ rest))))))
+bracket_spelled x rest = ap (λ w. 91 ∷ w) (simp append_assoc)
+
+-- hydrogen itself is the one symbol of number 1
+lower_not_one : (l : Lower) → lower_number l ≡ 1 → ⊥
+lower_not_one small_b h = omega arith
+lower_not_one small_c h = omega arith
+lower_not_one small_n h = omega arith
+lower_not_one small_o h = omega arith
+lower_not_one small_p h = omega arith
+lower_not_one small_s h = omega arith
+lower_not_one small_se h = omega arith
+lower_not_one small_as h = omega arith
+
+one_is_hydrogen : (s : Symbol) → symbol_number s ≡ 1 → s ≡ element 1
+one_is_hydrogen (element k) h = ap (λ w. element w) h
+one_is_hydrogen (lower l) h = absurd (lower_not_one l h)
+
+number_of_hydrogen : (s : Symbol) → s ≡ element 1 → symbol_number s ≡ 1
+number_of_hydrogen s h = ap symbol_number h
+
+pub are_hydrogens : (s : Symbol) (h : Hydrogens) → hydrogen_count h ≤ 9 → (symbol_number s ≡ 1 → written_hydrogens h ≡ None) → AreHydrogens s h
+are_hydrogens s unwritten le never = tt
+are_hydrogens s single le never = λ e. absurd (let k = never (number_of_hydrogen s e) in cc)
+are_hydrogens s (counted k) le never = (λ e. absurd (let q = never (number_of_hydrogen s e) in cc), le)
+
+pub none_on_hydrogen : (s : Symbol) (h : Hydrogens) → AreHydrogens s h → symbol_number s ≡ 1 → written_hydrogens h ≡ None
+none_on_hydrogen s unwritten are is_one = refl
+none_on_hydrogen s single are is_one = absurd (are (one_is_hydrogen s is_one))
+none_on_hydrogen s (counted k) are is_one = absurd (are.0 (one_is_hydrogen s is_one))
+
+pub few_hydrogens : (s : Symbol) (h : Hydrogens) → AreHydrogens s h → hydrogen_count h ≤ 9
+few_hydrogens s unwritten are = omega arith
+few_hydrogens s single are = omega arith
+few_hydrogens s (counted k) are = are.1
+
+pub count_of : (h : Hydrogens) → unwrap_or (written_hydrogens h) 0 ≡ hydrogen_count h
+count_of unwritten = refl
+count_of single = refl
+count_of (counted k) = refl

@@ -1,6 +1,5 @@
 -- A tail as the tokens that it is written with, from left to right, and back.
-use Rattle.std.proofs.Common.{◌≡◌, ℕ, zero, suc, ◌+◌, ◌<◌, ◌≤◌, max, List, [], ◌∷◌, ◌++◌, length, refl, sym, ◌∙◌, ap, arith, append_assoc}
-use Rattle.std.proofs.lemmas.List.{append-nil}
+use Rattle.std.proofs.Common.{◌≡◌, ℕ, zero, suc, ◌+◌, ◌≤◌, max, List, [], ◌∷◌, ◌++◌, length, refl, sym, ◌∙◌, ap, arith, append_assoc}
 use Rattle.smiles_read.specs.Tree.{Node, node_text, IsNode, Joint, joint_text, Tail, stop, next, branch, tail_text, IsTail, depth_of}
 use Rattle.smiles_read.specs.Sketch.{Placed, joined_to, size_of, placed_from}
 

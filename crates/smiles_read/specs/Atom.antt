@@ -17,39 +17,39 @@ value_of digits = fold (λ n b. 10 * n + (b - 48)) 0 digits
 
 -- the symbols in lower case: without brackets b c n o p s, in brackets se and as too
 pub data Lower : Type 0 where
-  b : Lower
-  c : Lower
-  n : Lower
-  o : Lower
-  p : Lower
-  s : Lower
-  se : Lower
-  as_ : Lower
+  small_b : Lower
+  small_c : Lower
+  small_n : Lower
+  small_o : Lower
+  small_p : Lower
+  small_s : Lower
+  small_se : Lower
+  small_as : Lower
 
 abbrev pub lower_bytes : Lower → List ℕ
-lower_bytes b = codes "b"
-lower_bytes c = codes "c"
-lower_bytes n = codes "n"
-lower_bytes o = codes "o"
-lower_bytes p = codes "p"
-lower_bytes s = codes "s"
-lower_bytes se = codes "se"
-lower_bytes as_ = codes "as"
+lower_bytes small_b = codes "b"
+lower_bytes small_c = codes "c"
+lower_bytes small_n = codes "n"
+lower_bytes small_o = codes "o"
+lower_bytes small_p = codes "p"
+lower_bytes small_s = codes "s"
+lower_bytes small_se = codes "se"
+lower_bytes small_as = codes "as"
 
 abbrev pub lower_number : Lower → ℕ
-lower_number b = 5
-lower_number c = 6
-lower_number n = 7
-lower_number o = 8
-lower_number p = 15
-lower_number s = 16
-lower_number se = 34
-lower_number as_ = 33
+lower_number small_b = 5
+lower_number small_c = 6
+lower_number small_n = 7
+lower_number small_o = 8
+lower_number small_p = 15
+lower_number small_s = 16
+lower_number small_se = 34
+lower_number small_as = 33
 
 -- it stands without brackets too
 abbrev pub IsOrganicLower : Lower → Type 0
-IsOrganicLower se = ⊥
-IsOrganicLower as_ = ⊥
+IsOrganicLower small_se = ⊥
+IsOrganicLower small_as = ⊥
 IsOrganicLower _ = Unit {0}
 
 -- the symbol in brackets: `*` and the elements by their number, 0 to 103, or one in lower case

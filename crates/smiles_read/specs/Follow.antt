@@ -1,7 +1,5 @@
 -- What may stand after the pieces of a SMILES.
-use Rattle.std.specs.Prelude.{◌≡◌, ◌≢◌, ◌⊎◌, ℕ, ◌<◌, ◌≤◌, List, [], ◌∷◌, ◌++◌}
-use Rattle.chem_core.specs.Organic.{Organic, carbon, boron}
-use Rattle.smiles_read.specs.Atom.{AtomText, star, organic, aromatic, bracket}
+use Rattle.std.specs.Prelude.{◌≡◌, ◌≢◌, ◌⊎◌, ℕ, ◌<◌, List, [], ◌∷◌, ◌++◌}
 use Rattle.smiles_read.specs.Tree.{RingText, ring_text, IsRingNumber}
 
 -- no digit

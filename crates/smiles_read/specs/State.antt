@@ -1,9 +1,8 @@
 -- What the reader holds, as plain data.
-use Rattle.std.specs.Prelude.{◌≡◌, ℕ, ◌+◌, ◌<◌, ◌≤◌, Bool, true, false, ◌==◌, if◌then◌else◌, List, [], length, drop, map, Option, None, Some}
+use Rattle.std.specs.Prelude.{◌≡◌, ℕ, ◌<◌, ◌≤◌, ◌==◌, if◌then◌else◌, List, length, drop, map, Option, None, Some}
 use Rattle.std.specs.List.{list_any, AllByRecursion}
 use Rattle.chem_core.specs.declared.sketch.SketchBond.{SketchBond}
 use Rattle.chem_core.specs.Graph.{Ends, JoinsAt}
-use Rattle.smiles_read.specs.declared.pairs.Opening.{Opening}
 use Rattle.smiles_read.specs.declared.pairs.Pairs.{Pairs}
 use Rattle.smiles_read.specs.Atom.{Hydrogens, unwritten, single, counted}
 use Rattle.smiles_read.specs.Sketch.{Pairing, are_joined}
