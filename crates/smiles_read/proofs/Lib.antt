@@ -1,3 +1,5 @@
+pub mod AtomSound
+pub mod Pairing
 pub mod Pieces
 pub mod Digits
 pub mod Symbols

@@ -1,5 +1,5 @@
 -- What may stand after the pieces of a SMILES.
-use Rattle.std.specs.Prelude.{◌≡◌, ◌≢◌, ◌⊎◌, ℕ, ◌<◌, List, [], ◌∷◌, ◌++◌}
+use Rattle.std.specs.Prelude.{◌≤◌, ◌≡◌, ◌≢◌, ◌⊎◌, ℕ, ◌<◌, List, [], ◌∷◌, ◌++◌}
 use Rattle.smiles_read.specs.Tree.{RingText, ring_text, IsRingNumber}
 
 -- no digit
@@ -40,3 +40,8 @@ AfterAtom (b ∷ bs) = (b ≢ 108) × (b ≢ 114)
 -- no ring number
 abbrev pub NoRingFirst : List ℕ → Type 0
 NoRingFirst bytes = (ring : RingText) (rest : List ℕ) → IsRingNumber ring.number → bytes ≢ ring_text ring ++ rest
+
+-- a byte that begins an atom; no bond symbol, digit, parenthesis, `%` or `.` does
+abbrev pub AtomFirst : List ℕ → Type 0
+AtomFirst [] = ⊥
+AtomFirst (b ∷ bs) = (b ≡ 42) ⊎ ((66 ≤ b) × (b ≢ 92) × (b ≢ 108) × (b ≢ 114))

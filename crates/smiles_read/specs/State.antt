@@ -1,8 +1,7 @@
 -- What the reader holds, as plain data.
-use Rattle.std.specs.Prelude.{◌≡◌, ℕ, ◌<◌, ◌≤◌, ◌==◌, if◌then◌else◌, List, length, drop, map, Option, None, Some}
+use Rattle.std.specs.Prelude.{◌≡◌, ℕ, ◌+◌, ◌<◌, ◌≤◌, Bool, true, false, ◌==◌, if◌then◌else◌, List, [], ◌∷◌, length, drop, Option, None, Some, IfSome}
 use Rattle.std.specs.List.{list_any, AllByRecursion}
 use Rattle.chem_core.specs.declared.sketch.SketchBond.{SketchBond}
-use Rattle.chem_core.specs.Graph.{Ends, JoinsAt}
 use Rattle.smiles_read.specs.declared.pairs.Pairs.{Pairs}
 use Rattle.smiles_read.specs.Atom.{Hydrogens, unwritten, single, counted}
 use Rattle.smiles_read.specs.Sketch.{Pairing, are_joined}
@@ -17,18 +16,26 @@ written_hydrogens (counted count) = Some count
 abbrev pub pairing_of : Pairs → Option Pairing
 pairing_of pairs = if pairs.clash then None else Some (record { openings = pairs.openings.items; bonds = pairs.bonds.items })
 
--- the two ends of each bond
-abbrev pub bond_ends : List SketchBond → Ends
-bond_ends bonds = map (λ b. (b.a, b.b)) bonds
+-- no bond joins two atoms that a later one joins
+abbrev pub AreOnce : List SketchBond → Type 0
+AreOnce [] = Unit {0}
+AreOnce (x ∷ xs) = (are_joined xs x.a x.b ≡ false) × AreOnce xs
 
--- no two bonds join the same atoms
-abbrev pub AreDistinct : List SketchBond → Type 0
-AreDistinct bonds = (b c x y : ℕ) → JoinsAt (bond_ends bonds) b x y → JoinsAt (bond_ends bonds) c x y → b ≡ c
+-- the pairing of so many atoms: each bond joins one to a later one, no two bonds join the same, and each number in use stands at one
+pub record IsPairing (count : ℕ) (p : Pairing) : Type 0 where
+  pub ends : AllByRecursion (λ x. (x.a < x.b) × (x.b < count)) p.bonds
+  pub once : AreOnce p.bonds
+  pub openings : AllByRecursion (λ o. o.atom < count) p.openings
 
--- while an atom is read: its bonds stand from a place on, and no bond or number goes past it
-pub record IsAt (atom first : ℕ) (p : Pairing) : Type 0 where
-  pub near : (a : ℕ) → are_joined p.bonds a atom ≡ list_any (λ x. x.a == a) (drop first p.bonds)
-  pub first_in : first ≤ length p.bonds
-  pub ends : AllByRecursion (λ x. (x.a < x.b) × (x.b ≤ atom)) p.bonds
-  pub openings : AllByRecursion (λ o. o.atom ≤ atom) p.openings
-  pub once : AreDistinct p.bonds
+-- the bonds of the last atom stand from a place on
+pub record AreFrom (first atom : ℕ) (bonds : List SketchBond) : Type 0 where
+  pub within : first ≤ length bonds
+  pub near : (a : ℕ) → are_joined bonds a atom ≡ list_any (λ x. x.a == a) (drop first bonds)
+
+-- the pairing while an atom is read, unless ring numbers clash
+abbrev pub AreRead : ℕ → Pairs → Type 0
+AreRead atom pairs = IfSome (pairing_of pairs) (λ p. IsPairing (atom + 1) p × AreFrom pairs.first atom p.bonds)
+
+-- the pairing before an atom is read
+abbrev pub AreReadBefore : ℕ → Pairs → Type 0
+AreReadBefore atom pairs = IfSome (pairing_of pairs) (IsPairing atom)

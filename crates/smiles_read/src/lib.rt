@@ -1,6 +1,7 @@
 //! SMILES, read into sketches (OpenSMILES 1.0; Daylight Theory Manual, chapter SMILES).
 #![tactic(auto)]
 
+mod atom;
 mod bond;
 mod bracket;
 mod digit;
