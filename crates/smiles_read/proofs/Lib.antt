@@ -1,7 +1,9 @@
 pub mod AtomSound
+pub mod Follow
 pub mod Pairing
 pub mod Pieces
 pub mod Digits
 pub mod Reading
+pub mod Shape
 pub mod Symbols
 pub mod Tokens

@@ -45,3 +45,7 @@ NoRingFirst bytes = (ring : RingText) (rest : List ℕ) → IsRingNumber ring.nu
 abbrev pub AtomFirst : List ℕ → Type 0
 AtomFirst [] = ⊥
 AtomFirst (b ∷ bs) = (b ≡ 42) ⊎ ((66 ≤ b) × (b ≢ 92) × (b ≢ 108) × (b ≢ 114))
+
+-- what may stand after a node
+abbrev pub AfterNode : List ℕ → Type 0
+AfterNode bytes = AfterAtom bytes × NoRingFirst bytes

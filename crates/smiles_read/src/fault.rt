@@ -1,15 +1,45 @@
+//! Why a text is no SMILES that is taken.
+
+ghost use Rattle.std.specs.Prelude.{◌≡◌};
+ghost use Rattle.smiles_read.specs.declared.fault.SmilesFault.TheVariants.{NoMemory};
+
+use std::alloc::{AllocError, AllocFailed};
+use thiserror::Error;
+
 /// Why a text is no SMILES that is taken. A text that breaks several rules has the first fault of this order: a text over 65,536 bytes is `Limit`, then
 /// `Syntax`, `Ring`, `Limit` by the number of its parts.
-#[derive(Clone, Copy, Debug, PartialEq, Eq)]
+#[derive(Clone, Copy, Debug, PartialEq, Eq, Error)]
 pub enum SmilesFault {
     /// The text is not in the grammar.
+    #[error("not a SMILES")]
     Syntax,
     /// A ring number stays open, its two bond symbols disagree, or it joins an atom with itself or two atoms that have a bond.
+    #[error("a ring number")]
     Ring,
     /// More than 65,536 bytes, 256 branches open at once, 999 atoms, 999 bonds, or 12 neighbours of an atom.
+    #[error("above a limit")]
     Limit,
     /// A lower-case atom lies on no aromatic ring, or a bond `:` ends at an atom that is not lower-case; the atom's place as written. Reading alone never
     /// answers it.
+    #[error("atom {0} is not aromatic")]
     Aromatic(u16),
+    /// Memory ran out.
+    #[error("out of memory")]
     NoMemory,
+}
+
+impl From<AllocError> for SmilesFault {
+    ghost from_gives = { λ _ e. e ≡ NoMemory };
+
+    fn from(_e: AllocError) -> SmilesFault {
+        SmilesFault::NoMemory
+    }
+}
+
+impl<T: Drop> From<AllocFailed<T>> for SmilesFault {
+    ghost from_gives = { λ _ e. e ≡ NoMemory };
+
+    fn from(_e: AllocFailed<T>) -> SmilesFault {
+        SmilesFault::NoMemory
+    }
 }
