@@ -4,6 +4,7 @@ pub mod Pairing
 pub mod Pieces
 pub mod Digits
 pub mod Reading
+pub mod Results
 pub mod Shape
 pub mod Symbols
 pub mod Tokens

@@ -1,14 +1,16 @@
 -- The steps of reading ring numbers.
 use Rattle.std.proofs.Common.{◌≡◌, ℕ, ◌+◌, ◌<◌, Bool, true, false, cond, not, ◌==◌, List, [], ◌∷◌, ◌++◌, length, drop, find, filter, Option, None, Some, refl, sym, ◌∙◌, ap, subst, append_assoc}
 use Rattle.std.specs.List.{list_any, flat_map, AllByRecursion}
-use Rattle.std.specs.Option.{IfSome, option_and_then}
+use Rattle.std.specs.Option.{IfSome, option_and_then, option_map}
+use Rattle.chem_core.specs.declared.sketch.SketchAtom.{SketchAtom}
+use Rattle.smiles_read.specs.Atom.{AtomText, atom_of}
 use Rattle.std.proofs.lemmas.List.{append-nil}
 use Rattle.chem_core.specs.declared.sketch.SketchBond.{SketchBond}
 use Rattle.chem_core.specs.declared.sketch.SketchKind.{SketchKind}
 use Rattle.smiles_read.specs.declared.pairs.Opening.{Opening}
 use Rattle.smiles_read.specs.Tree.{RingText, ring_text, IsRingNumber}
-use Rattle.smiles_read.specs.Sketch.{Pairing, opened, closed, number_of, number_read, written_kind, ring_read, rings_read}
-use Rattle.smiles_read.specs.State.{IsPairing, AreFrom}
+use Rattle.smiles_read.specs.Sketch.{Pairing, opened, closed, number_of, number_read, written_kind, ring_read, rings_read, chain_bond}
+use Rattle.smiles_read.specs.State.{IsPairing, AreFrom, State, with_node}
 use Rattle.smiles_read.proofs.Pairing.{begin_alone, begin_bonded, close_keeps, all_find, all_push}
 
 abbrev unless : Bool → List Opening → List SketchBond → Option Pairing
@@ -92,3 +94,23 @@ rings_more n number kind bytes rest after old now new r rs are spelled so is fro
       spelled ∙ ap (λ w. flat_map ring_text rs ++ w) front ∙ sym (flat_push rs r after),
       step ∙ ap (λ w. option_and_then (number_read n w kind) now) en ∙ ap (λ w. option_and_then (number_read n (number_of r.number) w) now) ek
       ∙ ap (λ w. option_and_then (ring_read n r) w) so ∙ sym (rings_then n rs r old))
+
+-- the state after a node
+through_map : (F : Pairing → Option Pairing) (G : Pairing → Pairing) (q : Option Pairing) → option_and_then F (option_map G q) ≡ option_and_then (λ p. F (G p)) q
+through_map F G None = refl
+through_map F G (Some p) = refl
+
+same_state : (a b : ℕ) (stack : List ℕ) (xs ys : List SketchAtom) (p q : Option Pairing) (depth : ℕ) → a ≡ b → xs ≡ ys → p ≡ q
+    → (let s : State = record { at = a; stack = stack; atoms = xs; pairing = p; depth = depth } in s) ≡ record { at = b; stack = stack; atoms = ys; pairing = q; depth = depth }
+same_state a b stack xs ys p q depth e f g = cc
+
+pub node_state : (s : State) (place : ℕ) (x : AtomText) (rs : List RingText) (before : Option (ℕ × SketchKind)) (atoms : List SketchAtom) (a : SketchAtom) (q r : Option Pairing)
+    → place ≡ length s.atoms → atoms ≡ s.atoms ++ a ∷ [] → a ≡ atom_of place x
+    → q ≡ option_map (λ (p : Pairing). record p { bonds = p.bonds ++ chain_bond place before }) s.pairing → r ≡ option_and_then (rings_read place rs) q
+    → (let t : State = record { at = place; stack = s.stack; atoms = atoms; pairing = r; depth = s.depth } in t) ≡ with_node (record { node = record { atom = x; rings = rs }; before = before }) s
+node_state s place x rs before atoms a q r ep ea ex eq er =
+    let F : ℕ → Pairing → Pairing = λ m p. record p { bonds = p.bonds ++ chain_bond m before } in
+    same_state place (length s.atoms) s.stack atoms _ r _ s.depth ep
+    (ea ∙ ap (λ w. s.atoms ++ w ∷ []) ex ∙ ap (λ m. s.atoms ++ atom_of m x ∷ []) ep)
+    (er ∙ ap (λ w. option_and_then (rings_read place rs) w) eq ∙ ap (λ m. option_and_then (rings_read m rs) (option_map (F m) s.pairing)) ep
+      ∙ through_map (rings_read (length s.atoms) rs) (F (length s.atoms)) s.pairing)

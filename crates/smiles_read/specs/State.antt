@@ -7,8 +7,8 @@ use Rattle.chem_core.specs.Sound.{IsSketchAtom}
 use Rattle.smiles_read.specs.declared.pairs.Pairs.{Pairs}
 use Rattle.smiles_read.specs.declared.reader.Reader.{Reader}
 use Rattle.smiles_read.specs.Atom.{Hydrogens, unwritten, single, counted, atom_of}
-use Rattle.smiles_read.specs.Tree.{Node, IsNode, node_text, Joint, joint_text}
-use Rattle.smiles_read.specs.Sketch.{Pairing, are_joined, Placed, node_read, joined_to}
+use Rattle.smiles_read.specs.Tree.{Node, IsNode, node_text, Joint, joint_text, Tree, IsTreeOf, depth_of}
+use Rattle.smiles_read.specs.Sketch.{Pairing, are_joined, Placed, placed_nodes, node_read, nodes_read, atoms_from, joined_to}
 
 -- the count of hydrogens, where one is written
 abbrev pub written_hydrogens : Hydrogens → Option ℕ
@@ -89,3 +89,11 @@ pub data Step (s t : State) (bytes rest : List ℕ) : Type 0 where
 -- some step leads to the rest
 abbrev pub MayStep : State → List ℕ → List ℕ → Type 0
 MayStep s bytes rest = (t : State) × Step s t bytes rest
+
+-- the tree of a text is read
+pub record IsTreeRead (text : List ℕ) (reader : Reader) : Type 0 where
+  pub tree : Tree
+  pub is : IsTreeOf text tree
+  pub atoms : reader.atoms.items ≡ atoms_from 0 (placed_nodes tree)
+  pub pairing : pairing_of reader.pairs ≡ nodes_read 0 (placed_nodes tree) (record { openings = []; bonds = [] })
+  pub depth : reader.depth ≡ depth_of tree.tail

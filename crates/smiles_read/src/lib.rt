@@ -7,6 +7,7 @@ mod bracket;
 mod digit;
 mod fault;
 mod pairs;
+mod read;
 mod reader;
 mod symbol;
 

@@ -55,6 +55,9 @@ impl Reader {
         ensures only { (x : Node) (rest : List ℕ) → IsNode x → AfterNode rest → bytes.now ≡ node_text x ++ rest
             → MatchResult result (λ r. r.now ≡ rest) (λ e. e ≡ NoMemory) }
         ensures pairing { OnOk result (AreReadBefore (length self.new.atoms.items) self.new.pairs) }
+        ensures at { OnOk result (self.new.at ≡ length self.old.atoms.items) }
+        ensures count { OnOk result (length self.new.atoms.items ≡ length self.old.atoms.items + 1) }
+        ensures stack { OnOk result (self.new.stack.items ≡ self.old.stack.items) }
         ensures sound { AreSound self.old.atoms.items → OnOk result (AreSound self.new.atoms.items) }
         ensures shorter { IfOk result (λ rest. length rest.now < length bytes.now) }
         ensures faults { IfErr result (λ e. (e ≡ Syntax) ⊎ (e ≡ NoMemory)) }
@@ -78,6 +81,7 @@ impl Reader {
         ensures only { (j : Joint) (x : Node) (rest : List ℕ) → IsNode x → AfterNode rest → bytes.now ≡ joint_text j ++ (node_text x ++ rest)
             → MatchResult result (λ r. r.now ≡ rest) (λ e. e ≡ NoMemory) }
         ensures keeps { OnOk result (IsReader self.new) }
+        ensures count { OnOk result (length self.new.atoms.items ≤ length self.old.atoms.items + 1) }
         ensures shorter { IfOk result (λ rest. length rest.now < length bytes.now) }
         ensures faults { IfErr result (λ e. (e ≡ Syntax) ⊎ (e ≡ NoMemory)) }
     {
@@ -94,6 +98,7 @@ impl Reader {
         requires { IsReader self.old }
         ensures ok { OnOk result (state_of self.new ≡ with_branch (state_of self.old)) }
         ensures keeps { OnOk result (IsReader self.new) }
+        ensures atoms { OnOk result (self.new.atoms.items ≡ self.old.atoms.items) }
     {
         self.stack.push(self.at)?;
         self.depth = self.depth.max(self.stack.len());
@@ -106,6 +111,7 @@ impl Reader {
         ensures open { result ≡ true → (a : ℕ) × (stack : List ℕ) × ((state_of self.old).stack ≡ a ∷ stack) × (state_of self.new ≡ record (state_of self.old) { at = a; stack = stack }) }
         ensures none { result ≡ false → (state_of self.old).stack ≡ [] }
         ensures keeps { IsReader self.new }
+        ensures atoms { self.new.atoms.items ≡ self.old.atoms.items }
     {
         match self.stack.pop() {
             Some(at) => {
@@ -124,6 +130,7 @@ impl Reader {
         ensures only { (rest : List ℕ) → AfterNode rest → MayStep (state_of self.old) bytes.now rest
             → MatchResult result (λ r. r.now ≡ rest) (λ e. e ≡ NoMemory) }
         ensures keeps { OnOk result (IsReader self.new) }
+        ensures count { OnOk result (length self.new.atoms.items ≤ length self.old.atoms.items + 1) }
         ensures shorter { IfOk result (λ rest. length rest.now < length bytes.now) }
         ensures faults { IfErr result (λ e. (e ≡ Syntax) ⊎ (e ≡ NoMemory)) }
     {
