@@ -1,8 +1,8 @@
 -- What stands after a node, and that its ring numbers end there.
-use Rattle.std.proofs.Common.{◌≡◌, ◌≢◌, ℕ, zero, suc, ◌+◌, ◌<◌, ◌≤◌, ◌⊎◌, inl, inr, Bool, cond, ◌==◌, List, [], ◌∷◌, ◌++◌, length, Option, Some, None, refl, sym, ◌∙◌, ap, subst, arith, append_assoc}
+use Rattle.std.proofs.Common.{◌≡◌, ◌≢◌, ℕ, ◌+◌, ◌≤◌, inl, inr, cond, ◌==◌, List, [], ◌∷◌, ◌++◌, Option, Some, None, refl, sym, ◌∙◌, ap, subst, arith, append_assoc}
 use Rattle.std.specs.List.{flat_map, AllByRecursion}
-use Rattle.chem_core.specs.Organic.{Organic, boron, carbon, nitrogen, oxygen, phosphorus, sulfur, fluorine, chlorine, bromine, iodine, symbol_bytes}
-use Rattle.smiles_read.specs.Atom.{Lower, small_b, small_c, small_n, small_o, small_p, small_s, small_se, small_as, lower_bytes, AtomText, star, organic, aromatic, bracket, atom_text, IsAtomText}
+use Rattle.chem_core.specs.Organic.{boron, carbon, nitrogen, oxygen, phosphorus, sulfur, fluorine, chlorine, bromine, iodine}
+use Rattle.smiles_read.specs.Atom.{small_b, small_c, small_n, small_o, small_p, small_s, small_se, small_as, AtomText, star, organic, aromatic, bracket, atom_text, IsAtomText}
 use Rattle.smiles_read.specs.Tree.{BondText, minus, equals, hash, dollar, colon, slash, backslash, bond_byte, bond_text, RingNumber, digit, percent, number_text, IsRingNumber, RingText, ring_text, Node, node_text, IsNode, Joint, bonded, dotted, joint_text}
 use Rattle.smiles_read.specs.Follow.{AfterAtom, NoRingFirst, AtomFirst, AfterNode}
 use Rattle.smiles_read.proofs.Tokens.{Token, follows, opens, closes, tokens_text, IsRest}

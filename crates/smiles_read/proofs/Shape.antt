@@ -1,10 +1,10 @@
 -- Reading from left to right gives the tree of a text, where it has one.
-use Rattle.std.proofs.Common.{◌≡◌, ◌≢◌, ℕ, zero, suc, ◌+◌, ◌<◌, ◌≤◌, max, List, [], ◌∷◌, ◌++◌, length, Option, Some, None, refl, sym, ◌∙◌, ap, subst, arith, append_assoc}
+use Rattle.std.proofs.Common.{◌≡◌, ℕ, zero, suc, ◌+◌, ◌≤◌, max, List, [], ◌∷◌, ◌++◌, length, Option, Some, None, refl, sym, ◌∙◌, ap, subst, arith, append_assoc}
 use Rattle.std.proofs.lemmas.List.{length_push, append-nil}
 use Rattle.std.specs.Option.{option_and_then}
 use Rattle.chem_core.specs.declared.sketch.SketchAtom.{SketchAtom}
 use Rattle.smiles_read.specs.Atom.{atom_of}
-use Rattle.smiles_read.specs.Tree.{Node, node_text, IsNode, Joint, joint_text, Tail, tail_text, Tree, IsTreeOf, depth_of}
+use Rattle.smiles_read.specs.Tree.{Node, node_text, IsNode, Joint, joint_text, tail_text, Tree, IsTreeOf, depth_of}
 use Rattle.smiles_read.specs.Sketch.{Placed, joined_to, placed_from, placed_nodes, Pairing, node_read, nodes_read, atoms_from}
 use Rattle.smiles_read.specs.Follow.{AfterNode}
 use Rattle.smiles_read.specs.State.{State, with_node, with_branch, Step, on_node, on_branch, on_end, MayStep}
@@ -117,7 +117,7 @@ after_end s bytes rest a stack es e only (opens k y ∷ more) r h =
 after_end s bytes rest a stack es e only (closes ∷ more) r h =
     record { more = more; is = closed_rest more s.stack a stack es r; spelled = let k : 41 ∷ rest ≡ 41 ∷ tokens_text more = sym e ∙ h in cc }
 
-reads_at : (text rest : List ℕ) (t u : State) → t ≡ u → Reads text rest u → Reads text rest t
+pub reads_at : (text rest : List ℕ) (t u : State) → t ≡ u → Reads text rest u → Reads text rest t
 reads_at text rest t u e h = let P : State → Type 0 = λ w. Reads text rest w in subst P (sym e) h
 
 complete_by : (text bytes rest : List ℕ) (s t : State) → Reads text bytes s → ((ks : List Token) → IsRest ks (length s.stack) → bytes ≡ tokens_text ks → After t rest)
