@@ -2,6 +2,7 @@ pub mod AtomSound
 pub mod Follow
 pub mod Pairing
 pub mod Pieces
+pub mod Counts
 pub mod Digits
 pub mod Reading
 pub mod Results

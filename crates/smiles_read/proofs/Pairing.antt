@@ -36,16 +36,16 @@ all_find P t [] o h e = absurd (cc)
 all_find P t (x ∷ xs) o h e = found_by P (t x) x o (find t xs) h.0 (λ k. all_find P t xs o h.1 k) e
 
 -- tests
-differ : (m k : ℕ) → m ≢ k → eqb m k ≡ false
+pub differ : (m k : ℕ) → m ≢ k → eqb m k ≡ false
 differ m k h = grind (arith, nat_tests)
 
 differ_from : (m k : ℕ) → eqb m k ≡ false → m ≢ k
 differ_from m k h = grind (arith, nat_tests)
 
-agree : (m : ℕ) → eqb m m ≡ true
+pub agree : (m : ℕ) → eqb m m ≡ true
 agree m = grind (arith, nat_tests)
 
-swap : (m k : ℕ) → eqb m k ≡ eqb k m
+pub swap : (m k : ℕ) → eqb m k ≡ eqb k m
 swap m k = grind (arith, nat_tests)
 
 abbrev joins : SketchBond → ℕ → ℕ → Bool

@@ -1,9 +1,10 @@
 -- What the reader holds, as plain data, and its steps.
-use Rattle.std.specs.Prelude.{◌≡◌, ℕ, ◌+◌, ◌<◌, ◌≤◌, false, ◌==◌, if◌then◌else◌, List, [], ◌++◌, reverse, max, option_and_then, ◌∷◌, length, drop, Option, None, Some, IfSome}
+use Rattle.std.specs.Prelude.{◌≡◌, ℕ, ◌+◌, ◌<◌, ◌≤◌, false, ◌==◌, if◌then◌else◌, List, [], ◌++◌, reverse, max, option_and_then, ◌∷◌, length, drop, map, Option, None, Some, IfSome}
 use Rattle.std.specs.List.{list_any, AllByRecursion}
 use Rattle.chem_core.specs.declared.sketch.SketchBond.{SketchBond}
 use Rattle.chem_core.specs.declared.sketch.SketchAtom.{SketchAtom}
 use Rattle.chem_core.specs.Sound.{IsSketchAtom}
+use Rattle.chem_core.specs.Graph.{Ends, degree}
 use Rattle.smiles_read.specs.declared.pairs.Pairs.{Pairs}
 use Rattle.smiles_read.specs.declared.reader.Reader.{Reader}
 use Rattle.smiles_read.specs.Atom.{Hydrogens, unwritten, single, counted, atom_of}
@@ -97,3 +98,14 @@ pub record IsTreeRead (text : List ℕ) (reader : Reader) : Type 0 where
   pub atoms : reader.atoms.items ≡ atoms_from 0 (placed_nodes tree)
   pub pairing : pairing_of reader.pairs ≡ nodes_read 0 (placed_nodes tree) (record { openings = []; bonds = [] })
   pub depth : reader.depth ≡ depth_of tree.tail
+
+-- the two ends of each bond
+abbrev pub bond_ends : List SketchBond → Ends
+bond_ends bonds = map (λ b. (b.a, b.b)) bonds
+
+-- 256 branches open at once, 999 atoms, 999 bonds, 12 neighbours of an atom
+pub record IsSmall (reader : Reader) : Type 0 where
+  pub depth : reader.depth ≤ 256
+  pub atoms : length reader.atoms.items ≤ 999
+  pub bonds : length reader.pairs.bonds.items ≤ 999
+  pub neighbours : (a : ℕ) → degree (bond_ends reader.pairs.bonds.items) a ≤ 12

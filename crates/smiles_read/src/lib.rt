@@ -6,6 +6,7 @@ mod bond;
 mod bracket;
 mod digit;
 mod fault;
+mod limits;
 mod pairs;
 mod read;
 mod reader;
