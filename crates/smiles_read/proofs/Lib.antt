@@ -1,3 +1,4 @@
+pub mod Answer
 pub mod AtomSound
 pub mod Follow
 pub mod Pairing

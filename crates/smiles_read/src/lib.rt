@@ -13,3 +13,4 @@ mod reader;
 mod symbol;
 
 pub use fault::SmilesFault;
+pub use read::read_smiles;
