@@ -14,3 +14,6 @@ mod symbol;
 
 pub use fault::SmilesFault;
 pub use read::read_smiles;
+
+#[cfg(test)]
+mod tests;
