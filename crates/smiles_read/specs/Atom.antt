@@ -1,5 +1,6 @@
 -- An atom as it is written (OpenSMILES 1.0, section 3.1). A text is an atom exactly where some AtomText that is one is spelled so.
-use Rattle.std.specs.Prelude.{◌≡◌, ◌≢◌, ℕ, zero, suc, ◌+◌, ◌*◌, ◌-◌, ◌<◌, ◌≤◌, Bool, true, false, List, [], ◌∷◌, ◌++◌, length, All, replicate, fold, slice_index_or, ℤ, pos, neg_ℤ, Option, None, Some, codes}
+use Rattle.std.specs.Prelude.{◌≢◌, ℕ, ◌+◌, ◌*◌, ◌-◌, ◌≤◌, Bool, true, false, List, [], ◌∷◌, ◌++◌, length, replicate, fold, slice_index_or, ℤ, pos, neg_ℤ, Option, None, Some, codes}
+use Rattle.std.specs.List.{AllByRecursion}
 use Rattle.std.specs.Fmt.{decimal}
 use Rattle.chem_core.specs.declared.sketch.SketchAtom.{SketchAtom}
 use Rattle.chem_core.specs.declared.sketch.Fill.TheVariants as fills
@@ -16,39 +17,39 @@ value_of digits = fold (λ n b. 10 * n + (b - 48)) 0 digits
 
 -- the symbols in lower case: without brackets b c n o p s, in brackets se and as too
 pub data Lower : Type 0 where
-  b : Lower
-  c : Lower
-  n : Lower
-  o : Lower
-  p : Lower
-  s : Lower
-  se : Lower
-  as_ : Lower
+  small_b : Lower
+  small_c : Lower
+  small_n : Lower
+  small_o : Lower
+  small_p : Lower
+  small_s : Lower
+  small_se : Lower
+  small_as : Lower
 
 abbrev pub lower_bytes : Lower → List ℕ
-lower_bytes b = codes "b"
-lower_bytes c = codes "c"
-lower_bytes n = codes "n"
-lower_bytes o = codes "o"
-lower_bytes p = codes "p"
-lower_bytes s = codes "s"
-lower_bytes se = codes "se"
-lower_bytes as_ = codes "as"
+lower_bytes small_b = codes "b"
+lower_bytes small_c = codes "c"
+lower_bytes small_n = codes "n"
+lower_bytes small_o = codes "o"
+lower_bytes small_p = codes "p"
+lower_bytes small_s = codes "s"
+lower_bytes small_se = codes "se"
+lower_bytes small_as = codes "as"
 
 abbrev pub lower_number : Lower → ℕ
-lower_number b = 5
-lower_number c = 6
-lower_number n = 7
-lower_number o = 8
-lower_number p = 15
-lower_number s = 16
-lower_number se = 34
-lower_number as_ = 33
+lower_number small_b = 5
+lower_number small_c = 6
+lower_number small_n = 7
+lower_number small_o = 8
+lower_number small_p = 15
+lower_number small_s = 16
+lower_number small_se = 34
+lower_number small_as = 33
 
 -- it stands without brackets too
 abbrev pub IsOrganicLower : Lower → Type 0
-IsOrganicLower se = ⊥
-IsOrganicLower as_ = ⊥
+IsOrganicLower small_se = ⊥
+IsOrganicLower small_as = ⊥
 IsOrganicLower _ = Unit {0}
 
 -- the symbol in brackets: `*` and the elements by their number, 0 to 103, or one in lower case
@@ -72,36 +73,45 @@ abbrev pub is_lower : Symbol → Bool
 is_lower (element number) = false
 is_lower (lower l) = true
 
--- a chirality mark, which is read and dropped: a class, and its number
+-- the classes of chirality that a number follows
+pub data ChiralClass : Type 0 where
+  th : ChiralClass
+  al : ChiralClass
+  sp : ChiralClass
+  tb : ChiralClass
+  oh : ChiralClass
+
+abbrev pub class_bytes : ChiralClass → List ℕ
+class_bytes th = codes "TH"
+class_bytes al = codes "AL"
+class_bytes sp = codes "SP"
+class_bytes tb = codes "TB"
+class_bytes oh = codes "OH"
+
+-- the greatest number of the class
+abbrev pub most_of : ChiralClass → ℕ
+most_of th = 2
+most_of al = 2
+most_of sp = 3
+most_of tb = 20
+most_of oh = 30
+
+-- a chirality mark, which is read and dropped: none, `@`, `@@`, or a class and its number
 pub data Chiral : Type 0 where
   none : Chiral
   one : Chiral
   two : Chiral
-  th : (number : ℕ) → Chiral
-  al : (number : ℕ) → Chiral
-  sp : (number : ℕ) → Chiral
-  tb : (number : ℕ) → Chiral
-  oh : (number : ℕ) → Chiral
+  numbered : (kind : ChiralClass) → (number : ℕ) → Chiral
 
 abbrev pub chiral_text : Chiral → List ℕ
 chiral_text none = []
 chiral_text one = codes "@"
 chiral_text two = codes "@@"
-chiral_text (th number) = codes "@TH" ++ decimal number
-chiral_text (al number) = codes "@AL" ++ decimal number
-chiral_text (sp number) = codes "@SP" ++ decimal number
-chiral_text (tb number) = codes "@TB" ++ decimal number
-chiral_text (oh number) = codes "@OH" ++ decimal number
+chiral_text (numbered kind number) = 64 ∷ (class_bytes kind ++ decimal number)
 
 abbrev pub IsChiral : Chiral → Type 0
-IsChiral none = Unit {0}
-IsChiral one = Unit {0}
-IsChiral two = Unit {0}
-IsChiral (th number) = (1 ≤ number) × (number ≤ 2)
-IsChiral (al number) = (1 ≤ number) × (number ≤ 2)
-IsChiral (sp number) = (1 ≤ number) × (number ≤ 3)
-IsChiral (tb number) = (1 ≤ number) × (number ≤ 20)
-IsChiral (oh number) = (1 ≤ number) × (number ≤ 30)
+IsChiral (numbered kind number) = (1 ≤ number) × (number ≤ most_of kind)
+IsChiral _ = Unit {0}
 
 -- the count of hydrogens: none, `H`, or `H` with a digit
 pub data Hydrogens : Type 0 where
@@ -125,38 +135,39 @@ AreHydrogens symbol unwritten = Unit {0}
 AreHydrogens symbol single = symbol ≢ element 1
 AreHydrogens symbol (counted count) = (symbol ≢ element 1) × (count ≤ 9)
 
--- a charge: a run of signs, or a sign and one or two digits
+pub data Sign : Type 0 where
+  plus : Sign
+  minus : Sign
+
+abbrev pub sign_byte : Sign → ℕ
+sign_byte plus = 43
+sign_byte minus = 45
+
+abbrev pub signed : Sign → ℕ → ℤ
+signed plus count = pos count
+signed minus count = neg_ℤ (pos count)
+
+-- a charge: none, a run of one sign, or a sign and digits
 pub data Charge : Type 0 where
   neutral : Charge
-  pluses : (count : ℕ) → Charge
-  minuses : (count : ℕ) → Charge
-  plus : (digits : List ℕ) → Charge
-  minus : (digits : List ℕ) → Charge
+  run : (sign : Sign) → (count : ℕ) → Charge
+  amount : (sign : Sign) → (digits : List ℕ) → Charge
 
 abbrev pub charge_text : Charge → List ℕ
 charge_text neutral = []
-charge_text (pluses count) = replicate count 43
-charge_text (minuses count) = replicate count 45
-charge_text (plus digits) = 43 ∷ digits
-charge_text (minus digits) = 45 ∷ digits
+charge_text (run sign count) = replicate count (sign_byte sign)
+charge_text (amount sign digits) = sign_byte sign ∷ digits
 
 abbrev pub charge_value : Charge → ℤ
 charge_value neutral = pos 0
-charge_value (pluses count) = pos count
-charge_value (minuses count) = neg_ℤ (pos count)
-charge_value (plus digits) = pos (value_of digits)
-charge_value (minus digits) = neg_ℤ (pos (value_of digits))
+charge_value (run sign count) = signed sign count
+charge_value (amount sign digits) = signed sign (value_of digits)
 
--- one or two digits of value 0 to 15
-abbrev pub IsChargeNumber : List ℕ → Type 0
-IsChargeNumber digits = (1 ≤ length digits) × (length digits ≤ 2) × All IsDigit digits × (value_of digits ≤ 15)
-
+-- a run of 1 to 15 signs, or one or two digits of value 0 to 15
 abbrev pub IsCharge : Charge → Type 0
 IsCharge neutral = Unit {0}
-IsCharge (pluses count) = (1 ≤ count) × (count ≤ 15)
-IsCharge (minuses count) = (1 ≤ count) × (count ≤ 15)
-IsCharge (plus digits) = IsChargeNumber digits
-IsCharge (minus digits) = IsChargeNumber digits
+IsCharge (run sign count) = (1 ≤ count) × (count ≤ 15)
+IsCharge (amount sign digits) = (1 ≤ length digits) × (length digits ≤ 2) × AllByRecursion IsDigit digits × (value_of digits ≤ 15)
 
 -- what stands in brackets
 pub record Bracket : Type 0 where
@@ -174,7 +185,7 @@ class_text (Some digits) = 58 ∷ digits
 
 abbrev pub IsClass : Option (List ℕ) → Type 0
 IsClass None = Unit {0}
-IsClass (Some digits) = (1 ≤ length digits) × All IsDigit digits
+IsClass (Some digits) = (1 ≤ length digits) × AllByRecursion IsDigit digits
 
 abbrev pub bracket_text : Bracket → List ℕ
 bracket_text x =
@@ -183,7 +194,7 @@ bracket_text x =
 -- an isotope has at most three digits
 pub record IsBracket (x : Bracket) : Type 0 where
   pub short : length x.isotope ≤ 3
-  pub digits : All IsDigit x.isotope
+  pub digits : AllByRecursion IsDigit x.isotope
   pub symbol : IsSymbol x.symbol
   pub chiral : IsChiral x.chiral
   pub hydrogens : AreHydrogens x.symbol x.hydrogens

@@ -1,5 +1,5 @@
 -- What is read from a text, and which fault comes first.
-use Rattle.std.specs.Prelude.{◌≡◌, ◌⊎◌, ℕ, ◌<◌, ◌≤◌, List, length, Option, None, Some, Result, Ok, Err}
+use Rattle.std.specs.Prelude.{◌≡◌, ◌⊎◌, ℕ, ◌<◌, ◌≤◌, List, length, None, Some, Result, Ok, Err}
 use Rattle.chem_core.specs.Drawing.{Drawing}
 use Rattle.chem_core.specs.Graph.{degree}
 use Rattle.chem_core.specs.Sound.{sketch_ends}

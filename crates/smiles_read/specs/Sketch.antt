@@ -1,12 +1,13 @@
 -- The sketch of a tree: atoms numbered as written; bonds as the text completes them, a bond of the chain as its second atom is read, a ring bond as its second number is.
-use Rattle.std.specs.Prelude.{◌≡◌, ℕ, ◌+◌, ◌*◌, Bool, true, false, ◌==◌, ◌||◌, ◌&&◌, if◌then◌else◌, List, [], ◌∷◌, ◌++◌, length, find, filter, not, Option, None, Some, option_and_then, option_map}
-use Rattle.std.specs.List.{list_any, enumerate_from}
+use Rattle.std.specs.Prelude.{ℕ, ◌+◌, ◌*◌, Bool, ◌==◌, ◌||◌, ◌&&◌, if◌then◌else◌, List, [], ◌∷◌, ◌++◌, length, find, filter, not, Option, None, Some, option_and_then, option_map}
+use Rattle.std.specs.List.{list_any}
 use Rattle.chem_core.specs.declared.sketch.SketchAtom.{SketchAtom}
 use Rattle.chem_core.specs.declared.sketch.SketchBond.{SketchBond}
 use Rattle.chem_core.specs.declared.sketch.SketchKind.{SketchKind}
 use Rattle.chem_core.specs.declared.sketch.SketchKind.TheVariants as kinds
 use Rattle.chem_core.specs.Drawing.{Drawing}
-use Rattle.smiles_read.specs.Atom.{AtomText, atom_of}
+use Rattle.smiles_read.specs.declared.pairs.Opening.{Opening}
+use Rattle.smiles_read.specs.Atom.{atom_of}
 use Rattle.smiles_read.specs.Tree.{BondText, minus, equals, hash, dollar, colon, slash, backslash, RingNumber, digit, percent, RingText, Node, Joint, bonded, dotted, Tail, stop, next, branch, Tree}
 
 -- `/` and `\` are single bonds, whose direction is dropped
@@ -55,12 +56,6 @@ placed_from at n (branch joint node inner tail) =
 abbrev pub placed_nodes : Tree → List Placed
 placed_nodes tree = record { node = tree.first; before = None } ∷ placed_from 0 1 tree.tail
 
--- a ring number that is in use: the number, the atom that it stands at, and the bond's kind there
-pub record Opening : Type 0 where
-  pub number : ℕ
-  pub atom : ℕ
-  pub kind : SketchKind
-
 -- the kind of a ring bond by what is written at its ends: either, or both alike
 abbrev pub agreed_kind : SketchKind → SketchKind → Option SketchKind
 agreed_kind kinds.Unwritten kind = Some kind
@@ -94,13 +89,20 @@ closed p opening atom kind =
       bonds = p.bonds ++ record { a = opening.atom; b = atom; kind = k } ∷ [];
     }) (agreed_kind opening.kind kind)
 
+-- a number that is not in use opens
+abbrev pub opened : Pairing → Opening → Pairing
+opened p opening = record p { openings = p.openings ++ opening ∷ [] }
+
 -- a ring number at an atom closes where it is in use, and else opens
-abbrev pub ring_read : ℕ → RingText → Pairing → Option Pairing
-ring_read atom ring p =
-    elim (find (λ o. o.number == number_of ring.number) p.openings) [
-      None ↦ Some (record p { openings = p.openings ++ record { number = number_of ring.number; atom = atom; kind = written_kind ring.bond } ∷ [] })
-    | Some opening ↦ closed p opening atom (written_kind ring.bond)
+abbrev pub number_read : ℕ → ℕ → SketchKind → Pairing → Option Pairing
+number_read atom number kind p =
+    elim (find (λ o. o.number == number) p.openings) [
+      None ↦ Some (opened p (record { number = number; atom = atom; kind = kind }))
+    | Some opening ↦ closed p opening atom kind
     ]
+
+abbrev pub ring_read : ℕ → RingText → Pairing → Option Pairing
+ring_read atom ring p = number_read atom (number_of ring.number) (written_kind ring.bond) p
 
 abbrev pub rings_read : ℕ → List RingText → Pairing → Option Pairing
 rings_read atom [] p = Some p
@@ -111,11 +113,14 @@ abbrev pub chain_bond : ℕ → Option (ℕ × SketchKind) → List SketchBond
 chain_bond atom None = []
 chain_bond atom (Some before) = record { a = before.0; b = atom; kind = before.1 } ∷ []
 
+-- the n-th node: its bond of the chain, and then its ring numbers
+abbrev pub node_read : ℕ → Placed → Pairing → Option Pairing
+node_read n x p = rings_read n x.node.rings (record p { bonds = p.bonds ++ chain_bond n x.before })
+
 -- the nodes in reading order, the first of them the n-th
 abbrev pub nodes_read : ℕ → List Placed → Pairing → Option Pairing
 nodes_read n [] p = Some p
-nodes_read n (x ∷ xs) p =
-    option_and_then (nodes_read (n + 1) xs) (rings_read n x.node.rings (record p { bonds = p.bonds ++ chain_bond n x.before }))
+nodes_read n (x ∷ xs) p = option_and_then (nodes_read (n + 1) xs) (node_read n x p)
 
 -- the atoms, the first of them written as the n-th
 abbrev pub atoms_from : ℕ → List Placed → List SketchAtom

@@ -1,5 +1,5 @@
 -- The grammar of SMILES (OpenSMILES 1.0, section 4): a text is a SMILES exactly where some tree that is one is spelled so.
-use Rattle.std.specs.Prelude.{◌≡◌, ℕ, ◌+◌, ◌<◌, ◌≤◌, max, Bool, true, false, List, [], ◌∷◌, ◌++◌, Option, None, Some}
+use Rattle.std.specs.Prelude.{◌≡◌, ℕ, ◌+◌, ◌≤◌, max, List, [], ◌∷◌, ◌++◌, Option, None, Some}
 use Rattle.std.specs.List.{flat_map, AllByRecursion}
 use Rattle.smiles_read.specs.Atom.{AtomText, atom_text, IsAtomText}
 

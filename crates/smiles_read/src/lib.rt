@@ -1,17 +1,19 @@
+//! SMILES, read into sketches (OpenSMILES 1.0; Daylight Theory Manual, chapter SMILES).
 #![tactic(auto)]
-ghost use Rattle.std.specs.Prelude.{◌≡◌, ◌≤◌, IfOk, All};
-ghost use Rattle.chem_core.specs.Sound.{IsSound};
-ghost use Rattle.smiles_read.specs.Reading.{IsReading};
 
+mod atom;
+mod bond;
+mod bracket;
+mod digit;
 mod fault;
-pub use fault::SmilesFault;
-use chem_core::Sketch;
-use std::alloc::Global;
+mod limits;
+mod pairs;
+mod read;
+mod reader;
+mod symbol;
 
-pub fn read_smiles(_alloc: Global, text: &[u8]) -> Result<Sketch, SmilesFault>
-    ensures reading { IsReading text.now result }
-    ensures sound { IfOk result (λ s. IsSound s) }
-    ensures few_hydrogens { IfOk result (λ s. All (λ a. a.hydrogens ≤ 9) s.atoms) }
-{
-    Err(SmilesFault::NoMemory)
-}
+pub use fault::SmilesFault;
+pub use read::read_smiles;
+
+#[cfg(test)]
+mod tests;

@@ -1,0 +1,64 @@
+-- What every atom keeps that is read.
+use Rattle.std.proofs.Common.{ℕ, ◌≤◌, List, [], ◌∷◌, length, arith}
+use Rattle.std.proofs.lemmas.Int.{ints}
+use Rattle.std.specs.Prelude.{ℤ, pos, neg_ℤ, ◌≤ℤ◌}
+use Rattle.std.specs.List.{AllByRecursion}
+use Rattle.chem_core.specs.Organic.{Organic, boron, carbon, nitrogen, oxygen, phosphorus, sulfur, fluorine, chlorine, bromine, iodine, atomic_number}
+use Rattle.chem_core.specs.Sound.{IsSketchAtom}
+use Rattle.smiles_read.specs.Atom.{IsDigit, value_of, Lower, small_b, small_c, small_n, small_o, small_p, small_s, small_se, small_as, lower_number, Symbol, element, lower, symbol_number, IsSymbol, Sign, plus, minus, signed, Charge, neutral, run, amount, charge_value, IsCharge, AtomText, star, organic, aromatic, bracket, IsAtomText, atom_of}
+use Rattle.smiles_read.proofs.Pieces.{few_hydrogens}
+
+small_organic : (x : Organic) → atomic_number x ≤ 103
+small_organic boron = omega arith
+small_organic carbon = omega arith
+small_organic nitrogen = omega arith
+small_organic oxygen = omega arith
+small_organic phosphorus = omega arith
+small_organic sulfur = omega arith
+small_organic fluorine = omega arith
+small_organic chlorine = omega arith
+small_organic bromine = omega arith
+small_organic iodine = omega arith
+
+small_lower : (l : Lower) → lower_number l ≤ 103
+small_lower small_b = omega arith
+small_lower small_c = omega arith
+small_lower small_n = omega arith
+small_lower small_o = omega arith
+small_lower small_p = omega arith
+small_lower small_s = omega arith
+small_lower small_se = omega arith
+small_lower small_as = omega arith
+
+small_symbol : (s : Symbol) → IsSymbol s → symbol_number s ≤ 103
+small_symbol (element n) is = is
+small_symbol (lower l) is = small_lower l
+
+small_isotope : (ds : List ℕ) → length ds ≤ 3 → AllByRecursion IsDigit ds → value_of ds ≤ 999
+small_isotope [] l h = omega arith
+small_isotope (a ∷ []) l h = let u = h.0.1 in omega arith
+small_isotope (a ∷ b ∷ []) l h = let u = h.0.1 in let v = h.1.0.1 in omega arith
+small_isotope (a ∷ b ∷ c ∷ []) l h = let u = h.0.1 in let v = h.1.0.1 in let w = h.1.1.0.1 in omega arith
+small_isotope (a ∷ b ∷ c ∷ d ∷ ds) l h = absurd (omega arith)
+
+record IsSmall (z : ℤ) : Type 0 where
+  low : neg_ℤ (pos 15) ≤ℤ z
+  high : z ≤ℤ pos 15
+
+small_signed : (s : Sign) (n : ℕ) → n ≤ 15 → IsSmall (signed s n)
+small_signed plus n le = record { low = omega (arith, ints); high = omega (arith, ints) }
+small_signed minus n le = record { low = omega (arith, ints); high = omega (arith, ints) }
+
+small_charge : (x : Charge) → IsCharge x → IsSmall (charge_value x)
+small_charge neutral is = record { low = omega (arith, ints); high = omega (arith, ints) }
+small_charge (run s n) is = small_signed s n is.1
+small_charge (amount s ds) is = small_signed s (value_of ds) is.3
+
+pub atom_sound : (x : AtomText) (i : ℕ) → IsAtomText x → IsSketchAtom (atom_of i x) × ((atom_of i x).hydrogens ≤ 9)
+atom_sound star i is = (record { number = omega arith; isotope = omega arith; lowest_charge = omega (arith, ints); highest_charge = omega (arith, ints); fill = tt; hydrogens = omega arith }, omega arith)
+atom_sound (organic x) i is = (record { number = small_organic x; isotope = omega arith; lowest_charge = omega (arith, ints); highest_charge = omega (arith, ints); fill = tt; hydrogens = omega arith }, omega arith)
+atom_sound (aromatic x) i is = (record { number = small_lower x; isotope = omega arith; lowest_charge = omega (arith, ints); highest_charge = omega (arith, ints); fill = tt; hydrogens = omega arith }, omega arith)
+atom_sound (bracket x) i is =
+    let z = small_charge x.charge is.charge in
+    let h = few_hydrogens x.symbol x.hydrogens is.hydrogens in
+    (record { number = small_symbol x.symbol is.symbol; isotope = small_isotope x.isotope is.short is.digits; lowest_charge = z.low; highest_charge = z.high; fill = tt; hydrogens = omega arith }, h)

@@ -1,0 +1,12 @@
+pub mod Answer
+pub mod AtomSound
+pub mod Follow
+pub mod Pairing
+pub mod Pieces
+pub mod Counts
+pub mod Digits
+pub mod Reading
+pub mod Results
+pub mod Shape
+pub mod Symbols
+pub mod Tokens

@@ -1,0 +1,28 @@
+use mir.Syntax.{w8}
+use mir.Val.{to_z, of_z}
+use lib.IntN.{pos, neg_ℤ, ◌-ℤ◌}
+use Rattle.std.proofs.Common.{ℕ, ◌≤◌, ◌≡◌, ◌-◌, ◌∷◌, ◌∙◌, length, take, drop, refl, arith}
+use Rattle.std.proofs.lemmas.Grind.{common_steps}
+use Rattle.std.proofs.lemmas.Int.{to_z_pos, ints}
+use Rattle.smiles_read.specs.Atom.{plus, minus}
+use Rattle.smiles_read.proofs.bracket.charge_at.Goals as goal
+
+plus_value : (n : ℕ) → n ≤ 15 → to_z w8 n ≡ pos n
+plus_value n le = to_z_pos w8 n (omega arith)
+
+minus_value : (n : ℕ) → n ≤ 15 → to_z w8 (of_z w8 (pos 0 -ℤ to_z w8 n)) ≡ neg_ℤ (pos n)
+minus_value n le = omega (arith, ints)
+
+pub returns-in_ok-amount-in-43-clause-found : goal.returns-in_ok-amount-in-43-clause-found
+returns-in_ok-amount-in-43-clause-found c =
+    let bytes = c.args.bytes.now in
+    let f = c.in_ok-amount-in-43.ensures.found plus refl in
+    let front : bytes ≡ 43 ∷ take (length bytes - 1) (drop 1 bytes) = grind (arith, common_steps) in
+    (f.0, f.1, front ∙ f.2, plus_value c.in_ok-amount-in-43.amount c.in_ok-amount-in-43.ensures.few ∙ f.3)
+
+pub returns-in_ok-amount-in-45-clause-found : goal.returns-in_ok-amount-in-45-clause-found
+returns-in_ok-amount-in-45-clause-found c =
+    let bytes = c.args.bytes.now in
+    let f = c.in_ok-amount-in-45.ensures.found minus refl in
+    let front : bytes ≡ 45 ∷ take (length bytes - 1) (drop 1 bytes) = grind (arith, common_steps) in
+    (f.0, f.1, front ∙ f.2, minus_value c.in_ok-amount-in-45.amount c.in_ok-amount-in-45.ensures.few ∙ f.3)

@@ -1,0 +1,48 @@
+use Rattle.std.proofs.Common.{◌+◌, set, refl, arith}
+use Rattle.std.proofs.lemmas.List.{length-set}
+use Rattle.chem_core.specs.declared.sketch.SketchBond.{SketchBond}
+use Rattle.chem_core.specs.declared.sketch.SketchKind.TheVariants.{Unwritten}
+use Rattle.smiles_read.proofs.Counts.{counted_more, few_more, few_all, too_many, ends_within}
+use Rattle.smiles_read.proofs.limits.are_few_neighbours.Goals as goal
+use Rattle.smiles_read.proofs.limits.are_few_neighbours.Goals.{then-index-gt12-via-then-index-gt12, then-index-gt12-via-else-index-gt12+then-index-gt12-2}
+
+abbrev other : SketchBond
+other = record { a = 0; b = 0; kind = Unwritten }
+
+pub returns-then-index-gt12 : goal.returns-then-index-gt12
+returns-then-index-gt12 c =
+    let cs = c.loop-bond.counts.items in
+    let x = c.index_mut.result.now in
+    let y = c.index_mut-in-loop-bond.result.now in
+    let p = c.from-first.result in
+    let q = c.from-second.result in
+    let room = c.loop-bond.invariant.room in
+    let l1 = length-set cs p (x + 1) in
+    let l2 = length-set (set cs p (x + 1)) q (y + 1) in
+    let in' = ends_within c.args.atoms c.args.bonds.now c.loop-bond.bond-index other p q c.requires c.loop-bond-test.true c.from-first.ensures c.from-second.ensures in
+    let counted = counted_more c.args.atoms c.args.bonds.now cs c.loop-bond.bond-index other p q x y c.requires c.loop-bond-test.true room c.loop-bond.invariant.counted c.from-first.ensures c.from-second.ensures c.index_mut.ensures.value c.index_mut-in-loop-bond.ensures.value in
+    (λ e. absurd (cc), λ all. absurd (elim c.then-index-gt12.branch [
+      then-index-gt12-via-then-index-gt12 w ↦ too_many c.args.atoms c.args.bonds.now (set (set cs p (x + 1)) q (y + 1)) (c.loop-bond.bond-index + 1) p c.index.result.now (omega arith) counted in'.0 c.index.ensures w.if-index-gt12.true all
+    | then-index-gt12-via-else-index-gt12+then-index-gt12-2 w ↦ too_many c.args.atoms c.args.bonds.now (set (set cs p (x + 1)) q (y + 1)) (c.loop-bond.bond-index + 1) q w.index-else-index-gt12.result.now (omega arith) counted in'.1 w.index-else-index-gt12.ensures w.if-index-gt12-2.true all
+    ]))
+
+pub loop-bond-preserved : goal.loop-bond-preserved
+loop-bond-preserved c =
+    let cs = c.loop-bond.counts.items in
+    let x = c.index_mut.result.now in
+    let y = c.index_mut-in-loop-bond.result.now in
+    let p = c.from-first.result in
+    let q = c.from-second.result in
+    let room = c.loop-bond.invariant.room in
+    let l1 = length-set cs p (x + 1) in
+    let l2 = length-set (set cs p (x + 1)) q (y + 1) in
+    let in' = ends_within c.args.atoms c.args.bonds.now c.loop-bond.bond-index other p q c.requires c.loop-bond-test.true c.from-first.ensures c.from-second.ensures in
+    record {
+      room = omega arith;
+      counted = counted_more c.args.atoms c.args.bonds.now cs c.loop-bond.bond-index other p q x y c.requires c.loop-bond-test.true room c.loop-bond.invariant.counted c.from-first.ensures c.from-second.ensures c.index_mut.ensures.value c.index_mut-in-loop-bond.ensures.value;
+      few = few_more cs c.args.atoms p q (x + 1) (y + 1) c.index.result.now c.index-else-index-gt12.result.now room in'.0 in'.1 c.index.ensures c.if-index-gt12.false c.index-else-index-gt12.ensures c.if-index-gt12-2.false c.loop-bond.invariant.few;
+    }
+
+pub returns : goal.returns
+returns c =
+    (λ e. few_all c.args.atoms c.args.bonds.now c.loop-bond.counts.items c.loop-bond.bond-index c.requires (omega arith) c.loop-bond.invariant.counted c.loop-bond.invariant.few, λ all. refl)
