@@ -12,9 +12,7 @@ use Rattle.smarts_parse.specs.Pattern.{PatternTerm}
 use Rattle.smarts_parse.specs.Embedding.{Matches}
 use Rattle.chem_shell.specs.History.{History, Live, head}
 use Rattle.chem_shell.specs.Hits.{AreHits, IsHit}
-use Rattle.chem_shell.specs.Meaning.{IsStructureOf, molecule_of}
-use Rattle.chem_shell.specs.SmilesChain.{chain_sketch}
-use Rattle.chem_shell.proofs.SmilesLemmas.{same_chain}
+use Rattle.mol_finish.specs.Structure.{IsStructureOf}
 use Rattle.chem_shell.specs.Selects.{Selects}
 use Rattle.chem_shell.specs.Store.{IsLiveNow}
 
@@ -101,8 +99,8 @@ module _ {X : Type 0} (P : X → Type 0) where
       ⊎_elim (λ q. absurd (s.0 (subst P (sym (ap (λ y. y.1) q)) p))) (λ q. Selects-all es ids id x s.1 q p) (contains_cons e es (id, x) c)
 
 -- a text has one structure
-one_structure : (text : List ℕ) (a b : Molecule) → IsStructureOf text a → IsStructureOf text b → a ≡ b
-one_structure text a b p q = p.2 ∙ (ap (λ chain. molecule_of (chain_sketch chain)) (same_chain p.0 q.0 (sym p.1 ∙ q.1)) ∙ sym q.2)
+abbrev OneStructure : Type 0
+OneStructure = (text : List ℕ) (a b : Molecule) → IsStructureOf text a → IsStructureOf text b → a ≡ b
 
 -- what is live at an identifier, and its structure
 live_at : (h : History) (id : ℕ) (found : Option Molecule) (m : Molecule) → MatchOption found (head h id ≡ None) (λ n. (l : Live) × (head h id ≡ Some l) × IsStructureOf l.text n) → found ≡ Some m → (l : Live) × (head h id ≡ Some l) × IsStructureOf l.text m
@@ -110,21 +108,21 @@ live_at h id None m w e = cc
 live_at h id (Some n) m w e = let q : n ≡ m = cc in subst (λ x. (l : Live) × (head h id ≡ Some l) × IsStructureOf l.text x) q w
 
 -- the structure that is kept of a live identifier
-kept_at : (h : History) (id : ℕ) (l : Live) (found : Option Molecule) (m : Molecule) → MatchOption found (head h id ≡ None) (λ n. (k : Live) × (head h id ≡ Some k) × IsStructureOf k.text n) → head h id ≡ Some l → IsStructureOf l.text m → found ≡ Some m
-kept_at h id l None m w e s = cc
-kept_at h id l (Some n) m w e s =
+kept_at : OneStructure → (h : History) (id : ℕ) (l : Live) (found : Option Molecule) (m : Molecule) → MatchOption found (head h id ≡ None) (λ n. (k : Live) × (head h id ≡ Some k) × IsStructureOf k.text n) → head h id ≡ Some l → IsStructureOf l.text m → found ≡ Some m
+kept_at one h id l None m w e s = cc
+kept_at one h id l (Some n) m w e s =
     let q : w.0 ≡ l = cc in
-    ap Some (one_structure l.text n m (subst (λ (k : Live). IsStructureOf k.text n) q w.2) s)
+    ap Some (one l.text n m (subst (λ (k : Live). IsStructureOf k.text n) q w.2) s)
 
 -- the identifiers that are selected are the hits
-pub hits_from_selected : (h : History) (live : BTreeMap ℕ Molecule) (p : PatternTerm) (ids : List ℕ) → IsOrdered nat_cmp live → IsLiveNow h live → Selects (Matches p) live.entries ids → AreHits h (length h) p ids
-hits_from_selected h live p ids ordered now s = record {
+pub hits_from_selected : OneStructure → (h : History) (live : BTreeMap ℕ Molecule) (p : PatternTerm) (ids : List ℕ) → IsOrdered nat_cmp live → IsLiveNow h live → Selects (Matches p) live.entries ids → AreHits h (length h) p ids
+hits_from_selected one h live p ids ordered now s = record {
   ascending = increasing ids (Selects-ascends (Matches p) live.entries ids (ascends (map (λ e. e.0) live.entries) (IsStrictlyIncreasing-from_sorted (map (λ e. e.0) live.entries) ordered)) s);
   only = λ id c.
       let w = Selects-only (Matches p) live.entries ids id s c in
       let l = live_at h id (get nat_cmp live id) w.0 (now.each id) ((btree_map_get_iff nat_cmp_total exact_unsigned live ordered id w.0).1 w.1) in
       (l.0, l.1, w.0, l.2, w.2);
   all = λ id hit.
-      let e = kept_at h id hit.0 (get nat_cmp live id) hit.2 (now.each id) hit.1 hit.3 in
+      let e = kept_at one h id hit.0 (get nat_cmp live id) hit.2 (now.each id) hit.1 hit.3 in
       Selects-all (Matches p) live.entries ids id hit.2 s ((btree_map_get_iff nat_cmp_total exact_unsigned live ordered id hit.2).0 e) hit.4;
 }

@@ -1,15 +1,18 @@
 -- What a command is answered at a history, and the history after it. No other reply is given.
-use Rattle.std.specs.Prelude.{◌≡◌, ◌≢◌, ◌⊎◌, ℕ, ◌+◌, ◌<◌, ◌≤◌, List, [], ◌∷◌, ◌++◌, length, map, None}
+use Rattle.std.specs.Prelude.{◌≡◌, ◌≢◌, ◌⊎◌, ℕ, ◌+◌, ◌<◌, ◌≤◌, List, [], ◌∷◌, ◌++◌, length, map, None, Err}
 use Rattle.chem_core.specs.Molecule.{Molecule}
 use Rattle.smarts_parse.specs.Pattern.{PatternTerm}
 use Rattle.smarts_parse.specs.Chain as smarts
 use Rattle.chem_shell.specs.declared.reply.Reply.{Reply}
 use Rattle.chem_shell.specs.declared.reply.Reply.TheVariants.{Accepted, Hit, End, Refused}
-use Rattle.chem_shell.specs.declared.reply.Refusal.TheVariants.{SmilesSyntax, SmartsSyntax, Known, Full}
+use Rattle.chem_shell.specs.declared.reply.Refusal.TheVariants.{NotYet, SmilesSyntax, SmilesRing, SmilesLimit, SmartsSyntax, Known, Full}
 use Rattle.chem_shell.specs.History as history
 use Rattle.chem_shell.specs.History.{History, head, most_commits}
 use Rattle.chem_shell.specs.Hits.{AreHits}
-use Rattle.mol_finish.specs.Structure.{IsStructureOf}
+use Rattle.smiles_read.specs.declared.fault.SmilesFault.TheVariants as smiles
+use Rattle.mol_finish.specs.declared.fault.TextFault.TheVariants as text_fault
+use Rattle.mol_finish.specs.declared.fault.TextFault.TheVariants.{Smiles}
+use Rattle.mol_finish.specs.Structure.{IsStructureOf, IsStructure}
 use Rattle.chem_shell.specs.Command.{Command, Empty, Register, Search}
 
 -- the text is a SMILES of some molecule
@@ -20,9 +23,12 @@ HasStructure text = (m : Molecule) × IsStructureOf text m
 abbrev pub IsPatternOf : List ℕ → PatternTerm → Type 0
 IsPatternOf text p = (chain : smarts.Chain) × (text ≡ smarts.spelling chain) × (p ≡ smarts.chain_pattern chain)
 
--- the reply to `register`: the structure is looked at first, then the identifier, then the number of commits
+-- the reply to `register`: the structure is looked at first, and has the fault that comes first; then the identifier, then the number of commits
 abbrev pub RegisterAnswer : History → ℕ → List ℕ → Reply → History → Type 0
-RegisterAnswer h id text (Refused SmilesSyntax) h' = ¬ HasStructure text × (h' ≡ h)
+RegisterAnswer h id text (Refused SmilesSyntax) h' = IsStructure text (Err (Smiles smiles.Syntax)) × (h' ≡ h)
+RegisterAnswer h id text (Refused SmilesRing) h' = IsStructure text (Err (Smiles smiles.Ring)) × (h' ≡ h)
+RegisterAnswer h id text (Refused SmilesLimit) h' = IsStructure text (Err (Smiles smiles.Limit)) × (h' ≡ h)
+RegisterAnswer h id text (Refused NotYet) h' = IsStructure text (Err text_fault.NotYet) × (h' ≡ h)
 RegisterAnswer h id text (Refused Known) h' = HasStructure text × (head h id ≢ None) × (h' ≡ h)
 RegisterAnswer h id text (Refused Full) h' = HasStructure text × (head h id ≡ None) × (most_commits ≤ length h) × (h' ≡ h)
 RegisterAnswer h id text (Accepted version) h' =

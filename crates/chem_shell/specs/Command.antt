@@ -14,7 +14,7 @@ IsIdentifier id = (1 ≤ id) × (id ≤ 999999999)
 -- the line is this command, written out
 abbrev pub Spells : List ℕ → Command → Type 0
 Spells line Empty = line ≡ []
-Spells line (Register id text) = (line ≡ codes "register " ++ decimal id ++ 32 ∷ text) × IsIdentifier id × IsShortText text
+Spells line (Register id text) = (line ≡ codes "register " ++ decimal id ++ 32 ∷ text) × IsIdentifier id
 Spells line (Search text) = (line ≡ codes "search " ++ text) × IsShortText text
 
 -- the line is no command of today

@@ -12,20 +12,24 @@ ghost use Rattle.chem_shell.specs.Answered.{AnswersLine};
 use crate::command::{Command, read_command};
 use crate::matching::Scratch;
 use crate::reply::{Refusal, Reply};
-use crate::smiles::{self, SmilesFault};
 use crate::store::{CommitFault, Store};
+use mol_finish::{Format, TextFault, structure};
 use smarts_parse::SmartsFault;
+use smiles_read::SmilesFault;
 use std::alloc::{AllocError, Global};
 
 /// Registers the structure of a text under an identifier, or says why not.
 pub fn register(alloc: Global, store: &mut Store, id: u32, text: &[u8]) -> Result<Reply, AllocError>
-    requires { IsShortText text.now }
     ensures { IfOk result (λ reply. RegisterAnswer store.old id text.now reply store.new) }
 {
-    let mol = match smiles::structure(alloc, text) {
+    let mol = match structure(alloc, Format::Smiles, text) {
         Ok(mol) => mol,
-        Err(SmilesFault::Syntax) => return Ok(Reply::Refused(Refusal::SmilesSyntax)),
-        Err(SmilesFault::NoMemory) => return Err(AllocError),
+        Err(TextFault::Smiles(SmilesFault::Syntax)) => return Ok(Reply::Refused(Refusal::SmilesSyntax)),
+        Err(TextFault::Smiles(SmilesFault::Ring)) => return Ok(Reply::Refused(Refusal::SmilesRing)),
+        Err(TextFault::Smiles(SmilesFault::Limit)) => return Ok(Reply::Refused(Refusal::SmilesLimit)),
+        Err(TextFault::Smiles(_)) => unreachable!(),
+        Err(TextFault::NotYet) => return Ok(Reply::Refused(Refusal::NotYet)),
+        Err(TextFault::NoMemory) => return Err(AllocError),
     };
     match store.register(alloc, id, text, mol) {
         Ok(version) => Ok(Reply::Accepted { version }),

@@ -45,20 +45,15 @@ fn identifier(bytes: &[u8]) -> Option<u32>
 
 /// The identifier and the text of a registration, of what follows its first word and space.
 fn registration(rest: &[u8]) -> Option<(u32, &[u8])>
-    ensures some { IfSome result (λ parts. (rest.now ≡ decimal parts.0 ++ 32 ∷ parts.1.now) × IsIdentifier parts.0 × IsShortText parts.1.now) }
-    ensures none { IfNone result ((id : ℕ) (text : List ℕ) → rest.now ≡ decimal id ++ 32 ∷ text → IsIdentifier id → ¬ IsShortText text) }
+    ensures some { IfSome result (λ parts. (rest.now ≡ decimal parts.0 ++ 32 ∷ parts.1.now) × IsIdentifier parts.0) }
+    ensures none { IfNone result ((id : ℕ) (text : List ℕ) → rest.now ≡ decimal id ++ 32 ∷ text → ¬ IsIdentifier id) }
 {
     let (digits, text) = split_at_space(rest)?;
-    let id = identifier(digits)?;
-    if is_short(text) {
-        Some((id, text))
-    } else {
-        None
-    }
+    Some((identifier(digits)?, text))
 }
 
-/// Reads a line, without its end. Parts are separated by exactly one space, and a text has 1 to 32 bytes, each of them one of
-/// `BCNOPSFIlr-=#`. `None` where the line is no form that is answered today.
+/// Reads a line, without its end. Parts are separated by exactly one space. A SMILES may be any bytes; a SMARTS has 1 to 32, each of
+/// them one of `BCNOPSFIlr-=#`. `None` where the line is no form that is answered today.
 pub fn read_command(line: &[u8]) -> Option<Command<'_>>
     ensures some { IfSome result (λ command. Spells line.now (command_of command)) }
     ensures none { IfNone result (IsUnread line.now) }

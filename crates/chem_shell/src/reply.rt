@@ -10,10 +10,14 @@ use std::alloc::AllocError;
 pub enum Refusal {
     /// The line exceeds 65,536 bytes.
     Long,
-    /// The line is no form that is answered today.
+    /// The line is no form that is answered today, or its SMILES is one of a structure that is not taken today.
     NotYet,
     /// The text is no SMILES.
     SmilesSyntax,
+    /// A ring number of the SMILES stays open, its two bond symbols disagree, or it joins no two atoms that it may join.
+    SmilesRing,
+    /// The SMILES has more than 65,536 bytes, 256 branches open at once, 999 atoms, 999 bonds, or 12 neighbours of an atom.
+    SmilesLimit,
     /// The text is no SMARTS.
     SmartsSyntax,
     /// The identifier was registered before.
@@ -33,6 +37,8 @@ impl Refusal {
             Refusal::Long => "long",
             Refusal::NotYet => "notyet",
             Refusal::SmilesSyntax => "smiles syntax",
+            Refusal::SmilesRing => "smiles ring",
+            Refusal::SmilesLimit => "smiles limit",
             Refusal::SmartsSyntax => "smarts syntax",
             Refusal::Known => "known",
             Refusal::Full => "full",

@@ -13,6 +13,7 @@ ghost use Rattle.chem_shell.specs.Selects.{Selects};
 
 use crate::matching::{Scratch, has};
 use chem_core::Mol;
+use mol_finish::one_structure;
 use smarts_parse::Pattern;
 use std::alloc::{AllocError, AllocFailed, Global};
 use std::collections::BTreeMap;
@@ -121,6 +122,7 @@ impl Store {
         ensures hits { IfOk result (λ ids. AreHits self.now (length self.now) (pattern_of pattern.now) ids.items) }
         ensures few { IfOk result (λ ids. length ids.items ≤ most_commits) }
     {
+        one_structure();
         let ids = matching_identifiers(alloc, &self.live, pattern, scratch)?;
         Ok(ids)
     }

@@ -7,4 +7,4 @@ mod plain;
 mod text;
 
 pub use fault::{Format, TextFault};
-pub use text::structure;
+pub use text::{one_structure, structure};

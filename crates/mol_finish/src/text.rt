@@ -1,12 +1,13 @@
 //! The structure of a text, stage by stage.
-ghost use Rattle.std.specs.Prelude.{◌≡◌, Err};
-ghost use Rattle.mol_finish.specs.Structure.{IsStructure};
+ghost use Rattle.std.specs.Prelude.{◌≡◌, ℕ, List, Err};
+ghost use Rattle.chem_core.specs.Molecule.{Molecule};
+ghost use Rattle.mol_finish.specs.Structure.{IsStructureOf, IsStructure};
 
 use crate::fault::{Format, TextFault};
 use crate::finish::finish;
 use crate::plain::is_plain;
 use chem_core::Mol;
-use smiles_read::read_smiles;
+use smiles_read::{one_tree, read_smiles};
 use std::alloc::Global;
 use valence::{fill_hydrogens, suppress};
 
@@ -33,4 +34,11 @@ fn of_smiles(alloc: Global, text: &[u8]) -> Result<Mol, TextFault>
     fill_hydrogens(&mut sketch);
     suppress(&mut sketch);
     Ok(finish(alloc, &sketch)?)
+}
+
+/// A text has at most one structure.
+pub fn one_structure()
+    ensures { (text : List ℕ) (m n : Molecule) → IsStructureOf text m → IsStructureOf text n → m ≡ n }
+{
+    one_tree();
 }

@@ -5,9 +5,8 @@ ghost use Rattle.smarts_parse.specs.Sound.{IsSoundPattern};
 ghost use Rattle.chem_shell.specs.Flat.{IsFlat};
 
 use crate::matching::{Scratch, has};
-use crate::smiles::structure;
-use crate::smiles::tests::is_short_text;
-use smarts_parse::{Pattern, SmartsFault, parse};
+use mol_finish::{Format, structure};
+use smarts_parse::{Pattern, SmartsFault, is_short, parse};
 use std::alloc::Global;
 
 // A pattern of today, which is flat.
@@ -40,10 +39,9 @@ fn patterns_embed(rt: HostRuntime) {
         ("CCCCCCCC", "CCCCOCCCC", false),
     ];
     for (pattern, molecule, want) in table {
-        assert!(rt; is_short_text(pattern.as_bytes()));
-        assert!(rt; is_short_text(molecule.as_bytes()));
+        assert!(rt; is_short(pattern.as_bytes()));
         let read = flat_pattern(alloc, pattern.as_bytes()).expect(&rt, "a pattern");
-        let mol = structure(alloc, molecule.as_bytes()).expect(&rt, "a molecule");
+        let mol = structure(alloc, Format::Smiles, molecule.as_bytes()).expect(&rt, "a molecule");
         assert_eq!(rt;
             has(&read, &mol, &mut scratch),
             want,

@@ -9,7 +9,7 @@ use Rattle.chem_shell.proofs.store.Store.hits.Goals as goal
 pub returns-clause-hits : goal.returns-clause-hits
 returns-clause-hits c =
     rw (← c.self.view_is)
-    (hits_from_selected (map change_of c.self.inside.commits.items) c.self.inside.live (pattern_of c.args.pattern.now) c.in_ok-ids.ids.items c.in_ok-ids.ensures.ordered c.self.invariant c.in_ok-ids.ensures.selects)
+    (hits_from_selected c.one_structure.ensures (map change_of c.self.inside.commits.items) c.self.inside.live (pattern_of c.args.pattern.now) c.in_ok-ids.ids.items c.in_ok-ids.ensures.ordered c.self.invariant c.in_ok-ids.ensures.selects)
 
 pub returns-clause-few : goal.returns-clause-few
 returns-clause-few c =
