@@ -108,10 +108,10 @@ count-le goes place a x (b ∷ bs) h =
 -- ---- no two bonds between the same atoms
 
 -- the bonds join the same atoms
-abbrev SameEnds : SketchBond → SketchBond → Type 0
+abbrev pub SameEnds : SketchBond → SketchBond → Type 0
 SameEnds b c = ((b.a ≡ c.a) × (b.b ≡ c.b)) ⊎ ((b.a ≡ c.b) × (b.b ≡ c.a))
 
-abbrev Apart : SketchBond → SketchBond → Type 0
+abbrev pub Apart : SketchBond → SketchBond → Type 0
 Apart b c = SameEnds b c → ⊥
 
 ends-read : (bonds : List SketchBond) (i : ℕ) (d : SketchBond) → i < length bonds → slice_get (ends_of bonds) i ≡ Some ((get_or bonds i d).a, (get_or bonds i d).b)

@@ -8,3 +8,6 @@ mod table;
 
 pub use fill::fill_hydrogens;
 pub use suppression::suppress;
+
+#[cfg(test)]
+mod tests;
