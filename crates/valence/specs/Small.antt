@@ -5,7 +5,6 @@ use Rattle.chem_core.specs.declared.sketch.SketchAtom.{SketchAtom}
 use Rattle.chem_core.specs.declared.sketch.SketchBond.{SketchBond}
 use Rattle.chem_core.specs.declared.sketch.Fill.{Fill}
 use Rattle.chem_core.specs.declared.sketch.Fill.TheVariants.{Given, Organic, Table, Fixed}
-use Rattle.chem_core.specs.Drawing.{Drawing}
 
 -- -15 to 15
 abbrev pub is_small_charge : ℤ → Bool

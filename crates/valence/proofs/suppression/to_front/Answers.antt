@@ -1,6 +1,4 @@
-use Rattle.std.proofs.Common.{◌≡◌, ◌∙◌, length, take, ap, sym, subst}
-use Rattle.std.proofs.lemmas.List.{take_all}
-use Rattle.valence.proofs.Kept.{StaysInFront, front-kept, front-gone, gain-fits}
+use Rattle.valence.proofs.Kept.{front-kept, front-gone, gain-fits}
 use Rattle.valence.proofs.suppression.to_front.Goals as goal
 use Rattle.valence.proofs.suppression.to_front.Goals.{then-not-gone, else-not-gone}
 

@@ -1,8 +1,5 @@
-use Rattle.std.proofs.Common.{◌≡◌, List, arith, subst, sym}
+use Rattle.std.proofs.Common.{◌≡◌, arith, subst, sym}
 use Rattle.std.proofs.lemmas.Grind.{common_steps}
-use Rattle.chem_core.specs.declared.sketch.SketchAtom.{SketchAtom}
-use Rattle.chem_core.specs.declared.sketch.SketchBond.{SketchBond}
-use Rattle.chem_core.specs.Drawing.{Drawing}
 use Rattle.chem_core.specs.Sound.{IsSound}
 use Rattle.valence.proofs.Examples.{small-sound}
 use Rattle.valence.proofs.Staying.{same_drawing}
