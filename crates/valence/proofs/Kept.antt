@@ -20,7 +20,7 @@ same-at xs ys i d e =
 rest-more : {X : Type 0} (xs ys : List X) (i : ℕ) → drop i ys ≡ drop i xs → drop (i + 1) ys ≡ drop (i + 1) xs
 rest-more xs ys i e = sym (drop-drop 1 i ys) ∙ ap (drop 1) e ∙ drop-drop 1 i xs
 
-staying-more : (goes : ℕ → Bool) (gain : ℕ → ℕ) (xs : List SketchAtom) (i : ℕ) (d : SketchAtom) → i < length xs → staying_atoms goes gain (take (i + 1) xs) ≡ staying_atoms goes gain (take i xs) ++ cond (not (goes i)) (record (get_or xs i d) { hydrogens = (get_or xs i d).hydrogens + gain i } ∷ []) []
+pub staying-more : (goes : ℕ → Bool) (gain : ℕ → ℕ) (xs : List SketchAtom) (i : ℕ) (d : SketchAtom) → i < length xs → staying_atoms goes gain (take (i + 1) xs) ≡ staying_atoms goes gain (take i xs) ++ cond (not (goes i)) (record (get_or xs i d) { hydrogens = (get_or xs i d).hydrogens + gain i } ∷ []) []
 staying-more goes gain xs i d h =
     let p : ℕ × SketchAtom → Bool = λ p. not (goes p.0) in
     let f : ℕ × SketchAtom → SketchAtom = λ p. record p.1 { hydrogens = p.1.hydrogens + gain p.0 } in

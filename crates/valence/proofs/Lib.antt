@@ -6,3 +6,4 @@ pub mod Renumbering
 pub mod Kept
 pub mod Staying
 pub mod Examples
+pub mod Law

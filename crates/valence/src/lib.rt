@@ -2,11 +2,13 @@
 #![tactic(auto)]
 
 mod fill;
+mod laws;
 mod places;
 mod suppression;
 mod table;
 
 pub use fill::fill_hydrogens;
+pub use laws::{order_stays, twice_is_once};
 pub use suppression::suppress;
 
 #[cfg(test)]
