@@ -73,7 +73,7 @@ leads-more atoms xs bonds i p q d e h inx iny ina inb apart isp isq before a =
     let isp' : p ≡ (k && is_heavy atoms b.b) = isp ∙ ap (λ t. k && t) (sym (atom_is-at (λ x. not (eqb x.number 1)) atoms b.b e inb)) in
     let isq' : q ≡ (k && is_heavy atoms b.a) = isq ∙ ap (λ t. k && t) (sym (atom_is-at (λ x. not (eqb x.number 1)) atoms b.a e ina)) in
     let new : ((eqb b.a a && p) || (eqb b.b a && q)) ≡ leads_to_heavy atoms a b =
-      ap (λ t. (eqb b.a a && t) || (eqb b.b a && q)) isp' ∙ ap (λ t. (eqb b.a a && (k && is_heavy atoms b.b)) || (eqb b.b a && t)) isq' ∙ spread k (eqb b.a a) (eqb b.b a) (is_heavy atoms b.b) (is_heavy atoms b.a) in
+    ap (λ t. (eqb b.a a && t) || (eqb b.b a && q)) isp' ∙ ap (λ t. (eqb b.a a && (k && is_heavy atoms b.b)) || (eqb b.b a && t)) isq' ∙ spread k (eqb b.a a) (eqb b.b a) (is_heavy atoms b.b) (is_heavy atoms b.a) in
     raised-at xs b.a b.b p q a inx iny apart ∙ ap (λ t. t || ((eqb b.a a && p) || (eqb b.b a && q))) (before a) ∙ ap (λ t. list_any (leads_to_heavy atoms a) (take i bonds) || t) new ∙ sym (list_any_more (leads_to_heavy atoms a) bonds i d h)
 
 -- whether the atom at a place goes, by how many neighbours it has and whether one is reached by a plain bond and no hydrogen

@@ -1,7 +1,7 @@
 -- What stays: moved to the front of a list, and renumbered.
-use Rattle.std.proofs.Common.{ℕ, ◌+◌, ◌<◌, ◌≤◌, ◌≡◌, Bool, true, false, not, cond, List, [], ◌∷◌, ◌++◌, length, map, filter, take, drop, get_or, set, All, refl, ap, sym, subst, ◌∙◌, inl, inr, arith, Fits, w8}
+use Rattle.std.proofs.Common.{ℕ, ◌+◌, ◌<◌, ◌≤◌, ◌≡◌, Bool, true, false, not, cond, List, [], ◌∷◌, ◌++◌, length, map, filter, take, drop, get_or, set, All, refl, ap, sym, ◌∙◌, arith, Fits, w8}
 use Rattle.std.specs.List.{enumerate_from}
-use Rattle.std.proofs.lemmas.List.{map-append, append-nil, take_more_set, drop-set-lt, drop-drop, get_or-drop, get_or_default, length-set}
+use Rattle.std.proofs.lemmas.List.{map-append, append-nil, take_more_set, drop-set-lt, drop-drop, get_or-drop, get_or_default}
 use Rattle.std.proofs.lemmas.List.Edits.{map_over_more}
 use Rattle.std.proofs.lemmas.List.Elements.{filter-append}
 use Rattle.chem_core.specs.declared.sketch.SketchAtom.{SketchAtom}
@@ -10,7 +10,6 @@ use Rattle.chem_core.specs.declared.sketch.Fill.TheVariants.{Given}
 use Rattle.chem_core.specs.declared.sketch.SketchBond.{SketchBond}
 use Rattle.valence.specs.Suppressed.{staying_atoms, renumbered}
 use Rattle.valence.proofs.Enumerated.{enumerate-more}
-
 
 -- the element at i of two lists that are one from i on
 same-at : {X : Type 0} (xs ys : List X) (i : ℕ) (d : X) → drop i ys ≡ drop i xs → get_or ys i d ≡ get_or xs i d
@@ -21,13 +20,13 @@ same-at xs ys i d e =
 rest-more : {X : Type 0} (xs ys : List X) (i : ℕ) → drop i ys ≡ drop i xs → drop (i + 1) ys ≡ drop (i + 1) xs
 rest-more xs ys i e = sym (drop-drop 1 i ys) ∙ ap (drop 1) e ∙ drop-drop 1 i xs
 
-staying-more : (goes : ℕ → Bool) (gain : ℕ → ℕ) (xs : List SketchAtom) (i : ℕ) (d : SketchAtom) → i < length xs → staying_atoms goes gain (take (i + 1) xs) ≡ staying_atoms goes gain (take i xs) ++ cond (not (goes i)) (record (get_or xs i d) { hydrogens = (get_or xs i d).hydrogens + gain i } ∷ []) []
+pub staying-more : (goes : ℕ → Bool) (gain : ℕ → ℕ) (xs : List SketchAtom) (i : ℕ) (d : SketchAtom) → i < length xs → staying_atoms goes gain (take (i + 1) xs) ≡ staying_atoms goes gain (take i xs) ++ cond (not (goes i)) (record (get_or xs i d) { hydrogens = (get_or xs i d).hydrogens + gain i } ∷ []) []
 staying-more goes gain xs i d h =
     let p : ℕ × SketchAtom → Bool = λ p. not (goes p.0) in
     let f : ℕ × SketchAtom → SketchAtom = λ p. record p.1 { hydrogens = p.1.hydrogens + gain p.0 } in
     let x : SketchAtom = get_or xs i d in
     let one : map f (filter p ((i, x) ∷ [])) ≡ cond (not (goes i)) (f (i, x) ∷ []) [] =
-      elim (goes i) as (λ t. map f (cond (not t) ((i, x) ∷ []) []) ≡ cond (not t) (f (i, x) ∷ []) []) [ true ↦ refl | false ↦ refl ] in
+    elim (goes i) as (λ t. map f (cond (not t) ((i, x) ∷ []) []) ≡ cond (not t) (f (i, x) ∷ []) []) [ true ↦ refl | false ↦ refl ] in
     ap (λ ps. map f (filter p ps)) (enumerate-more xs i d h)
     ∙ ap (map f) (filter-append p (enumerate_from 0 (take i xs)) ((i, x) ∷ []))
     ∙ map-append f (filter p (enumerate_from 0 (take i xs))) (filter p ((i, x) ∷ []))

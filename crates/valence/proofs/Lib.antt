@@ -5,3 +5,5 @@ pub mod Flags
 pub mod Renumbering
 pub mod Kept
 pub mod Staying
+pub mod Examples
+pub mod Law

@@ -1,5 +1,5 @@
 -- That what stays of a sound sketch is a sound sketch.
-use Rattle.std.proofs.Common.{ℕ, zero, suc, ◌+◌, ◌<◌, ◌≤◌, ◌≡◌, ◌≢◌, ◌⊎◌, Bool, true, false, not, cond, eqb, ◌||◌, ◌&&◌, List, [], ◌∷◌, length, map, filter, get_or, count_by, sum_by, All, Some, refl, ap, sym, subst, ◌∙◌, inl, inr, arith}
+use Rattle.std.proofs.Common.{ℕ, zero, suc, ◌+◌, ◌<◌, ◌≤◌, ◌≡◌, ◌≢◌, ◌⊎◌, Bool, true, false, not, cond, eqb, List, [], ◌∷◌, length, map, filter, get_or, count_by, sum_by, All, Some, refl, ap, sym, subst, ◌∙◌, inl, inr, arith}
 use Rattle.std.specs.List.{AllPairs, enumerate_from, range_with_len, slice_get}
 use Rattle.std.proofs.lemmas.Bool.{cases_Bool, cases_eq, cases_order, and_parts, not-true, or_cases, or_left, or_right, eqb-true, eq-eqb, false≢true}
 use Rattle.std.proofs.lemmas.Option.{same_Some, slice_get_within, slice_get-get_or}
@@ -13,7 +13,7 @@ use Rattle.chem_core.specs.declared.sketch.SketchAtom.{SketchAtom}
 use Rattle.chem_core.specs.declared.sketch.SketchBond.{SketchBond}
 use Rattle.chem_core.specs.declared.sketch.SketchKind.TheVariants.{Unwritten}
 use Rattle.chem_core.specs.Drawing.{Drawing}
-use Rattle.chem_core.specs.Graph.{Ends, JoinsAt, degree, IsSimpleGraph}
+use Rattle.chem_core.specs.Graph.{JoinsAt, IsSimpleGraph}
 use Rattle.chem_core.specs.Sound.{IsSound, IsSketchAtom, sketch_ends}
 use Rattle.valence.specs.Valence.{ends_at}
 use Rattle.valence.specs.Suppressed.{is_suppressed, new_place, brings, stays, staying_atoms, staying_bonds, renumbered, gained, suppressed}
@@ -41,11 +41,11 @@ atoms-stay goes gain xs valid few more =
     let f : ℕ × SketchAtom → SketchAtom = λ p. record p.1 { hydrogens = p.1.hydrogens + gain p.0 } in
     let P : ℕ × SketchAtom → Type 0 = λ p. IsSketchAtom (f p) in
     let all : All P (enumerate_from 0 xs) = λ k d h.
-      let within : k < length xs = omega (arith, length-enumerate_from 0 xs) in
-      let atom : SketchAtom = get_or xs k d.1 in
-      let le = few k d.1 within in
-      let up = more (0 + k) in
-      subst P (sym (get_or-enumerate_from 0 xs k d within)) (with_hydrogens atom (atom.hydrogens + gain (0 + k)) (valid k d.1 within) (omega arith)) in
+    let within : k < length xs = omega (arith, length-enumerate_from 0 xs) in
+    let atom : SketchAtom = get_or xs k d.1 in
+    let le = few k d.1 within in
+    let up = more (0 + k) in
+    subst P (sym (get_or-enumerate_from 0 xs k d within)) (with_hydrogens atom (atom.hydrogens + gain (0 + k)) (valid k d.1 within) (omega arith)) in
     All-map IsSketchAtom f (filter (λ p. not (goes p.0)) (enumerate_from 0 xs)) (All-filter (λ p. not (goes p.0)) P (enumerate_from 0 xs) all)
 
 -- ---- the bonds that stay
@@ -108,10 +108,10 @@ count-le goes place a x (b ∷ bs) h =
 -- ---- no two bonds between the same atoms
 
 -- the bonds join the same atoms
-abbrev SameEnds : SketchBond → SketchBond → Type 0
+abbrev pub SameEnds : SketchBond → SketchBond → Type 0
 SameEnds b c = ((b.a ≡ c.a) × (b.b ≡ c.b)) ⊎ ((b.a ≡ c.b) × (b.b ≡ c.a))
 
-abbrev Apart : SketchBond → SketchBond → Type 0
+abbrev pub Apart : SketchBond → SketchBond → Type 0
 Apart b c = SameEnds b c → ⊥
 
 ends-read : (bonds : List SketchBond) (i : ℕ) (d : SketchBond) → i < length bonds → slice_get (ends_of bonds) i ≡ Some ((get_or bonds i d).a, (get_or bonds i d).b)
@@ -139,11 +139,13 @@ joined-read : (bonds : List SketchBond) (i x y : ℕ) (d : SketchBond) → Joins
 joined-read bonds i x y d joins =
     let low : i < length (ends_of bonds) = elim joins [ inl r ↦ slice_get_within _ i _ r | inr r ↦ slice_get_within _ i _ r ] in
     let within : i < length bonds = omega (arith, length-map {B = ℕ × ℕ} bonds (λ b. (b.a, b.b))) in
-    let at = ends-read bonds i d within in
-    (within, elim joins [
-      | inl r ↦ let e : ◌≡◌ {A = ℕ × ℕ} ((get_or bonds i d).a, (get_or bonds i d).b) (x, y) = same_Some _ _ (sym at ∙ r) in inl (ap (λ p. p.0) e, ap (λ p. p.1) e)
-      | inr r ↦ let e : ◌≡◌ {A = ℕ × ℕ} ((get_or bonds i d).a, (get_or bonds i d).b) (y, x) = same_Some _ _ (sym at ∙ r) in inr (ap (λ p. p.0) e, ap (λ p. p.1) e)
-    ])
+    let at = ends-read bonds i d within in (
+      within,
+      elim joins [
+        | inl r ↦ let e : ◌≡◌ {A = ℕ × ℕ} ((get_or bonds i d).a, (get_or bonds i d).b) (x, y) = same_Some _ _ (sym at ∙ r) in inl (ap (λ p. p.0) e, ap (λ p. p.1) e)
+        | inr r ↦ let e : ◌≡◌ {A = ℕ × ℕ} ((get_or bonds i d).a, (get_or bonds i d).b) (y, x) = same_Some _ _ (sym at ∙ r) in inr (ap (λ p. p.0) e, ap (λ p. p.1) e)
+      ],
+    )
 
 same-ends : (b c : SketchBond) (x y : ℕ) → ((b.a ≡ x) × (b.b ≡ y)) ⊎ ((b.a ≡ y) × (b.b ≡ x)) → ((c.a ≡ x) × (c.b ≡ y)) ⊎ ((c.a ≡ y) × (c.b ≡ x)) → SameEnds b c
 same-ends b c x y p q = elim p [
@@ -191,8 +193,8 @@ graph-stays goes bonds n graph =
       few_atoms = omega (arith, new_place-le goes n, graph.few_atoms);
       few_bonds = omega (arith, length-map {B = ℕ × ℕ} new (λ b. (b.a, b.b)), length-map (filter (stays goes) bonds) (renumbered place), length-filter (stays goes) bonds, count_by-le-length (stays goes) bonds, length-map {B = ℕ × ℕ} bonds (λ b. (b.a, b.b)), graph.few_bonds);
       few_neighbours = λ a.
-        let o = owner goes a n in
-        let at : All (λ b. stays goes b ≡ true → ends_at a (renumbered place b) ≡ true → ends_at o.0 b ≡ true) bonds = λ k d h s e.
+          let o = owner goes a n in
+          let at : All (λ b. stays goes b ≡ true → ends_at a (renumbered place b) ≡ true → ends_at o.0 b ≡ true) bonds = λ k d h s e.
           let b : SketchBond = get_or bonds k d in
           let range = all k d h in
           let stay = stays-parts goes b s in
@@ -200,7 +202,7 @@ graph-stays goes bonds n graph =
             | inl t ↦ or_left (eqb b.a o.0) (eqb b.b o.0) (eq-eqb b.a o.0 (o.1 b.a range.0 stay.0 (eqb-true (place b.a) a t)))
             | inr t ↦ or_right (eqb b.a o.0) (eqb b.b o.0) (eq-eqb b.b o.0 (o.1 b.b range.1 stay.1 (eqb-true (place b.b) a t)))
           ] in
-        omega (arith, degree_is new a, count-le goes place a o.0 bonds at, degree_is bonds o.0, graph.few_neighbours o.0);
+          omega (arith, degree_is new a, count-le goes place a o.0 bonds at, degree_is bonds o.0, graph.few_neighbours o.0);
       in_range = bonds-stay goes place (λ e. (e.0 < place n) × (e.1 < place n)) P bonds all (λ b s r. (new_place-lt goes b.a n s.0 r.0, new_place-lt goes b.b n s.1 r.1));
       distinct = bonds-stay goes place (λ e. e.0 ≢ e.1) P bonds all (λ b s r e. r.2 (new_place-one goes b.a b.b s.0 s.1 e));
       once = once-from_apart new (apart-stay goes bonds (apart-from_once bonds n graph));
@@ -224,9 +226,9 @@ map-agree f g (x ∷ xs) h = ap (λ y. y ∷ map f xs) (All-head (λ x. f x ≡ 
 places-agree : (goes : ℕ → Bool) (place other : ℕ → ℕ) (bonds : List SketchBond) (n : ℕ) → All (λ b. (b.a < n) × (b.b < n)) bonds → ((a : ℕ) → a < n → place a ≡ other a) → staying_bonds goes place bonds ≡ staying_bonds goes other bonds
 places-agree goes place other bonds n range same =
     map-agree (renumbered place) (renumbered other) (filter (stays goes) bonds) (λ k d h.
-      let b : SketchBond = get_or (filter (stays goes) bonds) k d in
-      let in' = All-filter (stays goes) (λ b. (b.a < n) × (b.b < n)) bonds range k d h in
-      ap (λ x. record b { a = x; b = place b.b }) (same b.a in'.0) ∙ ap (λ y. record b { a = other b.a; b = y }) (same b.b in'.1))
+    let b : SketchBond = get_or (filter (stays goes) bonds) k d in
+    let in' = All-filter (stays goes) (λ b. (b.a < n) × (b.b < n)) bonds range k d h in
+    ap (λ x. record b { a = x; b = place b.b }) (same b.a in'.0) ∙ ap (λ y. record b { a = other b.a; b = y }) (same b.b in'.1))
 
 abbrev pub gone : List Bool → ℕ → Bool
 gone goes k = get_or goes k false

@@ -1,3 +1,4 @@
 pub mod Valence
 pub mod Filled
 pub mod Suppressed
+pub mod Small

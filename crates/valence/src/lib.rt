@@ -2,9 +2,14 @@
 #![tactic(auto)]
 
 mod fill;
+mod laws;
 mod places;
 mod suppression;
 mod table;
 
 pub use fill::{fill_hydrogens, order_sums};
+pub use laws::{order_stays, twice_is_once};
 pub use suppression::suppress;
+
+#[cfg(test)]
+mod tests;

@@ -47,7 +47,8 @@ fn to_front(atoms: &mut [SketchAtom], goes: &[bool], gains: &[u8]) -> usize
 {
     let mut kept = 0;
     for place in 0..atoms.len() {
-        if !goes[place] {
+        let gone = goes[place];
+        if !gone {
             let mut atom = atoms[place];
             atom.hydrogens += gains[place];
             atoms[kept] = atom;

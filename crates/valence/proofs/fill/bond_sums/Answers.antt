@@ -1,4 +1,4 @@
-use Rattle.std.proofs.Common.{◌<◌, length, refl}
+use Rattle.std.proofs.Common.{refl}
 use Rattle.std.proofs.lemmas.List.{length-set}
 use Rattle.valence.specs.Valence.{adds}
 use Rattle.valence.proofs.Sums.{zeros, tally-more, adds-at}
@@ -15,6 +15,6 @@ loop-bond-preserved c =
     record {
       long = rw (length-set, length-set) long;
       each =
-        rw (c.from.ensures, c.from-in-loop-bond.ensures)
-        (tally-more adds _ c.args.bonds.now c.loop-bond.bond-index _ _ _ within (rw long range.0) (rw long range.1) (c.requires.distinct _ _ within) (adds-at _ _ c.order-order.ensures) c.loop-bond.invariant.each);
+          rw (c.from.ensures, c.from-in-loop-bond.ensures)
+          (tally-more adds _ c.args.bonds.now c.loop-bond.bond-index _ _ _ within (rw long range.0) (rw long range.1) (c.requires.distinct _ _ within) (adds-at _ _ c.order-order.ensures) c.loop-bond.invariant.each);
     }

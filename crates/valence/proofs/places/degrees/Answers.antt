@@ -1,4 +1,4 @@
-use Rattle.std.proofs.Common.{ℕ, ◌<◌, ◌≤◌, length, cond, refl, arith}
+use Rattle.std.proofs.Common.{ℕ, cond, refl}
 use Rattle.chem_core.specs.declared.sketch.SketchBond.{SketchBond}
 use Rattle.valence.specs.Valence.{ends_at}
 use Rattle.valence.proofs.Sums.{zeros, tally-first-fits, tally-second-fits, ends-at}

@@ -1,4 +1,4 @@
-use Rattle.std.proofs.Common.{ℕ, Bool, false, ◌<◌, ◌≤◌, ◌≡◌, List, length, cond, count_by, get_or, refl, arith, ap, ◌∙◌}
+use Rattle.std.proofs.Common.{ℕ, Bool, false, ◌≤◌, List, cond, count_by, get_or, refl, arith, ap, ◌∙◌}
 use Rattle.std.proofs.lemmas.List.{length-set}
 use Rattle.chem_core.specs.declared.sketch.SketchBond.{SketchBond}
 use Rattle.valence.specs.Valence.{ends_at}
@@ -42,6 +42,6 @@ loop-bond-preserved c =
     record {
       long = rw (length-set, length-set) long;
       each =
-        rw (c.from-a.ensures, c.from-b.ensures)
-        (tally-more (one c.args.goes.now) c.loop-bond.gains c.args.bonds.now c.loop-bond.bond-index c.from.result c.from-in-loop-bond.result _ within (rw long range.0) (rw long range.1) (c.requires.distinct _ _ within) (brings-at (gone c.args.goes.now) _ _ c.from.result c.from-in-loop-bond.result (c.requires.distinct _ _ within) m n) c.loop-bond.invariant.each);
+          rw (c.from-a.ensures, c.from-b.ensures)
+          (tally-more (one c.args.goes.now) c.loop-bond.gains c.args.bonds.now c.loop-bond.bond-index c.from.result c.from-in-loop-bond.result _ within (rw long range.0) (rw long range.1) (c.requires.distinct _ _ within) (brings-at (gone c.args.goes.now) _ _ c.from.result c.from-in-loop-bond.result (c.requires.distinct _ _ within) m n) c.loop-bond.invariant.each);
     }

@@ -1,6 +1,5 @@
-use Rattle.std.proofs.Common.{ℕ, ◌+◌, ◌<◌, ◌≤◌, ◌≡◌, Bool, false, not, cond, List, length, get_or, refl, arith, ap, ◌∙◌, sym}
+use Rattle.std.proofs.Common.{ℕ, ◌+◌, Bool, false, not, List, get_or, arith, ◌∙◌}
 use Rattle.std.proofs.lemmas.List.{length-set}
-use Rattle.valence.specs.Suppressed.{new_place}
 use Rattle.valence.proofs.Sums.{byte-is}
 use Rattle.valence.proofs.Renumbering.{new_place-le, new_place-more, places-more}
 use Rattle.valence.proofs.places.new_places.Goals as goal

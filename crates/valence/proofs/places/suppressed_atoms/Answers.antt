@@ -1,7 +1,6 @@
-use Rattle.std.proofs.Common.{ℕ, ◌+◌, ◌<◌, ◌≤◌, ◌≡◌, Bool, false, length, refl, arith, sym, ap, ◌∙◌, ◌&&◌, eqb, get_or}
+use Rattle.std.proofs.Common.{refl, arith, sym, ◌∙◌}
 use Rattle.std.proofs.lemmas.List.{length-set}
 use Rattle.chem_core.specs.Drawing.{Drawing}
-use Rattle.valence.specs.Suppressed.{is_bare_hydrogen}
 use Rattle.valence.proofs.Flags.{unset, known-more, later-more, suppressed-within, suppressed-past}
 use Rattle.valence.proofs.places.suppressed_atoms.Goals as goal
 

@@ -1,9 +1,9 @@
-use Rattle.std.proofs.Common.{◌≡◌, ◌<◌, ℕ, Bool, false, List, length, get_or, filter, map, arith, rules, ◌∙◌}
+use Rattle.std.proofs.Common.{◌<◌, Bool, false, List, length, get_or, arith, rules}
 use Rattle.std.proofs.lemmas.Fn.{filter_same}
 use Rattle.std.proofs.lemmas.Grind.{common_steps}
 use Rattle.std.proofs.lemmas.List.Elements.{All-filter}
 use Rattle.chem_core.specs.declared.sketch.SketchBond.{SketchBond}
-use Rattle.valence.specs.Suppressed.{stays, staying_bonds}
+use Rattle.valence.specs.Suppressed.{stays}
 use Rattle.valence.proofs.suppression.keep_bonds.Goals as goal
 
 abbrev kept : List Bool → SketchBond → Bool

@@ -1,4 +1,4 @@
-use Rattle.std.proofs.Common.{ℕ, ◌≡◌, ◌<◌, ◌≤◌, List, length, count_by, arith, rules, sym, ap, subst, ◌∙◌}
+use Rattle.std.proofs.Common.{◌≡◌, List, length, count_by, arith, rules, sym, ap, subst, ◌∙◌}
 use Rattle.chem_core.specs.Drawing.{Drawing}
 use Rattle.chem_core.specs.Sound.{IsSound}
 use Rattle.chem_core.specs.declared.sketch.SketchBond.{SketchBond}
