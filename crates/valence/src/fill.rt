@@ -8,8 +8,9 @@ ghost use Rattle.valence.specs.Filled.{missing, missing_aromatic, hydrogens_of, 
 use crate::table::{charged, order, organic};
 use chem_core::{Fill, Sketch, SketchAtom, SketchBond};
 
-/// Counts the hydrogens that are not written: by the valences of the organic subset (OpenSMILES 1.0, section 3.1.5), or
-/// by those of molfiles (CTfile formats), as each atom says. Takes no memory.
+/// Counts the hydrogens that are not written: by the valences of the organic subset (OpenSMILES 1.0, section 3.1.5, and
+/// at aromatic atoms 3.5), by those of molfiles (CTfile formats), or by a written valence, as each atom says. Takes no
+/// memory.
 pub fn fill_hydrogens(sketch: &mut Sketch)
     requires sound { IsSound sketch.old }
     requires few { All (λ a. a.hydrogens ≤ 9) sketch.old.atoms }

@@ -7,9 +7,9 @@ use crate::places::{gains, new_places, suppressed_atoms};
 use chem_core::{Sketch, SketchAtom, SketchBond};
 
 /// Turns plain hydrogen atoms into counts at their neighbours, all at once: those without isotope and charge whose only
-/// bond has no symbol or `-`, and leads to an atom that is no hydrogen. The others are those that the Daylight Theory
-/// Manual, chapter SMILES, wants to be atoms: charged ones, isotopes, those joined to a hydrogen and to two atoms or
-/// none. What stays keeps its order. Takes no memory.
+/// bond has no symbol or `-`, and leads to an atom that is no hydrogen. The others stay, as the Daylight Theory Manual,
+/// chapter SMILES, wants of isotopes, charged hydrogens, and those joined to a hydrogen or to other than one atom.
+/// What stays keeps its order. Takes no memory.
 pub fn suppress(sketch: &mut Sketch)
     requires sound { IsSound sketch.old }
     requires few { All (λ a. a.hydrogens ≤ 15) sketch.old.atoms }
