@@ -68,7 +68,7 @@ fn scripts_and_replies(rt: HostRuntime) -> Result<(), Fail> {
         // identifiers, blanks, an empty line, ends with CR LF, a last line without LF
         (
             "register 0 C\nregister 1000000000 C\nregister 01 C\nregister 1  C\nregister 1 \nregister 1\nsearch\nsearch \n",
-            "refused notyet\nrefused notyet\nrefused notyet\nrefused notyet\nrefused notyet\nrefused notyet\nrefused notyet\nrefused notyet\n",
+            "refused notyet\nrefused notyet\nrefused notyet\nrefused smiles syntax\nrefused smiles syntax\nrefused notyet\nrefused notyet\nrefused notyet\n",
         ),
         (
             "\r\n\nregister 999999999 ClCBr\r\nregister 3 ClCBr\nregister 3 C\nsearch BrC",
@@ -79,13 +79,21 @@ fn scripts_and_replies(rt: HostRuntime) -> Result<(), Fail> {
             "register 5 CCCC\nsearch CC\nsearch C-=C\nsearch C#N\nregister 4 N#CC\nsearch C#N\nsearch C=N\n",
             "ok 1\nhit 5\nend at 1 hits 1\nend at 1 hits 0\nend at 1 hits 0\nok 2\nhit 4\nend at 2 hits 1\nend at 2 hits 0\n",
         ),
-        // 32 bytes are read, 33 are not
+        // ring numbers, branches, and structures that are not taken today
         (
-            "register 1 CCCCCCCCCCCCCCCCCCCCCCCCCCCCCCCC\nregister 2 CCCCCCCCCCCCCCCCCCCCCCCCCCCCCCCCC\nregister 3 Cr\nregister 4 l\n",
-            "ok 1\nrefused notyet\nrefused smiles syntax\nrefused smiles syntax\n",
+            "register 1 C12CCCCC12\nregister 1 C1CC\nregister 1 C(\nregister 1 c1ccccc1\nregister 1 C:C\n",
+            "refused smiles ring\nrefused smiles ring\nrefused smiles syntax\nrefused notyet\nrefused notyet\n",
         ),
-        // a NUL
-        ("register 1 C\0\nregister 1 C\n", "refused notyet\nok 1\n"),
+        // brackets, charges, parts, hydrogen atoms, marks that are dropped; a pattern has at most 32 bytes
+        (
+            "register 1 [13CH3][C@@H](O)C(=O)[O-].[Na+]\nregister 2 [H]C([H])([H])[H]\nregister 3 C/C=C\\C\nsearch C\nsearch C=C\nsearch C=O\nsearch CCCCCCCCCCCCCCCCCCCCCCCCCCCCCCCC\nsearch CCCCCCCCCCCCCCCCCCCCCCCCCCCCCCCCC\n",
+            "ok 1\nok 2\nok 3\nhit 1\nhit 2\nhit 3\nend at 3 hits 3\nhit 3\nend at 3 hits 1\nhit 1\nend at 3 hits 1\nend at 3 hits 0\nrefused notyet\n",
+        ),
+        // a NUL, and symbols of no element
+        (
+            "register 1 C\0\nregister 3 Cr\nregister 4 l\nregister 1 C\n",
+            "refused smiles syntax\nrefused smiles syntax\nrefused smiles syntax\nok 1\n",
+        ),
     ];
     for (script, replies) in rows {
         for piece in [1usize, 7, 65_536] {
@@ -101,12 +109,17 @@ fn scripts_and_replies(rt: HostRuntime) -> Result<(), Fail> {
 fn long_lines_and_bytes_that_are_no_text(rt: HostRuntime) -> Result<(), Fail> {
     let alloc = rt.alloc();
     let mut script = vec![in alloc; b'x'; 65_537]?;
-    script.extend_from_slice(b"\nregister 1 \xff\nregister 1 C\n")?;
+    script.extend_from_slice(b"\nregister 1 \xff\nregister 1 ")?;
+    let chain = vec![in alloc; b'C'; 1000]?;
+    script.extend_from_slice(&chain)?;
+    script.extend_from_slice(b"\nregister 1 ")?;
+    script.extend_from_slice(&chain[..999])?;
+    script.extend_from_slice(b"\n")?;
     let outcome = mem(&rt, alloc, &script, 1000, &[], &[])?;
     assert_eq!(rt; outcome.status, 0);
     assert_eq!(rt;
         put_by(&outcome),
-        b"refused long\nrefused notyet\nok 1\n".as_slice()
+        b"refused long\nrefused smiles syntax\nrefused smiles limit\nok 1\n".as_slice()
     );
     Ok(())
 }

@@ -25,8 +25,12 @@ meant_kind Colon = kinds.Single
 -- the atom whose bonds sum to the total; its valence is that and its hydrogens
 abbrev pub meant_atom : ℕ → SketchAtom → Atom
 meant_atom total x = record {
-  number = x.number; isotope = x.isotope; charge = x.charge; hydrogens = x.hydrogens;
-  aromatic = false; valence = x.hydrogens + total;
+  number = x.number;
+  isotope = x.isotope;
+  charge = x.charge;
+  hydrogens = x.hydrogens;
+  aromatic = false;
+  valence = x.hydrogens + total;
 }
 
 abbrev pub meant_bond : SketchBond → Bond

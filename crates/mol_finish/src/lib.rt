@@ -8,3 +8,6 @@ mod text;
 
 pub use fault::{Format, TextFault};
 pub use text::{one_structure, structure};
+
+#[cfg(test)]
+mod tests;
