@@ -68,7 +68,7 @@ answered text reader t e l =
       tree = t.tree;
       is = t.is;
       sketch = ap (λ q. drawn t.tree q) (sym t.pairing) ∙ drawn_some t.tree reader.pairs.clash reader.pairs.openings.items reader.pairs.bonds.items e l
-        ∙ ap (λ w. Some (let r : Drawing = record { atoms = w; bonds = reader.pairs.bonds.items } in r)) (sym t.atoms);
+          ∙ ap (λ w. Some (let r : Drawing = record { atoms = w; bonds = reader.pairs.bonds.items } in r)) (sym t.atoms);
       within = λ s. let k = s.depth in record { depth = omega arith; atoms = s.atoms; bonds = s.bonds; neighbours = s.neighbours };
       small = λ s. let k = s.depth in record { depth = omega arith; atoms = s.atoms; bonds = s.bonds; neighbours = s.neighbours };
     }
@@ -139,9 +139,9 @@ sound_drawing atoms bonds os p sound la lb few =
         few_bonds = let l = length-map {B = ℕ × ℕ} bonds (λ (b : SketchBond). (b.a, b.b)) in omega (arith, l);
         few_neighbours = few;
         in_range = All-from_recursion (λ e. (e.0 < n) × (e.1 < n)) (bond_ends bonds)
-          (all_ends (λ e. (e.0 < n) × (e.1 < n)) bonds (all_weaker (λ x. (x.a < x.b) × (x.b < n)) (λ x. (x.a < n) × (x.b < n)) (λ x h. let u = h.0 in let v = h.1 in (omega arith, v)) bonds p.ends));
+            (all_ends (λ e. (e.0 < n) × (e.1 < n)) bonds (all_weaker (λ x. (x.a < x.b) × (x.b < n)) (λ x. (x.a < n) × (x.b < n)) (λ x h. let u = h.0 in let v = h.1 in (omega arith, v)) bonds p.ends));
         distinct = All-from_recursion (λ e. e.0 ≢ e.1) (bond_ends bonds)
-          (all_ends (λ e. e.0 ≢ e.1) bonds (all_weaker (λ x. (x.a < x.b) × (x.b < n)) (λ x. x.a ≢ x.b) (λ x h e. let u = h.0 in omega arith) bonds p.ends));
+            (all_ends (λ e. e.0 ≢ e.1) bonds (all_weaker (λ x. (x.a < x.b) × (x.b < n)) (λ x. x.a ≢ x.b) (λ x h e. let u = h.0 in omega arith) bonds p.ends));
         once = once_at bonds p.once;
       };
       each = All-from_recursion IsSketchAtom atoms (all_weaker (λ a. IsSketchAtom a × (a.hydrogens ≤ 9)) IsSketchAtom (λ a h. h.0) atoms sound);

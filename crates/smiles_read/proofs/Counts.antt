@@ -62,37 +62,37 @@ count_step cs p q u v a lp lq ne eu ev =
     let lq' : q < length (set cs p u) = omega (arith, length-set cs p u) in
     let nq : q ≢ p = λ e. ne (sym e) in
     elim (cases_eq a q) [
-      inl e ↦
-        let k : get_or (set (set cs p u) q v) a 0 ≡ v = ap (λ w. get_or (set (set cs p u) q v) w 0) e ∙ get_or-set_same (set cs p u) q v 0 lq' in
-        let j : get_or (set cs p u) q 0 ≡ get_or cs q 0 = get_or-set_other cs p q u 0 nq in
-        let m : hit p q a ≡ 1 = ap (λ w. hit p q w) e ∙ hit_second p q in
-        let n : get_or cs a 0 ≡ get_or cs q 0 = ap (λ w. get_or cs w 0) e in
-        omega arith
-    | inr na ↦ elim (cases_eq a p) [
-        inl e ↦
-          let k : get_or (set (set cs p u) q v) a 0 ≡ get_or (set cs p u) a 0 = get_or-set_other (set cs p u) q a v 0 na in
-          let j : get_or (set cs p u) a 0 ≡ u = ap (λ w. get_or (set cs p u) w 0) e ∙ get_or-set_same cs p u 0 lp in
-          let m : hit p q a ≡ 1 = ap (λ w. hit p q w) e ∙ hit_first p q in
-          let n : get_or cs a 0 ≡ get_or cs p 0 = ap (λ w. get_or cs w 0) e in
+      | inl e ↦
+          let k : get_or (set (set cs p u) q v) a 0 ≡ v = ap (λ w. get_or (set (set cs p u) q v) w 0) e ∙ get_or-set_same (set cs p u) q v 0 lq' in
+          let j : get_or (set cs p u) q 0 ≡ get_or cs q 0 = get_or-set_other cs p q u 0 nq in
+          let m : hit p q a ≡ 1 = ap (λ w. hit p q w) e ∙ hit_second p q in
+          let n : get_or cs a 0 ≡ get_or cs q 0 = ap (λ w. get_or cs w 0) e in
           omega arith
-      | inr nb ↦
-          let k : get_or (set (set cs p u) q v) a 0 ≡ get_or (set cs p u) a 0 = get_or-set_other (set cs p u) q a v 0 na in
-          let j : get_or (set cs p u) a 0 ≡ get_or cs a 0 = get_or-set_other cs p a u 0 nb in
-          let m : hit p q a ≡ 0 = hit_none p q a (λ e. nb (sym e)) (λ e. na (sym e)) in
-          omega arith
+      | inr na ↦ elim (cases_eq a p) [
+        | inl e ↦
+            let k : get_or (set (set cs p u) q v) a 0 ≡ get_or (set cs p u) a 0 = get_or-set_other (set cs p u) q a v 0 na in
+            let j : get_or (set cs p u) a 0 ≡ u = ap (λ w. get_or (set cs p u) w 0) e ∙ get_or-set_same cs p u 0 lp in
+            let m : hit p q a ≡ 1 = ap (λ w. hit p q w) e ∙ hit_first p q in
+            let n : get_or cs a 0 ≡ get_or cs p 0 = ap (λ w. get_or cs w 0) e in
+            omega arith
+        | inr nb ↦
+            let k : get_or (set (set cs p u) q v) a 0 ≡ get_or (set cs p u) a 0 = get_or-set_other (set cs p u) q a v 0 na in
+            let j : get_or (set cs p u) a 0 ≡ get_or cs a 0 = get_or-set_other cs p a u 0 nb in
+            let m : hit p q a ≡ 0 = hit_none p q a (λ e. nb (sym e)) (λ e. na (sym e)) in
+            omega arith
       ]
     ]
 
 few_step : (cs : List ℕ) (p q u v a : ℕ) → get_or (set (set cs p u) q v) p 0 ≤ 12 → get_or (set (set cs p u) q v) q 0 ≤ 12 → get_or cs a 0 ≤ 12 → get_or (set (set cs p u) q v) a 0 ≤ 12
 few_step cs p q u v a fp fq fa =
     elim (cases_eq a q) [
-      inl e ↦ subst (λ (w : ℕ). get_or (set (set cs p u) q v) w 0 ≤ 12) (sym e) fq
-    | inr na ↦ elim (cases_eq a p) [
-        inl e ↦ subst (λ (w : ℕ). get_or (set (set cs p u) q v) w 0 ≤ 12) (sym e) fp
-      | inr nb ↦
-          let k : get_or (set (set cs p u) q v) a 0 ≡ get_or (set cs p u) a 0 = get_or-set_other (set cs p u) q a v 0 na in
-          let j : get_or (set cs p u) a 0 ≡ get_or cs a 0 = get_or-set_other cs p a u 0 nb in
-          omega arith
+      | inl e ↦ subst (λ (w : ℕ). get_or (set (set cs p u) q v) w 0 ≤ 12) (sym e) fq
+      | inr na ↦ elim (cases_eq a p) [
+        | inl e ↦ subst (λ (w : ℕ). get_or (set (set cs p u) q v) w 0 ≤ 12) (sym e) fp
+        | inr nb ↦
+            let k : get_or (set (set cs p u) q v) a 0 ≡ get_or (set cs p u) a 0 = get_or-set_other (set cs p u) q a v 0 na in
+            let j : get_or (set cs p u) a 0 ≡ get_or cs a 0 = get_or-set_other cs p a u 0 nb in
+            omega arith
       ]
     ]
 
@@ -158,10 +158,10 @@ pub few_all : (n : ℕ) (bonds : List SketchBond) (cs : List ℕ) (i : ℕ) → 
     → ((a : ℕ) → a < n → get_or cs a 0 ≡ deg (take i bonds) a) → ((a : ℕ) → a < n → get_or cs a 0 ≤ 12) → (a : ℕ) → deg bonds a ≤ 12
 few_all n bonds cs i ends le h few a =
     elim (cases_lt a n) [
-      inl lt ↦
-        let f = few a lt in
-        let k = h a lt in
-        let t : deg (take i bonds) a ≡ deg bonds a = ap (λ w. deg w a) (take_all i bonds le) in
-        omega arith
-    | inr ge ↦ let z = no_degree n a bonds ends ge in omega arith
+      | inl lt ↦
+          let f = few a lt in
+          let k = h a lt in
+          let t : deg (take i bonds) a ≡ deg bonds a = ap (λ w. deg w a) (take_all i bonds le) in
+          omega arith
+      | inr ge ↦ let z = no_degree n a bonds ends ge in omega arith
     ]

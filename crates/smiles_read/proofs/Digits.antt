@@ -32,9 +32,9 @@ pub data Short (n : ℕ) : Type 0 where
 
 pub short : (n : ℕ) → n ≤ 99 → Short n
 short n le = elim (cases_lt n 10) [
-    inl l ↦ one l (decimal_digit n l)
+  | inl l ↦ one l (decimal_digit n l)
   | inr l ↦ two l (decimal_step n l (omega arith) ∙ ap (λ w. w ++ ((48 + n % 10) ∷ [])) (decimal_digit (n / 10) (omega arith)))
-  ]
+]
 
 digits_by : (n : ℕ) (xs : List ℕ) → n ≤ 99 → decimal n ≡ xs → AllByRecursion IsDigit xs → AllByRecursion IsDigit (decimal n)
 digits_by n xs le e h = subst (λ (w : List ℕ). AllByRecursion IsDigit w) (sym e) h

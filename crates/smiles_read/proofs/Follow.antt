@@ -101,7 +101,7 @@ after_atom_first (b ∷ bs) (inl e) = (λ k. omega arith, λ k. omega arith)
 after_atom_first (b ∷ bs) (inr l) = (l.2, l.3)
 
 -- the next node
-node_first : (x : Node) (r : List ℕ) → IsNode x → AtomFirst (node_text x ++ r)
+pub node_first : (x : Node) (r : List ℕ) → IsNode x → AtomFirst (node_text x ++ r)
 node_first x r is = subst AtomFirst (sym (append_assoc (atom_text x.atom) (flat_map ring_text x.rings) r)) (atom_first x.atom (flat_map ring_text x.rings ++ r) is.0)
 
 -- a byte that no ring number begins with
@@ -109,21 +109,21 @@ no_ring_at : (b : ℕ) (bs : List ℕ) → ((x : BondText) → bond_byte x ≢ b
 no_ring_at b bs bond number ring rest is e =
     let u = number_first ring.number is in
     elim ring.bond as (λ w. b ∷ bs ≡ bond_text w ++ (number_text ring.number ++ rest) → ⊥) [
-      None ↦ λ k.
-        let j : b ∷ bs ≡ u.0 ∷ (u.1 ++ rest) = k ∙ ap (λ w. w ++ rest) u.2 in
-        let p : u.0 ≡ b = cc in
-        number (subst NumberFirst p u.3)
-    | Some x ↦ λ k. bond x (let p : bond_byte x ≡ b = cc in p)
+      | None ↦ λ k.
+          let j : b ∷ bs ≡ u.0 ∷ (u.1 ++ rest) = k ∙ ap (λ w. w ++ rest) u.2 in
+          let p : u.0 ≡ b = cc in
+          number (subst NumberFirst p u.3)
+      | Some x ↦ λ k. bond x (let p : bond_byte x ≡ b = cc in p)
     ] (e ∙ ring_then ring rest)
 
 no_ring_bond : (y : BondText) (r : List ℕ) → AtomFirst r → NoRingFirst (bond_byte y ∷ r)
 no_ring_bond y r f ring rest is e =
     elim ring.bond as (λ w. bond_byte y ∷ r ≡ bond_text w ++ (number_text ring.number ++ rest) → ⊥) [
-      None ↦ λ k. no_bond_number y ring.number r rest is k
-    | Some x ↦ λ k. no_number_atom ring.number rest r is f (let p : r ≡ number_text ring.number ++ rest = cc in p)
+      | None ↦ λ k. no_bond_number y ring.number r rest is k
+      | Some x ↦ λ k. no_number_atom ring.number rest r is f (let p : r ≡ number_text ring.number ++ rest = cc in p)
     ] (e ∙ ring_then ring rest)
 
-bond_is_not : (x : BondText) → (bond_byte x ≢ 40) × (bond_byte x ≢ 41) × (bond_byte x ≢ 46) × (bond_byte x ≢ 108) × (bond_byte x ≢ 114)
+pub bond_is_not : (x : BondText) → (bond_byte x ≢ 40) × (bond_byte x ≢ 41) × (bond_byte x ≢ 46) × (bond_byte x ≢ 108) × (bond_byte x ≢ 114)
 bond_is_not minus = (λ e. omega arith, λ e. omega arith, λ e. omega arith, λ e. omega arith, λ e. omega arith)
 bond_is_not equals = (λ e. omega arith, λ e. omega arith, λ e. omega arith, λ e. omega arith, λ e. omega arith)
 bond_is_not hash = (λ e. omega arith, λ e. omega arith, λ e. omega arith, λ e. omega arith, λ e. omega arith)

@@ -10,3 +10,4 @@ pub mod Results
 pub mod Shape
 pub mod Symbols
 pub mod Tokens
+pub mod Unique

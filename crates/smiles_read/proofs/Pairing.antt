@@ -113,9 +113,10 @@ openings_later n os h = all_weaker (λ o. o.atom < n) (λ o. o.atom < n + 1) (λ
 
 -- the next atom, with no bond of the chain
 pub begin_alone : (n : ℕ) (p : Pairing) → IsPairing n p → IsPairing (n + 1) p × AreFrom (length p.bonds) n p.bonds
-begin_alone n p h =
-    (record { ends = ends_later n p.bonds h.ends; once = h.once; openings = openings_later n p.openings h.openings },
-      record { within = omega arith; near = λ a. none_ends n a p.bonds h.ends ∙ ap (λ w. list_any (λ x. x.a == a) w) (sym (drop_all (length p.bonds) p.bonds (omega arith))) })
+begin_alone n p h = (
+  record { ends = ends_later n p.bonds h.ends; once = h.once; openings = openings_later n p.openings h.openings },
+  record { within = omega arith; near = λ a. none_ends n a p.bonds h.ends ∙ ap (λ w. list_any (λ x. x.a == a) w) (sym (drop_all (length p.bonds) p.bonds (omega arith))) },
+)
 
 -- one more bond of the last atom
 near_push : (first n a k : ℕ) (kind : SketchKind) (xs : List SketchBond) → k < n → first ≤ length xs → are_joined xs a n ≡ list_any (λ x. x.a == a) (drop first xs)
@@ -135,9 +136,11 @@ push_bond : (first n k : ℕ) (kind : SketchKind) (xs : List SketchBond) → k <
 push_bond first n k kind xs lt ends once from free =
     let z : SketchBond = record { a = k; b = n; kind = kind } in
     let le = from.within in
-    let l = length_push xs z in
-    (all_push (λ x. (x.a < x.b) × (x.b < n + 1)) xs z ends (lt, omega arith), once_push xs z once free,
-      record { within = omega arith; near = λ a. near_push first n a k kind xs lt le (from.near a) })
+    let l = length_push xs z in (
+      all_push (λ x. (x.a < x.b) × (x.b < n + 1)) xs z ends (lt, omega arith),
+      once_push xs z once free,
+      record { within = omega arith; near = λ a. near_push first n a k kind xs lt le (from.near a) },
+    )
 
 pub begin_bonded : (n k : ℕ) (kind : SketchKind) (p : Pairing) → k < n → IsPairing n p
     → IsPairing (n + 1) (record p { bonds = p.bonds ++ record { a = k; b = n; kind = kind } ∷ [] }) × AreFrom (length p.bonds) n (p.bonds ++ record { a = k; b = n; kind = kind } ∷ [])

@@ -2,10 +2,11 @@
 use Rattle.std.proofs.Common.{◌≡◌, ℕ, zero, suc, ◌+◌, ◌<◌, ◌≤◌, inl, inr, cond, ◌==◌, List, [], ◌∷◌, ◌++◌, length, replicate, Option, Some, None, unwrap_or, refl, sym, ◌∙◌, ap, subst, arith, append_assoc}
 use Rattle.std.specs.List.{AllByRecursion}
 use Rattle.std.specs.Fmt.{decimal}
+use Rattle.std.proofs.lemmas.Fmt.{decimal_injective}
 use Rattle.smiles_read.specs.Atom.{IsDigit, ChiralClass, th, al, sp, tb, oh, class_bytes, most_of, Chiral, none, one, two, numbered, chiral_text, IsChiral, Hydrogens, unwritten, single, counted, hydrogens_text, hydrogen_count, Sign, plus, minus, sign_byte, Charge, neutral, run, amount, signed, charge_text, charge_value, value_of, IsCharge, class_text, IsClass, Lower, small_b, small_c, small_n, small_o, small_p, small_s, small_se, small_as, lower_number, Symbol, element, lower, symbol_text, symbol_number, AreHydrogens, Bracket, bracket_text}
 use Rattle.smiles_read.specs.State.{written_hydrogens}
 use Rattle.smiles_read.specs.Follow.{NoDigitFirst, AfterClass, AfterCharge, AfterHydrogens, AfterChiral, AfterSymbol}
-use Rattle.smiles_read.proofs.Digits.{same_digits, no_digit}
+use Rattle.smiles_read.proofs.Digits.{same_digits, no_digit, decimal_digits}
 
 -- what may follow each piece begins with no digit
 pub class_no_digit : (r : List ℕ) → AfterClass r → NoDigitFirst r
@@ -149,8 +150,8 @@ chiral_only (numbered l n) rest bytes m k is follows h front =
 
 -- charges: after the first sign stand more of them, or digits
 data Split (s : Sign) (x : Charge) (rest b : List ℕ) : Type 0 where
-  more : (m : ℕ) → m ≤ 14 → signed s (suc m) ≡ charge_value x → b ≡ replicate m (sign_byte s) ++ rest → Split s x rest b
-  digits : (ds : List ℕ) → IsCharge (amount s ds) → signed s (value_of ds) ≡ charge_value x → b ≡ ds ++ rest → Split s x rest b
+  more : (m : ℕ) → m ≤ 14 → x ≡ run s (suc m) → b ≡ replicate m (sign_byte s) ++ rest → Split s x rest b
+  digits : (ds : List ℕ) → IsCharge (amount s ds) → x ≡ amount s ds → b ≡ ds ++ rest → Split s x rest b
 
 no_sign : (s : Sign) (xs rest : List ℕ) → AfterCharge rest → rest ≡ sign_byte s ∷ xs → ⊥
 no_sign plus xs rest h e = let g : AfterCharge (43 ∷ xs) = subst AfterCharge e h in grind arith
@@ -207,7 +208,7 @@ empty_by : (s : Sign) (x : Charge) (rest b r : List ℕ) (k : ℕ) → AfterChar
 empty_by s x rest b r k after free found le stops (more m lm v e) =
     let p = same_run s 15 m k rest r (omega arith) le after stops (sym e ∙ found) in
     let q = p.0 in
-    (omega arith, p.1, ap (λ n. signed s (suc n)) (sym q) ∙ v)
+    (omega arith, p.1, ap (λ n. signed s (suc n)) (sym q) ∙ ap charge_value (sym v))
 empty_by s x rest b r k after free found le stops (digits ds is v e) = absurd (some_digit ds rest b is.0 is.2 e free)
 
 sign_swapped : (s : Sign) (g : ℕ) (b ys : List ℕ) → sign_byte s ≡ g → g ∷ b ≡ ys → sign_byte s ∷ b ≡ ys
@@ -231,7 +232,7 @@ digits_by s x rest b d r after found some are all (more m lm v e) =
 digits_by s x rest b d r after found some are all (digits ds is v e) =
     let p = same_digits d ds r rest are is.2 all (charge_no_digit rest after) (sym found ∙ e) in
     let P : List ℕ → Type 0 = λ w. IsCharge (amount s w) in
-    (subst P (sym p.0) is, p.1, ap (λ w. signed s (value_of w)) p.0 ∙ v)
+    (subst P (sym p.0) is, p.1, ap (λ w. signed s (value_of w)) p.0 ∙ ap charge_value (sym v))
 
 pub amount_digits : (s : Sign) (g : ℕ) (x : Charge) (rest b d r : List ℕ) → sign_byte s ≡ g → IsCharge x → AfterCharge rest → g ∷ b ≡ charge_text x ++ rest
     → b ≡ d ++ r → 1 ≤ length d → AllByRecursion IsDigit d → NoDigitFirst r → IsCharge (amount s d) × (r ≡ rest) × (signed s (value_of d) ≡ charge_value x)
@@ -284,3 +285,105 @@ pub count_of : (h : Hydrogens) → unwrap_or (written_hydrogens h) 0 ≡ hydroge
 count_of unwritten = refl
 count_of single = refl
 count_of (counted k) = refl
+
+-- charges are read back
+data Signed (x : Charge) (a : List ℕ) : Type 0 where
+  none_written : x ≡ neutral → Signed x a
+  sign_written : (s : Sign) (b : List ℕ) → sign_byte s ∷ b ≡ charge_text x ++ a → Signed x a
+
+signed_by : (x : Charge) (a : List ℕ) → IsCharge x → Signed x a
+signed_by neutral a is = none_written refl
+signed_by (run s zero) a is = absurd (omega arith)
+signed_by (run s (suc k)) a is = sign_written s (replicate k (sign_byte s) ++ a) refl
+signed_by (amount s ds) a is = sign_written s (ds ++ a) refl
+
+same_split : (s : Sign) (x y : Charge) (a b c : List ℕ) → AfterCharge a → AfterCharge b → Split s x a c → Split s y b c → (x ≡ y) × (a ≡ b)
+same_split s x y a b c fa fb (more m lm ex e) (more k lk ey f) =
+    let p = same_run s 15 m k a b (omega arith) (omega arith) fa (λ l xs g. no_sign s xs b fb g) (sym e ∙ f) in
+    (ex ∙ ap (λ n. run s (suc n)) p.0 ∙ sym ey, sym p.1)
+same_split s x y a b c fa fb (more m lm ex e) (digits ds is ey f) = absurd (some_digit ds b c is.0 is.2 f (subst NoDigitFirst (sym e) (run_no_digit s m a fa)))
+same_split s x y a b c fa fb (digits ds is ex e) (more m lm ey f) = absurd (some_digit ds a c is.0 is.2 e (subst NoDigitFirst (sym f) (run_no_digit s m b fb)))
+same_split s x y a b c fa fb (digits ds is ex e) (digits es it ey f) =
+    let p = same_digits ds es a b is.2 it.2 (charge_no_digit a fa) (charge_no_digit b fb) (sym e ∙ f) in
+    (ex ∙ ap (λ w. amount s w) p.0 ∙ sym ey, p.1)
+
+neutral_text : (x : Charge) (a : List ℕ) → x ≡ neutral → charge_text x ++ a ≡ a
+neutral_text x a e = ap (λ w. charge_text w ++ a) e
+
+same_charge_by : (x y : Charge) (a b : List ℕ) → IsCharge x → IsCharge y → AfterCharge a → AfterCharge b → charge_text x ++ a ≡ charge_text y ++ b → Signed x a → Signed y b → (x ≡ y) × (a ≡ b)
+same_charge_by x y a b ix iy fa fb h (none_written e) (none_written f) = (e ∙ sym f, sym (neutral_text x a e) ∙ h ∙ neutral_text y b f)
+same_charge_by x y a b ix iy fa fb h (none_written e) (sign_written s c f) = absurd (no_sign s c a fa (sym (neutral_text x a e) ∙ h ∙ sym f))
+same_charge_by x y a b ix iy fa fb h (sign_written s c e) (none_written f) = absurd (no_sign s c b fb (sym (neutral_text y b f) ∙ sym h ∙ sym e))
+same_charge_by x y a b ix iy fa fb h (sign_written s c e) (sign_written t d f) = same_split s x y a b c fa fb (split s x a c ix fa e) (split s y b c iy fb (e ∙ h))
+
+pub same_charge : (x y : Charge) (a b : List ℕ) → IsCharge x → IsCharge y → AfterCharge a → AfterCharge b → charge_text x ++ a ≡ charge_text y ++ b → (x ≡ y) × (a ≡ b)
+same_charge x y a b ix iy fa fb h = same_charge_by x y a b ix iy fa fb h (signed_by x a ix) (signed_by y b iy)
+
+-- hydrogens are read back
+no_hydrogen : (xs a : List ℕ) → AfterHydrogens a → a ≡ 72 ∷ xs → ⊥
+no_hydrogen xs a f e = let g : AfterHydrogens (72 ∷ xs) = subst AfterHydrogens e f in grind arith
+
+no_count : (k : ℕ) (xs a : List ℕ) → k ≤ 9 → AfterHydrogens a → a ≡ (48 + k) ∷ xs → ⊥
+no_count k xs a le f e = no_digit (48 + k) xs a (omega arith, omega arith) (hydrogens_no_digit a f) e
+
+pub same_hydrogens : (x y : Hydrogens) (a b : List ℕ) → hydrogen_count x ≤ 9 → hydrogen_count y ≤ 9 → AfterHydrogens a → AfterHydrogens b → hydrogens_text x ++ a ≡ hydrogens_text y ++ b → (x ≡ y) × (a ≡ b)
+same_hydrogens unwritten unwritten a b lx ly fa fb h = (refl, h)
+same_hydrogens unwritten single a b lx ly fa fb h = absurd (no_hydrogen b a fa h)
+same_hydrogens unwritten (counted k) a b lx ly fa fb h = absurd (no_hydrogen _ a fa h)
+same_hydrogens single unwritten a b lx ly fa fb h = absurd (no_hydrogen a b fb (sym h))
+same_hydrogens single single a b lx ly fa fb h = let k : 72 ∷ a ≡ 72 ∷ b = h in (refl, cc)
+same_hydrogens single (counted k) a b lx ly fa fb h = let l : 72 ∷ a ≡ 72 ∷ (48 + k) ∷ b = h in absurd (no_count k b a ly fa (cc))
+same_hydrogens (counted k) unwritten a b lx ly fa fb h = absurd (no_hydrogen _ b fb (sym h))
+same_hydrogens (counted k) single a b lx ly fa fb h = let l : 72 ∷ (48 + k) ∷ a ≡ 72 ∷ b = h in absurd (no_count k a b lx fb (let m : b ≡ (48 + k) ∷ a = cc in m))
+same_hydrogens (counted k) (counted j) a b lx ly fa fb h =
+    let l : 72 ∷ (48 + k) ∷ a ≡ 72 ∷ (48 + j) ∷ b = h in
+    let p : 48 + k ≡ 48 + j = cc in
+    let q : k ≡ j = omega arith in
+    (ap (λ w. counted w) q, cc)
+
+-- chirality marks are read back
+most_small : (k : ChiralClass) → most_of k ≤ 30
+most_small th = omega arith
+most_small al = omega arith
+most_small sp = omega arith
+most_small tb = omega arith
+most_small oh = omega arith
+
+same_decimal : (j k : ℕ) (a b : List ℕ) → j ≤ 30 → k ≤ 30 → NoDigitFirst a → NoDigitFirst b → decimal j ++ a ≡ decimal k ++ b → (j ≡ k) × (a ≡ b)
+same_decimal j k a b lj lk fa fb h =
+    let p = same_digits (decimal j) (decimal k) a b (decimal_digits j (omega arith)) (decimal_digits k (omega arith)) fa fb h in
+    (decimal_injective j k (omega arith) (omega arith) p.0, p.1)
+
+pub same_chiral : (x y : Chiral) (a b : List ℕ) → IsChiral x → IsChiral y → AfterChiral a → AfterChiral b → chiral_text x ++ a ≡ chiral_text y ++ b → (x ≡ y) × (a ≡ b)
+same_chiral none none a b ix iy fa fb h = (refl, h)
+same_chiral none one a b ix iy fa fb h = absurd (no_mark a b fa (sym h))
+same_chiral none two a b ix iy fa fb h = absurd (no_mark a (64 ∷ b) fa (sym h))
+same_chiral none (numbered k j) a b ix iy fa fb h = absurd (no_mark a _ fa (sym h))
+same_chiral one none a b ix iy fa fb h = absurd (no_mark b a fb h)
+same_chiral one one a b ix iy fa fb h = let k : 64 ∷ a ≡ 64 ∷ b = h in (refl, cc)
+same_chiral one two a b ix iy fa fb h = let k : 64 ∷ a ≡ 64 ∷ 64 ∷ b = h in absurd (no_mark a b fa (let m : 64 ∷ b ≡ a = cc in m))
+same_chiral one (numbered k j) a b ix iy fa fb h =
+    let l : 64 ∷ a ≡ 64 ∷ (class_bytes k ++ (decimal j ++ b)) = h ∙ numbered_text k j b in
+    absurd (no_kind_after k (decimal j ++ b) a fa (cc))
+same_chiral two none a b ix iy fa fb h = absurd (no_mark b (64 ∷ a) fb h)
+same_chiral two one a b ix iy fa fb h = let k : 64 ∷ 64 ∷ a ≡ 64 ∷ b = h in absurd (no_mark b a fb (let m : 64 ∷ a ≡ b = cc in m))
+same_chiral two two a b ix iy fa fb h = let k : 64 ∷ 64 ∷ a ≡ 64 ∷ 64 ∷ b = h in (refl, cc)
+same_chiral two (numbered k j) a b ix iy fa fb h =
+    let l : 64 ∷ 64 ∷ a ≡ 64 ∷ (class_bytes k ++ (decimal j ++ b)) = h ∙ numbered_text k j b in
+    absurd (no_kind_at k (decimal j ++ b) a (cc))
+same_chiral (numbered k j) none a b ix iy fa fb h = absurd (no_mark b _ fb h)
+same_chiral (numbered k j) one a b ix iy fa fb h =
+    let l : 64 ∷ b ≡ 64 ∷ (class_bytes k ++ (decimal j ++ a)) = sym h ∙ numbered_text k j a in
+    absurd (no_kind_after k (decimal j ++ a) b fb (cc))
+same_chiral (numbered k j) two a b ix iy fa fb h =
+    let l : 64 ∷ 64 ∷ b ≡ 64 ∷ (class_bytes k ++ (decimal j ++ a)) = sym h ∙ numbered_text k j a in
+    absurd (no_kind_at k (decimal j ++ a) b (cc))
+same_chiral (numbered k j) (numbered l i) a b ix iy fa fb h =
+    let e : 64 ∷ (class_bytes k ++ (decimal j ++ a)) ≡ 64 ∷ (class_bytes l ++ (decimal i ++ b)) = sym (numbered_text k j a) ∙ h ∙ numbered_text l i b in
+    let p = same_kind k l (decimal j ++ a) (decimal i ++ b) (cc) in
+    let mk = most_small k in
+    let ml = most_small l in
+    let uj = ix.1 in
+    let ui = iy.1 in
+    let q = same_decimal j i a b (omega arith) (omega arith) (chiral_no_digit a fa) (chiral_no_digit b fb) p.1 in
+    (ap (λ w. numbered w j) p.0 ∙ ap (λ w. numbered l w) q.0, q.1)

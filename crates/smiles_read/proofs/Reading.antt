@@ -26,9 +26,10 @@ read_begin_alone false n f os bs e h =
 begun : (n k f : ℕ) (kind : SketchKind) (os : List Opening) (bs cs : List SketchBond) → f ≡ length bs → cs ≡ bs ++ record { a = k; b = n; kind = kind } ∷ [] → k < n → IsPairing n (record { openings = os; bonds = bs })
     → IsPairing (n + 1) (record { openings = os; bonds = cs }) × AreFrom f n cs
 begun n k f kind os bs cs e d lt h =
-    let s = begin_bonded n k kind (record { openings = os; bonds = bs }) lt h in
-    (subst (λ (w : List SketchBond). IsPairing (n + 1) (record { openings = os; bonds = w })) (sym d) s.0,
-      subst (λ (w : List SketchBond). AreFrom f n w) (sym d) (subst (λ (m : ℕ). AreFrom m n (bs ++ record { a = k; b = n; kind = kind } ∷ [])) (sym e) s.1))
+    let s = begin_bonded n k kind (record { openings = os; bonds = bs }) lt h in (
+      subst (λ (w : List SketchBond). IsPairing (n + 1) (record { openings = os; bonds = w })) (sym d) s.0,
+      subst (λ (w : List SketchBond). AreFrom f n w) (sym d) (subst (λ (m : ℕ). AreFrom m n (bs ++ record { a = k; b = n; kind = kind } ∷ [])) (sym e) s.1),
+    )
 
 pub read_begin_bonded : (clash : Bool) (n k f : ℕ) (kind : SketchKind) (os : List Opening) (bs cs : List SketchBond) → f ≡ length bs → cs ≡ bs ++ record { a = k; b = n; kind = kind } ∷ [] → k < n
     → IfSome (unless clash os bs) (IsPairing n) → IfSome (unless clash os cs) (λ p. IsPairing (n + 1) p × AreFrom f n p.bonds)
@@ -41,10 +42,11 @@ pub read_close : (clash : Bool) (n first : ℕ) (o : Opening) (kind : SketchKind
     → IfSome (unless clash os' bs') (λ p. IsPairing (n + 1) p × AreFrom first n p.bonds)
 read_close true n first o kind os os' bs bs' is h le other free eo eb = tt
 read_close false n first o kind os os' bs bs' is h le other free eo eb =
-    let s = close_keeps n first o kind (record { openings = os; bonds = bs }) le other (h.1.near o.atom ∙ free) h.0 h.1 in
-    (subst (λ (w : List SketchBond). IsPairing (n + 1) (record { openings = os'; bonds = w })) (sym eb)
-      (subst (λ (w : List Opening). IsPairing (n + 1) (record { openings = w; bonds = bs ++ record { a = o.atom; b = n; kind = kind } ∷ [] })) (sym eo) s.0),
-      subst (λ (w : List SketchBond). AreFrom first n w) (sym eb) s.1)
+    let s = close_keeps n first o kind (record { openings = os; bonds = bs }) le other (h.1.near o.atom ∙ free) h.0 h.1 in (
+      subst (λ (w : List SketchBond). IsPairing (n + 1) (record { openings = os'; bonds = w })) (sym eb)
+          (subst (λ (w : List Opening). IsPairing (n + 1) (record { openings = w; bonds = bs ++ record { a = o.atom; b = n; kind = kind } ∷ [] })) (sym eo) s.0),
+      subst (λ (w : List SketchBond). AreFrom first n w) (sym eb) s.1,
+    )
 
 pub read_find : (clash : Bool) (n first number : ℕ) (os : List Opening) (bs : List SketchBond) (o : Opening) → clash ≡ false
     → IfSome (unless clash os bs) (λ p. IsPairing (n + 1) p × AreFrom first n p.bonds) → find (λ x. x.number == number) os ≡ Some o → o.atom < n + 1
@@ -54,9 +56,9 @@ read_find false n first number os bs o is h e = all_find (λ x. x.atom < n + 1) 
 found_number : (n number : ℕ) (kind : SketchKind) (p : Pairing) (o : Opening) → find (λ x. x.number == number) p.openings ≡ Some o → closed p o n kind ≡ number_read n number kind p
 found_number n number kind p o e =
     let F : Option Opening → Option Pairing = λ w. elim w [
-        None ↦ Some (opened p (record { number = number; atom = n; kind = kind }))
+      | None ↦ Some (opened p (record { number = number; atom = n; kind = kind }))
       | Some x ↦ closed p x n kind
-      ] in
+    ] in
     sym (ap F e)
 
 pub read_number : (clash : Bool) (n number : ℕ) (kind : SketchKind) (os : List Opening) (bs : List SketchBond) (o : Opening) (q : Option Pairing) → clash ≡ false → find (λ x. x.number == number) os ≡ Some o
@@ -89,11 +91,13 @@ pub rings_more : (n number : ℕ) (kind : SketchKind) (bytes rest after : List �
     → AllByRecursion (λ ring. IsRingNumber ring.number) rs → bytes ≡ flat_map ring_text rs ++ rest → now ≡ option_and_then (rings_read n rs) old
     → IsRingNumber r.number → rest ≡ ring_text r ++ after → number ≡ number_of r.number → kind ≡ written_kind r.bond → new ≡ option_and_then (number_read n number kind) now
     → (more : List RingText) × AllByRecursion (λ ring. IsRingNumber ring.number) more × (bytes ≡ flat_map ring_text more ++ after) × (new ≡ option_and_then (rings_read n more) old)
-rings_more n number kind bytes rest after old now new r rs are spelled so is front en ek step =
-    (rs ++ r ∷ [], all_push (λ ring. IsRingNumber ring.number) rs r are is,
-      spelled ∙ ap (λ w. flat_map ring_text rs ++ w) front ∙ sym (flat_push rs r after),
-      step ∙ ap (λ w. option_and_then (number_read n w kind) now) en ∙ ap (λ w. option_and_then (number_read n (number_of r.number) w) now) ek
-      ∙ ap (λ w. option_and_then (ring_read n r) w) so ∙ sym (rings_then n rs r old))
+rings_more n number kind bytes rest after old now new r rs are spelled so is front en ek step = (
+  rs ++ r ∷ [],
+  all_push (λ ring. IsRingNumber ring.number) rs r are is,
+  spelled ∙ ap (λ w. flat_map ring_text rs ++ w) front ∙ sym (flat_push rs r after),
+  step ∙ ap (λ w. option_and_then (number_read n w kind) now) en ∙ ap (λ w. option_and_then (number_read n (number_of r.number) w) now) ek
+      ∙ ap (λ w. option_and_then (ring_read n r) w) so ∙ sym (rings_then n rs r old),
+)
 
 -- the state after a node
 through_map : (F : Pairing → Option Pairing) (G : Pairing → Pairing) (q : Option Pairing) → option_and_then F (option_map G q) ≡ option_and_then (λ p. F (G p)) q
@@ -113,4 +117,4 @@ node_state s place x rs before atoms a q r ep ea ex eq er =
     same_state place (length s.atoms) s.stack atoms _ r _ s.depth ep
     (ea ∙ ap (λ w. s.atoms ++ w ∷ []) ex ∙ ap (λ m. s.atoms ++ atom_of m x ∷ []) ep)
     (er ∙ ap (λ w. option_and_then (rings_read place rs) w) eq ∙ ap (λ m. option_and_then (rings_read m rs) (option_map (F m) s.pairing)) ep
-      ∙ through_map (rings_read (length s.atoms) rs) (F (length s.atoms)) s.pairing)
+    ∙ through_map (rings_read (length s.atoms) rs) (F (length s.atoms)) s.pairing)

@@ -38,10 +38,11 @@ found_node : (text : List ℕ) (s : State) (p : Placed) (ps : ℕ → List Place
 found_node text s p ps tree ea ep =
     let n = length s.atoms in
     let a : SketchAtom = atom_of n p.node.atom in
-    let l : n + 1 ≡ length (s.atoms ++ a ∷ []) = sym (length_push s.atoms a) in
-    (ea ∙ sym (append_assoc s.atoms (a ∷ []) (atoms_from (n + 1) (ps (n + 1)))) ∙ ap (λ m. (s.atoms ++ a ∷ []) ++ atoms_from m (ps m)) l,
+    let l : n + 1 ≡ length (s.atoms ++ a ∷ []) = sym (length_push s.atoms a) in (
+      ea ∙ sym (append_assoc s.atoms (a ∷ []) (atoms_from (n + 1) (ps (n + 1)))) ∙ ap (λ m. (s.atoms ++ a ∷ []) ++ atoms_from m (ps m)) l,
       ep ∙ through (nodes_read n (p ∷ ps (n + 1))) (node_read n p) (nodes_read (n + 1) (ps (n + 1))) (λ q. refl) s.pairing
-      ∙ ap (λ m. option_and_then (nodes_read m (ps m)) (option_and_then (node_read n p) s.pairing)) l)
+          ∙ ap (λ m. option_and_then (nodes_read m (ps m)) (option_and_then (node_read n p) s.pairing)) l,
+    )
 
 sound_node : (text bytes rest : List ℕ) (s : State) (j : Joint) (x : Node) → Reads text bytes s → IsNode x → bytes ≡ joint_text j ++ (node_text x ++ rest)
     → (more : List Token) → IsRest more (length s.stack) → rest ≡ tokens_text more → Found text (with_node (record { node = x; before = joined_to s.at j }) s) more
@@ -214,7 +215,7 @@ first_sound text rest x is e more r h =
     let v = whole more r in
     let p : Placed = record { node = x; before = None } in
     let pl : placed_from 0 1 v.tail ≡ placed_by more 0 [] 1 =
-        sym (append-nil (placed_from 0 1 v.tail)) ∙ sym (placed_of v.tail [] 0 [] 1 (λ a b m. refl)) ∙ ap (λ w. placed_by w 0 [] 1) v.spelled in
+    sym (append-nil (placed_from 0 1 v.tail)) ∙ sym (placed_of v.tail [] 0 [] 1 (λ a b m. refl)) ∙ ap (λ w. placed_by w 0 [] 1) v.spelled in
     let d = deep_of v.tail [] 0 in
     let k : deepest (tokens_of v.tail []) 0 ≡ deepest more 0 = ap (λ w. deepest w 0) v.spelled in
     record {
@@ -232,10 +233,10 @@ reads_first text rest x is e only = record {
   deep = omega arith;
   sound = first_sound text rest x is e;
   complete = λ tree h.
-    let ks = tokens_of tree.tail [] in
-    let r = rest_of tree.tail [] 0 h.0.1 tt in
-    let spelled : tail_text tree.tail ≡ tokens_text ks = sym (text_of tree.tail [] ∙ append-nil (tail_text tree.tail)) in
-    (ks, r, sym (only tree.first (tokens_text ks) h.0.0 (after_tokens ks 0 r) (h.1 ∙ ap (λ w. node_text tree.first ++ w) spelled)));
+      let ks = tokens_of tree.tail [] in
+      let r = rest_of tree.tail [] 0 h.0.1 tt in
+      let spelled : tail_text tree.tail ≡ tokens_text ks = sym (text_of tree.tail [] ∙ append-nil (tail_text tree.tail)) in
+      (ks, r, sym (only tree.first (tokens_text ks) h.0.0 (after_tokens ks 0 r) (h.1 ∙ ap (λ w. node_text tree.first ++ w) spelled)));
 }
 
 -- where the text begins with no node it has no tree

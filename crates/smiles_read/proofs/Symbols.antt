@@ -1,11 +1,11 @@
 -- The symbols of the elements: their letters, and that no two are alike.
-use Rattle.std.proofs.Common.{◌≡◌, ℕ, zero, suc, ◌+◌, ◌<◌, ◌≤◌, ◌⊎◌, inl, inr, Bool, true, false, cond, eqb, ltb, leb, ◌&&◌, ◌||◌, List, [], ◌∷◌, ◌++◌, length, get_or, slice_get, Some, refl, sym, ◌∙◌, ap, subst, arith}
+use Rattle.std.proofs.Common.{◌≡◌, ℕ, zero, suc, ◌+◌, ◌<◌, ◌≤◌, ◌⊎◌, inl, inr, Bool, true, false, cond, eqb, ltb, leb, ◌==◌, ◌&&◌, ◌||◌, List, [], ◌∷◌, ◌++◌, length, get_or, slice_get, Some, refl, sym, ◌∙◌, ap, subst, arith}
 use Rattle.std.proofs.lemmas.Bool.{false≢true}
 use Rattle.std.proofs.lemmas.Bool.Decides.{nat_tests}
 use Rattle.std.proofs.lemmas.Option.{slice_get-get_or, get_or_from_slice_get}
 use Rattle.std.specs.List.{list_all}
 use Rattle.chem_core.specs.Element.{symbols}
-use Rattle.smiles_read.specs.Atom.{Lower, small_b, small_c, small_n, small_o, small_p, small_s, small_se, small_as, lower_bytes, Symbol, element, lower, symbol_text, IsSymbol}
+use Rattle.smiles_read.specs.Atom.{Lower, small_b, small_c, small_n, small_o, small_p, small_s, small_se, small_as, lower_bytes, IsOrganicLower, Symbol, element, lower, symbol_text, IsSymbol}
 use Rattle.smiles_read.specs.Follow.{NoDigitFirst, AfterSymbol}
 
 length-symbols : length symbols ≡ 104
@@ -161,7 +161,7 @@ element_first : (text : List ℕ) → Shape text → (x : ℕ) × (xs : List ℕ
 element_first text (one x e f) = (x, [], e, f)
 element_first text (two x y e f l) = (x, y ∷ [], e, f)
 
-lower_first : (l : Lower) → (x : ℕ) × (xs : List ℕ) × (lower_bytes l ≡ x ∷ xs) × (97 ≤ x)
+pub lower_first : (l : Lower) → (x : ℕ) × (xs : List ℕ) × (lower_bytes l ≡ x ∷ xs) × (97 ≤ x)
 lower_first small_b = (98, [], refl, omega arith)
 lower_first small_c = (99, [], refl, omega arith)
 lower_first small_n = (110, [], refl, omega arith)
@@ -194,3 +194,71 @@ symbol_no_digit (lower l) rest is =
     let v = lower_first l in
     let high = v.3 in
     digit_by _ v.0 (v.1 ++ rest) (ap (λ w. w ++ rest) v.2) (inr (omega arith))
+
+-- bytes begin with one symbol alone, if what follows may follow one
+same_shape : (t u a b : List ℕ) → Shape t → Shape u → AfterSymbol a → AfterSymbol b → t ++ a ≡ u ++ b → (t ≡ u) × (a ≡ b)
+same_shape t u a b (one x e f) (one y g k) fa fb h =
+    let l : x ∷ a ≡ y ∷ b = sym (ap (λ w. w ++ a) e) ∙ h ∙ ap (λ w. w ++ b) g in
+    let p : x ≡ y = cc in
+    (e ∙ ap (λ w. w ∷ []) p ∙ sym g, cc)
+same_shape t u a b (one x e f) (two y v g k q) fa fb h =
+    let l : x ∷ a ≡ y ∷ v ∷ b = sym (ap (λ w. w ++ a) e) ∙ h ∙ ap (λ w. w ++ b) g in
+    absurd (no_lower v b a q fa (cc))
+same_shape t u a b (two x v e f q) (one y g k) fa fb h =
+    let l : x ∷ v ∷ a ≡ y ∷ b = sym (ap (λ w. w ++ a) e) ∙ h ∙ ap (λ w. w ++ b) g in
+    absurd (no_lower v a b q fb (cc))
+same_shape t u a b (two x v e f q) (two y w g k r) fa fb h =
+    let l : x ∷ v ∷ a ≡ y ∷ w ∷ b = sym (ap (λ z. z ++ a) e) ∙ h ∙ ap (λ z. z ++ b) g in
+    let m : x ∷ v ∷ [] ≡ y ∷ w ∷ [] = cc in
+    (e ∙ m ∙ sym g, cc)
+
+abbrev small_from : ℕ → Lower
+small_from a = cond (a == 98) small_b (cond (a == 99) small_c (cond (a == 110) small_n (cond (a == 111) small_o (cond (a == 112) small_p small_s))))
+
+abbrev lower_read : List ℕ → Lower × List ℕ
+lower_read [] = (small_b, [])
+lower_read (a ∷ []) = (small_from a, [])
+lower_read (a ∷ b ∷ r) = cond (a == 97) (small_as, r) (cond ((a == 115) && (b == 101)) (small_se, r) (small_from a, b ∷ r))
+
+no_e : (b : ℕ) (bs : List ℕ) → AfterSymbol (b ∷ bs) → (b == 101) ≡ false
+no_e b bs h = let k : b < 101 = grind arith in grind (arith, nat_tests)
+
+lower_is : (l : Lower) (r : List ℕ) → AfterSymbol r → lower_read (lower_bytes l ++ r) ≡ (l, r)
+lower_is l [] h = absurd h
+lower_is small_b (x ∷ xs) h = refl
+lower_is small_c (x ∷ xs) h = refl
+lower_is small_n (x ∷ xs) h = refl
+lower_is small_o (x ∷ xs) h = refl
+lower_is small_p (x ∷ xs) h = refl
+lower_is small_s (x ∷ xs) h = ap (λ w. cond w (let p : Lower × List ℕ = (small_se, xs) in p) (small_s, x ∷ xs)) (no_e x xs h)
+lower_is small_se (x ∷ xs) h = refl
+lower_is small_as (x ∷ xs) h = refl
+
+pub same_symbol : (z w : Symbol) (a b : List ℕ) → IsSymbol z → IsSymbol w → AfterSymbol a → AfterSymbol b → symbol_text z ++ a ≡ symbol_text w ++ b → (z ≡ w) × (a ≡ b)
+same_symbol (element j) (element k) a b lj lk fa fb h =
+    let p = same_shape (get_or symbols j []) (get_or symbols k []) a b (element_shape j lj) (element_shape k lk) fa fb h in
+    (ap (λ w. element w) (same_element j k lj lk p.0), p.1)
+same_symbol (element j) (lower l) a b lj lk fa fb h = absurd (element_not_lower j l b a lj h)
+same_symbol (lower l) (element k) a b lj lk fa fb h = absurd (element_not_lower k l a b lk (sym h))
+same_symbol (lower l) (lower m) a b lj lk fa fb h =
+    let e = sym (lower_is l a fa) ∙ ap lower_read h ∙ lower_is m b fb in
+    (ap (λ (p : Lower × List ℕ). lower p.0) e, ap (λ (p : Lower × List ℕ). p.1) e)
+
+small_first : (l : Lower) → IsOrganicLower l → (x : ℕ) × (lower_bytes l ≡ x ∷ []) × (small_from x ≡ l)
+small_first small_b is = (98, refl, refl)
+small_first small_c is = (99, refl, refl)
+small_first small_n is = (110, refl, refl)
+small_first small_o is = (111, refl, refl)
+small_first small_p is = (112, refl, refl)
+small_first small_s is = (115, refl, refl)
+small_first small_se is = absurd is
+small_first small_as is = absurd is
+
+-- without brackets
+pub same_small : (l m : Lower) (a b : List ℕ) → IsOrganicLower l → IsOrganicLower m → lower_bytes l ++ a ≡ lower_bytes m ++ b → (l ≡ m) × (a ≡ b)
+same_small l m a b il im h =
+    let u = small_first l il in
+    let v = small_first m im in
+    let e : u.0 ∷ a ≡ v.0 ∷ b = sym (ap (λ w. w ++ a) u.1) ∙ h ∙ ap (λ w. w ++ b) v.1 in
+    let p : u.0 ≡ v.0 = cc in
+    (sym u.2 ∙ ap small_from p ∙ v.2, cc)

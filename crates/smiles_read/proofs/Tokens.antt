@@ -70,13 +70,13 @@ placed_of stop more at stack n free = placed_more more at stack n (n + 0) (omega
 placed_of (next j x t) more at stack n free =
     let p : Placed = record { node = x; before = joined_to at j } in
     ap (λ w. p ∷ w) (placed_of t more n stack (n + 1) free
-      ∙ ap (λ w. placed_from n (n + 1) t ++ w) (free n at (n + 1 + size_of t) ∙ placed_more more at stack _ (n + (1 + size_of t)) (omega arith)))
+    ∙ ap (λ w. placed_from n (n + 1) t ++ w) (free n at (n + 1 + size_of t) ∙ placed_more more at stack _ (n + (1 + size_of t)) (omega arith)))
 placed_of (branch j x i t) more at stack n free =
     let p : Placed = record { node = x; before = joined_to at j } in
     ap (λ w. p ∷ w) (placed_of i (closes ∷ tokens_of t more) n (at ∷ stack) (n + 1) (λ a b m. refl)
-      ∙ ap (λ w. placed_from n (n + 1) i ++ w) (placed_of t more at stack (n + 1 + size_of i) free
-        ∙ ap (λ w. placed_from at (n + 1 + size_of i) t ++ w) (placed_more more at stack _ (n + (1 + (size_of i + size_of t))) (omega arith)))
-      ∙ sym (append_assoc (placed_from n (n + 1) i) (placed_from at (n + 1 + size_of i) t) (placed_by more at stack (n + (1 + (size_of i + size_of t))))))
+    ∙ ap (λ w. placed_from n (n + 1) i ++ w) (placed_of t more at stack (n + 1 + size_of i) free
+    ∙ ap (λ w. placed_from at (n + 1 + size_of i) t ++ w) (placed_more more at stack _ (n + (1 + (size_of i + size_of t))) (omega arith)))
+    ∙ sym (append_assoc (placed_from n (n + 1) i) (placed_from at (n + 1 + size_of i) t) (placed_by more at stack (n + (1 + (size_of i + size_of t))))))
 
 pub deep_enough : (ts : List Token) (d : ℕ) → d ≤ deepest ts d
 deep_enough [] d = omega arith

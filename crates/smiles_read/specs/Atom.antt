@@ -225,6 +225,11 @@ atom_of i star = record { number = 0; isotope = 0; charge = pos 0; lower = false
 atom_of i (organic x) = record { number = atomic_number x; isotope = 0; charge = pos 0; lower = false; fill = fills.Organic; hydrogens = 0; written = i }
 atom_of i (aromatic x) = record { number = lower_number x; isotope = 0; charge = pos 0; lower = true; fill = fills.Organic; hydrogens = 0; written = i }
 atom_of i (bracket x) = record {
-  number = symbol_number x.symbol; isotope = value_of x.isotope; charge = charge_value x.charge; lower = is_lower x.symbol; fill = fills.Given;
-  hydrogens = hydrogen_count x.hydrogens; written = i;
+  number = symbol_number x.symbol;
+  isotope = value_of x.isotope;
+  charge = charge_value x.charge;
+  lower = is_lower x.symbol;
+  fill = fills.Given;
+  hydrogens = hydrogen_count x.hydrogens;
+  written = i;
 }

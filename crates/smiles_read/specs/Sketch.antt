@@ -97,8 +97,8 @@ opened p opening = record p { openings = p.openings ++ opening ∷ [] }
 abbrev pub number_read : ℕ → ℕ → SketchKind → Pairing → Option Pairing
 number_read atom number kind p =
     elim (find (λ o. o.number == number) p.openings) [
-      None ↦ Some (opened p (record { number = number; atom = atom; kind = kind }))
-    | Some opening ↦ closed p opening atom kind
+      | None ↦ Some (opened p (record { number = number; atom = atom; kind = kind }))
+      | Some opening ↦ closed p opening atom kind
     ]
 
 abbrev pub ring_read : ℕ → RingText → Pairing → Option Pairing

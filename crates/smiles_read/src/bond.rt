@@ -45,8 +45,7 @@ fn number_at(bytes: &[u8]) -> Option<(u8, &[u8])>
     match bytes {
         [ones, rest @ ..] if *ones >= b'0' && *ones <= b'9' => Some((*ones - b'0', rest)),
         [b'%', tens, ones, rest @ ..]
-            if *tens >= b'0' && *tens <= b'9' && *ones >= b'0' && *ones <= b'9' =>
-        {
+            if *tens >= b'0' && *tens <= b'9' && *ones >= b'0' && *ones <= b'9' => {
             Some((10 * (*tens - b'0') + (*ones - b'0'), rest))
         }
         _ => None,

@@ -13,7 +13,7 @@ mod reader;
 mod symbol;
 
 pub use fault::SmilesFault;
-pub use read::read_smiles;
+pub use read::{one_tree, read_smiles};
 
 #[cfg(test)]
 mod tests;

@@ -55,9 +55,11 @@ fn opening_of(openings: &[Opening], number: u8) -> Option<Opening>
 fn release(openings: &mut Vec<Opening>, number: u8)
     ensures { openings.new.items ≡ filter (λ o. not (o.number == number)) openings.old.items }
 {
-    openings.retain(|o: &Opening| -> bool
-        ensures { result ≡ not (o.now.number == number) }
-    { o.number != number });
+    openings.retain(
+        |o: &Opening| -> bool
+            ensures { result ≡ not (o.now.number == number) }
+        { o.number != number },
+    );
 }
 
 /// Whether one of the bonds begins at the atom.
@@ -85,11 +87,7 @@ impl Pairs {
     }
 
     /// Goes on to the next atom, which is bonded in the chain to one before.
-    pub fn begin(
-        &mut self,
-        atom: u16,
-        before: Option<(u16, SketchKind)>,
-    ) -> Result<(), AllocError>
+    pub fn begin(&mut self, atom: u16, before: Option<(u16, SketchKind)>) -> Result<(), AllocError>
         requires pairing { AreReadBefore atom self.old }
         requires before { IfSome before (λ b. b.0 < atom) }
         ensures ok { OnOk result (pairing_of self.new

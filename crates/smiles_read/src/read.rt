@@ -79,3 +79,8 @@ pub fn read_smiles(alloc: Global, text: &[u8]) -> Result<Sketch, SmilesFault>
     }
     Ok(finish(reader))
 }
+
+/// A text has at most one tree.
+pub fn one_tree()
+    ensures { (text : List ℕ) (s t : Tree) → IsTreeOf text s → IsTreeOf text t → s ≡ t }
+{}

@@ -200,8 +200,16 @@ fn atoms_stand_as_written(rt: HostRuntime) -> Result<(), Fail> {
         let sketch = read_smiles(rt.alloc(), text)?;
         assert_eq!(rt; sketch.atoms.len(), 1, "at {text:?}");
         let atom = sketch.atoms[0];
-        assert_eq!(rt; (atom.number, atom.isotope, atom.charge), (number, isotope, charge), "at {text:?}");
-        assert_eq!(rt; (atom.lower, atom.hydrogens, atom.written), (lower, hydrogens, 0), "at {text:?}");
+        assert_eq!(rt;
+            (atom.number, atom.isotope, atom.charge),
+            (number, isotope, charge),
+            "at {text:?}"
+        );
+        assert_eq!(rt;
+            (atom.lower, atom.hydrogens, atom.written),
+            (lower, hydrogens, 0),
+            "at {text:?}"
+        );
         assert_eq!(rt; atom.fill == Fill::Organic, organic, "at {text:?}");
     }
     Ok(())

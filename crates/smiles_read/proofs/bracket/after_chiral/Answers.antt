@@ -13,8 +13,8 @@ returns-in-Some-clause-found c =
     let most = c.in-Some.ensures.2 in
     let front : bytes ≡ 64 ∷ take (length bytes - 1) (drop 1 bytes) = grind (arith, common_steps) in
     IfSome_then c.after_number.result c.after_number.ensures.found (λ rest p.
-      let few = p.2 in
-      (numbered kind p.0, (p.1, omega arith), front ∙ ap (λ w. 64 ∷ w) (spelled ∙ ap (λ w. class_bytes kind ++ w) p.3) ∙ sym (numbered_text kind p.0 rest.now)))
+    let few = p.2 in
+    (numbered kind p.0, (p.1, omega arith), front ∙ ap (λ w. 64 ∷ w) (spelled ∙ ap (λ w. class_bytes kind ++ w) p.3) ∙ sym (numbered_text kind p.0 rest.now)))
 
 pub returns-in-Some-clause-only : goal.returns-in-Some-clause-only
 returns-in-Some-clause-only c x rest is after h =

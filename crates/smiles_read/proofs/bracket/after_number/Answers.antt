@@ -10,17 +10,21 @@ returns-then-number-eq0-clause-only c n rest some few after h =
     let same = same_digits c.digits_at.result.0.now (decimal n) c.digits_at.result.1.now rest c.digits_at.ensures.digits (decimal_digits n (omega arith)) c.digits_at.ensures.all after (sym c.digits_at.ensures.split ∙ h) in
     let number = c.short_number-number.ensures.only n (omega arith) same.0 in
     elim c.then-number-eq0.branch [
-      then-number-eq0-via-then-number-eq0 w ↦ omega arith
-    | then-number-eq0-via-else-number-eq0+then-number-most w ↦ omega arith
+      | then-number-eq0-via-then-number-eq0 w ↦ omega arith
+      | then-number-eq0-via-else-number-eq0+then-number-most w ↦ omega arith
     ]
 
 pub returns-clause-found : goal.returns-clause-found
 returns-clause-found c =
-    let n = c.short_number-number.result in
-    (n, omega arith, omega arith, elim c.short_number-number.ensures.found [
-      inl zero ↦ absurd (omega arith)
-    | inr is ↦ c.digits_at.ensures.split ∙ ap (λ w. w ++ c.digits_at.result.1.now) is
-    ])
+    let n = c.short_number-number.result in (
+      n,
+      omega arith,
+      omega arith,
+      elim c.short_number-number.ensures.found [
+        | inl zero ↦ absurd (omega arith)
+        | inr is ↦ c.digits_at.ensures.split ∙ ap (λ w. w ++ c.digits_at.result.1.now) is
+      ],
+    )
 
 pub returns-clause-only : goal.returns-clause-only
 returns-clause-only c n rest some few after h =

@@ -15,9 +15,12 @@ returns-then-more-gt14-clause-only c s x rest es is after h =
     omega arith
 
 pub returns-then-is_empty-clause-found : goal.returns-then-is_empty-clause-found
-returns-then-is_empty-clause-found c s es =
-    (run s (c.run_at-more.result.0 + 1), (omega arith, omega arith),
-      run_found s c.args.sign c.run_at-more.result.0 c.args.bytes.now c.run_at-more.result.1.now es c.run_at-more.ensures.found, refl)
+returns-then-is_empty-clause-found c s es = (
+  run s (c.run_at-more.result.0 + 1),
+  (omega arith, omega arith),
+  run_found s c.args.sign c.run_at-more.result.0 c.args.bytes.now c.run_at-more.result.1.now es c.run_at-more.ensures.found,
+  refl,
+)
 
 pub returns-then-is_empty-clause-only : goal.returns-then-is_empty-clause-only
 returns-then-is_empty-clause-only c s x rest es is after h =
@@ -52,9 +55,12 @@ pub returns-clause-found : goal.returns-clause-found
 returns-clause-found c s es =
     let d = c.digits_at.result.0.now in
     let v = c.value-amount.ensures.value in
-    let some : 1 ≤ length d = grind (arith, nat_tests) in
-    (amount s d, (some, omega arith, c.digits_at.ensures.digits, omega arith),
-      ap (λ w. w ∷ c.args.bytes.now) (sym es) ∙ ap (λ (w : List ℕ). sign_byte s ∷ w) c.digits_at.ensures.split, ap (λ n. signed s n) v)
+    let some : 1 ≤ length d = grind (arith, nat_tests) in (
+      amount s d,
+      (some, omega arith, c.digits_at.ensures.digits, omega arith),
+      ap (λ w. w ∷ c.args.bytes.now) (sym es) ∙ ap (λ (w : List ℕ). sign_byte s ∷ w) c.digits_at.ensures.split,
+      ap (λ n. signed s n) v,
+    )
 
 pub returns-clause-only : goal.returns-clause-only
 returns-clause-only c s x rest es is after h =

@@ -56,13 +56,15 @@ returns-clause-found c =
     let number = f.9 in
     let written = g.7 in
     let free : symbol_number f.1 ≡ 1 → written_hydrogens g.0 ≡ None = λ e. elim c.else-number-eq1.branch [
-        else-number-eq1-via-then-number-eq1+else-is_some w ↦ grind (arith, common_steps)
+      | else-number-eq1-via-then-number-eq1+else-is_some w ↦ grind (arith, common_steps)
       | else-number-eq1-via-else-number-eq1 w ↦ absurd (omega arith)
-      ] in
-    let charge : to_z w8 (of_z w8 c.in_ok-hydrogens.charge) ≡ c.in_ok-hydrogens.charge = grind (arith, to_z-of_z) in
-    (x, record { short = f.3; digits = f.4; symbol = f.5; chiral = f.6; hydrogens = are_hydrogens f.1 g.0 g.3 free; charge = g.4; class = g.5 },
+    ] in
+    let charge : to_z w8 (of_z w8 c.in_ok-hydrogens.charge) ≡ c.in_ok-hydrogens.charge = grind (arith, to_z-of_z) in (
+      x,
+      record { short = f.3; digits = f.4; symbol = f.5; chiral = f.6; hydrogens = are_hydrogens f.1 g.0 g.3 free; charge = g.4; class = g.5 },
       ap (λ w. 91 ∷ w) (f.7 ∙ ap (λ w. f.0 ++ (symbol_text f.1 ++ (chiral_text f.2 ++ w))) g.6) ∙ sym (bracket_spelled x c.in_ok-hydrogens.rest.now),
-      same_given _ _ _ _ _ _ _ _ _ _ c.args.written f.9 f.8 (charge ∙ g.8) f.10 (c.unwrap_or.ensures ∙ ap (λ w. unwrap_or w 0) g.7 ∙ count_of g.0))
+      same_given _ _ _ _ _ _ _ _ _ _ c.args.written f.9 f.8 (charge ∙ g.8) f.10 (c.unwrap_or.ensures ∙ ap (λ w. unwrap_or w 0) g.7 ∙ count_of g.0),
+    )
 
 pub returns-clause-only : goal.returns-clause-only
 returns-clause-only c x rest is h =

@@ -26,8 +26,8 @@ returns-in_default-clause-only c h x k rest few ix ik e =
     let q = c.in_ok-charge.ensures.only x (class_text k ++ 93 ∷ rest) ix after p.0 in
     let r = c.in_ok-after_class.ensures.only k (93 ∷ rest) ik refl q.0 in
     elim c.in_default.branch [
-      in_default-via-then-branch-lt1 w ↦ grind (arith, common_steps)
-    | in_default-via-else-branch-lt1+in_default-1 w ↦ grind (arith, common_steps)
+      | in_default-via-then-branch-lt1 w ↦ grind (arith, common_steps)
+      | in_default-via-else-branch-lt1+in_default-1 w ↦ grind (arith, common_steps)
     ]
 
 pub returns-clause-only : goal.returns-clause-only

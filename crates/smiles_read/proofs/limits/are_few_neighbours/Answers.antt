@@ -20,11 +20,13 @@ returns-then-index-gt12 c =
     let l1 = length-set cs p (x + 1) in
     let l2 = length-set (set cs p (x + 1)) q (y + 1) in
     let in' = ends_within c.args.atoms c.args.bonds.now c.loop-bond.bond-index other p q c.requires c.loop-bond-test.true c.from-first.ensures c.from-second.ensures in
-    let counted = counted_more c.args.atoms c.args.bonds.now cs c.loop-bond.bond-index other p q x y c.requires c.loop-bond-test.true room c.loop-bond.invariant.counted c.from-first.ensures c.from-second.ensures c.index_mut.ensures.value c.index_mut-in-loop-bond.ensures.value in
-    (λ e. absurd (cc), λ all. absurd (elim c.then-index-gt12.branch [
-      then-index-gt12-via-then-index-gt12 w ↦ too_many c.args.atoms c.args.bonds.now (set (set cs p (x + 1)) q (y + 1)) (c.loop-bond.bond-index + 1) p c.index.result.now (omega arith) counted in'.0 c.index.ensures w.if-index-gt12.true all
-    | then-index-gt12-via-else-index-gt12+then-index-gt12-2 w ↦ too_many c.args.atoms c.args.bonds.now (set (set cs p (x + 1)) q (y + 1)) (c.loop-bond.bond-index + 1) q w.index-else-index-gt12.result.now (omega arith) counted in'.1 w.index-else-index-gt12.ensures w.if-index-gt12-2.true all
-    ]))
+    let counted = counted_more c.args.atoms c.args.bonds.now cs c.loop-bond.bond-index other p q x y c.requires c.loop-bond-test.true room c.loop-bond.invariant.counted c.from-first.ensures c.from-second.ensures c.index_mut.ensures.value c.index_mut-in-loop-bond.ensures.value in (
+      λ e. absurd (cc),
+      λ all. absurd (elim c.then-index-gt12.branch [
+        | then-index-gt12-via-then-index-gt12 w ↦ too_many c.args.atoms c.args.bonds.now (set (set cs p (x + 1)) q (y + 1)) (c.loop-bond.bond-index + 1) p c.index.result.now (omega arith) counted in'.0 c.index.ensures w.if-index-gt12.true all
+        | then-index-gt12-via-else-index-gt12+then-index-gt12-2 w ↦ too_many c.args.atoms c.args.bonds.now (set (set cs p (x + 1)) q (y + 1)) (c.loop-bond.bond-index + 1) q w.index-else-index-gt12.result.now (omega arith) counted in'.1 w.index-else-index-gt12.ensures w.if-index-gt12-2.true all
+      ]),
+    )
 
 pub loop-bond-preserved : goal.loop-bond-preserved
 loop-bond-preserved c =

@@ -32,7 +32,7 @@ loop-rest-init c =
     let after = c.node.new.self in
     record {
       reads = reads_at c.args.text.now c.in_ok-rest.rest.now (state_of after) _ (f.3 ∙ ap F c.new-reader.ensures)
-        (reads_first c.args.text.now c.in_ok-rest.rest.now f.0 f.1 f.2 (λ y r iy follow e. sym (c.in_ok-rest.ensures.only y r iy follow e)));
+          (reads_first c.args.text.now c.in_ok-rest.rest.now f.0 f.1 f.2 (λ y r iy follow e. sym (c.in_ok-rest.ensures.only y r iy follow e)));
       keeps = record {
         pairing = c.in_ok-rest.ensures.pairing;
         atoms = c.in_ok-rest.ensures.sound (subst (λ (w : List SketchAtom). AreSound w) (sym atoms) tt);
@@ -47,7 +47,7 @@ pub returns-in_err-rest-2-clause-syntax : goal.returns-in_err-rest-2-clause-synt
 returns-in_err-rest-2-clause-syntax c is tree h =
     let p = err_from_is_err_and c.from_residual-in_err-rest-2.result c.from_residual-in_err-rest-2.ensures.1 in
     let s = reads_stuck c.args.text.now c.loop-rest.rest.now (state_of c.loop-rest.reader) c.loop-rest.invariant.reads
-      (λ r after may. let k = c.in_err-rest-2.ensures.only r after may in cc) tree h in
+    (λ r after may. let k = c.in_err-rest-2.ensures.only r after may in cc) tree h in
     let l = ap length s.0 in
     grind (arith, nat_tests)
 
@@ -58,7 +58,7 @@ loop-rest-preserved c =
     let shorter = c.in_ok-rest-2.ensures.shorter in
     record {
       reads = reads_step c.args.text.now c.loop-rest.rest.now c.in_ok-rest-2.rest.now (state_of c.loop-rest.reader) (state_of c.step.new.self) c.loop-rest.invariant.reads c.in_ok-rest-2.ensures.found
-        (λ r after may. sym (c.in_ok-rest-2.ensures.only r after may));
+          (λ r after may. sym (c.in_ok-rest-2.ensures.only r after may));
       keeps = c.in_ok-rest-2.ensures.keeps;
       room = omega arith;
     }

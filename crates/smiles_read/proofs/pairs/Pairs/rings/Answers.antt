@@ -10,7 +10,7 @@ loop-number-preserved c =
     let shorter = c.in-Some.ensures.shorter in
     record {
       so_far = rings_more c.args.atom c.in-Some.number c.in-Some.kind c.args.bytes.now c.loop-number.rest.now c.in-Some.after.now (pairing_of c.args.self.now) (pairing_of c.loop-number.self) (pairing_of c.number.new.self)
-        f.0 so_far.0 so_far.1 so_far.2 so_far.3 f.1 f.2 f.3 f.4 c.in_ok-number.ensures.ok;
+          f.0 so_far.0 so_far.1 so_far.2 so_far.3 f.1 f.2 f.3 f.4 c.in_ok-number.ensures.ok;
       keeps = c.in_ok-number.ensures.keeps;
       shorter = omega arith;
     }

@@ -10,7 +10,7 @@ use Rattle.smiles_read.proofs.pairs.Pairs.rings.Given as goal
 abbrev pub invariant-loop-number : goal.invariant-loop-number
 invariant-loop-number l = record {
   so_far : (rings : List RingText) × AllByRecursion (λ ring. IsRingNumber ring.number) rings × (l.bytes ≡ flat_map ring_text rings ++ l.rest)
-    × (pairing_of l.self ≡ option_and_then (rings_read l.atom rings) (pairing_of l.initial.self));
+      × (pairing_of l.self ≡ option_and_then (rings_read l.atom rings) (pairing_of l.initial.self));
   keeps : AreRead l.atom l.self;
   shorter : length l.rest ≤ length l.bytes;
 }

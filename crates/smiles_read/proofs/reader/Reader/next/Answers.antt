@@ -11,5 +11,5 @@ returns-clause-keeps c =
     let n = length old.atoms.items in
     let e = c.node.ensures in
     on_ok_five c.node.result e.pairing (e.sound c.requires.reader.atoms) e.at e.count e.stack (λ p a at count stack.
-      let weaker = all_weaker (λ a. a < n) (λ a. a < length new.atoms.items) (λ a h. omega arith) old.stack.items c.requires.reader.stack in
-      record { pairing = p; atoms = a; at = omega arith; stack = subst (λ (w : List ℕ). AllByRecursion (λ a. a < length new.atoms.items) w) (sym stack) weaker })
+    let weaker = all_weaker (λ a. a < n) (λ a. a < length new.atoms.items) (λ a h. omega arith) old.stack.items c.requires.reader.stack in
+    record { pairing = p; atoms = a; at = omega arith; stack = subst (λ (w : List ℕ). AllByRecursion (λ a. a < length new.atoms.items) w) (sym stack) weaker })

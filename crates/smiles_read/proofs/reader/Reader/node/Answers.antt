@@ -18,9 +18,12 @@ returns-clause-found c =
     let g = c.in_ok-rings.ensures.found in
     let old = c.args.self.now in
     let place : c.len-place.result ≡ length old.atoms.items = grind (arith, common_steps) in
-    let items : c.push.new.self.items ≡ old.atoms.items ++ c.in-Some.atom ∷ [] = grind (arith, common_steps) in
-    (record { atom = f.0; rings = g.0 }, (f.1, g.1), f.2 ∙ ap (λ w. atom_text f.0 ++ w) g.2 ∙ sym (append_assoc (atom_text f.0) (flat_map ring_text g.0) c.in_ok-rings.field-0.now),
-      node_state (state_of old) c.len-place.result f.0 g.0 c.args.before c.push.new.self.items c.in-Some.atom (pairing_of c.begin.new.self) (pairing_of c.rings.new.self) place items f.3 c.in_ok-begin.ensures.ok g.3)
+    let items : c.push.new.self.items ≡ old.atoms.items ++ c.in-Some.atom ∷ [] = grind (arith, common_steps) in (
+      record { atom = f.0; rings = g.0 },
+      (f.1, g.1),
+      f.2 ∙ ap (λ w. atom_text f.0 ++ w) g.2 ∙ sym (append_assoc (atom_text f.0) (flat_map ring_text g.0) c.in_ok-rings.field-0.now),
+      node_state (state_of old) c.len-place.result f.0 g.0 c.args.before c.push.new.self.items c.in-Some.atom (pairing_of c.begin.new.self) (pairing_of c.rings.new.self) place items f.3 c.in_ok-begin.ensures.ok g.3,
+    )
 
 pub returns-clause-only : goal.returns-clause-only
 returns-clause-only c x rest is after h =

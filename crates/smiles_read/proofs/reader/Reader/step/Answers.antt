@@ -18,8 +18,8 @@ returns-in_ok-open-in-40-clause-found c =
     let front : bytes ≡ 40 ∷ take (length bytes - 1) (drop 1 bytes) = grind (arith, common_steps) in
     let opened = c.in_ok-open-in-40.ensures.ok in
     ok_then c.next.result c.next.ensures.found (λ rest f.
-      let F : State → State = λ t. with_node (record { node = f.1; before = joined_to t.at f.0 }) t in
-      on_branch f.0 f.1 f.2 (front ∙ ap (λ w. 40 ∷ w) f.3) (f.4 ∙ ap F opened))
+    let F : State → State = λ t. with_node (record { node = f.1; before = joined_to t.at f.0 }) t in
+    on_branch f.0 f.1 f.2 (front ∙ ap (λ w. 40 ∷ w) f.3) (f.4 ∙ ap F opened))
 
 pub returns-in_default-clause-found : goal.returns-in_default-clause-found
 returns-in_default-clause-found c =
