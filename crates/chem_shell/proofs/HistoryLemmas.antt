@@ -1,10 +1,10 @@
 -- What one more commit changes.
-use Rattle.std.proofs.Common.{◌≡◌, ℕ, ◌+◌, ◌<◌, ◌≤◌, ◌==◌, Bool, true, false, cond, List, [], ◌∷◌, ◌++◌, length, take, Option, None, Some, MatchOption, refl, sym, ap, ◌∙◌, subst, arith, rules, add_assoc, length-append}
+use Rattle.std.proofs.Common.{◌≡◌, ℕ, ◌+◌, ◌<◌, ◌≤◌, ◌==◌, Bool, true, false, cond, List, [], ◌∷◌, ◌++◌, length, take, Option, None, Some, MatchOption, refl, sym, ap, ◌∙◌, subst, arith, length-append}
 use Rattle.std.proofs.lemmas.Bool.Decides.{nat_tests}
 use Rattle.std.specs.Ordering.{nat_cmp}
 use Rattle.std.specs.BTreeMap.{BTreeMap, get, is_at, btree_map_len}
 use Rattle.chem_core.specs.Molecule.{Molecule}
-use Rattle.chem_shell.specs.History.{History, Change, Register, Live, States, after, fold_from, snapshot, head, most_commits}
+use Rattle.chem_shell.specs.History.{History, Change, Register, Live, States, after, fold_from, head, most_commits}
 use Rattle.mol_finish.specs.Structure.{IsStructureOf}
 use Rattle.chem_shell.specs.Store.{IsLiveNow}
 

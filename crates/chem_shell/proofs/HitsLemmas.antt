@@ -1,8 +1,8 @@
 -- What is selected from the entries of a map, as the hits of a search.
-use Rattle.std.proofs.Common.{◌≡◌, ◌⊎◌, inl, inr, ℕ, zero, suc, ◌+◌, ◌<◌, ◌≤◌, List, [], ◌∷◌, length, map, Option, None, Some, MatchOption, refl, sym, ap, ◌∙◌, subst, ⊎_elim, arith, add-one, slice_index, slice_index_or, Contains}
+use Rattle.std.proofs.Common.{◌≡◌, ◌⊎◌, inl, inr, ℕ, zero, suc, ◌+◌, ◌<◌, ◌≤◌, List, [], ◌∷◌, length, map, Option, None, Some, MatchOption, sym, ap, subst, ⊎_elim, arith, slice_index, Contains}
 use Rattle.std.specs.List.Sorted.{IsStrictlyIncreasing}
 use Rattle.std.specs.Ordering.{nat_cmp}
-use Rattle.std.specs.BTreeMap.{BTreeMap, get, keys, IsOrdered, btree_map_len}
+use Rattle.std.specs.BTreeMap.{BTreeMap, get, IsOrdered}
 use Rattle.std.proofs.lemmas.Cmp.{nat_cmp_total}
 use Rattle.std.proofs.lemmas.Map.Keys.{IsStrictlyIncreasing-from_sorted}
 use Rattle.std.proofs.lemmas.Map.Lookups.{exact_unsigned}
@@ -11,7 +11,7 @@ use Rattle.chem_core.specs.Molecule.{Molecule}
 use Rattle.smarts_parse.specs.Pattern.{PatternTerm}
 use Rattle.smarts_parse.specs.Embedding.{Matches}
 use Rattle.chem_shell.specs.History.{History, Live, head}
-use Rattle.chem_shell.specs.Hits.{AreHits, IsHit}
+use Rattle.chem_shell.specs.Hits.{AreHits}
 use Rattle.mol_finish.specs.Structure.{IsStructureOf}
 use Rattle.chem_shell.specs.Selects.{Selects}
 use Rattle.chem_shell.specs.Store.{IsLiveNow}

@@ -1,18 +1,16 @@
 -- How a session comes from its first line to its end.
-use Rattle.std.proofs.Common.{◌≡◌, ◌⊎◌, inl, inr, ℕ, ◌+◌, ◌<◌, ◌≤◌, IsTrue, Bool, true, false, Option, None, Some, Result, Ok, Err, List, [], ◌∷◌, ◌++◌, length, refl, sym, ap, ◌∙◌, subst, arith, append_assoc, append-nil, length-append, IfSome}
+use Rattle.std.proofs.Common.{◌≡◌, inl, inr, ℕ, ◌≤◌, IsTrue, false, Option, None, Some, Err, List, [], ◌∷◌, ◌++◌, length, refl, sym, ap, ◌∙◌, subst, arith, append_assoc, append-nil, length-append}
 use Rattle.std.specs.Io.KnownBytes.{Appends, Consumes}
 use Rattle.io_edge.specs.Faults.{Rose}
 use Rattle.io_edge.specs.Sink.{AppendsPrefix}
 use Rattle.io_edge.specs.Lines.{TextLine, Reading, lines_of, lines_left}
 use Rattle.io_edge.specs.NextLine.{Counts}
-use Rattle.chem_shell.specs.declared.reply.Reply.{Reply}
 use Rattle.chem_shell.specs.declared.session.SessionFault.{SessionFault}
 use Rattle.chem_shell.specs.declared.session.SessionFault.TheVariants.{Source, Sink, NoMemory, InputTooLong}
 use Rattle.chem_shell.specs.History.{History}
-use Rattle.chem_shell.specs.Reply.{text_of}
 use Rattle.chem_shell.specs.Answered.{AnswersLine}
-use Rattle.chem_shell.specs.Transcript.{LineAnswer, IsTranscript, IsTranscriptFront, IsFrontOf}
-use Rattle.chem_shell.specs.Served.{Writes, WritesFront, WritesAll, TakesExactly}
+use Rattle.chem_shell.specs.Transcript.{IsTranscript, IsTranscriptFront}
+use Rattle.chem_shell.specs.Served.{WritesFront, WritesAll, TakesExactly}
 use Rattle.chem_shell.specs.Turn.{TurnPuts, TakesLine, TakesNone}
 
 -- what a transcript of the lines that are left makes of the whole, behind the text so far

@@ -1,5 +1,5 @@
 -- What was committed, and what each identifier is at each version. Version 0 is the empty store, version k the state after the k-th commit.
-use Rattle.std.specs.Prelude.{◌≡◌, ℕ, ◌+◌, List, [], ◌∷◌, length, take, Option, None, Some, if◌then◌else◌, ◌==◌}
+use Rattle.std.specs.Prelude.{ℕ, ◌+◌, List, [], ◌∷◌, length, take, Option, None, Some, if◌then◌else◌, ◌==◌}
 
 -- a change: a structure is registered under an identifier
 pub data Change : Type 0 where

@@ -1,5 +1,5 @@
 -- What a store keeps beside its commits.
-use Rattle.std.specs.Prelude.{◌≡◌, ℕ, ◌≤◌, length, map, List, Some, None, MatchOption}
+use Rattle.std.specs.Prelude.{◌≡◌, ℕ, ◌≤◌, length, Some, None, MatchOption}
 use Rattle.std.specs.Ordering.{nat_cmp}
 use Rattle.std.specs.BTreeMap.{BTreeMap, get, btree_map_len}
 use Rattle.chem_core.specs.Molecule.{Molecule}

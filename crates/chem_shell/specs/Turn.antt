@@ -1,8 +1,8 @@
 -- What one turn of a session does: the next line is read and answered.
-use Rattle.std.specs.Prelude.{◌≡◌, ◌<◌, ℕ, IsTrue, Bool, true, false, Option, Some, Result, Ok, Err, List, [], ◌∷◌}
+use Rattle.std.specs.Prelude.{◌≡◌, ℕ, IsTrue, Bool, true, false, Option, Some, Result, Ok, Err, List, [], ◌∷◌}
 use Rattle.std.specs.Io.KnownBytes.{Appends}
 use Rattle.io_edge.specs.Sink.{AppendsPrefix}
-use Rattle.io_edge.specs.Lines.{TextLine, Reading, lines_left, done_bytes}
+use Rattle.io_edge.specs.Lines.{TextLine, Reading, lines_left}
 use Rattle.io_edge.specs.declared.lines.LineFault.{LineFault}
 use Rattle.io_edge.specs.declared.lines.LineFault.TheVariants as line_faults
 use Rattle.io_edge.specs.declared.sinks.PutFault.{PutFault}

@@ -1,5 +1,5 @@
 -- What a sound sketch means is a molecule, and is made atom by atom.
-use Rattle.std.proofs.Common.{◌≡◌, ℕ, ◌+◌, ◌<◌, ◌≤◌, List, [], ◌∷◌, ◌++◌, All, length, map, take, get_or, slice_index, refl, sym, ap, ◌∙◌, subst, arith}
+use Rattle.std.proofs.Common.{◌≡◌, ℕ, ◌+◌, ◌<◌, List, [], ◌∷◌, ◌++◌, All, length, map, take, get_or, slice_index, refl, sym, ap, ◌∙◌, subst, arith}
 use Rattle.std.proofs.lemmas.List.{length-map, take_more, length-take-le, map-append, get_or-map}
 use Rattle.std.proofs.lemmas.List.FromFn.{length-enumerate_from}
 use Rattle.std.proofs.lemmas.List.Elements.{All-from_recursion, recursion_from_All}
@@ -9,9 +9,9 @@ use Rattle.chem_core.specs.declared.mol.Bond.{Bond}
 use Rattle.chem_core.specs.declared.sketch.SketchAtom.{SketchAtom}
 use Rattle.chem_core.specs.declared.sketch.SketchBond.{SketchBond}
 use Rattle.chem_core.specs.Drawing.{Drawing}
-use Rattle.chem_core.specs.Graph.{Ends, IsSimpleGraph}
+use Rattle.chem_core.specs.Graph.{IsSimpleGraph}
 use Rattle.chem_core.specs.Molecule.{IsAtom, IsMolecule, bond_ends, ends_of}
-use Rattle.chem_core.specs.Sound.{IsSketchAtom, IsSound, sketch_ends}
+use Rattle.chem_core.specs.Sound.{IsSketchAtom, IsSound}
 use Rattle.valence.specs.Valence.{bond_sum}
 use Rattle.mol_finish.specs.Meant.{meant_atom, meant_bond, meant}
 

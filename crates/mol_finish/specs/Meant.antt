@@ -1,5 +1,5 @@
 -- The molecule that a sketch without lower-case atoms and rings means.
-use Rattle.std.specs.Prelude.{ℕ, ◌+◌, false, List, map}
+use Rattle.std.specs.Prelude.{ℕ, ◌+◌, false, map}
 use Rattle.std.specs.List.{enumerate_from}
 use Rattle.chem_core.specs.declared.mol.Atom.{Atom}
 use Rattle.chem_core.specs.declared.mol.Bond.{Bond}

@@ -1,4 +1,3 @@
-use Rattle.std.proofs.Common.{ap, Ok}
 use Rattle.io_edge.specs.Lines.{Whole, TooLong}
 use Rattle.chem_shell.proofs.session.answer_next.Goals as goal
 

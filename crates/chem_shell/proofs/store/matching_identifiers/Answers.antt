@@ -1,4 +1,4 @@
-use Rattle.std.proofs.Common.{ℕ, List, [], ◌∷◌, ◌++◌, ◌≡◌, refl, sym, subst, inl, append_assoc, append-nil}
+use Rattle.std.proofs.Common.{ℕ, List, [], ◌∷◌, ◌≡◌, refl, sym, subst, inl, append_assoc, append-nil}
 use Rattle.chem_core.specs.Molecule.{Molecule}
 use Rattle.smarts_parse.specs.Pattern.{pattern_of}
 use Rattle.smarts_parse.specs.Embedding.{Matches}

@@ -1,8 +1,6 @@
-use Rattle.std.proofs.Common.{◌≡◌, ℕ, length, map, List, refl, sym, ap, ◌∙◌, inl, inr, arith}
+use Rattle.std.proofs.Common.{refl, ◌∙◌, inl, inr, arith}
 use Rattle.chem_shell.specs.Ends.{with_status, IsServed}
-use Rattle.chem_shell.specs.Served.{WritesFront, WritesAll, TakesExactly}
 use Rattle.chem_shell.specs.Status.{IsEndStatus}
-use Rattle.io_edge.specs.Faults.{Rose}
 use Rattle.chem_shell.proofs.EndsLemmas.{zip_weaker, zip_right, zip_mapped, all_mapped, fault_of_all_alike, never_usage}
 use Rattle.chem_shell.proofs.SessionLemmas.{front_unmoved}
 use Rattle.chem_shell.proofs.top.chemdb.Goals as goal

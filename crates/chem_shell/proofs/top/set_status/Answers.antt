@@ -1,4 +1,4 @@
-use Rattle.std.proofs.Common.{◌≡◌, ◌<◌, length, subst, slice_set, slice_index_or, map, take, drop, ◌++◌, ◌+◌, List, sym}
+use Rattle.std.proofs.Common.{◌≡◌, ◌<◌, length, subst, slice_set, map, take, drop, ◌++◌, ◌+◌}
 use Rattle.std.proofs.lemmas.List.Edits.{map_over_more}
 use Rattle.chem_shell.specs.Ends.{with_status}
 use Rattle.chem_shell.proofs.top.set_status.Goals as goal

@@ -1,4 +1,3 @@
-use Rattle.std.proofs.Common.{arith}
 use Rattle.mol_finish.proofs.Molecules.{made-more}
 use Rattle.mol_finish.proofs.finish.atoms_of.Goals as goal
 

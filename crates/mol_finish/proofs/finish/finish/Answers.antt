@@ -1,4 +1,4 @@
-use Rattle.std.proofs.Common.{◌≡◌, ◌∙◌, ap, sym, map}
+use Rattle.std.proofs.Common.{◌∙◌, ap, map}
 use Rattle.std.specs.List.{enumerate_from}
 use Rattle.chem_core.specs.Drawing.{Drawing}
 use Rattle.valence.specs.Valence.{bond_sum}

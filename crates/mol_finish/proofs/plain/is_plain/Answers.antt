@@ -1,4 +1,4 @@
-use Rattle.std.proofs.Common.{◌≡◌, ℕ, false, true, All, ap, sym, ◌∙◌, subst, count_by, ◌≤◌, ◌≢◌}
+use Rattle.std.proofs.Common.{◌≡◌, false, true, All, ap, sym, ◌∙◌, subst, count_by, ◌≤◌, ◌≢◌}
 use Rattle.chem_core.specs.declared.sketch.SketchKind.TheVariants.{Colon}
 use Rattle.chem_core.specs.Drawing.{Drawing}
 use Rattle.mol_finish.specs.Structure.{leads_down}

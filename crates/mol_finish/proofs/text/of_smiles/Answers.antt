@@ -1,4 +1,4 @@
-use Rattle.std.proofs.Common.{◌≡◌, ◌∙◌, ap, refl}
+use Rattle.std.proofs.Common.{◌∙◌, ap}
 use Rattle.valence.specs.Suppressed.{suppressed}
 use Rattle.mol_finish.specs.Meant.{meant}
 use Rattle.mol_finish.proofs.text.of_smiles.Goals as goal

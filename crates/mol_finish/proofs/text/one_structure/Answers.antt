@@ -1,5 +1,4 @@
-use Rattle.std.proofs.Common.{◌≡◌, ◌∙◌, Some, sym, ap, arith}
-use Rattle.chem_core.specs.Drawing.{Drawing}
+use Rattle.std.proofs.Common.{◌≡◌, ◌∙◌, Some, sym, ap}
 use Rattle.smiles_read.specs.Sketch.{sketch_of}
 use Rattle.mol_finish.specs.Structure.{prepared}
 use Rattle.mol_finish.specs.Meant.{meant}

@@ -1,4 +1,4 @@
-use Rattle.std.proofs.Common.{◌≡◌, List, [], ◌∷◌, ◌++◌, refl, sym, ap, ◌∙◌, inl, inr, append-nil}
+use Rattle.std.proofs.Common.{[], ◌∷◌, refl, inl, inr, append-nil}
 use Rattle.std.proofs.lemmas.Result.{on_ok_weaker}
 use Rattle.chem_shell.specs.declared.reply.Reply.TheVariants.{Refused}
 use Rattle.chem_shell.specs.declared.reply.Refusal.TheVariants.{NotYet}

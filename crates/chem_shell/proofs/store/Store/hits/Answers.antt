@@ -1,5 +1,4 @@
-use Rattle.std.proofs.Common.{List, map, length, arith}
-use Rattle.std.proofs.lemmas.List.{length-map}
+use Rattle.std.proofs.Common.{map, arith}
 use Rattle.smarts_parse.specs.Pattern.{pattern_of}
 use Rattle.smarts_parse.specs.Embedding.{Matches}
 use Rattle.chem_shell.specs.Store.{change_of}

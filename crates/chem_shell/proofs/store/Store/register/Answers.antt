@@ -1,4 +1,4 @@
-use Rattle.std.proofs.Common.{ℕ, ◌+◌, ◌≤◌, Option, None, Some, is_some, cond, ◌≡◌, ◌<◌, ◌∷◌, [], ◌++◌, length, List, refl, subst, arith}
+use Rattle.std.proofs.Common.{ℕ, ◌+◌, ◌≤◌, Option, None, Some, is_some, cond, ◌≡◌, ◌<◌, length, List, refl, subst, arith}
 use Rattle.std.proofs.lemmas.List.{map-append, length-map}
 use Rattle.std.proofs.Common.{map}
 use Rattle.chem_shell.specs.Store.{change_of, IsLiveNow}
