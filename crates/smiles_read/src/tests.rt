@@ -2,99 +2,49 @@
 
 use crate::{SmilesFault, read_smiles};
 use chem_core::{Fill, SketchKind};
+use std::alloc::Global;
+use std::process::Abort;
 use std::test::Fail;
 
 #[test]
 fn texts_and_their_answers(rt: HostRuntime) -> Result<(), Fail> {
-    let texts: [(&[u8], &str); 84] = [
-        (b"C[", "syntax"),
-        (b"C%1", "syntax"),
-        (b"[1000C]", "syntax"),
-        (b"[C+16]", "syntax"),
-        (b"C..C", "syntax"),
-        (b"C)", "syntax"),
-        (b".C", "syntax"),
-        (b"C(", "syntax"),
-        (b"()C", "syntax"),
-        (b"C()", "syntax"),
-        (b"C=", "syntax"),
-        (b"=C", "syntax"),
-        (b"[HH]", "syntax"),
-        (b"[CH10]", "syntax"),
-        (b"[C@TH3]", "syntax"),
-        (b"[C@TH0]", "syntax"),
-        (b"[C@TH01]", "syntax"),
-        (b"[C@OH31]", "syntax"),
-        (b"\t", "syntax"),
-        (b"C C", "syntax"),
-        (b"C\x00", "syntax"),
-        (b"\xff", "syntax"),
-        (b"", "syntax"),
-        (b"[H@H]", "syntax"),
-        (b"C(C)1CC1", "syntax"),
-        (b"se", "syntax"),
-        (b"Cr", "syntax"),
-        (b"[]", "syntax"),
-        (b"[C:]", "syntax"),
-        (b"[Uuo]", "syntax"),
-        (b"[++C]", "syntax"),
-        (b"[C++2]", "syntax"),
-        (b"[C++++++++++++++++]", "syntax"),
-        (b"C1C(", "syntax"),
-        (b"C1", "ring"),
-        (b"C11", "ring"),
-        (b"C1C1", "ring"),
-        (b"C12CCCCC12", "ring"),
-        (b"C-1CC=1", "ring"),
-        (b"C1CC=%01C1", "ring"),
-        (b"C1CC=1", "read"),
-        (b"C=1CC1", "read"),
-        (b"C=1CC=1", "read"),
-        (b"C1CC%01", "read"),
-        (b"C%12CC%12", "read"),
-        (b"C1.C1", "read"),
-        (b"C1CC1C1CC1", "read"),
-        (b"[H]", "read"),
-        (b"[H][H]", "read"),
-        (b"[H@]", "read"),
-        (b"[2H]C", "read"),
-        (b"[Fe+++]", "read"),
-        (b"[Fe+3]", "read"),
-        (b"[C+++++++++++++++]", "read"),
-        (b"[C+15]", "read"),
-        (b"[C@TH2]", "read"),
-        (b"[C@OH30]", "read"),
-        (b"[C@@H](C)C", "read"),
-        (b"[c]", "read"),
-        (b"[se]", "read"),
-        (b"[as]", "read"),
-        (b"Clc", "read"),
-        (b"Sc", "read"),
-        (b"CsC", "read"),
-        (b"[Sc]", "read"),
-        (b"[O+00]", "read"),
-        (b"[0C]", "read"),
-        (b"[13CH4:007]", "read"),
-        (b"[*]", "read"),
-        (b"*", "read"),
-        (b"[Lr]", "read"),
-        (b"C/C=C\\C", "read"),
-        (b"C$C#N", "read"),
-        (b"c1:c:c:c:c:c1", "read"),
-        (b"C(C)(C)C", "read"),
-        (b"C(=O)O", "read"),
-        (b"C(.C)C", "read"),
-        (b"C(C)", "read"),
-        (b"CC(C)(C(C))C", "read"),
-        (b"C.C", "read"),
-        (b"S(C)(C)(C)(C)(C)(C)(C)(C)(C)(C)(C)C", "read"),
-        (b"S(C)(C)(C)(C)(C)(C)(C)(C)(C)(C)(C)(C)C", "limit"),
-        (b"S(C)(C)(C)(C)(C)(C)(C)(C)(C)(C)(C)(C)C1", "ring"),
-        (b"S(C)(C)(C)(C)(C)(C)(C)(C)(C)(C)(C)(C)C(", "syntax"),
-    ];
-    for (text, answer) in texts {
-        assert_eq!(rt; answer_to(&rt, text), answer, "at {text:?}");
+    for (answer, texts) in [
+        (
+            "syntax",
+            "C[ C%1 [1000C] [C+16] C..C C) .C C( ()C C() C= =C [HH] [CH10] [C@TH3] [C@TH0] [C@TH01] [C@OH31] [H@H] C(C)1CC1 se Cr [] [C:] [Uuo] [++C]",
+        ),
+        (
+            "syntax",
+            "[C++2] [C++++++++++++++++] C1C( S(C)(C)(C)(C)(C)(C)(C)(C)(C)(C)(C)(C)C(",
+        ),
+        (
+            "ring",
+            "C1 C11 C1C1 C12CCCCC12 C-1CC=1 C1CC=%01C1 S(C)(C)(C)(C)(C)(C)(C)(C)(C)(C)(C)(C)C1",
+        ),
+        (
+            "read",
+            "C1CC=1 C=1CC1 C=1CC=1 C1CC%01 C%12CC%12 C1.C1 C1CC1C1CC1 [H] [H][H] [H@] [2H]C [Fe+++] [Fe+3] [C+++++++++++++++] [C+15] [C@TH2] [C@OH30]",
+        ),
+        (
+            "read",
+            "[C@@H](C)C [c] [se] [as] Clc Sc CsC [Sc] [O+00] [0C] [13CH4:007] [*] * [Lr] C/C=C\\C C$C#N c1:c:c:c:c:c1 C(C)(C)C C(=O)O C(.C)C C(C) CC(C)(C(C))C",
+        ),
+        ("read", "C.C S(C)(C)(C)(C)(C)(C)(C)(C)(C)(C)(C)C"),
+        ("limit", "S(C)(C)(C)(C)(C)(C)(C)(C)(C)(C)(C)(C)C"),
+    ] {
+        for text in texts.split(' ') {
+            assert_eq!(rt; answer_to(&rt, text.as_bytes()), answer, "at {text}");
+        }
     }
+    Ok(())
+}
+
+#[test]
+fn bytes_of_no_text(rt: HostRuntime) -> Result<(), Fail> {
+    for byte in [0, b'\t', b' ', 0xff] {
+        assert_eq!(rt; answer_to(&rt, &[b'C', byte, b'C']), "syntax", "at {byte}");
+    }
+    assert_eq!(rt; answer_to(&rt, b""), "syntax");
     Ok(())
 }
 
@@ -136,81 +86,68 @@ fn long_texts(rt: HostRuntime) -> Result<(), Fail> {
     Ok(())
 }
 
-#[test]
-fn bonds_stand_as_the_text_completes_them(rt: HostRuntime) -> Result<(), Fail> {
-    let texts: [(&[u8], &[(u16, u16, SketchKind)]); 5] = [
-        (
-            b"C1CC=1",
-            &[
-                (0, 1, SketchKind::Unwritten),
-                (1, 2, SketchKind::Unwritten),
-                (0, 2, SketchKind::Double),
-            ],
-        ),
-        (b"C1.C1", &[(0, 1, SketchKind::Unwritten)]),
-        (
-            b"C(=O)(/N)#C",
-            &[
-                (0, 1, SketchKind::Double),
-                (0, 2, SketchKind::Single),
-                (0, 3, SketchKind::Triple),
-            ],
-        ),
-        (
-            b"C(C.N)O",
-            &[(0, 1, SketchKind::Unwritten), (0, 3, SketchKind::Unwritten)],
-        ),
-        (
-            b"C$%10N:C%10",
-            &[
-                (0, 1, SketchKind::Unwritten),
-                (1, 2, SketchKind::Colon),
-                (0, 2, SketchKind::Quad),
-            ],
-        ),
-    ];
-    for (text, bonds) in texts {
-        let sketch = read_smiles(rt.alloc(), text)?;
-        assert_eq!(rt; sketch.bonds.len(), bonds.len(), "at {text:?}");
-        for (bond, (a, b, kind)) in sketch.bonds.iter().zip(bonds) {
-            assert_eq!(rt; (bond.a, bond.b), (*a, *b), "at {text:?}");
-            assert!(rt; bond.kind == *kind, "at {text:?}");
-        }
+/// Asserts which bonds are read.
+fn reads_bonds(
+    rt: &impl Abort,
+    alloc: Global,
+    text: &str,
+    bonds: &[(u16, u16, SketchKind)],
+) -> Result<(), Fail> {
+    let sketch = read_smiles(alloc, text.as_bytes())?;
+    assert_eq!(rt; sketch.bonds.len(), bonds.len(), "at {text}");
+    for (bond, (a, b, kind)) in sketch.bonds.iter().zip(bonds) {
+        assert_eq!(rt; (bond.a, bond.b), (*a, *b), "at {text}");
+        assert!(rt; bond.kind == *kind, "at {text}");
     }
     Ok(())
 }
 
 #[test]
+fn bonds_stand_as_the_text_completes_them(rt: HostRuntime) -> Result<(), Fail> {
+    let (none, double) = (SketchKind::Unwritten, SketchKind::Double);
+    reads_bonds(
+        &rt,
+        rt.alloc(),
+        "C1CC=1",
+        &[(0, 1, none), (1, 2, none), (0, 2, double)],
+    )?;
+    reads_bonds(&rt, rt.alloc(), "C1.C1", &[(0, 1, none)])?;
+    reads_bonds(
+        &rt,
+        rt.alloc(),
+        "C(=O)(/N)C",
+        &[(0, 1, double), (0, 2, SketchKind::Single), (0, 3, none)],
+    )?;
+    reads_bonds(&rt, rt.alloc(), "C(C.N)O", &[(0, 1, none), (0, 3, none)])?;
+    Ok(())
+}
+
+#[test]
 fn atoms_stand_as_written(rt: HostRuntime) -> Result<(), Fail> {
-    let texts: [(&[u8], u8, u16, i8, bool, bool, u8); 12] = [
-        (b"C", 6, 0, 0, false, true, 0),
-        (b"Cl", 17, 0, 0, false, true, 0),
-        (b"n", 7, 0, 0, true, true, 0),
-        (b"*", 0, 0, 0, false, false, 0),
-        (b"[*-]", 0, 0, -1, false, false, 0),
-        (b"[13CH4]", 6, 13, 0, false, false, 4),
-        (b"[nH]", 7, 0, 0, true, false, 1),
-        (b"[se]", 34, 0, 0, true, false, 0),
-        (b"[OH-]", 8, 0, -1, false, false, 1),
-        (b"[Fe+++]", 26, 0, 3, false, false, 0),
-        (b"[235U@OH12H0--:7]", 92, 235, -2, false, false, 0),
-        (b"[Co-15]", 27, 0, -15, false, false, 0),
-    ];
-    for (text, number, isotope, charge, lower, organic, hydrogens) in texts {
-        let sketch = read_smiles(rt.alloc(), text)?;
-        assert_eq!(rt; sketch.atoms.len(), 1, "at {text:?}");
+    for (text, number, isotope, charge, hydrogens) in [
+        ("Cl", 17, 0, 0, 0),
+        ("n", 7, 0, 0, 0),
+        ("*", 0, 0, 0, 0),
+        ("[*-]", 0, 0, -1, 0),
+        ("[13CH4]", 6, 13, 0, 4),
+        ("[nH]", 7, 0, 0, 1),
+        ("[Fe+++]", 26, 0, 3, 0),
+        ("[235U@OH12H0--:7]", 92, 235, -2, 0),
+    ] {
+        let sketch = read_smiles(rt.alloc(), text.as_bytes())?;
+        assert_eq!(rt; sketch.atoms.len(), 1, "at {text}");
         let atom = sketch.atoms[0];
+        assert_eq!(rt; (atom.number, atom.isotope), (number, isotope), "at {text}");
         assert_eq!(rt;
-            (atom.number, atom.isotope, atom.charge),
-            (number, isotope, charge),
-            "at {text:?}"
+            (atom.charge, atom.hydrogens),
+            (charge, hydrogens),
+            "at {text}"
         );
         assert_eq!(rt;
-            (atom.lower, atom.hydrogens, atom.written),
-            (lower, hydrogens, 0),
-            "at {text:?}"
+            atom.fill == Fill::Given,
+            number == 0 || text.len() > 2,
+            "at {text}"
         );
-        assert_eq!(rt; atom.fill == Fill::Organic, organic, "at {text:?}");
     }
     Ok(())
 }
