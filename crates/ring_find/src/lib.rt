@@ -1,0 +1,2 @@
+//! Ring bonds and smallest rings.
+#![tactic(auto)]
