@@ -1,0 +1,81 @@
+-- The lines of a text, and how far a text was read.
+use Rattle.std.specs.Prelude.{◌≡◌, ◌≢◌, ◌<◌, ◌-◌, ◌⊎◌, ℕ, Bool, true, false, IsTrue, List, [], ◌∷◌, ◌++◌, length, map, nat_lt, ◌==◌, if◌then◌else◌, Contains}
+use Rattle.io_edge.specs.declared.lines.TheConstants.{LF, CR, LONGEST_LINE}
+
+-- a line as it is answered: its text, or that it is too long
+pub data TextLine : Type 0 where
+  Whole : (bytes : List ℕ) → TextLine
+  TooLong : TextLine
+
+-- a piece of a text: its bytes up to an LF or the text's end, and whether an LF ended it
+pub record Piece : Type 0 where
+  pub bytes : List ℕ
+  pub ended : Bool
+
+-- a byte before the first piece, as its first byte
+abbrev pub before_first : ℕ → List Piece → List Piece
+before_first b [] = record { bytes = b ∷ []; ended = false } ∷ []
+before_first b (piece ∷ rest) = record piece { bytes = b ∷ piece.bytes } ∷ rest
+
+-- the pieces of a text, one for each LF, and one for the bytes behind the last LF where there are some
+abbrev pub pieces : List ℕ → List Piece
+pieces [] = []
+pieces (b ∷ bs) = if b == LF then (record { bytes = []; ended = true } ∷ pieces bs) else before_first b (pieces bs)
+
+-- the bytes without the one CR at their end, if there is one
+abbrev pub without_cr : List ℕ → List ℕ
+without_cr [] = []
+without_cr (b ∷ []) = if b == CR then [] else b ∷ []
+without_cr (b ∷ c ∷ bs) = b ∷ without_cr (c ∷ bs)
+
+-- a line's text: one CR directly before the LF is dropped
+abbrev pub text_of : Piece → List ℕ
+text_of piece = if piece.ended then without_cr piece.bytes else piece.bytes
+
+-- a text as a line, which has at most LONGEST_LINE bytes
+abbrev pub as_line : List ℕ → TextLine
+as_line text = if nat_lt LONGEST_LINE (length text) then TooLong else Whole text
+
+-- the lines of a whole text
+abbrev pub lines_of : List ℕ → List TextLine
+lines_of bytes = map (λ piece. as_line (text_of piece)) (pieces bytes)
+
+-- the bytes behind the first LF
+abbrev pub behind_lf : List ℕ → List ℕ
+behind_lf [] = []
+behind_lf (b ∷ bs) = if b == LF then bs else behind_lf bs
+
+-- How far a text was read: the bytes that were taken, not answered, and kept; whether the front of the line
+-- under way was dropped, since the line is too long whatever follows; how many bytes were taken, and how
+-- many may be; whether the end was met; the text of the line that the last call answered.
+pub record Reading : Type 0 where
+  pub pending : List ℕ
+  pub long : Bool
+  pub taken : ℕ
+  pub limit : ℕ
+  pub ended : Bool
+  pub text : List ℕ
+
+-- the lines that are still to be answered, where these bytes are left in the source
+abbrev pub lines_left : Reading → List ℕ → List TextLine
+lines_left reading left = if reading.long then TooLong ∷ lines_of (behind_lf (reading.pending ++ left)) else lines_of (reading.pending ++ left)
+
+-- A whole line is left to answer in what was taken: an LF, or the end was met behind bytes or a long line.
+abbrev pub HasWholeLine : Reading → Type 0
+HasWholeLine reading = Contains reading.pending LF ⊎ (IsTrue reading.ended × ((0 < length reading.pending) ⊎ IsTrue reading.long))
+
+-- as many bytes were taken as may be, the end was not met, and no whole line is left to answer
+pub record IsAtLimit (reading : Reading) : Type 0 where
+  pub all : reading.taken ≡ reading.limit
+  pub not_ended : reading.ended ≡ false
+  pub none : ¬ HasWholeLine reading
+
+-- the end was met, and nothing is left to answer
+pub record IsFinished (reading : Reading) : Type 0 where
+  pub ended : reading.ended ≡ true
+  pub none : reading.pending ≡ []
+  pub short : reading.long ≡ false
+
+-- how many of the bytes that were taken belong to lines that were answered, or were dropped
+abbrev pub done_bytes : Reading → ℕ
+done_bytes reading = reading.taken - length reading.pending

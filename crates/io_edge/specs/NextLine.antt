@@ -1,0 +1,56 @@
+-- What a call for the next line answers.
+use Rattle.std.specs.Prelude.{◌≡◌, ◌≤◌, ◌+◌, ◌⊎◌, ℕ, IsTrue, Result, Ok, Err, List, [], ◌∷◌, ◌++◌, length}
+use Rattle.io_edge.specs.Lines.{TextLine, Whole, TooLong, Reading, lines_left, HasWholeLine}
+use Rattle.io_edge.specs.declared.lines.Line.{Line}
+use Rattle.io_edge.specs.declared.lines.Line.TheVariants.{Text, Long, End}
+use Rattle.io_edge.specs.declared.lines.LineFault.{LineFault}
+
+-- the line that is answered, if one is
+abbrev pub answered : Result Line LineFault → List ℕ → List TextLine
+answered (Ok Text) text = Whole text ∷ []
+answered (Ok Long) text = TooLong ∷ []
+answered (Ok End) text = []
+answered (Err fault) text = []
+
+-- However the input goes on behind what was taken (where its end was met, not at all): the lines that were
+-- left are the one that is answered and those that are left then.
+abbrev pub Answers : Result Line LineFault → Reading → List ℕ → Reading → Type 0
+Answers answer old got new = (rest : List ℕ) → (IsTrue new.ended → rest ≡ []) → lines_left old (got ++ rest) ≡ answered answer new.text ++ lines_left new rest
+
+-- these bytes were taken, and no more than the limit allows
+pub record Counts (old : Reading) (got : List ℕ) (new : Reading) : Type 0 where
+  pub taken : new.taken ≡ old.taken + length got
+  pub limit : new.limit ≡ old.limit
+  pub within : new.taken ≤ new.limit
+
+-- the same in the words of a source that tells what is left: before the call l, and after it l'
+abbrev pub Told : Result Line LineFault → Reading → Reading → List ℕ → List ℕ → Type 0
+Told (Ok Text) old new l l' = lines_left old l ≡ Whole new.text ∷ lines_left new l'
+Told (Ok Long) old new l l' = lines_left old l ≡ TooLong ∷ lines_left new l'
+Told (Ok End) old new l l' = (lines_left old l ≡ []) × (l' ≡ [])
+Told (Err fault) old new l l' = lines_left new l' ≡ lines_left old l
+
+-- P holds where a line is answered
+abbrev pub OnLine : Result Line LineFault → Type 0 → Type 0
+OnLine (Ok Text) P = P
+OnLine (Ok Long) P = P
+OnLine (Ok End) P = Unit {0}
+OnLine (Err fault) P = Unit {0}
+
+-- P holds where a text is answered
+abbrev pub OnText : Result Line LineFault → Type 0 → Type 0
+OnText (Ok Text) P = P
+OnText (Ok Long) P = Unit {0}
+OnText (Ok End) P = Unit {0}
+OnText (Err fault) P = Unit {0}
+
+-- P holds where no text is answered
+abbrev pub OnNoText : Result Line LineFault → Type 0 → Type 0
+OnNoText (Ok Text) P = Unit {0}
+OnNoText (Ok Long) P = P
+OnNoText (Ok End) P = P
+OnNoText (Err fault) P = P
+
+-- the next call can answer with no more bytes
+abbrev pub CanAnswer : Reading → Type 0
+CanAnswer reading = HasWholeLine reading ⊎ IsTrue reading.ended ⊎ (reading.taken ≡ reading.limit)

@@ -1,0 +1,82 @@
+-- The steps of a call for the next line.
+use Rattle.std.specs.Prelude.{◌≡◌, ◌≢◌, ◌≤◌, ◌<◌, ℕ, Bool, false, IsTrue, ◌||◌, nat_lt, if◌then◌else◌, Option, None, Some, Result, Ok, Err, List, [], ◌++◌, length, take, drop}
+use Rattle.io_edge.specs.declared.lines.Line.{Line}
+use Rattle.io_edge.specs.declared.lines.Line.TheVariants.{Text, Long, End}
+use Rattle.io_edge.specs.declared.lines.LineFault.{LineFault}
+use Rattle.io_edge.specs.declared.lines.LineFault.TheVariants as fault
+use Rattle.io_edge.specs.declared.lines.TheConstants.{LONGEST_LINE}
+use Rattle.std.specs.Io.KnownBytes.{IsAtEnd}
+use Rattle.io_edge.specs.Source.{Leaves}
+use Rattle.io_edge.specs.Cut.{HasNoLf}
+use Rattle.io_edge.specs.Lines.{Reading, lines_left, HasWholeLine, IsAtLimit, IsFinished, done_bytes}
+use Rattle.io_edge.specs.NextLine.{Answers, Counts, OnLine, OnText, OnNoText}
+
+-- what holds of each reading
+pub record IsSound (reading : Reading) : Type 0 where
+  pub pending : length reading.pending ≤ reading.taken
+  pub within : reading.taken ≤ reading.limit
+  pub long : IsTrue reading.long → 0 < length reading.pending
+
+-- whether the next line is too long, if its text has so many bytes behind those that were dropped
+abbrev pub is_long : Reading → ℕ → Bool
+is_long reading text_len = reading.long || nat_lt LONGEST_LINE text_len
+
+-- what the front of the pending bytes is, as a line of such a text
+abbrev pub front_line : Reading → ℕ → Line
+front_line reading text_len = if is_long reading text_len then Long else Text
+
+-- the reading behind that line, which takes len bytes
+abbrev pub behind_line : Reading → ℕ → ℕ → Reading
+behind_line reading text_len len = record reading {
+  pending = drop len reading.pending;
+  long = false;
+  text = if is_long reading text_len then [] else take text_len reading.pending;
+}
+
+-- a whole line was cut off what was taken
+pub record CutsLine (line : Line) (old new : Reading) : Type 0 where
+  pub whole : HasWholeLine old
+  pub is_line : line ≢ End
+  pub lines : Answers (Ok line) old [] new
+  pub taken : new.taken ≡ old.taken
+  pub limit : new.limit ≡ old.limit
+  pub ended : new.ended ≡ old.ended
+  pub progress : done_bytes old < done_bytes new
+  pub fits : OnText (Ok line) (length new.text ≤ LONGEST_LINE)
+  pub none : OnNoText (Ok line) (new.text ≡ [])
+
+-- what was taken was enough for an answer
+pub record AnswersHeld (answer : Result Line LineFault) (old new : Reading) : Type 0 where
+  pub lines : Answers answer old [] new
+  pub taken : new.taken ≡ old.taken
+  pub limit : new.limit ≡ old.limit
+  pub ended : new.ended ≡ old.ended
+  pub progress : done_bytes old ≤ done_bytes new
+  pub rises : OnLine answer (done_bytes old < done_bytes new)
+  pub fits : OnText answer (length new.text ≤ LONGEST_LINE)
+  pub none : OnNoText answer (new.text ≡ [])
+  pub source : answer ≢ Err fault.Source
+  pub too_long : answer ≡ Err fault.TooLong → IsAtLimit new
+  pub at_limit : IsAtLimit old → answer ≡ Err fault.TooLong
+  pub end : answer ≡ Ok End → IsFinished new
+  pub finished : IsFinished old → answer ≡ Ok End
+
+-- more bytes are needed for an answer, and may be taken
+pub record NeedsMore (reading : Reading) : Type 0 where
+  pub none : HasNoLf reading.pending
+  pub line : ¬ HasWholeLine reading
+  pub not_ended : reading.ended ≡ false
+  pub below : reading.taken < reading.limit
+
+-- where the source tells what is left, before and then now, nothing is left now
+abbrev pub IsEndOf : Option (List ℕ) → Option (List ℕ) → Type 0
+IsEndOf None new = Unit {0}
+IsEndOf (Some xs) new = IsAtEnd new
+
+-- bytes were taken, and no line was answered
+pub record Reads (old new : Reading) (left_old left_new : Option (List ℕ)) : Type 0 where
+  pub got : List ℕ
+  pub leaves : Leaves left_old got left_new
+  pub counts : Counts old got new
+  pub lines : (rest : List ℕ) → lines_left new rest ≡ lines_left old (got ++ rest)
+  pub progress : done_bytes old ≤ done_bytes new

@@ -1,0 +1,59 @@
+// What bytes are put into.
+ghost use Rattle.std.specs.Prelude.{◌≡◌, ◌<◌, ◌≤◌, ◌^◌, ℕ, List, [], Option, OnOk};
+ghost use Rattle.std.specs.Io.KnownBytes.{Appends};
+ghost use Rattle.io_edge.specs.Faults.{Rose};
+ghost use Rattle.io_edge.specs.Sink.{OnFailed, OnNoMemory, AppendsPrefix};
+ghost use Rattle.io_edge.specs.declared.sinks.PutFault.TheVariants.{NoMemory};
+
+use std::alloc::AllocError;
+use std::error::Error;
+use std::fmt;
+
+/// Why a put did not succeed.
+#[derive(Clone, Copy, Debug, PartialEq, Eq)]
+pub enum PutFault {
+    /// The sink failed, and counted a fault. Some of the bytes, from the first on, may have been put.
+    Failed,
+    /// No memory was left. Nothing was put.
+    NoMemory,
+}
+
+impl fmt::Display for PutFault {
+    fn fmt<W: fmt::Write>(&self, f: &mut fmt::Formatter<W>) -> fmt::Result {
+        match self {
+            PutFault::Failed => write!(f, "the sink failed"),
+            PutFault::NoMemory => write!(f, "out of memory"),
+        }
+    }
+}
+
+impl Error for PutFault {}
+
+impl From<AllocError> for PutFault {
+    ghost from_gives = { λ _ fault. fault ≡ NoMemory };
+
+    fn from(_: AllocError) -> PutFault {
+        PutFault::NoMemory
+    }
+}
+
+/// What bytes are put into, one piece after the other.
+pub trait Sink {
+    /// The bytes that were put, where the sink tells them.
+    ghost written: { Self → Option (List ℕ) };
+
+    /// How many faults there were. The count stands still at 2^64 - 1.
+    ghost faults: { Self → ℕ };
+
+    /// Puts all of `bytes` behind what was put before.
+    fn put(&mut self, bytes: &[u8]) -> Result<(), PutFault>
+        ensures ok { OnOk result (Appends (written self.old) (written self.new) bytes.now) }
+
+        ensures failed { OnFailed result (Rose (faults self.old) (faults self.new)) }
+        ensures part { OnFailed result (AppendsPrefix (written self.old) (written self.new) bytes.now) }
+
+        ensures no_memory { OnNoMemory result (Appends (written self.old) (written self.new) []) }
+
+        ensures count { faults self.old ≤ faults self.new }
+        ensures held { faults self.new < 2 ^ 64 };
+}

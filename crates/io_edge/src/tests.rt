@@ -1,0 +1,134 @@
+// Worked cases of lines, sources and sinks.
+use crate::{Line, LineFault, Lines, MemSink, MemSource, PutFault, Sink, Source, StdSink, StdSource, Take};
+use std::alloc::{AllocError, Global};
+use std::test::Fail;
+
+/// What calls for the next line answer: each text and `|`, `L|` for a long line, `!` for a fault of the
+/// source, and at last `.` for the end or `#` at the limit.
+fn answers<S: Source>(alloc: Global, source: &mut S, limit: u64) -> Result<Vec<u8>, AllocError> {
+    let mut lines = Lines::new(alloc, limit)?;
+    let mut said = Vec::new(alloc);
+    for _ in 0..16 {
+        match lines.next_line(source) {
+            Ok(Line::Text) => {
+                said.extend_from_slice(lines.text())?;
+                said.push(b'|')?;
+            }
+            Ok(Line::Long) => said.extend_from_slice(b"L|")?,
+            Ok(Line::End) => {
+                said.push(b'.')?;
+                break;
+            }
+            Err(LineFault::Source) => said.push(b'!')?,
+            Err(LineFault::TooLong) => {
+                said.push(b'#')?;
+                break;
+            }
+        }
+    }
+    Ok(said)
+}
+
+#[test]
+fn texts_are_cut_into_lines(rt: HostRuntime) -> Result<(), Fail> {
+    let rows: [(&[u8], u64, &[u8]); 12] = [
+        (b"", 100, b"."),
+        (b"\n\n", 100, b"||."),
+        (b"ab\ncd\n", 100, b"ab|cd|."),
+        (b"ab\r\n\r\ncd", 100, b"ab||cd|."),
+        (b"ab\r\r\n", 100, b"ab\r|."),
+        (b"a\rb\n", 100, b"a\rb|."),
+        (b"ab\r", 100, b"ab\r|."),
+        (b"\r", 100, b"\r|."),
+        (b"ab\ncd\n", 7, b"ab|cd|."),
+        (b"ab\ncd\n", 6, b"ab|cd|#"),
+        (b"ab\ncd\n", 5, b"ab|#"),
+        (b"ab\n", 0, b"#"),
+    ];
+    for (text, limit, want) in rows {
+        for piece in [1, 3, 1000] {
+            assert!(rt; 1 <= piece);
+            let bytes = text.to_vec(rt.alloc())?;
+            let mut source = MemSource::new(bytes, piece, Vec::new(rt.alloc()));
+            let said = answers(rt.alloc(), &mut source, limit)?;
+            assert_eq!(rt; said.as_slice(), want, "{text:?} by {piece}");
+        }
+    }
+    Ok(())
+}
+
+#[test]
+fn long_lines_are_told(rt: HostRuntime) -> Result<(), Fail> {
+    let rows: [(usize, &[u8], bool); 6] = [
+        (65_536, b"\nab\n", false),
+        (65_537, b"\nab\n", true),
+        (65_536, b"\r\nab\n", false),
+        (65_537, b"\r\nab\n", true),
+        (200_000, b"\nab\n", true),
+        (200_000, b"\r\nab", true),
+    ];
+    for (length, end, long) in rows {
+        for piece in [1, 3, 1000] {
+            assert!(rt; 1 <= piece);
+            let mut bytes = vec![in rt.alloc(); b'x'; length]?;
+            bytes.extend_from_slice(end)?;
+            let mut source = MemSource::new(bytes, piece, Vec::new(rt.alloc()));
+            let said = answers(rt.alloc(), &mut source, 1_000_000)?;
+            if long {
+                assert_eq!(rt; said.as_slice(), b"L|ab|.".as_slice());
+            } else {
+                assert_eq!(rt; said.len(), length + 5);
+            }
+        }
+    }
+    Ok(())
+}
+
+#[test]
+fn a_fault_loses_nothing(rt: HostRuntime) -> Result<(), Fail> {
+    let mut fails = Vec::new(rt.alloc());
+    fails.push(1)?;
+    fails.push(2)?;
+    fails.push(4)?;
+    let bytes = b"ab\ncdef\ng".to_vec(rt.alloc())?;
+    let mut source = MemSource::new(bytes, 4, fails);
+    let said = answers(rt.alloc(), &mut source, 100)?;
+    assert_eq!(rt; said.as_slice(), b"ab|!!cdef|!g|.".as_slice());
+    Ok(())
+}
+
+#[test]
+fn readers_and_writers_of_std(rt: HostRuntime) -> Result<(), Fail> {
+    let text: &[u8] = b"ab\r\ncd";
+    let mut source = StdSource::new(text);
+    let said = answers(rt.alloc(), &mut source, 100)?;
+    assert_eq!(rt; said.as_slice(), b"ab|cd|.".as_slice());
+    assert_eq!(rt; source.take(&mut [0; 4]), Take::End);
+
+    let mut out = Vec::new(rt.alloc());
+    let mut sink = StdSink::new(&mut out);
+    assert_eq!(rt; sink.put(b"ab"), Ok(()));
+    assert_eq!(rt; sink.put(b""), Ok(()));
+    assert_eq!(rt; sink.put(b"cd"), Ok(()));
+    drop(sink);
+    assert_eq!(rt; out.as_slice(), b"abcd".as_slice());
+
+    // A writer that takes nothing.
+    let mut room = [0; 3];
+    let mut full = StdSink::new(room.as_mut_slice());
+    assert_eq!(rt; full.put(b"abc"), Ok(()));
+    assert_eq!(rt; full.put(b"d"), Err(PutFault::Failed));
+    Ok(())
+}
+
+#[test]
+fn puts_fail_where_they_are_told_to(rt: HostRuntime) -> Result<(), Fail> {
+    let mut fails = Vec::new(rt.alloc());
+    fails.push(1)?;
+    let mut sink = MemSink::new(rt.alloc(), fails);
+    assert_eq!(rt; sink.put(b"ab"), Ok(()));
+    assert_eq!(rt; sink.put(b"cd"), Err(PutFault::Failed));
+    assert_eq!(rt; sink.put(b"ef"), Ok(()));
+    assert_eq!(rt; sink.bytes(), b"abef".as_slice());
+    Ok(())
+}
