@@ -1,0 +1,35 @@
+//! Bonds that lead to dead ends are stripped, one after another, since no ring goes through them.
+use crate::graph::{Graph, Step};
+use std::alloc::{AllocError, Global};
+
+/// For each bond whether it is kept: each ring bond is.
+pub fn strip(alloc: Global, graph: &Graph) -> Result<Vec<bool>, AllocError> {
+    let mut kept = vec![in alloc; true; graph.ends().len()]?;
+    for atom in 0..graph.atoms() {
+        strip_from(graph, &mut kept, atom as u16);
+    }
+    Ok(kept)
+}
+
+// Walks from a dead end inwards, stripping each bond on the way, as long as no other bond is kept.
+fn strip_from(graph: &Graph, kept: &mut [bool], atom: u16) {
+    let mut at = atom;
+    while let Some(step) = only_kept(graph.steps_from(at), kept) {
+        kept[usize::from(step.bond)] = false;
+        at = step.to;
+    }
+}
+
+// The one step by a kept bond, where there is exactly one.
+fn only_kept(steps: &[Step], kept: &[bool]) -> Option<Step> {
+    let mut only = None;
+    for step in steps {
+        if kept[usize::from(step.bond)] {
+            if only.is_some() {
+                return None;
+            }
+            only = Some(*step);
+        }
+    }
+    only
+}
