@@ -131,19 +131,21 @@ pub cycle_from_path : (n : ℕ) (ends : Ends) (kept : List Bool) (b x y d : ℕ)
 cycle_from_path n ends kept b x y d xs graph at two p =
     let long = p.long in
     let turn : JoinsAt ends b (get_or xs d 0) (get_or xs 0 0) = rw (p.last, p.first) (inr at) in
-    let last : next_place xs d ≡ 0 = elim (next_cases xs d (omega arith)) [ inl q ↦ absurd (omega (arith, q.0)) | inr q ↦ q.1 ] in
-    (record {
-      three = omega arith;
-      distinct = λ i j e low high same. path_distinct _ x y d xs p i j low (omega arith) (get_or_default xs i 0 e (omega arith) ∙ same ∙ get_or_default xs j e 0 high);
-      joined = λ i h. elim (cases_lt i d) [
-        | inl l ↦
-            let s = p.steps i l in
-            elim (next_cases xs i h) [ inl q ↦ rw (q.1) (s.0, s.3) | inr q ↦ absurd (omega (arith, q.0)) ]
-        | inr l ↦
-            let is : i ≡ d = omega arith in
-            rw (is, last) (b, turn)
-      ];
-    }, (d, omega arith, rw last turn))
+    let last : next_place xs d ≡ 0 = elim (next_cases xs d (omega arith)) [ inl q ↦ absurd (omega (arith, q.0)) | inr q ↦ q.1 ] in (
+      record {
+        three = omega arith;
+        distinct = λ i j e low high same. path_distinct _ x y d xs p i j low (omega arith) (get_or_default xs i 0 e (omega arith) ∙ same ∙ get_or_default xs j e 0 high);
+        joined = λ i h. elim (cases_lt i d) [
+          | inl l ↦
+              let s = p.steps i l in
+              elim (next_cases xs i h) [ inl q ↦ rw (q.1) (s.0, s.3) | inr q ↦ absurd (omega (arith, q.0)) ]
+          | inr l ↦
+              let is : i ≡ d = omega arith in
+              rw (is, last) (b, turn)
+        ];
+      },
+      (d, omega arith, rw last turn),
+    )
 
 -- no other bond joins the same atoms, so a walk that leaves the bond out has two steps or more
 two_steps : (n : ℕ) (ends : Ends) (kept : List Bool) (b x y d : ℕ) → IsSimpleGraph n ends → slice_get ends b ≡ Some (x, y) → x ≢ y → Walk (StepBut ends kept b) x y d → 2 ≤ d
@@ -165,10 +167,16 @@ smallest_from_mark n ends kept b x y r graph keeps at ne h =
           let path = path_of (StepBut ends kept b) x y d far in
           let ring = cycle_from_path n ends kept b x y d path.0 graph at two path.1 in
           let long = path.1.long in
-          inr (path.0, ring.0, ring.1, omega (arith, q.1, long), λ xs cycle lies.
-            let more = far.least _ (walk_from_cycle ends kept b x y xs keeps at cycle lies) in
-            let three = cycle.three in
-            omega (arith, q.1))
+          inr (
+            path.0,
+            ring.0,
+            ring.1,
+            omega (arith, q.1, long),
+            λ xs cycle lies.
+                let more = far.least _ (walk_from_cycle ends kept b x y xs keeps at cycle lies) in
+                let three = cycle.three in
+                omega (arith, q.1),
+          )
     ]
 
 -- ---- the ring bonds at an atom

@@ -1,3 +1,4 @@
 pub mod Walks
 pub mod Cycles
 pub mod Searches
+pub mod Tables

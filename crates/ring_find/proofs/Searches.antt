@@ -109,11 +109,11 @@ search_push S n x marks queue next w h here step within fresh =
         ]
       ];
       past = λ i v l s.
-      let a : i < q = let e = h.within in omega arith in
-      let s' : S (get_or queue i 0) v = rw (oldq i a) at s in
-      let p = h.past i v l s' in
-      let ne : v ≢ w = λ e. let z : get_or marks v 0 ≡ 0 = ap (λ k. get_or marks k 0) e ∙ fresh in omega (arith, p.0) in
-      rw (olda i a, oldm v ne) p;
+          let a : i < q = let e = h.within in omega arith in
+          let s' : S (get_or queue i 0) v = rw (oldq i a) at s in
+          let p = h.past i v l s' in
+          let ne : v ≢ w = λ e. let z : get_or marks v 0 ≡ 0 = ap (λ k. get_or marks k 0) e ∙ fresh in omega (arith, p.0) in
+          rw (olda i a, oldm v ne) p;
     }
 
 pub search_next : (S : ℕ → ℕ → Type 0) (n x : ℕ) (marks queue : List ℕ) (next : ℕ) → IsSearch S n x marks queue next → next < length queue → ((v : ℕ) → S (get_or queue next 0) v → (0 < get_or marks v 0) × (get_or marks v 0 ≤ mark_at marks queue next + 1)) → IsSearch S n x marks queue (next + 1)
@@ -164,24 +164,31 @@ reached S n x marks queue next h w (suc m) walk soon =
 pub search_done : (S : ℕ → ℕ → Type 0) (n x : ℕ) (marks queue : List ℕ) (next y : ℕ) → IsSearch S n x marks queue next → (get_or marks y 0 ≢ 0) ⊎ (length queue ≤ next) → IsMark S x y (get_or marks y 0)
 search_done S n x marks queue next y h end =
     elim (cases_eq (get_or marks y 0) 0) [
-      | inl none ↦ inl (none, λ m w. elim end [
-        | inl some ↦ some none
-        | inr all ↦ let r = reached S n x marks queue next h y m w (λ l. absurd (omega arith)) in omega (arith, r.0)
-      ])
+      | inl none ↦ inl (
+        none,
+        λ m w. elim end [
+          | inl some ↦ some none
+          | inr all ↦ let r = reached S n x marks queue next h y m w (λ l. absurd (omega arith)) in omega (arith, r.0)
+        ],
+      )
       | inr some ↦
           let d : ℕ = get_or marks y 0 - 1 in
           let is : get_or marks y 0 ≡ suc d = omega arith in
-          inr (d, is, record {
-            walk = h.walk y d is;
-            least = λ m w. elim (cases_lt m d) [
-              | inr l ↦ l
-              | inl l ↦
-                  let place = h.queued y some in
-                  let j : ℕ = place.0 in
-                  let at : get_or queue j 0 ≡ y = get_or_default queue j 0 y place.1 ∙ place.2 in
-                  let mark : mark_at marks queue j ≡ get_or marks y 0 = ap (λ v. get_or marks v 0) at in
-                  let r = reached S n x marks queue next h y m w (λ k. let near = h.near next j (omega arith) k place.1 in omega arith) in
-                  absurd (omega (arith, r.1))
-            ];
-          })
+          inr (
+            d,
+            is,
+            record {
+              walk = h.walk y d is;
+              least = λ m w. elim (cases_lt m d) [
+                | inr l ↦ l
+                | inl l ↦
+                    let place = h.queued y some in
+                    let j : ℕ = place.0 in
+                    let at : get_or queue j 0 ≡ y = get_or_default queue j 0 y place.1 ∙ place.2 in
+                    let mark : mark_at marks queue j ≡ get_or marks y 0 = ap (λ v. get_or marks v 0) at in
+                    let r = reached S n x marks queue next h y m w (λ k. let near = h.near next j (omega arith) k place.1 in omega arith) in
+                    absurd (omega (arith, r.1))
+              ];
+            },
+          )
     ]

@@ -63,13 +63,16 @@ path_more S x y z n xs h s p =
     }
 
 pub path_of : (S : ℕ → ℕ → Type 0) (x y n : ℕ) → IsDistance S x y n → (xs : List ℕ) × IsPath S x y n xs
-path_of S x y zero h = (y ∷ [], record {
-  long = refl;
-  first = sym (h.walk);
-  last = refl;
-  steps = λ k l. absurd (omega arith);
-  far = λ k l. let is : k ≡ 0 = omega arith in rw is h;
-})
+path_of S x y zero h = (
+  y ∷ [],
+  record {
+    long = refl;
+    first = sym (h.walk);
+    last = refl;
+    steps = λ k l. absurd (omega arith);
+    far = λ k l. let is : k ≡ 0 = omega arith in rw is h;
+  },
+)
 path_of S x y (suc n) h =
     let z : ℕ = h.walk.0 in
     let near : IsDistance S x z n = before_last S x y z n h h.walk.1 h.walk.2 in

@@ -1,3 +1,4 @@
 pub mod Walk
 pub mod BondRings
 pub mod Search
+pub mod Network

@@ -3,7 +3,11 @@ use crate::graph::Graph;
 use std::alloc::{AllocError, Global};
 
 /// For each atom the least of the ring lengths of its bonds, leaving out zeros; 0 where there is no other.
-pub fn smallest_rings(alloc: Global, graph: &Graph, lengths: &[u16]) -> Result<Vec<u16>, AllocError> {
+pub fn smallest_rings(
+    alloc: Global,
+    graph: &Graph,
+    lengths: &[u16],
+) -> Result<Vec<u16>, AllocError> {
     let mut small: Vec<u16> = vec![in alloc; 0u16; graph.atoms()]?;
     for place in 0..lengths.len() {
         let (a, b) = graph.ends()[place];

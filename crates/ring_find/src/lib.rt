@@ -11,13 +11,12 @@ mod least;
 mod search;
 mod strip;
 
-pub use facts::Rings;
-
 use crate::graph::Graph;
 use crate::least::smallest_rings;
 use crate::search::ring_lengths;
 use crate::strip::strip;
 use chem_core::Sketch;
+pub use facts::Rings;
 use std::alloc::{AllocError, Global};
 
 /// Which bonds are ring bonds, and the length of the smallest ring of each atom, 0 where it is in none.

@@ -1,0 +1,36 @@
+-- The graph of a sketch: its bonds as steps from each atom to its neighbours.
+use Rattle.std.specs.Prelude.{◌≡◌, ◌<◌, ◌≤◌, ◌+◌, ◌*◌, ℕ, List, length, slice_index, slice_index_or, Contains}
+use Rattle.chem_core.specs.Graph.{Ends, JoinsAt, IsSimpleGraph}
+use Rattle.ring_find.specs.declared.graph.Step.{Step}
+
+pub record Network : Type 0 where
+  pub atoms : ℕ
+  pub ends : Ends
+
+-- each of the first bonds, as many as bonds, from both of its ends
+pub record AreSteps (ends : Ends) (bonds : ℕ) (steps : List Step) : Type 0 where
+  pub two_each : length steps ≡ 2 * bonds
+  pub joins : (s : Step) → Contains steps s → JoinsAt ends s.bond s.from s.to
+  pub each : (b x y : ℕ) → b < bonds → JoinsAt ends b x y → Contains steps (record { from = x; to = y; bond = b })
+
+-- the steps that begin at an atom: each bond that ends there, once from it
+pub record AreStepsFrom (ends : Ends) (atom : ℕ) (steps : List Step) : Type 0 where
+  pub joins : (s : Step) → Contains steps s → (s.from ≡ atom) × JoinsAt ends s.bond atom s.to
+  pub each : (b y : ℕ) → JoinsAt ends b atom y → Contains steps (record { from = atom; to = y; bond = b })
+
+-- the steps before the place begin at atoms below, and the others do not
+pub record IsStart (steps : List Step) (atom place : ℕ) : Type 0 where
+  pub within : place ≤ length steps
+  pub before : (i : ℕ) (d : Step) → i < place → (slice_index_or steps i d).from < atom
+  pub after : (i : ℕ) (d : Step) → place ≤ i → i < length steps → atom ≤ (slice_index_or steps i d).from
+
+-- for each atom below count where its steps begin
+pub record AreStarts (count : ℕ) (steps : List Step) (starts : List ℕ) : Type 0 where
+  pub one_each : length starts ≡ count
+  pub each : (a : ℕ) → a < count → IsStart steps a (slice_index starts a)
+
+-- what a graph keeps about its fields
+pub record IsNetworkInside (atoms : ℕ) (ends : Ends) (steps : List Step) (starts : List ℕ) : Type 0 where
+  pub graph : IsSimpleGraph atoms ends
+  pub both_ways : AreSteps ends (length ends) steps
+  pub begins : AreStarts (atoms + 1) steps starts
