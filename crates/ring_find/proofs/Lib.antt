@@ -2,3 +2,4 @@ pub mod Walks
 pub mod Cycles
 pub mod Searches
 pub mod Tables
+pub mod Visits

@@ -1,6 +1,7 @@
 -- A breadth-first search under way: the marks of the atoms, and the queue of the atoms that are marked.
-use Rattle.std.specs.Prelude.{◌≡◌, ◌≢◌, ◌≤◌, ◌<◌, ◌+◌, ◌==◌, ℕ, suc, List, length, slice_index, count_by, Contains}
-use Rattle.ring_find.specs.Walk.{Walk}
+use Rattle.std.specs.Prelude.{◌≡◌, ◌≢◌, ◌≤◌, ◌<◌, ◌+◌, ◌==◌, ℕ, suc, Bool, List, length, slice_index, slice_index_or, count_by, Contains}
+use Rattle.chem_core.specs.Graph.{Ends}
+use Rattle.ring_find.specs.Walk.{Walk, StepBut}
 
 -- the mark of the i-th atom of the queue
 abbrev pub mark_at : List ℕ → List ℕ → ℕ → ℕ
@@ -21,3 +22,8 @@ pub record IsSearch (Step : ℕ → ℕ → Type 0) (atoms x : ℕ) (marks queue
   pub rises : (i j : ℕ) → i ≤ j → j < length queue → mark_at marks queue i ≤ mark_at marks queue j
   pub near : (i j : ℕ) → next ≤ i → i < length queue → j < length queue → mark_at marks queue j ≤ mark_at marks queue i + 1
   pub past : (i v : ℕ) → i < next → Step (slice_index queue i) v → (0 < slice_index marks v) × (slice_index marks v ≤ mark_at marks queue i + 1)
+
+-- a search for the smallest ring through bond b, from the first of its ends
+abbrev pub IsRingSearch : Ends → List Bool → ℕ → ℕ → List ℕ → List ℕ → ℕ → Type 0
+IsRingSearch ends kept b atoms marks queue next =
+    IsSearch (StepBut ends kept b) atoms (slice_index_or ends b (0, 0)).0 marks queue next

@@ -75,7 +75,8 @@ impl Graph {
     /// The steps from an atom to its neighbours.
     pub fn steps_from(&self, atom: u16) -> &[Step]
         requires { atom < self.now.atoms }
-        ensures { AreStepsFrom self.now.ends atom result.now }
+        ensures steps { AreStepsFrom self.now.ends atom result.now }
+        ensures valid { IsSimpleGraph self.now.atoms self.now.ends }
     {
         let atom = usize::from(atom);
         let start = usize::from(self.starts[atom]);
