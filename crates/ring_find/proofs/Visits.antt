@@ -20,7 +20,7 @@ ends_at n ends b graph h =
     let range = graph.in_range b (0, 0) h in
     (range.0, range.1, graph.distinct b (0, 0) h, slice_get-get_or ends b (0, 0) h)
 
-joined_within : (n : ℕ) (ends : Ends) (b x y : ℕ) → IsSimpleGraph n ends → JoinsAt ends b x y → (b < length ends) × (y < n)
+pub joined_within : (n : ℕ) (ends : Ends) (b x y : ℕ) → IsSimpleGraph n ends → JoinsAt ends b x y → (b < length ends) × (y < n)
 joined_within n ends b x y graph j =
     elim j [
       | inl q ↦

@@ -1,9 +1,15 @@
 //! Bonds that lead to dead ends are stripped, one after another, since no ring goes through them.
+ghost use Rattle.std.specs.Prelude.{◌≡◌, ◌<◌, length, All, IfOk, IfSome};
+ghost use Rattle.ring_find.specs.BondRings.{KeepsRings};
+ghost use Rattle.ring_find.specs.Strip.{IsOnlyKept};
+
 use crate::graph::{Graph, Step};
 use std::alloc::{AllocError, Global};
 
 /// For each bond whether it is kept: each ring bond is.
-pub fn strip(alloc: Global, graph: &Graph) -> Result<Vec<bool>, AllocError> {
+pub fn strip_dead_ends(alloc: Global, graph: &Graph) -> Result<Vec<bool>, AllocError>
+    ensures { IfOk result (λ kept. KeepsRings graph.now.ends kept.items) }
+{
     let mut kept = vec![in alloc; true; graph.ends().len()]?;
     for atom in 0..graph.atoms() {
         strip_from(graph, &mut kept, atom as u16);
@@ -12,7 +18,11 @@ pub fn strip(alloc: Global, graph: &Graph) -> Result<Vec<bool>, AllocError> {
 }
 
 // Walks from a dead end inwards, stripping each bond on the way, as long as no other bond is kept.
-fn strip_from(graph: &Graph, kept: &mut [bool], atom: u16) {
+fn strip_from(graph: &Graph, kept: &mut [bool], atom: u16)
+    requires atom { atom < graph.now.atoms }
+    requires kept { KeepsRings graph.now.ends kept.old }
+    ensures { KeepsRings graph.now.ends kept.new }
+{
     let mut at = atom;
     while let Some(step) = only_kept(graph.steps_from(at), kept) {
         kept[usize::from(step.bond)] = false;
@@ -21,7 +31,10 @@ fn strip_from(graph: &Graph, kept: &mut [bool], atom: u16) {
 }
 
 // The one step by a kept bond, where there is exactly one.
-fn only_kept(steps: &[Step], kept: &[bool]) -> Option<Step> {
+fn only_kept(steps: &[Step], kept: &[bool]) -> Option<Step>
+    requires { All (λ s. s.bond < length kept.now) steps.now }
+    ensures { IfSome result (IsOnlyKept steps.now kept.now) }
+{
     let mut only = None;
     for step in steps {
         if kept[usize::from(step.bond)] {
