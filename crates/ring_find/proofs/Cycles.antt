@@ -1,11 +1,11 @@
 -- Simple cycles through a bond, and shortest walks without it.
-use Rattle.std.proofs.Common.{ℕ, suc, zero, ◌+◌, ◌-◌, ◌%◌, ◌<◌, ◌≤◌, ◌≡◌, ◌≢◌, ◌⊎◌, inl, inr, Bool, true, false, Some, List, [], ◌∷◌, length, get_or, Contains, refl, sym, ap, subst, ◌∙◌, arith}
+use Rattle.std.proofs.Common.{ℕ, suc, zero, ◌+◌, ◌-◌, ◌%◌, ◌<◌, ◌≤◌, ◌≡◌, ◌≢◌, ◌⊎◌, inl, inr, Bool, Some, List, length, get_or, Contains, sym, ap, ◌∙◌, arith}
 use Rattle.std.specs.List.{slice_get}
 use Rattle.std.proofs.Math.Nat.{mod-eq_of_lt, mod_self}
 use Rattle.std.proofs.lemmas.Bool.{cases_lt, cases_eq}
 use Rattle.std.proofs.lemmas.Option.{same_Some}
 use Rattle.std.proofs.lemmas.List.{get_or_default}
-use Rattle.chem_core.specs.Graph.{Ends, JoinsAt, Joined, IsSimpleGraph, IsSimpleCycle, LiesOn, IsRingBond, next_place}
+use Rattle.chem_core.specs.Graph.{Ends, JoinsAt, IsSimpleGraph, IsSimpleCycle, LiesOn, IsRingBond, next_place}
 use Rattle.ring_find.specs.Walk.{StepBut, Walk, IsDistance}
 use Rattle.ring_find.specs.BondRings.{IsSmallestThrough, KeepsRings}
 use Rattle.ring_find.proofs.Walks.{walk_join, walk_back, walk_along, IsPath, path_of, path_distinct, IsMark}

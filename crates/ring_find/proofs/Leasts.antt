@@ -1,13 +1,12 @@
 -- The least length of the bonds of an atom, bond after bond, and what it is in the end.
-use Rattle.std.proofs.Common.{ℕ, suc, zero, ◌+◌, ◌%◌, ◌<◌, ◌≤◌, ◌≡◌, ◌≢◌, ◌⊎◌, inl, inr, Some, List, length, get_or, replicate, Contains, refl, sym, ap, subst, ◌∙◌, arith}
+use Rattle.std.proofs.Common.{ℕ, ◌+◌, ◌%◌, ◌<◌, ◌≤◌, ◌≡◌, ◌≢◌, inl, inr, Some, List, length, get_or, sym, ◌∙◌, arith}
 use Rattle.std.specs.List.{slice_get}
 use Rattle.std.proofs.lemmas.Bool.{cases_lt, cases_eq}
 use Rattle.std.proofs.lemmas.Option.{slice_get_within}
-use Rattle.chem_core.specs.Graph.{Ends, JoinsAt, IsSimpleGraph, IsSimpleCycle, IsSmallestRing}
+use Rattle.chem_core.specs.Graph.{Ends, JoinsAt, IsSimpleCycle, IsSmallestRing}
 use Rattle.ring_find.specs.BondRings.{AreBondRings, IsSmallestThrough}
 use Rattle.ring_find.specs.Least.{IsLesser}
 use Rattle.ring_find.proofs.Cycles.{joins_one, bond_of_atom, atom_of_bond}
-use Rattle.ring_find.proofs.Visits.{ends_at}
 
 -- n is the least length of the atom's bonds before the place i, and 0 where all are 0
 pub record IsLeastBefore (ends : Ends) (lengths : List ℕ) (i v n : ℕ) : Type 0 where

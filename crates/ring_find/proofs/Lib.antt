@@ -6,3 +6,4 @@ pub mod Visits
 pub mod Strips
 pub mod Leasts
 pub mod Ringed
+pub mod Drawn

@@ -1,11 +1,11 @@
 -- Bonds stripped one after another.
-use Rattle.std.proofs.Common.{ℕ, suc, zero, ◌+◌, ◌<◌, ◌≤◌, ◌≡◌, ◌≢◌, ◌⊎◌, inl, inr, Bool, true, false, cond, List, length, get_or, set, replicate, Contains, refl, sym, ap, subst, ◌∙◌, arith}
+use Rattle.std.proofs.Common.{ℕ, ◌+◌, ◌<◌, ◌≡◌, inl, inr, Bool, true, false, cond, List, length, get_or, set, replicate, subst, ◌∙◌, arith}
 use Rattle.std.specs.List.{count_by}
 use Rattle.std.proofs.lemmas.Bool.{cases_eq}
 use Rattle.std.proofs.lemmas.Option.{slice_get_within}
 use Rattle.std.proofs.lemmas.List.{length-set, length-replicate, get_or-set_other, get_or-replicate}
 use Rattle.std.proofs.lemmas.List.Sums.{sum_by-set}
-use Rattle.chem_core.specs.Graph.{Ends, JoinsAt, IsRingBond}
+use Rattle.chem_core.specs.Graph.{Ends, IsRingBond}
 use Rattle.ring_find.specs.declared.graph.Step.{Step}
 use Rattle.ring_find.specs.Network.{AreStepsFrom}
 use Rattle.ring_find.specs.BondRings.{KeepsRings}

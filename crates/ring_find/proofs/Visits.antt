@@ -1,7 +1,7 @@
 -- The steps of one atom taken one after another, and what a search for the ring of a bond says in the end.
-use Rattle.std.proofs.Common.{ℕ, suc, zero, ◌+◌, ◌-◌, ◌<◌, ◌≤◌, ◌≡◌, ◌≢◌, ◌⊎◌, inl, inr, Bool, true, false, Some, List, [], ◌∷◌, ◌++◌, length, get_or, set, take, drop, replicate, Contains, refl, sym, ap, subst, ◌∙◌, arith}
+use Rattle.std.proofs.Common.{ℕ, ◌+◌, ◌<◌, ◌≤◌, ◌≡◌, ◌≢◌, ◌⊎◌, inl, inr, Bool, true, false, Some, List, [], ◌∷◌, ◌++◌, length, get_or, set, replicate, ap, subst, ◌∙◌, arith}
 use Rattle.std.specs.List.{slice_get}
-use Rattle.std.proofs.lemmas.Bool.{cases_lt, cases_eq}
+use Rattle.std.proofs.lemmas.Bool.{cases_lt}
 use Rattle.std.proofs.lemmas.Option.{slice_get_within, slice_get-get_or, get_or_from_slice_get}
 use Rattle.std.proofs.lemmas.List.{get_or_append_left, get_or_push, length_push, get_or-set_same, get_or-set_other, get_or_past, get_or_default}
 use Rattle.chem_core.specs.Graph.{Ends, JoinsAt, IsSimpleGraph}
@@ -130,10 +130,6 @@ pub ring_done : (n : ℕ) (ends : Ends) (kept : List Bool) (b : ℕ) (marks queu
 ring_done n ends kept b marks queue next graph keeps within h end =
     let e = ends_at n ends b graph within in
     smallest_from_mark n ends kept b _ _ _ graph keeps e.3 e.2 (search_done (StepBut ends kept b) n _ marks queue next _ h end)
-
--- a bond that is not kept is on no ring
-pub not_kept : (ends : Ends) (kept : List Bool) (b : ℕ) → KeepsRings ends kept → get_or kept b false ≡ false → IsSmallestThrough ends b 0
-not_kept ends kept b keeps stripped = inl (refl, λ xs cycle lies. let kept_too = keeps.each b (xs, cycle, lies) in cc)
 
 -- one more bond's ring
 pub rings_more : (ends : Ends) (lengths : List ℕ) (n v : ℕ) → length lengths ≡ n → ((b : ℕ) → b < n → IsSmallestThrough ends b (get_or lengths b 0)) → IsSmallestThrough ends n v → (b : ℕ) → b < n + 1 → IsSmallestThrough ends b (get_or (lengths ++ v ∷ []) b 0)

@@ -1,5 +1,5 @@
 -- Walks over kept bonds that leave out one bond.
-use Rattle.std.specs.Prelude.{◌≡◌, ◌≢◌, ◌≤◌, ◌⊎◌, ℕ, zero, suc, Bool, true, false, List, slice_index_or}
+use Rattle.std.specs.Prelude.{◌≡◌, ◌≢◌, ◌≤◌, ℕ, zero, suc, Bool, true, false, List, slice_index_or}
 use Rattle.chem_core.specs.Graph.{Ends, JoinsAt}
 
 -- some kept bond other than b joins the atoms x and y

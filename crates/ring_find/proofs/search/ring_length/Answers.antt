@@ -1,4 +1,4 @@
-use Rattle.std.proofs.Common.{◌≡◌, ◌≢◌, ◌≤◌, ◌⊎◌, inl, inr, length, slice_index, get_or, arith}
+use Rattle.std.proofs.Common.{◌≢◌, ◌≤◌, ◌⊎◌, inl, inr, length, slice_index, get_or, arith}
 use Rattle.ring_find.proofs.Visits.{queued_within, ring_start, ring_done}
 use Rattle.ring_find.proofs.search.ring_length.Goals as goal
 use Rattle.ring_find.proofs.search.ring_length.Goals.{then-loop-next-test+else-marks-from-eq0, else-loop-next-test}

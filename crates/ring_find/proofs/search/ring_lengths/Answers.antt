@@ -1,5 +1,5 @@
 use Rattle.std.proofs.Common.{◌≡◌, length, ap, arith}
-use Rattle.std.proofs.lemmas.List.{take_at, length-replicate, length_push}
+use Rattle.std.proofs.lemmas.List.{take_at, length_push}
 use Rattle.ring_find.proofs.Visits.{rings_more}
 use Rattle.ring_find.proofs.search.ring_lengths.Goals as goal
 

@@ -1,4 +1,4 @@
-use Rattle.std.proofs.Common.{◌≡◌, ◌<◌, ℕ, true, false, get_or}
+use Rattle.std.proofs.Common.{◌≡◌, ◌<◌, ℕ, false, get_or}
 use Rattle.std.specs.Option.{MatchOption}
 use Rattle.ring_find.specs.declared.graph.Step.{Step}
 use Rattle.ring_find.specs.Strip.{IsOnlyKept}
