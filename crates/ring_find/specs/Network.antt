@@ -1,5 +1,5 @@
 -- The graph of a sketch: its bonds as steps from each atom to its neighbours.
-use Rattle.std.specs.Prelude.{◌≡◌, ◌<◌, ◌≤◌, ◌+◌, ◌*◌, ℕ, List, length, slice_index, slice_index_or, Contains}
+use Rattle.std.specs.Prelude.{◌≡◌, ◌≢◌, ◌<◌, ◌≤◌, ◌+◌, ◌*◌, ℕ, List, length, slice_index, slice_index_or, Contains, AllPairs}
 use Rattle.chem_core.specs.Graph.{Ends, JoinsAt, IsSimpleGraph}
 use Rattle.ring_find.specs.declared.graph.Step.{Step}
 
@@ -7,15 +7,22 @@ pub record Network : Type 0 where
   pub atoms : ℕ
   pub ends : Ends
 
+-- no two steps go from one atom by one bond
+abbrev pub AreApart : List Step → Type 0
+AreApart steps =
+    (i j : ℕ) (d : Step) → i < length steps → j < length steps → i ≢ j → (slice_index_or steps i d).from ≡ (slice_index_or steps j d).from → (slice_index_or steps i d).bond ≢ (slice_index_or steps j d).bond
+
 -- each of the first bonds, as many as bonds, from both of its ends
 pub record AreSteps (ends : Ends) (bonds : ℕ) (steps : List Step) : Type 0 where
   pub two_each : length steps ≡ 2 * bonds
-  pub joins : (s : Step) → Contains steps s → JoinsAt ends s.bond s.from s.to
+  pub joins : (s : Step) → Contains steps s → (s.bond < bonds) × JoinsAt ends s.bond s.from s.to
+  pub once : AreApart steps
   pub each : (b x y : ℕ) → b < bonds → JoinsAt ends b x y → Contains steps (record { from = x; to = y; bond = b })
 
 -- the steps that begin at an atom: each bond that ends there, once from it
 pub record AreStepsFrom (ends : Ends) (atom : ℕ) (steps : List Step) : Type 0 where
   pub joins : (s : Step) → Contains steps s → (s.from ≡ atom) × JoinsAt ends s.bond atom s.to
+  pub once : AllPairs (λ s t. s.bond ≢ t.bond) steps
   pub each : (b y : ℕ) → JoinsAt ends b atom y → Contains steps (record { from = atom; to = y; bond = b })
 
 -- the steps before the place begin at atoms below, and the others do not

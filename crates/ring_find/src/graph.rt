@@ -1,5 +1,5 @@
 //! The graph of a sketch: the ends of its bonds, and for each atom the steps to its neighbours.
-ghost use Rattle.std.specs.Prelude.{◌≡◌, ◌≤◌, ◌<◌, ◌+◌, length, map, IfOk};
+ghost use Rattle.std.specs.Prelude.{◌≡◌, ◌≢◌, ◌≤◌, ◌<◌, ◌+◌, length, map, All, IfOk};
 ghost use Rattle.std.specs.List.Sorted.{IsNonDecreasingBy};
 ghost use Rattle.chem_core.specs.Graph.{IsSimpleGraph};
 ghost use Rattle.chem_core.specs.Sound.{IsSound, sketch_ends};
@@ -93,7 +93,8 @@ fn ends_of(alloc: Global, bonds: &[SketchBond]) -> Result<Vec<(u16, u16)>, Alloc
 
 // Each bond from both ends, in the order of the atoms that the steps begin at.
 fn steps_of(alloc: Global, ends: &[(u16, u16)]) -> Result<Vec<Step>, AllocError>
-    requires { length ends.now ≤ 999 }
+    requires few { length ends.now ≤ 999 }
+    requires distinct { All (λ e. e.0 ≢ e.1) ends.now }
     ensures steps { IfOk result (λ steps. AreSteps ends.now (length ends.now) steps.items) }
     ensures order { IfOk result (λ steps. IsNonDecreasingBy (λ s. s.from) steps.items) }
 {

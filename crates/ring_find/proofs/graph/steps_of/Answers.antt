@@ -8,7 +8,7 @@ use Rattle.ring_find.proofs.graph.steps_of.Goals as goal
 pub loop-place-preserved : goal.loop-place-preserved
 loop-place-preserved c =
     rw (c.in_ok-push-2.ensures.items, c.in_ok-push.ensures.items)
-    (AreSteps-more _ _ _ _ _ c.loop-place.invariant (slice_get-get_or c.args.ends.now c.loop-place.place (0, 0) (omega arith)))
+    (AreSteps-more _ _ _ _ _ c.loop-place.invariant (slice_get-get_or c.args.ends.now c.loop-place.place (0, 0) (omega arith)) (c.requires.distinct c.loop-place.place (0, 0) (omega arith)))
 
 pub returns-clause-steps : goal.returns-clause-steps
 returns-clause-steps c =
