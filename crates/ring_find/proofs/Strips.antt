@@ -36,8 +36,8 @@ keeps_more ends kept a steps s keeps from only = record {
     | inr ne ↦ get_or-set_other kept s.bond b false false ne ∙ keeps.each b ring
     | inl e ↦
         let here = from.joins s only.0 in
-        let other = two_ring_bonds ends s.bond a s.to (subst (λ c. IsRingBond ends c) e ring) here.1 in
-        let step : Step = record { from = a; to = other.1; bond = other.0 } in
+        let other = two_ring_bonds ends s.bond a s.to (subst (λ c. IsRingBond ends c) e ring) here in
+        let step : Step = record { to = other.1; bond = other.0 } in
         let same = only.2 step (from.each other.0 other.1 other.3) (keeps.each other.0 other.4) in
         absurd (other.2 same)
   ];
@@ -57,7 +57,7 @@ pub ends_more : (ends : Ends) (kept : List Bool) (a limit : ℕ) (steps : List S
 ends_more ends kept a limit steps s keeps from only before v low ne dead =
     let c : ℕ = dead.0 in
     let u : ℕ = dead.1 in
-    let joins : JoinsAt ends s.bond a s.to = (from.joins s only.0).1 in
+    let joins : JoinsAt ends s.bond a s.to = from.joins s only.0 in
     let within : s.bond < length kept = omega (arith, joined_below ends s.bond a s.to joins, keeps.one_each) in
     let other : c ≢ s.bond = λ e.
     let stripped : get_or (set kept s.bond false) c false ≡ false = ap (λ k. get_or (set kept s.bond false) k false) e ∙ get_or-set_same kept s.bond false false within in
@@ -65,7 +65,7 @@ ends_more ends kept a limit steps s keeps from only before v low ne dead =
     let kept_c : get_or kept c false ≡ true = sym (get_or-set_other kept s.bond c false false other) ∙ dead.3 in
     elim (cases_eq v a) [
       | inl e ↦
-          let step : Step = record { from = a; to = u; bond = c } in
+          let step : Step = record { to = u; bond = c } in
           other (only.2 step (from.each c u (subst (λ w. JoinsAt ends c w u) e dead.2)) kept_c)
       | inr ne' ↦
           before v low ne' (
@@ -82,8 +82,8 @@ ends_more ends kept a limit steps s keeps from only before v low ne dead =
 -- an atom at which no bond alone is kept is no dead end
 pub ends_done : (ends : Ends) (kept : List Bool) (a : ℕ) (steps : List Step) → AreStepsFrom ends a steps → ((s : Step) → IsOnlyKept steps kept s → ⊥) → IsDeadEnd ends kept a → ⊥
 ends_done ends kept a steps from none dead =
-    let s : Step = record { from = a; to = dead.1; bond = dead.0 } in
-    none s (from.each dead.0 dead.1 dead.2, dead.3, λ t has k. dead.4 t.bond t.to (from.joins t has).1 k)
+    let s : Step = record { to = dead.1; bond = dead.0 } in
+    none s (from.each dead.0 dead.1 dead.2, dead.3, λ t has k. dead.4 t.bond t.to (from.joins t has) k)
 
 -- of the steps before the place i none is by a kept bond, or the one that was found alone is
 abbrev pub KeptSoFar : List Step → List Bool → ℕ → Option Step → Type 0

@@ -38,7 +38,7 @@ joined_within n ends b x y graph j =
 -- the k-th step of an atom
 pub step_at : (ends : Ends) (a : ℕ) (steps : List Step) (k : ℕ) (d : Step) → AreStepsFrom ends a steps → k < length steps → JoinsAt ends (get_or steps k d).bond a (get_or steps k d).to
 step_at ends a steps k d h l =
-    (h.joins (get_or steps k d) (k, l, get_or_default steps k (get_or steps k d) d l)).1
+    h.joins (get_or steps k d) (k, l, get_or_default steps k (get_or steps k d) d l)
 
 pub step_within : (n : ℕ) (ends : Ends) (a : ℕ) (steps : List Step) (k : ℕ) (d : Step) → IsSimpleGraph n ends → AreStepsFrom ends a steps → k < length steps → ((get_or steps k d).bond < length ends) × ((get_or steps k d).to < n)
 step_within n ends a steps k d graph h l = joined_within n ends _ a _ graph (step_at ends a steps k d h l)
@@ -111,7 +111,7 @@ pub visit_done : (ends : Ends) (kept : List Bool) (b atoms next at new : ℕ) (s
 visit_done ends kept b atoms next at new steps marks queue k from h all =
     search_next (StepBut ends kept b) atoms _ marks queue next h.search h.within (λ v s.
     let joins : JoinsAt ends s.0 at v = rw (h.here) at s.3 in
-    let step : Step = record { from = at; to = v; bond = s.0 } in
+    let step : Step = record { to = v; bond = s.0 } in
     let has = from.each s.0 v joins in
     let is : get_or steps has.0 step ≡ step = has.2 in
     let ne : (get_or steps has.0 step).bond ≢ b = rw is s.1 in

@@ -1,18 +1,19 @@
 //! The graph of a sketch: the ends of its bonds, and for each atom the steps to its neighbours.
-ghost use Rattle.std.specs.Prelude.{◌≡◌, ◌≢◌, ◌≤◌, ◌<◌, ◌+◌, length, map, All, IfOk};
-ghost use Rattle.std.specs.List.Sorted.{IsNonDecreasingBy};
+ghost use Rattle.std.specs.Prelude.{◌≡◌, ◌<◌, ◌+◌, ◌*◌, length, map, slice_index, slice_set, IfOk};
 ghost use Rattle.chem_core.specs.Graph.{IsSimpleGraph};
 ghost use Rattle.chem_core.specs.Sound.{IsSound, sketch_ends};
-ghost use Rattle.ring_find.specs.Network.{AreSteps, AreStepsFrom, AreStarts};
+ghost use Rattle.ring_find.specs.Network.{AreFilled, AreStepsFrom};
 
 use chem_core::{Sketch, SketchBond};
 use std::alloc::{AllocError, Global};
 use std::marker::Model;
 
-/// A bond, walked from one end to the other.
+/// The most neighbours that an atom of a sketch has.
+const MOST: usize = 12;
+
+/// A step from an atom: where it goes, and by which bond.
 #[derive(Clone, Copy, Debug)]
 pub struct Step {
-    pub from: u16,
     pub to: u16,
     pub bond: u16,
 }
@@ -22,10 +23,10 @@ pub struct Step {
 pub struct Graph {
     atoms: usize,
     ends: Vec<(u16, u16)>,
-    // Each bond from both of its ends, in the order of the atoms that the steps begin at.
+    // Room for the steps from each atom, MOST for each.
     steps: Vec<Step>,
-    // For each atom where its steps begin, and one more place for where the last atom's end.
-    starts: Vec<u16>,
+    // For each atom how many steps there are.
+    degrees: Vec<u16>,
 }
 
 impl Model for Graph {
@@ -35,7 +36,7 @@ impl Model for Graph {
 
     ghost view = { λ g. record { atoms = g.atoms; ends = g.ends.items } };
 
-    ghost invariant = { λ g. IsNetworkInside g.atoms g.ends.items g.steps.items g.starts.items };
+    ghost invariant = { λ g. IsNetworkInside g.atoms g.ends.items g.steps.items g.degrees.items };
 }
 
 impl Graph {
@@ -46,13 +47,14 @@ impl Graph {
     {
         let atoms = sketch.atoms.len();
         let ends = ends_of(alloc, &sketch.bonds)?;
-        let steps = steps_of(alloc, &ends)?;
-        let starts = starts_of(alloc, atoms, &steps)?;
+        let mut steps = vec![in alloc; Step { to: 0, bond: 0 }; MOST * atoms]?;
+        let mut degrees = vec![in alloc; 0u16; atoms]?;
+        fill(&mut steps, &mut degrees, &ends);
         Ok(Graph {
             atoms,
             ends,
             steps,
-            starts,
+            degrees,
         })
     }
 
@@ -78,10 +80,9 @@ impl Graph {
         ensures steps { AreStepsFrom self.now.ends atom result.now }
         ensures valid { IsSimpleGraph self.now.atoms self.now.ends }
     {
-        let atom = usize::from(atom);
-        let start = usize::from(self.starts[atom]);
-        let end = usize::from(self.starts[atom + 1]);
-        &self.steps[start..end]
+        let start = MOST * usize::from(atom);
+        let degree = usize::from(self.degrees[usize::from(atom)]);
+        &self.steps[start..start + degree]
     }
 }
 
@@ -91,42 +92,28 @@ fn ends_of(alloc: Global, bonds: &[SketchBond]) -> Result<Vec<(u16, u16)>, Alloc
     bonds.iter().map(|bond| (bond.a, bond.b)).collect(alloc)
 }
 
-// Each bond from both ends, in the order of the atoms that the steps begin at.
-fn steps_of(alloc: Global, ends: &[(u16, u16)]) -> Result<Vec<Step>, AllocError>
-    requires few { length ends.now ≤ 999 }
-    requires distinct { All (λ e. e.0 ≢ e.1) ends.now }
-    ensures steps { IfOk result (λ steps. AreSteps ends.now (length ends.now) steps.items) }
-    ensures order { IfOk result (λ steps. IsNonDecreasingBy (λ s. s.from) steps.items) }
+// Puts each bond into the steps from each of its ends, where there are no steps yet.
+fn fill(steps: &mut [Step], degrees: &mut [u16], ends: &[(u16, u16)])
+    requires graph { IsSimpleGraph (length degrees.old) ends.now }
+    requires none { AreFilled ends.now 0 (length degrees.old) steps.old degrees.old }
+    ensures { AreFilled ends.now (length ends.now) (length degrees.old) steps.new degrees.new }
 {
-    let mut steps = Vec::with_capacity(alloc, 2 * ends.len())?;
     for (place, (a, b)) in ends.iter().enumerate() {
         let bond = place as u16;
-        steps.push(Step {
-            from: *a,
-            to: *b,
-            bond,
-        })?;
-        steps.push(Step {
-            from: *b,
-            to: *a,
-            bond,
-        })?;
+        put(steps, degrees, *a, Step { to: *b, bond });
+        put(steps, degrees, *b, Step { to: *a, bond });
     }
-    steps.sort_unstable_by_key(|step| step.from);
-    Ok(steps)
 }
 
-// For each atom, and one past the last, the place of the first step that begins there or later.
-fn starts_of(alloc: Global, atoms: usize, steps: &[Step]) -> Result<Vec<u16>, AllocError>
-    requires atoms { atoms ≤ 999 }
-    requires steps { length steps.now ≤ 1998 }
-    requires order { IsNonDecreasingBy (λ s. s.from) steps.now }
-    ensures { IfOk result (λ starts. AreStarts (atoms + 1) steps.now starts.items) }
+// Puts one more step from an atom behind those that it has.
+fn put(steps: &mut [Step], degrees: &mut [u16], atom: u16, step: Step)
+    requires atom { atom < length degrees.old }
+    requires room { slice_index degrees.old atom < 12 }
+    requires size { length steps.old ≡ 12 * length degrees.old }
+    ensures steps { steps.new ≡ slice_set steps.old (12 * atom + slice_index degrees.old atom) step }
+    ensures degrees { degrees.new ≡ slice_set degrees.old atom (slice_index degrees.old atom + 1) }
 {
-    let mut starts = Vec::with_capacity(alloc, atoms + 1)?;
-    for atom in 0..atoms + 1 {
-        let start = steps.partition_point(|step| usize::from(step.from) < atom);
-        starts.push(start as u16)?;
-    }
-    Ok(starts)
+    let degree = degrees[usize::from(atom)];
+    steps[MOST * usize::from(atom) + usize::from(degree)] = step;
+    degrees[usize::from(atom)] = degree + 1;
 }

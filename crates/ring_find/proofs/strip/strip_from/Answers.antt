@@ -15,7 +15,7 @@ loop-step-preserved c =
     let only = c.in-Some.ensures in
     let ends = ends_more _ _ _ _ _ _ c.loop-step.invariant.keeps c.steps_from.ensures.steps only c.loop-step.invariant.ends in
     record {
-      within = (joined_within _ _ _ _ _ c.steps_from.ensures.valid (c.steps_from.ensures.steps.joins _ only.0).1).1;
+      within = (joined_within _ _ _ _ _ c.steps_from.ensures.valid (c.steps_from.ensures.steps.joins _ only.0)).1;
       keeps = rw c.from.ensures (keeps_more _ _ _ _ _ c.loop-step.invariant.keeps c.steps_from.ensures.steps only);
       ends = rw c.from.ensures ends;
     }
