@@ -1,4 +1,4 @@
-//! The answer.
+//! What is found about the rings of a sketch.
 
 /// Ring facts of a sketch.
 #[derive(Debug, Drop)]

@@ -36,14 +36,16 @@ pub fn rings(alloc: Global, sketch: &Sketch) -> Result<Rings, AllocError>
     let graph = Graph::of(alloc, sketch)?;
     let kept = strip_dead_ends(alloc, &graph)?;
     let lengths = ring_lengths(alloc, &graph, &kept)?;
+    let bond_in_ring = nonzero(alloc, &lengths)?;
+    let atom_small = smallest_rings(alloc, &graph, &lengths)?;
     Ok(Rings {
-        bond_in_ring: some_of(alloc, &lengths)?,
-        atom_small: smallest_rings(alloc, &graph, &lengths)?,
+        bond_in_ring,
+        atom_small,
     })
 }
 
-// For each length whether there is one, which is where it is not 0.
-fn some_of(alloc: Global, lengths: &[u16]) -> Result<Vec<bool>, AllocError>
+// For each length whether it is one; 0 is none.
+fn nonzero(alloc: Global, lengths: &[u16]) -> Result<Vec<bool>, AllocError>
     ensures { IfOk result (λ flags. flags.items ≡ map (λ n. not (n == 0)) lengths.now) }
 {
     lengths.iter().map(|length| *length != 0).collect(alloc)
