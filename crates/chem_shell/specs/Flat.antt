@@ -1,5 +1,5 @@
 -- Patterns whose truth needs no rings and no recursive parts: what is matched today.
-use Rattle.std.specs.Prelude.{ℕ, List, All}
+use Rattle.std.specs.Prelude.{ℕ, All}
 use Rattle.smarts_parse.specs.declared.pattern.AtomPrim.{AtomPrim}
 use Rattle.smarts_parse.specs.declared.pattern.AtomPrim.TheVariants as atoms
 use Rattle.smarts_parse.specs.declared.pattern.BondPrim.{BondPrim}
@@ -26,6 +26,13 @@ abbrev pub IsFlatBond : BondPrim → Type 0
 IsFlatBond bonds.Ring = ⊥
 IsFlatBond _ = Unit {0}
 
-pub record IsFlat (p : PatternTerm) : Type 0 where
-  pub atoms : All (AllPrims IsFlatAtom) p.top.atoms
-  pub bonds : All (λ bond. AllPrims IsFlatBond bond.expr) p.top.bonds
+pub record IsFlatGraph (g : GraphTerm) : Type 0 where
+  pub atoms : All (AllPrims IsFlatAtom) g.atoms
+  pub bonds : All (λ bond. AllPrims IsFlatBond bond.expr) g.bonds
+
+abbrev pub IsFlat : PatternTerm → Type 0
+IsFlat p = IsFlatGraph p.top
+
+-- no recursive part holds anywhere
+abbrev pub NoParts : ℕ → ℕ → Type 0
+NoParts part atom = ⊥

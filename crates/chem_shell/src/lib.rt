@@ -1,2 +1,13 @@
 //! The top call of chemdb, and what it still reads and matches by itself.
 #![tactic(auto)]
+
+pub mod answer;
+pub mod command;
+pub mod matching;
+pub mod reply;
+pub mod request;
+pub mod session;
+pub mod smiles;
+pub mod store;
+pub mod top;
+pub mod words;

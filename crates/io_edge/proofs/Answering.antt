@@ -1,15 +1,13 @@
 -- What a reading has left to answer, before and after a step.
-use Rattle.std.proofs.Common.{◌≡◌, ◌≢◌, ℕ, suc, ◌+◌, ◌-◌, ◌<◌, ◌≤◌, ◌⊎◌, Bool, true, false, List, [], ◌∷◌, ◌++◌, Ok, Err, map, length, take, drop, get_or, cond, eqb, ltb, refl, sym, ap, ◌∙◌, subst, inl, inr, arith, append-nil, append_assoc, take-append-drop, length-append, length-take, length-drop}
-use Rattle.std.specs.Prelude.{◌==◌, nat_lt, ◌||◌, if◌then◌else◌, IsTrue, Contains}
+use Rattle.std.proofs.Common.{◌≡◌, ◌≢◌, ℕ, ◌+◌, ◌<◌, ◌≤◌, ◌⊎◌, Bool, true, false, List, [], ◌∷◌, ◌++◌, Ok, length, take, drop, get_or, cond, refl, sym, ap, ◌∙◌, inl, inr, arith, append-nil, append_assoc, take-append-drop, length-take, length-drop}
+use Rattle.std.specs.Prelude.{nat_lt, ◌||◌}
 use Rattle.std.proofs.lemmas.List.{drop_more, drop_all, take_all, take-take, get_or_default}
-use Rattle.std.proofs.lemmas.List.Elements.{All-drop}
 use Rattle.std.proofs.lemmas.Bool.Decides.{nat_tests}
-use Rattle.io_edge.specs.declared.lines.Line.{Line}
 use Rattle.io_edge.specs.declared.lines.Line.TheVariants.{Text, Long, End}
-use Rattle.io_edge.specs.declared.lines.TheConstants.{LF, CR, LONGEST_LINE}
+use Rattle.io_edge.specs.declared.lines.TheConstants.{LF, LONGEST_LINE}
 use Rattle.io_edge.specs.Cut.{HasNoLf, EndsAt}
-use Rattle.io_edge.specs.Lines.{TextLine, Whole, TooLong, Reading, without_cr, as_line, lines_of, behind_lf, lines_left, HasWholeLine, done_bytes}
-use Rattle.io_edge.specs.NextLine.{answered, Answers, OnText, OnNoText}
+use Rattle.io_edge.specs.Lines.{TextLine, Whole, TooLong, Reading, without_cr, as_line, lines_of, behind_lf, lines_left}
+use Rattle.io_edge.specs.NextLine.{answered, OnText, OnNoText}
 use Rattle.io_edge.specs.Steps.{IsSound, is_long, front_line, behind_line, CutsLine}
 use Rattle.io_edge.proofs.TextLines.{lines_of-line, behind_lf-line, lines_of-last, behind_lf-none, lines_of-long, behind_lf-long, take-without_cr, without_cr-le}
 
@@ -77,9 +75,9 @@ cuts_lf r at n sound ends len =
       whole = inl (at, ends.within, get_or_default r.pending at LF 0 ends.within ∙ lf);
       is_line = line_not_end (is_long r n);
       lines = λ rest met.
-        left_line r.long (r.pending ++ rest) xs (ys ++ rest) (ap (λ l. l ++ rest) split ∙ append_assoc xs (LF ∷ ys) rest) ends.before
-        ∙ line_as r.long n (without_cr xs) (lines_of (ys ++ rest)) (sym len)
-        ∙ ap (λ t. answered (Ok (front_line r n)) (cond (is_long r n) [] t) ++ lines_of (ys ++ rest)) (sym text);
+          left_line r.long (r.pending ++ rest) xs (ys ++ rest) (ap (λ l. l ++ rest) split ∙ append_assoc xs (LF ∷ ys) rest) ends.before
+          ∙ line_as r.long n (without_cr xs) (lines_of (ys ++ rest)) (sym len)
+          ∙ ap (λ t. answered (Ok (front_line r n)) (cond (is_long r n) [] t) ++ lines_of (ys ++ rest)) (sym text);
       taken = refl;
       limit = refl;
       ended = refl;
@@ -99,12 +97,12 @@ cuts_last r sound none ended some =
       whole = inr (ended, inl some);
       is_line = line_not_end (is_long r n);
       lines = λ rest met.
-        ap (λ l. lines_left r l) (met ended)
-        ∙ ap (λ l. cond r.long (TooLong ∷ lines_of (behind_lf l)) (lines_of l)) (append-nil xs)
-        ∙ left_last r.long xs none some
-        ∙ line_as r.long n xs [] refl
-        ∙ ap (λ t. answered (Ok (front_line r n)) (cond (is_long r n) [] t) ++ []) (sym text)
-        ∙ ap (λ l. answered (Ok (front_line r n)) (cond (is_long r n) [] (take n xs)) ++ lines_of l) (sym (ap (λ l. l ++ rest) behind ∙ met ended));
+          ap (λ l. lines_left r l) (met ended)
+          ∙ ap (λ l. cond r.long (TooLong ∷ lines_of (behind_lf l)) (lines_of l)) (append-nil xs)
+          ∙ left_last r.long xs none some
+          ∙ line_as r.long n xs [] refl
+          ∙ ap (λ t. answered (Ok (front_line r n)) (cond (is_long r n) [] t) ++ []) (sym text)
+          ∙ ap (λ l. answered (Ok (front_line r n)) (cond (is_long r n) [] (take n xs)) ++ lines_of l) (sym (ap (λ l. l ++ rest) behind ∙ met ended));
       taken = refl;
       limit = refl;
       ended = refl;

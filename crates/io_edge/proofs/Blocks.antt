@@ -1,13 +1,11 @@
 -- Parts of a block of bytes.
-use Rattle.std.proofs.Common.{◌≡◌, ℕ, ◌+◌, ◌-◌, ◌<◌, ◌≤◌, List, ◌++◌, Option, length, take, drop, sym, ap, ◌∙◌, arith, length-take, length-drop}
+use Rattle.std.proofs.Common.{◌≡◌, ℕ, ◌+◌, ◌-◌, ◌≤◌, List, ◌++◌, Option, length, take, drop, sym, ap, ◌∙◌, arith, length-take, length-drop}
 use Rattle.std.proofs.lemmas.List.{drop-take, drop-drop, drop-append-le, take_at}
 use Rattle.std.proofs.lemmas.Slice.{between_is}
 use Rattle.std.specs.List.{between}
 use lib.Seq.{take-add}
 use Rattle.io_edge.specs.Buffer.{Gains}
-use Rattle.io_edge.specs.Source.{Leaves, IfBytes, number_of}
-use Rattle.io_edge.specs.declared.sources.Take.{Take}
-use Rattle.io_edge.specs.declared.sources.Take.TheVariants.{Bytes, End, Failed}
+use Rattle.io_edge.specs.Source.{Leaves}
 
 -- the bytes from s to e, without the first k of them
 pub between_cut : (xs : List ℕ) (s e k : ℕ) → k ≤ e - s → between (s + k) e xs ≡ drop k (between s e xs)
@@ -28,12 +26,6 @@ between_grown xs ys s e n order fits same =
     ∙ drop-append-le s (take e ys) (take n (drop e ys)) (omega (arith, length-take e ys))
     ∙ ap (λ l. drop s l ++ take n (drop e ys)) same
     ∙ ap (λ l. l ++ take n (drop e ys)) (sym (between_is xs s e))
-
--- a take moves no more bytes than it was to
-pub number_of-le : (t : Take) (m : ℕ) → IfBytes t (λ n. (0 < n) × (n ≤ m)) → number_of t ≤ m
-number_of-le (Bytes n) m h = h.1
-number_of-le End m h = omega arith
-number_of-le Failed m h = omega arith
 
 -- what a buffer holds after it made room in its block and took n bytes to the end of what it held
 pub filled : (old items moved now : List ℕ) (len s e n : ℕ) (left_old left_new : Option (List ℕ)) → length moved ≡ len → length now ≡ len

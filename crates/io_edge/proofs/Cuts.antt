@@ -1,13 +1,12 @@
 -- Where a line ends, and what its text is.
-use Rattle.std.proofs.Common.{◌≡◌, ◌≢◌, ℕ, ◌+◌, ◌<◌, ◌≤◌, Bool, true, false, List, [], ◌∷◌, ◌++◌, Some, None, length, take, drop, get_or, eqb, ltb, cond, refl, sym, ap, ◌∙◌, subst, arith, tests, rules, take-append-drop, take-add, length-take, length-drop}
-use Rattle.std.specs.Prelude.{position, nat_lt, ◌==◌, All}
+use Rattle.std.proofs.Common.{◌≡◌, ◌≢◌, ℕ, ◌+◌, ◌<◌, ◌≤◌, true, List, [], ◌∷◌, ◌++◌, Some, None, length, take, drop, refl, sym, ap, ◌∙◌, subst, arith, take-append-drop, take-add, length-take, length-drop}
+use Rattle.std.specs.Prelude.{position, ◌==◌}
 use Rattle.std.specs.List.{position_or_len}
 use Rattle.std.proofs.lemmas.List.{get_or-drop, get_or-take, get_or_default}
 use Rattle.std.proofs.lemmas.List.Elements.{All-append}
 use Rattle.std.proofs.lemmas.List.Quantifiers.{position-Some}
 use Rattle.std.proofs.lemmas.List.Sums.{fails_before_first}
 use Rattle.std.proofs.lemmas.Bool.Decides.{nat_tests}
-use Rattle.std.proofs.lemmas.Grind.{common_steps}
 use Rattle.io_edge.specs.declared.lines.TheConstants.{LF, CR}
 use Rattle.io_edge.specs.Cut.{HasNoLf, EndsAt}
 use Rattle.io_edge.specs.Lines.{without_cr}

@@ -1,5 +1,5 @@
 -- What a call for the next line did, from its steps.
-use Rattle.std.proofs.Common.{◌≡◌, ◌≢◌, ℕ, ◌+◌, ◌-◌, ◌<◌, ◌≤◌, ◌⊎◌, Bool, true, false, List, [], ◌∷◌, ◌++◌, Option, None, Some, Result, Ok, Err, length, cond, refl, sym, ap, ◌∙◌, subst, inl, inr, arith, append-nil, append_assoc, length-append}
+use Rattle.std.proofs.Common.{◌≡◌, ℕ, ◌<◌, ◌≤◌, ◌⊎◌, Bool, false, List, [], ◌∷◌, ◌++◌, Option, None, Some, Result, Ok, Err, cond, refl, sym, ap, ◌∙◌, subst, inl, inr, arith, append_assoc, length-append}
 use Rattle.std.specs.Prelude.{IsTrue}
 use Rattle.std.specs.Io.KnownBytes.{IsAtEnd}
 use Rattle.std.proofs.lemmas.Option.{same_Some}
@@ -8,10 +8,11 @@ use Rattle.io_edge.specs.declared.lines.Line.{Line}
 use Rattle.io_edge.specs.declared.lines.Line.TheVariants.{Text, Long, End}
 use Rattle.io_edge.specs.declared.lines.LineFault.{LineFault}
 use Rattle.io_edge.specs.declared.lines.LineFault.TheVariants as fault
+use Rattle.io_edge.specs.Faults.{Rose}
 use Rattle.io_edge.specs.Source.{Leaves}
 use Rattle.io_edge.specs.declared.lines.TheConstants.{LF}
 use Rattle.io_edge.specs.Cut.{HasNoLf}
-use Rattle.io_edge.specs.Lines.{TextLine, Whole, TooLong, Reading, lines_of, behind_lf, lines_left, HasWholeLine, IsAtLimit, IsFinished, done_bytes}
+use Rattle.io_edge.specs.Lines.{TooLong, Reading, lines_of, behind_lf, lines_left, HasWholeLine, IsAtLimit, IsFinished}
 use Rattle.io_edge.specs.NextLine.{answered, Answers, Counts, Told, OnLine, CanAnswer}
 use Rattle.io_edge.specs.Steps.{IsSound, AnswersHeld, NeedsMore, IsEndOf, Reads}
 
@@ -55,7 +56,7 @@ at_end_of l l' x y p q e = let h = subst (λ v. IsEndOf v y) p e in subst IsAtEn
 
 -- ---- what a call cannot answer
 
-ended_not : (b : Bool) → b ≡ false → IsTrue b → ⊥
+pub ended_not : (b : Bool) → b ≡ false → IsTrue b → ⊥
 ended_not b p q = cc
 
 pub no_answer : (r : Reading) → NeedsMore r → CanAnswer r → ⊥
@@ -103,6 +104,9 @@ answers_after answer a b c x y p held = λ rest met. sym (p.lines rest) ∙ held
 pub answers_fault : (f : LineFault) (a b : Reading) (x y : Option (List ℕ)) (p : Reads a b x y) → Answers (Err f) a p.got b
 answers_fault f a b x y p = λ rest met. sym (p.lines rest)
 
+pub told_fault : (a b : Reading) (l l' : List ℕ) (x y : Option (List ℕ)) (p : Reads a b x y) → x ≡ Some l → y ≡ Some l' → lines_left b l' ≡ lines_left a l
+told_fault a b l l' x y p hx hy = p.lines l' ∙ ap (lines_left a) (sym (split_known l l' p.got x y hx hy p.leaves))
+
 pub counts_after : (answer : Result Line LineFault) (a b c : Reading) (got : List ℕ) → Counts a got b → AnswersHeld answer b c → Counts a got c
 counts_after answer a b c got p held = record { taken = held.taken ∙ p.taken; limit = held.limit ∙ p.limit; within = omega (arith, held.taken, held.limit, p.within) }
 
@@ -111,6 +115,16 @@ line_rises (Ok Text) a b c p q = omega arith
 line_rises (Ok Long) a b c p q = omega arith
 line_rises (Ok End) a b c p q = tt
 line_rises (Err f) a b c p q = tt
+
+pub rose_after : (a b c : ℕ) → a ≤ b → Rose b c → Rose a c
+rose_after a b c p (inl more) = inl (omega arith)
+rose_after a b c p (inr full) = inr full
+
+pub not_too_long : (f : LineFault) → f ≡ fault.Source → ◌≡◌ {A = Result Line LineFault} (Err f) (Err fault.TooLong) → ⊥
+not_too_long f p q = cc
+
+pub not_end : (f : LineFault) → ◌≡◌ {A = Result Line LineFault} (Err f) (Ok End) → ⊥
+not_end f p = cc
 
 -- ---- a call under way
 

@@ -1,13 +1,12 @@
 -- The lines of a text that begins with a line.
-use Rattle.std.proofs.Common.{◌≡◌, ◌≢◌, ℕ, ◌+◌, ◌<◌, ◌≤◌, Bool, true, false, List, [], ◌∷◌, ◌++◌, map, length, take, drop, get_or, cond, eqb, ltb, refl, sym, ap, ◌∙◌, subst, arith, append-nil, append_assoc, take-append-drop, length-append}
-use Rattle.std.specs.Prelude.{◌==◌, nat_lt, ◌||◌, if◌then◌else◌}
+use Rattle.std.proofs.Common.{◌≡◌, ◌≢◌, ℕ, ◌+◌, ◌<◌, ◌≤◌, Bool, true, false, List, [], ◌∷◌, ◌++◌, map, length, take, cond, refl, sym, ap, ◌∙◌, arith, append-nil, length-append}
+use Rattle.std.specs.Prelude.{◌==◌}
 use Rattle.std.specs.List.{AllByRecursion}
-use Rattle.std.proofs.lemmas.List.{drop_more}
 use Rattle.std.proofs.lemmas.List.Elements.{recursion_from_All}
 use Rattle.std.proofs.lemmas.Bool.Decides.{nat_tests}
 use Rattle.io_edge.specs.declared.lines.TheConstants.{LF, CR, LONGEST_LINE}
-use Rattle.io_edge.specs.Cut.{HasNoLf, EndsAt}
-use Rattle.io_edge.specs.Lines.{TextLine, Whole, TooLong, Piece, before_first, pieces, without_cr, text_of, as_line, lines_of, behind_lf}
+use Rattle.io_edge.specs.Cut.{HasNoLf}
+use Rattle.io_edge.specs.Lines.{TextLine, TooLong, Piece, before_first, pieces, without_cr, text_of, as_line, lines_of, behind_lf}
 
 abbrev NoLf : List ℕ → Type 0
 NoLf xs = AllByRecursion (λ b. b ≢ LF) xs

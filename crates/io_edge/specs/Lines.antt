@@ -1,5 +1,5 @@
 -- The lines of a text, and how far a text was read.
-use Rattle.std.specs.Prelude.{◌≡◌, ◌≢◌, ◌<◌, ◌-◌, ◌⊎◌, ℕ, Bool, true, false, IsTrue, List, [], ◌∷◌, ◌++◌, length, map, nat_lt, ◌==◌, if◌then◌else◌, Contains}
+use Rattle.std.specs.Prelude.{◌≡◌, ◌<◌, ◌-◌, ◌⊎◌, ℕ, Bool, true, false, IsTrue, List, [], ◌∷◌, ◌++◌, length, map, nat_lt, ◌==◌, if◌then◌else◌, Contains}
 use Rattle.io_edge.specs.declared.lines.TheConstants.{LF, CR, LONGEST_LINE}
 
 -- a line as it is answered: its text, or that it is too long

@@ -1,16 +1,22 @@
 -- What a call for the next line answers.
-use Rattle.std.specs.Prelude.{◌≡◌, ◌≤◌, ◌+◌, ◌⊎◌, ℕ, IsTrue, Result, Ok, Err, List, [], ◌∷◌, ◌++◌, length}
+use Rattle.std.specs.Prelude.{◌≡◌, ◌≤◌, ◌+◌, ◌⊎◌, ℕ, IsTrue, Result, Ok, Err, List, [], ◌∷◌, ◌++◌, length, codes}
 use Rattle.io_edge.specs.Lines.{TextLine, Whole, TooLong, Reading, lines_left, HasWholeLine}
 use Rattle.io_edge.specs.declared.lines.Line.{Line}
 use Rattle.io_edge.specs.declared.lines.Line.TheVariants.{Text, Long, End}
 use Rattle.io_edge.specs.declared.lines.LineFault.{LineFault}
+use Rattle.io_edge.specs.declared.lines.LineFault.TheVariants as fault
+
+-- how a fault is printed
+abbrev pub fault_text : LineFault → List ℕ
+fault_text fault.Source = codes "the source failed"
+fault_text fault.TooLong = codes "the input is too long"
 
 -- the line that is answered, if one is
 abbrev pub answered : Result Line LineFault → List ℕ → List TextLine
 answered (Ok Text) text = Whole text ∷ []
 answered (Ok Long) text = TooLong ∷ []
 answered (Ok End) text = []
-answered (Err fault) text = []
+answered (Err f) text = []
 
 -- However the input goes on behind what was taken (where its end was met, not at all): the lines that were
 -- left are the one that is answered and those that are left then.
@@ -28,28 +34,28 @@ abbrev pub Told : Result Line LineFault → Reading → Reading → List ℕ →
 Told (Ok Text) old new l l' = lines_left old l ≡ Whole new.text ∷ lines_left new l'
 Told (Ok Long) old new l l' = lines_left old l ≡ TooLong ∷ lines_left new l'
 Told (Ok End) old new l l' = (lines_left old l ≡ []) × (l' ≡ [])
-Told (Err fault) old new l l' = lines_left new l' ≡ lines_left old l
+Told (Err f) old new l l' = lines_left new l' ≡ lines_left old l
 
 -- P holds where a line is answered
 abbrev pub OnLine : Result Line LineFault → Type 0 → Type 0
 OnLine (Ok Text) P = P
 OnLine (Ok Long) P = P
 OnLine (Ok End) P = Unit {0}
-OnLine (Err fault) P = Unit {0}
+OnLine (Err f) P = Unit {0}
 
 -- P holds where a text is answered
 abbrev pub OnText : Result Line LineFault → Type 0 → Type 0
 OnText (Ok Text) P = P
 OnText (Ok Long) P = Unit {0}
 OnText (Ok End) P = Unit {0}
-OnText (Err fault) P = Unit {0}
+OnText (Err f) P = Unit {0}
 
 -- P holds where no text is answered
 abbrev pub OnNoText : Result Line LineFault → Type 0 → Type 0
 OnNoText (Ok Text) P = Unit {0}
 OnNoText (Ok Long) P = P
 OnNoText (Ok End) P = P
-OnNoText (Err fault) P = P
+OnNoText (Err f) P = P
 
 -- the next call can answer with no more bytes
 abbrev pub CanAnswer : Reading → Type 0

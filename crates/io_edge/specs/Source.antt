@@ -1,5 +1,5 @@
 -- What a source gives, and a source in memory.
-use Rattle.std.specs.Prelude.{◌≡◌, ◌+◌, ℕ, Option, Bool, true, false, List, length, drop, min, ◌==◌, if◌then◌else◌}
+use Rattle.std.specs.Prelude.{ℕ, Option, Bool, List, length, drop, min, ◌==◌, if◌then◌else◌}
 use Rattle.std.specs.List.{list_any}
 use Rattle.std.specs.Io.KnownBytes.{Consumes}
 use Rattle.io_edge.specs.Faults.{counted}

@@ -1,11 +1,13 @@
-// The lines of a source.
-ghost use Rattle.std.specs.Prelude.{◌≡◌, ◌≤◌, ◌<◌, ◌+◌, ◌⊎◌, ℕ, IsTrue, false, true, List, [], ◌∷◌, ◌++◌, length, take, drop, slice_index, IfSome, IfNone, IfOk, IfErr, OnOk, OnErr, position, ◌==◌};
-ghost use Rattle.std.specs.Io.KnownBytes.{IsAtEnd};
+// The lines of a source, in whatever pieces its bytes come.
+// `next_line` promises that the lines that are answered are those of the text, in order, that a fault loses
+// none, and that no more is taken than a call needs or the limit allows.
+// It stands on the line buffer, which holds what was taken and not answered.
+ghost use Rattle.std.specs.Prelude.{◌≡◌, ◌≤◌, ◌<◌, ◌+◌, ◌⊎◌, ℕ, Some, Ok, Err, IsTrue, false, List, [], length, take, IfSome, IfNone, IfOk, IfErr, OnOk, OnErr, position, ◌==◌};
 ghost use Rattle.io_edge.specs.Faults.{Rose};
 ghost use Rattle.io_edge.specs.Source.{Leaves};
 ghost use Rattle.io_edge.specs.Cut.{HasNoLf, EndsAt};
 ghost use Rattle.io_edge.specs.Lines.{without_cr, lines_left, HasWholeLine, IsAtLimit, IsFinished, done_bytes};
-ghost use Rattle.io_edge.specs.NextLine.{Answers, Counts, Told, OnLine, OnText, OnNoText, CanAnswer};
+ghost use Rattle.io_edge.specs.NextLine.{fault_text, Answers, Counts, Told, OnLine, OnText, OnNoText, CanAnswer};
 ghost use Rattle.io_edge.specs.Steps.{IsSound, front_line, behind_line, CutsLine, AnswersHeld, NeedsMore, IsEndOf, Reads};
 
 use crate::buffer::{Buffer, CAPACITY};
@@ -43,6 +45,8 @@ pub enum LineFault {
 }
 
 impl fmt::Display for LineFault {
+    ghost output = { λ fault. Some (fault_text fault) };
+
     fn fmt<W: fmt::Write>(&self, f: &mut fmt::Formatter<W>) -> fmt::Result {
         match self {
             LineFault::Source => write!(f, "the source failed"),
@@ -76,11 +80,11 @@ impl Model for Lines {
     ghost view = { λ s. record { pending = s.buffer.bytes; long = s.long; taken = s.taken; limit = s.limit; ended = s.ended; text = s.buffer.text } };
 
     ghost invariant = { λ s. record {
-        scanned : s.scanned ≤ length s.buffer.bytes;
-        none : HasNoLf (take s.scanned s.buffer.bytes);
-        pending : length s.buffer.bytes ≤ s.taken;
-        limit : s.taken ≤ s.limit;
-        long : IsTrue s.long → 0 < length s.buffer.bytes;
+      scanned : s.scanned ≤ length s.buffer.bytes;
+      none : HasNoLf (take s.scanned s.buffer.bytes);
+      pending : length s.buffer.bytes ≤ s.taken;
+      limit : s.taken ≤ s.limit;
+      long : IsTrue s.long → 0 < length s.buffer.bytes;
     } };
 }
 

@@ -1,5 +1,5 @@
 // A source and a sink in memory, which fail where they are told to.
-ghost use Rattle.std.specs.Prelude.{◌≡◌, ◌<◌, ◌≤◌, ◌++◌, ◌^◌, ◌↔◌, Some, [], IsTrue, OnOk, length, min, take, drop};
+ghost use Rattle.std.specs.Prelude.{◌≡◌, ◌<◌, ◌≤◌, ◌++◌, ◌^◌, Some, [], OnOk, length, min, take, drop};
 ghost use Rattle.std.specs.Io.KnownBytes.{IsAtEnd, Appends};
 ghost use Rattle.io_edge.specs.Faults.{Rose};
 ghost use Rattle.io_edge.specs.Source as feed;
@@ -69,6 +69,7 @@ impl Source for MemSource {
         ensures count { self.old.faults ≤ self.new.faults }
         ensures held { self.new.faults < 2 ^ 64 }
 
+        // Exactly what it answers and leaves.
         ensures answer { result ≡ feed.answer_of self.old (length room.old) }
         ensures after { self.new ≡ feed.after_take self.old result }
     {
@@ -155,6 +156,7 @@ impl Sink for MemSink {
         ensures count { self.old.faults ≤ self.new.faults }
         ensures held { self.new.faults < 2 ^ 64 }
 
+        // It fails exactly where it was told to, and exactly this is left.
         ensures exactly { store.is_failed result ≡ store.next_fails self.old }
         ensures after { self.new ≡ store.after_put self.old bytes.now result }
     {

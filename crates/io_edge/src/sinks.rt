@@ -1,8 +1,8 @@
 // What bytes are put into.
-ghost use Rattle.std.specs.Prelude.{◌≡◌, ◌<◌, ◌≤◌, ◌^◌, ℕ, List, [], Option, OnOk};
+ghost use Rattle.std.specs.Prelude.{◌≡◌, ◌<◌, ◌≤◌, ◌^◌, ℕ, List, [], Option, Some, OnOk};
 ghost use Rattle.std.specs.Io.KnownBytes.{Appends};
 ghost use Rattle.io_edge.specs.Faults.{Rose};
-ghost use Rattle.io_edge.specs.Sink.{OnFailed, OnNoMemory, AppendsPrefix};
+ghost use Rattle.io_edge.specs.Sink.{OnFailed, OnNoMemory, AppendsPrefix, fault_text};
 ghost use Rattle.io_edge.specs.declared.sinks.PutFault.TheVariants.{NoMemory};
 
 use std::alloc::AllocError;
@@ -19,6 +19,8 @@ pub enum PutFault {
 }
 
 impl fmt::Display for PutFault {
+    ghost output = { λ fault. Some (fault_text fault) };
+
     fn fmt<W: fmt::Write>(&self, f: &mut fmt::Formatter<W>) -> fmt::Result {
         match self {
             PutFault::Failed => write!(f, "the sink failed"),

@@ -1,5 +1,7 @@
 // Worked cases of lines, sources and sinks.
-use crate::{Line, LineFault, Lines, MemSink, MemSource, PutFault, Sink, Source, StdSink, StdSource, Take};
+use crate::{
+    Line, LineFault, Lines, MemSink, MemSource, PutFault, Sink, Source, StdSink, StdSource, Take,
+};
 use std::alloc::{AllocError, Global};
 use std::test::Fail;
 

@@ -1,4 +1,4 @@
-use Rattle.std.proofs.Common.{◌≡◌, ap, sym, ◌∙◌, subst, ◌-◌, inl, inr, true, ◌⊎◌, ◌+◌, ◌<◌, ◌≢◌, length, arith}
+use Rattle.std.proofs.Common.{◌≡◌, ap, sym, ◌∙◌, subst, inl, inr, true, ◌⊎◌, ◌+◌, ◌<◌, ◌≢◌, length, arith}
 use Rattle.std.proofs.lemmas.List.Elements.{All-drop}
 use Rattle.std.proofs.lemmas.Bool.Decides.{nat_tests}
 use Rattle.io_edge.specs.declared.lines.TheConstants.{LF, LONGEST_LINE}

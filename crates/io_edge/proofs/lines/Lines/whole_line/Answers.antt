@@ -1,6 +1,5 @@
 use Rattle.std.proofs.Common.{◌≡◌, ◌<◌, ap, sym, ◌∙◌, subst, length, take}
 use Rattle.io_edge.specs.Lines.{Reading, without_cr}
-use Rattle.io_edge.specs.Steps.{CutsLine}
 use Rattle.io_edge.proofs.Answering.{cuts_lf, cuts_last}
 use Rattle.io_edge.proofs.lines.Lines.whole_line.Goals as goal
 

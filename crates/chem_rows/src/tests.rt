@@ -1,0 +1,144 @@
+ghost use Rattle.std.specs.Prelude.{◌≡◌, ◌<◌, length, IfOk};
+
+use chem_shell::top::{End, Outcome, chemdb};
+use io_edge::{MemSink, MemSource};
+use std::alloc::{AllocError, Global};
+use std::sync::Wait;
+use std::test::Fail;
+use std::thread::Threads;
+
+// One end over a script, which is given in pieces; the takes and puts of these numbers fail.
+fn ends_over(
+    alloc: Global,
+    script: &[u8],
+    piece: usize,
+    takes: &[u64],
+    puts: &[u64],
+) -> Result<Vec<End<MemSource, MemSink>>, AllocError>
+    requires { 0 < piece }
+    ensures { IfOk result (λ ends. length ends.items ≡ 1) }
+{
+    let script = Vec::from_slice(alloc, script)?;
+    let takes = Vec::from_slice(alloc, takes)?;
+    let puts = Vec::from_slice(alloc, puts)?;
+    let mut ends = Vec::new(alloc);
+    ends.push(End {
+        source: MemSource::new(script, piece, takes),
+        sink: MemSink::new(alloc, puts),
+        status: 0,
+    })?;
+    Ok(ends)
+}
+
+// The status, and what was put.
+fn put_by(outcome: &Outcome<(), MemSource, MemSink>) -> &[u8] {
+    match outcome.ends.first() {
+        Some(end) => end.sink.bytes(),
+        None => &[],
+    }
+}
+
+// What `mem` answers to a script that is given in pieces.
+fn mem<R: Threads + Wait + Sync>(
+    rt: &R,
+    alloc: Global,
+    script: &[u8],
+    piece: usize,
+    takes: &[u64],
+    puts: &[u64],
+) -> Result<Outcome<(), MemSource, MemSink>, AllocError>
+    requires { 0 < piece }
+{
+    let ends = ends_over(alloc, script, piece, takes, puts)?;
+    Ok(chemdb(rt, alloc, &["mem"], (), (), ends))
+}
+
+#[test]
+fn scripts_and_replies(rt: HostRuntime) -> Result<(), Fail> {
+    let rows = [
+        ("", ""),
+        (
+            "register 1 CCO\nregister 2 CC=O\nsearch C=O\n",
+            "ok 1\nok 2\nhit 2\nend at 2 hits 1\n",
+        ),
+        (
+            "withdraw 1\nregister 1 C1CC1\nregister 1 C=\nsearch =\n",
+            "refused notyet\nrefused notyet\nrefused smiles syntax\nrefused smarts syntax\n",
+        ),
+        // identifiers, blanks, an empty line, ends with CR LF, a last line without LF
+        (
+            "register 0 C\nregister 1000000000 C\nregister 01 C\nregister 1  C\nregister 1 \nregister 1\nsearch\nsearch \n",
+            "refused notyet\nrefused notyet\nrefused notyet\nrefused notyet\nrefused notyet\nrefused notyet\nrefused notyet\nrefused notyet\n",
+        ),
+        (
+            "\r\n\nregister 999999999 ClCBr\r\nregister 3 ClCBr\nregister 3 C\nsearch BrC",
+            "ok 1\nok 2\nrefused known\nhit 3\nhit 999999999\nend at 2 hits 2\n",
+        ),
+        // each identifier once, though the pattern embeds in many ways; `C-=C` is read and never true
+        (
+            "register 5 CCCC\nsearch CC\nsearch C-=C\nsearch C#N\nregister 4 N#CC\nsearch C#N\nsearch C=N\n",
+            "ok 1\nhit 5\nend at 1 hits 1\nend at 1 hits 0\nend at 1 hits 0\nok 2\nhit 4\nend at 2 hits 1\nend at 2 hits 0\n",
+        ),
+        // 32 bytes are read, 33 are not
+        (
+            "register 1 CCCCCCCCCCCCCCCCCCCCCCCCCCCCCCCC\nregister 2 CCCCCCCCCCCCCCCCCCCCCCCCCCCCCCCCC\nregister 3 Cr\nregister 4 l\n",
+            "ok 1\nrefused notyet\nrefused smiles syntax\nrefused smiles syntax\n",
+        ),
+        // a NUL
+        ("register 1 C\0\nregister 1 C\n", "refused notyet\nok 1\n"),
+    ];
+    for (script, replies) in rows {
+        for piece in [1usize, 7, 65_536] {
+            let outcome = mem(&rt, rt.alloc(), script.as_bytes(), piece, &[], &[])?;
+            assert_eq!(rt; outcome.status, 0, "at {script:?}");
+            assert_eq!(rt; put_by(&outcome), replies.as_bytes(), "at {script:?}");
+        }
+    }
+    Ok(())
+}
+
+#[test]
+fn long_lines_and_bytes_that_are_no_text(rt: HostRuntime) -> Result<(), Fail> {
+    let alloc = rt.alloc();
+    let mut script = vec![in alloc; b'x'; 65_537]?;
+    script.extend_from_slice(b"\nregister 1 \xff\nregister 1 C\n")?;
+    let outcome = mem(&rt, alloc, &script, 1000, &[], &[])?;
+    assert_eq!(rt; outcome.status, 0);
+    assert_eq!(rt;
+        put_by(&outcome),
+        b"refused long\nrefused notyet\nok 1\n".as_slice()
+    );
+    Ok(())
+}
+
+#[test]
+fn faults_of_the_ends(rt: HostRuntime) -> Result<(), Fail> {
+    let script = b"register 1 C\nregister 2 N\nsearch C\n";
+    let alloc = rt.alloc();
+    // the take of that number fails: what was read before is answered
+    for (take, replies) in [(0u64, ""), (13, "ok 1\n"), (26, "ok 1\nok 2\n")] {
+        let outcome = mem(&rt, alloc, script, 1, &[take], &[])?;
+        assert_eq!(rt; outcome.status, 3, "at take {take}");
+        assert_eq!(rt; put_by(&outcome), replies.as_bytes(), "at take {take}");
+    }
+    // the put of that number fails: what was put before stands
+    for (put, replies) in [(0u64, ""), (1, "ok 1\n"), (2, "ok 1\nok 2\n")] {
+        let outcome = mem(&rt, alloc, script, 1000, &[], &[put])?;
+        assert_eq!(rt; outcome.status, 4, "at put {put}");
+        assert_eq!(rt; put_by(&outcome), replies.as_bytes(), "at put {put}");
+    }
+    Ok(())
+}
+
+#[test]
+fn words_that_ask_for_nothing(rt: HostRuntime) -> Result<(), Fail> {
+    let alloc = rt.alloc();
+    let rows: [&[&str]; 5] = [&[], &["mem", "x"], &["Mem"], &["init", "f"], &[""]];
+    for words in rows {
+        let ends = ends_over(alloc, b"register 1 C\n", 1000, &[], &[])?;
+        let outcome = chemdb(&rt, alloc, words, (), (), ends);
+        assert_eq!(rt; outcome.status, 2, "at {words:?}");
+        assert_eq!(rt; put_by(&outcome), b"".as_slice(), "at {words:?}");
+    }
+    Ok(())
+}

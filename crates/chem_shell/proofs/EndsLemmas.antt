@@ -1,0 +1,56 @@
+-- Facts of each end, from what serving it leaves.
+use Rattle.std.proofs.Common.{◌≡◌, ℕ, ◌==◌, cond, List, [], ◌∷◌, length, map, Option, refl, sym, ap, ◌∙◌, subst, inl, inr, arith}
+use Rattle.std.specs.Prelude.{All}
+use Rattle.std.specs.List.{AllZip}
+use Rattle.std.proofs.lemmas.List.Elements.{All-nil, All-cons}
+use Rattle.chem_shell.specs.declared.top.End.{End}
+use Rattle.chem_shell.specs.Status.{first_fault, IsEndStatus}
+use Rattle.chem_shell.specs.Ends.{with_status}
+
+pub zip_weaker : {A B : Type 0} (R Q : A → B → Type 0) → ((x : A) (y : B) → R x y → Q x y) → (xs : List A) (ys : List B) → AllZip R xs ys → AllZip Q xs ys
+zip_weaker R Q f [] [] h = tt
+zip_weaker R Q f [] (y ∷ ys) h = absurd h
+zip_weaker R Q f (x ∷ xs) [] h = absurd h
+zip_weaker R Q f (x ∷ xs) (y ∷ ys) h = (f x y h.0, zip_weaker R Q f xs ys h.1)
+
+pub zip_right : {A B : Type 0} (R : A → B → Type 0) (P : B → Type 0) → ((x : A) (y : B) → R x y → P y) → (xs : List A) (ys : List B) → AllZip R xs ys → All P ys
+zip_right R P f [] [] h = All-nil P
+zip_right R P f [] (y ∷ ys) h = absurd h
+zip_right R P f (x ∷ xs) [] h = absurd h
+zip_right R P f (x ∷ xs) (y ∷ ys) h = All-cons P y ys (f x y h.0) (zip_right R P f xs ys h.1)
+
+pub zip_mapped : {A : Type 0} (R : A → A → Type 0) (f : A → A) → ((x : A) → R x (f x)) → (xs ys : List A) → ys ≡ map f xs → AllZip R xs ys
+zip_mapped {A = A} R f g xs ys e = subst (AllZip R xs) (sym e) (go xs) where
+  go : (xs : List A) → AllZip R xs (map f xs)
+  go [] = tt
+  go (x ∷ xs) = (g x, go xs)
+
+pub all_mapped : {A : Type 0} (P : A → Type 0) (f : A → A) → ((x : A) → P (f x)) → (xs ys : List A) → ys ≡ map f xs → All P ys
+all_mapped {A = A} P f g xs ys e = subst (All P) (sym e) (go xs) where
+  go : (xs : List A) → All P (map f xs)
+  go [] = All-nil P
+  go (x ∷ xs) = All-cons P (f x) (map f xs) (g x) (go xs)
+
+-- the one status is the first that is not 0
+first_of_one : (n : ℕ) → first_fault (n ∷ []) ≡ n
+first_of_one n = grind (arith)
+
+-- of one end the first fault is its status
+pub fault_of_one : {S K : Type 0} (ends : List (End S K)) (n : ℕ) → length ends ≡ 1 → ((end : End S K) (rest : List (End S K)) → ends ≡ end ∷ rest → end.status ≡ n) → n ≡ first_fault (map (λ end. end.status) ends)
+fault_of_one [] n e f = absurd (omega arith)
+fault_of_one (end ∷ []) n e f = sym (f end [] refl) ∙ sym (first_of_one end.status)
+fault_of_one (end ∷ other ∷ rest) n e f = absurd (omega arith)
+
+-- of one end with this status the first fault is that
+pub fault_of_all_alike : {S K : Type 0} (old new : List (End S K)) (n : ℕ) → length old ≡ 1 → new ≡ map (with_status n) old → n ≡ first_fault (map (λ end. end.status) new)
+fault_of_all_alike [] new n e f = absurd (omega arith)
+fault_of_all_alike (end ∷ []) new n e f = sym (ap (λ ends. first_fault (map (λ x. x.status) ends)) f ∙ first_of_one n)
+fault_of_all_alike (end ∷ other ∷ rest) new n e f = absurd (omega arith)
+
+-- no end has the status of words that ask for nothing
+pub never_usage : (n : ℕ) → IsEndStatus n → n ≡ 2 → ⊥
+never_usage n (inl a) e = omega arith
+never_usage n (inr (inl a)) e = omega arith
+never_usage n (inr (inr (inl a))) e = omega arith
+never_usage n (inr (inr (inr (inl a)))) e = omega arith
+never_usage n (inr (inr (inr (inr a)))) e = omega arith

@@ -1,0 +1,12 @@
+pub mod HistoryLemmas
+pub mod SmilesLemmas
+pub mod SmilesSound
+pub mod MeaningLemmas
+pub mod SessionLemmas
+pub mod TruthLemmas
+pub mod PartialLemmas
+pub mod FlatLemmas
+pub mod HitsLemmas
+pub mod CommandLemmas
+pub mod ChainFlat
+pub mod EndsLemmas

@@ -1,0 +1,153 @@
+-- How a session comes from its first line to its end.
+use Rattle.std.proofs.Common.{◌≡◌, ◌⊎◌, inl, inr, ℕ, ◌+◌, ◌<◌, ◌≤◌, IsTrue, Bool, true, false, Option, None, Some, Result, Ok, Err, List, [], ◌∷◌, ◌++◌, length, refl, sym, ap, ◌∙◌, subst, arith, append_assoc, append-nil, length-append, IfSome}
+use Rattle.std.specs.Io.KnownBytes.{Appends, Consumes}
+use Rattle.io_edge.specs.Faults.{Rose}
+use Rattle.io_edge.specs.Sink.{AppendsPrefix}
+use Rattle.io_edge.specs.Lines.{TextLine, Reading, lines_of, lines_left}
+use Rattle.io_edge.specs.NextLine.{Counts}
+use Rattle.chem_shell.specs.declared.reply.Reply.{Reply}
+use Rattle.chem_shell.specs.declared.session.SessionFault.{SessionFault}
+use Rattle.chem_shell.specs.declared.session.SessionFault.TheVariants.{Source, Sink, NoMemory, InputTooLong}
+use Rattle.chem_shell.specs.History.{History}
+use Rattle.chem_shell.specs.Reply.{text_of}
+use Rattle.chem_shell.specs.Answered.{AnswersLine}
+use Rattle.chem_shell.specs.Transcript.{LineAnswer, IsTranscript, IsTranscriptFront, IsFrontOf}
+use Rattle.chem_shell.specs.Served.{Writes, WritesFront, WritesAll, TakesExactly}
+use Rattle.chem_shell.specs.Turn.{TurnPuts, TakesLine, TakesNone}
+
+-- what a transcript of the lines that are left makes of the whole, behind the text so far
+pub record GoesOn (all : List TextLine) (done : List ℕ) (h : History) (left : List TextLine) : Type 0 where
+  pub front : (t : List ℕ) → IsTranscriptFront h left t → IsTranscriptFront [] all (done ++ t)
+  pub whole : (t : List ℕ) → IsTranscript h left t → IsTranscript [] all (done ++ t)
+
+pub GoesOn-start : (all : List TextLine) → GoesOn all [] [] all
+GoesOn-start all = record { front = λ t p. p; whole = λ t p. p }
+
+-- nothing is a front of every transcript
+pub front_nothing : (h : History) (lines : List TextLine) → IsTranscriptFront h lines []
+front_nothing h [] = refl
+front_nothing h (line ∷ lines) = inl refl
+
+-- one line more
+pub GoesOn-line : (all : List TextLine) (done : List ℕ) (h h' : History) (line : TextLine) (left : List TextLine) (text : List ℕ) → AnswersLine h line text h' → GoesOn all done h (line ∷ left) → GoesOn all (done ++ text) h' left
+GoesOn-line all done h h' line left text a g = record {
+  front = λ t p. rw append_assoc (g.front (text ++ t) (inr (a.0, h', a.1, inr (t, ap (λ s. s ++ t) a.2, p))));
+  whole = λ t p. rw append_assoc (g.whole (text ++ t) (a.0, h', t, a.1, ap (λ s. s ++ t) a.2, p));
+}
+
+-- a part of the answer to the next line
+pub GoesOn-part : (all : List TextLine) (done : List ℕ) (h h' : History) (line : TextLine) (left : List TextLine) (text part rest : List ℕ) → AnswersLine h line text h' → text ≡ part ++ rest → GoesOn all done h (line ∷ left) → IsTranscriptFront [] all (done ++ part)
+GoesOn-part all done h h' line left text part rest a e g = g.front part (inr (a.0, h', a.1, inl (rest, sym e ∙ a.2)))
+
+-- A session under way: what was left and put at its start and is now, how far its source was read, and its history.
+pub record IsUnderWay (before now put0 put : Option (List ℕ)) (reading : Reading) (h : History) : Type 0 where
+  pub told : (input old : List ℕ) → before ≡ Some input → put0 ≡ Some old
+      → (l done : List ℕ) × (now ≡ Some l) × (put ≡ Some (old ++ done)) × GoesOn (lines_of input) done h (lines_left reading l) × (IsTrue reading.ended → l ≡ [])
+  pub taken : (input : List ℕ) → before ≡ Some input → (got l : List ℕ) × (input ≡ got ++ l) × (now ≡ Some l) × (length got ≡ reading.taken)
+  pub limit : reading.limit ≡ 4294967296
+  pub within : reading.taken ≤ reading.limit
+
+-- the start
+pub IsUnderWay-start : (before put : Option (List ℕ)) (reading : Reading) → reading ≡ record { pending = []; long = false; taken = 0; limit = 4294967296; ended = false; text = [] } → IsUnderWay before before put put reading []
+IsUnderWay-start before put reading e = subst (λ r. IsUnderWay before before put put r []) (sym e) (record {
+  told = λ input old p q. (input, [], p, q ∙ ap Some (sym (append-nil old)), GoesOn-start (lines_of input), λ ended. absurd (false_is_not_true ended));
+  taken = λ input p. ([], input, refl, p, refl);
+  limit = refl;
+  within = omega arith;
+}) where
+  false_is_not_true : IsTrue false → ⊥
+  false_is_not_true h = cc
+
+-- what is left after these bytes were taken, where it is told
+leaves : (l got : List ℕ) (now next : Option (List ℕ)) → now ≡ Some l → Consumes now next got → (l' : List ℕ) × (next ≡ Some l') × (l ≡ got ++ l')
+leaves l got None next p h = cc
+leaves l got (Some m) None p h = absurd h
+leaves l got (Some m) (Some l') p h = (l', refl, rw (sym (some_injective p)) h) where
+  some_injective : {A : Type 0} {x y : A} → Some x ≡ Some y → x ≡ y
+  some_injective e = cc
+
+-- what was put after this text, where it is told
+appended : (old text : List ℕ) (put next : Option (List ℕ)) → put ≡ Some old → Appends put next text → next ≡ Some (old ++ text)
+appended old text None next p h = cc
+appended old text (Some m) None p h = absurd h
+appended old text (Some m) (Some n) p h = let e : m ≡ old = cc in rw (h, e) refl
+
+-- a turn that answered a line
+pub IsUnderWay-line : (before now now' put0 put put' : Option (List ℕ)) (r r' : Reading) (h h' : History) (got : List ℕ) (line : TextLine) (text : List ℕ) → Consumes now now' got → Counts r got r' → ((l l' : List ℕ) → now ≡ Some l → now' ≡ Some l' → (IsTrue r.ended → l ≡ []) → IsTrue r'.ended → l' ≡ []) → TakesLine r r' now now' line → AnswersLine h line text h' → Appends put put' text → IsUnderWay before now put0 put r h → IsUnderWay before now' put0 put' r' h'
+IsUnderWay-line before now now' put0 put put' r r' h h' got line text took counts met takes answers appends u = record {
+  told = λ input old p q.
+      let t = u.told input old p q in
+      let k = leaves t.0 got now now' t.2 took in
+      let e : lines_left r t.0 ≡ line ∷ lines_left r' k.0 = takes t.0 k.0 t.2 k.1 t.5 in
+      let a : put' ≡ Some ((old ++ t.1) ++ text) = appended (old ++ t.1) text put put' t.3 appends in
+      (k.0, t.1 ++ text, k.1, a ∙ ap Some (append_assoc old t.1 text), GoesOn-line (lines_of input) t.1 h h' line (lines_left r' k.0) text answers (subst (GoesOn (lines_of input) t.1 h) e t.4), met t.0 k.0 t.2 k.1 t.5);
+  taken = λ input p.
+      let t = u.taken input p in
+      let k = leaves t.1 got now now' t.3 took in
+      (t.0 ++ got, k.0, t.2 ∙ (ap (λ x. t.0 ++ x) k.2 ∙ sym (append_assoc t.0 got k.0)), k.1, omega (arith, length-append t.0 got, t.4, counts.taken));
+  limit = counts.limit ∙ u.limit;
+  within = counts.within;
+}
+
+-- what is put is a front of the transcript
+pub front_told : (before put0 put : Option (List ℕ)) → ((input old : List ℕ) → before ≡ Some input → put0 ≡ Some old → (t : List ℕ) × (put ≡ Some (old ++ t)) × IsTranscriptFront [] (lines_of input) t) → WritesFront before put0 put
+front_told None put0 put f = tt
+front_told (Some input) None put f = tt
+front_told (Some input) (Some old) put f = f input old refl refl
+
+pub whole_told : (before put0 put : Option (List ℕ)) → ((input old : List ℕ) → before ≡ Some input → put0 ≡ Some old → (t : List ℕ) × (put ≡ Some (old ++ t)) × IsTranscript [] (lines_of input) t) → WritesAll before put0 put
+whole_told None put0 put f = tt
+whole_told (Some input) None put f = tt
+whole_told (Some input) (Some old) put f = f input old refl refl
+
+-- nothing was put
+pub front_unmoved : (before put0 : Option (List ℕ)) → WritesFront before put0 put0
+front_unmoved before put0 =
+    front_told before put0 put0 (λ input old p q. ([], q ∙ ap Some (sym (append-nil old)), front_nothing [] (lines_of input)))
+
+-- the input was answered to its end
+pub whole_at_end : (before now now' put0 put put' : Option (List ℕ)) (r r' : Reading) (h : History) → TakesNone r now → Appends put put' [] → IsUnderWay before now put0 put r h → WritesAll before put0 put'
+whole_at_end before now now' put0 put put' r r' h none appends u =
+    whole_told before put0 put' (λ input old p q.
+    let t = u.told input old p q in
+    let e : lines_left r t.0 ≡ [] = none t.0 t.2 t.5 in
+    let a : put' ≡ Some ((old ++ t.1) ++ []) = appended (old ++ t.1) [] put put' t.3 appends in
+    (t.1, a ∙ ap Some (append-nil (old ++ t.1)), subst (IsTranscript [] (lines_of input)) (append-nil t.1) (t.4.whole [] (subst (λ ls. IsTranscript h ls []) (sym e) refl))))
+
+-- a turn put nothing more
+pub front_after_nothing : (before now put0 put put' : Option (List ℕ)) (r : Reading) (h : History) → Appends put put' [] → IsUnderWay before now put0 put r h → WritesFront before put0 put'
+front_after_nothing before now put0 put put' r h appends u =
+    front_told before put0 put' (λ input old p q.
+    let t = u.told input old p q in
+    let a : put' ≡ Some ((old ++ t.1) ++ []) = appended (old ++ t.1) [] put put' t.3 appends in
+    (t.1, a ∙ ap Some (append-nil (old ++ t.1)), subst (IsTranscriptFront [] (lines_of input)) (append-nil t.1) (t.4.front [] (front_nothing h (lines_left r t.0)))))
+
+-- a turn put a part of the answer to the next line
+pub front_after_part : (before now now' put0 put put' : Option (List ℕ)) (r r' : Reading) (h h' : History) (got : List ℕ) (line : TextLine) (text : List ℕ) → Consumes now now' got → TakesLine r r' now now' line → AnswersLine h line text h' → AppendsPrefix put put' text → IsUnderWay before now put0 put r h → WritesFront before put0 put'
+front_after_part before now now' put0 put put' r r' h h' got line text took takes answers part u =
+    front_told before put0 put' (λ input old p q.
+    let t = u.told input old p q in
+    let k = leaves t.0 got now now' t.2 took in
+    let e : lines_left r t.0 ≡ line ∷ lines_left r' k.0 = takes t.0 k.0 t.2 k.1 t.5 in
+    let a : put' ≡ Some ((old ++ t.1) ++ part.0) = appended (old ++ t.1) part.0 put put' t.3 part.3 in
+    (t.1 ++ part.0, a ∙ ap Some (append_assoc old t.1 part.0), GoesOn-part (lines_of input) t.1 h h' line (lines_left r' k.0) text part.0 part.1 answers part.2 (subst (GoesOn (lines_of input) t.1 h) e t.4)))
+
+-- what was put where a turn ended in a fault
+pub front_after_fault : (before now now' put0 put put' : Option (List ℕ)) (r r' : Reading) (h h' : History) (got : List ℕ) (fault : SessionFault) → Consumes now now' got → TurnPuts (Err fault) h h' r r' now now' put put' → IsUnderWay before now put0 put r h → WritesFront before put0 put'
+front_after_fault before now now' put0 put put' r r' h h' got Source took puts u = front_after_nothing before now put0 put put' r h puts u
+front_after_fault before now now' put0 put put' r r' h h' got Sink took puts u = front_after_part before now now' put0 put put' r r' h h' got puts.0 puts.1 took puts.2 puts.3 puts.4 u
+front_after_fault before now now' put0 put put' r r' h h' got NoMemory took puts u = front_after_nothing before now put0 put put' r h puts u
+front_after_fault before now now' put0 put put' r r' h h' got InputTooLong took puts u = front_after_nothing before now put0 put put' r h puts u
+
+-- as many bytes were taken as may be
+pub takes_all : (before now now' put0 put : Option (List ℕ)) (r r' : Reading) (h : History) (got : List ℕ) → Consumes now now' got → Counts r got r' → r'.taken ≡ r'.limit → IsUnderWay before now put0 put r h → TakesExactly before now' 4294967296
+takes_all None now now' put0 put r r' h got took counts full u = tt
+takes_all (Some input) now now' put0 put r r' h got took counts full u =
+    let t = u.taken input refl in
+    let k = leaves t.1 got now now' t.3 took in
+    (t.0 ++ got, k.0, t.2 ∙ (ap (λ x. t.0 ++ x) k.2 ∙ sym (append_assoc t.0 got k.0)), k.1, omega (arith, length-append t.0 got, t.4, counts.taken, counts.limit, u.limit, full))
+
+-- a count that rose since a later moment rose since an earlier one
+pub Rose-since : (a b c : ℕ) → a ≤ b → Rose b c → Rose a c
+Rose-since a b c le (inl lt) = inl (omega arith)
+Rose-since a b c le (inr top) = inr top

@@ -1,0 +1,67 @@
+use Rattle.std.proofs.Common.{◌≡◌, ℕ, length, map, List, refl, sym, ap, ◌∙◌, inl, inr, arith}
+use Rattle.chem_shell.specs.Ends.{with_status, IsServed}
+use Rattle.chem_shell.specs.Served.{WritesFront, WritesAll, TakesExactly}
+use Rattle.chem_shell.specs.Status.{IsEndStatus}
+use Rattle.io_edge.specs.Faults.{Rose}
+use Rattle.chem_shell.proofs.EndsLemmas.{zip_weaker, zip_right, zip_mapped, all_mapped, fault_of_all_alike, never_usage}
+use Rattle.chem_shell.proofs.SessionLemmas.{front_unmoved}
+use Rattle.chem_shell.proofs.top.chemdb.Goals as goal
+
+pub returns-in-Err-Usage-clause-source_fault : goal.returns-in-Err-Usage-clause-source_fault
+returns-in-Err-Usage-clause-source_fault g c = zip_mapped _ (with_status 2) (λ e q. absurd (omega arith)) _ _ c.unserved.ensures.ends
+
+pub returns-in-Err-Usage-clause-sink_fault : goal.returns-in-Err-Usage-clause-sink_fault
+returns-in-Err-Usage-clause-sink_fault g c = zip_mapped _ (with_status 2) (λ e q. absurd (omega arith)) _ _ c.unserved.ensures.ends
+
+pub returns-in-Err-Usage-clause-input_too_long : goal.returns-in-Err-Usage-clause-input_too_long
+returns-in-Err-Usage-clause-input_too_long g c = zip_mapped _ (with_status 2) (λ e q. absurd (omega arith)) _ _ c.unserved.ensures.ends
+
+pub returns-in-Err-NoMemory-clause-statuses : goal.returns-in-Err-NoMemory-clause-statuses
+returns-in-Err-NoMemory-clause-statuses g c = λ asks. all_mapped (λ end. IsEndStatus end.status) (with_status 8) (λ e. inr (inr (inr (inl refl)))) _ _ c.unserved-in-Err-NoMemory.ensures.ends
+
+pub returns-in-Err-NoMemory-clause-source_fault : goal.returns-in-Err-NoMemory-clause-source_fault
+returns-in-Err-NoMemory-clause-source_fault g c = zip_mapped _ (with_status 8) (λ e q. absurd (omega arith)) _ _ c.unserved-in-Err-NoMemory.ensures.ends
+
+pub returns-in-Err-NoMemory-clause-sink_fault : goal.returns-in-Err-NoMemory-clause-sink_fault
+returns-in-Err-NoMemory-clause-sink_fault g c = zip_mapped _ (with_status 8) (λ e q. absurd (omega arith)) _ _ c.unserved-in-Err-NoMemory.ensures.ends
+
+pub returns-in-Err-NoMemory-clause-input_too_long : goal.returns-in-Err-NoMemory-clause-input_too_long
+returns-in-Err-NoMemory-clause-input_too_long g c = zip_mapped _ (with_status 8) (λ e q. absurd (omega arith)) _ _ c.unserved-in-Err-NoMemory.ensures.ends
+
+pub returns-in-Err-NoMemory-clause-mem_front : goal.returns-in-Err-NoMemory-clause-mem_front
+returns-in-Err-NoMemory-clause-mem_front g c = λ asks. zip_mapped _ (with_status 8) (λ e. front_unmoved _ _) _ _ c.unserved-in-Err-NoMemory.ensures.ends
+
+pub returns-in-Err-NoMemory-clause-mem_all : goal.returns-in-Err-NoMemory-clause-mem_all
+returns-in-Err-NoMemory-clause-mem_all g c = λ asks. zip_mapped _ (with_status 8) (λ e q. absurd (omega arith)) _ _ c.unserved-in-Err-NoMemory.ensures.ends
+
+pub returns-in-Err-NoMemory-clause-overall : goal.returns-in-Err-NoMemory-clause-overall
+returns-in-Err-NoMemory-clause-overall g c = λ asks.
+    c.unserved-in-Err-NoMemory.ensures.status ∙ fault_of_all_alike c.args.ends.items c.unserved-in-Err-NoMemory.result.ends.items 8 (c.requires.one_end asks) c.unserved-in-Err-NoMemory.ensures.ends
+
+pub returns-clause-usage : goal.returns-clause-usage
+returns-clause-usage g c =
+    (λ two asks. never_usage c.serve_one-status.result c.serve_one-status.ensures.status two, λ none. absurd (none c.in-Ok.ensures.mem.0))
+
+pub returns-clause-source_fault : goal.returns-clause-source_fault
+returns-clause-source_fault g c =
+    zip_weaker (IsServed g.S.Source.left g.S.Source.faults g.K.Sink.written g.K.Sink.faults) _ (λ old new served. served.source_fault) c.args.ends.items c.serve_one-status.new.ends.items c.serve_one-status.ensures.served
+
+pub returns-clause-sink_fault : goal.returns-clause-sink_fault
+returns-clause-sink_fault g c =
+    zip_weaker (IsServed g.S.Source.left g.S.Source.faults g.K.Sink.written g.K.Sink.faults) _ (λ old new served. served.sink_fault) c.args.ends.items c.serve_one-status.new.ends.items c.serve_one-status.ensures.served
+
+pub returns-clause-input_too_long : goal.returns-clause-input_too_long
+returns-clause-input_too_long g c =
+    zip_weaker (IsServed g.S.Source.left g.S.Source.faults g.K.Sink.written g.K.Sink.faults) _ (λ old new served. served.input_too_long) c.args.ends.items c.serve_one-status.new.ends.items c.serve_one-status.ensures.served
+
+pub returns-clause-mem_front : goal.returns-clause-mem_front
+returns-clause-mem_front g c = λ asks.
+    zip_weaker (IsServed g.S.Source.left g.S.Source.faults g.K.Sink.written g.K.Sink.faults) _ (λ old new served. served.front) c.args.ends.items c.serve_one-status.new.ends.items c.serve_one-status.ensures.served
+
+pub returns-clause-mem_all : goal.returns-clause-mem_all
+returns-clause-mem_all g c = λ asks.
+    zip_weaker (IsServed g.S.Source.left g.S.Source.faults g.K.Sink.written g.K.Sink.faults) _ (λ old new served. served.all) c.args.ends.items c.serve_one-status.new.ends.items c.serve_one-status.ensures.served
+
+pub returns-clause-statuses : goal.returns-clause-statuses
+returns-clause-statuses g c = λ asks.
+    zip_right (IsServed g.S.Source.left g.S.Source.faults g.K.Sink.written g.K.Sink.faults) (λ end. IsEndStatus end.status) (λ old new served. served.status) c.args.ends.items c.serve_one-status.new.ends.items c.serve_one-status.ensures.served

@@ -1,0 +1,41 @@
+//! A request: what the words of the command line ask for.
+
+use thiserror::Error;
+
+/// A command.
+#[derive(Clone, Copy, Debug, PartialEq, Eq)]
+pub enum Verb {
+    /// One session over a store in memory.
+    Mem,
+}
+
+/// What the words ask for: a command and its settings.
+#[derive(Debug, Drop)]
+pub struct Plan<'w> {
+    pub command: Verb,
+    /// The store's file, where the command has one.
+    pub file: Option<&'w str>,
+    /// The scripts, one for each end, where they are files.
+    pub scripts: Vec<&'w str>,
+    /// How many ends are served.
+    pub ends: u32,
+    /// Threads for matching, 1 to 16.
+    pub workers: u32,
+    /// Records in a page, 1 to 256.
+    pub page: u32,
+    /// The most commits that a store may have, 1 to 16,777,215.
+    pub commits: u32,
+    /// The seed of a generated script.
+    pub seed: u32,
+    /// How many structures a generated script registers.
+    pub count: u32,
+}
+
+/// Why there is no plan.
+#[derive(Clone, Copy, Debug, PartialEq, Eq, Error)]
+pub enum PlanFault {
+    #[error("the words ask for nothing that is known")]
+    Usage,
+    #[error("out of memory")]
+    NoMemory,
+}

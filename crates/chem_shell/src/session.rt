@@ -1,0 +1,144 @@
+//! A session: the lines of a source are answered into a sink, from an empty store on.
+ghost use Rattle.std.specs.Prelude.{◌≡◌, ◌<◌, ◌≤◌, ◌∷◌, [], ◌++◌, ℕ, IfSome, IfOk, OnOk, IsErrOf, IsTrue, List, Some, Ok, Err, true, false, length};
+ghost use Rattle.io_edge.specs.Faults.{Rose};
+ghost use Rattle.io_edge.specs.Lines.{TextLine, done_bytes};
+ghost use Rattle.io_edge.specs.NextLine.{Counts};
+ghost use Rattle.io_edge.specs.Source.{Leaves};
+ghost use Rattle.chem_shell.specs.Served.{WritesFront, WritesAll, TakesExactly};
+ghost use Rattle.chem_shell.specs.Turn.{TurnPuts, TakesLine, TakesNone};
+ghost use Rattle.chem_shell.specs.Answered.{AnswersLine};
+
+use crate::answer::Desk;
+use io_edge::{Line, LineFault, Lines, PutFault, Sink, Source};
+use std::alloc::{AllocError, Global};
+
+/// The most bytes that are taken of an input.
+pub const INPUT_LIMIT: u64 = 4_294_967_296;
+
+/// Why a session ends before its input does.
+#[derive(Clone, Copy, Debug, PartialEq, Eq)]
+pub enum SessionFault {
+    /// The source failed.
+    Source,
+    /// The sink failed.
+    Sink,
+    NoMemory,
+    /// As many bytes were taken as may be, and the input goes on.
+    InputTooLong,
+}
+
+impl From<AllocError> for SessionFault {
+    ghost use Rattle.chem_shell.specs.declared.session.SessionFault.TheVariants.{NoMemory};
+
+    ghost from_gives = { λ _ e. e ≡ NoMemory };
+
+    fn from(_: AllocError) -> Self {
+        SessionFault::NoMemory
+    }
+}
+
+impl From<LineFault> for SessionFault {
+    ghost use Rattle.std.specs.Prelude.{◌≡◌};
+    ghost use Rattle.chem_shell.specs.Turn.{line_fault};
+
+    ghost from_gives = { λ f e. e ≡ line_fault f };
+
+    fn from(fault: LineFault) -> Self {
+        match fault {
+            LineFault::Source => SessionFault::Source,
+            LineFault::TooLong => SessionFault::InputTooLong,
+        }
+    }
+}
+
+impl From<PutFault> for SessionFault {
+    ghost use Rattle.std.specs.Prelude.{◌≡◌};
+    ghost use Rattle.chem_shell.specs.Turn.{put_fault};
+
+    ghost from_gives = { λ f e. e ≡ put_fault f };
+
+    fn from(fault: PutFault) -> Self {
+        match fault {
+            PutFault::Failed => SessionFault::Sink,
+            PutFault::NoMemory => SessionFault::NoMemory,
+        }
+    }
+}
+
+/// Reads the next line and answers it into the desk's `out`; `false` where the input's end was met.
+fn answer_next<S: Source>(
+    alloc: Global,
+    lines: &mut Lines,
+    desk: &mut Desk,
+    source: &mut S,
+) -> Result<bool, SessionFault>
+    ensures some { result ≡ Ok true → (line : TextLine) × TakesLine lines.old lines.new (S.left source.old) (S.left source.new) line
+        × AnswersLine desk.old.store line desk.new.out.items desk.new.store }
+    ensures none { result ≡ Ok false → TakesNone lines.old (S.left source.old) }
+    ensures bytes { (got : List ℕ) × Leaves (S.left source.old) got (S.left source.new) × Counts lines.old got lines.new }
+    ensures met { (l l' : List ℕ) → S.left source.old ≡ Some l → S.left source.new ≡ Some l'
+        → (IsTrue lines.old.ended → l ≡ []) → IsTrue lines.new.ended → l' ≡ [] }
+    ensures progress { result ≡ Ok true → done_bytes lines.old < done_bytes lines.new }
+    ensures source_fault { IsErrOf result SessionFault.Source → Rose (S.faults source.old) (S.faults source.new) }
+    ensures source_count { S.faults source.old ≤ S.faults source.new }
+    ensures no_sink_fault { IsErrOf result SessionFault.Sink → ⊥ }
+    ensures too_long { IsErrOf result SessionFault.InputTooLong → lines.new.taken ≡ lines.new.limit }
+{
+    match lines.next_line(source)? {
+        Line::End => Ok(false),
+        Line::Long => {
+            desk.refuse_long()?;
+            Ok(true)
+        }
+        Line::Text => {
+            desk.answer(alloc, lines.text())?;
+            Ok(true)
+        }
+    }
+}
+
+/// Reads the next line and puts its answer; `false` where the input's end was met.
+fn turn<S: Source, K: Sink>(
+    alloc: Global,
+    lines: &mut Lines,
+    desk: &mut Desk,
+    source: &mut S,
+    sink: &mut K,
+) -> Result<bool, SessionFault>
+    ensures puts { TurnPuts result desk.old.store desk.new.store lines.old lines.new (S.left source.old) (S.left source.new) (K.written sink.old) (K.written sink.new) }
+    ensures bytes { (got : List ℕ) × Leaves (S.left source.old) got (S.left source.new) × Counts lines.old got lines.new }
+    ensures met { (l l' : List ℕ) → S.left source.old ≡ Some l → S.left source.new ≡ Some l'
+        → (IsTrue lines.old.ended → l ≡ []) → IsTrue lines.new.ended → l' ≡ [] }
+    ensures progress { result ≡ Ok true → done_bytes lines.old < done_bytes lines.new }
+    ensures source_fault { IsErrOf result SessionFault.Source → Rose (S.faults source.old) (S.faults source.new) }
+    ensures sink_fault { IsErrOf result SessionFault.Sink → Rose (K.faults sink.old) (K.faults sink.new) }
+    ensures source_count { S.faults source.old ≤ S.faults source.new }
+    ensures sink_count { K.faults sink.old ≤ K.faults sink.new }
+    ensures too_long { IsErrOf result SessionFault.InputTooLong → lines.new.taken ≡ lines.new.limit }
+{
+    if answer_next(alloc, lines, desk, source)? {
+        sink.put(&desk.out)?;
+        Ok(true)
+    } else {
+        Ok(false)
+    }
+}
+
+/// Answers the lines of a source into a sink, each before more is read, over a store that begins empty. `Ok` where the input's end was
+/// met and every line was answered.
+pub fn session<S: Source, K: Sink>(
+    alloc: Global,
+    source: &mut S,
+    sink: &mut K,
+) -> Result<(), SessionFault>
+    ensures front { WritesFront (S.left source.old) (K.written sink.old) (K.written sink.new) }
+    ensures all { OnOk result (WritesAll (S.left source.old) (K.written sink.old) (K.written sink.new)) }
+    ensures source_fault { IsErrOf result SessionFault.Source → Rose (S.faults source.old) (S.faults source.new) }
+    ensures sink_fault { IsErrOf result SessionFault.Sink → Rose (K.faults sink.old) (K.faults sink.new) }
+    ensures too_long { IsErrOf result SessionFault.InputTooLong → TakesExactly (S.left source.old) (S.left source.new) 4294967296 }
+{
+    let mut lines = Lines::new(alloc, INPUT_LIMIT)?;
+    let mut desk = Desk::new(alloc)?;
+    while turn(alloc, &mut lines, &mut desk, source, sink)? {}
+    Ok(())
+}

@@ -1,0 +1,168 @@
+//! The store: a plain list of commits, and the structures that are live now.
+ghost use Rattle.std.specs.Prelude.{◌≡◌, ◌≢◌, ◌+◌, ◌<◌, ◌≤◌, ◌↔◌, [], ◌∷◌, ◌++◌, length, None, IfOk, OnOk, OnErr, IsErrOf};
+ghost use Rattle.smarts_parse.specs.Pattern.{pattern_of};
+ghost use Rattle.smarts_parse.specs.Sound.{IsSoundPattern};
+ghost use Rattle.chem_shell.specs.History.{Register, head, most_commits};
+ghost use Rattle.std.specs.Ordering.{nat_cmp};
+ghost use Rattle.std.specs.BTreeMap.{IsOrdered};
+ghost use Rattle.smarts_parse.specs.Embedding.{Matches};
+ghost use Rattle.chem_shell.specs.Flat.{IsFlat};
+ghost use Rattle.chem_shell.specs.Hits.{AreHits};
+ghost use Rattle.chem_shell.specs.Meaning.{IsStructureOf};
+ghost use Rattle.chem_shell.specs.Selects.{Selects};
+
+use crate::matching::{Scratch, has};
+use chem_core::Mol;
+use smarts_parse::Pattern;
+use std::alloc::{AllocError, AllocFailed, Global};
+use std::collections::BTreeMap;
+use std::marker::Model;
+
+/// The most commits that a store may have.
+pub const MOST_COMMITS: usize = 16_777_215;
+
+/// A structure that was registered under an identifier.
+#[derive(Debug, Drop)]
+pub struct Commit {
+    id: u32,
+    text: Vec<u8>,
+}
+
+/// The commits, the first of them version 1. Contracts see a store as its history.
+#[derive(Drop)]
+pub struct Store {
+    commits: Vec<Commit>,
+    live: BTreeMap<u32, Mol>,
+}
+
+impl Model for Store {
+    ghost use Rattle.std.specs.Prelude.{List, map};
+    ghost use Rattle.chem_shell.specs.History.{Change};
+
+    ghost Value = { List Change };
+
+    ghost use Rattle.chem_shell.specs.Store.{change_of, IsLiveNow};
+
+    ghost view = { λ s. map change_of s.commits.items };
+
+    ghost invariant = { λ s. IsLiveNow (map change_of s.commits.items) s.live };
+}
+
+/// Why a structure is not registered.
+#[derive(Clone, Copy, Debug, PartialEq, Eq)]
+pub enum CommitFault {
+    /// The identifier was registered before.
+    Known,
+    /// The store has as many commits as it may have.
+    Full,
+    NoMemory,
+}
+
+impl Store {
+    /// A store without commits. Takes no memory.
+    pub fn new(alloc: Global) -> Store
+        ensures { result ≡ [] }
+    {
+        Store {
+            commits: Vec::new(alloc),
+            live: BTreeMap::new(alloc),
+        }
+    }
+
+    /// How many commits there are.
+    pub fn version(&self) -> u32
+        ensures version { result ≡ length self.now }
+        ensures few { length self.now ≤ most_commits }
+    {
+        self.commits.len() as u32
+    }
+
+    /// Registers a structure under an identifier, and answers the version that the commit made. The structure is that of the text.
+    /// An `Err` changes nothing.
+    pub fn register(
+        &mut self,
+        alloc: Global,
+        id: u32,
+        text: &[u8],
+        mol: Mol,
+    ) -> Result<u32, CommitFault>
+        requires { IsStructureOf text.now mol }
+        ensures version { IfOk result (λ version. version ≡ length self.old + 1) }
+        ensures commit { OnOk result (self.new ≡ self.old ++ Register id text.now ∷ []) }
+        ensures allowed { OnOk result ((head self.old id ≡ None) × (length self.old < most_commits)) }
+        ensures known { IsErrOf result CommitFault.Known ↔ (head self.old id ≢ None) }
+        ensures full { IsErrOf result CommitFault.Full ↔ ((head self.old id ≡ None) × (most_commits ≤ length self.old)) }
+        ensures err { OnErr result (self.new ≡ self.old) }
+    {
+        if self.live.contains_key(&id) {
+            return Err(CommitFault::Known);
+        }
+        if self.commits.len() >= MOST_COMMITS {
+            return Err(CommitFault::Full);
+        }
+        let text = Vec::from_slice(alloc, text)?;
+        self.commits.reserve(1)?;
+        self.live.insert(id, mol)?;
+        self.commits.push_reserved(Commit { id, text });
+        Ok(self.commits.len() as u32)
+    }
+}
+
+impl Store {
+    /// The live identifiers in whose structure the pattern embeds, ascending.
+    pub fn hits(
+        &self,
+        alloc: Global,
+        pattern: &Pattern,
+        scratch: &mut Scratch,
+    ) -> Result<Vec<u32>, AllocError>
+        requires sound { IsSoundPattern (pattern_of pattern.now) }
+        requires flat { IsFlat (pattern_of pattern.now) }
+        ensures hits { IfOk result (λ ids. AreHits self.now (length self.now) (pattern_of pattern.now) ids.items) }
+        ensures few { IfOk result (λ ids. length ids.items ≤ most_commits) }
+    {
+        let ids = matching_identifiers(alloc, &self.live, pattern, scratch)?;
+        Ok(ids)
+    }
+}
+
+// The identifiers of the structures in which the pattern embeds, ascending.
+fn matching_identifiers(
+    alloc: Global,
+    live: &BTreeMap<u32, Mol>,
+    pattern: &Pattern,
+    scratch: &mut Scratch,
+) -> Result<Vec<u32>, AllocError>
+    requires sound { IsSoundPattern (pattern_of pattern.now) }
+    requires flat { IsFlat (pattern_of pattern.now) }
+    ensures selects { IfOk result (λ ids. Selects (Matches (pattern_of pattern.now)) live.now.entries ids.items) }
+    ensures ordered { IfOk result (λ _. IsOrdered nat_cmp live.now) }
+{
+    let mut hits = Vec::new(alloc);
+    for (id, mol) in live {
+        if has(pattern, mol, scratch) {
+            hits.push(*id)?;
+        }
+    }
+    Ok(hits)
+}
+
+impl From<AllocError> for CommitFault {
+    ghost use Rattle.chem_shell.specs.declared.store.CommitFault.TheVariants.{NoMemory};
+
+    ghost from_gives = { λ _ e. e ≡ NoMemory };
+
+    fn from(_: AllocError) -> Self {
+        CommitFault::NoMemory
+    }
+}
+
+impl<T: Drop> From<AllocFailed<T>> for CommitFault {
+    ghost use Rattle.chem_shell.specs.declared.store.CommitFault.TheVariants.{NoMemory};
+
+    ghost from_gives = { λ _ e. e ≡ NoMemory };
+
+    fn from(_: AllocFailed<T>) -> Self {
+        CommitFault::NoMemory
+    }
+}

@@ -1,0 +1,170 @@
+//! The top call: the words, the ends and the disks in, and what became of them out.
+ghost use Rattle.std.specs.Prelude.{◌≡◌, ◌↔◌, All, length, map};
+ghost use Rattle.std.specs.List.{AllZip};
+ghost use Rattle.io_edge.specs.Faults.{Rose};
+ghost use Rattle.chem_shell.specs.Words.{AsksMem};
+ghost use Rattle.chem_shell.specs.Served.{WritesFront, WritesAll, TakesExactly};
+ghost use Rattle.chem_shell.specs.Ends.{with_status, IsServed};
+ghost use Rattle.chem_shell.specs.Status.{IsEndStatus, first_fault};
+
+use crate::request::PlanFault;
+use crate::session::{SessionFault, session};
+use crate::words::plan;
+use io_edge::{Sink, Source};
+use std::alloc::Global;
+use std::sync::Wait;
+use std::thread::Threads;
+
+/// Every line was answered.
+pub const DONE: u8 = 0;
+
+/// The words ask for nothing that is known.
+pub const USAGE: u8 = 2;
+
+/// A source failed.
+pub const SOURCE_FAULT: u8 = 3;
+
+/// A sink failed.
+pub const SINK_FAULT: u8 = 4;
+
+/// Memory ran out.
+pub const NO_MEMORY: u8 = 8;
+
+/// As many bytes were taken of an input as may be, and it goes on.
+pub const INPUT_TOO_LONG: u8 = 9;
+
+/// One end that is served: where its script comes from, where the replies go, and how it ended.
+#[derive(Drop)]
+pub struct End<S, K> {
+    pub source: S,
+    pub sink: K,
+    /// The end's status; see `chemdb`.
+    pub status: u8,
+}
+
+/// What the top call leaves: the overall status, the place of damage on a disk (0 where there is none), and what was handed in.
+#[derive(Drop)]
+pub struct Outcome<D, S, K> {
+    pub status: u8,
+    pub place: u64,
+    pub a: D,
+    pub b: D,
+    pub ends: Vec<End<S, K>>,
+}
+
+impl SessionFault {
+    ghost use Rattle.chem_shell.specs.Status.{status_of};
+
+    /// The status of an end whose session ended so.
+    pub fn status(self) -> u8
+        ensures { result ≡ status_of self }
+    {
+        match self {
+            SessionFault::Source => SOURCE_FAULT,
+            SessionFault::Sink => SINK_FAULT,
+            SessionFault::NoMemory => NO_MEMORY,
+            SessionFault::InputTooLong => INPUT_TOO_LONG,
+        }
+    }
+}
+
+/// Serves one end: a session over a store in memory, made by the call.
+fn serve<S: Source + Drop, K: Sink + Drop>(alloc: Global, end: &mut End<S, K>)
+    ensures { IsServed S.left S.faults K.written K.faults end.old end.new }
+{
+    match session(alloc, &mut end.source, &mut end.sink) {
+        Ok(()) => end.status = DONE,
+        Err(fault) => end.status = fault.status(),
+    }
+}
+
+/// Serves the one end, and answers its status.
+fn serve_one<S: Source + Drop, K: Sink + Drop>(alloc: Global, ends: &mut Vec<End<S, K>>) -> u8
+    requires { length ends.old.items ≡ 1 }
+    ensures served { AllZip (IsServed S.left S.faults K.written K.faults) ends.old.items ends.new.items }
+    ensures overall { result ≡ first_fault (map (λ end. end.status) ends.new.items) }
+    ensures status { IsEndStatus result }
+{
+    let end = &mut ends[0];
+    serve(alloc, end);
+    ends[0].status
+}
+
+/// The outcome where no end was served: each has the status, and nothing else changed.
+fn unserved<D: Drop, S: Drop, K: Drop>(
+    status: u8,
+    a: D,
+    b: D,
+    mut ends: Vec<End<S, K>>,
+) -> Outcome<D, S, K>
+    ensures status { result.status ≡ status }
+    ensures place { result.place ≡ 0 }
+    ensures disk_a { result.a ≡ a }
+    ensures disk_b { result.b ≡ b }
+    ensures ends { result.ends.items ≡ map (with_status status) ends.items }
+{
+    set_status(&mut ends, status);
+    Outcome {
+        status,
+        place: 0,
+        a,
+        b,
+        ends,
+    }
+}
+
+/// Gives each end the status.
+fn set_status<S, K>(ends: &mut [End<S, K>], status: u8)
+    ensures { ends.new ≡ map (with_status status) ends.old }
+{
+    for end in ends.iter_mut() {
+        end.status = status;
+    }
+}
+
+/// The program over the objects that it is handed: what the words ask for is done with the ends and the disks, and the statuses say how it ended.
+/// No disk is used yet. `mem` serves one end by a session over a store in memory.
+pub fn chemdb<
+    R: Threads + Wait + Sync,
+    D: Send + Drop,
+    S: Source + Send + Drop,
+    K: Sink + Send + Drop,
+>(_rt: &R, alloc: Global, words: &[&str], a: D, b: D, mut ends: Vec<End<S, K>>) -> Outcome<D, S, K>
+    requires one_end { AsksMem (map (λ w. w.now) words.now) → length ends.items ≡ 1 }
+
+    // The words that ask for nothing, and then nothing is taken or put.
+    ensures usage { (result.status ≡ 2) ↔ (¬ AsksMem (map (λ w. w.now) words.now)) }
+    ensures usage_takes_nothing { ¬ AsksMem (map (λ w. w.now) words.now) → result.ends.items ≡ map (with_status 2) ends.items }
+
+    ensures disk_a { result.a ≡ a }
+    ensures disk_b { result.b ≡ b }
+    ensures place { result.place ≡ 0 }
+
+    ensures statuses { AsksMem (map (λ w. w.now) words.now) → All (λ end. IsEndStatus end.status) result.ends.items }
+    ensures overall { AsksMem (map (λ w. w.now) words.now) → result.status ≡ first_fault (map (λ end. end.status) result.ends.items) }
+
+    // A fault comes only where the end's object failed in this call, and only an input of the limit's length is too long.
+    ensures source_fault { AllZip (λ old new. new.status ≡ 3 → Rose (S.faults old.source) (S.faults new.source)) ends.items result.ends.items }
+    ensures sink_fault { AllZip (λ old new. new.status ≡ 4 → Rose (K.faults old.sink) (K.faults new.sink)) ends.items result.ends.items }
+    ensures input_too_long { AllZip (λ old new. new.status ≡ 9 → TakesExactly (S.left old.source) (S.left new.source) 4294967296) ends.items result.ends.items }
+
+    // `mem`: what was written is a front of the transcript of the source's bytes, and all of it where the status is 0.
+    ensures mem_front { AsksMem (map (λ w. w.now) words.now)
+        → AllZip (λ old new. WritesFront (S.left old.source) (K.written old.sink) (K.written new.sink)) ends.items result.ends.items }
+    ensures mem_all { AsksMem (map (λ w. w.now) words.now)
+        → AllZip (λ old new. new.status ≡ 0 → WritesAll (S.left old.source) (K.written old.sink) (K.written new.sink)) ends.items result.ends.items }
+{
+    match plan(alloc, words) {
+        Err(PlanFault::Usage) => return unserved(USAGE, a, b, ends),
+        Err(PlanFault::NoMemory) => return unserved(NO_MEMORY, a, b, ends),
+        Ok(_) => {}
+    }
+    let status = serve_one(alloc, &mut ends);
+    Outcome {
+        status,
+        place: 0,
+        a,
+        b,
+        ends,
+    }
+}
