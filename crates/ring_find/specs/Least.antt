@@ -1,0 +1,8 @@
+-- The least of some lengths, where 0 is no length.
+use Rattle.std.specs.Prelude.{◌≡◌, ◌≢◌, ◌≤◌, ◌⊎◌, ℕ}
+
+-- the lesser of two lengths: one of them, no more than either, and 0 only where both are
+pub record IsLesser (one other lesser : ℕ) : Type 0 where
+  pub from : (lesser ≡ one) ⊎ (lesser ≡ other)
+  pub first : one ≢ 0 → (lesser ≢ 0) × (lesser ≤ one)
+  pub second : other ≢ 0 → (lesser ≢ 0) × (lesser ≤ other)

@@ -1,0 +1,62 @@
+//! Which bonds of a sketch are ring bonds, and the smallest ring of each atom.
+//!
+//! A bond lies on a ring exactly where a walk without it joins its ends, and the least such walk and the bond are the
+//! smallest ring through it. So one breadth-first search for each bond finds all; bonds that lead to dead ends are
+//! stripped first, so a structure without rings costs one pass.
+#![tactic(auto)]
+
+mod facts;
+mod graph;
+mod least;
+mod search;
+mod strip;
+
+ghost use Rattle.std.specs.Prelude.{◌≡◌, ◌==◌, ℕ, Bool, List, not, length, map, IfOk};
+ghost use Rattle.chem_core.specs.Graph.{Ends};
+ghost use Rattle.chem_core.specs.Sound.{IsSound, sketch_ends};
+ghost use Rattle.chem_core.specs.RingFacts.{AreRingBonds, AreSmallestRings};
+
+use crate::graph::Graph;
+use crate::least::smallest_rings;
+use crate::search::ring_lengths;
+use crate::strip::strip_dead_ends;
+use chem_core::Sketch;
+pub use facts::Rings;
+use std::alloc::{AllocError, Global};
+
+/// Which bonds are ring bonds, and the length of the smallest ring of each atom, 0 where it is in none.
+///
+/// A ring is a simple cycle. Fails only for want of memory. A sketch without rings takes time linear in its atoms and
+/// bonds; at worst the time is the number of bonds between rings or in them times the number of atoms and bonds.
+pub fn rings(alloc: Global, sketch: &Sketch) -> Result<Rings, AllocError>
+    requires { IsSound sketch.now }
+    ensures bonds { IfOk result (λ r. AreRingBonds (sketch_ends sketch.now) r.bond_in_ring.items) }
+    ensures atoms { IfOk result (λ r. AreSmallestRings (length sketch.now.atoms) (sketch_ends sketch.now) r.atom_small.items) }
+{
+    let graph = Graph::of(alloc, sketch)?;
+    let kept = strip_dead_ends(alloc, &graph)?;
+    let lengths = ring_lengths(alloc, &graph, &kept)?;
+    let bond_in_ring = nonzero(alloc, &lengths)?;
+    let atom_small = smallest_rings(alloc, &graph, &lengths)?;
+    Ok(Rings {
+        bond_in_ring,
+        atom_small,
+    })
+}
+
+// For each length whether it is one; 0 is none.
+fn nonzero(alloc: Global, lengths: &[u16]) -> Result<Vec<bool>, AllocError>
+    ensures { IfOk result (λ flags. flags.items ≡ map (λ n. not (n == 0)) lengths.now) }
+{
+    lengths.iter().map(|length| *length != 0).collect(alloc)
+}
+
+/// A law: a structure has one list of ring bonds, and one of smallest rings.
+pub fn one_answer()
+    ensures bonds { (ends : Ends) (xs ys : List Bool) → AreRingBonds ends xs → AreRingBonds ends ys → xs ≡ ys }
+    ensures atoms { (atoms : ℕ) (ends : Ends) (xs ys : List ℕ)
+        → AreSmallestRings atoms ends xs → AreSmallestRings atoms ends ys → xs ≡ ys }
+{}
+
+#[cfg(test)]
+mod tests;

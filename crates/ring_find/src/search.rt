@@ -1,0 +1,93 @@
+//! The smallest ring through each bond, by a breadth-first search from one of its ends to the other.
+ghost use Rattle.std.specs.Prelude.{◌≡◌, ◌≢◌, ◌≤◌, ◌<◌, ◌+◌, ℕ, length, replicate, slice_index, All, Contains, IfOk, OnOk};
+ghost use Rattle.ring_find.specs.BondRings.{KeepsRings, AreBondRings, IsSmallestThrough};
+ghost use Rattle.ring_find.specs.Search.{IsRingSearch};
+
+use crate::graph::Graph;
+use std::alloc::{AllocError, Global};
+
+/// For each bond the length of the smallest ring through it, 0 where there is none. Only kept bonds are walked.
+pub fn ring_lengths(alloc: Global, graph: &Graph, kept: &[bool]) -> Result<Vec<u16>, AllocError>
+    requires { KeepsRings graph.now.ends kept.now }
+    ensures { IfOk result (λ lengths. AreBondRings graph.now.ends lengths.items) }
+{
+    let bonds = graph.ends().len();
+    let mut lengths = Vec::with_capacity(alloc, bonds)?;
+    let mut marks: Vec<u16> = vec![in alloc; 0u16; graph.atoms()]?;
+    let mut queue: Vec<u16> = Vec::with_capacity(alloc, graph.atoms())?;
+    for place in 0..bonds {
+        lengths.push(ring_length(graph, kept, place as u16, &mut marks, &mut queue)?)?;
+    }
+    Ok(lengths)
+}
+
+// The length of the smallest ring through a bond, 0 where there is none. No atom is marked, before and after.
+fn ring_length(
+    graph: &Graph,
+    kept: &[bool],
+    bond: u16,
+    marks: &mut [u16],
+    queue: &mut Vec<u16>,
+) -> Result<u16, AllocError>
+    requires kept { KeepsRings graph.now.ends kept.now }
+    requires bond { bond < length graph.now.ends }
+    requires blank { marks.old ≡ replicate graph.now.atoms 0 }
+    ensures ring { IfOk result (IsSmallestThrough graph.now.ends bond) }
+    ensures blank { OnOk result (marks.new ≡ replicate graph.now.atoms 0) }
+{
+    if !kept[usize::from(bond)] {
+        return Ok(0);
+    }
+    let (from, to) = graph.ends()[usize::from(bond)];
+    queue.clear();
+    queue.push(from)?;
+    marks[usize::from(from)] = 1;
+    let mut next = 0;
+    while next < queue.len() && marks[usize::from(to)] == 0 {
+        visit(graph, kept, bond, next, marks, queue)?;
+        next += 1;
+    }
+    let length = marks[usize::from(to)];
+    unmark(marks, queue);
+    Ok(length)
+}
+
+// Marks the neighbours of the next atom of the queue that are not marked yet, and puts them at the end of the queue.
+// A mark is one more than the number of steps from the first atom.
+fn visit(
+    graph: &Graph,
+    kept: &[bool],
+    bond: u16,
+    next: usize,
+    marks: &mut [u16],
+    queue: &mut Vec<u16>,
+) -> Result<(), AllocError>
+    requires few { graph.now.atoms ≤ 999 }
+    requires kept { length kept.now ≡ length graph.now.ends }
+    requires next { next < length queue.old.items }
+    requires search { IsRingSearch graph.now.ends kept.now bond graph.now.atoms marks.old queue.old.items next }
+    ensures { OnOk result (IsRingSearch graph.now.ends kept.now bond graph.now.atoms marks.new queue.new.items (next + 1)) }
+{
+    let at = queue[next];
+    let mark = marks[usize::from(at)] + 1;
+    let steps = graph.steps_from(at);
+    for step in steps {
+        if step.bond == bond || !kept[usize::from(step.bond)] || marks[usize::from(step.to)] != 0 {
+            continue;
+        }
+        marks[usize::from(step.to)] = mark;
+        queue.push(step.to)?;
+    }
+    Ok(())
+}
+
+// Takes the marks off the atoms of the queue, which has each atom that is marked.
+fn unmark(marks: &mut [u16], queue: &[u16])
+    requires each { (v : ℕ) → slice_index marks.old v ≢ 0 → Contains queue.now v }
+    requires in_range { All (λ v. v < length marks.old) queue.now }
+    ensures { marks.new ≡ replicate (length marks.old) 0 }
+{
+    for atom in queue {
+        marks[usize::from(*atom)] = 0;
+    }
+}
