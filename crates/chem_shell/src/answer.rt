@@ -24,13 +24,15 @@ pub fn register(alloc: Global, store: &mut Store, id: u32, text: &[u8]) -> Resul
 {
     let mol = match structure(alloc, Format::Smiles, text) {
         Ok(mol) => mol,
-        Err(TextFault::Smiles(SmilesFault::Syntax)) => return Ok(Reply::Refused(
-            Refusal::SmilesSyntax,
-        )),
-        Err(TextFault::Smiles(SmilesFault::Ring)) => return Ok(Reply::Refused(Refusal::SmilesRing)),
-        Err(TextFault::Smiles(SmilesFault::Limit)) => return Ok(Reply::Refused(
-            Refusal::SmilesLimit,
-        )),
+        Err(TextFault::Smiles(SmilesFault::Syntax)) => {
+            return Ok(Reply::Refused(Refusal::SmilesSyntax));
+        }
+        Err(TextFault::Smiles(SmilesFault::Ring)) => {
+            return Ok(Reply::Refused(Refusal::SmilesRing));
+        }
+        Err(TextFault::Smiles(SmilesFault::Limit)) => {
+            return Ok(Reply::Refused(Refusal::SmilesLimit));
+        }
         Err(TextFault::Smiles(_)) => unreachable!(),
         Err(TextFault::NotYet) => return Ok(Reply::Refused(Refusal::NotYet)),
         Err(TextFault::NoMemory) => return Err(AllocError),

@@ -1,4 +1,4 @@
-//! The top call of chemdb, and what it still reads and matches by itself.
+//! The top call of chemdb, and what it still matches by itself.
 #![tactic(auto)]
 
 pub mod answer;
