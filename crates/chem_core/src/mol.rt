@@ -1,8 +1,9 @@
-//! Molecules: atoms and bonds as they are meant, and each atom's neighbours.
-ghost use Rattle.std.specs.Prelude.{◌≡◌, ◌+◌, ◌<◌, ◌∷◌, ℕ, List, [], length, map, replicate, take, Contains, IsPermutation, nat_lt, position, unwrap_or, IfOk, OnOk};
+//! Molecules: atoms and bonds as they are meant, each atom's neighbours, and what lies on rings.
+ghost use Rattle.std.specs.Prelude.{◌≡◌, ◌↔◌, ◌+◌, ◌<◌, ◌∷◌, ℕ, List, [], length, map, replicate, take, Contains, IsPermutation, IsTrue, nat_lt, position, unwrap_or, IfOk, OnOk};
 ghost use Rattle.std.specs.List.Sorted.{IsStrictlyIncreasing};
-ghost use Rattle.chem_core.specs.Graph.{Ends, IsSimpleGraph, AreNeighbours, AreNeighbourLists};
+ghost use Rattle.chem_core.specs.Graph.{Ends, IsSimpleGraph, AreNeighbours, AreNeighbourLists, IsRingBond, IsSmallestRing};
 ghost use Rattle.chem_core.specs.Molecule.{IsMolecule, bond_ends, ends_of};
+ghost use Rattle.chem_core.specs.RingFacts.{AreRingBonds, AreSmallestRings};
 
 use smallvec::SmallVec;
 use std::alloc::{AllocError, Global};
@@ -45,7 +46,7 @@ pub struct Bond {
 /// The neighbours of an atom, each with the bond to it.
 type Neighbours = SmallVec<(u16, u16), 4>;
 
-/// A molecule: atoms and bonds as they are meant, and for each atom its neighbours.
+/// A molecule: atoms and bonds as they are meant, for each atom its neighbours, and what lies on rings.
 ///
 /// It has at most 999 atoms and 999 bonds, and at most 12 neighbours at an atom. No two bonds join the same atoms, and
 /// none joins an atom to itself. Atoms and bonds are named by their places, from 0. Contracts see it as its two lists.
@@ -54,6 +55,10 @@ pub struct Mol {
     atoms: Vec<Atom>,
     bonds: Vec<Bond>,
     neighbours: Vec<Neighbours>,
+    // for each bond whether it is a ring bond
+    bond_in_ring: Vec<bool>,
+    // for each atom the length of its smallest ring, 0 where it is in none
+    atom_small: Vec<u16>,
 }
 
 impl Model for Mol {
@@ -65,13 +70,22 @@ impl Model for Mol {
 
     ghost use Rattle.chem_core.specs.Inside.{IsSoundInside};
 
-    ghost invariant = { λ m. IsSoundInside m.atoms.items m.bonds.items m.neighbours.items };
+    ghost invariant = { λ m. IsSoundInside m.atoms.items m.bonds.items m.neighbours.items m.bond_in_ring.items m.atom_small.items };
 }
 
 impl Mol {
-    /// The molecule of these atoms and bonds. Fails only for want of memory.
-    pub fn make(alloc: Global, atoms: Vec<Atom>, bonds: Vec<Bond>) -> Result<Mol, AllocError>
-        requires { IsMolecule (record { atoms = atoms.items; bonds = bonds.items }) }
+    /// The molecule of these atoms and bonds, of which it is known for each bond whether it is a ring bond, and for
+    /// each atom the length of its smallest ring, 0 where it is in none. Fails only for want of memory.
+    pub fn make(
+        alloc: Global,
+        atoms: Vec<Atom>,
+        bonds: Vec<Bond>,
+        bond_in_ring: Vec<bool>,
+        atom_small: Vec<u16>,
+    ) -> Result<Mol, AllocError>
+        requires molecule { IsMolecule (record { atoms = atoms.items; bonds = bonds.items }) }
+        requires ring_bonds { AreRingBonds (bond_ends bonds.items) bond_in_ring.items }
+        requires smallest { AreSmallestRings (length atoms.items) (bond_ends bonds.items) atom_small.items }
         ensures { IfOk result (λ mol. mol ≡ record { atoms = atoms.items; bonds = bonds.items }) }
     {
         let neighbours = neighbour_lists(alloc, atoms.len(), &bonds)?;
@@ -79,6 +93,8 @@ impl Mol {
             atoms,
             bonds,
             neighbours,
+            bond_in_ring,
+            atom_small,
         })
     }
 
@@ -104,6 +120,22 @@ impl Mol {
         ensures { AreNeighbours (ends_of self.now) atom result.now }
     {
         self.neighbours[usize::from(atom)].as_slice()
+    }
+
+    /// Whether the bond at a place is a ring bond: one of some simple cycle of at least three atoms.
+    pub fn ring_bond(&self, bond: u16) -> bool
+        requires { bond < length self.now.bonds }
+        ensures { IsTrue result ↔ IsRingBond (ends_of self.now) bond }
+    {
+        self.bond_in_ring[usize::from(bond)]
+    }
+
+    /// The length of the smallest ring through the atom at a place; 0 where it is in none.
+    pub fn small(&self, atom: u16) -> u16
+        requires { atom < length self.now.atoms }
+        ensures { IsSmallestRing (ends_of self.now) atom result }
+    {
+        self.atom_small[usize::from(atom)]
     }
 }
 

@@ -1,30 +1,30 @@
-use crate::{Atom, Bond, BondKind, Mol, Print, number_of, symbol_of};
+use crate::{Atom, Mol, Print, number_of, symbol_of};
 use std::test::Fail;
 
-// The heavy atoms of ethanol, with the oxygen in the middle of the list.
+// Methane: one atom, no bond.
 #[test]
-fn ethanol(rt: HostRuntime) -> Result<(), Fail> {
-    let atom = |number: u8, hydrogens: u8, valence: u8| Atom {
-        number,
+fn methane(rt: HostRuntime) -> Result<(), Fail> {
+    let carbon = Atom {
+        number: 6,
         isotope: 0,
         charge: 0,
-        hydrogens,
+        hydrogens: 4,
         aromatic: false,
-        valence,
+        valence: 4,
     };
-    let single = |a: u16, b: u16| Bond {
-        a,
-        b,
-        kind: BondKind::Single,
-    };
-    let atoms = [atom(6, 3, 4), atom(8, 1, 2), atom(6, 2, 4)].to_vec(rt.alloc())?;
-    let bonds = [single(2, 1), single(0, 2)].to_vec(rt.alloc())?;
-    let mol = Mol::make(rt.alloc(), atoms, bonds)?;
-    assert_eq!(rt; mol.atoms().len(), 3);
-    assert_eq!(rt; mol.bonds().len(), 2);
-    assert_eq!(rt; mol.neighbours(0), [(2, 1)].as_slice());
-    assert_eq!(rt; mol.neighbours(1), [(2, 0)].as_slice());
-    assert_eq!(rt; mol.neighbours(2), [(0, 1), (1, 0)].as_slice());
+    let atoms = [carbon].to_vec(rt.alloc())?;
+    let smallest = [0].to_vec(rt.alloc())?;
+    let mol = Mol::make(
+        rt.alloc(),
+        atoms,
+        Vec::new(rt.alloc()),
+        Vec::new(rt.alloc()),
+        smallest,
+    )?;
+    assert_eq!(rt; mol.atoms(), [carbon].as_slice());
+    assert_eq!(rt; mol.bonds().len(), 0);
+    assert_eq!(rt; mol.neighbours(0).len(), 0);
+    assert_eq!(rt; mol.small(0), 0);
     Ok(())
 }
 

@@ -1,1 +1,3 @@
-pub mod Molecules
+mod Meaning
+mod Stages
+mod Unique

@@ -1,5 +1,5 @@
--- The molecule that a sketch without lower-case atoms and rings means.
-use Rattle.std.specs.Prelude.{ℕ, ◌+◌, false, map}
+-- The molecule that a sketch means, once it is known which of its atoms and bonds are aromatic.
+use Rattle.std.specs.Prelude.{ℕ, Bool, true, false, List, map, slice_index, slice_index_or}
 use Rattle.std.specs.List.{enumerate_from}
 use Rattle.chem_core.specs.declared.mol.Atom.{Atom}
 use Rattle.chem_core.specs.declared.mol.Bond.{Bond}
@@ -11,34 +11,43 @@ use Rattle.chem_core.specs.declared.sketch.SketchKind.{SketchKind}
 use Rattle.chem_core.specs.declared.sketch.SketchKind.TheVariants.{Unwritten, Single, Double, Triple, Quad, Colon}
 use Rattle.chem_core.specs.Drawing.{Drawing}
 use Rattle.chem_core.specs.Molecule.{Molecule}
-use Rattle.valence.specs.Valence.{bond_sum}
 
--- a bond keeps its order; without a symbol, or with `:`, it is single
-abbrev pub meant_kind : SketchKind → BondKind
-meant_kind Unwritten = kinds.Single
-meant_kind Single = kinds.Single
-meant_kind Double = kinds.Double
-meant_kind Triple = kinds.Triple
-meant_kind Quad = kinds.Quad
-meant_kind Colon = kinds.Single
+-- a bond that is not aromatic keeps its order; without a symbol, or with `:`, it is single
+abbrev pub plain_kind : SketchKind → BondKind
+plain_kind Unwritten = kinds.Single
+plain_kind Single = kinds.Single
+plain_kind Double = kinds.Double
+plain_kind Triple = kinds.Triple
+plain_kind Quad = kinds.Quad
+plain_kind Colon = kinds.Single
 
--- the atom whose bonds sum to the total; its valence is that and its hydrogens
-abbrev pub meant_atom : ℕ → SketchAtom → Atom
-meant_atom total x = record {
+abbrev pub meant_kind : Bool → SketchKind → BondKind
+meant_kind true kind = kinds.Aromatic
+meant_kind false kind = plain_kind kind
+
+-- the atom, aromatic or not, with this valence
+abbrev pub meant_atom : Bool → ℕ → SketchAtom → Atom
+meant_atom aromatic valence x = record {
   number = x.number;
   isotope = x.isotope;
   charge = x.charge;
   hydrogens = x.hydrogens;
-  aromatic = false;
-  valence = x.hydrogens + total;
+  aromatic = aromatic;
+  valence = valence;
 }
 
-abbrev pub meant_bond : SketchBond → Bond
-meant_bond b = record { a = b.a; b = b.b; kind = meant_kind b.kind }
+-- the bond, aromatic or not
+abbrev pub meant_bond : Bool → SketchBond → Bond
+meant_bond aromatic b = record { a = b.a; b = b.b; kind = meant_kind aromatic b.kind }
 
--- atoms and bonds in the order of the sketch
-abbrev pub meant : Drawing → Molecule
-meant s = record {
-  atoms = map (λ p. meant_atom (bond_sum s p.0) p.1) (enumerate_from 0 s.atoms);
-  bonds = map meant_bond s.bonds;
-}
+-- the atoms, by the lists of which are aromatic and of their valences
+abbrev pub meant_atoms : List Bool → List ℕ → List SketchAtom → List Atom
+meant_atoms aromatic valences atoms = map (λ p. meant_atom (slice_index_or aromatic p.0 false) (slice_index valences p.0) p.1) (enumerate_from 0 atoms)
+
+-- the bonds, by the list of which are aromatic
+abbrev pub meant_bonds : List Bool → List SketchBond → List Bond
+meant_bonds aromatic bonds = map (λ p. meant_bond (slice_index_or aromatic p.0 false) p.1) (enumerate_from 0 bonds)
+
+-- the sketch with these aromatic atoms and bonds, and these valences
+abbrev pub meant : Drawing → List Bool → List Bool → List ℕ → Molecule
+meant s atoms bonds valences = record { atoms = meant_atoms atoms valences s.atoms; bonds = meant_bonds bonds s.bonds }

@@ -1,44 +1,43 @@
 -- The structure of a text: the stages, one after another, and the fault of the first that fails.
-use Rattle.std.specs.Prelude.{◌≡◌, ◌≢◌, ◌≤◌, ◌==◌, max, ℕ, Bool, false, List, All, count_by, Result, Ok, Err}
-use Rattle.chem_core.specs.declared.sketch.SketchBond.{SketchBond}
-use Rattle.chem_core.specs.declared.sketch.SketchKind.TheVariants.{Colon}
+use Rattle.std.specs.Prelude.{◌≡◌, ℕ, Bool, List, Result, Ok, Err}
 use Rattle.chem_core.specs.Drawing.{Drawing}
 use Rattle.chem_core.specs.Molecule.{Molecule}
-use Rattle.smiles_read.specs.declared.fault.SmilesFault.{SmilesFault}
+use Rattle.chem_core.specs.Sound.{sketch_ends}
+use Rattle.chem_core.specs.RingFacts.{AreRingBonds}
 use Rattle.smiles_read.specs.declared.fault.SmilesFault.TheVariants as smiles
 use Rattle.smiles_read.specs.Reading.{IsReading}
 use Rattle.valence.specs.Filled.{filled}
 use Rattle.valence.specs.Suppressed.{suppressed}
+use Rattle.aromatic.specs.Huckel.{IsPerceived, IsFirstRefused}
 use Rattle.mol_finish.specs.declared.fault.TextFault.{TextFault}
 use Rattle.mol_finish.specs.declared.fault.TextFault.TheVariants.{Smiles, NotYet, NoMemory}
 use Rattle.mol_finish.specs.Meant.{meant}
-
--- of the two ends of the bond the atom is that of greater number
-abbrev pub leads_down : ℕ → SketchBond → Bool
-leads_down a b = max b.a b.b == a
-
--- no atom is lower-case, no bond is `:`, and at most one bond joins an atom to one of smaller number: so there is no ring
-pub record IsPlain (s : Drawing) : Type 0 where
-  pub upper : All (λ x. x.lower ≡ false) s.atoms
-  pub marks : All (λ b. b.kind ≢ Colon) s.bonds
-  pub down : (a : ℕ) → count_by (leads_down a) s.bonds ≤ 1
 
 -- the sketch of a text with its hydrogens counted, and plain hydrogen atoms as counts
 abbrev pub prepared : Drawing → Drawing
 prepared s = suppressed (filled s)
 
+-- a prepared sketch means this molecule: that of its aromatic atoms and bonds and its valences
+abbrev pub IsMeant : Drawing → Molecule → Type 0
+IsMeant s m =
+    (rings atoms bonds : List Bool) × (valences : List ℕ) × AreRingBonds (sketch_ends s) rings
+    × IsPerceived s rings atoms bonds valences × (m ≡ meant s atoms bonds valences)
+
+-- the w-th atom as written is the first of a prepared sketch that no aromatic ring allows
+abbrev pub IsRefusedAt : Drawing → ℕ → Type 0
+IsRefusedAt s w = (rings : List Bool) × AreRingBonds (sketch_ends s) rings × IsFirstRefused s rings w
+
 -- the text is a SMILES of this molecule
 abbrev pub IsStructureOf : List ℕ → Molecule → Type 0
-IsStructureOf text m = (s : Drawing) × IsReading text (Ok s) × IsPlain s × (m ≡ meant (prepared s))
-
--- a fault of the reader; want of memory has one name in all stages
-abbrev pub fault_of : SmilesFault → TextFault
-fault_of smiles.NoMemory = NoMemory
-fault_of fault = Smiles fault
+IsStructureOf text m = (s : Drawing) × IsReading text (Ok s) × IsMeant (prepared s) m
 
 -- The answer to a SMILES. Want of memory may come at any text.
 abbrev pub IsStructure : List ℕ → Result Molecule TextFault → Type 0
 IsStructure text (Ok m) = IsStructureOf text m
-IsStructure text (Err (Smiles fault)) = (fault ≢ smiles.NoMemory) × IsReading text (Err fault)
-IsStructure text (Err NotYet) = (s : Drawing) × IsReading text (Ok s) × ¬ IsPlain s
+IsStructure text (Err (Smiles smiles.Syntax)) = IsReading text (Err smiles.Syntax)
+IsStructure text (Err (Smiles smiles.Ring)) = IsReading text (Err smiles.Ring)
+IsStructure text (Err (Smiles smiles.Limit)) = IsReading text (Err smiles.Limit)
+IsStructure text (Err (Smiles (smiles.Aromatic w))) = (s : Drawing) × IsReading text (Ok s) × IsRefusedAt (prepared s) w
+IsStructure text (Err (Smiles smiles.NoMemory)) = ⊥
+IsStructure text (Err NotYet) = ⊥
 IsStructure text (Err NoMemory) = Unit {0}

@@ -1,6 +1,7 @@
 //! Formats of structures, and why a text has none.
 ghost use Rattle.std.specs.Prelude.{◌≡◌};
 
+use aromatic::AromFault;
 use smiles_read::SmilesFault;
 use std::alloc::AllocError;
 use thiserror::Error;
@@ -20,7 +21,7 @@ pub enum TextFault {
     /// The SMILES is refused. `NoMemory` never stands here.
     #[error("{0}")]
     Smiles(SmilesFault),
-    /// The text is a molfile, or a SMILES with a lower-case atom, a bond `:` or a ring.
+    /// The format is not read yet.
     #[error("not read yet")]
     NotYet,
     /// Memory ran out in some stage.
@@ -29,14 +30,27 @@ pub enum TextFault {
 }
 
 impl From<SmilesFault> for TextFault {
-    ghost use Rattle.mol_finish.specs.Structure.{fault_of};
+    ghost use Rattle.mol_finish.specs.Faults.{reading_fault};
 
-    ghost from_gives = { λ fault e. e ≡ fault_of fault };
+    ghost from_gives = { λ fault e. e ≡ reading_fault fault };
 
     fn from(fault: SmilesFault) -> TextFault {
         match fault {
             SmilesFault::NoMemory => TextFault::NoMemory,
             fault => TextFault::Smiles(fault),
+        }
+    }
+}
+
+impl From<AromFault> for TextFault {
+    ghost use Rattle.mol_finish.specs.Faults.{ring_fault};
+
+    ghost from_gives = { λ fault e. e ≡ ring_fault fault };
+
+    fn from(fault: AromFault) -> TextFault {
+        match fault {
+            AromFault::Aromatic(written) => TextFault::Smiles(SmilesFault::Aromatic(written)),
+            AromFault::NoMemory => TextFault::NoMemory,
         }
     }
 }

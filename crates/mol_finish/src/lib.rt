@@ -1,13 +1,12 @@
-//! Structures of texts: a SMILES is read, its hydrogens are counted, and plain hydrogen atoms become counts.
+//! The structure of a text: reading, hydrogens, suppression, rings, aromaticity.
 #![tactic(auto)]
 
+mod answer;
 mod fault;
-mod finish;
-mod plain;
-mod text;
+mod meant;
 
+pub use answer::{one_answer, one_structure, structure};
 pub use fault::{Format, TextFault};
-pub use text::{one_structure, structure};
 
 #[cfg(test)]
 mod tests;

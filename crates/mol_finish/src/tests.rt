@@ -1,58 +1,160 @@
-//! Texts and their structures.
+//! Worked examples, by hand.
+
 use crate::{Format, TextFault, structure};
+use chem_core::{BondKind, Mol};
 use smiles_read::SmilesFault;
 use std::test::Fail;
 
-// For each atom its number, its hydrogens and its valence.
-type Counts = &'static [(u8, u8, u8)];
+/// A SMILES and its molecule: a character for each atom or bond.
+struct Example {
+    text: &'static str,
+    /// Hydrogens, valence and smallest ring as digits; `a` where an atom is aromatic.
+    hydrogens: &'static str,
+    valence: &'static str,
+    small: &'static str,
+    aromatic: &'static str,
+    /// `-`, `=` or `:`, and `r` where a bond is a ring bond.
+    kinds: &'static str,
+    rings: &'static str,
+}
+
+const EXAMPLES: &[Example] = &[
+    Example {
+        text: "[H]C",
+        hydrogens: "4",
+        valence: "4",
+        small: "0",
+        aromatic: ".",
+        kinds: "",
+        rings: "",
+    },
+    Example {
+        text: "[2H]C",
+        hydrogens: "03",
+        valence: "14",
+        small: "00",
+        aromatic: "..",
+        kinds: "-",
+        rings: ".",
+    },
+    Example {
+        text: "c1ccccc1",
+        hydrogens: "111111",
+        valence: "444444",
+        small: "666666",
+        aromatic: "aaaaaa",
+        kinds: "::::::",
+        rings: "rrrrrr",
+    },
+    Example {
+        text: "C1=CC=CC=C1",
+        hydrogens: "111111",
+        valence: "444444",
+        small: "666666",
+        aromatic: "aaaaaa",
+        kinds: "::::::",
+        rings: "rrrrrr",
+    },
+    // azulene
+    Example {
+        text: "c1ccc2cccc2cc1",
+        hydrogens: "1110111011",
+        valence: "4444444444",
+        small: "7775555577",
+        aromatic: "aaaaaaaaaa",
+        kinds: ":::::::-:::",
+        rings: "rrrrrrrrrrr",
+    },
+    // caffeine
+    Example {
+        text: "Cn1cnc2c1c(=O)n(C)c(=O)n2C",
+        hydrogens: "30100000030003",
+        valence: "43434442344234",
+        small: "05555560606060",
+        aromatic: ".aaaaaa.a.a.a.",
+        kinds: "-::::::=:-:=::-",
+        rings: ".rrrrrr.r.r.rr.",
+    },
+];
+
+// The character at a place; a blank past the end.
+fn at(text: &str, place: usize) -> u8 {
+    text.as_bytes().get(place).copied().unwrap_or(b' ')
+}
+
+fn letter(kind: BondKind) -> u8 {
+    match kind {
+        BondKind::Single => b'-',
+        BondKind::Double => b'=',
+        BondKind::Triple => b'#',
+        BondKind::Quad => b'$',
+        BondKind::Aromatic => b':',
+    }
+}
+
+// Whether the molecule's atoms are those of the example.
+fn atoms_are(mol: &Mol, example: &Example) -> bool {
+    let mut right = mol.atoms().len() == example.hydrogens.len();
+    for (place, atom) in mol.atoms().iter().enumerate() {
+        let aromatic = if atom.aromatic { b'a' } else { b'.' };
+        right = right
+            && usize::from(atom.hydrogens) + 48 == usize::from(at(example.hydrogens, place))
+            && usize::from(atom.valence) + 48 == usize::from(at(example.valence, place))
+            && usize::from(mol.small(place as u16)) + 48 == usize::from(at(example.small, place))
+            && aromatic == at(example.aromatic, place);
+    }
+    right
+}
+
+// Whether the molecule's bonds are those of the example.
+fn bonds_are(mol: &Mol, example: &Example) -> bool {
+    let mut right = mol.bonds().len() == example.kinds.len();
+    for (place, bond) in mol.bonds().iter().enumerate() {
+        let ring = if mol.ring_bond(place as u16) {
+            b'r'
+        } else {
+            b'.'
+        };
+        right = right
+            && letter(bond.kind) == at(example.kinds, place)
+            && ring == at(example.rings, place);
+    }
+    right
+}
 
 #[test]
-fn texts_and_their_atoms(rt: HostRuntime) -> Result<(), Fail> {
-    let rows: [(&str, Counts); 9] = [
-        ("C", &[(6, 4, 4)]),
-        ("[H]C", &[(6, 4, 4)]),
-        ("[2H]C", &[(1, 0, 1), (6, 3, 4)]),
-        ("[H][H]", &[(1, 0, 1), (1, 0, 1)]),
-        ("CC(=O)[O-]", &[(6, 3, 4), (6, 0, 4), (8, 0, 2), (8, 0, 1)]),
-        ("C#N", &[(6, 1, 4), (7, 0, 3)]),
-        (
-            "CS(=O)(=O)C",
-            &[(6, 3, 4), (16, 0, 6), (8, 0, 2), (8, 0, 2), (6, 3, 4)],
-        ),
-        ("[Na+].Cl", &[(11, 0, 0), (17, 1, 1)]),
-        ("[CH3][NH3+]", &[(6, 3, 4), (7, 3, 4)]),
-    ];
-    for (text, atoms) in rows {
-        let mol = structure(rt.alloc(), Format::Smiles, text.as_bytes()).expect(&rt, text);
-        assert_eq!(rt; mol.atoms().len(), atoms.len(), "at {text}");
-        for (atom, (number, hydrogens, valence)) in mol.atoms().iter().zip(atoms) {
-            assert_eq!(rt; atom.number, *number, "at {text}");
-            assert_eq!(rt; atom.hydrogens, *hydrogens, "at {text}");
-            assert_eq!(rt; atom.valence, *valence, "at {text}");
-        }
+fn examples(rt: HostRuntime) -> Result<(), Fail> {
+    for example in EXAMPLES {
+        let text = example.text;
+        let mol = structure(rt.alloc(), Format::Smiles, text.as_bytes())?;
+        assert!(rt; atoms_are(&mol, example), "the atoms of {text}");
+        assert!(rt; bonds_are(&mol, example), "the bonds of {text}");
     }
     Ok(())
 }
 
 #[test]
-fn texts_without_a_structure(rt: HostRuntime) -> Result<(), Fail> {
-    let rows = [
-        ("C(", TextFault::Smiles(SmilesFault::Syntax)),
-        ("C1CC(", TextFault::Smiles(SmilesFault::Syntax)),
-        ("C1CC", TextFault::Smiles(SmilesFault::Ring)),
-        ("C1CC1", TextFault::NotYet),
-        ("c", TextFault::NotYet),
-        ("C:C", TextFault::NotYet),
-    ];
-    for (text, fault) in rows {
-        match structure(rt.alloc(), Format::Smiles, text.as_bytes()) {
-            Ok(_) => assert!(rt; false, "{text} has no structure"),
-            Err(found) => assert_eq!(rt; found, fault, "at {text}"),
-        }
-    }
-    match structure(rt.alloc(), Format::Molfile, b"C") {
-        Ok(_) => assert!(rt; false, "molfiles are not read"),
-        Err(found) => assert_eq!(rt; found, TextFault::NotYet),
+fn refusals(rt: HostRuntime) -> Result<(), Fail> {
+    let kekule = structure(rt.alloc(), Format::Smiles, b"C1=CC=CC=C1")?;
+    let lower = structure(rt.alloc(), Format::Smiles, b"c1ccccc1")?;
+    assert_eq!(rt; kekule.atoms(), lower.atoms());
+    assert_eq!(rt; kekule.bonds(), lower.bonds());
+    for (format, text, want) in [
+        (
+            Format::Smiles,
+            "c1cccc1",
+            TextFault::Smiles(SmilesFault::Aromatic(0)),
+        ),
+        (
+            Format::Smiles,
+            "[H]c1cccc1",
+            TextFault::Smiles(SmilesFault::Aromatic(1)),
+        ),
+        (Format::Smiles, "C(", TextFault::Smiles(SmilesFault::Syntax)),
+        (Format::Molfile, "C", TextFault::NotYet),
+    ] {
+        let got = structure(rt.alloc(), format, text.as_bytes()).map(|_| ());
+        assert_eq!(rt; got, Err(want), "at {text}");
     }
     Ok(())
 }

@@ -2,7 +2,7 @@
 ghost use Rattle.std.specs.Prelude.{◌≡◌, ◌≢◌, ◌<◌, ◌≤◌, ℕ, length, map, sum_by, slice_index, All};
 ghost use Rattle.std.specs.List.{enumerate_from};
 ghost use Rattle.chem_core.specs.Sound.{IsSound, IsSketchAtom};
-ghost use Rattle.valence.specs.Valence.{adds, bond_sum};
+ghost use Rattle.valence.specs.Valence.{adds};
 ghost use Rattle.valence.specs.Filled.{missing, missing_aromatic, hydrogens_of, filled_atom, filled};
 
 use crate::table::{charged, order, organic};
@@ -18,17 +18,8 @@ pub fn fill_hydrogens(sketch: &mut Sketch)
     ensures sound { IsSound sketch.new }
     ensures few { All (λ a. a.hydrogens ≤ 15) sketch.new.atoms }
 {
-    let sums = order_sums(sketch);
+    let sums = bond_sums(&sketch.bonds);
     fill(&mut sketch.atoms, &sums);
-}
-
-/// For each atom, by its place, what the orders of its bonds sum to, at most 48; `:` and a bond without a symbol count 1.
-pub fn order_sums(sketch: &Sketch) -> [u8; 999]
-    requires { IsSound sketch.now }
-    ensures sums { (a : ℕ) → slice_index result a ≡ bond_sum sketch.now a }
-    ensures few { (a : ℕ) → bond_sum sketch.now a ≤ 48 }
-{
-    bond_sums(&sketch.bonds)
 }
 
 // For each atom, by its place, what its bonds sum to.

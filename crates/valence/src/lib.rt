@@ -7,7 +7,7 @@ mod places;
 mod suppression;
 mod table;
 
-pub use fill::{fill_hydrogens, order_sums};
+pub use fill::fill_hydrogens;
 pub use laws::{order_stays, twice_is_once};
 pub use suppression::suppress;
 

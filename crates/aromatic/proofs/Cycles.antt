@@ -1,0 +1,376 @@
+-- A bond lies on a Hückel cycle exactly where its one end is joined to its other end by a path that closes to one.
+use Rattle.std.proofs.Common.{zero, suc, ℕ, ◌+◌, ◌-◌, ◌%◌, ◌<◌, ◌≤◌, ◌≡◌, ◌≢◌, ◌⊎◌, ◌↔◌, inl, inr, Bool, true, false, List, [], ◌∷◌, ◌++◌, length, map, take, drop, reverse, get_or, All, AllPairs, Contains, IsPermutation, Option, None, Some, IsSome, option_map, option_and_then, if◌then◌else◌, not, ◌&&◌, unwrap_or, sum_by, slice_get, refl, sym, ap, subst, ◌∙◌, arith}
+use Rattle.std.proofs.Math.Nat.{mod-eq_of_lt, mod_self}
+use Rattle.std.proofs.lemmas.List.{get_or_append_left, get_or-append_right, get_or-drop, get_or-take, get_or-reverse, get_or_default, get_or_past, get_or-map, length-append, length-drop, length-take-le, length-reverse, length-map, take-append-drop}
+use Rattle.std.proofs.lemmas.List.Sorted.{IsPermutation-append_comm, IsPermutation-reverse, All-permutation, sum_by-IsPermutation}
+use Rattle.std.proofs.lemmas.Option.{slice_get_within, slice_get_past, same_Some}
+use Rattle.std.proofs.lemmas.Bool.{cases_lt, cases_eq, false≢true}
+use Rattle.chem_core.specs.Drawing.{Drawing}
+use Rattle.chem_core.specs.Sound.{IsSound, sketch_ends}
+use Rattle.chem_core.specs.Graph.{Ends, JoinsAt, Joined, IsSimpleCycle, LiesOn, next_place}
+use Rattle.aromatic.specs.Electrons.{electrons, row_at, row_of, site_of, is_eligible}
+use Rattle.aromatic.specs.Huckel.{IsHuckelCycle, IsAromaticBond, IsAromaticAtom, IsRefused, IsFirstRefused, IsPerceived, has_colon, bonded, adds_one}
+use Rattle.std.specs.List.{enumerate_from}
+use Rattle.chem_core.specs.declared.sketch.SketchAtom.{SketchAtom}
+use Rattle.chem_core.specs.RingFacts.{AreRingBonds}
+use Rattle.aromatic.specs.Route.{IsNet, IsTrail, IsRoute, CanReach, IsCandidateAt, links_at, last_of, given_at, ends_among, IsLinkBelow, AreLinks, AreClosed, AreRows, AreAromaticBonds, AreAromaticAtoms, IsMarkedEnd, refused, valence_by}
+use Rattle.aromatic.proofs.Sketches.{some_element}
+use Rattle.aromatic.specs.declared.table.Row.{Row}
+
+-- the place after p on a cycle of n
+next_is : (n p q : ℕ) → p < n → q < n → (p + 1 ≡ q) ⊎ (p + 1 ≡ q + n) → (p + 1) % n ≡ q
+next_is n p q hp hq (inl e) = rw e (mod-eq_of_lt hq)
+next_is n p q hp hq (inr e) =
+    let zero_q : q ≡ 0 = omega arith in
+    let full : p + 1 ≡ n = omega arith in
+    rw full (mod_self n ∙ sym zero_q)
+
+apart_at : (xs : List ℕ) (i j : ℕ) → AllPairs ◌≢◌ xs → i ≢ j → i < length xs → j < length xs → get_or xs i 0 ≢ get_or xs j 0
+apart_at xs i j distinct other hi hj = elim (cases_lt i j) [
+  | inl l ↦ distinct i j 0 l hj
+  | inr l ↦ λ q. distinct j i 0 (omega arith) hi (sym q)
+]
+
+-- ---- a list that begins at place m of a cycle, and goes around
+
+abbrev rotated : ℕ → List ℕ → List ℕ
+rotated m atoms = drop m atoms ++ take m atoms
+
+length-rotated : (m : ℕ) (atoms : List ℕ) → m ≤ length atoms → length (rotated m atoms) ≡ length atoms
+length-rotated m atoms h = length-append (drop m atoms) (take m atoms) ∙ omega (arith, length-drop m atoms, length-take-le m atoms h)
+
+rotated-at : (m : ℕ) (atoms : List ℕ) (k : ℕ) → m ≤ length atoms → k < length atoms → (p : ℕ) × (p < length atoms) × (get_or (rotated m atoms) k 0 ≡ get_or atoms p 0) × ((m + k ≡ p) ⊎ (m + k ≡ p + length atoms))
+rotated-at m atoms k hm hk =
+    let d : length (drop m atoms) ≡ length atoms - m = length-drop m atoms in
+    elim (cases_lt k (length atoms - m)) [
+      | inl l ↦
+          let l' : k < length (drop m atoms) = omega arith in
+          (m + k, omega arith, get_or_append_left (drop m atoms) (take m atoms) 0 k l' ∙ get_or-drop m atoms k 0, inl refl)
+      | inr l ↦
+          let p : ℕ = k - (length atoms - m) in
+          let lt : p < m = omega arith in
+          (p, omega arith, get_or-append_right (drop m atoms) (take m atoms) (length atoms - m) k 0 d l ∙ get_or-take m atoms p 0 lt, inr (omega arith))
+    ]
+
+-- an open path of candidates along ring bonds, from one end of a bond of a Hückel cycle to its other end
+record IsOpen (s : Drawing) (rings : List Bool) (path : List ℕ) : Type 0 where
+  three : 3 ≤ length path
+  most : length path ≤ 18
+  distinct : AllPairs ◌≢◌ path
+  candidates : All (λ a. IsSome (electrons s rings a)) path
+  count : sum_by (λ a. unwrap_or (electrons s rings a) 0) path % 4 ≡ 2
+  joined : (k : ℕ) → k + 1 < length path → (b : ℕ) × JoinsAt (sketch_ends s) b (get_or path k 0) (get_or path (k + 1) 0) × (get_or rings b false ≡ true)
+
+joins_within : (ends : Ends) (b x y : ℕ) → JoinsAt ends b x y → b < length ends
+joins_within ends b x y h = elim h [ inl q ↦ slice_get_within ends b _ q | inr q ↦ slice_get_within ends b _ q ]
+
+joins_back : (ends : Ends) (b x y : ℕ) → JoinsAt ends b x y → JoinsAt ends b y x
+joins_back ends b x y h = elim h [ inl q ↦ inr q | inr q ↦ inl q ]
+
+step_of : (n m k p q : ℕ) → p < n → q < n → k + 1 < n → (m + k ≡ p) ⊎ (m + k ≡ p + n) → (m + (k + 1) ≡ q) ⊎ (m + (k + 1) ≡ q + n) → (p + 1 ≡ q) ⊎ (p + 1 ≡ q + n)
+step_of n m k p q hp hq hk (inl a) (inl b) = inl (omega arith)
+step_of n m k p q hp hq hk (inl a) (inr b) = inr (omega arith)
+step_of n m k p q hp hq hk (inr a) (inl b) = absurd (omega arith)
+step_of n m k p q hp hq hk (inr a) (inr b) = inl (omega arith)
+
+other_place : (n m j k p q : ℕ) → p < n → q < n → j < k → k < n → (m + j ≡ p) ⊎ (m + j ≡ p + n) → (m + k ≡ q) ⊎ (m + k ≡ q + n) → p ≢ q
+other_place n m j k p q hp hq hj hk (inl a) (inl b) = λ e. omega arith
+other_place n m j k p q hp hq hj hk (inl a) (inr b) = λ e. omega arith
+other_place n m j k p q hp hq hj hk (inr a) (inl b) = λ e. omega arith
+other_place n m j k p q hp hq hj hk (inr a) (inr b) = λ e. omega arith
+
+-- a Hückel cycle, opened behind place i
+opened : (s : Drawing) (rings : List Bool) (gives : List (Option ℕ)) (links : List (List ℕ)) (atoms : List ℕ) (i : ℕ) → IsNet s rings gives links → IsHuckelCycle s rings atoms → i < length atoms → IsOpen s rings (rotated (i + 1) atoms)
+opened s rings gives links atoms i net h within =
+    let m : ℕ = i + 1 in
+    let n : ℕ = length atoms in
+    let hm : m ≤ n = omega arith in
+    let path : List ℕ = rotated m atoms in
+    let len : length path ≡ n = length-rotated m atoms hm in
+    let three : 3 ≤ n = h.cycle.three in
+    let moved : IsPermutation atoms path = subst (λ xs. IsPermutation xs path) (take-append-drop m atoms) (IsPermutation-append_comm (take m atoms) (drop m atoms)) in
+    record {
+      three = omega arith;
+      most = rw len h.most;
+      distinct = λ j k d lt within'.
+          let hk : k < n = omega arith in
+          let hj : j < n = omega arith in
+          let a = rotated-at m atoms j hm hj in
+          let b = rotated-at m atoms k hm hk in
+          let pj : a.0 < n = a.1 in
+          let pk : b.0 < n = b.1 in
+          let other : a.0 ≢ b.0 = other_place n m j k a.0 b.0 pj pk lt hk a.3 b.3 in
+          rw (get_or_default path j d 0 (omega arith), get_or_default path k d 0 within', a.2, b.2) (apart_at atoms a.0 b.0 h.cycle.distinct other pj pk);
+      candidates = All-permutation (λ a. IsSome (electrons s rings a)) atoms path moved h.candidates;
+      count = rw (sum_by-IsPermutation (λ a. unwrap_or (electrons s rings a) 0) atoms path moved) h.count;
+      joined = λ k lt.
+          let hk : k + 1 < n = omega arith in
+          let a = rotated-at m atoms k hm (omega arith) in
+          let b = rotated-at m atoms (k + 1) hm hk in
+          let next : next_place atoms a.0 ≡ b.0 = next_is n a.0 b.0 a.1 b.1 (step_of n m k a.0 b.0 a.1 b.1 hk a.3 b.3) in
+          let j = h.cycle.joined a.0 a.1 in
+          let ring = (net.flags.each j.0 (joins_within (sketch_ends s) j.0 _ _ j.1)).1 (atoms, h.cycle, (a.0, a.1, j.1)) in
+          (j.0, rw (a.2, b.2, ← next) j.1, ring);
+    }
+
+opened-first : (atoms : List ℕ) (i : ℕ) → i < length atoms → get_or (rotated (i + 1) atoms) 0 0 ≡ get_or atoms (next_place atoms i) 0
+opened-first atoms i within =
+    let a = rotated-at (i + 1) atoms 0 (omega arith) (omega arith) in
+    let lt : a.0 < length atoms = a.1 in
+    let to : (i + 1 ≡ a.0) ⊎ (i + 1 ≡ a.0 + length atoms) = elim (a.3) [ inl e ↦ inl (omega arith) | inr e ↦ inr (omega arith) ] in
+    let next : next_place atoms i ≡ a.0 = next_is (length atoms) i a.0 within lt to in
+    a.2 ∙ ap (λ p. get_or atoms p 0) (sym next)
+
+opened-last : (atoms : List ℕ) (i : ℕ) → i < length atoms → last_of (rotated (i + 1) atoms) ≡ get_or atoms i 0
+opened-last atoms i within =
+    let hm : i + 1 ≤ length atoms = omega arith in
+    let len = length-rotated (i + 1) atoms hm in
+    let a = rotated-at (i + 1) atoms (length atoms - 1) hm (omega arith) in
+    let lt : a.0 < length atoms = a.1 in
+    let is : a.0 ≡ i = elim (a.3) [ inl e ↦ absurd (omega arith) | inr e ↦ omega arith ] in
+    rw len (a.2 ∙ ap (λ p. get_or atoms p 0) is)
+
+-- the same path, walked back
+walked_back : (s : Drawing) (rings : List Bool) (path : List ℕ) → IsOpen s rings path → IsOpen s rings (reverse path)
+walked_back s rings path h =
+    let n : ℕ = length path in
+    let len : length (reverse path) ≡ n = length-reverse path in
+    let moved : IsPermutation path (reverse path) = IsPermutation-reverse path in
+    record {
+      three = rw len h.three;
+      most = rw len h.most;
+      distinct = λ j k d lt within.
+          let hk : k < n = omega arith in
+          rw (get_or-reverse path j d (omega arith), get_or-reverse path k d hk) (λ q. h.distinct (n - 1 - k) (n - 1 - j) d (omega arith) (omega arith) (sym q));
+      candidates = All-permutation (λ a. IsSome (electrons s rings a)) path (reverse path) moved h.candidates;
+      count = rw (sum_by-IsPermutation (λ a. unwrap_or (electrons s rings a) 0) path (reverse path) moved) h.count;
+      joined = λ k lt.
+          let hk : k + 1 < n = omega arith in
+          let j = h.joined (n - 1 - (k + 1)) (omega arith) in
+          let e : n - 1 - (k + 1) + 1 ≡ n - 1 - k = omega arith in
+          (j.0, rw (get_or-reverse path k 0 (omega arith), get_or-reverse path (k + 1) 0 hk, ← e) (joins_back (sketch_ends s) j.0 _ _ j.1), j.2);
+    }
+
+back-first : (path : List ℕ) → 1 ≤ length path → get_or (reverse path) 0 0 ≡ last_of path
+back-first path some = get_or-reverse path 0 0 some ∙ ap (λ k. get_or path k 0) (omega arith)
+
+back-last : (path : List ℕ) → 1 ≤ length path → last_of (reverse path) ≡ get_or path 0 0
+back-last path some =
+    let len = length-reverse path in
+    let last : length path - 1 < length path = omega arith in
+    rw len (get_or-reverse path (length path - 1) 0 last ∙ ap (λ k. get_or path k 0) (omega arith))
+
+-- ---- between open paths and routes
+
+given_is : (s : Drawing) (rings : List Bool) (gives : List (Option ℕ)) (links : List (List ℕ)) → IsNet s rings gives links → (path : List ℕ) → sum_by (λ a. given_at gives a) path ≡ sum_by (λ a. unwrap_or (electrons s rings a) 0) path
+given_is s rings gives links net path = λ i. sum_by (λ a. unwrap_or (net.given a i) 0) path
+
+candidate_within : (gives : List (Option ℕ)) (a : ℕ) → IsCandidateAt gives a → a < length gives
+candidate_within gives a h = elim (cases_lt a (length gives)) [
+  | inl l ↦ l
+  | inr l ↦ absurd (false≢true (subst (λ o. IsSome o) (get_or_past gives a None l) h))
+]
+
+-- an open path is a route to its last atom
+route_from : (s : Drawing) (rings : List Bool) (gives : List (Option ℕ)) (links : List (List ℕ)) (path : List ℕ) (target : ℕ) → IsNet s rings gives links → IsOpen s rings path → last_of path ≡ target → IsRoute links gives target path
+route_from s rings gives links path target net h to =
+    let three : 3 ≤ length path = h.three in
+    let candidate : (k : ℕ) → k < length path → IsCandidateAt gives (get_or path k 0) = λ k lt. rw (net.given (get_or path k 0)) (h.candidates k 0 lt) in
+    record {
+      trail = record {
+        some = omega arith;
+        most = h.most;
+        in_range = λ k lt. rw net.linked.count (candidate_within gives (get_or path k 0) (candidate k lt));
+        distinct = h.distinct;
+        linked = λ k lt.
+            let j = h.joined k lt in
+            let below : j.0 < length s.bonds = subst (λ n. j.0 < n) (length-map s.bonds (λ b. (b.a, b.b))) (joins_within (sketch_ends s) j.0 _ _ j.1) in
+            (net.linked.each (get_or path k 0) (get_or path (k + 1) 0)).1 (j.0, below, j.1, j.2, candidate k (omega arith), candidate (k + 1) lt);
+      };
+      three = three;
+      ends = to;
+      count = rw (given_is s rings gives links net path) h.count;
+    }
+
+-- a path that begins with x is x and a rest
+begins : (path : List ℕ) (x : ℕ) → 1 ≤ length path → get_or path 0 0 ≡ x → (rest : List ℕ) × (path ≡ x ∷ rest)
+begins [] x some first = absurd (omega arith)
+begins (y ∷ rest) x some first = (rest, ap (λ z. z ∷ rest) first)
+
+reach_from : (s : Drawing) (rings : List Bool) (gives : List (Option ℕ)) (links : List (List ℕ)) (path : List ℕ) (x y : ℕ) → IsNet s rings gives links → IsOpen s rings path → get_or path 0 0 ≡ x → last_of path ≡ y → CanReach links gives y (x ∷ [])
+reach_from s rings gives links path x y net h first last =
+    let three : 3 ≤ length path = h.three in
+    let whole = begins path x (omega arith) first in
+    (whole.0, subst (λ p. IsRoute links gives y p) whole.1 (route_from s rings gives links path y net h last))
+
+-- a bond on a Hückel cycle is a ring bond, and a route leads from its one end to its other end
+pub reach-from_cycle : (s : Drawing) (rings : List Bool) (gives : List (Option ℕ)) (links : List (List ℕ)) (b x y : ℕ) → IsNet s rings gives links → slice_get (sketch_ends s) b ≡ Some (x, y) → IsAromaticBond s rings b → (get_or rings b false ≡ true) × CanReach links gives y (x ∷ [])
+reach-from_cycle s rings gives links b x y net here (atoms, cycle, (i, within, joins)) =
+    let ring = (net.flags.each b (slice_get_within (sketch_ends s) b _ here)).1 (atoms, cycle.cycle, (i, within, joins)) in
+    let path : List ℕ = rotated (i + 1) atoms in
+    let path_open : IsOpen s rings path = opened s rings gives links atoms i net cycle within in
+    let three : 3 ≤ length path = path_open.three in
+    let first = opened-first atoms i within in
+    let last = opened-last atoms i within in (
+      ring,
+      elim joins [
+        | inl q ↦
+            let p : ◌≡◌ {A = ℕ × ℕ} (get_or atoms i 0, get_or atoms (next_place atoms i) 0) (x, y) = same_Some _ _ (sym q ∙ here) in
+            let back : IsOpen s rings (reverse path) = walked_back s rings path path_open in
+            reach_from s rings gives links (reverse path) x y net back (back-first path (omega arith) ∙ last ∙ ap (λ u. u.0) p) (back-last path (omega arith) ∙ first ∙ ap (λ u. u.1) p)
+        | inr q ↦
+            let p : ◌≡◌ {A = ℕ × ℕ} (get_or atoms (next_place atoms i) 0, get_or atoms i 0) (x, y) = same_Some _ _ (sym q ∙ here) in
+            reach_from s rings gives links path x y net path_open (first ∙ ap (λ u. u.0) p) (last ∙ ap (λ u. u.1) p)
+      ],
+    )
+
+-- a route from a bond's one end to its other end closes to a Hückel cycle
+pub cycle-from_reach : (s : Drawing) (rings : List Bool) (gives : List (Option ℕ)) (links : List (List ℕ)) (b x y : ℕ) → IsNet s rings gives links → slice_get (sketch_ends s) b ≡ Some (x, y) → CanReach links gives y (x ∷ []) → IsAromaticBond s rings b
+cycle-from_reach s rings gives links b x y net here (rest, route) =
+    let path : List ℕ = x ∷ rest in
+    let n : ℕ = length path in
+    let three : 3 ≤ n = route.three in
+    let link : (k : ℕ) → k + 1 < n → IsLinkBelow (ends_among s.bonds) rings gives (length s.bonds) (get_or path k 0) (get_or path (k + 1) 0) = λ k lt. (net.linked.each (get_or path k 0) (get_or path (k + 1) 0)).0 (route.trail.linked k lt) in
+    let inner : (k : ℕ) → k + 1 < n → next_place path k ≡ k + 1 = λ k lt. mod-eq_of_lt lt in
+    let outer : (k : ℕ) → k + 1 ≡ n → next_place path k ≡ 0 = λ k e. rw e (mod_self n) in
+    let closing : JoinsAt (sketch_ends s) b y x = inr here in
+    let final : (k : ℕ) → k + 1 ≡ n → JoinsAt (sketch_ends s) b (get_or path k 0) (get_or path (next_place path k) 0) = λ k e.
+    let at : k ≡ n - 1 = omega arith in
+    let is : get_or path k 0 ≡ y = ap (λ m. get_or path m 0) at ∙ route.ends in
+    rw (is, outer k e) closing in
+    let candidate : (k : ℕ) → k < n → IsCandidateAt gives (get_or path k 0) = λ k lt. elim (cases_lt (k + 1) n) [
+      | inl l ↦ (link k l).4
+      | inr l ↦
+          let e : k - 1 + 1 ≡ k = omega arith in
+          subst (λ m. IsCandidateAt gives (get_or path m 0)) e (link (k - 1) (omega arith)).5
+    ] in (
+      path,
+      record {
+        cycle = record {
+          three = three;
+          distinct = route.trail.distinct;
+          joined = λ k lt. elim (cases_lt (k + 1) n) [
+            | inl l ↦ let j = link k l in (j.0, rw (inner k l) j.2)
+            | inr l ↦ (b, final k (omega arith))
+          ];
+        };
+        most = route.trail.most;
+        candidates = λ k d lt. rw (get_or_default path k d 0 lt, ← net.given (get_or path k 0)) (candidate k lt);
+        count = rw (← given_is s rings gives links net path) route.count;
+      },
+      (n - 1, omega arith, final (n - 1) (omega arith)),
+    )
+
+-- ---- the same of what the code reads
+
+pub links-closed : (ends : Ends) (rings : List Bool) (gives : List (Option ℕ)) (k : ℕ) (links : List (List ℕ)) → AreLinks ends rings gives k links → AreClosed links
+links-closed ends rings gives k links h = λ a n q. rw h.count (candidate_within gives n ((h.each a n).0 q).5)
+
+rows_everywhere : (s : Drawing) (rings : List Bool) (rows : List (Option Row)) → AreRows s rings rows → (a : ℕ) → get_or rows a None ≡ row_at s rings a
+rows_everywhere s rings rows h a = elim (cases_lt a (length s.atoms)) [
+  | inl l ↦ h.each a l
+  | inr l ↦ get_or_past rows a None (rw h.count l) ∙ sym (ap (λ o. option_and_then (λ x. let site = site_of s rings a x in if is_eligible site then row_of site else None) o) (slice_get_past s.atoms a l))
+]
+
+pub given_by_rows : (s : Drawing) (rings : List Bool) (rows : List (Option Row)) (gives : List (Option ℕ)) → AreRows s rings rows → gives ≡ map (λ row. option_map (λ (r : Row). r.electrons) row) rows → (a : ℕ) → get_or gives a None ≡ electrons s rings a
+given_by_rows s rings rows gives h is a =
+    let f : Option Row → Option ℕ = λ row. option_map (λ (r : Row). r.electrons) row in
+    let read : get_or (map f rows) a None ≡ f (get_or rows a None) = elim (cases_lt a (length rows)) [
+      | inl l ↦ get_or-map f rows a None None l
+      | inr l ↦ get_or_past (map f rows) a None (rw length-map l) ∙ sym (ap f (get_or_past rows a None l))
+    ] in
+    rw is (read ∙ ap f (rows_everywhere s rings rows h a))
+
+pub marks-aromatic : (s : Drawing) (rings : List Bool) (gives : List (Option ℕ)) (links : List (List ℕ)) (marks : List Bool) → IsNet s rings gives links → length marks ≡ length s.bonds → ((b x y : ℕ) → slice_get (ends_among s.bonds) b ≡ Some (x, y) → (get_or marks b false ≡ true) ↔ (get_or rings b false ≡ true) × CanReach links gives y (x ∷ [])) → AreAromaticBonds s rings marks
+marks-aromatic s rings gives links marks net len each = record {
+  count = len;
+  each = λ b within.
+      let within' : b < length (ends_among s.bonds) = omega (arith, length-map {B = ℕ × ℕ} s.bonds (λ e. (e.a, e.b))) in
+      let here = some_element (ends_among s.bonds) b within' in
+      let mark = each b here.0.0 here.0.1 here.1 in (
+        λ h. cycle-from_reach s rings gives links b here.0.0 here.0.1 net here.1 (mark.0 h).1,
+        λ h. mark.1 (reach-from_cycle s rings gives links b here.0.0 here.0.1 net here.1 h),
+      );
+}
+
+mod_within : (n m : ℕ) → 0 < m → n % m < m
+mod_within n m h = omega arith
+
+-- an end of a bond that joins two atoms of a list is one of the two
+which_end : (ends : Ends) (b a n : ℕ) (atoms : List ℕ) (i j : ℕ) → i < length atoms → j < length atoms → JoinsAt ends b a n → JoinsAt ends b (get_or atoms i 0) (get_or atoms j 0) → Contains atoms a
+which_end ends b a n atoms i j hi hj one two =
+    let at_i : get_or atoms i 0 ≡ a → Contains atoms a = λ e. (i, hi, get_or_default atoms i a 0 hi ∙ e) in
+    let at_j : get_or atoms j 0 ≡ a → Contains atoms a = λ e. (j, hj, get_or_default atoms j a 0 hj ∙ e) in
+    elim one [
+      | inl p ↦ elim two [
+        | inl q ↦ let e : ◌≡◌ {A = ℕ × ℕ} (get_or atoms i 0, get_or atoms j 0) (a, n) = same_Some _ _ (sym q ∙ p) in at_i (ap (λ u. u.0) e)
+        | inr q ↦ let e : ◌≡◌ {A = ℕ × ℕ} (get_or atoms j 0, get_or atoms i 0) (a, n) = same_Some _ _ (sym q ∙ p) in at_j (ap (λ u. u.0) e)
+      ]
+      | inr p ↦ elim two [
+        | inl q ↦ let e : ◌≡◌ {A = ℕ × ℕ} (get_or atoms i 0, get_or atoms j 0) (n, a) = same_Some _ _ (sym q ∙ p) in at_j (ap (λ u. u.1) e)
+        | inr q ↦ let e : ◌≡◌ {A = ℕ × ℕ} (get_or atoms j 0, get_or atoms i 0) (n, a) = same_Some _ _ (sym q ∙ p) in at_i (ap (λ u. u.1) e)
+      ]
+    ]
+
+-- an atom lies on a Hückel cycle exactly where one of its bonds does
+pub ends-aromatic : (s : Drawing) (rings marks flags : List Bool) → AreAromaticBonds s rings marks → length flags ≡ length s.atoms → ((a : ℕ) → (get_or flags a false ≡ true) ↔ IsMarkedEnd (ends_among s.bonds) marks (length s.bonds) a) → AreAromaticAtoms s rings flags
+ends-aromatic s rings marks flags h len each = record {
+  count = len;
+  each = λ a. (
+    λ q.
+        let end = (each a).0 q in
+        let on = (h.each end.0 end.2).0 end.4 in
+        let atoms : List ℕ = on.0 in
+        let i : ℕ = on.2.0 in
+        let within : i < length atoms = on.2.1 in
+        let next : next_place atoms i < length atoms = mod_within (i + 1) (length atoms) (omega arith) in
+        (atoms, on.1, which_end (sketch_ends s) end.0 a end.1 atoms i (next_place atoms i) within next end.3 on.2.2),
+    λ q.
+        let atoms : List ℕ = q.0 in
+        let k : ℕ = q.2.0 in
+        let within : k < length atoms = q.2.1 in
+        let j = q.1.cycle.joined k within in
+        let below : j.0 < length s.bonds = subst (λ n. j.0 < n) (length-map s.bonds (λ b. (b.a, b.b))) (joins_within (sketch_ends s) j.0 _ _ j.1) in
+        let is : get_or atoms k 0 ≡ a = get_or_default atoms k 0 a within ∙ q.2.2 in
+        (each a).1 (j.0, get_or atoms (next_place atoms k) 0, below, subst (λ x. JoinsAt (sketch_ends s) j.0 x (get_or atoms (next_place atoms k) 0)) is j.1, (h.each j.0 below).1 (atoms, q.1, (k, within, j.1))),
+  );
+}
+
+pub bonds-found : (s : Drawing) (rings : List Bool) (rows : List (Option Row)) (gives : List (Option ℕ)) (links : List (List ℕ)) (marks : List Bool) → IsSound s → AreRingBonds (sketch_ends s) rings → AreRows s rings rows → gives ≡ map (λ row. option_map (λ (r : Row). r.electrons) row) rows → AreLinks (ends_among s.bonds) rings gives (length s.bonds) links → length marks ≡ length s.bonds → ((b x y : ℕ) → slice_get (ends_among s.bonds) b ≡ Some (x, y) → (get_or marks b false ≡ true) ↔ (get_or rings b false ≡ true) × CanReach links gives y (x ∷ [])) → AreAromaticBonds s rings marks
+bonds-found s rings rows gives links marks sound flags h is linked len each =
+    marks-aromatic s rings gives links marks (record { sound = sound; flags = flags; given = given_by_rows s rings rows gives h is; linked = linked }) len each
+
+-- ---- refusals
+
+refused_if : (s : Drawing) (rings : List Bool) (a : ℕ) (flag lower : Bool) → ((flag ≡ true) ↔ IsAromaticAtom s rings a) → (if lower then not flag else has_colon s.bonds a) ≡ true → ((lower ≡ true) × (IsAromaticAtom s rings a → ⊥)) ⊎ ((lower ≡ false) × (has_colon s.bonds a ≡ true))
+refused_if s rings a true true h r = absurd (false≢true r)
+refused_if s rings a false true h r = inl (refl, λ q. false≢true (h.1 q))
+refused_if s rings a flag false h r = inr (refl, r)
+
+not_refused_if : (s : Drawing) (rings : List Bool) (a : ℕ) (flag lower : Bool) → ((flag ≡ true) ↔ IsAromaticAtom s rings a) → (if lower then not flag else has_colon s.bonds a) ≡ false → ((lower ≡ true) × (IsAromaticAtom s rings a → ⊥)) ⊎ ((lower ≡ false) × (has_colon s.bonds a ≡ true)) → ⊥
+not_refused_if s rings a true true h r (inl q) = q.1 (h.0 refl)
+not_refused_if s rings a true true h r (inr q) = false≢true (sym q.0)
+not_refused_if s rings a false true h r q = false≢true (sym r)
+not_refused_if s rings a flag false h r (inl q) = false≢true q.0
+not_refused_if s rings a flag false h r (inr q) = false≢true (sym r ∙ q.1)
+
+pub refused-false : (s : Drawing) (rings flags : List Bool) (a : ℕ) (x : SketchAtom) → AreAromaticAtoms s rings flags → refused s.bonds (get_or flags a false) a x ≡ false → IsRefused s rings a x → ⊥
+refused-false s rings flags a x h = not_refused_if s rings a (get_or flags a false) x.lower (h.each a)
+
+pub refused-true : (s : Drawing) (rings flags : List Bool) (a : ℕ) (x : SketchAtom) → AreAromaticAtoms s rings flags → refused s.bonds (get_or flags a false) a x ≡ true → IsRefused s rings a x
+refused-true s rings flags a x h = refused_if s rings a (get_or flags a false) x.lower (h.each a)
+
+pub fault-first : (s : Drawing) (rings flags : List Bool) (w : ℕ) → AreAromaticAtoms s rings flags → (a : ℕ) × (x : SketchAtom) × (slice_get s.atoms a ≡ Some x) × (refused s.bonds (get_or flags a false) a x ≡ true) × (x.written ≡ w) × ((b : ℕ) (y : SketchAtom) → b < a → slice_get s.atoms b ≡ Some y → refused s.bonds (get_or flags b false) b y ≡ false) → IsFirstRefused s rings w
+fault-first s rings flags w h (a, x, here, yes_refused, at, before) = (a, x, here, refused-true s rings flags a x h yes_refused, at, λ b y lt there. refused-false s rings flags b y h (before b y lt there))
+
+-- ---- all that is found
+
+pub all-found : (s : Drawing) (rings : List Bool) (rows : List (Option Row)) (flags marks : List Bool) (sums : List ℕ) → AreRows s rings rows → AreAromaticBonds s rings marks → AreAromaticAtoms s rings flags → ((b : ℕ) (y : SketchAtom) → slice_get s.atoms b ≡ Some y → refused s.bonds (get_or flags b false) b y ≡ false) → sums ≡ map (λ p. valence_by rows flags s.bonds marks p.0 p.1) (enumerate_from 0 s.atoms) → IsPerceived s rings flags marks sums
+all-found s rings rows flags marks sums rows_are marks_are flags_are none values = record {
+  atom_each = flags_are.count;
+  bond_each = marks_are.count;
+  atoms = λ a _. flags_are.each a;
+  bonds = marks_are.each;
+  valences = values ∙ (λ i. map (λ p. bonded s.bonds marks p.0 + p.1.hydrogens + (if get_or flags p.0 false && adds_one s.bonds marks p.0 (rows_everywhere s rings rows rows_are p.0 i) then 1 else 0)) (enumerate_from 0 s.atoms));
+  accepted = λ a x here. refused-false s rings flags a x flags_are (none a x here);
+}

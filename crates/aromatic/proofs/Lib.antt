@@ -1,0 +1,7 @@
+mod Cycles
+mod Finds
+mod Links
+mod Marks
+mod Routes
+mod Sketches
+mod Valences

@@ -1,0 +1,48 @@
+-- The counts of an atom's bonds, one bond after another.
+use Rattle.std.specs.Prelude.{ℕ, ◌+◌, ◌<◌, ◌&&◌, not, Bool, if◌then◌else◌}
+use Rattle.chem_core.specs.declared.sketch.SketchAtom.{SketchAtom}
+use Rattle.chem_core.specs.declared.sketch.SketchKind.{SketchKind}
+use Rattle.aromatic.specs.declared.site.Site.{Site}
+use Rattle.aromatic.specs.Electrons.{is_double, is_hetero, is_higher, is_oxygen}
+
+-- an atom before any bond
+abbrev pub bare : SketchAtom → Site
+bare x = record {
+  number = x.number;
+  charge = x.charge;
+  lower = x.lower;
+  hydrogens = x.hydrogens;
+  neighbours = 0;
+  ring_bonds = 0;
+  higher = 0;
+  ring_doubles = 0;
+  outer_doubles = 0;
+  to_oxygen = 0;
+  to_hetero = 0;
+}
+
+-- one more where the test holds
+abbrev pub more : ℕ → Bool → ℕ
+more n test = n + (if test then 1 else 0)
+
+-- one more bond, which leads to an element of this number
+abbrev pub add : Site → SketchKind → Bool → ℕ → Site
+add x kind ring number = record x {
+  neighbours = x.neighbours + 1;
+  ring_bonds = more x.ring_bonds ring;
+  higher = more x.higher (is_higher kind);
+  ring_doubles = more x.ring_doubles (ring && is_double kind);
+  outer_doubles = more x.outer_doubles (not ring && is_double kind);
+  to_oxygen = more x.to_oxygen (not ring && (is_double kind && is_oxygen number));
+  to_hetero = more x.to_hetero (not ring && (is_double kind && is_hetero number));
+}
+
+-- no count is near the end of its type
+pub record IsSmall (x : Site) : Type 0 where
+  pub neighbours : x.neighbours < 1000
+  pub ring_bonds : x.ring_bonds < 1000
+  pub higher : x.higher < 1000
+  pub ring_doubles : x.ring_doubles < 1000
+  pub outer_doubles : x.outer_doubles < 1000
+  pub to_oxygen : x.to_oxygen < 1000
+  pub to_hetero : x.to_hetero < 1000

@@ -1,0 +1,4 @@
+pub mod Electrons
+pub mod Counts
+pub mod Huckel
+pub mod Route

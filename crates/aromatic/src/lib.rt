@@ -1,0 +1,13 @@
+//! Aromatic atoms and bonds, by electron counts on Hückel cycles.
+#![tactic(auto)]
+
+mod cycle;
+mod perception;
+mod site;
+mod table;
+
+pub use perception::{Arom, AromFault, perceive};
+pub use site::electrons;
+
+#[cfg(test)]
+mod tests;

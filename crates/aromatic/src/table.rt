@@ -1,0 +1,288 @@
+//! The table of what an atom gives to an aromatic ring, this project's own profile. The first row that fits counts.
+ghost use Rattle.std.specs.Prelude.{◌≡◌};
+ghost use Rattle.std.specs.List.{find};
+ghost use Rattle.aromatic.specs.Electrons.{fits, has_connected, has_doubles, has_number, row_of, rows};
+
+use crate::site::Site;
+
+/// Elements that share a row.
+#[derive(Clone, Copy, Debug, PartialEq, Eq)]
+pub enum Family {
+    Boron,
+    Carbon,
+    Nitrogen,
+    NitrogenOrPhosphorus,
+    /// N, P and As.
+    NitrogenGroup,
+    /// O, S and Se.
+    OxygenGroup,
+}
+
+/// The double bonds of an atom.
+#[derive(Clone, Copy, Debug, PartialEq, Eq)]
+pub enum Doubles {
+    Absent,
+    /// One, a ring bond.
+    Ring,
+    /// One that is a ring bond, and one that is none, to O.
+    RingAndOxygen,
+    /// One, no ring bond, to O.
+    Oxygen,
+    /// One, no ring bond, to O, N or S.
+    Hetero,
+}
+
+/// A row of the table.
+#[derive(Clone, Copy, Debug, PartialEq, Eq)]
+pub struct Row {
+    pub family: Family,
+    pub charge: i8,
+    /// Whether it asks for a symbol in lower case.
+    pub lower: bool,
+    pub doubles: Doubles,
+    /// Neighbours and hydrogens, where it asks for a number of them.
+    pub connected: Option<u8>,
+    pub electrons: u8,
+}
+
+impl Row {
+    /// Whether the row is that of an atom.
+    #[tactic(auto, unfolding(crate::specs::Electrons::fits))]
+    pub fn fits(&self, site: &Site) -> bool
+        ensures { result ≡ fits self.now site.now }
+    {
+        has_number(self.family, site.number)
+            && self.charge == site.charge
+            && (!self.lower || site.lower)
+            && has_doubles(self.doubles, site)
+            && has_connected(self.connected, site)
+    }
+}
+
+fn has_number(family: Family, number: u8) -> bool
+    ensures { result ≡ has_number family number }
+{
+    match family {
+        Family::Boron => number == 5,
+        Family::Carbon => number == 6,
+        Family::Nitrogen => number == 7,
+        Family::NitrogenOrPhosphorus => number == 7 || number == 15,
+        Family::NitrogenGroup => number == 7 || number == 15 || number == 33,
+        Family::OxygenGroup => number == 8 || number == 16 || number == 34,
+    }
+}
+
+fn has_doubles(doubles: Doubles, site: &Site) -> bool
+    ensures { result ≡ has_doubles doubles site.now }
+{
+    match doubles {
+        Doubles::Absent => site.ring_doubles == 0 && site.outer_doubles == 0,
+        Doubles::Ring => site.ring_doubles == 1 && site.outer_doubles == 0,
+        Doubles::RingAndOxygen => {
+            site.ring_doubles == 1 && site.outer_doubles == 1 && site.to_oxygen == 1
+        }
+        Doubles::Oxygen => {
+            site.ring_doubles == 0 && site.outer_doubles == 1 && site.to_oxygen == 1
+        }
+        Doubles::Hetero => {
+            site.ring_doubles == 0 && site.outer_doubles == 1 && site.to_hetero == 1
+        }
+    }
+}
+
+fn has_connected(connected: Option<u8>, site: &Site) -> bool
+    ensures { result ≡ has_connected connected site.now }
+{
+    match connected {
+        None => true,
+        Some(count) => usize::from(site.neighbours) + usize::from(site.hydrogens)
+            == usize::from(count),
+    }
+}
+
+/// The first row that fits an atom.
+pub fn row_of(site: &Site) -> Option<Row>
+    ensures { result ≡ row_of site.now }
+{
+    first_fit(table(), site)
+}
+
+fn first_fit(rows: &[Row], site: &Site) -> Option<Row>
+    ensures { result ≡ find (λ row. fits row site.now) rows.now }
+{
+    for row in rows {
+        if row.fits(site) {
+            return Some(*row);
+        }
+    }
+    None
+}
+
+fn table() -> &'static [Row]
+    ensures { result.now ≡ rows }
+{
+    &ROWS
+}
+
+const ROWS: [Row; 20] = [
+    Row {
+        family: Family::Carbon,
+        charge: 0,
+        lower: false,
+        doubles: Doubles::Ring,
+        connected: None,
+        electrons: 1,
+    },
+    Row {
+        family: Family::NitrogenGroup,
+        charge: 0,
+        lower: false,
+        doubles: Doubles::Ring,
+        connected: None,
+        electrons: 1,
+    },
+    Row {
+        family: Family::NitrogenGroup,
+        charge: 1,
+        lower: false,
+        doubles: Doubles::Ring,
+        connected: None,
+        electrons: 1,
+    },
+    Row {
+        family: Family::OxygenGroup,
+        charge: 1,
+        lower: false,
+        doubles: Doubles::Ring,
+        connected: None,
+        electrons: 1,
+    },
+    Row {
+        family: Family::Boron,
+        charge: -1,
+        lower: false,
+        doubles: Doubles::Ring,
+        connected: None,
+        electrons: 1,
+    },
+    Row {
+        family: Family::Nitrogen,
+        charge: 0,
+        lower: false,
+        doubles: Doubles::RingAndOxygen,
+        connected: None,
+        electrons: 1,
+    },
+    Row {
+        family: Family::Nitrogen,
+        charge: 0,
+        lower: true,
+        doubles: Doubles::Oxygen,
+        connected: Some(3),
+        electrons: 1,
+    },
+    Row {
+        family: Family::Carbon,
+        charge: 0,
+        lower: false,
+        doubles: Doubles::Hetero,
+        connected: None,
+        electrons: 0,
+    },
+    Row {
+        family: Family::Carbon,
+        charge: 0,
+        lower: true,
+        doubles: Doubles::Absent,
+        connected: Some(3),
+        electrons: 1,
+    },
+    Row {
+        family: Family::NitrogenGroup,
+        charge: 0,
+        lower: true,
+        doubles: Doubles::Absent,
+        connected: Some(2),
+        electrons: 1,
+    },
+    Row {
+        family: Family::NitrogenGroup,
+        charge: 1,
+        lower: true,
+        doubles: Doubles::Absent,
+        connected: Some(3),
+        electrons: 1,
+    },
+    Row {
+        family: Family::OxygenGroup,
+        charge: 1,
+        lower: true,
+        doubles: Doubles::Absent,
+        connected: Some(2),
+        electrons: 1,
+    },
+    Row {
+        family: Family::Boron,
+        charge: 0,
+        lower: true,
+        doubles: Doubles::Absent,
+        connected: Some(2),
+        electrons: 1,
+    },
+    Row {
+        family: Family::Boron,
+        charge: -1,
+        lower: true,
+        doubles: Doubles::Absent,
+        connected: Some(3),
+        electrons: 1,
+    },
+    Row {
+        family: Family::NitrogenGroup,
+        charge: 0,
+        lower: false,
+        doubles: Doubles::Absent,
+        connected: Some(3),
+        electrons: 2,
+    },
+    Row {
+        family: Family::NitrogenOrPhosphorus,
+        charge: -1,
+        lower: false,
+        doubles: Doubles::Absent,
+        connected: Some(2),
+        electrons: 2,
+    },
+    Row {
+        family: Family::OxygenGroup,
+        charge: 0,
+        lower: false,
+        doubles: Doubles::Absent,
+        connected: Some(2),
+        electrons: 2,
+    },
+    Row {
+        family: Family::Carbon,
+        charge: -1,
+        lower: false,
+        doubles: Doubles::Absent,
+        connected: Some(3),
+        electrons: 2,
+    },
+    Row {
+        family: Family::Carbon,
+        charge: 1,
+        lower: false,
+        doubles: Doubles::Absent,
+        connected: Some(3),
+        electrons: 0,
+    },
+    Row {
+        family: Family::Boron,
+        charge: 0,
+        lower: false,
+        doubles: Doubles::Absent,
+        connected: Some(3),
+        electrons: 0,
+    },
+];

@@ -1,0 +1,17 @@
+-- The faults of the stages, as faults of a text. Want of memory has one name in all of them.
+use Rattle.smiles_read.specs.declared.fault.SmilesFault.{SmilesFault}
+use Rattle.smiles_read.specs.declared.fault.SmilesFault.TheVariants as smiles
+use Rattle.aromatic.specs.declared.perception.AromFault.{AromFault}
+use Rattle.aromatic.specs.declared.perception.AromFault.TheVariants as rings
+use Rattle.mol_finish.specs.declared.fault.TextFault.{TextFault}
+use Rattle.mol_finish.specs.declared.fault.TextFault.TheVariants.{Smiles, NoMemory}
+
+-- of the reader
+abbrev pub reading_fault : SmilesFault → TextFault
+reading_fault smiles.NoMemory = NoMemory
+reading_fault fault = Smiles fault
+
+-- of aromaticity: the place of the atom as written
+abbrev pub ring_fault : AromFault → TextFault
+ring_fault (rings.Aromatic written) = Smiles (smiles.Aromatic written)
+ring_fault rings.NoMemory = NoMemory
