@@ -62,8 +62,8 @@ fn scripts_and_replies(rt: HostRuntime) -> Result<(), Fail> {
             "ok 1\nok 2\nhit 2\nend at 2 hits 1\n",
         ),
         (
-            "withdraw 1\nregister 1 C1CC1\nregister 1 C=\nsearch =\n",
-            "refused notyet\nrefused notyet\nrefused smiles syntax\nrefused smarts syntax\n",
+            "withdraw 1\nregister 1 C=\nsearch =\n",
+            "refused notyet\nrefused smiles syntax\nrefused smarts syntax\n",
         ),
         // identifiers, blanks, an empty line, ends with CR LF, a last line without LF
         (
@@ -79,10 +79,15 @@ fn scripts_and_replies(rt: HostRuntime) -> Result<(), Fail> {
             "register 5 CCCC\nsearch CC\nsearch C-=C\nsearch C#N\nregister 4 N#CC\nsearch C#N\nsearch C=N\n",
             "ok 1\nhit 5\nend at 1 hits 1\nend at 1 hits 0\nend at 1 hits 0\nok 2\nhit 4\nend at 2 hits 1\nend at 2 hits 0\n",
         ),
-        // ring numbers, branches, and structures that are not taken today
+        // ring numbers, branches, and what lies on no aromatic ring
         (
-            "register 1 C12CCCCC12\nregister 1 C1CC\nregister 1 C(\nregister 1 c1ccccc1\nregister 1 C:C\n",
-            "refused smiles ring\nrefused smiles ring\nrefused smiles syntax\nrefused notyet\nrefused notyet\n",
+            "register 1 C12CCCCC12\nregister 1 C1CC\nregister 1 C(\nregister 3 c1cccc1\nregister 3 CC:C\n",
+            "refused smiles ring\nrefused smiles ring\nrefused smiles syntax\nrefused smiles aromatic 0\nrefused smiles aromatic 1\n",
+        ),
+        // a ring in lower case and in Kekulé form is the same: its atoms are aromatic, and no `C` is
+        (
+            "register 1 c1ccccc1C\nregister 2 CC1=CC=CC=C1\nregister 3 C1CCCCC1\nsearch C\nsearch CC\nsearch C=C\n",
+            "ok 1\nok 2\nok 3\nhit 1\nhit 2\nhit 3\nend at 3 hits 3\nhit 3\nend at 3 hits 1\nend at 3 hits 0\n",
         ),
         // brackets, charges, parts, hydrogen atoms, marks that are dropped; a pattern has at most 32 bytes
         (

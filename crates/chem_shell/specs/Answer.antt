@@ -5,12 +5,11 @@ use Rattle.smarts_parse.specs.Pattern.{PatternTerm}
 use Rattle.smarts_parse.specs.Chain as smarts
 use Rattle.chem_shell.specs.declared.reply.Reply.{Reply}
 use Rattle.chem_shell.specs.declared.reply.Reply.TheVariants.{Accepted, Hit, End, Refused}
-use Rattle.chem_shell.specs.declared.reply.Refusal.TheVariants.{NotYet, SmilesSyntax, SmilesRing, SmilesLimit, SmartsSyntax, Known, Full}
+use Rattle.chem_shell.specs.declared.reply.Refusal.TheVariants.{SmilesSyntax, SmilesRing, SmilesLimit, SmilesAromatic, SmartsSyntax, Known, Full}
 use Rattle.chem_shell.specs.History as history
 use Rattle.chem_shell.specs.History.{History, head, most_commits}
 use Rattle.chem_shell.specs.Hits.{AreHits}
 use Rattle.smiles_read.specs.declared.fault.SmilesFault.TheVariants as smiles
-use Rattle.mol_finish.specs.declared.fault.TextFault.TheVariants as text_fault
 use Rattle.mol_finish.specs.declared.fault.TextFault.TheVariants.{Smiles}
 use Rattle.mol_finish.specs.Structure.{IsStructureOf, IsStructure}
 use Rattle.chem_shell.specs.Command.{Command, Empty, Register, Search}
@@ -28,7 +27,7 @@ abbrev pub RegisterAnswer : History → ℕ → List ℕ → Reply → History �
 RegisterAnswer h id text (Refused SmilesSyntax) h' = IsStructure text (Err (Smiles smiles.Syntax)) × (h' ≡ h)
 RegisterAnswer h id text (Refused SmilesRing) h' = IsStructure text (Err (Smiles smiles.Ring)) × (h' ≡ h)
 RegisterAnswer h id text (Refused SmilesLimit) h' = IsStructure text (Err (Smiles smiles.Limit)) × (h' ≡ h)
-RegisterAnswer h id text (Refused NotYet) h' = IsStructure text (Err text_fault.NotYet) × (h' ≡ h)
+RegisterAnswer h id text (Refused (SmilesAromatic place)) h' = IsStructure text (Err (Smiles (smiles.Aromatic place))) × (h' ≡ h)
 RegisterAnswer h id text (Refused Known) h' = HasStructure text × (head h id ≢ None) × (h' ≡ h)
 RegisterAnswer h id text (Refused Full) h' = HasStructure text × (head h id ≡ None) × (most_commits ≤ length h) × (h' ≡ h)
 RegisterAnswer h id text (Accepted version) h' =

@@ -13,6 +13,7 @@ refusal_words refusals.NotYet = codes "notyet"
 refusal_words refusals.SmilesSyntax = codes "smiles syntax"
 refusal_words refusals.SmilesRing = codes "smiles ring"
 refusal_words refusals.SmilesLimit = codes "smiles limit"
+refusal_words (refusals.SmilesAromatic place) = codes "smiles aromatic " ++ decimal place
 refusal_words refusals.SmartsSyntax = codes "smarts syntax"
 refusal_words refusals.Known = codes "known"
 refusal_words refusals.Full = codes "full"

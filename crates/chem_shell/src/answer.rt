@@ -33,8 +33,10 @@ pub fn register(alloc: Global, store: &mut Store, id: u32, text: &[u8]) -> Resul
         Err(TextFault::Smiles(SmilesFault::Limit)) => {
             return Ok(Reply::Refused(Refusal::SmilesLimit));
         }
-        Err(TextFault::Smiles(_)) => unreachable!(),
-        Err(TextFault::NotYet) => return Ok(Reply::Refused(Refusal::NotYet)),
+        Err(TextFault::Smiles(SmilesFault::Aromatic(place))) => {
+            return Ok(Reply::Refused(Refusal::SmilesAromatic { place }));
+        }
+        Err(TextFault::Smiles(SmilesFault::NoMemory) | TextFault::NotYet) => unreachable!(),
         Err(TextFault::NoMemory) => return Err(AllocError),
     };
     match store.register(alloc, id, text, mol) {

@@ -10,7 +10,7 @@ use std::alloc::AllocError;
 pub enum Refusal {
     /// The line exceeds 65,536 bytes.
     Long,
-    /// The line is no form that is answered today, or its SMILES is one of a structure that is not taken today.
+    /// The line is no form that is answered today.
     NotYet,
     /// The text is no SMILES.
     SmilesSyntax,
@@ -18,6 +18,9 @@ pub enum Refusal {
     SmilesRing,
     /// The SMILES has more than 65,536 bytes, 256 branches open at once, 999 atoms, 999 bonds, or 12 neighbours of an atom.
     SmilesLimit,
+    /// A lower-case atom lies on no aromatic ring, or a bond `:` ends at an atom that is not lower-case; the place of the
+    /// first such atom as written, from 0.
+    SmilesAromatic { place: u16 },
     /// The text is no SMARTS.
     SmartsSyntax,
     /// The identifier was registered before.
@@ -29,19 +32,22 @@ pub enum Refusal {
 impl Refusal {
     ghost use Rattle.chem_shell.specs.Reply.{refusal_words};
 
-    /// What follows `refused`.
-    fn words(self) -> &'static str
-        ensures { result.now ≡ refusal_words self }
+    /// Appends what follows `refused`. At `Err` a front of it may be appended.
+    fn push_words(self, out: &mut Vec<u8>) -> Result<(), AllocError>
+        ensures { OnOk result (out.new.items ≡ out.old.items ++ refusal_words self) }
     {
         match self {
-            Refusal::Long => "long",
-            Refusal::NotYet => "notyet",
-            Refusal::SmilesSyntax => "smiles syntax",
-            Refusal::SmilesRing => "smiles ring",
-            Refusal::SmilesLimit => "smiles limit",
-            Refusal::SmartsSyntax => "smarts syntax",
-            Refusal::Known => "known",
-            Refusal::Full => "full",
+            Refusal::Long => out.extend_from_slice(b"long"),
+            Refusal::NotYet => out.extend_from_slice(b"notyet"),
+            Refusal::SmilesSyntax => out.extend_from_slice(b"smiles syntax"),
+            Refusal::SmilesRing => out.extend_from_slice(b"smiles ring"),
+            Refusal::SmilesLimit => out.extend_from_slice(b"smiles limit"),
+            Refusal::SmilesAromatic { place } => {
+                push_number(out, "smiles aromatic ", u32::from(place))
+            }
+            Refusal::SmartsSyntax => out.extend_from_slice(b"smarts syntax"),
+            Refusal::Known => out.extend_from_slice(b"known"),
+            Refusal::Full => out.extend_from_slice(b"full"),
         }
     }
 }
@@ -81,7 +87,7 @@ impl Reply {
             }
             Reply::Refused(refusal) => {
                 out.extend_from_slice(b"refused ")?;
-                out.extend_from_slice(refusal.words().as_bytes())
+                refusal.push_words(out)
             }
         }
     }

@@ -18,8 +18,8 @@ use valence::{fill_hydrogens, suppress};
 ///
 /// A SMILES has at most 65,536 bytes, 999 atoms, 999 bonds, 12 neighbours of an atom, and 256 branches open at once
 /// (OpenSMILES 1.0). Hydrogens that are not written are counted; hydrogen atoms without isotope and charge become
-/// counts at their neighbours; then aromatic atoms and bonds are found, in lower case and Kekulé forms alike. A molfile
-/// is `NotYet`. `NoMemory` may come at any SMILES.
+/// counts at their neighbours; then aromatic atoms and bonds are found by electron counts on rings, also where double
+/// bonds are written. A molfile is `NotYet`. `NoMemory` may come at any SMILES.
 pub fn structure(alloc: Global, format: Format, text: &[u8]) -> Result<Mol, TextFault>
     ensures molfile { format ≡ Format.Molfile → result ≡ Err TextFault.NotYet }
     ensures smiles { format ≡ Format.Smiles → IsStructure text.now result }
