@@ -111,6 +111,61 @@ fn scripts_and_replies(rt: HostRuntime) -> Result<(), Fail> {
 }
 
 #[test]
+fn aromatic_forms(rt: HostRuntime) -> Result<(), Fail> {
+    // every atom is aromatic, or the place of the first that is refused, or there are plain carbon atoms
+    let none = "ok 1\nend at 1 hits 0\n";
+    let plain = "ok 1\nhit 1\nend at 1 hits 1\n";
+    let first = "refused smiles aromatic 0\nend at 0 hits 0\n";
+    let rows = [
+        ("C1=CC=CC=C1", none),
+        ("n1ccccc1", none),
+        ("N1=CC=CC=C1", none),
+        ("[nH]1cccc1", none),
+        ("N1C=CC=C1", none),
+        ("n1cccc1", first),
+        ("o1cccc1", none),
+        ("s1cccc1", none),
+        ("[se]1cccc1", none),
+        ("c1c[nH]cn1", none),
+        ("c1ccc2[nH]ccc2c1", none),
+        ("c1ccc2ccccc2c1", none),
+        ("C1=CC=C2C=CC=CC2=C1", none),
+        ("c1ccc2cccc2cc1", none),
+        ("[O-][n+]1ccccc1", none),
+        ("O=n1ccccc1", none),
+        ("O=c1cccc[nH]1", none),
+        ("O=C1C=CC=CN1", none),
+        ("O=C1C=CC(=O)C=C1", plain),
+        ("O=C1C=CC=CC=C1", none),
+        ("[cH+]1cccccc1", none),
+        ("[cH-]1cccc1", none),
+        ("[bH-]1ccccc1", none),
+        ("[b-]1ccccc1", first),
+        ("[o+]1ccccc1", none),
+        ("c1ccc1", first),
+        ("C1=CC=C1", plain),
+        ("c1ccccccc1", first),
+        ("c1ccccccccccccccccc1", none),
+        ("c1ccccccccccccccccccc1", first),
+        ("c1ccccc1c1ccccc1", none),
+        ("C12(CCCC1)CCCC2", plain),
+        ("C12C3C4C1C5C2C3C45", plain),
+        ("C1C2CC3CC1CC(C2)C3", plain),
+        // porphin: both outer atoms of a ring without NH lie on no cycle of at most 18 atoms with 4n+2 electrons
+        ("c1cc2cc3ccc([nH]3)cc3ccc(n3)cc3ccc([nH]3)cc1n2", first),
+    ];
+    for (text, replies) in rows {
+        let mut script = Vec::from_slice(rt.alloc(), b"register 1 ")?;
+        script.extend_from_slice(text.as_bytes())?;
+        script.extend_from_slice(b"\nsearch C\n")?;
+        let outcome = mem(&rt, rt.alloc(), &script, 1000, &[], &[])?;
+        assert_eq!(rt; outcome.status, 0, "at {text}");
+        assert_eq!(rt; put_by(&outcome), replies.as_bytes(), "at {text}");
+    }
+    Ok(())
+}
+
+#[test]
 fn long_lines_and_bytes_that_are_no_text(rt: HostRuntime) -> Result<(), Fail> {
     let alloc = rt.alloc();
     let mut script = vec![in alloc; b'x'; 65_537]?;
