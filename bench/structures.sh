@@ -1,5 +1,5 @@
 #!/usr/bin/env bash
-# Registers structures of 10, 40 and 900 atoms, chains and drug-like ones, and prints the time for each structure and each atom.
+# Registers structures of about 10, 40 and 900 atoms, chains and such with rings, and prints the time for each structure and each atom.
 # Usage: bench/structures.sh [ATOMS_IN_ALL]
 set -euo pipefail
 cd "$(dirname "${BASH_SOURCE[0]}")/.."
@@ -10,7 +10,7 @@ import subprocess
 import sys
 import time
 
-RINGS = "c1ccccc1C(=O)NCCN"  # 13 atoms, a benzene ring among them
+RINGS = "c1ccccc1C(=O)NCCN"  # 12 atoms, a benzene ring among them
 
 
 def chain(atoms):
@@ -18,7 +18,7 @@ def chain(atoms):
 
 
 def with_rings(atoms):
-    return RINGS * (atoms // 13) + "C" * (atoms % 13)
+    return RINGS * (atoms // 12) + "C" * (atoms % 12)
 
 
 def seconds(script):
@@ -29,8 +29,8 @@ def seconds(script):
     return taken
 
 
-for name, text_of in (("chain", chain), ("with rings", with_rings)):
-    for atoms in (10, 40, 900):
+for name, text_of, sizes in (("chain", chain, (10, 40, 900)), ("with rings", with_rings, (12, 36, 900))):
+    for atoms in sizes:
         count = max(1, int(sys.argv[1]) // atoms)
         text = text_of(atoms)
         script = "".join(f"register {i} {text}\n" for i in range(1, count + 1)).encode()
