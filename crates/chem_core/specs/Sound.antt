@@ -1,14 +1,19 @@
 -- What every sketch keeps that a reader gives.
-use Rattle.std.specs.Prelude.{◌≤◌, length, map, All, pos, neg_ℤ, ◌≤ℤ◌}
+use Rattle.std.specs.Prelude.{◌≤◌, List, length, map, All, pos, neg_ℤ, ◌≤ℤ◌}
 use Rattle.chem_core.specs.declared.sketch.SketchAtom.{SketchAtom}
+use Rattle.chem_core.specs.declared.sketch.SketchBond.{SketchBond}
 use Rattle.chem_core.specs.declared.sketch.Fill.{Fill}
 use Rattle.chem_core.specs.declared.sketch.Fill.TheVariants.{Given, Organic, Table, Fixed}
 use Rattle.chem_core.specs.Graph.{Ends, IsSimpleGraph}
 use Rattle.chem_core.specs.Drawing.{Drawing}
 
+-- the two ends of each bond of a list
+abbrev pub ends_among : List SketchBond → Ends
+ends_among bonds = map (λ b. (b.a, b.b)) bonds
+
 -- the two ends of each bond of a sketch
 abbrev pub sketch_ends : Drawing → Ends
-sketch_ends s = map (λ b. (b.a, b.b)) s.bonds
+sketch_ends s = ends_among s.bonds
 
 -- at most 2 radical electrons, and a written valence of at most 15
 abbrev pub IsFill : Fill → Type 0

@@ -1,4 +1,7 @@
 //! Sketches: structures as they are written, before hydrogens and aromaticity are worked out.
+ghost use Rattle.std.specs.Prelude.{◌≡◌, ◌≤◌};
+ghost use Rattle.chem_core.specs.Drawing.{ends_at, order_of};
+
 use std::marker::Model;
 
 /// Where the hydrogens of a written atom come from.
@@ -45,12 +48,36 @@ pub enum SketchKind {
     Colon,
 }
 
+impl SketchKind {
+    /// What the bond adds to the valence of each of its ends: 1 where no symbol or `:` is written.
+    pub fn order(self) -> u8
+        ensures value { result ≡ order_of self }
+        ensures few { result ≤ 4 }
+    {
+        match self {
+            SketchKind::Unwritten | SketchKind::Single | SketchKind::Colon => 1,
+            SketchKind::Double => 2,
+            SketchKind::Triple => 3,
+            SketchKind::Quad => 4,
+        }
+    }
+}
+
 /// A bond as it is written, between the atoms at places `a` and `b`.
 #[derive(Clone, Copy, Debug, PartialEq, Eq)]
 pub struct SketchBond {
     pub a: u16,
     pub b: u16,
     pub kind: SketchKind,
+}
+
+impl SketchBond {
+    /// Whether the atom at a place is one of the bond's two ends.
+    pub fn ends_at(&self, atom: u16) -> bool
+        ensures { result ≡ ends_at atom self.now }
+    {
+        self.a == atom || self.b == atom
+    }
 }
 
 /// A structure as it is written: atoms in the order of the text, and the bonds between them.
