@@ -110,6 +110,10 @@ fn scripts_and_replies(rt: HostRuntime) -> Result<(), Fail> {
     Ok(())
 }
 
+// Fullerene C60, its 30 double bonds written: each of its 60 atoms lies on a hexagon of six electrons.
+const C60: &str =
+    "C12=C3C4=C5C6=C1C7=C8C9=C1C%10=C%11C(=C29)C3=C2C3=C4C4=C5C5=C9C6=C7C6=C7C8=C1C1=C8C%10=C%10C%11=C2C2=C3C3=C4C4=C5C5=C%11C%12=C(C6=C95)C7=C1C1=C%12C5=C%11C4=C3C3=C5C(=C81)C%10=C23";
+
 #[test]
 fn aromatic_forms(rt: HostRuntime) -> Result<(), Fail> {
     // every atom is aromatic, or the place of the first that is refused, or there are plain carbon atoms
@@ -151,8 +155,17 @@ fn aromatic_forms(rt: HostRuntime) -> Result<(), Fail> {
         ("C12(CCCC1)CCCC2", plain),
         ("C12C3C4C1C5C2C3C45", plain),
         ("C1C2CC3CC1CC(C2)C3", plain),
+        (C60, none),
+        ("C1=Cc2cccc3cccc1c23", plain),
+        ("c1ccc2c(c1)c1ccccc12", none),
+        ("C=C1C=CC=C1", plain),
+        ("C1=CC=CC=CC=CC=CC=CC=CC=CC=CC=CC=C1", plain),
+        ("[Te]1C=CC=C1", plain),
+        ("[te]1cccc1", "refused smiles syntax\nend at 0 hits 0\n"),
+        ("*1ccccc1", "refused smiles aromatic 1\nend at 0 hits 0\n"),
         // porphin: both outer atoms of a ring without NH lie on no cycle of at most 18 atoms with 4n+2 electrons
         ("c1cc2cc3ccc([nH]3)cc3ccc(n3)cc3ccc([nH]3)cc1n2", first),
+        ("C1=CC2=CC3=CC=C(N3)C=C4C=CC(=N4)C=C5C=CC(=CC1=N2)N5", plain),
     ];
     for (text, replies) in rows {
         let mut script = Vec::from_slice(rt.alloc(), b"register 1 ")?;
