@@ -14,10 +14,9 @@ use Rattle.std.proofs.lemmas.List.Sums.{sum_by-cons}
 use Rattle.chem_core.specs.declared.sketch.SketchAtom.{SketchAtom}
 use Rattle.chem_core.specs.declared.sketch.SketchBond.{SketchBond}
 use Rattle.chem_core.specs.declared.sketch.Fill.TheVariants.{Given}
-use Rattle.chem_core.specs.Drawing.{Drawing}
+use Rattle.chem_core.specs.Drawing.{Drawing, ends_at}
 use Rattle.chem_core.specs.Graph.{degree}
 use Rattle.chem_core.specs.Sound.{IsSound, sketch_ends}
-use Rattle.valence.specs.Valence.{ends_at}
 use Rattle.valence.specs.Suppressed.{is_plain_kind, is_bare_hydrogen, atom_is, is_heavy, leads_to_heavy, is_suppressed, new_place, brings, stays, staying_atoms, staying_bonds, renumbered, gained, suppressed}
 use Rattle.valence.proofs.Enumerated.{enumerate_from-append}
 use Rattle.valence.proofs.Sums.{degree_is, bond-in_graph}
