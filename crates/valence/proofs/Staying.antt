@@ -1,9 +1,9 @@
 -- That what stays of a sound sketch is a sound sketch.
-use Rattle.std.proofs.Common.{ℕ, zero, suc, ◌+◌, ◌<◌, ◌≤◌, ◌≡◌, ◌≢◌, ◌⊎◌, Bool, true, false, not, cond, eqb, List, [], ◌∷◌, length, map, filter, get_or, count_by, sum_by, All, Some, refl, ap, sym, subst, ◌∙◌, inl, inr, arith}
+use Rattle.std.proofs.Common.{ℕ, zero, suc, ◌+◌, ◌<◌, ◌≤◌, ◌≡◌, ◌≢◌, ◌⊎◌, Bool, true, false, not, cond, eqb, List, [], ◌∷◌, length, map, filter, take, get_or, count_by, sum_by, All, Some, refl, ap, sym, subst, ◌∙◌, inl, inr, arith}
 use Rattle.std.specs.List.{AllPairs, enumerate_from, range_with_len, slice_get}
 use Rattle.std.proofs.lemmas.Bool.{cases_Bool, cases_eq, cases_order, and_parts, not-true, or_cases, or_left, or_right, eqb-true, eq-eqb, false≢true}
 use Rattle.std.proofs.lemmas.Option.{same_Some, slice_get_within, slice_get-get_or}
-use Rattle.std.proofs.lemmas.List.{length-map, get_or-map}
+use Rattle.std.proofs.lemmas.List.{length-map, get_or-map, get_or-take}
 use Rattle.std.proofs.lemmas.List.FromFn.{length-enumerate_from, get_or-enumerate_from}
 use Rattle.std.proofs.lemmas.List.Elements.{All-filter, All-map, All-tail, All-head, filter_passes}
 use Rattle.std.proofs.lemmas.List.Kept.{AllPairs-filter}
@@ -18,7 +18,7 @@ use Rattle.chem_core.specs.Sound.{IsSound, IsSketchAtom, ends_among, sketch_ends
 use Rattle.valence.specs.Suppressed.{is_suppressed, new_place, brings, stays, staying_atoms, staying_bonds, renumbered, gained, suppressed}
 use Rattle.valence.proofs.Sums.{degree_is, brought-le, bond-in_graph}
 use Rattle.valence.proofs.Hydrogens.{with_hydrogens}
-use Rattle.valence.proofs.Renumbering.{new_place-le, new_place-lt, new_place-one}
+use Rattle.valence.proofs.Renumbering.{new_place-le, new_place-agree, new_place-lt, new_place-one}
 
 -- ---- the atoms that stay
 
@@ -232,6 +232,10 @@ places-agree goes place other bonds n range same =
 abbrev pub gone : List Bool → ℕ → Bool
 gone goes k = get_or goes k false
 
+-- the flags of the first atoms give the places of these
+pub new_place-front : (goes : List Bool) (n a : ℕ) → a ≤ n → new_place (gone (take n goes)) a ≡ new_place (gone goes) a
+new_place-front goes n a h = new_place-agree (gone (take n goes)) (gone goes) a (λ k l. get_or-take n goes k false (omega arith))
+
 abbrev pub number_at : List ℕ → ℕ → ℕ
 number_at xs k = get_or xs k 0
 
@@ -247,10 +251,10 @@ bonds-in_range s sound k d h =
 pub few_at : (s : Drawing) → IsSound s → (a : ℕ) → count_by (ends_at a) s.bonds ≤ 12
 few_at s sound a = omega (arith, degree_is s.bonds a, sound.graph.few_neighbours a)
 
-pub suppressed-is : (s : Drawing) (goes : List Bool) (gains places : List ℕ) (atoms : List SketchAtom) (bonds : List SketchBond) → IsSound s → ((a : ℕ) → get_or goes a false ≡ is_suppressed s a) → ((a : ℕ) → get_or gains a 0 ≡ count_by (brings (gone goes) a) s.bonds) → ((a : ℕ) → a < 999 → get_or places a 0 ≡ new_place (gone goes) a) → atoms ≡ staying_atoms (gone goes) (number_at gains) s.atoms → bonds ≡ staying_bonds (gone goes) (number_at places) s.bonds → ◌≡◌ {A = Drawing} (record { atoms = atoms; bonds = bonds }) (suppressed s)
+pub suppressed-is : (s : Drawing) (goes : List Bool) (gains places : List ℕ) (atoms : List SketchAtom) (bonds : List SketchBond) → IsSound s → ((a : ℕ) → get_or goes a false ≡ is_suppressed s a) → ((a : ℕ) → get_or gains a 0 ≡ count_by (brings (gone goes) a) s.bonds) → ((a : ℕ) → a < length s.atoms → get_or places a 0 ≡ new_place (gone goes) a) → atoms ≡ staying_atoms (gone goes) (number_at gains) s.atoms → bonds ≡ staying_bonds (gone goes) (number_at places) s.bonds → ◌≡◌ {A = Drawing} (record { atoms = atoms; bonds = bonds }) (suppressed s)
 suppressed-is s goes gains places atoms bonds sound going gaining placing es fs =
     let g : gone goes ≡ is_suppressed s = fun_ext going in
     let n : number_at gains ≡ gained s = fun_ext (λ (a : ℕ). gaining a ∙ ap (λ (f : ℕ → Bool). count_by (brings f a) s.bonds) g) in
     same_drawing atoms (suppressed s).atoms bonds (suppressed s).bonds
     (es ∙ ap (λ (f : ℕ → Bool). staying_atoms f (number_at gains) s.atoms) g ∙ ap (λ (f : ℕ → ℕ). staying_atoms (is_suppressed s) f s.atoms) n)
-    (fs ∙ places-agree (gone goes) (number_at places) (new_place (gone goes)) s.bonds 999 (bonds-in_range s sound) placing ∙ ap (λ (f : ℕ → Bool). staying_bonds f (new_place f) s.bonds) g)
+    (fs ∙ places-agree (gone goes) (number_at places) (new_place (gone goes)) s.bonds (length s.atoms) (λ k d h. let at = bond-in_graph s.bonds (length s.atoms) k d sound.graph h in (at.0, at.1)) placing ∙ ap (λ (f : ℕ → Bool). staying_bonds f (new_place f) s.bonds) g)
