@@ -43,7 +43,7 @@ ascending-insert xs i y up within below above k h =
     ]
 
 -- where a pair goes: before the first whose first part is higher
-abbrev place_of : List (ℕ × ℕ) → ℕ → ℕ
+abbrev pub place_of : List (ℕ × ℕ) → ℕ → ℕ
 place_of xs y = unwrap_or (position (λ p. nat_lt y p.0) xs) (length xs)
 
 end_or_place : (n i : ℕ) → i ≤ n → unwrap_or (cond (nat_lt i n) (Some i) None) n ≡ i

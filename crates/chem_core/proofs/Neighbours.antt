@@ -48,7 +48,7 @@ JoinsAt-push_cases ends e b x y h =
     ]
 
 -- an atom that the new bond does not end at keeps its neighbours
-AreNeighbours-other : (ends : Ends) (e : ℕ × ℕ) (a : ℕ) (pairs : List (ℕ × ℕ)) → AreNeighbours ends a pairs → a ≢ e.0 → a ≢ e.1 → AreNeighbours (ends ++ e ∷ []) a pairs
+pub AreNeighbours-other : (ends : Ends) (e : ℕ × ℕ) (a : ℕ) (pairs : List (ℕ × ℕ)) → AreNeighbours ends a pairs → a ≢ e.0 → a ≢ e.1 → AreNeighbours (ends ++ e ∷ []) a pairs
 AreNeighbours-other ends e a pairs h n0 n1 = record {
   ascending = h.ascending;
   joined = λ n b q. JoinsAt-push ends e b a n (h.joined n b q);
@@ -59,7 +59,7 @@ AreNeighbours-other ends e a pairs h n0 n1 = record {
 }
 
 -- an atom that the new bond joins to another has it among its neighbours
-AreNeighbours-end : (ends : Ends) (e : ℕ × ℕ) (a o : ℕ) (pairs after : List (ℕ × ℕ)) → AreNeighbours ends a pairs → (e ≡ (a, o)) ⊎ (e ≡ (o, a)) → a ≢ o → IsStrictlyIncreasing (map (λ p. p.0) after) → IsPermutation ((o, length ends) ∷ pairs) after → AreNeighbours (ends ++ e ∷ []) a after
+pub AreNeighbours-end : (ends : Ends) (e : ℕ × ℕ) (a o : ℕ) (pairs after : List (ℕ × ℕ)) → AreNeighbours ends a pairs → (e ≡ (a, o)) ⊎ (e ≡ (o, a)) → a ≢ o → IsStrictlyIncreasing (map (λ p. p.0) after) → IsPermutation ((o, length ends) ∷ pairs) after → AreNeighbours (ends ++ e ∷ []) a after
 AreNeighbours-end ends e a o pairs after h is apart up moved = record {
   ascending = up;
   joined = λ n b q. elim (Contains-cons_cases (o, length ends) pairs (n, b) (Contains-permutation _ _ (n, b) (IsPermutation-sym _ _ moved) q)) [
@@ -109,20 +109,23 @@ AreNeighbourLists-more ends e n lists first second h in0 in1 apart up0 moved0 up
 }
 
 -- before any bond no atom has a neighbour
+pub AreNeighbours-none : (a : ℕ) → AreNeighbours [] a []
+AreNeighbours-none a = record {
+  ascending = λ k h. absurd (omega arith);
+  joined = λ m b q. absurd (omega (arith, q.1));
+  each = λ m b q. absurd (elim q [ inl h ↦ none-some _ h | inr h ↦ none-some _ h ]);
+}
+
 pub AreNeighbourLists-none : (n : ℕ) → AreNeighbourLists [] n (replicate n [])
 AreNeighbourLists-none n = record {
   count = length-replicate n [];
-  each = λ a within. rw get_or-replicate (record {
-    ascending = λ k h. absurd (omega arith);
-    joined = λ m b q. absurd (omega (arith, q.1));
-    each = λ m b q. absurd (elim q [ inl h ↦ none-some _ h | inr h ↦ none-some _ h ]);
-  });
+  each = λ a within. rw get_or-replicate (AreNeighbours-none a);
 }
 
 -- of two atoms that a bond joins, neither is among the other's neighbours by the bonds before it
-pub no_neighbour_yet : (all : Ends) (n place : ℕ) (lists : List (List (ℕ × ℕ))) → IsSimpleGraph n all → AreNeighbourLists (take place all) n lists → (x y : ℕ) → JoinsAt all place x y → x < n → (b : ℕ) → Contains (get_or lists x []) (y, b) → ⊥
-no_neighbour_yet all n place lists graph h x y joins within b q =
-    let before : JoinsAt (take place all) b x y = (h.each x within).joined y b q in
+pub no_neighbour_yet : (all : Ends) (n place : ℕ) (pairs : List (ℕ × ℕ)) (x y : ℕ) → IsSimpleGraph n all → AreNeighbours (take place all) x pairs → JoinsAt all place x y → (b : ℕ) → Contains pairs (y, b) → ⊥
+no_neighbour_yet all n place pairs x y graph h joins b q =
+    let before : JoinsAt (take place all) b x y = h.joined y b q in
     let one : JoinsAt all b x y = elim before [ inl r ↦ inl (slice_get-take place all b _ r) | inr r ↦ inr (slice_get-take place all b _ r) ] in
     let same : b ≡ place = graph.once b place x y one joins in
     let low : b < length (take place all) = elim before [ inl r ↦ slice_get_within _ b _ r | inr r ↦ slice_get_within _ b _ r ] in
@@ -173,7 +176,7 @@ ascending_at ends n lists a d h within =
 pub new_at : (all : Ends) (n place : ℕ) (lists : List Listed) (x y : ℕ) (d : Listed) → IsSimpleGraph n all → AreNeighbourLists (take place all) n (items_of lists) → JoinsAt all place x y → x < n → (b : ℕ) → Contains (get_or lists x d).items (y, b) → ⊥
 new_at all n place lists x y d graph h joins within b q =
     let there : x < length lists = omega (arith, h.count, length-map lists (λ v. v.items)) in
-    no_neighbour_yet all n place (items_of lists) graph h x y joins within b
+    no_neighbour_yet all n place (get_or (items_of lists) x []) x y graph (h.each x within) joins b
     (subst (λ xs. Contains xs (y, b)) (sym (items_at lists x d there)) q)
 
 -- the two of the second end, after a write at the first

@@ -1,7 +1,7 @@
 //! Molecules: atoms and bonds as they are meant, each atom's neighbours, and what lies on rings.
 ghost use Rattle.std.specs.Prelude.{◌≡◌, ◌↔◌, ◌+◌, ◌<◌, ◌∷◌, ℕ, List, [], length, map, replicate, take, Contains, IsPermutation, IsTrue, nat_lt, position, unwrap_or, IfOk, OnOk};
 ghost use Rattle.std.specs.List.Sorted.{IsStrictlyIncreasing};
-ghost use Rattle.chem_core.specs.Graph.{Ends, IsSimpleGraph, AreNeighbours, AreNeighbourLists, IsRingBond, IsSmallestRing};
+ghost use Rattle.chem_core.specs.Graph.{Ends, IsSimpleGraph, AreNeighbours, AreNeighbourLists, IsRingBond, IsSmallestRing, degree};
 ghost use Rattle.chem_core.specs.Molecule.{IsMolecule, bond_ends, ends_of};
 ghost use Rattle.chem_core.specs.RingFacts.{AreRingBonds, AreSmallestRings};
 
@@ -117,7 +117,9 @@ impl Mol {
     /// The neighbours of the atom at a place, each with the place of the bond to it, in ascending order.
     pub fn neighbours(&self, atom: u16) -> &[(u16, u16)]
         requires { atom < length self.now.atoms }
-        ensures { AreNeighbours (ends_of self.now) atom result.now }
+        ensures each { AreNeighbours (ends_of self.now) atom result.now }
+        ensures count { length result.now ≡ degree (ends_of self.now) atom }
+        ensures valid { IsMolecule self.now }
     {
         self.neighbours[usize::from(atom)].as_slice()
     }

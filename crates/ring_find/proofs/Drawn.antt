@@ -1,5 +1,5 @@
 -- Simple graphs bond after bond, for the examples that are tested.
-use Rattle.std.proofs.Common.{ℕ, suc, zero, ◌+◌, ◌<◌, ◌≡◌, ◌≢◌, ◌⊎◌, ◌==◌, ◌||◌, inl, inr, Some, List, [], ◌∷◌, ◌++◌, length, map, get_or, refl, sym, ap, ◌∙◌, arith}
+use Rattle.std.proofs.Common.{ℕ, suc, zero, ◌+◌, ◌<◌, ◌≡◌, ◌≢◌, ◌⊎◌, ◌==◌, ◌||◌, inl, inr, Some, List, [], ◌∷◌, ◌++◌, length, get_or, refl, sym, ap, ◌∙◌, arith}
 use Rattle.std.specs.List.{slice_get}
 use Rattle.std.proofs.lemmas.Option.{none-some, same_Some, slice_get_within, get_or_from_slice_get}
 use Rattle.std.proofs.lemmas.List.{length_push, get_or-map, length-map, map_push}
@@ -8,6 +8,7 @@ use Rattle.std.proofs.lemmas.List.Sums.{count_by-le-length}
 use Rattle.chem_core.specs.declared.sketch.SketchBond.{SketchBond}
 use Rattle.chem_core.specs.declared.sketch.SketchKind.TheVariants.{Unwritten}
 use Rattle.chem_core.specs.Graph.{Ends, JoinsAt, IsSimpleGraph}
+use Rattle.chem_core.specs.Sound.{ends_among}
 
 slice_get-push_cases : {X : Type 0} (xs : List X) (y : X) (i : ℕ) (v : X) → slice_get (xs ++ y ∷ []) i ≡ Some v → (slice_get xs i ≡ Some v) ⊎ ((i ≡ length xs) × (y ≡ v))
 slice_get-push_cases [] y zero v h = inr (refl, same_Some y v h)
@@ -52,28 +53,25 @@ simple_more n ends e h few in0 in1 apart fresh =
       ];
     }
 
-abbrev ends_of : List SketchBond → Ends
-ends_of bonds = map (λ b. (b.a, b.b)) bonds
-
-pub drawn_more : (n : ℕ) (bonds : List SketchBond) (bond : SketchBond) → IsSimpleGraph n (map (λ b. (b.a, b.b)) bonds) → length bonds < 12 → bond.a < n → bond.b < n → bond.a ≢ bond.b → ((c : ℕ) → JoinsAt (map (λ b. (b.a, b.b)) bonds) c bond.a bond.b → ⊥) → IsSimpleGraph n (map (λ b. (b.a, b.b)) (bonds ++ bond ∷ []))
+pub drawn_more : (n : ℕ) (bonds : List SketchBond) (bond : SketchBond) → IsSimpleGraph n (ends_among bonds) → length bonds < 12 → bond.a < n → bond.b < n → bond.a ≢ bond.b → ((c : ℕ) → JoinsAt (ends_among bonds) c bond.a bond.b → ⊥) → IsSimpleGraph n (ends_among (bonds ++ bond ∷ []))
 drawn_more n bonds bond h few in0 in1 apart fresh =
     let f : SketchBond → ℕ × ℕ = λ b. (b.a, b.b) in
     let long = length-map bonds f in
-    rw (map_push f bonds bond) (simple_more n (ends_of bonds) (bond.a, bond.b) h (omega arith) in0 in1 apart fresh)
+    rw (map_push f bonds bond) (simple_more n (ends_among bonds) (bond.a, bond.b) h (omega arith) in0 in1 apart fresh)
 
 -- no bond joins the atoms, if none of those that were looked at does
-pub none_joins : (bonds : List SketchBond) (a b : ℕ) → ((k : ℕ) (d : SketchBond) → k < length bonds → ((get_or bonds k d).a ≡ a → (get_or bonds k d).b ≡ b → ⊥) × ((get_or bonds k d).a ≡ b → (get_or bonds k d).b ≡ a → ⊥)) → (c : ℕ) → JoinsAt (map (λ b. (b.a, b.b)) bonds) c a b → ⊥
+pub none_joins : (bonds : List SketchBond) (a b : ℕ) → ((k : ℕ) (d : SketchBond) → k < length bonds → ((get_or bonds k d).a ≡ a → (get_or bonds k d).b ≡ b → ⊥) × ((get_or bonds k d).a ≡ b → (get_or bonds k d).b ≡ a → ⊥)) → (c : ℕ) → JoinsAt (ends_among bonds) c a b → ⊥
 none_joins bonds a b none c j =
     let f : SketchBond → ℕ × ℕ = λ b. (b.a, b.b) in
     let d : SketchBond = record { a = 0; b = 0; kind = Unwritten } in
-    let within : c < length (map f bonds) = elim j [ inl q ↦ slice_get_within (map f bonds) c _ q | inr q ↦ slice_get_within (map f bonds) c _ q ] in
+    let within : c < length (ends_among bonds) = elim j [ inl q ↦ slice_get_within (ends_among bonds) c _ q | inr q ↦ slice_get_within (ends_among bonds) c _ q ] in
     let within' : c < length bonds = omega (arith, length-map bonds f) in
-    let read : get_or (map f bonds) c (0, 0) ≡ f (get_or bonds c d) = get_or-map f bonds c d (0, 0) within' in
+    let read : get_or (ends_among bonds) c (0, 0) ≡ f (get_or bonds c d) = get_or-map f bonds c d (0, 0) within' in
     elim j [
       | inl q ↦
-          let e = sym read ∙ get_or_from_slice_get (map f bonds) c (a, b) (0, 0) q in
+          let e = sym read ∙ get_or_from_slice_get (ends_among bonds) c (a, b) (0, 0) q in
           (none c d within').0 (ap (λ p. p.0) e) (ap (λ p. p.1) e)
       | inr q ↦
-          let e = sym read ∙ get_or_from_slice_get (map f bonds) c (b, a) (0, 0) q in
+          let e = sym read ∙ get_or_from_slice_get (ends_among bonds) c (b, a) (0, 0) q in
           (none c d within').1 (ap (λ p. p.0) e) (ap (λ p. p.1) e)
     ]

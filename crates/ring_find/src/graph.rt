@@ -1,7 +1,7 @@
 //! The graph of a sketch: the ends of its bonds, and for each atom the steps to its neighbours.
-ghost use Rattle.std.specs.Prelude.{◌≡◌, ◌<◌, ◌+◌, ◌*◌, length, map, slice_index, slice_set, IfOk};
+ghost use Rattle.std.specs.Prelude.{◌≡◌, ◌<◌, ◌+◌, ◌*◌, length, slice_index, slice_set, IfOk};
 ghost use Rattle.chem_core.specs.Graph.{IsSimpleGraph};
-ghost use Rattle.chem_core.specs.Sound.{IsSound, sketch_ends};
+ghost use Rattle.chem_core.specs.Sound.{IsSound, ends_among, sketch_ends};
 ghost use Rattle.ring_find.specs.Network.{AreFilled, AreStepsFrom};
 
 use chem_core::{Sketch, SketchBond};
@@ -87,7 +87,7 @@ impl Graph {
 }
 
 fn ends_of(alloc: Global, bonds: &[SketchBond]) -> Result<Vec<(u16, u16)>, AllocError>
-    ensures { IfOk result (λ ends. ends.items ≡ map (λ b. (b.a, b.b)) bonds.now) }
+    ensures { IfOk result (λ ends. ends.items ≡ ends_among bonds.now) }
 {
     bonds.iter().map(|bond| (bond.a, bond.b)).collect(alloc)
 }

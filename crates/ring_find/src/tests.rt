@@ -1,8 +1,8 @@
 //! Worked examples, by hand.
-ghost use Rattle.std.specs.Prelude.{◌≤◌, ℕ, map, IfOk, OnOk};
+ghost use Rattle.std.specs.Prelude.{◌≤◌, ℕ, IfOk, OnOk};
 ghost use Rattle.std.specs.Bool.{OnFalse};
 ghost use Rattle.chem_core.specs.Graph.{JoinsAt, IsSimpleGraph};
-ghost use Rattle.chem_core.specs.Sound.{IsSound};
+ghost use Rattle.chem_core.specs.Sound.{IsSound, ends_among};
 
 use crate::rings;
 use chem_core::{Fill, Sketch, SketchAtom, SketchBond, SketchKind};
@@ -163,8 +163,8 @@ fn sketch_of(alloc: Global, atoms: usize, bonds: &[(u16, u16)]) -> Result<Sketch
 }
 
 fn add(bonds: &mut Vec<SketchBond>, atoms: usize, a: u16, b: u16) -> Result<(), AllocError>
-    requires { IsSimpleGraph atoms (map (λ b. (b.a, b.b)) bonds.old.items) }
-    ensures { OnOk result (IsSimpleGraph atoms (map (λ b. (b.a, b.b)) bonds.new.items)) }
+    requires { IsSimpleGraph atoms (ends_among bonds.old.items) }
+    ensures { OnOk result (IsSimpleGraph atoms (ends_among bonds.new.items)) }
 {
     if usize::from(a) >= atoms
         || usize::from(b) >= atoms
@@ -183,7 +183,7 @@ fn add(bonds: &mut Vec<SketchBond>, atoms: usize, a: u16, b: u16) -> Result<(), 
 }
 
 fn is_joined(bonds: &[SketchBond], a: u16, b: u16) -> bool
-    ensures { OnFalse result ((c : ℕ) → JoinsAt (map (λ b. (b.a, b.b)) bonds.now) c a b → ⊥) }
+    ensures { OnFalse result ((c : ℕ) → JoinsAt (ends_among bonds.now) c a b → ⊥) }
 {
     for bond in bonds {
         if (bond.a == a && bond.b == b) || (bond.a == b && bond.b == a) {

@@ -13,9 +13,8 @@ use Rattle.chem_core.specs.declared.sketch.SketchBond.{SketchBond}
 use Rattle.chem_core.specs.declared.sketch.Fill.{Fill}
 use Rattle.chem_core.specs.declared.sketch.Fill.TheVariants.{Given, Organic, Table, Fixed}
 use Rattle.chem_core.specs.Drawing.{Drawing}
-use Rattle.chem_core.specs.Sound.{IsSound, IsSketchAtom, IsFill}
+use Rattle.chem_core.specs.Sound.{IsSound, IsSketchAtom, IsFill, ends_among}
 use Rattle.valence.specs.Small.{is_small, is_small_atom, is_small_charge, is_small_fill, are_small_bonds, joins_same}
-use Rattle.valence.proofs.Sums.{ends_of}
 use Rattle.valence.proofs.Staying.{Apart, once-from_apart}
 
 charge-low : (z : ℤ) → is_small_charge z ≡ true → neg_ℤ (pos 15) ≤ℤ z
@@ -88,7 +87,7 @@ small-sound s h =
         graph = record {
           few_atoms = leb-true (length s.atoms) 999 p.0;
           few_bonds = omega (arith, long, few);
-          few_neighbours = λ a. omega (arith, long, few, count_by-le-length (λ (e : ℕ × ℕ). eqb e.0 a || eqb e.1 a) (ends_of s.bonds));
+          few_neighbours = λ a. omega (arith, long, few, count_by-le-length (λ (e : ℕ × ℕ). eqb e.0 a || eqb e.1 a) (ends_among s.bonds));
           in_range = All-map (λ (e : ℕ × ℕ). (e.0 < length s.atoms) × (e.1 < length s.atoms)) (λ (b : SketchBond). (b.a, b.b)) s.bonds (λ k d l. let b = bonds.0 k d l in (b.0, b.1));
           distinct = All-map (λ (e : ℕ × ℕ). e.0 ≢ e.1) (λ (b : SketchBond). (b.a, b.b)) s.bonds (λ k d l. (bonds.0 k d l).2);
           once = once-from_apart s.bonds bonds.1;

@@ -10,14 +10,14 @@ use Rattle.std.proofs.lemmas.List.{length-map, get_or-map, length-take-le, map-a
 use Rattle.std.proofs.lemmas.List.FromFn.{length-enumerate_from, get_or-enumerate_from}
 use Rattle.std.proofs.lemmas.List.Elements.{All-head, All-tail, filter-append}
 use Rattle.std.proofs.lemmas.List.Kept.{AllPairs-filter, AllPairs-from_increasing}
+use Rattle.std.proofs.lemmas.List.Folds.{list_any_at}
 use Rattle.std.proofs.lemmas.List.Sums.{sum_by-cons}
 use Rattle.chem_core.specs.declared.sketch.SketchAtom.{SketchAtom}
 use Rattle.chem_core.specs.declared.sketch.SketchBond.{SketchBond}
 use Rattle.chem_core.specs.declared.sketch.Fill.TheVariants.{Given}
-use Rattle.chem_core.specs.Drawing.{Drawing}
+use Rattle.chem_core.specs.Drawing.{Drawing, ends_at}
 use Rattle.chem_core.specs.Graph.{degree}
 use Rattle.chem_core.specs.Sound.{IsSound, sketch_ends}
-use Rattle.valence.specs.Valence.{ends_at}
 use Rattle.valence.specs.Suppressed.{is_plain_kind, is_bare_hydrogen, atom_is, is_heavy, leads_to_heavy, is_suppressed, new_place, brings, stays, staying_atoms, staying_bonds, renumbered, gained, suppressed}
 use Rattle.valence.proofs.Enumerated.{enumerate_from-append}
 use Rattle.valence.proofs.Sums.{degree_is, bond-in_graph}
@@ -358,6 +358,15 @@ suppressed-none t h =
     same_drawing (suppressed t).atoms t.atoms (suppressed t).bonds t.bonds
     (ap (λ (f : ℕ → Bool). staying_atoms f (gained t) t.atoms) g ∙ ap (λ (f : ℕ → ℕ). staying_atoms none f t.atoms) n ∙ atoms-none 0 t.atoms)
     (ap (λ (f : ℕ → Bool). staying_bonds f (new_place f) t.bonds) g ∙ ap (λ (f : ℕ → ℕ). staying_bonds none f t.bonds) p ∙ bonds-none t.bonds)
+
+-- where no atom is hydrogen without isotope and charge, none goes
+pub suppressed-no_hydrogen : (s : Drawing) → list_any is_bare_hydrogen s.atoms ≡ false → suppressed s ≡ s
+suppressed-no_hydrogen s without = suppressed-none s (λ a.
+    let bare : atom_is is_bare_hydrogen s.atoms a ≡ false = elim (cases_lt a (length s.atoms)) [
+      | inl h ↦ atom_is-at is_bare_hydrogen s.atoms a some_atom h ∙ false_from_ne_true (is_bare_hydrogen (get_or s.atoms a some_atom)) (λ yes. false≢true (sym without ∙ list_any_at is_bare_hydrogen s.atoms a some_atom h yes))
+      | inr h ↦ ap (λ o. unwrap_or (option_map is_bare_hydrogen o) false) (slice_get_past s.atoms a h)
+    ] in
+    ap (λ t. t && (eqb (degree (sketch_ends s) a) 1 && list_any (leads_to_heavy s.atoms a) s.bonds)) bare)
 
 pub twice-is-once : (s : Drawing) → IsSound s → suppressed (suppressed s) ≡ suppressed s
 twice-is-once s sound = suppressed-none (suppressed s) (none-left s sound)

@@ -1,5 +1,5 @@
 -- The places of atoms that stay, once those that go are away.
-use Rattle.std.proofs.Common.{ℕ, zero, suc, ◌+◌, ◌-◌, ◌<◌, ◌≤◌, ◌≡◌, Bool, false, not, cond, List, length, get_or, set, ap, ◌∙◌, inl, inr, arith, ◌≢◌, below_more}
+use Rattle.std.proofs.Common.{ℕ, zero, suc, ◌+◌, ◌-◌, ◌<◌, ◌≤◌, ◌≡◌, Bool, false, not, cond, List, length, get_or, set, refl, ap, sym, subst, ◌∙◌, inl, inr, arith, ◌≢◌, below_more}
 use Rattle.std.specs.List.{range_with_len}
 use Rattle.std.proofs.lemmas.Bool.{cases_order}
 use Rattle.std.proofs.lemmas.List.{map-id, get_or-set_same, get_or-set_other}
@@ -21,6 +21,15 @@ new_place-up goes a zero = let e : a + 0 ≡ a = omega arith in rw e (omega arit
 new_place-up goes a (suc k) =
     let e : a + suc k ≡ (a + k) + 1 = omega arith in
     rw e (omega (arith, new_place-up goes a k, new_place-more goes (a + k)))
+
+-- only what goes before a place moves it
+pub new_place-agree : (goes other : ℕ → Bool) (a : ℕ) → ((k : ℕ) → k < a → goes k ≡ other k) → new_place goes a ≡ new_place other a
+new_place-agree goes other zero same = refl
+new_place-agree goes other (suc a) same =
+    let z : suc a ≡ a + 1 = omega arith in
+    let before = new_place-agree goes other a (λ k h. same k (omega arith)) in
+    let here : cond {A = ℕ} (not (goes a)) 1 0 ≡ cond (not (other a)) 1 0 = ap (λ t. cond (not t) 1 0) (same a (omega arith)) in
+    subst (λ k. new_place goes k ≡ new_place other k) (sym z) (omega (arith, new_place-more goes a, new_place-more other a, before, here))
 
 -- one more place is written
 pub places-more : (goes : ℕ → Bool) (xs : List ℕ) (i v : ℕ) → i < length xs → v ≡ new_place goes i → ((a : ℕ) → a < i → get_or xs a 0 ≡ new_place goes a) → (a : ℕ) → a < i + 1 → get_or (set xs i v) a 0 ≡ new_place goes a

@@ -1,9 +1,9 @@
 -- That what stays of a sound sketch is a sound sketch.
-use Rattle.std.proofs.Common.{ℕ, zero, suc, ◌+◌, ◌<◌, ◌≤◌, ◌≡◌, ◌≢◌, ◌⊎◌, Bool, true, false, not, cond, eqb, List, [], ◌∷◌, length, map, filter, get_or, count_by, sum_by, All, Some, refl, ap, sym, subst, ◌∙◌, inl, inr, arith}
+use Rattle.std.proofs.Common.{ℕ, zero, suc, ◌+◌, ◌<◌, ◌≤◌, ◌≡◌, ◌≢◌, ◌⊎◌, Bool, true, false, not, cond, eqb, List, [], ◌∷◌, length, map, filter, take, get_or, count_by, sum_by, All, Some, refl, ap, sym, subst, ◌∙◌, inl, inr, arith}
 use Rattle.std.specs.List.{AllPairs, enumerate_from, range_with_len, slice_get}
 use Rattle.std.proofs.lemmas.Bool.{cases_Bool, cases_eq, cases_order, and_parts, not-true, or_cases, or_left, or_right, eqb-true, eq-eqb, false≢true}
 use Rattle.std.proofs.lemmas.Option.{same_Some, slice_get_within, slice_get-get_or}
-use Rattle.std.proofs.lemmas.List.{length-map, get_or-map}
+use Rattle.std.proofs.lemmas.List.{length-map, get_or-map, get_or-take}
 use Rattle.std.proofs.lemmas.List.FromFn.{length-enumerate_from, get_or-enumerate_from}
 use Rattle.std.proofs.lemmas.List.Elements.{All-filter, All-map, All-tail, All-head, filter_passes}
 use Rattle.std.proofs.lemmas.List.Kept.{AllPairs-filter}
@@ -12,14 +12,13 @@ use Rattle.std.proofs.Math.Path.{fun_ext}
 use Rattle.chem_core.specs.declared.sketch.SketchAtom.{SketchAtom}
 use Rattle.chem_core.specs.declared.sketch.SketchBond.{SketchBond}
 use Rattle.chem_core.specs.declared.sketch.SketchKind.TheVariants.{Unwritten}
-use Rattle.chem_core.specs.Drawing.{Drawing}
+use Rattle.chem_core.specs.Drawing.{Drawing, ends_at}
 use Rattle.chem_core.specs.Graph.{JoinsAt, IsSimpleGraph}
-use Rattle.chem_core.specs.Sound.{IsSound, IsSketchAtom, sketch_ends}
-use Rattle.valence.specs.Valence.{ends_at}
+use Rattle.chem_core.specs.Sound.{IsSound, IsSketchAtom, ends_among, sketch_ends}
 use Rattle.valence.specs.Suppressed.{is_suppressed, new_place, brings, stays, staying_atoms, staying_bonds, renumbered, gained, suppressed}
-use Rattle.valence.proofs.Sums.{ends_of, degree_is, brought-le, bond-in_graph}
+use Rattle.valence.proofs.Sums.{degree_is, brought-le, bond-in_graph}
 use Rattle.valence.proofs.Hydrogens.{with_hydrogens}
-use Rattle.valence.proofs.Renumbering.{new_place-le, new_place-lt, new_place-one}
+use Rattle.valence.proofs.Renumbering.{new_place-le, new_place-agree, new_place-lt, new_place-one}
 
 -- ---- the atoms that stay
 
@@ -63,7 +62,7 @@ stays-parts goes b h =
 all-stay : (goes : ℕ → Bool) (P : SketchBond → Type 0) (bonds : List SketchBond) → All P bonds → (k : ℕ) (d : SketchBond) → k < length (filter (stays goes) bonds) → Stays goes (get_or (filter (stays goes) bonds) k d) × P (get_or (filter (stays goes) bonds) k d)
 all-stay goes P bonds all k d h = (stays-parts goes (get_or (filter (stays goes) bonds) k d) (filter_passes (stays goes) bonds k d h), All-filter (stays goes) P bonds all k d h)
 
-bonds-stay : (goes : ℕ → Bool) (place : ℕ → ℕ) (Q : ℕ × ℕ → Type 0) (P : SketchBond → Type 0) (bonds : List SketchBond) → All P bonds → ((b : SketchBond) → Stays goes b → P b → Q (place b.a, place b.b)) → All Q (ends_of (staying_bonds goes place bonds))
+bonds-stay : (goes : ℕ → Bool) (place : ℕ → ℕ) (Q : ℕ × ℕ → Type 0) (P : SketchBond → Type 0) (bonds : List SketchBond) → All P bonds → ((b : SketchBond) → Stays goes b → P b → Q (place b.a, place b.b)) → All Q (ends_among (staying_bonds goes place bonds))
 bonds-stay goes place Q P bonds all step =
     All-map Q (λ (b : SketchBond). (b.a, b.b)) (staying_bonds goes place bonds)
     (All-map (λ (b : SketchBond). Q (b.a, b.b)) (renumbered place) (filter (stays goes) bonds)
@@ -114,30 +113,30 @@ SameEnds b c = ((b.a ≡ c.a) × (b.b ≡ c.b)) ⊎ ((b.a ≡ c.b) × (b.b ≡ c
 abbrev pub Apart : SketchBond → SketchBond → Type 0
 Apart b c = SameEnds b c → ⊥
 
-ends-read : (bonds : List SketchBond) (i : ℕ) (d : SketchBond) → i < length bonds → slice_get (ends_of bonds) i ≡ Some ((get_or bonds i d).a, (get_or bonds i d).b)
+ends-read : (bonds : List SketchBond) (i : ℕ) (d : SketchBond) → i < length bonds → slice_get (ends_among bonds) i ≡ Some ((get_or bonds i d).a, (get_or bonds i d).b)
 ends-read bonds i d within =
-    let within' : i < length (ends_of bonds) = omega (arith, length-map {B = ℕ × ℕ} bonds (λ b. (b.a, b.b))) in
-    slice_get-get_or (ends_of bonds) i (0, 0) within' ∙ ap Some (get_or-map (λ b. (b.a, b.b)) bonds i d (0, 0) within)
+    let within' : i < length (ends_among bonds) = omega (arith, length-map {B = ℕ × ℕ} bonds (λ b. (b.a, b.b))) in
+    slice_get-get_or (ends_among bonds) i (0, 0) within' ∙ ap Some (get_or-map (λ b. (b.a, b.b)) bonds i d (0, 0) within)
 
 pair_is : (a b x y : ℕ) → a ≡ x → b ≡ y → ◌≡◌ {A = ℕ × ℕ} (a, b) (x, y)
 pair_is a b x y p q = ap (λ k. (k, b)) p ∙ ap (λ k. (x, k)) q
 
-pub apart-from_once : (bonds : List SketchBond) (n : ℕ) → IsSimpleGraph n (ends_of bonds) → AllPairs Apart bonds
+pub apart-from_once : (bonds : List SketchBond) (n : ℕ) → IsSimpleGraph n (ends_among bonds) → AllPairs Apart bonds
 apart-from_once bonds n graph i j d lt h same =
     let b : SketchBond = get_or bonds i d in
     let c : SketchBond = get_or bonds j d in
     let at = ends-read bonds i d (omega arith) in
     let at' = ends-read bonds j d h in
-    let joins : JoinsAt (ends_of bonds) j b.a b.b = elim same [
+    let joins : JoinsAt (ends_among bonds) j b.a b.b = elim same [
       | inl q ↦ inl (at' ∙ ap Some (pair_is c.a c.b b.a b.b (sym q.0) (sym q.1)))
       | inr q ↦ inr (at' ∙ ap Some (pair_is c.a c.b b.b b.a (sym q.1) (sym q.0)))
     ] in
     let e : i ≡ j = graph.once i j b.a b.b (inl at) joins in
     absurd (omega arith)
 
-joined-read : (bonds : List SketchBond) (i x y : ℕ) (d : SketchBond) → JoinsAt (ends_of bonds) i x y → (i < length bonds) × ((((get_or bonds i d).a ≡ x) × ((get_or bonds i d).b ≡ y)) ⊎ (((get_or bonds i d).a ≡ y) × ((get_or bonds i d).b ≡ x)))
+joined-read : (bonds : List SketchBond) (i x y : ℕ) (d : SketchBond) → JoinsAt (ends_among bonds) i x y → (i < length bonds) × ((((get_or bonds i d).a ≡ x) × ((get_or bonds i d).b ≡ y)) ⊎ (((get_or bonds i d).a ≡ y) × ((get_or bonds i d).b ≡ x)))
 joined-read bonds i x y d joins =
-    let low : i < length (ends_of bonds) = elim joins [ inl r ↦ slice_get_within _ i _ r | inr r ↦ slice_get_within _ i _ r ] in
+    let low : i < length (ends_among bonds) = elim joins [ inl r ↦ slice_get_within _ i _ r | inr r ↦ slice_get_within _ i _ r ] in
     let within : i < length bonds = omega (arith, length-map {B = ℕ × ℕ} bonds (λ b. (b.a, b.b))) in
     let at = ends-read bonds i d within in (
       within,
@@ -153,7 +152,7 @@ same-ends b c x y p q = elim p [
   | inr r ↦ elim q [ inl s ↦ inr (r.0 ∙ sym s.1, r.1 ∙ sym s.0) | inr s ↦ inl (r.0 ∙ sym s.0, r.1 ∙ sym s.1) ]
 ]
 
-pub once-from_apart : (bonds : List SketchBond) → AllPairs Apart bonds → (b c x y : ℕ) → JoinsAt (ends_of bonds) b x y → JoinsAt (ends_of bonds) c x y → b ≡ c
+pub once-from_apart : (bonds : List SketchBond) → AllPairs Apart bonds → (b c x y : ℕ) → JoinsAt (ends_among bonds) b x y → JoinsAt (ends_among bonds) c x y → b ≡ c
 once-from_apart bonds apart b c x y p q =
     let d : SketchBond = record { a = 0; b = 0; kind = Unwritten } in
     let f = joined-read bonds b x y d p in
@@ -183,7 +182,7 @@ apart-stay goes bonds apart i j d lt h =
 
 -- ---- the whole graph
 
-pub graph-stays : (goes : ℕ → Bool) (bonds : List SketchBond) (n : ℕ) → IsSimpleGraph n (ends_of bonds) → IsSimpleGraph (new_place goes n) (ends_of (staying_bonds goes (new_place goes) bonds))
+pub graph-stays : (goes : ℕ → Bool) (bonds : List SketchBond) (n : ℕ) → IsSimpleGraph n (ends_among bonds) → IsSimpleGraph (new_place goes n) (ends_among (staying_bonds goes (new_place goes) bonds))
 graph-stays goes bonds n graph =
     let place : ℕ → ℕ = new_place goes in
     let new : List SketchBond = staying_bonds goes place bonds in
@@ -233,6 +232,10 @@ places-agree goes place other bonds n range same =
 abbrev pub gone : List Bool → ℕ → Bool
 gone goes k = get_or goes k false
 
+-- the flags of the first atoms give the places of these
+pub new_place-front : (goes : List Bool) (n a : ℕ) → a ≤ n → new_place (gone (take n goes)) a ≡ new_place (gone goes) a
+new_place-front goes n a h = new_place-agree (gone (take n goes)) (gone goes) a (λ k l. get_or-take n goes k false (omega arith))
+
 abbrev pub number_at : List ℕ → ℕ → ℕ
 number_at xs k = get_or xs k 0
 
@@ -248,10 +251,10 @@ bonds-in_range s sound k d h =
 pub few_at : (s : Drawing) → IsSound s → (a : ℕ) → count_by (ends_at a) s.bonds ≤ 12
 few_at s sound a = omega (arith, degree_is s.bonds a, sound.graph.few_neighbours a)
 
-pub suppressed-is : (s : Drawing) (goes : List Bool) (gains places : List ℕ) (atoms : List SketchAtom) (bonds : List SketchBond) → IsSound s → ((a : ℕ) → get_or goes a false ≡ is_suppressed s a) → ((a : ℕ) → get_or gains a 0 ≡ count_by (brings (gone goes) a) s.bonds) → ((a : ℕ) → a < 999 → get_or places a 0 ≡ new_place (gone goes) a) → atoms ≡ staying_atoms (gone goes) (number_at gains) s.atoms → bonds ≡ staying_bonds (gone goes) (number_at places) s.bonds → ◌≡◌ {A = Drawing} (record { atoms = atoms; bonds = bonds }) (suppressed s)
+pub suppressed-is : (s : Drawing) (goes : List Bool) (gains places : List ℕ) (atoms : List SketchAtom) (bonds : List SketchBond) → IsSound s → ((a : ℕ) → get_or goes a false ≡ is_suppressed s a) → ((a : ℕ) → get_or gains a 0 ≡ count_by (brings (gone goes) a) s.bonds) → ((a : ℕ) → a < length s.atoms → get_or places a 0 ≡ new_place (gone goes) a) → atoms ≡ staying_atoms (gone goes) (number_at gains) s.atoms → bonds ≡ staying_bonds (gone goes) (number_at places) s.bonds → ◌≡◌ {A = Drawing} (record { atoms = atoms; bonds = bonds }) (suppressed s)
 suppressed-is s goes gains places atoms bonds sound going gaining placing es fs =
     let g : gone goes ≡ is_suppressed s = fun_ext going in
     let n : number_at gains ≡ gained s = fun_ext (λ (a : ℕ). gaining a ∙ ap (λ (f : ℕ → Bool). count_by (brings f a) s.bonds) g) in
     same_drawing atoms (suppressed s).atoms bonds (suppressed s).bonds
     (es ∙ ap (λ (f : ℕ → Bool). staying_atoms f (number_at gains) s.atoms) g ∙ ap (λ (f : ℕ → ℕ). staying_atoms (is_suppressed s) f s.atoms) n)
-    (fs ∙ places-agree (gone goes) (number_at places) (new_place (gone goes)) s.bonds 999 (bonds-in_range s sound) placing ∙ ap (λ (f : ℕ → Bool). staying_bonds f (new_place f) s.bonds) g)
+    (fs ∙ places-agree (gone goes) (number_at places) (new_place (gone goes)) s.bonds (length s.atoms) (λ k d h. let at = bond-in_graph s.bonds (length s.atoms) k d sound.graph h in (at.0, at.1)) placing ∙ ap (λ (f : ℕ → Bool). staying_bonds f (new_place f) s.bonds) g)

@@ -1,5 +1,5 @@
 -- What is summed up at the ends of bonds.
-use Rattle.std.proofs.Common.{ℕ, ◌+◌, ◌*◌, ◌<◌, ◌≤◌, ◌≡◌, ◌≢◌, Bool, true, false, cond, eqb, ◌||◌, ◌&&◌, count_by, List, [], ◌∷◌, length, map, take, get_or, set, replicate, sum_by, refl, ap, sym, subst, ◌∙◌, inl, inr, arith, Fits, w8}
+use Rattle.std.proofs.Common.{ℕ, ◌+◌, ◌*◌, ◌<◌, ◌≤◌, ◌≡◌, ◌≢◌, Bool, true, false, cond, eqb, ◌||◌, ◌&&◌, count_by, List, [], ◌∷◌, length, take, get_or, set, replicate, sum_by, refl, ap, sym, subst, ◌∙◌, inl, inr, arith, Fits, w8}
 use Rattle.std.proofs.lemmas.Bool.{cases_eq, cases_lt, eq-eqb, ne_eqb, eqb-true}
 use Rattle.std.proofs.lemmas.List.{get_or-set_same, get_or-set_other, length-set, get_or-replicate, get_or_past, length-replicate, length-map, get_or-map}
 use Rattle.std.proofs.lemmas.List.Sums.{sum_by-cons, sum_by_more, sum_by_more_le, sum_by-le-sum_by}
@@ -7,13 +7,11 @@ use mir.Val.{bool_byte}
 use Rattle.chem_core.specs.declared.sketch.SketchBond.{SketchBond}
 use Rattle.chem_core.specs.declared.sketch.SketchKind.{SketchKind}
 use Rattle.chem_core.specs.declared.sketch.SketchKind.TheVariants.{Unwritten, Single, Double, Triple, Quad, Colon}
-use Rattle.chem_core.specs.Graph.{Ends, degree, IsSimpleGraph}
-use Rattle.valence.specs.Valence.{adds, ends_at, order_of}
+use Rattle.chem_core.specs.Graph.{degree, IsSimpleGraph}
+use Rattle.chem_core.specs.Sound.{ends_among}
+use Rattle.chem_core.specs.Drawing.{ends_at, order_of}
+use Rattle.valence.specs.Valence.{adds}
 use Rattle.valence.specs.Suppressed.{brings}
-
--- the ends of bonds
-abbrev pub ends_of : List SketchBond → Ends
-ends_of bonds = map (λ b. (b.a, b.b)) bonds
 
 pub zeros : (n a : ℕ) → get_or {A = ℕ} (replicate n 0) a 0 ≡ 0
 zeros n a = elim (cases_lt a n) [
@@ -134,11 +132,11 @@ brings-le false false g h = omega arith
 pub brought-le : (goes : ℕ → Bool) (a : ℕ) (bonds : List SketchBond) → count_by (brings goes a) bonds ≤ count_by (ends_at a) bonds
 brought-le goes a bonds = sum_by-le-sum_by _ _ bonds (λ b. brings-le (eqb b.a a) (eqb b.b a) (goes b.b) (goes b.a))
 
-pub degree_is : (bonds : List SketchBond) (a : ℕ) → degree (ends_of bonds) a ≡ count_by (ends_at a) bonds
+pub degree_is : (bonds : List SketchBond) (a : ℕ) → degree (ends_among bonds) a ≡ count_by (ends_at a) bonds
 degree_is [] a = refl
 degree_is (b ∷ bs) a =
     let f : ℕ × ℕ → ℕ = λ e. cond (eqb e.0 a || eqb e.1 a) 1 0 in
-    sum_by-cons f (b.a, b.b) (ends_of bs) ∙ ap (λ k. f (b.a, b.b) + k) (degree_is bs a) ∙ sym (sum_by-cons (λ b. cond (ends_at a b) 1 0) b bs)
+    sum_by-cons f (b.a, b.b) (ends_among bs) ∙ ap (λ k. f (b.a, b.b) + k) (degree_is bs a) ∙ sym (sum_by-cons (λ b. cond (ends_at a b) 1 0) b bs)
 
 order_of-le : (k : SketchKind) → order_of k ≤ 4
 order_of-le Unwritten = omega arith
@@ -152,22 +150,22 @@ adds-le : (t : Bool) (k : SketchKind) → cond t (order_of k) 0 ≤ 4 * cond t 1
 adds-le true k = omega (arith, order_of-le k)
 adds-le false k = omega arith
 
-pub bond_sum-le : (bonds : List SketchBond) (a : ℕ) → sum_by (adds a) bonds ≤ 4 * degree (ends_of bonds) a
+pub bond_sum-le : (bonds : List SketchBond) (a : ℕ) → sum_by (adds a) bonds ≤ 4 * degree (ends_among bonds) a
 bond_sum-le [] a = omega arith
 bond_sum-le (b ∷ bs) a =
     let one : cond (eqb b.a a || eqb b.b a) (order_of b.kind) 0 ≤ 4 * cond (eqb b.a a || eqb b.b a) 1 0 = adds-le (eqb b.a a || eqb b.b a) b.kind in
     let f : ℕ × ℕ → ℕ = λ e. cond (eqb e.0 a || eqb e.1 a) 1 0 in
     let left = sum_by-cons (adds a) b bs in
-    let right = sum_by-cons f (b.a, b.b) (ends_of bs) in
+    let right = sum_by-cons f (b.a, b.b) (ends_among bs) in
     omega (arith, bond_sum-le bs a)
 
-pub few_bonds_at : (bonds : List SketchBond) (n : ℕ) → IsSimpleGraph n (ends_of bonds) → (a : ℕ) → sum_by (adds a) bonds ≤ 48
+pub few_bonds_at : (bonds : List SketchBond) (n : ℕ) → IsSimpleGraph n (ends_among bonds) → (a : ℕ) → sum_by (adds a) bonds ≤ 48
 few_bonds_at bonds n graph a = omega (arith, bond_sum-le bonds a, graph.few_neighbours a)
 
 -- a bond's ends are two atoms of the graph
-pub bond-in_graph : (bonds : List SketchBond) (n i : ℕ) (d : SketchBond) → IsSimpleGraph n (ends_of bonds) → i < length bonds → ((get_or bonds i d).a < n) × ((get_or bonds i d).b < n) × ((get_or bonds i d).a ≢ (get_or bonds i d).b)
+pub bond-in_graph : (bonds : List SketchBond) (n i : ℕ) (d : SketchBond) → IsSimpleGraph n (ends_among bonds) → i < length bonds → ((get_or bonds i d).a < n) × ((get_or bonds i d).b < n) × ((get_or bonds i d).a ≢ (get_or bonds i d).b)
 bond-in_graph bonds n i d graph within =
-    let within' : i < length (ends_of bonds) = omega (arith, length-map {B = ℕ × ℕ} bonds (λ b. (b.a, b.b))) in
+    let within' : i < length (ends_among bonds) = omega (arith, length-map {B = ℕ × ℕ} bonds (λ b. (b.a, b.b))) in
     let read = get_or-map {Y = ℕ × ℕ} (λ b. (b.a, b.b)) bonds i d (0, 0) within in
     let range = graph.in_range i (0, 0) within' in
     let apart = graph.distinct i (0, 0) within' in

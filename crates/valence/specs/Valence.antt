@@ -1,9 +1,7 @@
 -- The normal valences, and what the bonds of an atom sum to.
-use Rattle.std.specs.Prelude.{ℕ, zero, suc, Bool, ◌==◌, ◌||◌, List, [], ◌∷◌, sum_by, if◌then◌else◌, ℤ, pos, negsuc}
-use Rattle.chem_core.specs.declared.sketch.SketchKind.{SketchKind}
-use Rattle.chem_core.specs.declared.sketch.SketchKind.TheVariants.{Unwritten, Single, Double, Triple, Quad, Colon}
+use Rattle.std.specs.Prelude.{ℕ, zero, suc, ◌==◌, ◌||◌, List, [], ◌∷◌, sum_by, if◌then◌else◌, ℤ, pos, negsuc}
 use Rattle.chem_core.specs.declared.sketch.SketchBond.{SketchBond}
-use Rattle.chem_core.specs.Drawing.{Drawing}
+use Rattle.chem_core.specs.Drawing.{Drawing, ends_at, order_of}
 
 -- the valences of the organic subset, ascending (OpenSMILES 1.0, section 3.1.5); none for every other element
 abbrev pub organic_valences : ℕ → List ℕ
@@ -40,20 +38,7 @@ table_valences number (pos (suc zero)) = cation_valences number
 table_valences number (negsuc zero) = anion_valences number
 table_valences number _ = []
 
--- what a bond adds at each of its ends; a bond without a symbol and `:` add 1
-abbrev pub order_of : SketchKind → ℕ
-order_of Unwritten = 1
-order_of Single = 1
-order_of Double = 2
-order_of Triple = 3
-order_of Quad = 4
-order_of Colon = 1
-
--- the bond ends at the atom
-abbrev pub ends_at : ℕ → SketchBond → Bool
-ends_at a b = (b.a == a) || (b.b == a)
-
--- what a bond adds at an atom
+-- what a bond adds at an atom: its order, if it ends there
 abbrev pub adds : ℕ → SketchBond → ℕ
 adds a b = if ends_at a b then order_of b.kind else 0
 

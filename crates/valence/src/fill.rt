@@ -5,7 +5,7 @@ ghost use Rattle.chem_core.specs.Sound.{IsSound, IsSketchAtom};
 ghost use Rattle.valence.specs.Valence.{adds};
 ghost use Rattle.valence.specs.Filled.{missing, missing_aromatic, hydrogens_of, filled_atom, filled};
 
-use crate::table::{charged, order, organic};
+use crate::table::{charged, organic};
 use chem_core::{Fill, Sketch, SketchAtom, SketchBond};
 
 /// Counts the hydrogens that are not written: by the valences of the organic subset (OpenSMILES 1.0, section 3.1.5, and
@@ -31,7 +31,7 @@ fn bond_sums(bonds: &[SketchBond]) -> [u8; 999]
 {
     let mut sums = [0; 999];
     for bond in bonds {
-        let order = order(bond.kind);
+        let order = bond.kind.order();
         sums[usize::from(bond.a)] += order;
         sums[usize::from(bond.b)] += order;
     }

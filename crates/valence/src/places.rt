@@ -1,10 +1,23 @@
 //! Which atoms go, and where the others move: one list for each fact, by the atom's place.
 ghost use Rattle.std.specs.Prelude.{◌≡◌, ◌≢◌, ◌<◌, ◌≤◌, ◌==◌, ◌&&◌, not, ℕ, length, count_by, slice_index, slice_index_or, false, All};
 ghost use Rattle.std.specs.List.{list_any};
-ghost use Rattle.valence.specs.Valence.{ends_at};
+ghost use Rattle.chem_core.specs.Drawing.{ends_at};
 ghost use Rattle.valence.specs.Suppressed.{is_plain_kind, is_bare_hydrogen, leads_to_heavy, is_suppressed, new_place, brings};
 
 use chem_core::{SketchAtom, SketchBond, SketchKind};
+
+/// Whether some atom is hydrogen without isotope and charge: no other becomes a count.
+pub(crate) fn has_bare_hydrogen(atoms: &[SketchAtom]) -> bool
+    ensures { result ≡ list_any is_bare_hydrogen atoms.now }
+{
+    atoms.iter().any(is_bare)
+}
+
+fn is_bare(atom: &SketchAtom) -> bool
+    ensures { result ≡ is_bare_hydrogen atom.now }
+{
+    atom.number == 1 && atom.isotope == 0 && atom.charge == 0
+}
 
 /// Whether each atom becomes a count at its neighbour.
 pub(crate) fn suppressed_atoms(atoms: &[SketchAtom], bonds: &[SketchBond]) -> [bool; 999]
@@ -28,7 +41,7 @@ pub(crate) fn suppressed_atoms(atoms: &[SketchAtom], bonds: &[SketchBond]) -> [b
 fn is_taken(atom: &SketchAtom, degree: u8, leads: bool) -> bool
     ensures { result ≡ (is_bare_hydrogen atom.now && ((degree == 1) && leads)) }
 {
-    atom.number == 1 && atom.isotope == 0 && atom.charge == 0 && degree == 1 && leads
+    is_bare(atom) && degree == 1 && leads
 }
 
 // How many neighbours each atom has.
@@ -88,8 +101,8 @@ pub(crate) fn gains(bonds: &[SketchBond], goes: &[bool]) -> [u8; 999]
 
 /// For each atom, how many atoms before it stay.
 pub(crate) fn new_places(goes: &[bool]) -> [u16; 999]
-    requires long { length goes.now ≡ 999 }
-    ensures { (a : ℕ) → a < 999 → slice_index result a ≡ new_place (λ k. slice_index_or goes.now k false) a }
+    requires { length goes.now ≤ 999 }
+    ensures { (a : ℕ) → a < length goes.now → slice_index result a ≡ new_place (λ k. slice_index_or goes.now k false) a }
 {
     let mut places = [0; 999];
     let mut kept = 0;

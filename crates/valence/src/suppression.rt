@@ -3,7 +3,7 @@ ghost use Rattle.std.specs.Prelude.{◌≡◌, ◌<◌, ◌≤◌, ℕ, length, 
 ghost use Rattle.chem_core.specs.Sound.{IsSound};
 ghost use Rattle.valence.specs.Suppressed.{staying_atoms, staying_bonds, stays, renumbered, suppressed};
 
-use crate::places::{gains, new_places, suppressed_atoms};
+use crate::places::{gains, has_bare_hydrogen, new_places, suppressed_atoms};
 use chem_core::{Sketch, SketchAtom, SketchBond};
 
 /// Turns plain hydrogen atoms into counts at their neighbours, all at once: those without isotope and charge whose only
@@ -16,9 +16,21 @@ pub fn suppress(sketch: &mut Sketch)
     ensures suppressed { sketch.new ≡ suppressed sketch.old }
     ensures sound { IsSound sketch.new }
 {
+    if has_bare_hydrogen(&sketch.atoms) {
+        take_hydrogens(sketch);
+    }
+}
+
+// The same, whatever the atoms are.
+fn take_hydrogens(sketch: &mut Sketch)
+    requires sound { IsSound sketch.old }
+    requires few { All (λ a. a.hydrogens ≤ 15) sketch.old.atoms }
+    ensures suppressed { sketch.new ≡ suppressed sketch.old }
+    ensures sound { IsSound sketch.new }
+{
     let goes = suppressed_atoms(&sketch.atoms, &sketch.bonds);
     let gains = gains(&sketch.bonds, &goes);
-    let places = new_places(&goes);
+    let places = new_places(&goes[..sketch.atoms.len()]);
     keep_atoms(&mut sketch.atoms, &goes, &gains);
     keep_bonds(&mut sketch.bonds, &goes, &places);
 }

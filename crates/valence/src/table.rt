@@ -1,8 +1,6 @@
 //! The tables of normal valences.
 ghost use Rattle.std.specs.Prelude.{◌≡◌};
-ghost use Rattle.valence.specs.Valence.{organic_valences, table_valences, order_of, cation_valences, anion_valences};
-
-use chem_core::SketchKind;
+ghost use Rattle.valence.specs.Valence.{organic_valences, table_valences, cation_valences, anion_valences};
 
 /// The valences of the organic subset, ascending (OpenSMILES 1.0, section 3.1.5); none for every other element.
 pub(crate) fn organic(number: u8) -> &'static [u8]
@@ -53,17 +51,5 @@ fn anion(number: u8) -> &'static [u8]
         7 | 15 => &[2],
         8 | 16 => &[1],
         _ => &[],
-    }
-}
-
-/// What a bond adds to the sum of the bonds at each of its ends.
-pub(crate) fn order(kind: SketchKind) -> u8
-    ensures { result ≡ order_of kind }
-{
-    match kind {
-        SketchKind::Unwritten | SketchKind::Single | SketchKind::Colon => 1,
-        SketchKind::Double => 2,
-        SketchKind::Triple => 3,
-        SketchKind::Quad => 4,
     }
 }

@@ -43,14 +43,11 @@ pub fn bond_true(expr: &Expr<BondPrim>, mol: &Mol, bond: u16) -> bool
 
 // How many neighbours the atom has.
 fn neighbour_count(mol: &Mol, atom: u16) -> usize
+    requires { atom < length mol.now.atoms }
     ensures count { result ≡ degree (ends_of mol.now) atom }
     ensures few { result ≤ 999 }
 {
-    let bonds = mol.bonds();
-    bonds
-        .iter()
-        .filter(|bond| bond.a == atom || bond.b == atom)
-        .count()
+    mol.neighbours(atom).len()
 }
 
 fn is_hydrogen_at(mol: &Mol, atom: u16) -> bool
@@ -84,7 +81,8 @@ fn hydrogen_count(mol: &Mol, atom: u16) -> usize
 
 // Whether the primitive is true at the atom x, which stands at that place.
 fn atom_prim_true(prim: AtomPrim, mol: &Mol, place: u16, x: Atom) -> bool
-    requires { IsFlatAtom prim }
+    requires flat { IsFlatAtom prim }
+    requires in_range { place < length mol.now.atoms }
     ensures { IsTrue result ↔ AtomPrimTrue NoParts prim mol.now place x }
 {
     match prim {

@@ -113,7 +113,7 @@ extend_near-extend_at-requires t c = (
         (
           c.requires.few,
           (
-            neighbour_in_range c.args.mol.now c.args.from c.neighbours-neighbours.result.now c.loop-atom.atom-index (0, 0) c.requires.valid c.neighbours-neighbours.ensures c.loop-atom-test.true,
+            neighbour_in_range c.args.mol.now c.args.from c.neighbours-neighbours.result.now c.loop-atom.atom-index (0, 0) c.requires.valid c.neighbours-neighbours.ensures.each c.loop-atom-test.true,
             (c.requires.valid, subst (IsPartial (graph_of c.args.graph.now) c.args.mol.now) (sym c.loop-atom.invariant.kept) c.requires.partial),
           ),
         ),
@@ -153,6 +153,6 @@ extend_near-returns-clause-found t c = (
       let all : length g.atoms ≡ length c.args.graph.now.atoms.items = length-map c.args.graph.now.atoms.items term_of in
       let left : length image < length g.atoms = omega (arith, c.args.graph.now.atoms.ok.0) in
       let next = CanComplete-next g m image left w in
-      let among = among_neighbours (ends_of m) c.args.from next.0 pairs c.neighbours-neighbours.ensures (c.requires.near next.0 next.2) in
+      let among = among_neighbours (ends_of m) c.args.from next.0 pairs c.neighbours-neighbours.ensures.each (c.requires.near next.0 next.2) in
       absurd (c.loop-atom.invariant.none among.0 among.1 (omega (arith, among.2)) (subst (λ x. CanComplete g m (image ++ x ∷ [])) (sym among.3) next.2)),
 )

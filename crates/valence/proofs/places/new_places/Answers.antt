@@ -14,8 +14,8 @@ overflow_add-kept c =
     let count = c.loop-place.invariant.count in
     let one = c.from-kept.ensures ∙ byte-is (not (gone c.args.goes.now c.loop-place.place)) in
     let within = c.loop-place-test.true in
-    let long = c.requires.long in
-    omega (arith, le, more, count, one, within, long)
+    let few = c.requires in
+    omega (arith, le, more, count, one, within, few)
 
 pub loop-place-preserved : goal.loop-place-preserved
 loop-place-preserved c =
@@ -23,9 +23,9 @@ loop-place-preserved c =
     let count = c.loop-place.invariant.count in
     let one = c.from-kept.ensures ∙ byte-is (not (gone c.args.goes.now c.loop-place.place)) in
     let within = c.loop-place-test.true in
-    let long = c.requires.long in
+    let few = c.requires in
     record {
       long = rw length-set c.loop-place.invariant.long;
       count = omega (arith, more, count, one);
-      each = places-more (gone c.args.goes.now) c.loop-place.places c.loop-place.place c.loop-place.kept (omega (arith, c.loop-place.invariant.long, within, long)) count c.loop-place.invariant.each;
+      each = places-more (gone c.args.goes.now) c.loop-place.places c.loop-place.place c.loop-place.kept (omega (arith, c.loop-place.invariant.long, within, few)) count c.loop-place.invariant.each;
     }
