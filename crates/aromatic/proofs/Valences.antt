@@ -12,7 +12,7 @@ use Rattle.chem_core.specs.declared.sketch.SketchKind.TheVariants.{Unwritten, Si
 use Rattle.chem_core.specs.Graph.{degree}
 use Rattle.aromatic.specs.Electrons.{ends_at}
 use Rattle.aromatic.specs.Huckel.{bonded, share, order_of}
-use Rattle.aromatic.specs.Route.{ends_among}
+use Rattle.chem_core.specs.Sound.{ends_among}
 
 pub pair_at : (bonds : List SketchBond) (marks : List Bool) (i : ℕ) (d : SketchBond) → i < length bonds → length marks ≡ length bonds → get_or (zip bonds marks) i (d, false) ≡ (get_or bonds i d, get_or marks i false)
 pair_at bonds marks i d within same = get_or-zip bonds marks i (d, false) within (omega arith)

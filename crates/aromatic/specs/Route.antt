@@ -2,7 +2,7 @@
 use Rattle.std.specs.Prelude.{◌≡◌, ◌≢◌, ℕ, ◌+◌, ◌-◌, ◌%◌, ◌<◌, ◌≤◌, List, [], ◌++◌, length, map, sum_by, slice_index, slice_index_or, Contains, AllPairs, Option, None, IsSome, unwrap_or, Bool, true, false, ◌⊎◌, ◌↔◌, not, ◌&&◌, if◌then◌else◌}
 use Rattle.chem_core.specs.declared.sketch.SketchBond.{SketchBond}
 use Rattle.chem_core.specs.Drawing.{Drawing}
-use Rattle.chem_core.specs.Sound.{IsSound, sketch_ends}
+use Rattle.chem_core.specs.Sound.{IsSound, ends_among, sketch_ends}
 use Rattle.chem_core.specs.RingFacts.{AreRingBonds}
 use Rattle.chem_core.specs.Graph.{Ends, JoinsAt}
 use Rattle.aromatic.specs.Electrons.{electrons, row_at}
@@ -48,9 +48,6 @@ abbrev pub CanReach : List (List ℕ) → List (Option ℕ) → ℕ → List ℕ
 CanReach links gives target path = (rest : List ℕ) × IsRoute links gives target (path ++ rest)
 
 -- ---- which atoms are linked
-
-abbrev pub ends_among : List SketchBond → Ends
-ends_among bonds = map (λ b. (b.a, b.b)) bonds
 
 abbrev pub IsCandidateAt : List (Option ℕ) → ℕ → Type 0
 IsCandidateAt gives a = IsSome (slice_index_or gives a None)

@@ -3,10 +3,10 @@ ghost use Rattle.std.specs.Prelude.{◌≡◌, ◌<◌, ◌≤◌, ◌+◌, ◌�
 ghost use Rattle.std.specs.List.{enumerate_from, list_any, zip};
 ghost use Rattle.chem_core.specs.Graph.{IsSimpleGraph, degree};
 ghost use Rattle.chem_core.specs.RingFacts.{AreRingBonds};
-ghost use Rattle.chem_core.specs.Sound.{IsSound, sketch_ends};
+ghost use Rattle.chem_core.specs.Sound.{IsSound, ends_among, sketch_ends};
 ghost use Rattle.aromatic.specs.Electrons.{by_ring_double, ends_at, is_double, row_at};
 ghost use Rattle.aromatic.specs.Huckel.{IsFaultOf, IsPerceived, adds_one, bonded, has_aromatic_double, has_colon, order_of, share};
-ghost use Rattle.aromatic.specs.Route.{AreClosed, CanReach, ends_among, lists_of, AreAromaticAtoms, AreAromaticBonds, AreRows, IsMarkedEnd, refused, valence_by};
+ghost use Rattle.aromatic.specs.Route.{AreClosed, CanReach, lists_of, AreAromaticAtoms, AreAromaticBonds, AreRows, IsMarkedEnd, refused, valence_by};
 
 use crate::cycle::{Links, closes, links_between};
 use crate::site::row_at;
