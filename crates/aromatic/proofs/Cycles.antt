@@ -6,14 +6,14 @@ use Rattle.std.proofs.lemmas.List.Sorted.{IsPermutation-append_comm, IsPermutati
 use Rattle.std.proofs.lemmas.Option.{slice_get_within, slice_get_past, same_Some}
 use Rattle.std.proofs.lemmas.Bool.{cases_lt, cases_eq, false≢true}
 use Rattle.chem_core.specs.Drawing.{Drawing}
-use Rattle.chem_core.specs.Sound.{IsSound, sketch_ends}
+use Rattle.chem_core.specs.Sound.{IsSound, ends_among, sketch_ends}
 use Rattle.chem_core.specs.Graph.{Ends, JoinsAt, Joined, IsSimpleCycle, LiesOn, next_place}
 use Rattle.aromatic.specs.Electrons.{electrons, row_at, row_of, site_of, is_eligible}
 use Rattle.aromatic.specs.Huckel.{IsHuckelCycle, IsAromaticBond, IsAromaticAtom, IsRefused, IsFirstRefused, IsPerceived, has_colon, bonded, adds_one}
 use Rattle.std.specs.List.{enumerate_from}
 use Rattle.chem_core.specs.declared.sketch.SketchAtom.{SketchAtom}
 use Rattle.chem_core.specs.RingFacts.{AreRingBonds}
-use Rattle.aromatic.specs.Route.{IsNet, IsTrail, IsRoute, CanReach, IsCandidateAt, links_at, last_of, given_at, ends_among, IsLinkBelow, AreLinks, AreClosed, AreRows, AreAromaticBonds, AreAromaticAtoms, IsMarkedEnd, refused, valence_by}
+use Rattle.aromatic.specs.Route.{IsNet, IsTrail, IsRoute, CanReach, IsCandidateAt, links_at, last_of, given_at, IsLinkBelow, AreLinks, AreClosed, AreRows, AreAromaticBonds, AreAromaticAtoms, IsMarkedEnd, refused, valence_by}
 use Rattle.aromatic.proofs.Sketches.{some_element}
 use Rattle.aromatic.specs.declared.table.Row.{Row}
 

@@ -1,7 +1,6 @@
 -- The first element of a list that passes a test, one element after another.
-use Rattle.std.proofs.Common.{ℕ, ◌+◌, ◌<◌, ◌≤◌, ◌≡◌, Bool, true, false, cond, ◌||◌, List, [], ◌∷◌, length, drop, get_or, find, Option, Some, None, refl, sym, ap, ◌∙◌, arith, add-one, drop-cons}
-use Rattle.std.specs.List.{list_any}
-use Rattle.std.proofs.lemmas.List.{drop_all, drop_more}
+use Rattle.std.proofs.Common.{ℕ, ◌+◌, ◌<◌, ◌≤◌, ◌≡◌, Bool, true, false, cond, List, length, drop, get_or, find, Some, None, refl, sym, ap, ◌∙◌, add-one, drop-cons}
+use Rattle.std.proofs.lemmas.List.{drop_all}
 
 step : {X : Type 0} (p : X → Bool) (xs : List X) (i : ℕ) (d : X) → i < length xs → find p (drop i xs) ≡ cond (p (get_or xs i d)) (Some (get_or xs i d)) (find p (drop (i + 1) xs))
 step p xs i d h = rw (add-one, drop-cons xs i d) refl
@@ -14,17 +13,3 @@ find-later p xs i d h e f = e ∙ step p xs i d h ∙ ap (λ b. cond b (Some (ge
 
 pub find-past : {X : Type 0} (p : X → Bool) (xs : List X) (i : ℕ) → length xs ≤ i → find p xs ≡ find p (drop i xs) → None ≡ find p xs
 find-past p xs i h e = sym (e ∙ ap (λ ys. find p ys) (drop_all i xs h))
-
--- ---- whether any element passes
-
-any-step : {X : Type 0} (p : X → Bool) (xs : List X) (i : ℕ) (d : X) → i < length xs → list_any p (drop i xs) ≡ (p (get_or xs i d) || list_any p (drop (i + 1) xs))
-any-step p xs i d h = rw (drop_more xs i d h) refl
-
-pub any-here : {X : Type 0} (p : X → Bool) (xs : List X) (i : ℕ) (d : X) → i < length xs → list_any p xs ≡ list_any p (drop i xs) → p (get_or xs i d) ≡ true → true ≡ list_any p xs
-any-here p xs i d h e t = sym (e ∙ any-step p xs i d h ∙ ap (λ b. b || list_any p (drop (i + 1) xs)) t)
-
-pub any-later : {X : Type 0} (p : X → Bool) (xs : List X) (i : ℕ) (d : X) → i < length xs → list_any p xs ≡ list_any p (drop i xs) → p (get_or xs i d) ≡ false → list_any p xs ≡ list_any p (drop (i + 1) xs)
-any-later p xs i d h e f = e ∙ any-step p xs i d h ∙ ap (λ b. b || list_any p (drop (i + 1) xs)) f
-
-pub any-past : {X : Type 0} (p : X → Bool) (xs : List X) (i : ℕ) → length xs ≤ i → list_any p xs ≡ list_any p (drop i xs) → false ≡ list_any p xs
-any-past p xs i h e = sym (e ∙ ap (λ ys. list_any p ys) (drop_all i xs h))

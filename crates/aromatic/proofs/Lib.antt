@@ -4,4 +4,5 @@ mod Links
 mod Marks
 mod Routes
 mod Sketches
+mod Tallies
 mod Valences

@@ -7,7 +7,8 @@ use Rattle.std.proofs.lemmas.Bool.{cases_lt, cases_eq}
 use Rattle.smallvec.specs.SmallVec.{SmallVec}
 use Rattle.chem_core.specs.Graph.{Ends, JoinsAt, IsSimpleGraph}
 use Rattle.chem_core.specs.declared.sketch.SketchBond.{SketchBond}
-use Rattle.aromatic.specs.Route.{links_at, lists_of, ends_among, AreLinks, IsLinkBelow, IsNewLink, IsCandidateAt}
+use Rattle.chem_core.specs.Sound.{ends_among}
+use Rattle.aromatic.specs.Route.{links_at, lists_of, AreLinks, IsLinkBelow, IsNewLink, IsCandidateAt}
 
 -- one more link of an atom
 pub link-push : (links : List (SmallVec ℕ)) (from to : ℕ) (old : List ℕ) (w : SmallVec ℕ) → from < length links → links_at (lists_of links) from ≡ old → w.items ≡ old ++ to ∷ [] → (a n : ℕ) → Contains (links_at (lists_of (set links from w)) a) n ↔ (Contains (links_at (lists_of links) a) n ⊎ ((a ≡ from) × (n ≡ to)))

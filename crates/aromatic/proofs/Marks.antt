@@ -5,7 +5,8 @@ use Rattle.std.proofs.lemmas.Option.{same_Some, slice_get-map, slice_get-get_or}
 use Rattle.std.proofs.lemmas.Bool.{cases_lt, cases_eq, false≢true}
 use Rattle.chem_core.specs.declared.sketch.SketchBond.{SketchBond}
 use Rattle.chem_core.specs.Graph.{Ends, JoinsAt}
-use Rattle.aromatic.specs.Route.{ends_among, IsMarkedEnd}
+use Rattle.chem_core.specs.Sound.{ends_among}
+use Rattle.aromatic.specs.Route.{IsMarkedEnd}
 
 pub ends_at_place : (bonds : List SketchBond) (k : ℕ) (d : SketchBond) → k < length bonds → slice_get (ends_among bonds) k ≡ Some ((get_or bonds k d).a, (get_or bonds k d).b)
 ends_at_place bonds k d within = slice_get-map (λ b. (b.a, b.b)) bonds k ∙ ap (λ o. option_map (λ b. (b.a, b.b)) o) (slice_get-get_or bonds k d within)

@@ -1,18 +1,18 @@
--- What the bonds of an atom add to its valence, one bond after another, and at most.
-use Rattle.std.proofs.Common.{ℕ, ◌+◌, ◌*◌, ◌<◌, ◌≤◌, ◌≡◌, ◌||◌, Bool, true, false, cond, List, [], ◌∷◌, ◌++◌, length, map, take, get_or, zip, sum_by, count_by, if◌then◌else◌, min, nat_eq, refl, sym, ap, subst, ◌∙◌, arith, zero-add}
+-- What the bonds of an atom add to its valence at most, and the valences of one atom after another.
+use Rattle.std.proofs.Common.{ℕ, ◌+◌, ◌*◌, ◌<◌, ◌≤◌, ◌≡◌, ◌||◌, Bool, true, false, cond, List, [], ◌∷◌, ◌++◌, length, map, take, get_or, zip, if◌then◌else◌, nat_eq, ap, ◌∙◌, arith, zero-add}
 use Rattle.std.proofs.lemmas.List.{take_more, take_all, map-append}
 use Rattle.std.proofs.lemmas.List.FromFn.{length-enumerate_from, get_or-enumerate_from}
 use Rattle.std.specs.List.{enumerate_from}
 use Rattle.chem_core.specs.declared.sketch.SketchAtom.{SketchAtom}
-use Rattle.std.proofs.lemmas.List.Sums.{sum_by_push, sum_by-cons}
+use Rattle.std.proofs.lemmas.List.Sums.{sum_by-cons}
 use Rattle.std.proofs.lemmas.Slice.Zip.{get_or-zip, length-zip}
 use Rattle.chem_core.specs.declared.sketch.SketchBond.{SketchBond}
 use Rattle.chem_core.specs.declared.sketch.SketchKind.{SketchKind}
 use Rattle.chem_core.specs.declared.sketch.SketchKind.TheVariants.{Unwritten, Single, Double, Triple, Quad, Colon}
 use Rattle.chem_core.specs.Graph.{degree}
-use Rattle.aromatic.specs.Electrons.{ends_at}
-use Rattle.aromatic.specs.Huckel.{bonded, share, order_of}
-use Rattle.aromatic.specs.Route.{ends_among}
+use Rattle.chem_core.specs.Drawing.{ends_at, order_of}
+use Rattle.aromatic.specs.Huckel.{bonded, share}
+use Rattle.chem_core.specs.Sound.{ends_among}
 
 pub pair_at : (bonds : List SketchBond) (marks : List Bool) (i : ℕ) (d : SketchBond) → i < length bonds → length marks ≡ length bonds → get_or (zip bonds marks) i (d, false) ≡ (get_or bonds i d, get_or marks i false)
 pair_at bonds marks i d within same = get_or-zip bonds marks i (d, false) within (omega arith)
@@ -22,14 +22,6 @@ pair_within bonds marks i within same = omega (arith, length-zip bonds marks)
 
 pub pairs_past : (bonds : List SketchBond) (marks : List Bool) (i : ℕ) → length bonds ≤ i → length (zip bonds marks) ≤ i
 pairs_past bonds marks i past = omega (arith, length-zip bonds marks)
-
-pub bonded-more : (bonds : List SketchBond) (marks : List Bool) (a i : ℕ) (d : SketchBond) → i < length bonds → length marks ≡ length bonds → sum_by (λ p. share a p.0 p.1) (take (i + 1) (zip bonds marks)) ≡ sum_by (λ p. share a p.0 p.1) (take i (zip bonds marks)) + share a (get_or bonds i d) (get_or marks i false)
-bonded-more bonds marks a i d within same =
-    rw (take_more (zip bonds marks) i (d, false) (pair_within bonds marks i within same), pair_at bonds marks i d within same)
-    (sum_by_push (λ p. share a p.0 p.1) (take i (zip bonds marks)) (get_or bonds i d, get_or marks i false))
-
-pub bonded-whole : (bonds : List SketchBond) (marks : List Bool) (a i : ℕ) → length bonds ≤ i → sum_by (λ p. share a p.0 p.1) (take i (zip bonds marks)) ≡ bonded bonds marks a
-bonded-whole bonds marks a i past = ap (λ ps. sum_by (λ p. share a p.0 p.1) ps) (take_all i (zip bonds marks) (pairs_past bonds marks i past))
 
 order-le : (kind : SketchKind) → order_of kind ≤ 4
 order-le Unwritten = omega arith

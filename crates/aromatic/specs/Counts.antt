@@ -1,9 +1,10 @@
 -- The counts of an atom's bonds, one bond after another.
-use Rattle.std.specs.Prelude.{ℕ, ◌+◌, ◌<◌, ◌&&◌, not, Bool, if◌then◌else◌}
+use Rattle.std.specs.Prelude.{◌≡◌, ℕ, ◌+◌, ◌<◌, ◌&&◌, not, Bool, List, length, slice_get, Some, if◌then◌else◌}
 use Rattle.chem_core.specs.declared.sketch.SketchAtom.{SketchAtom}
+use Rattle.chem_core.specs.declared.sketch.SketchBond.{SketchBond}
 use Rattle.chem_core.specs.declared.sketch.SketchKind.{SketchKind}
 use Rattle.aromatic.specs.declared.site.Site.{Site}
-use Rattle.aromatic.specs.Electrons.{is_double, is_hetero, is_higher, is_oxygen}
+use Rattle.aromatic.specs.Electrons.{is_double, is_hetero, is_higher, is_oxygen, site_among}
 
 -- an atom before any bond
 abbrev pub bare : SketchAtom → Site
@@ -46,3 +47,8 @@ pub record IsSmall (x : Site) : Type 0 where
   pub outer_doubles : x.outer_doubles < 1000
   pub to_oxygen : x.to_oxygen < 1000
   pub to_hetero : x.to_hetero < 1000
+
+-- what the table reads of each atom and of these bonds, by the atom's place
+pub record AreSites (atoms : List SketchAtom) (pairs : List (SketchBond × Bool)) (sites : List Site) : Type 0 where
+  pub count : length sites ≡ length atoms
+  pub each : (a : ℕ) (x : SketchAtom) → slice_get atoms a ≡ Some x → slice_get sites a ≡ Some (site_among atoms a x pairs)

@@ -1,12 +1,12 @@
 -- How many electrons an atom gives to an aromatic ring. The table is this project's own profile.
-use Rattle.std.specs.Prelude.{◌≡◌, ℕ, ◌+◌, ◌==◌, ◌&&◌, ◌||◌, not, nat_le, Bool, true, false, List, [], ◌∷◌, slice_get, slice_index_or, count_by, map, Option, None, Some, option_and_then, option_map, if◌then◌else◌, ℤ, pos, neg_ℤ}
+use Rattle.std.specs.Prelude.{ℕ, ◌+◌, ◌==◌, ◌&&◌, ◌||◌, not, nat_le, Bool, true, false, List, [], ◌∷◌, slice_get, slice_index_or, count_by, map, Option, None, Some, option_and_then, option_map, if◌then◌else◌, pos, neg_ℤ}
 use Rattle.std.specs.List.{find, list_any, zip}
 use Rattle.std.specs.Ordering.{int_eq}
 use Rattle.chem_core.specs.declared.sketch.SketchAtom.{SketchAtom}
 use Rattle.chem_core.specs.declared.sketch.SketchBond.{SketchBond}
 use Rattle.chem_core.specs.declared.sketch.SketchKind.{SketchKind}
-use Rattle.chem_core.specs.declared.sketch.SketchKind.TheVariants.{Unwritten, Single, Double, Triple, Quad, Colon}
-use Rattle.chem_core.specs.Drawing.{Drawing}
+use Rattle.chem_core.specs.declared.sketch.SketchKind.TheVariants.{Double, Triple, Quad}
+use Rattle.chem_core.specs.Drawing.{Drawing, ends_at}
 use Rattle.aromatic.specs.declared.site.Site.{Site}
 use Rattle.aromatic.specs.declared.table.Row.{Row}
 use Rattle.aromatic.specs.declared.table.Family.{Family}
@@ -23,10 +23,6 @@ abbrev pub is_higher : SketchKind → Bool
 is_higher Triple = true
 is_higher Quad = true
 is_higher _ = false
-
--- the atom is an end of the bond
-abbrev pub ends_at : ℕ → SketchBond → Bool
-ends_at a bond = (bond.a == a) || (bond.b == a)
 
 -- the number of an atom's element, and 0 where there is no such atom
 abbrev pub number_at : List SketchAtom → ℕ → ℕ
@@ -143,9 +139,13 @@ row_of x = find (λ row. fits row x) rows
 abbrev pub is_eligible : Site → Bool
 is_eligible x = ((x.neighbours == 2) || (x.neighbours == 3)) && nat_le 2 x.ring_bonds && (x.higher == 0)
 
+-- the row of what is read of an atom, if it is a candidate
+abbrev pub candidate_row : Site → Option Row
+candidate_row x = if is_eligible x then row_of x else None
+
 -- the row of an atom, if it is a candidate
 abbrev pub row_at : Drawing → List Bool → ℕ → Option Row
-row_at s rings a = option_and_then (λ x. let site = site_of s rings a x in if is_eligible site then row_of site else None) (slice_get s.atoms a)
+row_at s rings a = option_and_then (λ x. candidate_row (site_of s rings a x)) (slice_get s.atoms a)
 
 -- the electrons that an atom gives; none where it is no candidate
 abbrev pub electrons : Drawing → List Bool → ℕ → Option ℕ

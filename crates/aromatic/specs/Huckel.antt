@@ -4,14 +4,14 @@ use Rattle.std.specs.List.{list_any, enumerate_from, zip}
 use Rattle.chem_core.specs.declared.sketch.SketchAtom.{SketchAtom}
 use Rattle.chem_core.specs.declared.sketch.SketchBond.{SketchBond}
 use Rattle.chem_core.specs.declared.sketch.SketchKind.{SketchKind}
-use Rattle.chem_core.specs.declared.sketch.SketchKind.TheVariants.{Unwritten, Single, Double, Triple, Quad, Colon}
-use Rattle.chem_core.specs.Drawing.{Drawing}
+use Rattle.chem_core.specs.declared.sketch.SketchKind.TheVariants.{Colon}
+use Rattle.chem_core.specs.Drawing.{Drawing, ends_at, order_of}
 use Rattle.chem_core.specs.Sound.{sketch_ends}
 use Rattle.chem_core.specs.Graph.{IsSimpleCycle, LiesOn}
 use Rattle.aromatic.specs.declared.perception.AromFault.{AromFault}
 use Rattle.aromatic.specs.declared.perception.AromFault.TheVariants.{Aromatic, NoMemory}
 use Rattle.aromatic.specs.declared.table.Row.{Row}
-use Rattle.aromatic.specs.Electrons.{row_at, electrons, is_double, by_ring_double, ends_at}
+use Rattle.aromatic.specs.Electrons.{row_at, electrons, is_double, by_ring_double}
 
 -- a simple cycle of 3 to 18 candidates whose electrons sum to 2 modulo 4
 pub record IsHuckelCycle (s : Drawing) (rings : List Bool) (atoms : List ℕ) : Type 0 where
@@ -38,15 +38,6 @@ has_colon bonds a = list_any (λ bond. is_colon bond.kind && ends_at a bond) bon
 abbrev pub IsRefused : Drawing → List Bool → ℕ → SketchAtom → Type 0
 IsRefused s rings a x = ((x.lower ≡ true) × (IsAromaticAtom s rings a → ⊥)) ⊎ ((x.lower ≡ false) × (has_colon s.bonds a ≡ true))
 
--- an unwritten bond and `:` are single, where they are not aromatic
-abbrev pub order_of : SketchKind → ℕ
-order_of Unwritten = 1
-order_of Single = 1
-order_of Double = 2
-order_of Triple = 3
-order_of Quad = 4
-order_of Colon = 1
-
 -- what a bond adds to the valence of an atom that it ends at: 1 where it is aromatic, else its order
 abbrev pub share : ℕ → SketchBond → Bool → ℕ
 share a bond aromatic = if ends_at a bond then (if aromatic then 1 else order_of bond.kind) else 0
@@ -56,9 +47,13 @@ abbrev pub has_aromatic_double : List SketchBond → List Bool → ℕ → Bool
 has_aromatic_double bonds aromatic a = list_any (λ p. ends_at a p.0 && (p.1 && is_double p.0.kind)) (zip bonds aromatic)
 
 -- The row gives one electron, and the double bond in a ring that it rests on, if it does, has become aromatic.
+abbrev pub adds_by : Bool → Option Row → Bool
+adds_by aromatic_double None = false
+adds_by aromatic_double (Some row) = (row.electrons == 1) && (not (by_ring_double row) || aromatic_double)
+
+-- the same at an atom
 abbrev pub adds_one : List SketchBond → List Bool → ℕ → Option Row → Bool
-adds_one bonds aromatic a None = false
-adds_one bonds aromatic a (Some row) = (row.electrons == 1) && (not (by_ring_double row) || has_aromatic_double bonds aromatic a)
+adds_one bonds aromatic a row = adds_by (has_aromatic_double bonds aromatic a) row
 
 -- what the bonds of an atom add to its valence
 abbrev pub bonded : List SketchBond → List Bool → ℕ → ℕ

@@ -2,3 +2,4 @@ pub mod Electrons
 pub mod Counts
 pub mod Huckel
 pub mod Route
+pub mod Tallies

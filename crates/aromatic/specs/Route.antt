@@ -1,12 +1,13 @@
 -- Paths of linked atoms, from one end of a bond on the way to its other end.
-use Rattle.std.specs.Prelude.{◌≡◌, ◌≢◌, ℕ, ◌+◌, ◌-◌, ◌%◌, ◌<◌, ◌≤◌, List, [], ◌++◌, length, map, sum_by, slice_index, slice_index_or, Contains, AllPairs, Option, None, IsSome, unwrap_or, Bool, true, false, ◌⊎◌, ◌↔◌, not, ◌&&◌, if◌then◌else◌}
+use Rattle.std.specs.Prelude.{◌≡◌, ◌≢◌, ℕ, ◌+◌, ◌-◌, ◌%◌, ◌<◌, ◌≤◌, List, [], ◌++◌, length, map, sum_by, slice_index, slice_index_or, Contains, AllPairs, Option, None, IsSome, unwrap_or, Bool, true, false, ◌⊎◌, ◌↔◌}
 use Rattle.chem_core.specs.declared.sketch.SketchBond.{SketchBond}
 use Rattle.chem_core.specs.Drawing.{Drawing}
-use Rattle.chem_core.specs.Sound.{IsSound, sketch_ends}
+use Rattle.chem_core.specs.Sound.{IsSound, ends_among, sketch_ends}
 use Rattle.chem_core.specs.RingFacts.{AreRingBonds}
 use Rattle.chem_core.specs.Graph.{Ends, JoinsAt}
 use Rattle.aromatic.specs.Electrons.{electrons, row_at}
-use Rattle.aromatic.specs.Huckel.{IsAromaticAtom, IsAromaticBond, adds_one, bonded, has_colon}
+use Rattle.aromatic.specs.Huckel.{IsAromaticAtom, IsAromaticBond, has_colon}
+use Rattle.aromatic.specs.Tallies.{refused_by, tally_of, valence_told}
 use Rattle.aromatic.specs.declared.table.Row.{Row}
 use Rattle.chem_core.specs.declared.sketch.SketchAtom.{SketchAtom}
 use Rattle.smallvec.specs.SmallVec.{SmallVec}
@@ -49,9 +50,6 @@ CanReach links gives target path = (rest : List ℕ) × IsRoute links gives targ
 
 -- ---- which atoms are linked
 
-abbrev pub ends_among : List SketchBond → Ends
-ends_among bonds = map (λ b. (b.a, b.b)) bonds
-
 abbrev pub IsCandidateAt : List (Option ℕ) → ℕ → Type 0
 IsCandidateAt gives a = IsSome (slice_index_or gives a None)
 
@@ -83,7 +81,7 @@ IsMarkedEnd ends marks k a = (b n : ℕ) × (b < k) × JoinsAt ends b a n × (sl
 
 -- the atom is refused, where it is told whether it is aromatic
 abbrev pub refused : List SketchBond → Bool → ℕ → SketchAtom → Bool
-refused bonds aromatic a x = if x.lower then not aromatic else has_colon bonds a
+refused bonds aromatic a x = refused_by aromatic (has_colon bonds a) x
 
 -- the row of each atom
 pub record AreRows (s : Drawing) (rings : List Bool) (rows : List (Option Row)) : Type 0 where
@@ -102,5 +100,4 @@ pub record AreAromaticAtoms (s : Drawing) (rings flags : List Bool) : Type 0 whe
 
 -- the valence of an atom, where the rows are told
 abbrev pub valence_by : List (Option Row) → List Bool → List SketchBond → List Bool → ℕ → SketchAtom → ℕ
-valence_by rows flags bonds marks a x =
-    bonded bonds marks a + x.hydrogens + (if slice_index_or flags a false && adds_one bonds marks a (slice_index_or rows a None) then 1 else 0)
+valence_by rows flags bonds marks a x = valence_told (tally_of bonds marks a) (slice_index_or rows a None) (slice_index_or flags a false) x

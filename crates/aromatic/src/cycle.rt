@@ -1,7 +1,8 @@
 //! The search for a Hückel cycle through a bond: for a path from its one end to its other end.
 ghost use Rattle.std.specs.Prelude.{◌≡◌, ◌≤◌, ◌<◌, ◌%◌, ◌↔◌, ◌∷◌, ◌⊎◌, [], length, replicate, sum_by, IfOk, IsTrue, OnOk, Ok, All, Contains, ℕ, false};
 ghost use Rattle.chem_core.specs.Graph.{IsSimpleGraph};
-ghost use Rattle.aromatic.specs.Route.{AreLinks, IsNewLink, ends_among, AreClosed, CanReach, IsRoute, IsTrail, given_at, last_of, links_at, lists_of};
+ghost use Rattle.chem_core.specs.Sound.{ends_among};
+ghost use Rattle.aromatic.specs.Route.{AreLinks, IsNewLink, AreClosed, CanReach, IsRoute, IsTrail, given_at, last_of, links_at, lists_of};
 
 use chem_core::SketchBond;
 use smallvec::SmallVec;

@@ -5,6 +5,7 @@ mod cycle;
 mod perception;
 mod site;
 mod table;
+mod tally;
 
 pub use perception::{Arom, AromFault, perceive};
 pub use site::electrons;

@@ -1,17 +1,19 @@
 //! Aromatic atoms and bonds of a sketch, and the valence of each atom.
-ghost use Rattle.std.specs.Prelude.{◌≡◌, ◌<◌, ◌≤◌, ◌+◌, ◌↔◌, ◌∷◌, ◌&&◌, ◌==◌, ◌||◌, not, [], replicate, length, map, option_map, slice_get, slice_index_or, sum_by, IfOk, IfErr, IfSome, IfNone, IsTrue, Some, None, ℕ, true, false, if◌then◌else◌};
-ghost use Rattle.std.specs.List.{enumerate_from, list_any, zip};
-ghost use Rattle.chem_core.specs.Graph.{IsSimpleGraph, degree};
+ghost use Rattle.std.specs.Prelude.{◌≡◌, ◌<◌, ◌≤◌, ◌↔◌, ◌∷◌, [], replicate, length, map, option_map, slice_get, slice_index_or, All, IfOk, IfErr, IfSome, IfNone, Some, None, ℕ, true, false};
+ghost use Rattle.std.specs.List.{enumerate_from};
+ghost use Rattle.chem_core.specs.Graph.{IsSimpleGraph};
 ghost use Rattle.chem_core.specs.RingFacts.{AreRingBonds};
-ghost use Rattle.chem_core.specs.Sound.{IsSound, sketch_ends};
-ghost use Rattle.aromatic.specs.Electrons.{by_ring_double, ends_at, is_double, row_at};
-ghost use Rattle.aromatic.specs.Huckel.{IsFaultOf, IsPerceived, adds_one, bonded, has_aromatic_double, has_colon, order_of, share};
-ghost use Rattle.aromatic.specs.Route.{AreClosed, CanReach, ends_among, lists_of, AreAromaticAtoms, AreAromaticBonds, AreRows, IsMarkedEnd, refused, valence_by};
+ghost use Rattle.chem_core.specs.Sound.{IsSketchAtom, IsSound, ends_among, sketch_ends};
+ghost use Rattle.aromatic.specs.Electrons.{by_ring_double, candidate_row};
+ghost use Rattle.aromatic.specs.Huckel.{IsFaultOf, IsPerceived, adds_by};
+ghost use Rattle.aromatic.specs.Route.{AreClosed, CanReach, lists_of, AreAromaticAtoms, AreAromaticBonds, AreRows, IsMarkedEnd};
+ghost use Rattle.aromatic.specs.Tallies.{IsFirstToPass, NonePasses, refused_at, refused_by, valence_at, valence_told};
 
 use crate::cycle::{Links, closes, links_between};
-use crate::site::row_at;
+use crate::site::{Site, sites};
 use crate::table::{Doubles, Row};
-use chem_core::{Sketch, SketchAtom, SketchBond, SketchKind};
+use crate::tally::{Tally, tallies};
+use chem_core::{Sketch, SketchAtom, SketchBond};
 use std::alloc::{AllocError, Global};
 
 /// What perception finds: whether each atom and each bond is aromatic, and the valence of each atom, by their places.
@@ -56,11 +58,14 @@ fn rows_of(
     ensures { IfOk result (λ rows. AreRows (record { atoms = atoms.now; bonds = bonds.now })
         bond_in_ring.now rows.items) }
 {
-    let mut rows = Vec::with_capacity(alloc, atoms.len())?;
-    for atom in 0..atoms.len() {
-        rows.push(row_at(atoms, bonds, bond_in_ring, atom as u16))?;
-    }
-    Ok(rows)
+    let sites = sites(alloc, atoms, bonds, bond_in_ring)?;
+    rows_by(alloc, &sites)
+}
+
+fn rows_by(alloc: Global, sites: &[Site]) -> Result<Vec<Option<Row>>, AllocError>
+    ensures { IfOk result (λ rows. rows.items ≡ map candidate_row sites.now) }
+{
+    sites.iter().map(Site::row).collect(alloc)
 }
 
 // What each atom gives, by its row.
@@ -161,70 +166,23 @@ fn mark_all(flags: &mut [bool], bonds: &[SketchBond], marks: &[bool])
     }
 }
 
-// The valence of an atom: what its bonds add, its hydrogens, and one more where its row adds one.
-fn valence(
-    atom: &SketchAtom,
-    place: usize,
-    bonds: &[SketchBond],
-    marks: &[bool],
-    adds_one: bool,
-) -> u8
-    requires few { length bonds.now ≤ 999 }
-    requires each { length marks.now ≡ length bonds.now }
-    requires few_neighbours { degree (ends_among bonds.now) place ≤ 12 }
+// The valence of an atom: what its bonds come to, its hydrogens, and one more where its row adds one.
+fn valence(atom: &SketchAtom, tally: Tally, row: Option<Row>, aromatic: bool) -> u8
+    requires few { tally.bonded ≤ 48 }
     requires hydrogens { atom.now.hydrogens ≤ 27 }
-    ensures { result
-        ≡ bonded bonds.now marks.now place + atom.now.hydrogens + (if adds_one then 1 else 0) }
+    ensures { result ≡ valence_told tally row aromatic atom.now }
 {
-    let orders = bonded(bonds, marks, place);
-    let one = if adds_one { 1 } else { 0 };
-    (orders + u32::from(atom.hydrogens) + one) as u8
-}
-
-fn bonded(bonds: &[SketchBond], marks: &[bool], atom: usize) -> u32
-    requires few { length bonds.now ≤ 999 }
-    requires each { length marks.now ≡ length bonds.now }
-    ensures { result ≡ bonded bonds.now marks.now atom }
-{
-    let mut orders = 0;
-    for (place, bond) in bonds.iter().enumerate() {
-        orders += share(bond, atom, marks[place]);
-    }
-    orders
-}
-
-fn share(bond: &SketchBond, atom: usize, aromatic: bool) -> u32
-    ensures value { result ≡ share atom bond.now aromatic }
-    ensures small { result ≤ 4 }
-{
-    if usize::from(bond.a) != atom && usize::from(bond.b) != atom {
-        return 0;
-    }
-    if aromatic { 1 } else { order_of(bond.kind) }
-}
-
-fn order_of(kind: SketchKind) -> u32
-    ensures value { result ≡ order_of kind }
-    ensures small { result ≤ 4 }
-{
-    match kind {
-        SketchKind::Unwritten | SketchKind::Single | SketchKind::Colon => 1,
-        SketchKind::Double => 2,
-        SketchKind::Triple => 3,
-        SketchKind::Quad => 4,
-    }
+    let more = aromatic && adds_one(row, tally.aromatic_double);
+    tally.bonded + atom.hydrogens + u8::from(more)
 }
 
 // Whether the row gives one electron, by no double bond in a ring or by one that has become aromatic.
-fn adds_one(row: Option<Row>, bonds: &[SketchBond], marks: &[bool], atom: usize) -> bool
-    requires { length marks.now ≡ length bonds.now }
-    ensures { result ≡ adds_one bonds.now marks.now atom row }
+fn adds_one(row: Option<Row>, aromatic_double: bool) -> bool
+    ensures { result ≡ adds_by aromatic_double row }
 {
     match row {
         None => false,
-        Some(row) => {
-            row.electrons == 1 && (!by_ring_double(row) || has_aromatic_double(bonds, marks, atom))
-        }
+        Some(row) => row.electrons == 1 && (!by_ring_double(row) || aromatic_double),
     }
 }
 
@@ -237,97 +195,47 @@ fn by_ring_double(row: Row) -> bool
     }
 }
 
-fn has_aromatic_double(bonds: &[SketchBond], marks: &[bool], atom: usize) -> bool
-    requires { length marks.now ≡ length bonds.now }
-    ensures { result ≡ has_aromatic_double bonds.now marks.now atom }
-{
-    for (place, bond) in bonds.iter().enumerate() {
-        if is_aromatic_double(bond, atom, marks[place]) {
-            return true;
-        }
-    }
-    false
-}
-
-fn is_aromatic_double(bond: &SketchBond, atom: usize, aromatic: bool) -> bool
-    ensures { result ≡ (ends_at atom bond.now && (aromatic && is_double bond.now.kind)) }
-{
-    ends_at(bond, atom) && aromatic && bond.kind == SketchKind::Double
-}
-
-fn ends_at(bond: &SketchBond, atom: usize) -> bool
-    ensures { result ≡ ends_at atom bond.now }
-{
-    usize::from(bond.a) == atom || usize::from(bond.b) == atom
-}
-
 // Where the first atom that is refused is written, if one is.
-fn first_refused(atoms: &[SketchAtom], bonds: &[SketchBond], flags: &[bool]) -> Option<u16>
-    requires { length flags.now ≡ length atoms.now }
-    ensures some { IfSome result (λ w. (a : ℕ) × (x : SketchAtom) × (slice_get atoms.now a ≡ Some x)
-        × (refused bonds.now (slice_index_or flags.now a false) a x ≡ true) × (x.written ≡ w)
-        × ((b : ℕ) (y : SketchAtom) → b < a → slice_get atoms.now b ≡ Some y
-        → refused bonds.now (slice_index_or flags.now b false) b y ≡ false)) }
-    ensures none { IfNone result ((b : ℕ) (y : SketchAtom) → slice_get atoms.now b ≡ Some y
-        → refused bonds.now (slice_index_or flags.now b false) b y ≡ false) }
+fn first_refused(atoms: &[SketchAtom], tallies: &[Tally], flags: &[bool]) -> Option<u16>
+    requires tallies_each { length tallies.now ≡ length atoms.now }
+    requires flags_each { length flags.now ≡ length atoms.now }
+    ensures some { IfSome result (IsFirstToPass (refused_at flags.now tallies.now) atoms.now) }
+    ensures none { IfNone result (NonePasses (refused_at flags.now tallies.now) atoms.now) }
 {
     for (place, atom) in atoms.iter().enumerate() {
-        if is_refused(atom, bonds, place, flags[place]) {
+        if is_refused(atom, flags[place], tallies[place].colon) {
             return Some(atom.written);
         }
     }
     None
 }
 
-fn is_refused(atom: &SketchAtom, bonds: &[SketchBond], place: usize, aromatic: bool) -> bool
-    ensures { result ≡ refused bonds.now aromatic place atom.now }
+// Whether an atom is refused, by whether it is aromatic and whether a bond `:` ends at it.
+fn is_refused(atom: &SketchAtom, aromatic: bool, colon: bool) -> bool
+    ensures { result ≡ refused_by aromatic colon atom.now }
 {
-    if atom.lower {
-        !aromatic
-    } else {
-        has_colon(bonds, place)
-    }
-}
-
-fn has_colon(bonds: &[SketchBond], atom: usize) -> bool
-    ensures { result ≡ has_colon bonds.now atom }
-{
-    bonds.iter().any(|bond| bond.kind == SketchKind::Colon && ends_at(bond, atom))
-}
-
-fn adds_here(
-    aromatic: bool,
-    row: Option<Row>,
-    bonds: &[SketchBond],
-    marks: &[bool],
-    atom: usize,
-) -> bool
-    requires { length marks.now ≡ length bonds.now }
-    ensures { result ≡ (aromatic && adds_one bonds.now marks.now atom row) }
-{
-    aromatic && adds_one(row, bonds, marks, atom)
+    if atom.lower { !aromatic } else { colon }
 }
 
 // The valences of all atoms.
 fn valences(
     alloc: Global,
     atoms: &[SketchAtom],
-    bonds: &[SketchBond],
-    flags: &[bool],
-    marks: &[bool],
+    tallies: &[Tally],
     rows: &[Option<Row>],
+    flags: &[bool],
 ) -> Result<Vec<u8>, AllocError>
-    requires sound { IsSound (record { atoms = atoms.now; bonds = bonds.now }) }
-    requires flags_each { length flags.now ≡ length atoms.now }
-    requires marks_each { length marks.now ≡ length bonds.now }
+    requires valid { All IsSketchAtom atoms.now }
+    requires few { All (λ t. t.bonded ≤ 48) tallies.now }
+    requires tallies_each { length tallies.now ≡ length atoms.now }
     requires rows_each { length rows.now ≡ length atoms.now }
-    ensures { IfOk result (λ v. v.items ≡ map
-        (λ p. valence_by rows.now flags.now bonds.now marks.now p.0 p.1) (enumerate_from 0 atoms.now)) }
+    requires flags_each { length flags.now ≡ length atoms.now }
+    ensures { IfOk result (λ v. v.items ≡ map (λ p. valence_at flags.now tallies.now rows.now p.0 p.1)
+        (enumerate_from 0 atoms.now)) }
 {
     let mut values = Vec::with_capacity(alloc, atoms.len())?;
     for (place, atom) in atoms.iter().enumerate() {
-        let one = adds_here(flags[place], rows[place], bonds, marks, place);
-        values.push(valence(atom, place, bonds, marks, one))?;
+        values.push(valence(atom, tallies[place], rows[place], flags[place]))?;
     }
     Ok(values)
 }
@@ -385,10 +293,11 @@ fn perceive_lists(
     let rows = rows_of(alloc, atoms, bonds, bond_in_ring)?;
     let marks = find_bonds(alloc, atoms, bonds, bond_in_ring, &rows)?;
     let flags = find_atoms(alloc, atoms, bonds, bond_in_ring, &marks)?;
-    if let Some(written) = first_refused(atoms, bonds, &flags) {
+    let tallies = tallies(alloc, atoms.len(), bonds, &marks)?;
+    if let Some(written) = first_refused(atoms, &tallies, &flags) {
         return Err(AromFault::Aromatic(written));
     }
-    let values = valences(alloc, atoms, bonds, &flags, &marks, &rows)?;
+    let values = valences(alloc, atoms, &tallies, &rows, &flags)?;
     Ok(Arom {
         atoms: flags,
         bonds: marks,

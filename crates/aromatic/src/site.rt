@@ -1,13 +1,15 @@
 //! What the table reads of an atom, and the electrons that it gives.
-ghost use Rattle.std.specs.Prelude.{◌≡◌, ◌<◌, ◌+◌, ◌&&◌, not, length, slice_get, Some, if◌then◌else◌};
+ghost use Rattle.std.specs.Prelude.{◌≡◌, ◌≢◌, ◌<◌, ℕ, length, map, slice_get, slice_index_or, All, IfOk, Some, if◌then◌else◌};
+ghost use Rattle.std.specs.List.{zip};
+ghost use Rattle.chem_core.specs.Drawing.{ends_at};
 ghost use Rattle.chem_core.specs.Sound.{IsSound, sketch_ends};
 ghost use Rattle.chem_core.specs.RingFacts.{AreRingBonds};
-ghost use Rattle.aromatic.specs.Electrons.{electrons, element_beyond, ends_at, is_double, is_eligible, is_hetero, is_higher, is_oxygen, row_at, site_among};
-ghost use Rattle.std.specs.List.{zip};
-ghost use Rattle.aromatic.specs.Counts.{IsSmall, add, bare};
+ghost use Rattle.aromatic.specs.Electrons.{candidate_row, electrons, element_beyond, is_eligible, row_at, site_among};
+ghost use Rattle.aromatic.specs.Counts.{AreSites, IsSmall, add, bare};
 
 use crate::table::{Row, row_of};
 use chem_core::{Sketch, SketchAtom, SketchBond, SketchKind};
+use std::alloc::{AllocError, Global};
 
 /// What the table reads of an atom: how it is written, and how many of its bonds are of which kind.
 #[derive(Clone, Copy, Debug, PartialEq, Eq)]
@@ -40,8 +42,8 @@ pub fn electrons(sketch: &Sketch, bond_in_ring: &[bool], atom: u16) -> Option<u8
     row_at(&sketch.atoms, &sketch.bonds, bond_in_ring, atom).map(|row| row.electrons)
 }
 
-/// The row of an atom; none where it is no candidate.
-pub fn row_at(
+// The row of an atom; none where it is no candidate.
+fn row_at(
     atoms: &[SketchAtom],
     bonds: &[SketchBond],
     bond_in_ring: &[bool],
@@ -52,18 +54,62 @@ pub fn row_at(
     requires in_range { atom < length atoms.now }
     ensures { result ≡ row_at (record { atoms = atoms.now; bonds = bonds.now }) bond_in_ring.now atom }
 {
-    let site = site_of(atoms, bonds, bond_in_ring, atom);
-    if is_eligible(&site) {
-        row_of(&site)
-    } else {
-        None
+    site_of(atoms, bonds, bond_in_ring, atom).row()
+}
+
+/// What the table reads of each atom, by the atom's place, in one pass over the bonds.
+pub fn sites(
+    alloc: Global,
+    atoms: &[SketchAtom],
+    bonds: &[SketchBond],
+    bond_in_ring: &[bool],
+) -> Result<Vec<Site>, AllocError>
+    requires sound { IsSound (record { atoms = atoms.now; bonds = bonds.now }) }
+    requires rings { length bond_in_ring.now ≡ length bonds.now }
+    ensures { IfOk result (λ sites. AreSites atoms.now (zip bonds.now bond_in_ring.now) sites.items) }
+{
+    let mut sites = bare_sites(alloc, atoms)?;
+    count_bonds(&mut sites, atoms, bonds, bond_in_ring);
+    Ok(sites)
+}
+
+// Each atom before any bond is counted.
+fn bare_sites(alloc: Global, atoms: &[SketchAtom]) -> Result<Vec<Site>, AllocError>
+    ensures { IfOk result (λ sites. sites.items ≡ map bare atoms.now) }
+{
+    atoms.iter().map(Site::bare).collect(alloc)
+}
+
+fn count_bonds(
+    sites: &mut [Site],
+    atoms: &[SketchAtom],
+    bonds: &[SketchBond],
+    bond_in_ring: &[bool],
+)
+    requires sound { IsSound (record { atoms = atoms.now; bonds = bonds.now }) }
+    requires rings { length bond_in_ring.now ≡ length bonds.now }
+    requires bare { sites.old ≡ map bare atoms.now }
+    ensures { AreSites atoms.now (zip bonds.now bond_in_ring.now) sites.new }
+{
+    for (place, bond) in bonds.iter().enumerate() {
+        count_at_ends(sites, atoms, *bond, bond_in_ring[place]);
     }
 }
 
-fn is_eligible(site: &Site) -> bool
-    ensures { result ≡ is_eligible site.now }
+// Counts a bond at its two ends.
+fn count_at_ends(sites: &mut [Site], atoms: &[SketchAtom], bond: SketchBond, ring: bool)
+    requires each { length sites.old ≡ length atoms.now }
+    requires a_in_range { bond.a < length atoms.now }
+    requires b_in_range { bond.b < length atoms.now }
+    requires distinct { bond.a ≢ bond.b }
+    requires small { All IsSmall sites.old }
+    ensures { (a : ℕ) (d : Site) → slice_index_or sites.new a d ≡ (if ends_at a bond
+        then add (slice_index_or sites.old a d) bond.kind ring (element_beyond atoms.now a bond)
+        else slice_index_or sites.old a d) }
 {
-    (site.neighbours == 2 || site.neighbours == 3) && site.ring_bonds >= 2 && site.higher == 0
+    let (a, b) = (usize::from(bond.a), usize::from(bond.b));
+    sites[a].add(bond.kind, ring, atoms[b].number);
+    sites[b].add(bond.kind, ring, atoms[a].number);
 }
 
 fn site_of(atoms: &[SketchAtom], bonds: &[SketchBond], bond_in_ring: &[bool], atom: u16) -> Site
@@ -100,6 +146,23 @@ fn count_bond(site: &mut Site, atoms: &[SketchAtom], atom: u16, bond: SketchBond
 }
 
 impl Site {
+    /// The row that it fits; none where the atom is no candidate.
+    pub fn row(&self) -> Option<Row>
+        ensures { result ≡ candidate_row self.now }
+    {
+        if self.is_eligible() {
+            row_of(self)
+        } else {
+            None
+        }
+    }
+
+    fn is_eligible(&self) -> bool
+        ensures { result ≡ is_eligible self.now }
+    {
+        (self.neighbours == 2 || self.neighbours == 3) && self.ring_bonds >= 2 && self.higher == 0
+    }
+
     // An atom before any bond is counted.
     fn bare(atom: &SketchAtom) -> Site
         ensures { result ≡ bare atom.now }

@@ -1,6 +1,7 @@
 use Rattle.std.proofs.Common.{ℕ, ◌≤◌, ◌≡◌, length, subst, sym, arith, ◌∙◌}
 use Rattle.std.proofs.lemmas.List.{length-map}
-use Rattle.aromatic.specs.Route.{AreLinks, ends_among, lists_of}
+use Rattle.chem_core.specs.Sound.{ends_among}
+use Rattle.aromatic.specs.Route.{AreLinks, lists_of}
 use Rattle.aromatic.proofs.Links.{ends_in_range, links-more}
 use Rattle.aromatic.proofs.Routes.{length-lists_of}
 use Rattle.aromatic.proofs.cycle.join_all.Goals as goal

@@ -1,4 +1,5 @@
-use Rattle.aromatic.specs.Route.{AreLinks, ends_among, lists_of}
+use Rattle.chem_core.specs.Sound.{ends_among}
+use Rattle.aromatic.specs.Route.{AreLinks, lists_of}
 use Rattle.aromatic.proofs.cycle.join_all.Given as goal
 
 abbrev pub invariant-loop-place : goal.invariant-loop-place

@@ -2,7 +2,8 @@ use Rattle.std.proofs.Common.{◌≡◌, ◌≤◌, ◌<◌, ◌∷◌, [], leng
 use Rattle.std.proofs.lemmas.List.{length_push}
 use Rattle.std.proofs.lemmas.Option.{slice_get_within}
 use Rattle.std.proofs.lemmas.List.{length-map}
-use Rattle.aromatic.specs.Route.{CanReach, ends_among, lists_of}
+use Rattle.chem_core.specs.Sound.{ends_among}
+use Rattle.aromatic.specs.Route.{CanReach, lists_of}
 use Rattle.aromatic.proofs.Links.{ends_in_range}
 use Rattle.aromatic.proofs.Marks.{ends_at_place, marks-more}
 use Rattle.aromatic.proofs.perception.aromatic_bonds.Goals as goal

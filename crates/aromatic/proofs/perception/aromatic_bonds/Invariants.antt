@@ -1,5 +1,6 @@
 use Rattle.std.proofs.Common.{◌≡◌, ◌↔◌, ◌<◌, ◌∷◌, [], ℕ, true, false, length, get_or, slice_get, Some}
-use Rattle.aromatic.specs.Route.{CanReach, ends_among, lists_of}
+use Rattle.chem_core.specs.Sound.{ends_among}
+use Rattle.aromatic.specs.Route.{CanReach, lists_of}
 use Rattle.aromatic.proofs.perception.aromatic_bonds.Given as goal
 
 abbrev pub invariant-loop-place : goal.invariant-loop-place

@@ -1,6 +1,6 @@
 use Rattle.std.proofs.Common.{◌<◌, length, sym, ap, ◌∙◌, arith, get_or}
 use Rattle.std.proofs.lemmas.List.{length-set}
-use Rattle.aromatic.specs.Route.{ends_among}
+use Rattle.chem_core.specs.Sound.{ends_among}
 use Rattle.aromatic.proofs.Links.{ends_in_range}
 use Rattle.aromatic.proofs.Marks.{ends_at_place, ends-same, ends-more}
 use Rattle.aromatic.proofs.perception.mark_all.Goals as goal

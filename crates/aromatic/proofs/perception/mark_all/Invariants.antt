@@ -1,5 +1,6 @@
 use Rattle.std.proofs.Common.{◌≡◌, ◌↔◌, ℕ, true, false, length, get_or}
-use Rattle.aromatic.specs.Route.{IsMarkedEnd, ends_among}
+use Rattle.chem_core.specs.Sound.{ends_among}
+use Rattle.aromatic.specs.Route.{IsMarkedEnd}
 use Rattle.aromatic.proofs.perception.mark_all.Given as goal
 
 abbrev pub invariant-loop-place : goal.invariant-loop-place
