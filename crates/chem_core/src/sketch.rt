@@ -1,6 +1,6 @@
 //! Sketches: structures as they are written, before hydrogens and aromaticity are worked out.
 ghost use Rattle.std.specs.Prelude.{◌≡◌, ◌≤◌};
-ghost use Rattle.chem_core.specs.Drawing.{ends_at, order_of};
+ghost use Rattle.chem_core.specs.Drawing.{order_of};
 
 use std::marker::Model;
 
@@ -69,15 +69,6 @@ pub struct SketchBond {
     pub a: u16,
     pub b: u16,
     pub kind: SketchKind,
-}
-
-impl SketchBond {
-    /// Whether the atom at a place is one of the bond's two ends.
-    pub fn ends_at(&self, atom: u16) -> bool
-        ensures { result ≡ ends_at atom self.now }
-    {
-        self.a == atom || self.b == atom
-    }
 }
 
 /// A structure as it is written: atoms in the order of the text, and the bonds between them.
