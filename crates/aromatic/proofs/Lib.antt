@@ -1,7 +1,8 @@
 mod Cycles
 mod Finds
-mod Links
-mod Marks
+mod LinkLists
+mod MarkSteps
 mod Routes
 mod Sketches
+mod Spreads
 mod Valences

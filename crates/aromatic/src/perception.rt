@@ -6,9 +6,9 @@ ghost use Rattle.chem_core.specs.RingFacts.{AreRingBonds};
 ghost use Rattle.chem_core.specs.Sound.{IsSound, sketch_ends};
 ghost use Rattle.aromatic.specs.Electrons.{by_ring_double, ends_at, is_double, row_at};
 ghost use Rattle.aromatic.specs.Huckel.{IsFaultOf, IsPerceived, adds_one, bonded, has_aromatic_double, has_colon, order_of, share};
-ghost use Rattle.aromatic.specs.Route.{AreClosed, CanReach, ends_among, lists_of, AreAromaticAtoms, AreAromaticBonds, AreRows, IsMarkedEnd, refused, valence_by};
+ghost use Rattle.aromatic.specs.Route.{AreRows, ends_among, refused, valence_by};
 
-use crate::cycle::{Links, closes, links_between};
+use crate::marks::{find_atoms, find_bonds};
 use crate::site::row_at;
 use crate::table::{Doubles, Row};
 use chem_core::{Sketch, SketchAtom, SketchBond, SketchKind};
@@ -61,104 +61,6 @@ fn rows_of(
         rows.push(row_at(atoms, bonds, bond_in_ring, atom as u16))?;
     }
     Ok(rows)
-}
-
-// What each atom gives, by its row.
-fn electrons_of(alloc: Global, rows: &[Option<Row>]) -> Result<Vec<Option<u8>>, AllocError>
-    ensures { IfOk result (λ gives. gives.items
-        ≡ map (λ row. option_map (λ r. r.electrons) row) rows.now) }
-{
-    rows.iter()
-        .map(|row| row.map(|row| row.electrons))
-        .collect(alloc)
-}
-
-// Which bonds lie on a Hückel cycle.
-fn aromatic_bonds(
-    alloc: Global,
-    bonds: &[SketchBond],
-    bond_in_ring: &[bool],
-    gives: &[Option<u8>],
-    links: &[Links],
-) -> Result<Vec<bool>, AllocError>
-    requires graph { IsSimpleGraph (length gives.now) (ends_among bonds.now) }
-    requires rings { length bond_in_ring.now ≡ length bonds.now }
-    requires closed { AreClosed (lists_of links.now) }
-    requires each { length gives.now ≡ length links.now }
-    ensures count { IfOk result (λ marks. length marks.items ≡ length bonds.now) }
-    ensures each { IfOk result (λ marks. (b x y : ℕ) → slice_get (ends_among bonds.now) b ≡ Some (x, y)
-        → (slice_index_or marks.items b false ≡ true) ↔ (slice_index_or bond_in_ring.now b false ≡ true)
-        × CanReach (lists_of links.now) gives.now y (x ∷ [])) }
-{
-    let mut scratch = Vec::with_capacity(alloc, 18)?;
-    let mut marks = Vec::with_capacity(alloc, bonds.len())?;
-    for (place, bond) in bonds.iter().enumerate() {
-        let found = is_aromatic(links, gives, &mut scratch, *bond, bond_in_ring[place])?;
-        marks.push(found)?;
-    }
-    Ok(marks)
-}
-
-fn is_aromatic(
-    links: &[Links],
-    gives: &[Option<u8>],
-    scratch: &mut Vec<u16>,
-    bond: SketchBond,
-    ring: bool,
-) -> Result<bool, AllocError>
-    requires closed { AreClosed (lists_of links.now) }
-    requires each { length gives.now ≡ length links.now }
-    requires in_range { bond.a < length links.now }
-    ensures { IfOk result (λ found. (found ≡ true)
-        ↔ (ring ≡ true) × CanReach (lists_of links.now) gives.now bond.b (bond.a ∷ [])) }
-{
-    if !ring {
-        return Ok(false);
-    }
-    closes(links, gives, scratch, bond)
-}
-
-// Which atoms are ends of these bonds.
-fn ends_of_marked(
-    alloc: Global,
-    count: usize,
-    bonds: &[SketchBond],
-    marks: &[bool],
-) -> Result<Vec<bool>, AllocError>
-    requires graph { IsSimpleGraph count (ends_among bonds.now) }
-    requires each { length marks.now ≡ length bonds.now }
-    ensures count { IfOk result (λ flags. length flags.items ≡ count) }
-    ensures each { IfOk result (λ flags. (a : ℕ) → (slice_index_or flags.items a false ≡ true)
-        ↔ IsMarkedEnd (ends_among bonds.now) marks.now (length bonds.now) a) }
-{
-    let mut flags = no_flags(alloc, count)?;
-    mark_all(&mut flags, bonds, marks);
-    Ok(flags)
-}
-
-fn no_flags(alloc: Global, count: usize) -> Result<Vec<bool>, AllocError>
-    ensures { IfOk result (λ flags. flags.items ≡ replicate count false) }
-{
-    let mut flags = Vec::with_capacity(alloc, count)?;
-    for _ in 0..count {
-        flags.push(false)?;
-    }
-    Ok(flags)
-}
-
-fn mark_all(flags: &mut [bool], bonds: &[SketchBond], marks: &[bool])
-    requires graph { IsSimpleGraph (length flags.old) (ends_among bonds.now) }
-    requires each { length marks.now ≡ length bonds.now }
-    requires none { flags.old ≡ replicate (length flags.old) false }
-    ensures { (a : ℕ) → (slice_index_or flags.new a false ≡ true)
-        ↔ IsMarkedEnd (ends_among bonds.now) marks.now (length bonds.now) a }
-{
-    for (place, bond) in bonds.iter().enumerate() {
-        if marks[place] {
-            flags[usize::from(bond.a)] = true;
-            flags[usize::from(bond.b)] = true;
-        }
-    }
 }
 
 // The valence of an atom: what its bonds add, its hydrogens, and one more where its row adds one.
@@ -330,43 +232,6 @@ fn valences(
         values.push(valence(atom, place, bonds, marks, one))?;
     }
     Ok(values)
-}
-
-// Which bonds lie on a Hückel cycle.
-fn find_bonds(
-    alloc: Global,
-    atoms: &[SketchAtom],
-    bonds: &[SketchBond],
-    bond_in_ring: &[bool],
-    rows: &[Option<Row>],
-) -> Result<Vec<bool>, AllocError>
-    requires sound { IsSound (record { atoms = atoms.now; bonds = bonds.now }) }
-    requires rings { AreRingBonds (ends_among bonds.now) bond_in_ring.now }
-    requires rows { AreRows (record { atoms = atoms.now; bonds = bonds.now }) bond_in_ring.now rows.now }
-    ensures { IfOk result (λ marks. AreAromaticBonds (record { atoms = atoms.now; bonds = bonds.now })
-        bond_in_ring.now marks.items) }
-{
-    let gives = electrons_of(alloc, rows)?;
-    let links = links_between(alloc, bonds, bond_in_ring, &gives)?;
-    let marks = aromatic_bonds(alloc, bonds, bond_in_ring, &gives, &links)?;
-    Ok(marks)
-}
-
-// Which atoms lie on a Hückel cycle.
-fn find_atoms(
-    alloc: Global,
-    atoms: &[SketchAtom],
-    bonds: &[SketchBond],
-    bond_in_ring: &[bool],
-    marks: &[bool],
-) -> Result<Vec<bool>, AllocError>
-    requires sound { IsSound (record { atoms = atoms.now; bonds = bonds.now }) }
-    requires marks { AreAromaticBonds (record { atoms = atoms.now; bonds = bonds.now }) bond_in_ring.now marks.now }
-    ensures { IfOk result (λ flags. AreAromaticAtoms (record { atoms = atoms.now; bonds = bonds.now })
-        bond_in_ring.now flags.items) }
-{
-    let flags = ends_of_marked(alloc, atoms.len(), bonds, marks)?;
-    Ok(flags)
 }
 
 fn perceive_lists(
