@@ -1,20 +1,20 @@
 -- A bond lies on a Hückel cycle exactly where its one end is joined to its other end by a path that closes to one.
-use Rattle.std.proofs.Common.{zero, suc, ℕ, ◌+◌, ◌-◌, ◌%◌, ◌<◌, ◌≤◌, ◌≡◌, ◌≢◌, ◌⊎◌, ◌↔◌, inl, inr, Bool, true, false, List, [], ◌∷◌, ◌++◌, length, map, take, drop, reverse, replicate, get_or, All, AllPairs, Contains, IsPermutation, Option, None, Some, IsSome, option_map, option_and_then, if◌then◌else◌, not, ◌&&◌, unwrap_or, sum_by, slice_get, refl, sym, ap, subst, ◌∙◌, arith}
+use Rattle.std.proofs.Common.{zero, suc, ℕ, ◌+◌, ◌-◌, ◌%◌, ◌<◌, ◌≤◌, ◌≡◌, ◌≢◌, ◌⊎◌, ◌↔◌, inl, inr, Bool, true, false, List, [], ◌∷◌, ◌++◌, length, map, take, drop, reverse, get_or, All, AllPairs, Contains, IsPermutation, Option, None, Some, IsSome, option_map, option_and_then, if◌then◌else◌, not, ◌&&◌, unwrap_or, sum_by, slice_get, refl, sym, ap, subst, ◌∙◌, arith}
 use Rattle.std.proofs.Math.Nat.{mod-eq_of_lt, mod_self}
-use Rattle.std.proofs.lemmas.List.{get_or_append_left, get_or-append_right, get_or-drop, get_or-take, get_or-reverse, get_or_default, get_or_past, get_or-map, get_or-replicate, length-append, length-drop, length-take-le, length-reverse, length-replicate, length-map, take-append-drop}
+use Rattle.std.proofs.lemmas.List.{get_or_append_left, get_or-append_right, get_or-drop, get_or-take, get_or-reverse, get_or_default, get_or_past, get_or-map, length-append, length-drop, length-take-le, length-reverse, length-map, take-append-drop}
 use Rattle.std.proofs.lemmas.List.Sorted.{IsPermutation-append_comm, IsPermutation-reverse, All-permutation, sum_by-IsPermutation}
 use Rattle.std.proofs.lemmas.Option.{slice_get_within, slice_get_past, same_Some}
-use Rattle.std.proofs.lemmas.Bool.{cases_lt, cases_eq, false≢true}
+use Rattle.std.proofs.lemmas.Bool.{cases_lt, false≢true}
 use Rattle.chem_core.specs.Drawing.{Drawing}
 use Rattle.chem_core.specs.Sound.{IsSound, sketch_ends}
-use Rattle.chem_core.specs.Graph.{Ends, JoinsAt, Joined, IsSimpleCycle, IsSimpleGraph, LiesOn, next_place}
+use Rattle.chem_core.specs.Graph.{Ends, JoinsAt, IsSimpleGraph, next_place}
 use Rattle.aromatic.specs.Electrons.{electrons, row_at, row_of, site_of, is_eligible}
-use Rattle.aromatic.specs.Huckel.{IsHuckelCycle, IsAromaticBond, IsAromaticAtom, IsRefused, IsFirstRefused, IsPerceived, has_colon, bonded, adds_one}
+use Rattle.aromatic.specs.Huckel.{IsHuckelCycle, IsAromaticAtom, IsRefused, IsFirstRefused, IsPerceived, has_colon, bonded, adds_one}
 use Rattle.std.specs.List.{enumerate_from}
 use Rattle.chem_core.specs.declared.sketch.SketchAtom.{SketchAtom}
 use Rattle.chem_core.specs.RingFacts.{AreRingBonds}
 use Rattle.aromatic.specs.declared.links.Link.{Link}
-use Rattle.aromatic.specs.Links.{AreClosed, AreLinks, AreMutual, IsCandidateAt, IsLinkBelow, IsLinked, links_at}
+use Rattle.aromatic.specs.Links.{AreClosed, AreLinks, AreMutual, IsCandidateAt, IsLinkBelow, links_at}
 use Rattle.aromatic.specs.Route.{AreAromaticAtoms, AreAromaticBonds, AreMarksBelow, AreRows, CanReach, Completes, IsAromaticBy, IsHuckelBy, IsMarkedEnd, IsNet, IsRoute, IsTrail, atoms_of, ends_among, given_at, last_of, refused, valence_by}
 use Rattle.aromatic.proofs.Routes.{atom_at, length-atoms_of}
 use Rattle.aromatic.specs.declared.table.Row.{Row}
@@ -230,6 +230,16 @@ route_step ends rings gives links path k net trail lt =
     let link = trail.linked k lt in
     (link.0, (net.linked.each (get_or path k 0) (get_or path (k + 1) 0) link.0).0 link.1)
 
+-- both ends of a route are candidates
+pub ends-candidates : (ends : Ends) (rings : List Bool) (gives : List (Option ℕ)) (links : List (List Link)) (x y : ℕ) → IsNet ends rings gives links → CanReach links gives y (x ∷ []) → IsCandidateAt gives x × IsCandidateAt gives y
+ends-candidates ends rings gives links x y net (rest, route) =
+    let path : List ℕ = (x ∷ []) ++ rest in
+    let three : 3 ≤ length path = route.three in
+    let first = route_step ends rings gives links path 0 net route.trail (omega arith) in
+    let last = route_step ends rings gives links path (length path - 2) net route.trail (omega arith) in
+    let e : length path - 2 + 1 ≡ length path - 1 = omega arith in
+    (first.1.3, subst (λ a. IsCandidateAt gives a) (ap (λ k. get_or path k 0) e ∙ route.ends) last.1.4)
+
 -- the bond between x and y leads from the last atom of a route to its first
 closing : (ends : Ends) (links : List (List Link)) (gives : List (Option ℕ)) (path : List ℕ) (b x y : ℕ) → slice_get ends b ≡ Some (x, y) → IsRoute links gives y path → get_or path 0 0 ≡ x → (k : ℕ) → k + 1 ≡ length path → JoinsAt ends b (get_or path k 0) (get_or path (next_place path k) 0)
 closing ends links gives path b x y here route first k e =
@@ -348,18 +358,6 @@ marks-path ends rings gives links k x y marks after path net here whole h len st
             (step b).1 (inr (rw e has))
       ];
     }
-
-pub marks-none : (ends : Ends) (gives : List (Option ℕ)) (marks : List Bool) → marks ≡ replicate (length ends) false → AreMarksBelow ends gives 0 marks
-marks-none ends gives marks is = record {
-  count = ap length is ∙ length-replicate (length ends) false;
-  sound = λ b marked.
-      let none : get_or marks b false ≡ false = rw is (elim (cases_lt b (length ends)) [
-        | inl l ↦ get_or-replicate (length ends) b false false l
-        | inr l ↦ get_or_past (replicate (length ends) false) b false (rw length-replicate l)
-      ]) in
-      absurd (false≢true (sym none ∙ marked));
-  each = λ b lt on. absurd (omega arith);
-}
 
 -- ---- the same of what the code reads
 

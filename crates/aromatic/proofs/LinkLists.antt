@@ -1,11 +1,11 @@
 -- Lists of links as the bonds come in, one after another.
-use Rattle.std.proofs.Common.{ℕ, ◌+◌, ◌<◌, ◌≤◌, ◌≡◌, ◌≢◌, ◌⊎◌, ◌↔◌, inl, inr, Bool, true, false, List, [], ◌∷◌, ◌++◌, length, map, get_or, set, replicate, Contains, Option, None, Some, slice_get, option_map, refl, sym, ap, subst, ◌∙◌, arith}
-use Rattle.std.proofs.lemmas.List.{get_or-set_same, get_or-set_other, length-map, map-set, get_or_past, get_or-map, get_or-replicate, length-replicate}
+use Rattle.std.proofs.Common.{ℕ, ◌+◌, ◌<◌, ◌≡◌, ◌⊎◌, ◌↔◌, inl, inr, Bool, true, false, List, [], ◌∷◌, ◌++◌, length, get_or, set, Contains, Option, Some, slice_get, option_map, sym, ap, subst, ◌∙◌, arith}
+use Rattle.std.proofs.lemmas.List.{get_or-set_same, get_or-set_other, length-map, map-set, get_or-map}
 use Rattle.std.proofs.lemmas.List.Elements.{Contains-append_left, Contains-push, Contains-push_cases}
 use Rattle.std.proofs.lemmas.Option.{same_Some, slice_get-map, slice_get-get_or}
 use Rattle.std.proofs.lemmas.Bool.{cases_lt, cases_eq}
 use Rattle.smallvec.specs.SmallVec.{SmallVec}
-use Rattle.chem_core.specs.Graph.{Ends, JoinsAt, IsSimpleGraph}
+use Rattle.chem_core.specs.Graph.{Ends, IsSimpleGraph}
 use Rattle.chem_core.specs.declared.sketch.SketchBond.{SketchBond}
 use Rattle.aromatic.specs.declared.links.Link.{Link}
 use Rattle.aromatic.specs.Links.{AreLinks, IsCandidateAt, IsLinkBelow, IsNewLink, links_at, links_in}
@@ -80,19 +80,6 @@ link-more ends rings gives k x y here a n b = (
         ]
   ],
 )
-
-pub links-none : (ends : Ends) (rings : List Bool) (gives : List (Option ℕ)) (lists : List (List Link)) → lists ≡ replicate (length gives) [] → AreLinks ends rings gives 0 lists
-links-none ends rings gives lists is = record {
-  count = ap length is ∙ length-replicate (length gives) [];
-  each = λ a n b.
-      let none : links_at lists a ≡ [] = rw is (elim (cases_lt a (length gives)) [
-        | inl l ↦ get_or-replicate (length gives) a [] [] l
-        | inr l ↦ get_or_past (replicate (length gives) []) a [] (rw length-replicate l)
-      ]) in (
-        λ q. absurd (let q' = subst (λ xs. Contains xs (record { to = n; bond = b })) none q in let lt : q'.0 < 0 = q'.1 in omega arith),
-        λ q. absurd (let lt : b < 0 = q.0 in omega arith),
-      );
-}
 
 pub links-more : (bonds : List SketchBond) (rings : List Bool) (gives : List (Option ℕ)) (k : ℕ) (d : SketchBond) (before after : List (SmallVec Link)) → k < length bonds → AreLinks (ends_among bonds) rings gives k (links_in before) → length after ≡ length before → ((a n b : ℕ) → Contains (links_at (links_in after) a) (record { to = n; bond = b }) ↔ (Contains (links_at (links_in before) a) (record { to = n; bond = b }) ⊎ IsNewLink gives k (get_or bonds k d).a (get_or bonds k d).b (get_or rings k false) a n b)) → AreLinks (ends_among bonds) rings gives (k + 1) (links_in after)
 links-more bonds rings gives k d before after within h same step =

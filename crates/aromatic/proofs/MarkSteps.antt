@@ -1,10 +1,10 @@
 -- Marks of bonds and of their ends, one bond after another.
-use Rattle.std.proofs.Common.{ℕ, ◌+◌, ◌<◌, ◌≤◌, ◌≡◌, ◌≢◌, ◌⊎◌, ◌↔◌, inl, inr, Bool, true, false, List, [], ◌∷◌, ◌++◌, length, map, get_or, set, replicate, Contains, Option, None, Some, slice_get, option_map, refl, sym, ap, subst, ◌∙◌, arith}
-use Rattle.std.proofs.lemmas.List.{get_or-set_same, get_or-set_other, length-set, get_or-map, length-map}
+use Rattle.std.proofs.Common.{ℕ, ◌+◌, ◌<◌, ◌≡◌, ◌⊎◌, ◌↔◌, inl, inr, Bool, true, false, List, length, map, get_or, set, Some, slice_get, option_map, sym, ap, ◌∙◌, arith}
+use Rattle.std.proofs.lemmas.List.{get_or-set_same, get_or-set_other, length-set, get_or-map}
 use Rattle.std.proofs.lemmas.Option.{same_Some, slice_get-map, slice_get-get_or}
 use Rattle.std.proofs.lemmas.Bool.{cases_lt, cases_eq, false≢true}
 use Rattle.chem_core.specs.declared.sketch.SketchBond.{SketchBond}
-use Rattle.chem_core.specs.Graph.{Ends, JoinsAt}
+use Rattle.chem_core.specs.Graph.{Ends}
 use Rattle.aromatic.specs.declared.links.Link.{Link}
 use Rattle.aromatic.specs.Route.{ends_among, IsMarkedEnd}
 
@@ -99,10 +99,3 @@ follow-more path before now k d within range h b =
             ]),
           )
     ]
-
-pub follow-all : (path : List Link) (before now : List Bool) (k : ℕ) → length path ≡ k → ((b : ℕ) → (get_or now b false ≡ true) ↔ ((get_or before b false ≡ true) ⊎ Follows path k b)) → (b : ℕ) → (get_or now b false ≡ true) ↔ ((get_or before b false ≡ true) ⊎ Contains (map (λ l. l.bond) path) b)
-follow-all path before now k all h b =
-    let len : length (map (λ l. l.bond) path) ≡ length path = length-map path (λ l. l.bond) in (
-      λ marked. elim ((h b).0 marked) [ inl old ↦ inl old | inr q ↦ let lt : q.0 < k = q.1 in inr (q.0, omega arith, q.2) ],
-      λ q. (h b).1 (elim q [ inl old ↦ inl old | inr f ↦ let lt : f.0 < length (map (λ l. l.bond) path) = f.1 in inr (f.0, omega arith, f.2) ]),
-    )

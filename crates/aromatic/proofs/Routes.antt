@@ -1,12 +1,12 @@
 -- Trails and routes: one more atom, and when a trail can be completed.
-use Rattle.std.proofs.Common.{zero, suc, ℕ, ◌+◌, ◌-◌, ◌%◌, ◌<◌, ◌≤◌, ◌≡◌, ◌≢◌, ◌⊎◌, inl, inr, List, [], ◌∷◌, ◌++◌, length, get_or, Contains, AllPairs, Any, Option, None, unwrap_or, sum_by, refl, sym, ap, subst, ◌∙◌, arith, append_assoc}
-use Rattle.std.proofs.lemmas.List.{append-nil, length-append, get_or_append_left, get_or-append_right, get_or_at, get_or_default, length_push, get_or_push, get_or-map, length-map, map-append}
+use Rattle.std.proofs.Common.{zero, suc, ℕ, ◌+◌, ◌-◌, ◌<◌, ◌≤◌, ◌≡◌, ◌≢◌, inl, inr, List, [], ◌∷◌, ◌++◌, length, get_or, Contains, AllPairs, Any, Option, sum_by, refl, sym, ap, subst, ◌∙◌, arith, append_assoc}
+use Rattle.std.proofs.lemmas.List.{append-nil, length-append, get_or_append_left, get_or_at, get_or_default, length_push, get_or_push, get_or-map, length-map, map-append}
 use Rattle.std.proofs.lemmas.List.Sums.{sum_by-cons}
-use Rattle.std.proofs.lemmas.Bool.{cases_lt, cases_eq}
+use Rattle.std.proofs.lemmas.Bool.{cases_lt}
 use Rattle.aromatic.specs.declared.links.Link.{Link}
 use Rattle.aromatic.specs.Links.{AreClosed, IsLinked, links_at, links_in}
 use Rattle.aromatic.specs.Distances.{AreDistances}
-use Rattle.aromatic.specs.Route.{AreSteps, CanReach, Completes, IsRoute, IsTrail, atoms_of, given_at, last_of}
+use Rattle.aromatic.specs.Route.{AreSteps, CanReach, Completes, IsRoute, IsTrail, atoms_of, last_of}
 use Rattle.smallvec.specs.SmallVec.{SmallVec}
 
 -- a later atom of a path with distinct atoms is none of the earlier ones
@@ -27,9 +27,6 @@ reached links gives target path trail at (n ∷ rest, route) =
     let some : 1 ≤ length path = trail.some in
     let early : get_or whole (length path - 1) 0 ≡ target = get_or_append_left path (n ∷ rest) 0 (length path - 1) (omega arith) ∙ at in
     absurd (route.trail.distinct (length path - 1) (length whole - 1) 0 (omega arith) (omega arith) (early ∙ sym route.ends))
-
-pub reach-here : (links : List (List Link)) (gives : List (Option ℕ)) (target : ℕ) (path : List ℕ) → IsRoute links gives target path → CanReach links gives target path
-reach-here links gives target path route = ([], subst (λ p. IsRoute links gives target p) (sym (append-nil path)) route)
 
 -- one more atom
 pub trail-push : (links : List (List Link)) (path : List ℕ) (n : ℕ) → IsTrail links path → length path < 18 → n < length links → IsLinked links (last_of path) n → (Contains path n → ⊥) → IsTrail links (path ++ n ∷ [])
@@ -67,9 +64,6 @@ trail-push links path n trail few within link new =
             rw (e, at 0, below i 0 l', e') link
       ];
     }
-
-pub reach-less : (links : List (List Link)) (gives : List (Option ℕ)) (target : ℕ) (path : List ℕ) (n : ℕ) → CanReach links gives target (path ++ n ∷ []) → CanReach links gives target path
-reach-less links gives target path n (rest, route) = (n ∷ rest, subst (λ p. IsRoute links gives target p) (append_assoc path (n ∷ []) rest) route)
 
 -- no way goes on through an atom of the path
 pub reach-new : (links : List (List Link)) (gives : List (Option ℕ)) (target : ℕ) (path : List ℕ) (n : ℕ) → Contains path n → CanReach links gives target (path ++ n ∷ []) → ⊥
@@ -182,9 +176,6 @@ steps-push links path l some steps link i d within =
     ]
 
 -- ---- the same of what the search reads
-
-pub links_read : (links : List (SmallVec Link)) (i : ℕ) (v : SmallVec Link) → i < length links → v ≡ get_or links i v → links_at (links_in links) i ≡ v.items
-links_read links i v within read = get_or-map (λ w. w.items) links i v [] within ∙ ap (λ w. w.items) (sym read)
 
 pub length-links_in : (links : List (SmallVec Link)) → length (links_in links) ≡ length links
 length-links_in links = length-map links (λ v. v.items)

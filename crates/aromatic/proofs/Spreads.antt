@@ -1,12 +1,12 @@
 -- Distances from the target of a search as they spread.
-use Rattle.std.proofs.Common.{ℕ, zero, suc, ◌+◌, ◌<◌, ◌≤◌, ◌≡◌, ◌≢◌, ◌⊎◌, inl, inr, false, cond, eqb, List, [], ◌∷◌, ◌++◌, length, get_or, set, replicate, All, Contains, count_by, refl, sym, ap, subst, ◌∙◌, arith}
+use Rattle.std.proofs.Common.{ℕ, zero, suc, ◌+◌, ◌<◌, ◌≤◌, ◌≡◌, ◌≢◌, ◌⊎◌, inl, inr, false, cond, eqb, List, [], ◌∷◌, ◌++◌, length, get_or, set, replicate, count_by, refl, sym, ap, ◌∙◌, arith}
 use Rattle.std.proofs.lemmas.Bool.{cases_lt, cases_eq, ne_eqb}
-use Rattle.std.proofs.lemmas.List.{get_or_append_left, get_or_push, length_push, length-set, length-replicate, get_or-set_same, get_or-set_other, get_or-replicate, get_or_past, get_or_default, ext_get_or}
+use Rattle.std.proofs.lemmas.List.{get_or_append_left, get_or_push, length_push, length-set, length-replicate, get_or-set_same, get_or-set_other, get_or-replicate, get_or_past, get_or_default}
 use Rattle.std.proofs.lemmas.List.Elements.{Contains-append_left, Contains-push}
 use Rattle.std.proofs.lemmas.List.Sums.{sum_by-cons, sum_by-set}
 use Rattle.aromatic.specs.declared.links.Link.{Link}
-use Rattle.aromatic.specs.Links.{AreClosed, AreMutual, IsLinked, links_at}
-use Rattle.aromatic.specs.Distances.{AreDistances, IsQueue, IsSpread, distance_at}
+use Rattle.aromatic.specs.Links.{AreClosed, AreMutual, IsLinked}
+use Rattle.aromatic.specs.Distances.{AreDistances, IsSpread, distance_at}
 
 count-far : (n : ℕ) → count_by (λ d. eqb d 18) (replicate n 18) ≡ n
 count-far zero = refl
@@ -239,46 +239,3 @@ visit-skip links target head atom farther nexts distances queue k d h inside wit
             rw same low
       ];
     }
-
-pub visit-end : (links : List (List Link)) (target head atom farther : ℕ) (nexts : List Link) (distances queue : List ℕ) (k : ℕ) → nexts ≡ links_at links atom → IsVisit links target head atom farther nexts distances queue k → length nexts ≤ k → IsSpread links target distances queue (head + 1)
-visit-end links target head atom farther nexts distances queue k are h all =
-    spread-next links target distances queue head h.spread (λ n link.
-    let link' = rw h.here at link in
-    let l : Link = record { to = n; bond = link'.0 } in
-    let q : Contains nexts l = subst (λ xs. Contains xs l) (sym are) link'.1 in
-    let is : get_or nexts q.0 l ≡ l = q.2 in
-    let close : get_or distances (get_or nexts q.0 l).to 0 ≤ farther = h.done q.0 l (omega (arith, q.1)) in
-    let close' : get_or distances n 0 ≤ farther = rw is at close in
-    let e = h.distance in
-    rw h.here (omega arith))
-
--- ---- distances taken back, one atom of the queue after another
-
-pub blank-more : (distances queue : List ℕ) (k : ℕ) → k < length queue → ((a : ℕ) → a < length distances → get_or distances a 0 ≢ 18 → (j : ℕ) × (k ≤ j) × (j < length queue) × (get_or queue j 0 ≡ a)) → (a : ℕ) → a < length (set distances (get_or queue k 0) 18) → get_or (set distances (get_or queue k 0) 18) a 0 ≢ 18 → (j : ℕ) × (k + 1 ≤ j) × (j < length queue) × (get_or queue j 0 ≡ a)
-blank-more distances queue k inside h a within away =
-    let w : ℕ = get_or queue k 0 in
-    let size : length (set distances w 18) ≡ length distances = length-set distances w 18 in
-    let there : a < length distances = omega arith in
-    elim (cases_eq a w) [
-      | inl e ↦
-          let w_there : w < length distances = rw e at there in
-          absurd (away (rw e (get_or-set_same distances w 18 0 w_there)))
-      | inr ne ↦
-          let q = h a there (λ e. away (get_or-set_other distances w a 18 0 ne ∙ e)) in
-          let le : k ≤ q.0 = q.1 in
-          let other : q.0 ≢ k = λ e. ne (sym q.3 ∙ ap (λ j. get_or queue j 0) e) in
-          (q.0, omega arith, q.2, q.3)
-    ]
-
-pub blank-all : (distances queue : List ℕ) (n k : ℕ) → length queue ≤ k → length distances ≡ n → ((a : ℕ) → a < length distances → get_or distances a 0 ≢ 18 → (j : ℕ) × (k ≤ j) × (j < length queue) × (get_or queue j 0 ≡ a)) → distances ≡ replicate n 18
-blank-all distances queue n k all size h =
-    ext_get_or 0 distances (replicate n 18) (size ∙ sym (length-replicate n 18)) (λ a l.
-    let l' : a < n = omega arith in
-    elim (cases_eq (get_or distances a 0) 18) [
-      | inl e ↦ e ∙ sym (blank-at n a l')
-      | inr ne ↦
-          let q = h a l ne in
-          let low : k ≤ q.0 = q.1 in
-          let high : q.0 < length queue = q.2 in
-          absurd (omega arith)
-    ])

@@ -1,5 +1,5 @@
 //! The search for a Hückel cycle through a bond: for a path of links from its one end to its other end.
-ghost use Rattle.std.specs.Prelude.{◌≡◌, ◌≤◌, ◌<◌, ◌+◌, ◌%◌, ◌↔◌, ◌∷◌, ◌⊎◌, [], length, replicate, slice_index, sum_by, IfOk, IsTrue, OnOk, Ok, All, Any, ℕ, true, false};
+ghost use Rattle.std.specs.Prelude.{◌≡◌, ◌≤◌, ◌<◌, ◌+◌, ◌%◌, ◌↔◌, ◌∷◌, [], length, replicate, slice_index, sum_by, IfOk, IsTrue, OnOk, Ok, All, Any, true, false};
 ghost use Rattle.aromatic.specs.Links.{AreClosed, AreMutual, links_in};
 ghost use Rattle.aromatic.specs.Distances.{AreDistances};
 ghost use Rattle.aromatic.specs.Route.{AreSteps, CanReach, Completes, IsTrail, atoms_of, given_at, last_of};
@@ -7,6 +7,9 @@ ghost use Rattle.aromatic.specs.Route.{AreSteps, CanReach, Completes, IsTrail, a
 use crate::distance::{FAR, forget, spread};
 use crate::links::{Link, Links, links_of};
 use std::alloc::{AllocError, Global};
+
+/// How many atoms a Hückel cycle has at most.
+const LONGEST: usize = 18;
 
 /// What a search writes: taken once, and used for one search after another.
 #[derive(Drop)]
@@ -24,7 +27,7 @@ impl Scratch {
         ensures { IfOk result (λ s. s.distances.items ≡ replicate atoms 18) }
     {
         Ok(Scratch {
-            path: Vec::with_capacity(alloc, usize::from(FAR))?,
+            path: Vec::with_capacity(alloc, LONGEST)?,
             distances: vec![in alloc; FAR; atoms]?,
             queue: Vec::with_capacity(alloc, atoms)?,
         })
@@ -112,7 +115,7 @@ fn may_follow(path: &[Link], distances: &[u8], atom: u16) -> bool
     ensures { IsTrue result ↔ (length path.now + 1 + slice_index distances.now atom ≤ 18)
         × (Any (λ l. l.to ≡ atom) path.now → ⊥) }
 {
-    path.len() + 1 + usize::from(distances[usize::from(atom)]) <= 18 && !has(path, atom)
+    path.len() + 1 + usize::from(distances[usize::from(atom)]) <= LONGEST && !has(path, atom)
 }
 
 fn has(path: &[Link], atom: u16) -> bool

@@ -6,7 +6,7 @@ ghost use Rattle.aromatic.specs.Distances.{AreDistances, IsQueue, IsSpread};
 use crate::links::{Links, links_of};
 use std::alloc::AllocError;
 
-/// The distance of an atom that is not nearer. A cycle has at most as many atoms, so it needs no such atom.
+/// The distance of an atom that is not nearer. A Hückel cycle has at most as many atoms, so none goes over such an atom.
 pub const FAR: u8 = 18;
 
 /// Writes the distance of each atom that is nearer than `FAR`, and puts these atoms into the queue. Only these and

@@ -1,7 +1,7 @@
 //! Links between the candidates that ring bonds join.
-ghost use Rattle.std.specs.Prelude.{◌≡◌, ◌<◌, ◌≤◌, ◌↔◌, ◌⊎◌, [], length, replicate, IfOk, OnOk, Contains, ℕ};
+ghost use Rattle.std.specs.Prelude.{◌≡◌, ◌<◌, ◌↔◌, ◌⊎◌, [], length, replicate, IfOk, IsTrue, OnOk, Contains, ℕ};
 ghost use Rattle.chem_core.specs.Graph.{IsSimpleGraph};
-ghost use Rattle.aromatic.specs.Links.{AreLinks, IsNewLink, links_at, links_in};
+ghost use Rattle.aromatic.specs.Links.{AreLinks, IsCandidateAt, IsNewLink, links_at, links_in};
 ghost use Rattle.aromatic.specs.Route.{ends_among};
 
 use chem_core::SketchBond;
@@ -79,7 +79,7 @@ fn join(
         ↔ (Contains (links_at (links_in links.old) a) (record { to = n; bond = b })
         ⊎ IsNewLink gives.now place bond.a bond.b ring a n b)) }
 {
-    if ring && gives[usize::from(bond.a)].is_some() && gives[usize::from(bond.b)].is_some() {
+    if ring && are_candidates(gives, bond) {
         let to_b = Link {
             to: bond.b,
             bond: place,
@@ -92,6 +92,15 @@ fn join(
         add(links, bond.b, to_a)?;
     }
     Ok(())
+}
+
+/// Whether both ends of a bond are candidates.
+pub fn are_candidates(gives: &[Option<u8>], bond: SketchBond) -> bool
+    requires a_in_range { bond.a < length gives.now }
+    requires b_in_range { bond.b < length gives.now }
+    ensures { IsTrue result ↔ IsCandidateAt gives.now bond.a × IsCandidateAt gives.now bond.b }
+{
+    gives[usize::from(bond.a)].is_some() && gives[usize::from(bond.b)].is_some()
 }
 
 fn add(links: &mut [Links], from: u16, link: Link) -> Result<(), AllocError>

@@ -1,5 +1,5 @@
 //! Which bonds and atoms of a sketch lie on Hückel cycles.
-ghost use Rattle.std.specs.Prelude.{◌≡◌, ◌<◌, ◌≤◌, ◌+◌, ◌↔◌, ◌⊎◌, length, map, replicate, option_map, slice_index_or, All, Contains, IfOk, OnOk, ℕ, true, false};
+ghost use Rattle.std.specs.Prelude.{◌≡◌, ◌<◌, ◌+◌, ◌↔◌, ◌⊎◌, length, map, replicate, option_map, slice_index_or, All, Contains, IfOk, OnOk, ℕ, true, false};
 ghost use Rattle.chem_core.specs.Graph.{IsSimpleGraph};
 ghost use Rattle.chem_core.specs.RingFacts.{AreRingBonds};
 ghost use Rattle.chem_core.specs.Sound.{IsSound};
@@ -7,7 +7,7 @@ ghost use Rattle.aromatic.specs.Links.{links_in};
 ghost use Rattle.aromatic.specs.Route.{AreAromaticAtoms, AreAromaticBonds, AreMarksBelow, AreRows, IsMarkedEnd, IsNet, ends_among};
 
 use crate::cycle::{Scratch, closes};
-use crate::links::{Link, Links, links_between};
+use crate::links::{Link, Links, are_candidates, links_between};
 use crate::table::Row;
 use chem_core::{SketchAtom, SketchBond};
 use std::alloc::{AllocError, Global};
@@ -56,7 +56,15 @@ fn aromatic_bonds(
     let mut scratch = Scratch::new(alloc, gives.len())?;
     let mut marks = vec![in alloc; false; bonds.len()]?;
     for place in 0..bonds.len() {
-        mark_through(bonds, bond_in_ring, gives, links, place, &mut scratch, &mut marks)?;
+        mark_through(
+            bonds,
+            bond_in_ring,
+            gives,
+            links,
+            place,
+            &mut scratch,
+            &mut marks,
+        )?;
     }
     Ok(marks)
 }
@@ -78,10 +86,10 @@ fn mark_through(
     ensures marks { OnOk result (AreMarksBelow (ends_among bonds.now) gives.now (place + 1) marks.new) }
     ensures blank { OnOk result (scratch.new.distances.items ≡ replicate (length links.now) 18) }
 {
-    if !bond_in_ring[place] || marks[place] {
+    let bond = bonds[place];
+    if !bond_in_ring[place] || !are_candidates(gives, bond) || marks[place] {
         return Ok(());
     }
-    let bond = bonds[place];
     let first = Link {
         to: bond.a,
         bond: place as u16,

@@ -1,9 +1,9 @@
-use Rattle.std.proofs.Common.{◌≡◌, ◌≢◌, ◌≤◌, ◌<◌, ◌∷◌, [], length, ℕ, ◌+◌, ◌-◌, List, ◌++◌, sym, ap, ◌∙◌, arith, Contains, Any, get_or, IsTrue, Ok, true, false, ◌↔◌}
+use Rattle.std.proofs.Common.{◌≡◌, ◌≢◌, ◌≤◌, ◌<◌, ◌∷◌, [], length, ◌+◌, ◌-◌, List, ◌++◌, sym, ap, ◌∙◌, arith, get_or, Ok, true, false}
 use Rattle.std.proofs.lemmas.Bool.{false≢true}
 use Rattle.std.proofs.lemmas.List.{take_at, length_push}
 use Rattle.aromatic.specs.declared.links.Link.{Link}
-use Rattle.aromatic.specs.Links.{links_at, links_in}
-use Rattle.aromatic.specs.Route.{CanReach, IsRoute, atoms_of, given_at, last_of}
+use Rattle.aromatic.specs.Links.{links_in}
+use Rattle.aromatic.specs.Route.{CanReach, IsRoute, atoms_of, last_of}
 use Rattle.aromatic.proofs.Routes.{any-from_contains, atom_at, atoms_of-push, completes-here, completes-less, contains-from_any, length-atoms_of, length-links_in, linked_at, near_enough, nowhere_more, reach-new, reach-none, reached, steps-push, sum_by-atoms_of, trail-next}
 use Rattle.aromatic.proofs.cycle.+extend.Goals as goal
 use Rattle.aromatic.proofs.cycle.+extend.Goals.{then-may_follow+in_ok-push+in_ok-extend+else-branch, else-may_follow}
@@ -87,8 +87,8 @@ loop-link-preserved t c =
           record {
             same = ap (λ v. v.items) w.path-is ∙ same;
             none = nowhere_more (λ l. CanReach links c.args.gives.now c.args.target (atoms_of path ++ l.to ∷ [])) nexts c.loop-link.link-index (record { to = 0; bond = 0 }) c.loop-link-test.true c.loop-link.invariant.none (λ reach.
-            let near = near_enough links c.args.gives.now c.args.target c.args.distances.now (atoms_of path) next.to c.requires.distances reach in
-            false≢true (sym w.if-may_follow.false ∙ may.1 (rw long at near, λ old. reach-new links c.args.gives.now c.args.target (atoms_of path) next.to (contains-from_any path next.to old) reach)));
+                let near = near_enough links c.args.gives.now c.args.target c.args.distances.now (atoms_of path) next.to c.requires.distances reach in
+                false≢true (sym w.if-may_follow.false ∙ may.1 (rw long at near, λ old. reach-new links c.args.gives.now c.args.target (atoms_of path) next.to (contains-from_any path next.to old) reach)));
           }
     ]
 

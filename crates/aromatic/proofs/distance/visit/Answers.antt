@@ -1,9 +1,9 @@
-use Rattle.std.proofs.Common.{◌≡◌, ◌<◌, ◌≤◌, ◌+◌, ℕ, List, length, get_or, arith}
+use Rattle.std.proofs.Common.{◌≡◌, ◌<◌, ◌+◌, List, length, get_or, arith}
 use Rattle.std.proofs.lemmas.List.{get_or_read}
 use Rattle.aromatic.specs.declared.links.Link.{Link}
 use Rattle.aromatic.specs.Links.{links_in}
 use Rattle.aromatic.proofs.Routes.{linked_at}
-use Rattle.aromatic.proofs.Spreads.{IsVisit, visit-push, visit-skip, visit-end}
+use Rattle.aromatic.proofs.Spreads.{visit-push, visit-skip}
 use Rattle.aromatic.proofs.distance.visit.Goals as goal
 use Rattle.aromatic.proofs.distance.visit.Goals.{then-distances-from-eq-FAR+in_ok-push, else-distances-from-eq-FAR}
 

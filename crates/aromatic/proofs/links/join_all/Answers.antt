@@ -1,5 +1,4 @@
-use Rattle.std.proofs.Common.{ℕ, ◌≤◌, ◌≡◌, length, subst, sym, arith, ◌∙◌}
-use Rattle.std.proofs.lemmas.List.{length-map}
+use Rattle.std.proofs.Common.{◌≡◌, length, subst, sym, arith, ◌∙◌}
 use Rattle.aromatic.specs.Links.{AreLinks, links_in}
 use Rattle.aromatic.specs.Route.{ends_among}
 use Rattle.aromatic.proofs.LinkLists.{ends_in_range, links-more}

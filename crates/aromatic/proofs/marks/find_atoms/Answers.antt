@@ -1,4 +1,3 @@
-use Rattle.std.proofs.Common.{sym, ◌∙◌, subst}
 use Rattle.aromatic.proofs.Cycles.{ends-aromatic}
 use Rattle.aromatic.proofs.marks.find_atoms.Goals as goal
 

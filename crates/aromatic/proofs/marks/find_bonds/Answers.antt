@@ -1,4 +1,3 @@
-use Rattle.std.proofs.Common.{◌∙◌}
 use Rattle.aromatic.specs.Links.{links_in}
 use Rattle.aromatic.proofs.Cycles.{bonds-found, net-found}
 use Rattle.aromatic.proofs.marks.find_bonds.Goals as goal

@@ -1,4 +1,3 @@
-use Rattle.std.proofs.Common.{◌<◌, length, sym, ap, ◌∙◌, arith, get_or}
 use Rattle.std.proofs.lemmas.List.{length-set}
 use Rattle.aromatic.specs.Route.{ends_among}
 use Rattle.aromatic.proofs.LinkLists.{ends_in_range}

@@ -1,4 +1,4 @@
-use Rattle.std.proofs.Common.{◌≡◌, ◌↔◌, ℕ, true, false, length, get_or}
+use Rattle.std.proofs.Common.{◌≡◌, ◌↔◌, ℕ, true, false, get_or}
 use Rattle.aromatic.specs.Route.{IsMarkedEnd, ends_among}
 use Rattle.aromatic.proofs.marks.mark_all.Given as goal
 
