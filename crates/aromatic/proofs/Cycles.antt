@@ -4,17 +4,19 @@ use Rattle.std.proofs.Math.Nat.{mod-eq_of_lt, mod_self}
 use Rattle.std.proofs.lemmas.List.{get_or_append_left, get_or-append_right, get_or-drop, get_or-take, get_or-reverse, get_or_default, get_or_past, get_or-map, length-append, length-drop, length-take-le, length-reverse, length-map, take-append-drop}
 use Rattle.std.proofs.lemmas.List.Sorted.{IsPermutation-append_comm, IsPermutation-reverse, All-permutation, sum_by-IsPermutation}
 use Rattle.std.proofs.lemmas.Option.{slice_get_within, slice_get_past, same_Some}
-use Rattle.std.proofs.lemmas.Bool.{cases_lt, cases_eq, false≢true}
+use Rattle.std.proofs.lemmas.Bool.{cases_lt, false≢true}
 use Rattle.chem_core.specs.Drawing.{Drawing}
-use Rattle.chem_core.specs.Sound.{IsSound, ends_among, sketch_ends}
-use Rattle.chem_core.specs.Graph.{Ends, JoinsAt, Joined, IsSimpleCycle, LiesOn, next_place}
+use Rattle.chem_core.specs.Sound.{IsSound, sketch_ends, ends_among}
+use Rattle.chem_core.specs.Graph.{Ends, JoinsAt, IsSimpleGraph, next_place}
 use Rattle.aromatic.specs.Electrons.{electrons, row_at, row_of, site_of, is_eligible}
-use Rattle.aromatic.specs.Huckel.{IsHuckelCycle, IsAromaticBond, IsAromaticAtom, IsRefused, IsFirstRefused, IsPerceived, has_colon, bonded, adds_one}
+use Rattle.aromatic.specs.Huckel.{IsHuckelCycle, IsAromaticAtom, IsRefused, IsFirstRefused, IsPerceived, has_colon, bonded, adds_one}
 use Rattle.std.specs.List.{enumerate_from}
 use Rattle.chem_core.specs.declared.sketch.SketchAtom.{SketchAtom}
 use Rattle.chem_core.specs.RingFacts.{AreRingBonds}
-use Rattle.aromatic.specs.Route.{IsNet, IsTrail, IsRoute, CanReach, IsCandidateAt, links_at, last_of, given_at, IsLinkBelow, AreLinks, AreClosed, AreRows, AreAromaticBonds, AreAromaticAtoms, IsMarkedEnd, refused, valence_by}
-use Rattle.aromatic.proofs.Sketches.{some_element}
+use Rattle.aromatic.specs.declared.links.Link.{Link}
+use Rattle.aromatic.specs.Links.{AreClosed, AreLinks, AreMutual, IsCandidateAt, IsLinkBelow, links_at}
+use Rattle.aromatic.specs.Route.{AreAromaticAtoms, AreAromaticBonds, AreMarksBelow, AreRows, CanReach, Completes, IsAromaticBy, IsHuckelBy, IsMarkedEnd, IsNet, IsRoute, IsTrail, atoms_of, given_at, last_of, refused, valence_by}
+use Rattle.aromatic.proofs.Routes.{atom_at, length-atoms_of}
 use Rattle.aromatic.specs.declared.table.Row.{Row}
 
 -- the place after p on a cycle of n
@@ -53,13 +55,13 @@ rotated-at m atoms k hm hk =
     ]
 
 -- an open path of candidates along ring bonds, from one end of a bond of a Hückel cycle to its other end
-record IsOpen (s : Drawing) (rings : List Bool) (path : List ℕ) : Type 0 where
+record IsOpen (ends : Ends) (rings : List Bool) (gives : List (Option ℕ)) (path : List ℕ) : Type 0 where
   three : 3 ≤ length path
   most : length path ≤ 18
   distinct : AllPairs ◌≢◌ path
-  candidates : All (λ a. IsSome (electrons s rings a)) path
-  count : sum_by (λ a. unwrap_or (electrons s rings a) 0) path % 4 ≡ 2
-  joined : (k : ℕ) → k + 1 < length path → (b : ℕ) × JoinsAt (sketch_ends s) b (get_or path k 0) (get_or path (k + 1) 0) × (get_or rings b false ≡ true)
+  candidates : All (IsCandidateAt gives) path
+  count : sum_by (λ a. given_at gives a) path % 4 ≡ 2
+  joined : (k : ℕ) → k + 1 < length path → (b : ℕ) × JoinsAt ends b (get_or path k 0) (get_or path (k + 1) 0) × (get_or rings b false ≡ true)
 
 joins_within : (ends : Ends) (b x y : ℕ) → JoinsAt ends b x y → b < length ends
 joins_within ends b x y h = elim h [ inl q ↦ slice_get_within ends b _ q | inr q ↦ slice_get_within ends b _ q ]
@@ -80,8 +82,8 @@ other_place n m j k p q hp hq hj hk (inr a) (inl b) = λ e. omega arith
 other_place n m j k p q hp hq hj hk (inr a) (inr b) = λ e. omega arith
 
 -- a Hückel cycle, opened behind place i
-opened : (s : Drawing) (rings : List Bool) (gives : List (Option ℕ)) (links : List (List ℕ)) (atoms : List ℕ) (i : ℕ) → IsNet s rings gives links → IsHuckelCycle s rings atoms → i < length atoms → IsOpen s rings (rotated (i + 1) atoms)
-opened s rings gives links atoms i net h within =
+opened : (ends : Ends) (rings : List Bool) (gives : List (Option ℕ)) (links : List (List Link)) (atoms : List ℕ) (i : ℕ) → IsNet ends rings gives links → IsHuckelBy ends gives atoms → i < length atoms → IsOpen ends rings gives (rotated (i + 1) atoms)
+opened ends rings gives links atoms i net h within =
     let m : ℕ = i + 1 in
     let n : ℕ = length atoms in
     let hm : m ≤ n = omega arith in
@@ -101,15 +103,15 @@ opened s rings gives links atoms i net h within =
           let pk : b.0 < n = b.1 in
           let other : a.0 ≢ b.0 = other_place n m j k a.0 b.0 pj pk lt hk a.3 b.3 in
           rw (get_or_default path j d 0 (omega arith), get_or_default path k d 0 within', a.2, b.2) (apart_at atoms a.0 b.0 h.cycle.distinct other pj pk);
-      candidates = All-permutation (λ a. IsSome (electrons s rings a)) atoms path moved h.candidates;
-      count = rw (sum_by-IsPermutation (λ a. unwrap_or (electrons s rings a) 0) atoms path moved) h.count;
+      candidates = All-permutation (IsCandidateAt gives) atoms path moved h.candidates;
+      count = rw (sum_by-IsPermutation (λ a. given_at gives a) atoms path moved) h.count;
       joined = λ k lt.
           let hk : k + 1 < n = omega arith in
           let a = rotated-at m atoms k hm (omega arith) in
           let b = rotated-at m atoms (k + 1) hm hk in
           let next : next_place atoms a.0 ≡ b.0 = next_is n a.0 b.0 a.1 b.1 (step_of n m k a.0 b.0 a.1 b.1 hk a.3 b.3) in
           let j = h.cycle.joined a.0 a.1 in
-          let ring = (net.flags.each j.0 (joins_within (sketch_ends s) j.0 _ _ j.1)).1 (atoms, h.cycle, (a.0, a.1, j.1)) in
+          let ring = (net.flags.each j.0 (joins_within ends j.0 _ _ j.1)).1 (atoms, h.cycle, (a.0, a.1, j.1)) in
           (j.0, rw (a.2, b.2, ← next) j.1, ring);
     }
 
@@ -131,8 +133,8 @@ opened-last atoms i within =
     rw len (a.2 ∙ ap (λ p. get_or atoms p 0) is)
 
 -- the same path, walked back
-walked_back : (s : Drawing) (rings : List Bool) (path : List ℕ) → IsOpen s rings path → IsOpen s rings (reverse path)
-walked_back s rings path h =
+walked_back : (ends : Ends) (rings : List Bool) (gives : List (Option ℕ)) (path : List ℕ) → IsOpen ends rings gives path → IsOpen ends rings gives (reverse path)
+walked_back ends rings gives path h =
     let n : ℕ = length path in
     let len : length (reverse path) ≡ n = length-reverse path in
     let moved : IsPermutation path (reverse path) = IsPermutation-reverse path in
@@ -142,13 +144,13 @@ walked_back s rings path h =
       distinct = λ j k d lt within.
           let hk : k < n = omega arith in
           rw (get_or-reverse path j d (omega arith), get_or-reverse path k d hk) (λ q. h.distinct (n - 1 - k) (n - 1 - j) d (omega arith) (omega arith) (sym q));
-      candidates = All-permutation (λ a. IsSome (electrons s rings a)) path (reverse path) moved h.candidates;
-      count = rw (sum_by-IsPermutation (λ a. unwrap_or (electrons s rings a) 0) path (reverse path) moved) h.count;
+      candidates = All-permutation (IsCandidateAt gives) path (reverse path) moved h.candidates;
+      count = rw (sum_by-IsPermutation (λ a. given_at gives a) path (reverse path) moved) h.count;
       joined = λ k lt.
           let hk : k + 1 < n = omega arith in
           let j = h.joined (n - 1 - (k + 1)) (omega arith) in
           let e : n - 1 - (k + 1) + 1 ≡ n - 1 - k = omega arith in
-          (j.0, rw (get_or-reverse path k 0 (omega arith), get_or-reverse path (k + 1) 0 hk, ← e) (joins_back (sketch_ends s) j.0 _ _ j.1), j.2);
+          (j.0, rw (get_or-reverse path k 0 (omega arith), get_or-reverse path (k + 1) 0 hk, ← e) (joins_back ends j.0 _ _ j.1), j.2);
     }
 
 back-first : (path : List ℕ) → 1 ≤ length path → get_or (reverse path) 0 0 ≡ last_of path
@@ -162,9 +164,6 @@ back-last path some =
 
 -- ---- between open paths and routes
 
-given_is : (s : Drawing) (rings : List Bool) (gives : List (Option ℕ)) (links : List (List ℕ)) → IsNet s rings gives links → (path : List ℕ) → sum_by (λ a. given_at gives a) path ≡ sum_by (λ a. unwrap_or (electrons s rings a) 0) path
-given_is s rings gives links net path = λ i. sum_by (λ a. unwrap_or (net.given a i) 0) path
-
 candidate_within : (gives : List (Option ℕ)) (a : ℕ) → IsCandidateAt gives a → a < length gives
 candidate_within gives a h = elim (cases_lt a (length gives)) [
   | inl l ↦ l
@@ -172,10 +171,10 @@ candidate_within gives a h = elim (cases_lt a (length gives)) [
 ]
 
 -- an open path is a route to its last atom
-route_from : (s : Drawing) (rings : List Bool) (gives : List (Option ℕ)) (links : List (List ℕ)) (path : List ℕ) (target : ℕ) → IsNet s rings gives links → IsOpen s rings path → last_of path ≡ target → IsRoute links gives target path
-route_from s rings gives links path target net h to =
+route_from : (ends : Ends) (rings : List Bool) (gives : List (Option ℕ)) (links : List (List Link)) (path : List ℕ) (target : ℕ) → IsNet ends rings gives links → IsOpen ends rings gives path → last_of path ≡ target → IsRoute links gives target path
+route_from ends rings gives links path target net h to =
     let three : 3 ≤ length path = h.three in
-    let candidate : (k : ℕ) → k < length path → IsCandidateAt gives (get_or path k 0) = λ k lt. rw (net.given (get_or path k 0)) (h.candidates k 0 lt) in
+    let candidate : (k : ℕ) → k < length path → IsCandidateAt gives (get_or path k 0) = λ k lt. h.candidates k 0 lt in
     record {
       trail = record {
         some = omega arith;
@@ -184,12 +183,11 @@ route_from s rings gives links path target net h to =
         distinct = h.distinct;
         linked = λ k lt.
             let j = h.joined k lt in
-            let below : j.0 < length s.bonds = subst (λ n. j.0 < n) (length-map s.bonds (λ b. (b.a, b.b))) (joins_within (sketch_ends s) j.0 _ _ j.1) in
-            (net.linked.each (get_or path k 0) (get_or path (k + 1) 0)).1 (j.0, below, j.1, j.2, candidate k (omega arith), candidate (k + 1) lt);
+            (j.0, (net.linked.each (get_or path k 0) (get_or path (k + 1) 0) j.0).1 (joins_within ends j.0 _ _ j.1, j.1, j.2, candidate k (omega arith), candidate (k + 1) lt));
       };
       three = three;
       ends = to;
-      count = rw (given_is s rings gives links net path) h.count;
+      count = h.count;
     }
 
 -- a path that begins with x is x and a rest
@@ -197,18 +195,18 @@ begins : (path : List ℕ) (x : ℕ) → 1 ≤ length path → get_or path 0 0 �
 begins [] x some first = absurd (omega arith)
 begins (y ∷ rest) x some first = (rest, ap (λ z. z ∷ rest) first)
 
-reach_from : (s : Drawing) (rings : List Bool) (gives : List (Option ℕ)) (links : List (List ℕ)) (path : List ℕ) (x y : ℕ) → IsNet s rings gives links → IsOpen s rings path → get_or path 0 0 ≡ x → last_of path ≡ y → CanReach links gives y (x ∷ [])
-reach_from s rings gives links path x y net h first last =
+reach_from : (ends : Ends) (rings : List Bool) (gives : List (Option ℕ)) (links : List (List Link)) (path : List ℕ) (x y : ℕ) → IsNet ends rings gives links → IsOpen ends rings gives path → get_or path 0 0 ≡ x → last_of path ≡ y → CanReach links gives y (x ∷ [])
+reach_from ends rings gives links path x y net h first last =
     let three : 3 ≤ length path = h.three in
     let whole = begins path x (omega arith) first in
-    (whole.0, subst (λ p. IsRoute links gives y p) whole.1 (route_from s rings gives links path y net h last))
+    (whole.0, subst (λ p. IsRoute links gives y p) whole.1 (route_from ends rings gives links path y net h last))
 
 -- a bond on a Hückel cycle is a ring bond, and a route leads from its one end to its other end
-pub reach-from_cycle : (s : Drawing) (rings : List Bool) (gives : List (Option ℕ)) (links : List (List ℕ)) (b x y : ℕ) → IsNet s rings gives links → slice_get (sketch_ends s) b ≡ Some (x, y) → IsAromaticBond s rings b → (get_or rings b false ≡ true) × CanReach links gives y (x ∷ [])
-reach-from_cycle s rings gives links b x y net here (atoms, cycle, (i, within, joins)) =
-    let ring = (net.flags.each b (slice_get_within (sketch_ends s) b _ here)).1 (atoms, cycle.cycle, (i, within, joins)) in
+pub reach-from_cycle : (ends : Ends) (rings : List Bool) (gives : List (Option ℕ)) (links : List (List Link)) (b x y : ℕ) → IsNet ends rings gives links → slice_get ends b ≡ Some (x, y) → IsAromaticBy ends gives b → (get_or rings b false ≡ true) × CanReach links gives y (x ∷ [])
+reach-from_cycle ends rings gives links b x y net here (atoms, cycle, (i, within, joins)) =
+    let ring = (net.flags.each b (slice_get_within ends b _ here)).1 (atoms, cycle.cycle, (i, within, joins)) in
     let path : List ℕ = rotated (i + 1) atoms in
-    let path_open : IsOpen s rings path = opened s rings gives links atoms i net cycle within in
+    let path_open : IsOpen ends rings gives path = opened ends rings gives links atoms i net cycle within in
     let three : 3 ≤ length path = path_open.three in
     let first = opened-first atoms i within in
     let last = opened-last atoms i within in (
@@ -216,55 +214,152 @@ reach-from_cycle s rings gives links b x y net here (atoms, cycle, (i, within, j
       elim joins [
         | inl q ↦
             let p : ◌≡◌ {A = ℕ × ℕ} (get_or atoms i 0, get_or atoms (next_place atoms i) 0) (x, y) = same_Some _ _ (sym q ∙ here) in
-            let back : IsOpen s rings (reverse path) = walked_back s rings path path_open in
-            reach_from s rings gives links (reverse path) x y net back (back-first path (omega arith) ∙ last ∙ ap (λ u. u.0) p) (back-last path (omega arith) ∙ first ∙ ap (λ u. u.1) p)
+            let back : IsOpen ends rings gives (reverse path) = walked_back ends rings gives path path_open in
+            reach_from ends rings gives links (reverse path) x y net back (back-first path (omega arith) ∙ last ∙ ap (λ u. u.0) p) (back-last path (omega arith) ∙ first ∙ ap (λ u. u.1) p)
         | inr q ↦
             let p : ◌≡◌ {A = ℕ × ℕ} (get_or atoms (next_place atoms i) 0, get_or atoms i 0) (x, y) = same_Some _ _ (sym q ∙ here) in
-            reach_from s rings gives links path x y net path_open (first ∙ ap (λ u. u.0) p) (last ∙ ap (λ u. u.1) p)
+            reach_from ends rings gives links path x y net path_open (first ∙ ap (λ u. u.0) p) (last ∙ ap (λ u. u.1) p)
       ],
     )
 
--- a route from a bond's one end to its other end closes to a Hückel cycle
-pub cycle-from_reach : (s : Drawing) (rings : List Bool) (gives : List (Option ℕ)) (links : List (List ℕ)) (b x y : ℕ) → IsNet s rings gives links → slice_get (sketch_ends s) b ≡ Some (x, y) → CanReach links gives y (x ∷ []) → IsAromaticBond s rings b
-cycle-from_reach s rings gives links b x y net here (rest, route) =
-    let path : List ℕ = x ∷ rest in
+-- ---- a route closes to a Hückel cycle
+
+-- the bond that leads on from a place of a route
+route_step : (ends : Ends) (rings : List Bool) (gives : List (Option ℕ)) (links : List (List Link)) (path : List ℕ) (k : ℕ) → IsNet ends rings gives links → IsTrail links path → k + 1 < length path → (b : ℕ) × IsLinkBelow ends rings gives (length ends) (get_or path k 0) (get_or path (k + 1) 0) b
+route_step ends rings gives links path k net trail lt =
+    let link = trail.linked k lt in
+    (link.0, (net.linked.each (get_or path k 0) (get_or path (k + 1) 0) link.0).0 link.1)
+
+-- both ends of a route are candidates
+pub ends-candidates : (ends : Ends) (rings : List Bool) (gives : List (Option ℕ)) (links : List (List Link)) (x y : ℕ) → IsNet ends rings gives links → CanReach links gives y (x ∷ []) → IsCandidateAt gives x × IsCandidateAt gives y
+ends-candidates ends rings gives links x y net (rest, route) =
+    let path : List ℕ = (x ∷ []) ++ rest in
+    let three : 3 ≤ length path = route.three in
+    let first = route_step ends rings gives links path 0 net route.trail (omega arith) in
+    let last = route_step ends rings gives links path (length path - 2) net route.trail (omega arith) in
+    let e : length path - 2 + 1 ≡ length path - 1 = omega arith in
+    (first.1.3, subst (λ a. IsCandidateAt gives a) (ap (λ k. get_or path k 0) e ∙ route.ends) last.1.4)
+
+-- the bond between x and y leads from the last atom of a route to its first
+closing : (ends : Ends) (links : List (List Link)) (gives : List (Option ℕ)) (path : List ℕ) (b x y : ℕ) → slice_get ends b ≡ Some (x, y) → IsRoute links gives y path → get_or path 0 0 ≡ x → (k : ℕ) → k + 1 ≡ length path → JoinsAt ends b (get_or path k 0) (get_or path (next_place path k) 0)
+closing ends links gives path b x y here route first k e =
+    let at : k ≡ length path - 1 = omega arith in
+    let last : get_or path k 0 ≡ y = ap (λ m. get_or path m 0) at ∙ route.ends in
+    let around : next_place path k ≡ 0 = rw e (mod_self (length path)) in
+    rw (last, around, first) (inr here)
+
+-- a route from a bond's one end to its other end is a Hückel cycle
+cycle-from_route : (ends : Ends) (rings : List Bool) (gives : List (Option ℕ)) (links : List (List Link)) (path : List ℕ) (b x y : ℕ) → IsNet ends rings gives links → slice_get ends b ≡ Some (x, y) → IsRoute links gives y path → get_or path 0 0 ≡ x → IsHuckelBy ends gives path
+cycle-from_route ends rings gives links path b x y net here route first =
     let n : ℕ = length path in
     let three : 3 ≤ n = route.three in
-    let link : (k : ℕ) → k + 1 < n → IsLinkBelow (ends_among s.bonds) rings gives (length s.bonds) (get_or path k 0) (get_or path (k + 1) 0) = λ k lt. (net.linked.each (get_or path k 0) (get_or path (k + 1) 0)).0 (route.trail.linked k lt) in
+    let link : (k : ℕ) → k + 1 < n → (c : ℕ) × IsLinkBelow ends rings gives (length ends) (get_or path k 0) (get_or path (k + 1) 0) c = λ k lt. route_step ends rings gives links path k net route.trail lt in
     let inner : (k : ℕ) → k + 1 < n → next_place path k ≡ k + 1 = λ k lt. mod-eq_of_lt lt in
-    let outer : (k : ℕ) → k + 1 ≡ n → next_place path k ≡ 0 = λ k e. rw e (mod_self n) in
-    let closing : JoinsAt (sketch_ends s) b y x = inr here in
-    let final : (k : ℕ) → k + 1 ≡ n → JoinsAt (sketch_ends s) b (get_or path k 0) (get_or path (next_place path k) 0) = λ k e.
-    let at : k ≡ n - 1 = omega arith in
-    let is : get_or path k 0 ≡ y = ap (λ m. get_or path m 0) at ∙ route.ends in
-    rw (is, outer k e) closing in
     let candidate : (k : ℕ) → k < n → IsCandidateAt gives (get_or path k 0) = λ k lt. elim (cases_lt (k + 1) n) [
-      | inl l ↦ (link k l).4
+      | inl l ↦ (link k l).1.3
       | inr l ↦
           let e : k - 1 + 1 ≡ k = omega arith in
-          subst (λ m. IsCandidateAt gives (get_or path m 0)) e (link (k - 1) (omega arith)).5
-    ] in (
-      path,
-      record {
-        cycle = record {
-          three = three;
-          distinct = route.trail.distinct;
-          joined = λ k lt. elim (cases_lt (k + 1) n) [
-            | inl l ↦ let j = link k l in (j.0, rw (inner k l) j.2)
-            | inr l ↦ (b, final k (omega arith))
-          ];
-        };
-        most = route.trail.most;
-        candidates = λ k d lt. rw (get_or_default path k d 0 lt, ← net.given (get_or path k 0)) (candidate k lt);
-        count = rw (← given_is s rings gives links net path) route.count;
-      },
-      (n - 1, omega arith, final (n - 1) (omega arith)),
-    )
+          subst (λ m. IsCandidateAt gives (get_or path m 0)) e (link (k - 1) (omega arith)).1.4
+    ] in
+    record {
+      cycle = record {
+        three = three;
+        distinct = route.trail.distinct;
+        joined = λ k lt. elim (cases_lt (k + 1) n) [
+          | inl l ↦ let j = link k l in (j.0, rw (inner k l) j.1.1)
+          | inr l ↦ (b, closing ends links gives path b x y here route first k (omega arith))
+        ];
+      };
+      most = route.trail.most;
+      candidates = λ k d lt. rw (get_or_default path k d 0 lt) (candidate k lt);
+      count = route.count;
+    }
+
+-- the first link of a path that goes on from one link
+first_link : (path rest : List Link) (first d : Link) → path ≡ (first ∷ []) ++ rest → get_or path 0 d ≡ first
+first_link path rest first d is = ap (λ p. get_or p 0 d) is
+
+-- the bond of each link of a path that closes lies on the cycle
+pub lies-on_path : (ends : Ends) (rings : List Bool) (gives : List (Option ℕ)) (links : List (List Link)) (path : List Link) (b x y : ℕ) → IsNet ends rings gives links → slice_get ends b ≡ Some (x, y) → Completes links gives y (record { to = x; bond = b } ∷ []) path → (k : ℕ) (d : Link) → k < length path → IsAromaticBy ends gives (get_or path k d).bond
+lies-on_path ends rings gives links path b x y net here whole zero d lt =
+    let first = first_link path whole.begins.0 (record { to = x; bond = b }) d whole.begins.1 in
+    let route = whole.route in
+    let len : length (atoms_of path) ≡ length path = length-atoms_of path in
+    let start : get_or (atoms_of path) 0 0 ≡ x = atom_at path 0 d lt ∙ ap (λ l. l.to) first in
+    let last : length path - 1 + 1 ≡ length (atoms_of path) = omega arith in
+    rw first (atoms_of path, cycle-from_route ends rings gives links (atoms_of path) b x y net here route start, (length path - 1, omega arith, closing ends links gives (atoms_of path) b x y here route start (length path - 1) last))
+lies-on_path ends rings gives links path b x y net here whole (suc k) d lt =
+    let first = first_link path whole.begins.0 (record { to = x; bond = b }) d whole.begins.1 in
+    let route = whole.route in
+    let len : length (atoms_of path) ≡ length path = length-atoms_of path in
+    let some : 0 < length path = omega arith in
+    let start : get_or (atoms_of path) 0 0 ≡ x = atom_at path 0 d some ∙ ap (λ l. l.to) first in
+    let up : k + 1 ≡ suc k = omega arith in
+    let before : k < length path = omega arith in
+    let on : k + 1 < length path = omega arith in
+    let on' : k + 1 < length (atoms_of path) = omega arith in
+    let next : next_place (atoms_of path) k ≡ k + 1 = mod-eq_of_lt on' in
+    let link : Contains (links_at links (get_or path k d).to) (get_or path (k + 1) d) = whole.steps k d on in
+    let joins : JoinsAt ends (get_or path (k + 1) d).bond (get_or path k d).to (get_or path (k + 1) d).to = ((net.linked.each (get_or path k d).to (get_or path (k + 1) d).to (get_or path (k + 1) d).bond).0 link).1 in
+    rw (← up) (atoms_of path, cycle-from_route ends rings gives links (atoms_of path) b x y net here route start, (k, omega arith, rw (next, atom_at path k d before, atom_at path (k + 1) d on) joins))
+
+-- the bond of each link of such a path is one of the bonds
+pub bonds-within : (ends : Ends) (rings : List Bool) (gives : List (Option ℕ)) (links : List (List Link)) (path : List Link) (b x y : ℕ) → IsNet ends rings gives links → slice_get ends b ≡ Some (x, y) → Completes links gives y (record { to = x; bond = b } ∷ []) path → (k : ℕ) (d : Link) → k < length path → (get_or path k d).bond < length ends
+bonds-within ends rings gives links path b x y net here whole k d lt =
+    let on = lies-on_path ends rings gives links path b x y net here whole k d lt in
+    joins_within ends (get_or path k d).bond _ _ on.2.2
+
+-- ---- the links are in range, and lead back
+
+pub links-closed : (ends : Ends) (rings : List Bool) (gives : List (Option ℕ)) (links : List (List Link)) → IsNet ends rings gives links → AreClosed links
+links-closed ends rings gives links net = λ a n q. rw net.linked.count (candidate_within gives n ((net.linked.each a n q.0).0 q.1).4)
+
+pub links-mutual : (ends : Ends) (rings : List Bool) (gives : List (Option ℕ)) (links : List (List Link)) → IsNet ends rings gives links → AreMutual links
+links-mutual ends rings gives links net = λ a n q.
+    let l = (net.linked.each a n q.0).0 q.1 in
+    (q.0, (net.linked.each n a q.0).1 (l.0, joins_back ends q.0 a n l.1, l.2, l.4, l.3))
+
+-- ---- marks of bonds
+
+-- one bond more that is marked if it has to be
+pub marks-same : (ends : Ends) (gives : List (Option ℕ)) (k : ℕ) (marks : List Bool) → AreMarksBelow ends gives k marks → (IsAromaticBy ends gives k → get_or marks k false ≡ true) → AreMarksBelow ends gives (k + 1) marks
+marks-same ends gives k marks h last = record {
+  count = h.count;
+  sound = h.sound;
+  each = λ b lt on. elim (cases_lt b k) [
+    | inl l ↦ h.each b l on
+    | inr l ↦
+        let e : b ≡ k = omega arith in
+        rw e (last (subst (λ m. IsAromaticBy ends gives m) e on))
+  ];
+}
+
+-- the bonds of a path that closes are marked
+pub marks-path : (ends : Ends) (rings : List Bool) (gives : List (Option ℕ)) (links : List (List Link)) (k x y : ℕ) (marks after : List Bool) (path : List Link) → IsNet ends rings gives links → slice_get ends k ≡ Some (x, y) → Completes links gives y (record { to = x; bond = k } ∷ []) path → AreMarksBelow ends gives k marks → length after ≡ length marks → ((b : ℕ) → (get_or after b false ≡ true) ↔ ((get_or marks b false ≡ true) ⊎ Contains (map (λ l. l.bond) path) b)) → AreMarksBelow ends gives (k + 1) after
+marks-path ends rings gives links k x y marks after path net here whole h len step =
+    let first : Link = record { to = x; bond = k } in
+    let some : 1 ≤ length (atoms_of path) = whole.route.trail.some in
+    let some' : 0 < length path = omega (arith, length-atoms_of path) in
+    let long : length (map (λ l. l.bond) path) ≡ length path = length-map path (λ l. l.bond) in
+    let has : Contains (map (λ l. l.bond) path) k = (0, omega arith, get_or-map (λ l. l.bond) path 0 first k some' ∙ ap (λ l. l.bond) (first_link path whole.begins.0 first first whole.begins.1)) in
+    record {
+      count = len ∙ h.count;
+      sound = λ b marked. elim ((step b).0 marked) [
+        | inl old ↦ h.sound b old
+        | inr q ↦
+            let within : q.0 < length path = omega (arith, q.1) in
+            let is : (get_or path q.0 first).bond ≡ b = sym (get_or-map (λ l. l.bond) path q.0 first b within) ∙ q.2 in
+            subst (λ m. IsAromaticBy ends gives m) is (lies-on_path ends rings gives links path k x y net here whole q.0 first within)
+      ];
+      each = λ b lt on. elim (cases_lt b k) [
+        | inl l ↦ (step b).1 (inl (h.each b l on))
+        | inr l ↦
+            let e : b ≡ k = omega arith in
+            (step b).1 (inr (rw e has))
+      ];
+    }
 
 -- ---- the same of what the code reads
-
-pub links-closed : (ends : Ends) (rings : List Bool) (gives : List (Option ℕ)) (k : ℕ) (links : List (List ℕ)) → AreLinks ends rings gives k links → AreClosed links
-links-closed ends rings gives k links h = λ a n q. rw h.count (candidate_within gives n ((h.each a n).0 q).5)
 
 rows_everywhere : (s : Drawing) (rings : List Bool) (rows : List (Option Row)) → AreRows s rings rows → (a : ℕ) → get_or rows a None ≡ row_at s rings a
 rows_everywhere s rings rows h a = elim (cases_lt a (length s.atoms)) [
@@ -281,16 +376,21 @@ given_by_rows s rings rows gives h is a =
     ] in
     rw is (read ∙ ap f (rows_everywhere s rings rows h a))
 
-pub marks-aromatic : (s : Drawing) (rings : List Bool) (gives : List (Option ℕ)) (links : List (List ℕ)) (marks : List Bool) → IsNet s rings gives links → length marks ≡ length s.bonds → ((b x y : ℕ) → slice_get (ends_among s.bonds) b ≡ Some (x, y) → (get_or marks b false ≡ true) ↔ (get_or rings b false ≡ true) × CanReach links gives y (x ∷ [])) → AreAromaticBonds s rings marks
-marks-aromatic s rings gives links marks net len each = record {
-  count = len;
-  each = λ b within.
-      let within' : b < length (ends_among s.bonds) = omega (arith, length-map {B = ℕ × ℕ} s.bonds (λ e. (e.a, e.b))) in
-      let here = some_element (ends_among s.bonds) b within' in
-      let mark = each b here.0.0 here.0.1 here.1 in (
-        λ h. cycle-from_reach s rings gives links b here.0.0 here.0.1 net here.1 (mark.0 h).1,
-        λ h. mark.1 (reach-from_cycle s rings gives links b here.0.0 here.0.1 net here.1 h),
-      );
+-- a cycle, where the electrons of each atom are told
+huckel-from_told : (s : Drawing) (rings : List Bool) (gives : List (Option ℕ)) (atoms : List ℕ) → ((a : ℕ) → get_or gives a None ≡ electrons s rings a) → IsHuckelBy (sketch_ends s) gives atoms → IsHuckelCycle s rings atoms
+huckel-from_told s rings gives atoms given h = record {
+  cycle = h.cycle;
+  most = h.most;
+  candidates = λ k d lt. rw (given (get_or atoms k d)) at (h.candidates k d lt);
+  count = subst (λ n. n % 4 ≡ 2) (λ i. sum_by (λ a. unwrap_or (given a i) 0) atoms) h.count;
+}
+
+told-from_huckel : (s : Drawing) (rings : List Bool) (gives : List (Option ℕ)) (atoms : List ℕ) → ((a : ℕ) → get_or gives a None ≡ electrons s rings a) → IsHuckelCycle s rings atoms → IsHuckelBy (sketch_ends s) gives atoms
+told-from_huckel s rings gives atoms given h = record {
+  cycle = h.cycle;
+  most = h.most;
+  candidates = λ k d lt. rw (given (get_or atoms k d)) (h.candidates k d lt);
+  count = subst (λ n. n % 4 ≡ 2) (sym (λ i. sum_by (λ a. unwrap_or (given a i) 0) atoms)) h.count;
 }
 
 mod_within : (n m : ℕ) → 0 < m → n % m < m
@@ -336,9 +436,27 @@ ends-aromatic s rings marks flags h len each = record {
   );
 }
 
-pub bonds-found : (s : Drawing) (rings : List Bool) (rows : List (Option Row)) (gives : List (Option ℕ)) (links : List (List ℕ)) (marks : List Bool) → IsSound s → AreRingBonds (sketch_ends s) rings → AreRows s rings rows → gives ≡ map (λ row. option_map (λ (r : Row). r.electrons) row) rows → AreLinks (ends_among s.bonds) rings gives (length s.bonds) links → length marks ≡ length s.bonds → ((b x y : ℕ) → slice_get (ends_among s.bonds) b ≡ Some (x, y) → (get_or marks b false ≡ true) ↔ (get_or rings b false ≡ true) × CanReach links gives y (x ∷ [])) → AreAromaticBonds s rings marks
-bonds-found s rings rows gives links marks sound flags h is linked len each =
-    marks-aromatic s rings gives links marks (record { sound = sound; flags = flags; given = given_by_rows s rings rows gives h is; linked = linked }) len each
+pub bonds-found : (s : Drawing) (rings : List Bool) (rows : List (Option Row)) (gives : List (Option ℕ)) (marks : List Bool) → AreRows s rings rows → gives ≡ map (λ row. option_map (λ (r : Row). r.electrons) row) rows → AreMarksBelow (sketch_ends s) gives (length s.bonds) marks → AreAromaticBonds s rings marks
+bonds-found s rings rows gives marks h is marked =
+    let given = given_by_rows s rings rows gives h is in
+    record {
+      count = marked.count ∙ length-map s.bonds (λ b. (b.a, b.b));
+      each = λ b within. (
+        λ q. let on = marked.sound b q in (on.0, huckel-from_told s rings gives on.0 given on.1, on.2),
+        λ on. marked.each b within (on.0, told-from_huckel s rings gives on.0 given on.1, on.2),
+      );
+    }
+
+-- the links are those of a sketch
+pub net-found : (s : Drawing) (rings : List Bool) (rows : List (Option Row)) (gives : List (Option ℕ)) (links : List (List Link)) → IsSound s → AreRingBonds (sketch_ends s) rings → AreRows s rings rows → gives ≡ map (λ row. option_map (λ (r : Row). r.electrons) row) rows → AreLinks (sketch_ends s) rings gives (length s.bonds) links → IsNet (sketch_ends s) rings gives links
+net-found s rings rows gives links sound flags h is linked =
+    let many : length s.bonds ≡ length (sketch_ends s) = sym (length-map s.bonds (λ b. (b.a, b.b))) in
+    let each : length s.atoms ≡ length gives = sym (ap length is ∙ length-map rows (λ row. option_map (λ (r : Row). r.electrons) row) ∙ h.count) in
+    record {
+      graph = subst (λ n. IsSimpleGraph n (sketch_ends s)) each sound.graph;
+      flags = flags;
+      linked = subst (λ k. AreLinks (sketch_ends s) rings gives k links) many linked;
+    }
 
 -- ---- refusals
 

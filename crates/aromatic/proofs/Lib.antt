@@ -1,8 +1,9 @@
 mod Cycles
 mod Finds
-mod Links
-mod Marks
+mod LinkLists
+mod MarkSteps
 mod Routes
 mod Sketches
+mod Spreads
 mod Tallies
 mod Valences

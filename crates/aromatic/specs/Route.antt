@@ -1,23 +1,20 @@
--- Paths of linked atoms, from one end of a bond on the way to its other end.
-use Rattle.std.specs.Prelude.{◌≡◌, ◌≢◌, ℕ, ◌+◌, ◌-◌, ◌%◌, ◌<◌, ◌≤◌, List, [], ◌++◌, length, map, sum_by, slice_index, slice_index_or, Contains, AllPairs, Option, None, IsSome, unwrap_or, Bool, true, false, ◌⊎◌, ◌↔◌}
+-- Paths of links, from one end of a bond on the way to its other end.
+use Rattle.std.specs.Prelude.{◌≡◌, ◌≢◌, ℕ, ◌+◌, ◌-◌, ◌%◌, ◌<◌, ◌≤◌, List, ◌++◌, length, map, sum_by, slice_index, slice_index_or, All, AllPairs, Contains, Option, None, unwrap_or, Bool, true, false, ◌↔◌}
 use Rattle.chem_core.specs.declared.sketch.SketchBond.{SketchBond}
 use Rattle.chem_core.specs.Drawing.{Drawing}
-use Rattle.chem_core.specs.Sound.{IsSound, ends_among, sketch_ends}
 use Rattle.chem_core.specs.RingFacts.{AreRingBonds}
-use Rattle.chem_core.specs.Graph.{Ends, JoinsAt}
-use Rattle.aromatic.specs.Electrons.{electrons, row_at}
+use Rattle.chem_core.specs.Graph.{Ends, IsSimpleCycle, IsSimpleGraph, JoinsAt, LiesOn}
+use Rattle.aromatic.specs.Electrons.{row_at}
 use Rattle.aromatic.specs.Huckel.{IsAromaticAtom, IsAromaticBond, has_colon}
 use Rattle.aromatic.specs.Tallies.{refused_by, tally_of, valence_told}
+use Rattle.aromatic.specs.Links.{AreLinks, IsCandidateAt, IsLinked, links_at}
+use Rattle.aromatic.specs.declared.links.Link.{Link}
 use Rattle.aromatic.specs.declared.table.Row.{Row}
 use Rattle.chem_core.specs.declared.sketch.SketchAtom.{SketchAtom}
-use Rattle.smallvec.specs.SmallVec.{SmallVec}
 
--- the atoms that each atom is linked to
-abbrev pub lists_of : List (SmallVec ℕ) → List (List ℕ)
-lists_of links = map (λ v. v.items) links
-
-abbrev pub links_at : List (List ℕ) → ℕ → List ℕ
-links_at links a = slice_index_or links a []
+-- the atoms that links lead to
+abbrev pub atoms_of : List Link → List ℕ
+atoms_of path = map (λ l. l.to) path
 
 abbrev pub last_of : List ℕ → ℕ
 last_of path = slice_index path (length path - 1)
@@ -25,55 +22,61 @@ last_of path = slice_index path (length path - 1)
 abbrev pub given_at : List (Option ℕ) → ℕ → ℕ
 given_at gives a = unwrap_or (slice_index_or gives a None) 0
 
--- Each link leads to an atom.
-abbrev pub AreClosed : List (List ℕ) → Type 0
-AreClosed links = (a n : ℕ) → Contains (links_at links a) n → n < length links
-
 -- 1 to 18 distinct atoms, each linked to the one before it
-pub record IsTrail (links : List (List ℕ)) (path : List ℕ) : Type 0 where
+pub record IsTrail (links : List (List Link)) (path : List ℕ) : Type 0 where
   pub some : 1 ≤ length path
   pub most : length path ≤ 18
   pub in_range : (k : ℕ) → k < length path → slice_index path k < length links
   pub distinct : AllPairs ◌≢◌ path
-  pub linked : (i : ℕ) → i + 1 < length path → Contains (links_at links (slice_index path i)) (slice_index path (i + 1))
+  pub linked : (i : ℕ) → i + 1 < length path → IsLinked links (slice_index path i) (slice_index path (i + 1))
 
 -- such a path of at least three atoms that ends at the target, and whose electrons sum to 2 modulo 4
-pub record IsRoute (links : List (List ℕ)) (gives : List (Option ℕ)) (target : ℕ) (path : List ℕ) : Type 0 where
+pub record IsRoute (links : List (List Link)) (gives : List (Option ℕ)) (target : ℕ) (path : List ℕ) : Type 0 where
   pub trail : IsTrail links path
   pub three : 3 ≤ length path
   pub ends : last_of path ≡ target
   pub count : sum_by (λ a. given_at gives a) path % 4 ≡ 2
 
 -- the path can be completed
-abbrev pub CanReach : List (List ℕ) → List (Option ℕ) → ℕ → List ℕ → Type 0
+abbrev pub CanReach : List (List Link) → List (Option ℕ) → ℕ → List ℕ → Type 0
 CanReach links gives target path = (rest : List ℕ) × IsRoute links gives target (path ++ rest)
 
--- ---- which atoms are linked
+-- each link but the first is one of the atom that the link before it leads to
+abbrev pub AreSteps : List (List Link) → List Link → Type 0
+AreSteps links path = (i : ℕ) (d : Link) → i + 1 < length path → Contains (links_at links (slice_index_or path i d).to) (slice_index_or path (i + 1) d)
 
-abbrev pub IsCandidateAt : List (Option ℕ) → ℕ → Type 0
-IsCandidateAt gives a = IsSome (slice_index_or gives a None)
+-- the path begins with the old one, goes on by links, and is a route
+pub record Completes (links : List (List Link)) (gives : List (Option ℕ)) (target : ℕ) (old path : List Link) : Type 0 where
+  pub begins : (rest : List Link) × (path ≡ old ++ rest)
+  pub steps : AreSteps links path
+  pub route : IsRoute links gives target (atoms_of path)
 
--- a ring bond below place k joins the two, and both are candidates
-abbrev pub IsLinkBelow : Ends → List Bool → List (Option ℕ) → ℕ → ℕ → ℕ → Type 0
-IsLinkBelow ends rings gives k a n = (b : ℕ) × (b < k) × JoinsAt ends b a n × (slice_index_or rings b false ≡ true) × IsCandidateAt gives a × IsCandidateAt gives n
+-- ---- cycles and marks, where the electrons of each atom are told
 
--- each atom's list has exactly the atoms that it is linked to by the bonds below place k
-pub record AreLinks (ends : Ends) (rings : List Bool) (gives : List (Option ℕ)) (k : ℕ) (links : List (List ℕ)) : Type 0 where
-  pub count : length links ≡ length gives
-  pub each : (a n : ℕ) → Contains (links_at links a) n ↔ IsLinkBelow ends rings gives k a n
+-- a simple cycle of 3 to 18 candidates whose electrons sum to 2 modulo 4
+pub record IsHuckelBy (ends : Ends) (gives : List (Option ℕ)) (atoms : List ℕ) : Type 0 where
+  pub cycle : IsSimpleCycle ends atoms
+  pub most : length atoms ≤ 18
+  pub candidates : All (IsCandidateAt gives) atoms
+  pub count : sum_by (λ a. given_at gives a) atoms % 4 ≡ 2
 
--- the bond between x and y is a ring bond between candidates, and these are a and n
-abbrev pub IsNewLink : List (Option ℕ) → ℕ → ℕ → Bool → ℕ → ℕ → Type 0
-IsNewLink gives x y ring a n = (ring ≡ true) × IsCandidateAt gives x × IsCandidateAt gives y × (((a ≡ x) × (n ≡ y)) ⊎ ((a ≡ y) × (n ≡ x)))
+-- the bond lies on such a cycle
+abbrev pub IsAromaticBy : Ends → List (Option ℕ) → ℕ → Type 0
+IsAromaticBy ends gives b = (atoms : List ℕ) × IsHuckelBy ends gives atoms × LiesOn ends b atoms
+
+-- the ring bonds, and the links between the candidates that they join
+pub record IsNet (ends : Ends) (rings : List Bool) (gives : List (Option ℕ)) (links : List (List Link)) : Type 0 where
+  pub graph : IsSimpleGraph (length gives) ends
+  pub flags : AreRingBonds ends rings
+  pub linked : AreLinks ends rings gives (length ends) links
+
+-- each marked bond lies on a Hückel cycle, and of the bonds below place k each that lies on one is marked
+pub record AreMarksBelow (ends : Ends) (gives : List (Option ℕ)) (k : ℕ) (marks : List Bool) : Type 0 where
+  pub count : length marks ≡ length ends
+  pub sound : (b : ℕ) → slice_index_or marks b false ≡ true → IsAromaticBy ends gives b
+  pub each : (b : ℕ) → b < k → IsAromaticBy ends gives b → slice_index_or marks b false ≡ true
 
 -- ---- what is read of a sketch
-
--- the electrons of each atom, and the links between candidates
-pub record IsNet (s : Drawing) (rings : List Bool) (gives : List (Option ℕ)) (links : List (List ℕ)) : Type 0 where
-  pub sound : IsSound s
-  pub flags : AreRingBonds (sketch_ends s) rings
-  pub given : (a : ℕ) → slice_index_or gives a None ≡ electrons s rings a
-  pub linked : AreLinks (ends_among s.bonds) rings gives (length s.bonds) links
 
 -- a marked bond below place k ends at the atom
 abbrev pub IsMarkedEnd : Ends → List Bool → ℕ → ℕ → Type 0

@@ -1,135 +1,98 @@
-//! The search for a Hückel cycle through a bond: for a path from its one end to its other end.
-ghost use Rattle.std.specs.Prelude.{◌≡◌, ◌≤◌, ◌<◌, ◌%◌, ◌↔◌, ◌∷◌, ◌⊎◌, [], length, replicate, sum_by, IfOk, IsTrue, OnOk, Ok, All, Contains, ℕ, false};
-ghost use Rattle.chem_core.specs.Graph.{IsSimpleGraph};
-ghost use Rattle.chem_core.specs.Sound.{ends_among};
-ghost use Rattle.aromatic.specs.Route.{AreLinks, IsNewLink, AreClosed, CanReach, IsRoute, IsTrail, given_at, last_of, links_at, lists_of};
+//! The search for a Hückel cycle through a bond: for a path of links from its one end to its other end.
+ghost use Rattle.std.specs.Prelude.{◌≡◌, ◌≤◌, ◌<◌, ◌+◌, ◌%◌, ◌↔◌, ◌∷◌, [], length, replicate, slice_index, sum_by, IfOk, IsTrue, OnOk, Ok, All, Any, true, false};
+ghost use Rattle.aromatic.specs.Links.{AreClosed, AreMutual, links_in};
+ghost use Rattle.aromatic.specs.Distances.{AreDistances};
+ghost use Rattle.aromatic.specs.Route.{AreSteps, CanReach, Completes, IsTrail, atoms_of, given_at, last_of};
 
-use chem_core::SketchBond;
-use smallvec::SmallVec;
+use crate::distance::{FAR, forget, spread};
+use crate::links::{Link, Links, links_of};
 use std::alloc::{AllocError, Global};
 
-/// The atoms that an atom is linked to.
-pub type Links = SmallVec<u16, 4>;
+/// How many atoms a Hückel cycle has at most.
+const LONGEST: usize = 18;
 
-/// Links between the candidates that ring bonds join. Fails only for want of memory.
-pub fn links_between(
-    alloc: Global,
-    bonds: &[SketchBond],
-    bond_in_ring: &[bool],
-    gives: &[Option<u8>],
-) -> Result<Vec<Links>, AllocError>
-    requires graph { IsSimpleGraph (length gives.now) (ends_among bonds.now) }
-    requires rings { length bond_in_ring.now ≡ length bonds.now }
-    ensures { IfOk result (λ links. AreLinks (ends_among bonds.now) bond_in_ring.now gives.now
-        (length bonds.now) (lists_of links.items)) }
-{
-    let mut links = no_links(alloc, gives.len())?;
-    join_all(&mut links, bonds, bond_in_ring, gives)?;
-    Ok(links)
+/// What a search writes: taken once, and used for one search after another.
+#[derive(Drop)]
+pub struct Scratch {
+    /// The links of the path so far.
+    pub path: Vec<Link>,
+    /// How far each atom is from the target. Between two searches no atom has a distance.
+    pub distances: Vec<u8>,
+    /// The atoms that have a distance.
+    pub queue: Vec<u16>,
 }
 
-fn join_all(
-    links: &mut [Links],
-    bonds: &[SketchBond],
-    bond_in_ring: &[bool],
-    gives: &[Option<u8>],
-) -> Result<(), AllocError>
-    requires graph { IsSimpleGraph (length gives.now) (ends_among bonds.now) }
-    requires rings { length bond_in_ring.now ≡ length bonds.now }
-    requires before { AreLinks (ends_among bonds.now) bond_in_ring.now gives.now 0
-        (lists_of links.old) }
-    ensures { OnOk result (AreLinks (ends_among bonds.now) bond_in_ring.now gives.now
-        (length bonds.now) (lists_of links.new)) }
-{
-    for (place, bond) in bonds.iter().enumerate() {
-        join(links, gives, *bond, bond_in_ring[place])?;
+impl Scratch {
+    pub fn new(alloc: Global, atoms: usize) -> Result<Scratch, AllocError>
+        ensures { IfOk result (λ s. s.distances.items ≡ replicate atoms 18) }
+    {
+        Ok(Scratch {
+            path: Vec::with_capacity(alloc, LONGEST)?,
+            distances: vec![in alloc; FAR; atoms]?,
+            queue: Vec::with_capacity(alloc, atoms)?,
+        })
     }
-    Ok(())
 }
 
-fn no_links(alloc: Global, count: usize) -> Result<Vec<Links>, AllocError>
-    ensures { IfOk result (λ links. lists_of links.items ≡ replicate count []) }
-{
-    let mut links = Vec::with_capacity(alloc, count)?;
-    for _ in 0..count {
-        links.push(SmallVec::new(alloc))?;
-    }
-    Ok(links)
-}
-
-// Links the ends of a ring bond, if both are candidates.
-fn join(
-    links: &mut [Links],
-    gives: &[Option<u8>],
-    bond: SketchBond,
-    ring: bool,
-) -> Result<(), AllocError>
-    requires each { length gives.now ≡ length links.old }
-    requires a_in_range { bond.a < length links.old }
-    requires b_in_range { bond.b < length links.old }
-    ensures { OnOk result ((a n : ℕ) → Contains (links_at (lists_of links.new) a) n
-        ↔ (Contains (links_at (lists_of links.old) a) n ⊎ IsNewLink gives.now bond.a bond.b ring a n)) }
-{
-    if ring && gives[usize::from(bond.a)].is_some() && gives[usize::from(bond.b)].is_some() {
-        link(links, bond.a, bond.b)?;
-        link(links, bond.b, bond.a)?;
-    }
-    Ok(())
-}
-
-fn link(links: &mut [Links], from: u16, to: u16) -> Result<(), AllocError>
-    requires { from < length links.old }
-    ensures { OnOk result ((a n : ℕ) → Contains (links_at (lists_of links.new) a) n
-        ↔ (Contains (links_at (lists_of links.old) a) n ⊎ ((a ≡ from) × (n ≡ to)))) }
-{
-    links[usize::from(from)].push(to)?;
-    Ok(())
-}
-
-/// Whether a path goes from one end of a bond to its other end, over at least one more atom, that closes to a Hückel
-/// cycle. The list is scratch.
+/// Looks for a path that closes to a Hückel cycle: it begins with the link, which leads from the target to another
+/// atom, and goes on from there, over at least one more atom, to the target. On `Ok(true)` it stands in the scratch.
+///
+/// A candidate has at most three neighbours, so the ring bonds at it lie in one block, and no search leaves the block
+/// of its bond.
 pub fn closes(
     links: &[Links],
     gives: &[Option<u8>],
-    scratch: &mut Vec<u16>,
-    bond: SketchBond,
+    first: Link,
+    target: u16,
+    scratch: &mut Scratch,
 ) -> Result<bool, AllocError>
-    requires closed { AreClosed (lists_of links.now) }
+    requires closed { AreClosed (links_in links.now) }
+    requires both_ways { AreMutual (links_in links.now) }
     requires each { length gives.now ≡ length links.now }
-    requires in_range { bond.a < length links.now }
-    ensures { IfOk result (λ found. IsTrue found
-        ↔ CanReach (lists_of links.now) gives.now bond.b (bond.a ∷ [])) }
+    requires first { first.to < length links.now }
+    requires target { target < length links.now }
+    requires blank { scratch.old.distances.items ≡ replicate (length links.now) 18 }
+    ensures found { result ≡ Ok true
+        → Completes (links_in links.now) gives.now target (first ∷ []) scratch.new.path.items }
+    ensures none { result ≡ Ok false → CanReach (links_in links.now) gives.now target (first.to ∷ []) → ⊥ }
+    ensures blank { OnOk result (scratch.new.distances.items ≡ replicate (length links.now) 18) }
 {
-    scratch.clear();
-    scratch.push(bond.a)?;
-    extend(links, gives, scratch, bond.b)
+    spread(links, target, &mut scratch.distances, &mut scratch.queue)?;
+    scratch.path.clear();
+    scratch.path.push(first)?;
+    let found = extend(links, gives, &scratch.distances, target, &mut scratch.path)?;
+    forget(&mut scratch.distances, &scratch.queue);
+    Ok(found)
 }
 
-// Whether the path can be completed so that it ends at the target; the path is as before where it cannot.
+// Completes the path so that it ends at the target, if it can be; else the path is as before. An atom is tried only where
+// it is near enough to the target.
 fn extend(
     links: &[Links],
     gives: &[Option<u8>],
-    path: &mut Vec<u16>,
+    distances: &[u8],
     target: u16,
+    path: &mut Vec<Link>,
 ) -> Result<bool, AllocError>
-    requires closed { AreClosed (lists_of links.now) }
+    requires closed { AreClosed (links_in links.now) }
     requires each { length gives.now ≡ length links.now }
-    requires trail { IsTrail (lists_of links.now) path.old.items }
-    ensures found { IfOk result
-        (λ found. IsTrue found ↔ CanReach (lists_of links.now) gives.now target path.old.items) }
+    requires distances { AreDistances (links_in links.now) target distances.now }
+    requires trail { IsTrail (links_in links.now) (atoms_of path.old.items) }
+    requires steps { AreSteps (links_in links.now) path.old.items }
+    ensures found { result ≡ Ok true
+        → Completes (links_in links.now) gives.now target path.old.items path.new.items }
+    ensures none { result ≡ Ok false
+        → CanReach (links_in links.now) gives.now target (atoms_of path.old.items) → ⊥ }
     ensures kept { result ≡ Ok false → path.new.items ≡ path.old.items }
 {
     let last = last_of(path);
     if last == target {
         return Ok(is_huckel(gives, path));
     }
-    if path.len() == 18 {
-        return Ok(false);
-    }
-    for next in links_of(links, last) {
-        if !has(path, *next) {
-            path.push(*next)?;
-            if extend(links, gives, path, target)? {
+    for link in links_of(links, last) {
+        if may_follow(path, distances, link.to) {
+            path.push(*link)?;
+            if extend(links, gives, distances, target, path)? {
                 return Ok(true);
             }
             path.pop();
@@ -138,36 +101,39 @@ fn extend(
     Ok(false)
 }
 
-fn last_of(path: &[u16]) -> u16
+fn last_of(path: &[Link]) -> u16
     requires { 1 ≤ length path.now }
-    ensures { result ≡ last_of path.now }
+    ensures { result ≡ last_of (atoms_of path.now) }
 {
-    path[path.len() - 1]
+    path[path.len() - 1].to
 }
 
-fn links_of(links: &[Links], atom: u16) -> &[u16]
-    requires { atom < length links.now }
-    ensures { result.now ≡ links_at (lists_of links.now) atom }
+// Whether the atom is new on the path, and near enough to the target for a cycle of at most 18 atoms.
+fn may_follow(path: &[Link], distances: &[u8], atom: u16) -> bool
+    requires few { length path.now ≤ 18 }
+    requires in_range { atom < length distances.now }
+    ensures { IsTrue result ↔ (length path.now + 1 + slice_index distances.now atom ≤ 18)
+        × (Any (λ l. l.to ≡ atom) path.now → ⊥) }
 {
-    links[usize::from(atom)].as_slice()
+    path.len() + 1 + usize::from(distances[usize::from(atom)]) <= LONGEST && !has(path, atom)
 }
 
-fn has(path: &[u16], atom: u16) -> bool
-    ensures { IsTrue result ↔ Contains path.now atom }
+fn has(path: &[Link], atom: u16) -> bool
+    ensures { IsTrue result ↔ Any (λ l. l.to ≡ atom) path.now }
 {
-    path.contains(&atom)
+    path.iter().any(|link| link.to == atom)
 }
 
 // Whether there are at least three atoms, whose electrons sum to 2 modulo 4.
-fn is_huckel(gives: &[Option<u8>], path: &[u16]) -> bool
+fn is_huckel(gives: &[Option<u8>], path: &[Link]) -> bool
     requires few { length path.now ≤ 18 }
-    requires in_range { All (λ a. a < length gives.now) path.now }
+    requires in_range { All (λ l. l.to < length gives.now) path.now }
     ensures { IsTrue result
-        ↔ (3 ≤ length path.now) × (sum_by (λ a. given_at gives.now a) path.now % 4 ≡ 2) }
+        ↔ (3 ≤ length path.now) × (sum_by (λ l. given_at gives.now l.to) path.now % 4 ≡ 2) }
 {
     let mut total = 0;
-    for atom in path {
-        total += u32::from(gives[usize::from(*atom)].unwrap_or(0));
+    for link in path {
+        total += u32::from(gives[usize::from(link.to)].unwrap_or(0));
     }
     path.len() >= 3 && total % 4 == 2
 }

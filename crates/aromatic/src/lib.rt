@@ -2,6 +2,9 @@
 #![tactic(auto)]
 
 mod cycle;
+mod distance;
+mod links;
+mod marks;
 mod perception;
 mod site;
 mod table;

@@ -1,15 +1,14 @@
 //! Aromatic atoms and bonds of a sketch, and the valence of each atom.
-ghost use Rattle.std.specs.Prelude.{◌≡◌, ◌<◌, ◌≤◌, ◌↔◌, ◌∷◌, [], replicate, length, map, option_map, slice_get, slice_index_or, All, IfOk, IfErr, IfSome, IfNone, Some, None, ℕ, true, false};
+ghost use Rattle.std.specs.Prelude.{◌≡◌, ◌≤◌, length, map, slice_index_or, All, IfOk, IfErr, IfSome, IfNone, false};
 ghost use Rattle.std.specs.List.{enumerate_from};
-ghost use Rattle.chem_core.specs.Graph.{IsSimpleGraph};
 ghost use Rattle.chem_core.specs.RingFacts.{AreRingBonds};
 ghost use Rattle.chem_core.specs.Sound.{IsSketchAtom, IsSound, ends_among, sketch_ends};
 ghost use Rattle.aromatic.specs.Electrons.{by_ring_double, candidate_row};
 ghost use Rattle.aromatic.specs.Huckel.{IsFaultOf, IsPerceived, adds_by};
-ghost use Rattle.aromatic.specs.Route.{AreClosed, CanReach, lists_of, AreAromaticAtoms, AreAromaticBonds, AreRows, IsMarkedEnd};
+ghost use Rattle.aromatic.specs.Route.{AreRows};
 ghost use Rattle.aromatic.specs.Tallies.{IsFirstToPass, NonePasses, refused_at, refused_by, valence_at, valence_told};
 
-use crate::cycle::{Links, closes, links_between};
+use crate::marks::{find_atoms, find_bonds};
 use crate::site::{Site, sites};
 use crate::table::{Doubles, Row};
 use crate::tally::{Tally, tallies};
@@ -66,104 +65,6 @@ fn rows_by(alloc: Global, sites: &[Site]) -> Result<Vec<Option<Row>>, AllocError
     ensures { IfOk result (λ rows. rows.items ≡ map candidate_row sites.now) }
 {
     sites.iter().map(Site::row).collect(alloc)
-}
-
-// What each atom gives, by its row.
-fn electrons_of(alloc: Global, rows: &[Option<Row>]) -> Result<Vec<Option<u8>>, AllocError>
-    ensures { IfOk result (λ gives. gives.items
-        ≡ map (λ row. option_map (λ r. r.electrons) row) rows.now) }
-{
-    rows.iter()
-        .map(|row| row.map(|row| row.electrons))
-        .collect(alloc)
-}
-
-// Which bonds lie on a Hückel cycle.
-fn aromatic_bonds(
-    alloc: Global,
-    bonds: &[SketchBond],
-    bond_in_ring: &[bool],
-    gives: &[Option<u8>],
-    links: &[Links],
-) -> Result<Vec<bool>, AllocError>
-    requires graph { IsSimpleGraph (length gives.now) (ends_among bonds.now) }
-    requires rings { length bond_in_ring.now ≡ length bonds.now }
-    requires closed { AreClosed (lists_of links.now) }
-    requires each { length gives.now ≡ length links.now }
-    ensures count { IfOk result (λ marks. length marks.items ≡ length bonds.now) }
-    ensures each { IfOk result (λ marks. (b x y : ℕ) → slice_get (ends_among bonds.now) b ≡ Some (x, y)
-        → (slice_index_or marks.items b false ≡ true) ↔ (slice_index_or bond_in_ring.now b false ≡ true)
-        × CanReach (lists_of links.now) gives.now y (x ∷ [])) }
-{
-    let mut scratch = Vec::with_capacity(alloc, 18)?;
-    let mut marks = Vec::with_capacity(alloc, bonds.len())?;
-    for (place, bond) in bonds.iter().enumerate() {
-        let found = is_aromatic(links, gives, &mut scratch, *bond, bond_in_ring[place])?;
-        marks.push(found)?;
-    }
-    Ok(marks)
-}
-
-fn is_aromatic(
-    links: &[Links],
-    gives: &[Option<u8>],
-    scratch: &mut Vec<u16>,
-    bond: SketchBond,
-    ring: bool,
-) -> Result<bool, AllocError>
-    requires closed { AreClosed (lists_of links.now) }
-    requires each { length gives.now ≡ length links.now }
-    requires in_range { bond.a < length links.now }
-    ensures { IfOk result (λ found. (found ≡ true)
-        ↔ (ring ≡ true) × CanReach (lists_of links.now) gives.now bond.b (bond.a ∷ [])) }
-{
-    if !ring {
-        return Ok(false);
-    }
-    closes(links, gives, scratch, bond)
-}
-
-// Which atoms are ends of these bonds.
-fn ends_of_marked(
-    alloc: Global,
-    count: usize,
-    bonds: &[SketchBond],
-    marks: &[bool],
-) -> Result<Vec<bool>, AllocError>
-    requires graph { IsSimpleGraph count (ends_among bonds.now) }
-    requires each { length marks.now ≡ length bonds.now }
-    ensures count { IfOk result (λ flags. length flags.items ≡ count) }
-    ensures each { IfOk result (λ flags. (a : ℕ) → (slice_index_or flags.items a false ≡ true)
-        ↔ IsMarkedEnd (ends_among bonds.now) marks.now (length bonds.now) a) }
-{
-    let mut flags = no_flags(alloc, count)?;
-    mark_all(&mut flags, bonds, marks);
-    Ok(flags)
-}
-
-fn no_flags(alloc: Global, count: usize) -> Result<Vec<bool>, AllocError>
-    ensures { IfOk result (λ flags. flags.items ≡ replicate count false) }
-{
-    let mut flags = Vec::with_capacity(alloc, count)?;
-    for _ in 0..count {
-        flags.push(false)?;
-    }
-    Ok(flags)
-}
-
-fn mark_all(flags: &mut [bool], bonds: &[SketchBond], marks: &[bool])
-    requires graph { IsSimpleGraph (length flags.old) (ends_among bonds.now) }
-    requires each { length marks.now ≡ length bonds.now }
-    requires none { flags.old ≡ replicate (length flags.old) false }
-    ensures { (a : ℕ) → (slice_index_or flags.new a false ≡ true)
-        ↔ IsMarkedEnd (ends_among bonds.now) marks.now (length bonds.now) a }
-{
-    for (place, bond) in bonds.iter().enumerate() {
-        if marks[place] {
-            flags[usize::from(bond.a)] = true;
-            flags[usize::from(bond.b)] = true;
-        }
-    }
 }
 
 // The valence of an atom: what its bonds come to, its hydrogens, and one more where its row adds one.
@@ -238,43 +139,6 @@ fn valences(
         values.push(valence(atom, tallies[place], rows[place], flags[place]))?;
     }
     Ok(values)
-}
-
-// Which bonds lie on a Hückel cycle.
-fn find_bonds(
-    alloc: Global,
-    atoms: &[SketchAtom],
-    bonds: &[SketchBond],
-    bond_in_ring: &[bool],
-    rows: &[Option<Row>],
-) -> Result<Vec<bool>, AllocError>
-    requires sound { IsSound (record { atoms = atoms.now; bonds = bonds.now }) }
-    requires rings { AreRingBonds (ends_among bonds.now) bond_in_ring.now }
-    requires rows { AreRows (record { atoms = atoms.now; bonds = bonds.now }) bond_in_ring.now rows.now }
-    ensures { IfOk result (λ marks. AreAromaticBonds (record { atoms = atoms.now; bonds = bonds.now })
-        bond_in_ring.now marks.items) }
-{
-    let gives = electrons_of(alloc, rows)?;
-    let links = links_between(alloc, bonds, bond_in_ring, &gives)?;
-    let marks = aromatic_bonds(alloc, bonds, bond_in_ring, &gives, &links)?;
-    Ok(marks)
-}
-
-// Which atoms lie on a Hückel cycle.
-fn find_atoms(
-    alloc: Global,
-    atoms: &[SketchAtom],
-    bonds: &[SketchBond],
-    bond_in_ring: &[bool],
-    marks: &[bool],
-) -> Result<Vec<bool>, AllocError>
-    requires sound { IsSound (record { atoms = atoms.now; bonds = bonds.now }) }
-    requires marks { AreAromaticBonds (record { atoms = atoms.now; bonds = bonds.now }) bond_in_ring.now marks.now }
-    ensures { IfOk result (λ flags. AreAromaticAtoms (record { atoms = atoms.now; bonds = bonds.now })
-        bond_in_ring.now flags.items) }
-{
-    let flags = ends_of_marked(alloc, atoms.len(), bonds, marks)?;
-    Ok(flags)
 }
 
 fn perceive_lists(

@@ -1,12 +1,14 @@
-use Rattle.std.proofs.Common.{◌≡◌, ◌<◌, ◌-◌, ◌∷◌, ◌++◌, [], ℕ, length, slice_index}
-use Rattle.aromatic.specs.Route.{CanReach, lists_of}
+use Rattle.std.proofs.Common.{◌≡◌, ◌<◌, ◌-◌, ◌∷◌, ◌++◌, [], ℕ, length, get_or}
+use Rattle.aromatic.specs.declared.links.Link.{Link}
+use Rattle.aromatic.specs.Links.{links_in}
+use Rattle.aromatic.specs.Route.{CanReach, atoms_of}
 use Rattle.aromatic.proofs.cycle.+extend.Given as goal
 
 abbrev pub decreases-extend : goal.decreases-extend
 decreases-extend l = 18 - length l.path.now.items
 
-abbrev pub invariant-loop-next : goal.invariant-loop-next
-invariant-loop-next l = record {
+abbrev pub invariant-loop-link : goal.invariant-loop-link
+invariant-loop-link l = record {
   same : l.path.items ≡ l.fn.path.items;
-  none : (k : ℕ) → k < l.next-index → CanReach (lists_of l.links) l.gives l.target (l.fn.path.items ++ slice_index l.next-items k ∷ []) → ⊥;
+  none : (k : ℕ) (d : Link) → k < l.link-index → CanReach (links_in l.links) l.gives l.target (atoms_of l.fn.path.items ++ (get_or l.link-items k d).to ∷ []) → ⊥;
 }

@@ -1,10 +1,9 @@
-use Rattle.std.proofs.Common.{◌<◌, length, sym, ap, ◌∙◌, arith, get_or}
 use Rattle.std.proofs.lemmas.List.{length-set}
 use Rattle.chem_core.specs.Sound.{ends_among}
-use Rattle.aromatic.proofs.Links.{ends_in_range}
-use Rattle.aromatic.proofs.Marks.{ends_at_place, ends-same, ends-more}
-use Rattle.aromatic.proofs.perception.mark_all.Goals as goal
-use Rattle.aromatic.proofs.perception.mark_all.Goals.{then-marks-place, else-marks-place}
+use Rattle.aromatic.proofs.LinkLists.{ends_in_range}
+use Rattle.aromatic.proofs.MarkSteps.{ends_at_place, ends-same, ends-more}
+use Rattle.aromatic.proofs.marks.mark_all.Goals as goal
+use Rattle.aromatic.proofs.marks.mark_all.Goals.{then-marks-place, else-marks-place}
 
 pub bounds-flags-from : goal.bounds-flags-from
 bounds-flags-from c = rw (c.from.ensures, c.loop-place.auto.flags) (ends_in_range _ _ c.loop-place.place _ c.requires.graph c.loop-place-test.true).0

@@ -1,28 +1,16 @@
 -- Marks of bonds and of their ends, one bond after another.
-use Rattle.std.proofs.Common.{ℕ, ◌+◌, ◌<◌, ◌≤◌, ◌≡◌, ◌≢◌, ◌⊎◌, ◌↔◌, inl, inr, Bool, true, false, List, [], ◌∷◌, ◌++◌, length, map, get_or, set, replicate, Contains, Option, None, Some, slice_get, option_map, refl, sym, ap, subst, ◌∙◌, arith}
-use Rattle.std.proofs.lemmas.List.{get_or-set_same, get_or-set_other, length-set, get_or_append_left, get_or_at, get_or_past, get_or-replicate}
+use Rattle.std.proofs.Common.{ℕ, ◌+◌, ◌<◌, ◌≡◌, ◌⊎◌, ◌↔◌, inl, inr, Bool, true, false, List, length, map, get_or, set, Some, slice_get, option_map, sym, ap, ◌∙◌, arith}
+use Rattle.std.proofs.lemmas.List.{get_or-set_same, get_or-set_other, length-set, get_or-map}
 use Rattle.std.proofs.lemmas.Option.{same_Some, slice_get-map, slice_get-get_or}
 use Rattle.std.proofs.lemmas.Bool.{cases_lt, cases_eq, false≢true}
 use Rattle.chem_core.specs.declared.sketch.SketchBond.{SketchBond}
-use Rattle.chem_core.specs.Graph.{Ends, JoinsAt}
+use Rattle.chem_core.specs.Graph.{Ends}
+use Rattle.aromatic.specs.declared.links.Link.{Link}
 use Rattle.chem_core.specs.Sound.{ends_among}
 use Rattle.aromatic.specs.Route.{IsMarkedEnd}
 
 pub ends_at_place : (bonds : List SketchBond) (k : ℕ) (d : SketchBond) → k < length bonds → slice_get (ends_among bonds) k ≡ Some ((get_or bonds k d).a, (get_or bonds k d).b)
 ends_at_place bonds k d within = slice_get-map (λ b. (b.a, b.b)) bonds k ∙ ap (λ o. option_map (λ b. (b.a, b.b)) o) (slice_get-get_or bonds k d within)
-
--- one more mark
-pub marks-more : (ends : Ends) (P : ℕ → ℕ → ℕ → Type 0) (marks after : List Bool) (k p q : ℕ) (v : Bool) → length marks ≡ k → after ≡ marks ++ v ∷ [] → slice_get ends k ≡ Some (p, q) → ((v ≡ true) ↔ P k p q) → ((b x y : ℕ) → b < k → slice_get ends b ≡ Some (x, y) → (get_or marks b false ≡ true) ↔ P b x y) → (b x y : ℕ) → b < k + 1 → slice_get ends b ≡ Some (x, y) → (get_or after b false ≡ true) ↔ P b x y
-marks-more ends P marks after k p q v len is here new old b x y lt at = elim (cases_lt b k) [
-  | inl l ↦
-      let read : get_or after b false ≡ get_or marks b false = rw is (get_or_append_left marks (v ∷ []) false b (omega arith)) in
-      rw read (old b x y l at)
-  | inr l ↦
-      let e : b ≡ k = omega arith in
-      let read : get_or after b false ≡ v = rw (is, e) (get_or_at marks v [] false k len) in
-      let pair : ◌≡◌ {A = ℕ × ℕ} (p, q) (x, y) = same_Some _ _ (sym here ∙ ap (λ m. slice_get ends m) (sym e) ∙ at) in
-      rw read (subst (λ m. (v ≡ true) ↔ P m x y) (sym e) (subst (λ u. (v ≡ true) ↔ P k u.0 u.1) pair new))
-]
 
 -- a bond that is not marked ends at no atom more
 pub ends-same : (ends : Ends) (marks : List Bool) (flags : List Bool) (k : ℕ) → get_or marks k false ≡ false → ((a : ℕ) → (get_or flags a false ≡ true) ↔ IsMarkedEnd ends marks k a) → (a : ℕ) → (get_or flags a false ≡ true) ↔ IsMarkedEnd ends marks (k + 1) a
@@ -80,3 +68,35 @@ ends-more ends marks flags k x y here marked hx hy old a =
             ])
       ]),
     )
+
+-- ---- marks of the bonds of a path, one link after another
+
+-- a link of the path below place k follows the bond
+abbrev pub Follows : List Link → ℕ → ℕ → Type 0
+Follows path k b = (j : ℕ) × (j < k) × (get_or (map (λ l. l.bond) path) j b ≡ b)
+
+pub follow-more : (path : List Link) (before now : List Bool) (k : ℕ) (d : Link) → k < length path → (get_or path k d).bond < length now → ((b : ℕ) → (get_or now b false ≡ true) ↔ ((get_or before b false ≡ true) ⊎ Follows path k b)) → (b : ℕ) → (get_or (set now (get_or path k d).bond true) b false ≡ true) ↔ ((get_or before b false ≡ true) ⊎ Follows path (k + 1) b)
+follow-more path before now k d within range h b =
+    let c : ℕ = (get_or path k d).bond in
+    let bond_at : get_or (map (λ l. l.bond) path) k b ≡ c = get_or-map (λ l. l.bond) path k d b within in
+    let on : Follows path k b → Follows path (k + 1) b = λ q. let lt : q.0 < k = q.1 in (q.0, omega arith, q.2) in
+    elim (cases_eq b c) [
+      | inl e ↦ (
+        λ _. inr (k, omega arith, bond_at ∙ sym e),
+        λ _. rw e (get_or-set_same now c true false range),
+      )
+      | inr ne ↦
+          let same : get_or (set now c true) b false ≡ get_or now b false = get_or-set_other now c b true false ne in (
+            λ marked. elim ((h b).0 (sym same ∙ marked)) [ inl old ↦ inl old | inr q ↦ inr (on q) ],
+            λ q. same ∙ (h b).1 (elim q [
+              | inl old ↦ inl old
+              | inr f ↦ elim (cases_lt f.0 k) [
+                | inl lt ↦ inr (f.0, lt, f.2)
+                | inr ge ↦
+                    let lt : f.0 < k + 1 = f.1 in
+                    let at : f.0 ≡ k = omega arith in
+                    absurd (ne (sym f.2 ∙ ap (λ j. get_or (map (λ l. l.bond) path) j b) at ∙ bond_at))
+              ]
+            ]),
+          )
+    ]

@@ -1,6 +1,5 @@
-use Rattle.std.proofs.Common.{sym, ◌∙◌, subst}
 use Rattle.aromatic.proofs.Cycles.{ends-aromatic}
-use Rattle.aromatic.proofs.perception.find_atoms.Goals as goal
+use Rattle.aromatic.proofs.marks.find_atoms.Goals as goal
 
 pub returns : goal.returns
 returns c = ends-aromatic _ _ _ _ c.requires.marks c.in_ok-flags.ensures.count c.in_ok-flags.ensures.each

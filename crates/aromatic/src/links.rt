@@ -1,0 +1,122 @@
+//! Links between the candidates that ring bonds join.
+ghost use Rattle.std.specs.Prelude.{◌≡◌, ◌<◌, ◌↔◌, ◌⊎◌, [], length, replicate, IfOk, IsTrue, OnOk, Contains, ℕ};
+ghost use Rattle.chem_core.specs.Graph.{IsSimpleGraph};
+ghost use Rattle.aromatic.specs.Links.{AreLinks, IsCandidateAt, IsNewLink, links_at, links_in};
+ghost use Rattle.chem_core.specs.Sound.{ends_among};
+
+use chem_core::SketchBond;
+use smallvec::SmallVec;
+use std::alloc::{AllocError, Global};
+
+/// A link of an atom: the candidate that it leads to, and the ring bond that it follows.
+#[derive(Clone, Copy, Default)]
+pub struct Link {
+    pub to: u16,
+    pub bond: u16,
+}
+
+/// The links of an atom.
+pub type Links = SmallVec<Link, 4>;
+
+/// Links between the candidates that ring bonds join. Fails only for want of memory.
+pub fn links_between(
+    alloc: Global,
+    bonds: &[SketchBond],
+    bond_in_ring: &[bool],
+    gives: &[Option<u8>],
+) -> Result<Vec<Links>, AllocError>
+    requires graph { IsSimpleGraph (length gives.now) (ends_among bonds.now) }
+    requires rings { length bond_in_ring.now ≡ length bonds.now }
+    ensures { IfOk result (λ links. AreLinks (ends_among bonds.now) bond_in_ring.now gives.now
+        (length bonds.now) (links_in links.items)) }
+{
+    let mut links = no_links(alloc, gives.len())?;
+    join_all(&mut links, bonds, bond_in_ring, gives)?;
+    Ok(links)
+}
+
+fn join_all(
+    links: &mut [Links],
+    bonds: &[SketchBond],
+    bond_in_ring: &[bool],
+    gives: &[Option<u8>],
+) -> Result<(), AllocError>
+    requires graph { IsSimpleGraph (length gives.now) (ends_among bonds.now) }
+    requires rings { length bond_in_ring.now ≡ length bonds.now }
+    requires before { AreLinks (ends_among bonds.now) bond_in_ring.now gives.now 0
+        (links_in links.old) }
+    ensures { OnOk result (AreLinks (ends_among bonds.now) bond_in_ring.now gives.now
+        (length bonds.now) (links_in links.new)) }
+{
+    for (place, bond) in bonds.iter().enumerate() {
+        join(links, gives, *bond, place as u16, bond_in_ring[place])?;
+    }
+    Ok(())
+}
+
+fn no_links(alloc: Global, count: usize) -> Result<Vec<Links>, AllocError>
+    ensures { IfOk result (λ links. links_in links.items ≡ replicate count []) }
+{
+    let mut links = Vec::with_capacity(alloc, count)?;
+    for _ in 0..count {
+        links.push(SmallVec::new(alloc))?;
+    }
+    Ok(links)
+}
+
+// Links the ends of a ring bond, if both are candidates.
+fn join(
+    links: &mut [Links],
+    gives: &[Option<u8>],
+    bond: SketchBond,
+    place: u16,
+    ring: bool,
+) -> Result<(), AllocError>
+    requires each { length gives.now ≡ length links.old }
+    requires a_in_range { bond.a < length links.old }
+    requires b_in_range { bond.b < length links.old }
+    ensures { OnOk result ((a n b : ℕ) → Contains (links_at (links_in links.new) a) (record { to = n; bond = b })
+        ↔ (Contains (links_at (links_in links.old) a) (record { to = n; bond = b })
+        ⊎ IsNewLink gives.now place bond.a bond.b ring a n b)) }
+{
+    if ring && are_candidates(gives, bond) {
+        let to_b = Link {
+            to: bond.b,
+            bond: place,
+        };
+        let to_a = Link {
+            to: bond.a,
+            bond: place,
+        };
+        add(links, bond.a, to_b)?;
+        add(links, bond.b, to_a)?;
+    }
+    Ok(())
+}
+
+/// Whether both ends of a bond are candidates.
+pub fn are_candidates(gives: &[Option<u8>], bond: SketchBond) -> bool
+    requires a_in_range { bond.a < length gives.now }
+    requires b_in_range { bond.b < length gives.now }
+    ensures { IsTrue result ↔ IsCandidateAt gives.now bond.a × IsCandidateAt gives.now bond.b }
+{
+    gives[usize::from(bond.a)].is_some() && gives[usize::from(bond.b)].is_some()
+}
+
+fn add(links: &mut [Links], from: u16, link: Link) -> Result<(), AllocError>
+    requires { from < length links.old }
+    ensures { OnOk result ((a n b : ℕ) → Contains (links_at (links_in links.new) a) (record { to = n; bond = b })
+        ↔ (Contains (links_at (links_in links.old) a) (record { to = n; bond = b })
+        ⊎ ((a ≡ from) × (n ≡ link.to) × (b ≡ link.bond)))) }
+{
+    links[usize::from(from)].push(link)?;
+    Ok(())
+}
+
+/// The links of one atom.
+pub fn links_of(links: &[Links], atom: u16) -> &[Link]
+    requires { atom < length links.now }
+    ensures { result.now ≡ links_at (links_in links.now) atom }
+{
+    links[usize::from(atom)].as_slice()
+}

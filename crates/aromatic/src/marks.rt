@@ -1,0 +1,162 @@
+//! Which bonds and atoms of a sketch lie on Hückel cycles.
+ghost use Rattle.std.specs.Prelude.{◌≡◌, ◌<◌, ◌+◌, ◌↔◌, ◌⊎◌, length, map, replicate, option_map, slice_index_or, All, Contains, IfOk, OnOk, ℕ, true, false};
+ghost use Rattle.chem_core.specs.Graph.{IsSimpleGraph};
+ghost use Rattle.chem_core.specs.RingFacts.{AreRingBonds};
+ghost use Rattle.chem_core.specs.Sound.{IsSound, ends_among};
+ghost use Rattle.aromatic.specs.Links.{links_in};
+ghost use Rattle.aromatic.specs.Route.{AreAromaticAtoms, AreAromaticBonds, AreMarksBelow, AreRows, IsMarkedEnd, IsNet};
+
+use crate::cycle::{Scratch, closes};
+use crate::links::{Link, Links, are_candidates, links_between};
+use crate::table::Row;
+use chem_core::{SketchAtom, SketchBond};
+use std::alloc::{AllocError, Global};
+
+/// Which bonds lie on a Hückel cycle.
+pub fn find_bonds(
+    alloc: Global,
+    atoms: &[SketchAtom],
+    bonds: &[SketchBond],
+    bond_in_ring: &[bool],
+    rows: &[Option<Row>],
+) -> Result<Vec<bool>, AllocError>
+    requires sound { IsSound (record { atoms = atoms.now; bonds = bonds.now }) }
+    requires rings { AreRingBonds (ends_among bonds.now) bond_in_ring.now }
+    requires rows { AreRows (record { atoms = atoms.now; bonds = bonds.now }) bond_in_ring.now rows.now }
+    ensures { IfOk result (λ marks. AreAromaticBonds (record { atoms = atoms.now; bonds = bonds.now })
+        bond_in_ring.now marks.items) }
+{
+    let gives = electrons_of(alloc, rows)?;
+    let links = links_between(alloc, bonds, bond_in_ring, &gives)?;
+    let marks = aromatic_bonds(alloc, bonds, bond_in_ring, &gives, &links)?;
+    Ok(marks)
+}
+
+// What each atom gives, by its row.
+fn electrons_of(alloc: Global, rows: &[Option<Row>]) -> Result<Vec<Option<u8>>, AllocError>
+    ensures { IfOk result (λ gives. gives.items
+        ≡ map (λ row. option_map (λ r. r.electrons) row) rows.now) }
+{
+    rows.iter()
+        .map(|row| row.map(|row| row.electrons))
+        .collect(alloc)
+}
+
+// Marks the bonds that lie on a Hückel cycle.
+fn aromatic_bonds(
+    alloc: Global,
+    bonds: &[SketchBond],
+    bond_in_ring: &[bool],
+    gives: &[Option<u8>],
+    links: &[Links],
+) -> Result<Vec<bool>, AllocError>
+    requires net { IsNet (ends_among bonds.now) bond_in_ring.now gives.now (links_in links.now) }
+    ensures { IfOk result (λ marks. AreMarksBelow (ends_among bonds.now) gives.now (length bonds.now) marks.items) }
+{
+    let mut scratch = Scratch::new(alloc, gives.len())?;
+    let mut marks = vec![in alloc; false; bonds.len()]?;
+    for place in 0..bonds.len() {
+        mark_through(
+            bonds,
+            bond_in_ring,
+            gives,
+            links,
+            place,
+            &mut scratch,
+            &mut marks,
+        )?;
+    }
+    Ok(marks)
+}
+
+// Marks the bonds of a Hückel cycle through a bond, if there is one and the bond is not marked yet.
+fn mark_through(
+    bonds: &[SketchBond],
+    bond_in_ring: &[bool],
+    gives: &[Option<u8>],
+    links: &[Links],
+    place: usize,
+    scratch: &mut Scratch,
+    marks: &mut [bool],
+) -> Result<(), AllocError>
+    requires net { IsNet (ends_among bonds.now) bond_in_ring.now gives.now (links_in links.now) }
+    requires place { place < length bonds.now }
+    requires blank { scratch.old.distances.items ≡ replicate (length links.now) 18 }
+    requires marks { AreMarksBelow (ends_among bonds.now) gives.now place marks.old }
+    ensures marks { OnOk result (AreMarksBelow (ends_among bonds.now) gives.now (place + 1) marks.new) }
+    ensures blank { OnOk result (scratch.new.distances.items ≡ replicate (length links.now) 18) }
+{
+    let bond = bonds[place];
+    if !bond_in_ring[place] || !are_candidates(gives, bond) || marks[place] {
+        return Ok(());
+    }
+    let first = Link {
+        to: bond.a,
+        bond: place as u16,
+    };
+    if closes(links, gives, first, bond.b, scratch)? {
+        mark_path(marks, &scratch.path);
+    }
+    Ok(())
+}
+
+// Marks the bonds of a path.
+fn mark_path(marks: &mut [bool], path: &[Link])
+    requires { All (λ l. l.bond < length marks.old) path.now }
+    ensures { (b : ℕ) → (slice_index_or marks.new b false ≡ true)
+        ↔ ((slice_index_or marks.old b false ≡ true) ⊎ Contains (map (λ l. l.bond) path.now) b) }
+{
+    for link in path {
+        marks[usize::from(link.bond)] = true;
+    }
+}
+
+/// Which atoms lie on a Hückel cycle.
+pub fn find_atoms(
+    alloc: Global,
+    atoms: &[SketchAtom],
+    bonds: &[SketchBond],
+    bond_in_ring: &[bool],
+    marks: &[bool],
+) -> Result<Vec<bool>, AllocError>
+    requires sound { IsSound (record { atoms = atoms.now; bonds = bonds.now }) }
+    requires marks { AreAromaticBonds (record { atoms = atoms.now; bonds = bonds.now }) bond_in_ring.now marks.now }
+    ensures { IfOk result (λ flags. AreAromaticAtoms (record { atoms = atoms.now; bonds = bonds.now })
+        bond_in_ring.now flags.items) }
+{
+    let flags = ends_of_marked(alloc, atoms.len(), bonds, marks)?;
+    Ok(flags)
+}
+
+// Which atoms are ends of these bonds.
+fn ends_of_marked(
+    alloc: Global,
+    count: usize,
+    bonds: &[SketchBond],
+    marks: &[bool],
+) -> Result<Vec<bool>, AllocError>
+    requires graph { IsSimpleGraph count (ends_among bonds.now) }
+    requires each { length marks.now ≡ length bonds.now }
+    ensures count { IfOk result (λ flags. length flags.items ≡ count) }
+    ensures each { IfOk result (λ flags. (a : ℕ) → (slice_index_or flags.items a false ≡ true)
+        ↔ IsMarkedEnd (ends_among bonds.now) marks.now (length bonds.now) a) }
+{
+    let mut flags = vec![in alloc; false; count]?;
+    mark_all(&mut flags, bonds, marks);
+    Ok(flags)
+}
+
+fn mark_all(flags: &mut [bool], bonds: &[SketchBond], marks: &[bool])
+    requires graph { IsSimpleGraph (length flags.old) (ends_among bonds.now) }
+    requires each { length marks.now ≡ length bonds.now }
+    requires none { flags.old ≡ replicate (length flags.old) false }
+    ensures { (a : ℕ) → (slice_index_or flags.new a false ≡ true)
+        ↔ IsMarkedEnd (ends_among bonds.now) marks.now (length bonds.now) a }
+{
+    for (place, bond) in bonds.iter().enumerate() {
+        if marks[place] {
+            flags[usize::from(bond.a)] = true;
+            flags[usize::from(bond.b)] = true;
+        }
+    }
+}
