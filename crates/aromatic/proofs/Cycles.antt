@@ -15,7 +15,8 @@ use Rattle.chem_core.specs.declared.sketch.SketchAtom.{SketchAtom}
 use Rattle.chem_core.specs.RingFacts.{AreRingBonds}
 use Rattle.aromatic.specs.declared.links.Link.{Link}
 use Rattle.aromatic.specs.Links.{AreClosed, AreLinks, AreMutual, IsCandidateAt, IsLinkBelow, links_at}
-use Rattle.aromatic.specs.Route.{AreAromaticAtoms, AreAromaticBonds, AreMarksBelow, AreRows, CanReach, Completes, IsAromaticBy, IsHuckelBy, IsMarkedEnd, IsNet, IsRoute, IsTrail, atoms_of, given_at, last_of, refused, valence_by}
+use Rattle.aromatic.specs.Route.{AreAromaticAtoms, AreAromaticBonds, AreMarksBelow, AreRows, CanReach, Completes, IsAromaticBy, IsHuckelBy, IsMarkedEnd, IsNet, IsRoute, IsTrail, atoms_of, given_at, last_of}
+use Rattle.aromatic.proofs.Tallies.{refused, valence_by}
 use Rattle.aromatic.proofs.Routes.{atom_at, length-atoms_of}
 use Rattle.aromatic.specs.declared.table.Row.{Row}
 

@@ -1,11 +1,11 @@
 -- Lists of links as the bonds come in, one after another.
 use Rattle.std.proofs.Common.{ℕ, ◌+◌, ◌<◌, ◌≡◌, ◌⊎◌, ◌↔◌, inl, inr, Bool, true, false, List, [], ◌∷◌, ◌++◌, length, get_or, set, Contains, Option, Some, slice_get, option_map, sym, ap, subst, ◌∙◌, arith}
-use Rattle.std.proofs.lemmas.List.{get_or-set_same, get_or-set_other, length-map, map-set, get_or-map}
+use Rattle.std.proofs.lemmas.List.{get_or-set_same, get_or-set_other, length-map, map-set}
 use Rattle.std.proofs.lemmas.List.Elements.{Contains-append_left, Contains-push, Contains-push_cases}
 use Rattle.std.proofs.lemmas.Option.{same_Some, slice_get-map, slice_get-get_or}
 use Rattle.std.proofs.lemmas.Bool.{cases_lt, cases_eq}
 use Rattle.smallvec.specs.SmallVec.{SmallVec}
-use Rattle.chem_core.specs.Graph.{Ends, IsSimpleGraph}
+use Rattle.chem_core.specs.Graph.{Ends}
 use Rattle.chem_core.specs.declared.sketch.SketchBond.{SketchBond}
 use Rattle.aromatic.specs.declared.links.Link.{Link}
 use Rattle.aromatic.specs.Links.{AreLinks, IsCandidateAt, IsLinkBelow, IsNewLink, links_at, links_in}
@@ -92,9 +92,3 @@ links-more bonds rings gives k d before after within h same step =
             λ q. (step a n b).1 (elim (more.0 q) [ inl old ↦ inl ((h.each a n b).1 old) | inr new ↦ inr new ]),
           );
     }
-
-pub ends_in_range : (n : ℕ) (bonds : List SketchBond) (i : ℕ) (d : SketchBond) → IsSimpleGraph n (ends_among bonds) → i < length bonds → ((get_or bonds i d).a < n) × ((get_or bonds i d).b < n)
-ends_in_range n bonds i d graph within =
-    let within' : i < length (ends_among bonds) = omega (arith, length-map {B = ℕ × ℕ} bonds (λ b. (b.a, b.b))) in
-    let read = get_or-map {Y = ℕ × ℕ} (λ b. (b.a, b.b)) bonds i d (0, 0) within in
-    subst (λ e. (e.0 < n) × (e.1 < n)) read (graph.in_range i (0, 0) within')

@@ -11,9 +11,9 @@ use Rattle.chem_core.specs.Graph.{IsSimpleGraph}
 use Rattle.chem_core.specs.Sound.{ends_among}
 use Rattle.aromatic.specs.declared.tally.Tally.{Tally}
 use Rattle.aromatic.specs.Electrons.{is_double}
-use Rattle.aromatic.specs.Huckel.{bonded, share, is_colon}
+use Rattle.chem_core.specs.declared.sketch.SketchAtom.{SketchAtom}
+use Rattle.aromatic.specs.Huckel.{bonded, has_colon, share, is_colon}
 use Rattle.aromatic.specs.Tallies.{AreTallies, no_bonds, refused_at, refused_by, tally_of, valence_at, valence_told, with_bond}
-use Rattle.aromatic.specs.Route.{refused, valence_by}
 use Rattle.aromatic.specs.declared.table.Row.{Row}
 use Rattle.aromatic.proofs.Valences.{pair_at, pair_within, pairs_past, bonded-le}
 
@@ -67,6 +67,14 @@ tallies-few bonds aromatic n tallies graph are k d within =
     rw read (bonded-few bonds aromatic n k graph)
 
 -- ---- what is read of tallies
+
+-- the atom is refused, where it is told whether it is aromatic
+abbrev pub refused : List SketchBond → Bool → ℕ → SketchAtom → Bool
+refused bonds aromatic a x = refused_by aromatic (has_colon bonds a) x
+
+-- the valence of an atom, where the rows are told
+abbrev pub valence_by : List (Option Row) → List Bool → List SketchBond → List Bool → ℕ → SketchAtom → ℕ
+valence_by rows flags bonds marks a x = valence_told (tally_of bonds marks a) (get_or rows a None) (get_or flags a false) x
 
 pub refusals-told : (bonds : List SketchBond) (flags aromatic : List Bool) (tallies : List Tally) → AreTallies bonds aromatic tallies → refused_at flags tallies ≡ (λ a x. refused bonds (get_or flags a false) a x)
 refusals-told bonds flags aromatic tallies are = λ i a x. refused_by (get_or flags a false) (are a i).colon x

@@ -1,16 +1,13 @@
 -- Paths of links, from one end of a bond on the way to its other end.
 use Rattle.std.specs.Prelude.{◌≡◌, ◌≢◌, ℕ, ◌+◌, ◌-◌, ◌%◌, ◌<◌, ◌≤◌, List, ◌++◌, length, map, sum_by, slice_index, slice_index_or, All, AllPairs, Contains, Option, None, unwrap_or, Bool, true, false, ◌↔◌}
-use Rattle.chem_core.specs.declared.sketch.SketchBond.{SketchBond}
 use Rattle.chem_core.specs.Drawing.{Drawing}
 use Rattle.chem_core.specs.RingFacts.{AreRingBonds}
 use Rattle.chem_core.specs.Graph.{Ends, IsSimpleCycle, IsSimpleGraph, JoinsAt, LiesOn}
 use Rattle.aromatic.specs.Electrons.{row_at}
-use Rattle.aromatic.specs.Huckel.{IsAromaticAtom, IsAromaticBond, has_colon}
-use Rattle.aromatic.specs.Tallies.{refused_by, tally_of, valence_told}
+use Rattle.aromatic.specs.Huckel.{IsAromaticAtom, IsAromaticBond}
 use Rattle.aromatic.specs.Links.{AreLinks, IsCandidateAt, IsLinked, links_at}
 use Rattle.aromatic.specs.declared.links.Link.{Link}
 use Rattle.aromatic.specs.declared.table.Row.{Row}
-use Rattle.chem_core.specs.declared.sketch.SketchAtom.{SketchAtom}
 
 -- the atoms that links lead to
 abbrev pub atoms_of : List Link → List ℕ
@@ -82,10 +79,6 @@ pub record AreMarksBelow (ends : Ends) (gives : List (Option ℕ)) (k : ℕ) (ma
 abbrev pub IsMarkedEnd : Ends → List Bool → ℕ → ℕ → Type 0
 IsMarkedEnd ends marks k a = (b n : ℕ) × (b < k) × JoinsAt ends b a n × (slice_index_or marks b false ≡ true)
 
--- the atom is refused, where it is told whether it is aromatic
-abbrev pub refused : List SketchBond → Bool → ℕ → SketchAtom → Bool
-refused bonds aromatic a x = refused_by aromatic (has_colon bonds a) x
-
 -- the row of each atom
 pub record AreRows (s : Drawing) (rings : List Bool) (rows : List (Option Row)) : Type 0 where
   pub count : length rows ≡ length s.atoms
@@ -100,7 +93,3 @@ pub record AreAromaticBonds (s : Drawing) (rings marks : List Bool) : Type 0 whe
 pub record AreAromaticAtoms (s : Drawing) (rings flags : List Bool) : Type 0 where
   pub count : length flags ≡ length s.atoms
   pub each : (a : ℕ) → (slice_index_or flags a false ≡ true) ↔ IsAromaticAtom s rings a
-
--- the valence of an atom, where the rows are told
-abbrev pub valence_by : List (Option Row) → List Bool → List SketchBond → List Bool → ℕ → SketchAtom → ℕ
-valence_by rows flags bonds marks a x = valence_told (tally_of bonds marks a) (slice_index_or rows a None) (slice_index_or flags a false) x
