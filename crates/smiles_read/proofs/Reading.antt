@@ -115,6 +115,11 @@ rings_more n number kind bytes rest after old now new r rs are spelled so is fro
       ∙ ap (λ w. option_and_then (ring_read n r) w) so ∙ sym (rings_then n rs r old),
 )
 
+-- the pairing after all ring numbers of an atom
+pub read_done : (n m first : ℕ) (q : Option Pairing) → m ≡ n + 1 → IfSome q (λ p. IsPairing (n + 1) p × AreFrom first n p.bonds) → IfSome q (IsPairing m)
+read_done n m first None e h = tt
+read_done n m first (Some p) e h = subst (λ (k : ℕ). IsPairing k p) (sym e) h.0
+
 -- the state after a node
 through_map : (F : Pairing → Option Pairing) (G : Pairing → Pairing) (q : Option Pairing) → option_and_then F (option_map G q) ≡ option_and_then (λ p. F (G p)) q
 through_map F G None = refl

@@ -98,14 +98,14 @@ organic_first chlorine = (67, 108 ∷ [], refl, omega arith, omega arith)
 organic_first bromine = (66, 114 ∷ [], refl, omega arith, omega arith)
 organic_first iodine = (73, [], refl, omega arith, omega arith)
 
-heads : (x y : ℕ) (xs ys : List ℕ) → x ∷ xs ≡ y ∷ ys → x ≡ y
+pub heads : (x y : ℕ) (xs ys : List ℕ) → x ∷ xs ≡ y ∷ ys → x ≡ y
 heads x y xs ys h = cc
 
-tails : (x y : ℕ) (xs ys : List ℕ) → x ∷ xs ≡ y ∷ ys → xs ≡ ys
+pub tails : (x y : ℕ) (xs ys : List ℕ) → x ∷ xs ≡ y ∷ ys → xs ≡ ys
 tails x y xs ys h = cc
 
 -- what an atom begins with, by its form
-not_organic : (b : ℕ) (bs a : List ℕ) (x : Organic) → (b < 66) ⊎ (83 < b) → b ∷ bs ≡ symbol_bytes x ++ a → ⊥
+pub not_organic : (b : ℕ) (bs a : List ℕ) (x : Organic) → (b < 66) ⊎ (83 < b) → b ∷ bs ≡ symbol_bytes x ++ a → ⊥
 not_organic b bs a x out h =
     let u = organic_first x in
     let e = heads b u.0 bs (u.1 ++ a) (h ∙ ap (λ w. w ++ a) u.2) in
@@ -113,7 +113,7 @@ not_organic b bs a x out h =
     let high = u.4 in
     elim out [ inl l ↦ omega arith | inr l ↦ omega arith ]
 
-not_small : (b : ℕ) (bs a : List ℕ) (l : Lower) → b < 97 → b ∷ bs ≡ lower_bytes l ++ a → ⊥
+pub not_small : (b : ℕ) (bs a : List ℕ) (l : Lower) → b < 97 → b ∷ bs ≡ lower_bytes l ++ a → ⊥
 not_small b bs a l out h =
     let u = lower_first l in
     let e = heads b u.0 bs (u.1 ++ a) (h ∙ ap (λ w. w ++ a) u.2) in
