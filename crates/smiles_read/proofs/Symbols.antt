@@ -2,7 +2,7 @@
 use Rattle.std.proofs.Common.{◌≡◌, ℕ, zero, suc, ◌+◌, ◌<◌, ◌≤◌, ◌⊎◌, inl, inr, Bool, true, false, cond, eqb, ltb, leb, ◌==◌, ◌&&◌, ◌||◌, List, [], ◌∷◌, ◌++◌, length, get_or, slice_get, Some, refl, sym, ◌∙◌, ap, subst, arith}
 use Rattle.std.proofs.lemmas.Bool.{false≢true}
 use Rattle.std.proofs.lemmas.Bool.Decides.{nat_tests}
-use Rattle.std.proofs.lemmas.Option.{slice_get-get_or, get_or_from_slice_get}
+use Rattle.std.proofs.lemmas.Option.{slice_get-get_or, slice_get_within, get_or_from_slice_get}
 use Rattle.std.specs.List.{list_all}
 use Rattle.chem_core.specs.Element.{symbols}
 use Rattle.smiles_read.specs.Atom.{Lower, small_b, small_c, small_n, small_o, small_p, small_s, small_se, small_as, lower_bytes, lower_number, IsOrganicLower, Symbol, element, lower, symbol_text, IsSymbol}
@@ -130,6 +130,12 @@ element_two_by text x y r rest le (two u v e f l) h after =
 second_is_lower : (text : List ℕ) (x y : ℕ) → text ≡ x ∷ y ∷ [] → Shape text → 97 ≤ y
 second_is_lower text x y e (one u f g) = absurd (let k : u ∷ [] ≡ x ∷ y ∷ [] = sym f ∙ e in cc)
 second_is_lower text x y e (two u v f g l) = let k : u ∷ v ∷ [] ≡ x ∷ y ∷ [] = sym f ∙ e in let q : v ≡ y = cc in omega arith
+
+pub two_is_lower : (k x y : ℕ) → slice_get symbols k ≡ Some (x ∷ y ∷ []) → 97 ≤ y
+two_is_lower k x y is =
+    let l = length-symbols in
+    let k' = slice_get_within symbols k (x ∷ y ∷ []) is in
+    second_is_lower (get_or symbols k []) x y (get_or_from_slice_get symbols k (x ∷ y ∷ []) [] is) (element_shape k (omega arith))
 
 -- after a symbol of two letters stands what stands after any symbol there
 pub element_two : (k m x y : ℕ) (r rest : List ℕ) → k ≤ 103 → m ≤ 103 → slice_get symbols m ≡ Some (x ∷ y ∷ []) → x ∷ y ∷ r ≡ get_or symbols k [] ++ rest → AfterSymbol rest → (r ≡ rest) × (m ≡ k)

@@ -58,6 +58,10 @@ fn two_letters_at(bytes: &[u8]) -> Option<(u8, &[u8])>
     let [first, second, rest @ ..] = bytes else {
         return None;
     };
+    // The second letter is in lower case: most symbols in brackets are of one letter, and need no look into the table.
+    if *second < b'a' {
+        return None;
+    }
     match number_of(&[*first, *second]) {
         Some(number) => Some((number, rest)),
         None => None,
