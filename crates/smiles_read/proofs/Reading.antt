@@ -64,6 +64,18 @@ close_state false n first o kind k os os' bs bs' is h other free e eo eb =
     let P : List Opening → List SketchBond → Option Pairing = λ u w. Some (record { openings = u; bonds = w }) in
     ap (λ u. P u bs') eo ∙ ap (λ w. P (filter (λ x. not (x.number == o.number)) os) w) eb ∙ closed_kind n o kind k os bs other (h.1.near o.atom ∙ free) e
 
+neither : {X : Type 0} (b : Bool) → cond b (let x : Option X = None in x) None ≡ None
+neither true = refl
+neither false = refl
+
+-- a number whose ends disagree
+pub clash_state : (clash : Bool) (n : ℕ) (o : Opening) (kind : SketchKind) (os : List Opening) (bs : List SketchBond) → agreed_kind o.kind kind ≡ None
+    → ◌≡◌ {A = Option Pairing} None (option_and_then (λ p. closed p o n kind) (unless clash os bs))
+clash_state true n o kind os bs e = refl
+clash_state false n o kind os bs e =
+    let F : SketchKind → Pairing = λ w. record { openings = filter (λ x. not (x.number == o.number)) os; bonds = bs ++ record { a = o.atom; b = n; kind = w } ∷ [] } in
+    sym (ap (λ w. cond ((o.atom == n) || are_joined bs o.atom n) None (option_map F w)) e ∙ neither {X = Pairing} ((o.atom == n) || are_joined bs o.atom n))
+
 pub read_find : (clash : Bool) (n first number : ℕ) (os : List Opening) (bs : List SketchBond) (o : Opening) → clash ≡ false
     → IfSome (unless clash os bs) (λ p. IsPairing (n + 1) p × AreFrom first n p.bonds) → find (λ x. x.number == number) os ≡ Some o → o.atom < n + 1
 read_find true n first number os bs o is h e = absurd (cc)
