@@ -116,6 +116,28 @@ counted_more n bonds cs i d p q x y ends lt l h ep eq ex ey a la =
     ∙ ap (λ w. w + hit p q a) (h a la) ∙ ap (λ w. deg (take i bonds) a + hit w q a) ep ∙ ap (λ w. deg (take i bonds) a + hit (get_or bonds i d).a w a) eq
     ∙ sym (deg_more bonds i a d lt)
 
+-- counts that are raised by one stay small
+pub one_fits : (cs : List ℕ) (n p x : ℕ) → length cs ≡ n → p < n → x ≡ get_or cs p x → ((a : ℕ) → a < n → get_or cs a 0 ≤ 12) → x ≤ 12
+one_fits cs n p x l lp ex few =
+    let g = get_or_read cs p x (omega arith) ex 0 in
+    let f = few p lp in
+    omega arith
+
+pub both_fit : (cs : List ℕ) (n p q x y : ℕ) → length cs ≡ n → p < n → q < n → x ≡ get_or cs p x → y ≡ get_or (set cs p (x + 1)) q y → ((a : ℕ) → a < n → get_or cs a 0 ≤ 12) → y ≤ 13
+both_fit cs n p q x y l lp lq ex ey few =
+    let k = one_fits cs n p x l lp ex few in
+    let g = get_or_read (set cs p (x + 1)) q y (omega (arith, length-set cs p (x + 1))) ey 0 in
+    let lp' : p < length cs = omega arith in
+    elim (cases_eq q p) [
+      | inl e ↦
+          let j : get_or (set cs p (x + 1)) q 0 ≡ x + 1 = ap (λ w. get_or (set cs p (x + 1)) w 0) e ∙ get_or-set_same cs p (x + 1) 0 lp' in
+          omega arith
+      | inr ne ↦
+          let j : get_or (set cs p (x + 1)) q 0 ≡ get_or cs q 0 = get_or-set_other cs p q (x + 1) 0 ne in
+          let f = few q lq in
+          omega arith
+    ]
+
 pub few_more : (cs : List ℕ) (n p q u v w z : ℕ) → length cs ≡ n → p < n → q < n → w ≡ get_or (set (set cs p u) q v) p w → w ≤ 12 → z ≡ get_or (set (set cs p u) q v) q z → z ≤ 12
     → ((a : ℕ) → a < n → get_or cs a 0 ≤ 12) → (a : ℕ) → a < n → get_or (set (set cs p u) q v) a 0 ≤ 12
 few_more cs n p q u v w z l lp lq ew fw ez fz h a la =

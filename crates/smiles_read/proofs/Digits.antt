@@ -4,7 +4,7 @@ use Rattle.std.proofs.lemmas.Bool.{cases_lt}
 use Rattle.std.specs.List.{AllByRecursion}
 use Rattle.std.specs.Fmt.{decimal}
 use Rattle.std.proofs.lemmas.Fmt.{decimal_digit, decimal_step}
-use Rattle.smiles_read.specs.Atom.{IsDigit}
+use Rattle.smiles_read.specs.Atom.{IsDigit, value_of}
 use Rattle.smiles_read.specs.Follow.{NoDigitFirst}
 
 pub no_digit : (x : ℕ) (xs a : List ℕ) → IsDigit x → NoDigitFirst a → a ≡ x ∷ xs → ⊥
@@ -104,3 +104,27 @@ length_by xs n (two l e) h = inr (ap length (h ∙ e))
 
 pub other_only : (xs : List ℕ) (n : ℕ) → n ≤ 99 → xs ≡ decimal n → (length xs ≡ 1) ⊎ (length xs ≡ 2)
 other_only xs n le h = length_by xs n (short n le) h
+
+-- the value of one, two and three digits by their places
+pub one_value : (xs : List ℕ) → length xs ≡ 1 → AllByRecursion IsDigit xs → (get_or xs 0 0 - 48 ≡ value_of xs) × (get_or xs 0 0 ≤ 57) × (48 ≤ get_or xs 0 0)
+one_value [] l h = absurd (omega arith)
+one_value (a ∷ []) l h = (omega arith, h.0.1, h.0.0)
+one_value (a ∷ b ∷ xs) l h = absurd (omega arith)
+
+pub both_digits : (xs : List ℕ) → length xs ≡ 2 → AllByRecursion IsDigit xs
+    → (10 * (get_or xs 0 0 - 48) + (get_or xs 1 0 - 48) ≡ value_of xs) × (get_or xs 0 0 ≤ 57) × (get_or xs 1 0 ≤ 57)
+both_digits [] l h = absurd (omega arith)
+both_digits (a ∷ []) l h = absurd (omega arith)
+both_digits (a ∷ b ∷ []) l h = (omega arith, h.0.1, h.1.0.1)
+both_digits (a ∷ b ∷ c ∷ xs) l h = absurd (omega arith)
+
+by_places : (u v w : ℕ) → 100 * u + 10 * v + w ≡ 10 * (10 * (10 * 0 + u) + v) + w
+by_places u v w = omega arith
+
+pub three_digits : (xs : List ℕ) → length xs ≡ 3 → AllByRecursion IsDigit xs
+    → (100 * (get_or xs 0 0 - 48) + 10 * (get_or xs 1 0 - 48) + (get_or xs 2 0 - 48) ≡ value_of xs) × (get_or xs 0 0 ≤ 57) × (get_or xs 1 0 ≤ 57) × (get_or xs 2 0 ≤ 57)
+three_digits [] l h = absurd (omega arith)
+three_digits (a ∷ []) l h = absurd (omega arith)
+three_digits (a ∷ b ∷ []) l h = absurd (omega arith)
+three_digits (a ∷ b ∷ c ∷ []) l h = (by_places (a - 48) (b - 48) (c - 48), h.0.1, h.1.0.1, h.1.1.0.1)
+three_digits (a ∷ b ∷ c ∷ d ∷ xs) l h = absurd (omega arith)

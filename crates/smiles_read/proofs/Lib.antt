@@ -4,6 +4,7 @@ pub mod Follow
 pub mod Pairing
 pub mod Pieces
 pub mod Counts
+pub mod Fronts
 pub mod Digits
 pub mod Reading
 pub mod Results

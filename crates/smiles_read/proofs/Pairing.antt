@@ -7,7 +7,7 @@ use Rattle.std.specs.List.{list_any, AllByRecursion}
 use Rattle.chem_core.specs.declared.sketch.SketchBond.{SketchBond}
 use Rattle.chem_core.specs.declared.sketch.SketchKind.{SketchKind}
 use Rattle.smiles_read.specs.declared.pairs.Opening.{Opening}
-use Rattle.smiles_read.specs.Sketch.{Pairing, are_joined, opened}
+use Rattle.smiles_read.specs.Sketch.{Pairing, are_joined}
 use Rattle.smiles_read.specs.State.{AreOnce, IsPairing, AreFrom}
 
 -- lists
@@ -148,9 +148,6 @@ begin_bonded n k kind p lt h =
     let s = begin_alone n p h in
     let b = push_bond (length p.bonds) n k kind p.bonds lt s.0.ends s.0.once s.1 (none_ends n k p.bonds h.ends) in
     (record { ends = b.0; once = b.1; openings = s.0.openings }, b.2)
-
-pub open_keeps : (n first : ℕ) (o : Opening) (p : Pairing) → o.atom ≡ n → IsPairing (n + 1) p → IsPairing (n + 1) (opened p o)
-open_keeps n first o p e h = record { ends = h.ends; once = h.once; openings = all_push (λ x. x.atom < n + 1) p.openings o h.openings (omega arith) }
 
 pub close_keeps : (n first : ℕ) (o : Opening) (kind : SketchKind) (p : Pairing) → o.atom < n + 1 → (o.atom == n) ≡ false → are_joined p.bonds o.atom n ≡ false
     → IsPairing (n + 1) p → AreFrom first n p.bonds

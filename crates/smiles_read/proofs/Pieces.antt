@@ -132,6 +132,17 @@ no_kind_after k r rest h e = kind_first k r (chiral_after _ (subst AfterChiral e
 no_kind_at : (k : ChiralClass) (r rest : List ℕ) → 64 ∷ rest ≡ class_bytes k ++ r → ⊥
 no_kind_at k r rest e = kind_first k r (subst AfterSymbol e (inl refl))
 
+-- `@@` is a mark of its own
+pub chiral_two : (x : Chiral) (rest bytes r : List ℕ) → AfterChiral rest → bytes ≡ chiral_text x ++ rest → bytes ≡ 64 ∷ 64 ∷ r → r ≡ rest
+chiral_two none rest bytes r follows h front = absurd (no_mark rest (64 ∷ r) follows (sym front ∙ h))
+chiral_two one rest bytes r follows h front =
+    let e : 64 ∷ 64 ∷ r ≡ 64 ∷ rest = sym front ∙ h in
+    absurd (no_mark rest r follows (cc))
+chiral_two two rest bytes r follows h front = let e : 64 ∷ 64 ∷ r ≡ 64 ∷ 64 ∷ rest = sym front ∙ h in cc
+chiral_two (numbered k n) rest bytes r follows h front =
+    let e : 64 ∷ 64 ∷ r ≡ 64 ∷ (class_bytes k ++ (decimal n ++ rest)) = sym front ∙ h ∙ numbered_text k n rest in
+    absurd (no_kind_at k (decimal n ++ rest) r (cc))
+
 -- after `@` and a class stands a number
 pub chiral_only : (x : Chiral) (rest bytes m : List ℕ) (k : ChiralClass) → IsChiral x → AfterChiral rest → bytes ≡ chiral_text x ++ rest → bytes ≡ 64 ∷ (class_bytes k ++ m)
     → (n : ℕ) × (1 ≤ n) × (n ≤ most_of k) × (m ≡ decimal n ++ rest)

@@ -1,16 +1,16 @@
 -- The steps of reading ring numbers.
-use Rattle.std.proofs.Common.{◌≡◌, ℕ, ◌+◌, ◌<◌, Bool, true, false, cond, not, ◌==◌, List, [], ◌∷◌, ◌++◌, length, drop, find, filter, Option, None, Some, refl, sym, ◌∙◌, ap, subst, append_assoc}
+use Rattle.std.proofs.Common.{◌≡◌, ℕ, ◌+◌, ◌<◌, Bool, true, false, cond, not, ◌==◌, ◌||◌, List, [], ◌∷◌, ◌++◌, length, reverse, max, drop, find, filter, Option, None, Some, refl, sym, ◌∙◌, ap, subst, arith, append_assoc}
 use Rattle.std.specs.List.{list_any, flat_map, AllByRecursion}
 use Rattle.std.specs.Option.{IfSome, option_and_then, option_map}
 use Rattle.chem_core.specs.declared.sketch.SketchAtom.{SketchAtom}
 use Rattle.smiles_read.specs.Atom.{AtomText, atom_of}
-use Rattle.std.proofs.lemmas.List.{append-nil}
+use Rattle.std.proofs.lemmas.List.{append-nil, reverse-append, length-reverse}
 use Rattle.chem_core.specs.declared.sketch.SketchBond.{SketchBond}
 use Rattle.chem_core.specs.declared.sketch.SketchKind.{SketchKind}
 use Rattle.smiles_read.specs.declared.pairs.Opening.{Opening}
 use Rattle.smiles_read.specs.Tree.{RingText, ring_text, IsRingNumber}
-use Rattle.smiles_read.specs.Sketch.{Pairing, opened, closed, number_of, number_read, written_kind, ring_read, rings_read, chain_bond}
-use Rattle.smiles_read.specs.State.{IsPairing, AreFrom, State, with_node}
+use Rattle.smiles_read.specs.Sketch.{Pairing, agreed_kind, are_joined, opened, closed, number_of, number_read, written_kind, ring_read, rings_read, chain_bond}
+use Rattle.smiles_read.specs.State.{IsPairing, AreFrom, State, with_node, with_branch}
 use Rattle.smiles_read.proofs.Pairing.{begin_alone, begin_bonded, close_keeps, all_find, all_push}
 
 abbrev unless : Bool → List Opening → List SketchBond → Option Pairing
@@ -47,6 +47,34 @@ read_close false n first o kind os os' bs bs' is h le other free eo eb =
           (subst (λ (w : List Opening). IsPairing (n + 1) (record { openings = w; bonds = bs ++ record { a = o.atom; b = n; kind = kind } ∷ [] })) (sym eo) s.0),
       subst (λ (w : List SketchBond). AreFrom first n w) (sym eb) s.1,
     )
+
+closed_kind : (n : ℕ) (o : Opening) (kind k : SketchKind) (os : List Opening) (bs : List SketchBond) → (o.atom == n) ≡ false → are_joined bs o.atom n ≡ false → agreed_kind o.kind kind ≡ Some k
+    → ◌≡◌ {A = Option Pairing} (Some (record { openings = filter (λ x. not (x.number == o.number)) os; bonds = bs ++ record { a = o.atom; b = n; kind = k } ∷ [] })) (closed (record { openings = os; bonds = bs }) o n kind)
+closed_kind n o kind k os bs other apart e =
+    let F : SketchKind → Pairing = λ w. record { openings = filter (λ x. not (x.number == o.number)) os; bonds = bs ++ record { a = o.atom; b = n; kind = w } ∷ [] } in
+    ap (λ w. option_map F w) (sym e) ∙ ap (λ b. cond b None (option_map F (agreed_kind o.kind kind))) (sym (ap (λ b. b || are_joined bs o.atom n) other ∙ apart))
+
+-- a number that closes
+pub close_state : (clash : Bool) (n first : ℕ) (o : Opening) (kind k : SketchKind) (os os' : List Opening) (bs bs' : List SketchBond) → clash ≡ false
+    → IfSome (unless clash os bs) (λ p. IsPairing (n + 1) p × AreFrom first n p.bonds) → (o.atom == n) ≡ false → list_any (λ x. x.a == o.atom) (drop first bs) ≡ false
+    → agreed_kind o.kind kind ≡ Some k → os' ≡ filter (λ x. not (x.number == o.number)) os → bs' ≡ bs ++ record { a = o.atom; b = n; kind = k } ∷ []
+    → unless clash os' bs' ≡ option_and_then (λ p. closed p o n kind) (unless clash os bs)
+close_state true n first o kind k os os' bs bs' is h other free e eo eb = absurd (cc)
+close_state false n first o kind k os os' bs bs' is h other free e eo eb =
+    let P : List Opening → List SketchBond → Option Pairing = λ u w. Some (record { openings = u; bonds = w }) in
+    ap (λ u. P u bs') eo ∙ ap (λ w. P (filter (λ x. not (x.number == o.number)) os) w) eb ∙ closed_kind n o kind k os bs other (h.1.near o.atom ∙ free) e
+
+neither : {X : Type 0} (b : Bool) → cond b (let x : Option X = None in x) None ≡ None
+neither true = refl
+neither false = refl
+
+-- a number whose ends disagree
+pub clash_state : (clash : Bool) (n : ℕ) (o : Opening) (kind : SketchKind) (os : List Opening) (bs : List SketchBond) → agreed_kind o.kind kind ≡ None
+    → ◌≡◌ {A = Option Pairing} None (option_and_then (λ p. closed p o n kind) (unless clash os bs))
+clash_state true n o kind os bs e = refl
+clash_state false n o kind os bs e =
+    let F : SketchKind → Pairing = λ w. record { openings = filter (λ x. not (x.number == o.number)) os; bonds = bs ++ record { a = o.atom; b = n; kind = w } ∷ [] } in
+    sym (ap (λ w. cond ((o.atom == n) || are_joined bs o.atom n) None (option_map F w)) e ∙ neither {X = Pairing} ((o.atom == n) || are_joined bs o.atom n))
 
 pub read_find : (clash : Bool) (n first number : ℕ) (os : List Opening) (bs : List SketchBond) (o : Opening) → clash ≡ false
     → IfSome (unless clash os bs) (λ p. IsPairing (n + 1) p × AreFrom first n p.bonds) → find (λ x. x.number == number) os ≡ Some o → o.atom < n + 1
@@ -99,6 +127,11 @@ rings_more n number kind bytes rest after old now new r rs are spelled so is fro
       ∙ ap (λ w. option_and_then (ring_read n r) w) so ∙ sym (rings_then n rs r old),
 )
 
+-- the pairing after all ring numbers of an atom
+pub read_done : (n m first : ℕ) (q : Option Pairing) → m ≡ n + 1 → IfSome q (λ p. IsPairing (n + 1) p × AreFrom first n p.bonds) → IfSome q (IsPairing m)
+read_done n m first None e h = tt
+read_done n m first (Some p) e h = subst (λ (k : ℕ). IsPairing k p) (sym e) h.0
+
 -- the state after a node
 through_map : (F : Pairing → Option Pairing) (G : Pairing → Pairing) (q : Option Pairing) → option_and_then F (option_map G q) ≡ option_and_then (λ p. F (G p)) q
 through_map F G None = refl
@@ -118,3 +151,13 @@ node_state s place x rs before atoms a q r ep ea ex eq er =
     (ea ∙ ap (λ w. s.atoms ++ w ∷ []) ex ∙ ap (λ m. s.atoms ++ atom_of m x ∷ []) ep)
     (er ∙ ap (λ w. option_and_then (rings_read place rs) w) eq ∙ ap (λ m. option_and_then (rings_read m rs) (option_map (F m) s.pairing)) ep
     ∙ through_map (rings_read (length s.atoms) rs) (F (length s.atoms)) s.pairing)
+
+-- a branch more
+pub branch_state : (s : State) (xs ys : List ℕ) (d k : ℕ) → s.stack ≡ reverse xs → ys ≡ xs ++ s.at ∷ [] → k ≡ length ys → d ≡ max s.depth k
+    → (let t : State = record { at = s.at; stack = reverse ys; atoms = s.atoms; pairing = s.pairing; depth = d } in t) ≡ with_branch s
+branch_state s xs ys d k es ey ek ed =
+    let stack : reverse ys ≡ s.at ∷ s.stack = ap reverse ey ∙ reverse-append xs (s.at ∷ []) ∙ ap (λ w. s.at ∷ w) (sym es) in
+    let l = ap length stack in
+    let m = length-reverse ys in
+    let depth : d ≡ max s.depth (length s.stack + 1) = omega (arith, l, m) in
+    cc

@@ -7,10 +7,6 @@ pub ok_then : {X Y : Type 0} (r : Result X Y) {P Q : X → Type 0} → IfOk r P 
 ok_then (Ok x) h f = f x h
 ok_then (Err y) h f = tt
 
-pub on_ok_both : {X Y P Q R : Type 0} (r : Result X Y) → OnOk r P → OnOk r Q → (P → Q → R) → OnOk r R
-on_ok_both (Ok x) p q f = f p q
-on_ok_both (Err y) p q f = tt
-
 pub all_popped : {X : Type 0} (P : X → Type 0) (xs : List X) (x : X) → AllByRecursion P (xs ++ x ∷ []) → AllByRecursion P xs × P x
 all_popped P [] x h = (tt, h.0)
 all_popped P (y ∷ ys) x h = let r = all_popped P ys x h.1 in ((h.0, r.0), r.1)

@@ -83,9 +83,6 @@ record After (t : State) (rest : List ℕ) : Type 0 where
 abbrev Only : State → List ℕ → List ℕ → Type 0
 Only s bytes rest = (r : List ℕ) → AfterNode r → MayStep s bytes r → r ≡ rest
 
-at_state : (t u : State) (rest : List ℕ) → t ≡ u → After u rest → After t rest
-at_state t u rest e h = let P : State → Type 0 = λ w. After w rest in subst P (sym e) h
-
 opens_first : (a b : ℕ) (xs ys : List ℕ) → a ∷ xs ≡ b ∷ ys → a ≡ b
 opens_first a b xs ys h = cc
 

@@ -2,10 +2,10 @@
 use Rattle.std.proofs.Common.{◌≡◌, ℕ, zero, suc, ◌+◌, ◌<◌, ◌≤◌, ◌⊎◌, inl, inr, Bool, true, false, cond, eqb, ltb, leb, ◌==◌, ◌&&◌, ◌||◌, List, [], ◌∷◌, ◌++◌, length, get_or, slice_get, Some, refl, sym, ◌∙◌, ap, subst, arith}
 use Rattle.std.proofs.lemmas.Bool.{false≢true}
 use Rattle.std.proofs.lemmas.Bool.Decides.{nat_tests}
-use Rattle.std.proofs.lemmas.Option.{slice_get-get_or, get_or_from_slice_get}
+use Rattle.std.proofs.lemmas.Option.{slice_get-get_or, slice_get_within, get_or_from_slice_get}
 use Rattle.std.specs.List.{list_all}
 use Rattle.chem_core.specs.Element.{symbols}
-use Rattle.smiles_read.specs.Atom.{Lower, small_b, small_c, small_n, small_o, small_p, small_s, small_se, small_as, lower_bytes, IsOrganicLower, Symbol, element, lower, symbol_text, IsSymbol}
+use Rattle.smiles_read.specs.Atom.{Lower, small_b, small_c, small_n, small_o, small_p, small_s, small_se, small_as, lower_bytes, lower_number, IsOrganicLower, Symbol, element, lower, symbol_text, IsSymbol}
 use Rattle.smiles_read.specs.Follow.{NoDigitFirst, AfterSymbol}
 
 length-symbols : length symbols ≡ 104
@@ -131,6 +131,12 @@ second_is_lower : (text : List ℕ) (x y : ℕ) → text ≡ x ∷ y ∷ [] → 
 second_is_lower text x y e (one u f g) = absurd (let k : u ∷ [] ≡ x ∷ y ∷ [] = sym f ∙ e in cc)
 second_is_lower text x y e (two u v f g l) = let k : u ∷ v ∷ [] ≡ x ∷ y ∷ [] = sym f ∙ e in let q : v ≡ y = cc in omega arith
 
+pub two_is_lower : (k x y : ℕ) → slice_get symbols k ≡ Some (x ∷ y ∷ []) → 97 ≤ y
+two_is_lower k x y is =
+    let l = length-symbols in
+    let k' = slice_get_within symbols k (x ∷ y ∷ []) is in
+    second_is_lower (get_or symbols k []) x y (get_or_from_slice_get symbols k (x ∷ y ∷ []) [] is) (element_shape k (omega arith))
+
 -- after a symbol of two letters stands what stands after any symbol there
 pub element_two : (k m x y : ℕ) (r rest : List ℕ) → k ≤ 103 → m ≤ 103 → slice_get symbols m ≡ Some (x ∷ y ∷ []) → x ∷ y ∷ r ≡ get_or symbols k [] ++ rest → AfterSymbol rest → (r ≡ rest) × (m ≡ k)
 element_two k m x y r rest lk lm is h after =
@@ -215,7 +221,7 @@ same_shape t u a b (two x v e f q) (two y w g k r) fa fb h =
 abbrev small_from : ℕ → Lower
 small_from a = cond (a == 98) small_b (cond (a == 99) small_c (cond (a == 110) small_n (cond (a == 111) small_o (cond (a == 112) small_p small_s))))
 
-abbrev lower_read : List ℕ → Lower × List ℕ
+abbrev pub lower_read : List ℕ → Lower × List ℕ
 lower_read [] = (small_b, [])
 lower_read (a ∷ []) = (small_from a, [])
 lower_read (a ∷ b ∷ r) = cond (a == 97) (small_as, r) (cond ((a == 115) && (b == 101)) (small_se, r) (small_from a, b ∷ r))
@@ -233,6 +239,11 @@ lower_is small_p (x ∷ xs) h = refl
 lower_is small_s (x ∷ xs) h = ap (λ w. cond w (let p : Lower × List ℕ = (small_se, xs) in p) (small_s, x ∷ xs)) (no_e x xs h)
 lower_is small_se (x ∷ xs) h = refl
 lower_is small_as (x ∷ xs) h = refl
+
+pub lower_only : (m l : Lower) (bytes r rest : List ℕ) → lower_read bytes ≡ (m, r) → AfterSymbol rest → bytes ≡ lower_bytes l ++ rest → (r ≡ rest) × (lower_number m ≡ lower_number l)
+lower_only m l bytes r rest k after h =
+    let e : (m, r) ≡ (l, rest) = sym k ∙ ap lower_read h ∙ lower_is l rest after in
+    (ap (λ (p : Lower × List ℕ). p.1) e, ap (λ (p : Lower × List ℕ). lower_number p.0) e)
 
 pub same_symbol : (z w : Symbol) (a b : List ℕ) → IsSymbol z → IsSymbol w → AfterSymbol a → AfterSymbol b → symbol_text z ++ a ≡ symbol_text w ++ b → (z ≡ w) × (a ≡ b)
 same_symbol (element j) (element k) a b lj lk fa fb h =

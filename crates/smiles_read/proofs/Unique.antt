@@ -2,7 +2,7 @@
 use Rattle.std.proofs.Common.{◌≡◌, ℕ, zero, suc, ◌<◌, ◌≤◌, ◌⊎◌, inl, inr, cond, ◌==◌, ◌&&◌, List, [], ◌∷◌, ◌++◌, Option, Some, None, refl, sym, ◌∙◌, ap, subst, arith, append_assoc}
 use Rattle.std.proofs.lemmas.List.{append-nil}
 use Rattle.std.specs.List.{flat_map}
-use Rattle.chem_core.specs.Organic.{Organic, boron, carbon, nitrogen, oxygen, phosphorus, sulfur, fluorine, chlorine, bromine, iodine, symbol_bytes}
+use Rattle.chem_core.specs.Organic.{Organic, boron, carbon, nitrogen, oxygen, phosphorus, sulfur, fluorine, chlorine, bromine, iodine, symbol_bytes, atomic_number}
 use Rattle.smiles_read.specs.Atom.{Lower, lower_bytes, Symbol, symbol_text, chiral_text, hydrogens_text, charge_text, class_text, Chiral, Hydrogens, Charge, Bracket, bracket_text, IsBracket, AtomText, star, organic, aromatic, bracket, atom_text, IsAtomText}
 use Rattle.smiles_read.specs.Tree.{bond_byte, ring_text, Node, node_text, IsNode, Joint, bonded, dotted, joint_text, Tail, tail_text, Tree, IsTreeOf}
 use Rattle.smiles_read.specs.Follow.{AfterAtom, AtomFirst, AfterNode}
@@ -56,7 +56,7 @@ same_bracket x y a b ix iy h =
 abbrev letter : ℕ → Organic
 letter a = cond (a == 66) boron (cond (a == 67) carbon (cond (a == 78) nitrogen (cond (a == 79) oxygen (cond (a == 80) phosphorus (cond (a == 83) sulfur (cond (a == 70) fluorine iodine))))))
 
-abbrev organic_read : List ℕ → Organic × List ℕ
+abbrev pub organic_read : List ℕ → Organic × List ℕ
 organic_read [] = (boron, [])
 organic_read (a ∷ []) = (letter a, [])
 organic_read (a ∷ b ∷ r) = cond ((a == 67) && (b == 108)) (chlorine, r) (cond ((a == 66) && (b == 114)) (bromine, r) (letter a, b ∷ r))
@@ -81,6 +81,11 @@ organic_is iodine (c ∷ cs) h = refl
 organic_is chlorine r h = refl
 organic_is bromine r h = refl
 
+pub organic_only : (y x : Organic) (bytes r rest : List ℕ) → organic_read bytes ≡ (y, r) → AfterAtom rest → bytes ≡ symbol_bytes x ++ rest → (r ≡ rest) × (atomic_number y ≡ atomic_number x)
+organic_only y x bytes r rest k after h =
+    let e : (y, r) ≡ (x, rest) = sym k ∙ ap organic_read h ∙ organic_is x rest after in
+    (ap (λ (p : Organic × List ℕ). p.1) e, ap (λ (p : Organic × List ℕ). atomic_number p.0) e)
+
 same_organic : (x y : Organic) (a b : List ℕ) → AfterAtom a → AfterAtom b → symbol_bytes x ++ a ≡ symbol_bytes y ++ b → (x ≡ y) × (a ≡ b)
 same_organic x y a b fa fb h =
     let e = sym (organic_is x a fa) ∙ ap organic_read h ∙ organic_is y b fb in
@@ -98,14 +103,14 @@ organic_first chlorine = (67, 108 ∷ [], refl, omega arith, omega arith)
 organic_first bromine = (66, 114 ∷ [], refl, omega arith, omega arith)
 organic_first iodine = (73, [], refl, omega arith, omega arith)
 
-heads : (x y : ℕ) (xs ys : List ℕ) → x ∷ xs ≡ y ∷ ys → x ≡ y
+pub heads : (x y : ℕ) (xs ys : List ℕ) → x ∷ xs ≡ y ∷ ys → x ≡ y
 heads x y xs ys h = cc
 
-tails : (x y : ℕ) (xs ys : List ℕ) → x ∷ xs ≡ y ∷ ys → xs ≡ ys
+pub tails : (x y : ℕ) (xs ys : List ℕ) → x ∷ xs ≡ y ∷ ys → xs ≡ ys
 tails x y xs ys h = cc
 
 -- what an atom begins with, by its form
-not_organic : (b : ℕ) (bs a : List ℕ) (x : Organic) → (b < 66) ⊎ (83 < b) → b ∷ bs ≡ symbol_bytes x ++ a → ⊥
+pub not_organic : (b : ℕ) (bs a : List ℕ) (x : Organic) → (b < 66) ⊎ (83 < b) → b ∷ bs ≡ symbol_bytes x ++ a → ⊥
 not_organic b bs a x out h =
     let u = organic_first x in
     let e = heads b u.0 bs (u.1 ++ a) (h ∙ ap (λ w. w ++ a) u.2) in
@@ -113,7 +118,7 @@ not_organic b bs a x out h =
     let high = u.4 in
     elim out [ inl l ↦ omega arith | inr l ↦ omega arith ]
 
-not_small : (b : ℕ) (bs a : List ℕ) (l : Lower) → b < 97 → b ∷ bs ≡ lower_bytes l ++ a → ⊥
+pub not_small : (b : ℕ) (bs a : List ℕ) (l : Lower) → b < 97 → b ∷ bs ≡ lower_bytes l ++ a → ⊥
 not_small b bs a l out h =
     let u = lower_first l in
     let e = heads b u.0 bs (u.1 ++ a) (h ∙ ap (λ w. w ++ a) u.2) in

@@ -1,4 +1,4 @@
--- What may stand after the pieces of a SMILES.
+-- What may stand after the pieces of a SMILES: for private clauses only.
 use Rattle.std.specs.Prelude.{◌≤◌, ◌≡◌, ◌≢◌, ◌⊎◌, ℕ, ◌<◌, List, [], ◌∷◌, ◌++◌}
 use Rattle.smiles_read.specs.Tree.{RingText, ring_text, IsRingNumber}
 

@@ -1,4 +1,4 @@
--- What the reader holds, as plain data, and its steps.
+-- What the reader holds, as plain data, and its steps: for private clauses only.
 use Rattle.std.specs.Prelude.{◌≡◌, ℕ, ◌+◌, ◌<◌, ◌≤◌, false, ◌==◌, if◌then◌else◌, List, [], ◌++◌, reverse, max, option_and_then, ◌∷◌, length, drop, map, Option, None, Some, IfSome}
 use Rattle.std.specs.List.{list_any, AllByRecursion}
 use Rattle.chem_core.specs.declared.sketch.SketchBond.{SketchBond}

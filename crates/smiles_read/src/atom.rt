@@ -1,13 +1,32 @@
 //! Atoms (OpenSMILES 1.0, section 3.1).
 
-ghost use Rattle.std.specs.Prelude.{◌≡◌, ℕ, ◌<◌, ◌≤◌, pos, length, List, ◌++◌, IfSome, IsSomeAnd};
+ghost use Rattle.std.specs.Prelude.{◌≡◌, ◌≢◌, ℕ, ◌<◌, ◌≤◌, pos, length, List, [], ◌∷◌, ◌++◌, IfSome, IsSomeAnd, MatchOption};
 ghost use Rattle.chem_core.specs.Organic.{Organic, symbol_bytes, atomic_number};
 ghost use Rattle.chem_core.specs.Sound.{IsSketchAtom};
 ghost use Rattle.smiles_read.specs.Atom.{Lower, lower_bytes, lower_number, IsOrganicLower, AtomText, organic, aromatic, atom_text, IsAtomText, atom_of};
 ghost use Rattle.smiles_read.specs.Follow.{AfterAtom};
 
 use crate::bracket::bracket_at;
+use crate::symbol::small_at;
 use chem_core::{Fill, SketchAtom};
+
+/// The number of the element of the organic subset whose symbol is the one letter.
+fn letter_number(byte: u8) -> Option<u8>
+    ensures { MatchOption result ((x : Organic) → symbol_bytes x ≢ byte ∷ [])
+        (λ number. (x : Organic) × (symbol_bytes x ≡ byte ∷ []) × (number ≡ atomic_number x)) }
+{
+    match byte {
+        b'C' => Some(6),
+        b'N' => Some(7),
+        b'O' => Some(8),
+        b'S' => Some(16),
+        b'F' => Some(9),
+        b'P' => Some(15),
+        b'I' => Some(53),
+        b'B' => Some(5),
+        _ => None,
+    }
+}
 
 /// The element of the organic subset whose symbol the bytes begin with, and the bytes after it.
 fn upper_at(bytes: &[u8]) -> Option<(u8, &[u8])>
@@ -18,32 +37,11 @@ fn upper_at(bytes: &[u8]) -> Option<(u8, &[u8])>
     match bytes {
         [b'C', b'l', rest @ ..] => Some((17, rest)),
         [b'B', b'r', rest @ ..] => Some((35, rest)),
-        [b'C', rest @ ..] => Some((6, rest)),
-        [b'N', rest @ ..] => Some((7, rest)),
-        [b'O', rest @ ..] => Some((8, rest)),
-        [b'S', rest @ ..] => Some((16, rest)),
-        [b'F', rest @ ..] => Some((9, rest)),
-        [b'P', rest @ ..] => Some((15, rest)),
-        [b'I', rest @ ..] => Some((53, rest)),
-        [b'B', rest @ ..] => Some((5, rest)),
-        _ => None,
-    }
-}
-
-/// The element of the organic subset whose symbol in lower case the bytes begin with, and the bytes after it.
-fn lower_at(bytes: &[u8]) -> Option<(u8, &[u8])>
-    ensures found { IfSome result (λ r. (x : Lower) × IsOrganicLower x × (bytes.now ≡ lower_bytes x ++ r.1.now) × (r.0 ≡ lower_number x)) }
-    ensures only { (x : Lower) (rest : List ℕ) → IsOrganicLower x → bytes.now ≡ lower_bytes x ++ rest
-        → IsSomeAnd result (λ r. (r.1.now ≡ rest) × (r.0 ≡ lower_number x)) }
-{
-    match bytes {
-        [b'c', rest @ ..] => Some((6, rest)),
-        [b'n', rest @ ..] => Some((7, rest)),
-        [b'o', rest @ ..] => Some((8, rest)),
-        [b's', rest @ ..] => Some((16, rest)),
-        [b'p', rest @ ..] => Some((15, rest)),
-        [b'b', rest @ ..] => Some((5, rest)),
-        _ => None,
+        [first, rest @ ..] => {
+            let number = letter_number(*first)?;
+            Some((number, rest))
+        }
+        [] => None,
     }
 }
 
@@ -73,7 +71,7 @@ fn organic_at(bytes: &[u8], written: u16) -> Option<(SketchAtom, &[u8])>
     match upper_at(bytes) {
         Some((number, rest)) => Some((bare(number, false, Fill::Organic, written), rest)),
         None => {
-            let (number, rest) = lower_at(bytes)?;
+            let (number, rest) = small_at(bytes)?;
             Some((bare(number, true, Fill::Organic, written), rest))
         }
     }

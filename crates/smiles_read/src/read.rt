@@ -17,9 +17,12 @@ use crate::reader::Reader;
 use chem_core::Sketch;
 use std::alloc::Global;
 
+/// The longest text that is looked at, in bytes.
+const MOST_BYTES: usize = 65_536;
+
 /// Reads the tree of a text.
 fn read_tree(alloc: Global, text: &[u8]) -> Result<Reader, SmilesFault>
-    requires { length text.now ≤ 65536 }
+    requires { length text.now ≤ MOST_BYTES }
     ensures found { IfOk result (λ r. IsTreeRead text.now r) }
     ensures keeps { IfOk result IsReader }
     ensures syntax { IsErrOf result SmilesFault.Syntax → (tree : Tree) → IsTreeOf text.now tree → ⊥ }
@@ -67,7 +70,7 @@ pub fn read_smiles(alloc: Global, text: &[u8]) -> Result<Sketch, SmilesFault>
     ensures sound { IfOk result (λ s. IsSound s) }
     ensures few_hydrogens { IfOk result (λ s. All (λ a. a.hydrogens ≤ 9) s.atoms) }
 {
-    if text.len() > 65536 {
+    if text.len() > MOST_BYTES {
         return Err(SmilesFault::Limit);
     }
     let reader = read_tree(alloc, text)?;

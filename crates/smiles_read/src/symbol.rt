@@ -2,10 +2,39 @@
 
 ghost use Rattle.std.specs.Prelude.{◌≡◌, ◌≢◌, ℕ, List, ◌∷◌, ◌++◌, [], ◌≤◌, IfSome, IfNone, Some, MatchOption, IsSomeAnd, slice_get};
 ghost use Rattle.chem_core.specs.Element.{symbols};
-ghost use Rattle.smiles_read.specs.Atom.{Lower, lower_bytes, lower_number, Symbol, element, symbol_text, IsSymbol, symbol_number, is_lower};
+ghost use Rattle.smiles_read.specs.Atom.{Lower, lower_bytes, lower_number, IsOrganicLower, Symbol, element, symbol_text, IsSymbol, symbol_number, is_lower};
 ghost use Rattle.smiles_read.specs.Follow.{AfterSymbol};
 
 use chem_core::number_of;
+
+/// The number of the symbol of one letter in lower case that the byte is.
+fn small_number(byte: u8) -> Option<u8>
+    ensures { MatchOption result ((l : Lower) → IsOrganicLower l → lower_bytes l ≢ byte ∷ [])
+        (λ number. (l : Lower) × IsOrganicLower l × (lower_bytes l ≡ byte ∷ []) × (number ≡ lower_number l)) }
+{
+    match byte {
+        b'b' => Some(5),
+        b'c' => Some(6),
+        b'n' => Some(7),
+        b'o' => Some(8),
+        b'p' => Some(15),
+        b's' => Some(16),
+        _ => None,
+    }
+}
+
+/// The number of the symbol of one letter in lower case that the bytes begin with, and the bytes after it.
+pub fn small_at(bytes: &[u8]) -> Option<(u8, &[u8])>
+    ensures found { IfSome result (λ r. (l : Lower) × IsOrganicLower l × (bytes.now ≡ lower_bytes l ++ r.1.now) × (r.0 ≡ lower_number l)) }
+    ensures only { (l : Lower) (rest : List ℕ) → IsOrganicLower l → bytes.now ≡ lower_bytes l ++ rest
+        → IsSomeAnd result (λ r. (r.1.now ≡ rest) × (r.0 ≡ lower_number l)) }
+{
+    let [first, rest @ ..] = bytes else {
+        return None;
+    };
+    let number = small_number(*first)?;
+    Some((number, rest))
+}
 
 /// The number of a symbol in lower case that the bytes begin with, the longest, and the bytes after it.
 fn lower_at(bytes: &[u8]) -> Option<(u8, &[u8])>
@@ -16,13 +45,7 @@ fn lower_at(bytes: &[u8]) -> Option<(u8, &[u8])>
     match bytes {
         [b's', b'e', rest @ ..] => Some((34, rest)),
         [b'a', b's', rest @ ..] => Some((33, rest)),
-        [b'b', rest @ ..] => Some((5, rest)),
-        [b'c', rest @ ..] => Some((6, rest)),
-        [b'n', rest @ ..] => Some((7, rest)),
-        [b'o', rest @ ..] => Some((8, rest)),
-        [b'p', rest @ ..] => Some((15, rest)),
-        [b's', rest @ ..] => Some((16, rest)),
-        _ => None,
+        _ => small_at(bytes),
     }
 }
 
@@ -35,6 +58,10 @@ fn two_letters_at(bytes: &[u8]) -> Option<(u8, &[u8])>
     let [first, second, rest @ ..] = bytes else {
         return None;
     };
+    // The second letter is in lower case: most symbols in brackets are of one letter, and need no look into the table.
+    if *second < b'a' {
+        return None;
+    }
     match number_of(&[*first, *second]) {
         Some(number) => Some((number, rest)),
         None => None,

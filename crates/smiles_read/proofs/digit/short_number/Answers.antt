@@ -1,5 +1,5 @@
-use Rattle.std.proofs.Common.{inl, inr, arith}
-use Rattle.smiles_read.proofs.Digits.{one_found, one_only, two_found, two_only, other_only}
+use Rattle.std.proofs.Common.{inl, inr, refl, arith}
+use Rattle.smiles_read.proofs.Digits.{one_value, both_digits, one_found, one_only, two_found, two_only, other_only}
 use Rattle.smiles_read.proofs.digit.short_number.Goals as goal
 
 pub returns-then-tens-eq48-clause-only : goal.returns-then-tens-eq48-clause-only
@@ -22,3 +22,22 @@ returns-in_default-clause-only c n le h = elim (other_only c.args.digits.now n l
 
 pub returns-in_default-2-clause-only : goal.returns-in_default-2-clause-only
 returns-in_default-2-clause-only c n le h = elim (other_only c.args.digits.now n le h) [ inl e ↦ omega arith | inr e ↦ omega arith ]
+
+pub returns-then-tens-eq48-clause-found : goal.returns-then-tens-eq48-clause-found
+returns-then-tens-eq48-clause-found c = inl refl
+
+pub returns-in-len1-clause-few : goal.returns-in-len1-clause-few
+returns-in-len1-clause-few c = let d = (one_value c.args.digits.now (omega arith) c.requires).1 in omega arith
+
+pub returns-else-tens-eq48-clause-few : goal.returns-else-tens-eq48-clause-few
+returns-else-tens-eq48-clause-few c =
+    let v = both_digits c.args.digits.now (omega arith) c.requires in
+    let tens = v.1 in
+    let ones = v.2 in
+    omega arith
+
+pub returns-in_default-clause-found : goal.returns-in_default-clause-found
+returns-in_default-clause-found c = inl refl
+
+pub returns-in_default-2-clause-found : goal.returns-in_default-2-clause-found
+returns-in_default-2-clause-found c = inl refl

@@ -2,7 +2,7 @@ use Rattle.std.proofs.Common.{◌+◌, set, refl, arith}
 use Rattle.std.proofs.lemmas.List.{length-set}
 use Rattle.chem_core.specs.declared.sketch.SketchBond.{SketchBond}
 use Rattle.chem_core.specs.declared.sketch.SketchKind.TheVariants.{Unwritten}
-use Rattle.smiles_read.proofs.Counts.{counted_more, few_more, few_all, too_many, ends_within}
+use Rattle.smiles_read.proofs.Counts.{one_fits, both_fit, counted_more, few_more, few_all, too_many, ends_within}
 use Rattle.smiles_read.proofs.limits.are_few_neighbours.Goals as goal
 use Rattle.smiles_read.proofs.limits.are_few_neighbours.Goals.{then-index-gt12-via-then-index-gt12, then-index-gt12-via-else-index-gt12+then-index-gt12-2}
 
@@ -48,3 +48,49 @@ loop-bond-preserved c =
 pub returns : goal.returns
 returns c =
     (λ e. few_all c.args.atoms c.args.bonds.now c.loop-bond.counts.items c.loop-bond.bond-index c.requires (omega arith) c.loop-bond.invariant.counted c.loop-bond.invariant.few, λ all. refl)
+
+pub index_mut-requires : goal.index_mut-requires
+index_mut-requires c =
+    let room = c.loop-bond.invariant.room in
+    let kept = c.loop-bond.counts.ok.0 in
+    let within = ends_within c.args.atoms c.args.bonds.now c.loop-bond.bond-index other c.from-first.result c.from-second.result c.requires c.loop-bond-test.true c.from-first.ensures c.from-second.ensures in
+    let here = within.0 in
+    omega arith
+
+pub overflow_add-index_mut : goal.overflow_add-index_mut
+overflow_add-index_mut c =
+    let inv = c.loop-bond.invariant in
+    let within = ends_within c.args.atoms c.args.bonds.now c.loop-bond.bond-index other c.from-first.result c.from-second.result c.requires c.loop-bond-test.true c.from-first.ensures c.from-second.ensures in
+    let few = one_fits c.loop-bond.counts.items c.args.atoms c.from-first.result c.index_mut.result.now inv.room within.0 c.index_mut.ensures.value inv.few in
+    omega arith
+
+pub index_mut-requires-in-loop-bond : goal.index_mut-requires-in-loop-bond
+index_mut-requires-in-loop-bond c =
+    let room = c.loop-bond.invariant.room in
+    let kept = c.loop-bond.counts.ok.0 in
+    let within = ends_within c.args.atoms c.args.bonds.now c.loop-bond.bond-index other c.from-first.result c.from-second.result c.requires c.loop-bond-test.true c.from-first.ensures c.from-second.ensures in
+    let here = within.1 in
+    omega arith
+
+pub overflow_add-index_mut-in-loop-bond : goal.overflow_add-index_mut-in-loop-bond
+overflow_add-index_mut-in-loop-bond c =
+    let inv = c.loop-bond.invariant in
+    let within = ends_within c.args.atoms c.args.bonds.now c.loop-bond.bond-index other c.from-first.result c.from-second.result c.requires c.loop-bond-test.true c.from-first.ensures c.from-second.ensures in
+    let few = both_fit c.loop-bond.counts.items c.args.atoms c.from-first.result c.from-second.result c.index_mut.result.now c.index_mut-in-loop-bond.result.now inv.room within.0 within.1 c.index_mut.ensures.value c.index_mut-in-loop-bond.ensures.value inv.few in
+    omega arith
+
+pub index-requires : goal.index-requires
+index-requires c =
+    let room = c.loop-bond.invariant.room in
+    let kept = c.loop-bond.counts.ok.0 in
+    let within = ends_within c.args.atoms c.args.bonds.now c.loop-bond.bond-index other c.from-first.result c.from-second.result c.requires c.loop-bond-test.true c.from-first.ensures c.from-second.ensures in
+    let here = within.0 in
+    omega arith
+
+pub index-requires-else-index-gt12 : goal.index-requires-else-index-gt12
+index-requires-else-index-gt12 c =
+    let room = c.loop-bond.invariant.room in
+    let kept = c.loop-bond.counts.ok.0 in
+    let within = ends_within c.args.atoms c.args.bonds.now c.loop-bond.bond-index other c.from-first.result c.from-second.result c.requires c.loop-bond-test.true c.from-first.ensures c.from-second.ensures in
+    let here = within.1 in
+    omega arith
