@@ -1,4 +1,9 @@
 //! Aromatic atoms and bonds, by electron counts on Hückel cycles.
+//!
+//! One pass over the bonds counts what the table reads of each atom (`site`, `table`). Ring bonds between candidates
+//! become links (`links`). From each of them that is not marked yet a search looks for a Hückel cycle through it, and
+//! marks the whole cycle (`marks`, `cycle`); it tries an atom only where that is near enough to the search's target
+//! (`distance`). Another pass over the bonds sums up valences and finds what is refused (`tally`, `perception`).
 #![tactic(auto)]
 
 mod cycle;
