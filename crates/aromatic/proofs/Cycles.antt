@@ -1,5 +1,5 @@
 -- A bond lies on a Hückel cycle exactly where its one end is joined to its other end by a path that closes to one.
-use Rattle.std.proofs.Common.{zero, suc, ℕ, ◌+◌, ◌-◌, ◌%◌, ◌<◌, ◌≤◌, ◌≡◌, ◌≢◌, ◌⊎◌, ◌↔◌, inl, inr, Bool, true, false, List, [], ◌∷◌, ◌++◌, length, map, take, drop, reverse, get_or, All, AllPairs, Contains, IsPermutation, Option, None, Some, IsSome, option_map, option_and_then, if◌then◌else◌, not, ◌&&◌, unwrap_or, sum_by, slice_get, refl, sym, ap, subst, ◌∙◌, arith}
+use Rattle.std.proofs.Common.{zero, suc, ℕ, ◌+◌, ◌-◌, ◌%◌, ◌<◌, ◌≤◌, ◌≡◌, ◌≢◌, ◌⊎◌, ◌↔◌, inl, inr, Bool, true, false, List, [], ◌∷◌, ◌++◌, length, map, take, drop, reverse, get_or, All, AllPairs, Contains, IsPermutation, Option, None, Some, IsSome, option_map, option_and_then, if◌then◌else◌, not, ◌&&◌, sum_by, slice_get, refl, sym, ap, subst, ◌∙◌, arith}
 use Rattle.std.proofs.Math.Nat.{mod-eq_of_lt, mod_self}
 use Rattle.std.proofs.lemmas.List.{get_or_append_left, get_or-append_right, get_or-drop, get_or-take, get_or-reverse, get_or_default, get_or_past, get_or-map, length-append, length-drop, length-take-le, length-reverse, length-map, take-append-drop}
 use Rattle.std.proofs.lemmas.List.Sorted.{IsPermutation-append_comm, IsPermutation-reverse, All-permutation, sum_by-IsPermutation}
@@ -9,13 +9,13 @@ use Rattle.chem_core.specs.Drawing.{Drawing}
 use Rattle.chem_core.specs.Sound.{IsSound, sketch_ends, ends_among}
 use Rattle.chem_core.specs.Graph.{Ends, JoinsAt, IsSimpleGraph, next_place}
 use Rattle.aromatic.specs.Electrons.{electrons, row_at, row_of, site_of, is_eligible}
-use Rattle.aromatic.specs.Huckel.{IsHuckelCycle, IsAromaticAtom, IsRefused, IsFirstRefused, IsPerceived, has_colon, bonded, adds_one}
+use Rattle.aromatic.specs.Huckel.{IsHuckelBy, IsHuckelCycle, IsAromaticAtom, IsRefused, IsFirstRefused, IsPerceived, has_colon, bonded, adds_one}
 use Rattle.std.specs.List.{enumerate_from}
 use Rattle.chem_core.specs.declared.sketch.SketchAtom.{SketchAtom}
 use Rattle.chem_core.specs.RingFacts.{AreRingBonds}
 use Rattle.aromatic.specs.declared.links.Link.{Link}
 use Rattle.aromatic.specs.Links.{AreClosed, AreLinks, AreMutual, IsCandidateAt, IsLinkBelow, links_at}
-use Rattle.aromatic.specs.Route.{AreAromaticAtoms, AreAromaticBonds, AreMarksBelow, AreRows, CanReach, Completes, IsAromaticBy, IsHuckelBy, IsMarkedEnd, IsNet, IsRoute, IsTrail, atoms_of, given_at, last_of}
+use Rattle.aromatic.specs.Route.{AreAromaticAtoms, AreAromaticBonds, AreMarksBelow, AreRows, CanReach, Completes, IsAromaticBy, IsMarkedEnd, IsNet, IsRoute, IsTrail, atoms_of, given_at, last_of}
 use Rattle.aromatic.proofs.Tallies.{refused, valence_by}
 use Rattle.aromatic.proofs.Routes.{atom_at, length-atoms_of}
 use Rattle.aromatic.specs.declared.table.Row.{Row}
@@ -83,7 +83,7 @@ other_place n m j k p q hp hq hj hk (inr a) (inl b) = λ e. omega arith
 other_place n m j k p q hp hq hj hk (inr a) (inr b) = λ e. omega arith
 
 -- a Hückel cycle, opened behind place i
-opened : (ends : Ends) (rings : List Bool) (gives : List (Option ℕ)) (links : List (List Link)) (atoms : List ℕ) (i : ℕ) → IsNet ends rings gives links → IsHuckelBy ends gives atoms → i < length atoms → IsOpen ends rings gives (rotated (i + 1) atoms)
+opened : (ends : Ends) (rings : List Bool) (gives : List (Option ℕ)) (links : List (List Link)) (atoms : List ℕ) (i : ℕ) → IsNet ends rings gives links → IsHuckelBy ends (λ a. get_or gives a None) atoms → i < length atoms → IsOpen ends rings gives (rotated (i + 1) atoms)
 opened ends rings gives links atoms i net h within =
     let m : ℕ = i + 1 in
     let n : ℕ = length atoms in
@@ -250,7 +250,7 @@ closing ends links gives path b x y here route first k e =
     rw (last, around, first) (inr here)
 
 -- a route from a bond's one end to its other end is a Hückel cycle
-cycle-from_route : (ends : Ends) (rings : List Bool) (gives : List (Option ℕ)) (links : List (List Link)) (path : List ℕ) (b x y : ℕ) → IsNet ends rings gives links → slice_get ends b ≡ Some (x, y) → IsRoute links gives y path → get_or path 0 0 ≡ x → IsHuckelBy ends gives path
+cycle-from_route : (ends : Ends) (rings : List Bool) (gives : List (Option ℕ)) (links : List (List Link)) (path : List ℕ) (b x y : ℕ) → IsNet ends rings gives links → slice_get ends b ≡ Some (x, y) → IsRoute links gives y path → get_or path 0 0 ≡ x → IsHuckelBy ends (λ a. get_or gives a None) path
 cycle-from_route ends rings gives links path b x y net here route first =
     let n : ℕ = length path in
     let three : 3 ≤ n = route.three in
@@ -378,21 +378,10 @@ given_by_rows s rings rows gives h is a =
     rw is (read ∙ ap f (rows_everywhere s rings rows h a))
 
 -- a cycle, where the electrons of each atom are told
-huckel-from_told : (s : Drawing) (rings : List Bool) (gives : List (Option ℕ)) (atoms : List ℕ) → ((a : ℕ) → get_or gives a None ≡ electrons s rings a) → IsHuckelBy (sketch_ends s) gives atoms → IsHuckelCycle s rings atoms
-huckel-from_told s rings gives atoms given h = record {
-  cycle = h.cycle;
-  most = h.most;
-  candidates = λ k d lt. rw (given (get_or atoms k d)) at (h.candidates k d lt);
-  count = subst (λ n. n % 4 ≡ 2) (λ i. sum_by (λ a. unwrap_or (given a i) 0) atoms) h.count;
-}
-
-told-from_huckel : (s : Drawing) (rings : List Bool) (gives : List (Option ℕ)) (atoms : List ℕ) → ((a : ℕ) → get_or gives a None ≡ electrons s rings a) → IsHuckelCycle s rings atoms → IsHuckelBy (sketch_ends s) gives atoms
-told-from_huckel s rings gives atoms given h = record {
-  cycle = h.cycle;
-  most = h.most;
-  candidates = λ k d lt. rw (given (get_or atoms k d)) (h.candidates k d lt);
-  count = subst (λ n. n % 4 ≡ 2) (sym (λ i. sum_by (λ a. unwrap_or (given a i) 0) atoms)) h.count;
-}
+huckel-told : (s : Drawing) (rings : List Bool) (gives : List (Option ℕ)) (atoms : List ℕ) → ((a : ℕ) → get_or gives a None ≡ electrons s rings a) → IsHuckelBy (sketch_ends s) (λ a. get_or gives a None) atoms ↔ IsHuckelCycle s rings atoms
+huckel-told s rings gives atoms given =
+    let same : ◌≡◌ {A = ℕ → Option ℕ} (λ a. get_or gives a None) (electrons s rings) = λ i a. given a i in
+    (λ h. subst (λ f. IsHuckelBy (sketch_ends s) f atoms) same h, λ h. subst (λ f. IsHuckelBy (sketch_ends s) f atoms) (sym same) h)
 
 mod_within : (n m : ℕ) → 0 < m → n % m < m
 mod_within n m h = omega arith
@@ -443,8 +432,8 @@ bonds-found s rings rows gives marks h is marked =
     record {
       count = marked.count ∙ length-map s.bonds (λ b. (b.a, b.b));
       each = λ b within. (
-        λ q. let on = marked.sound b q in (on.0, huckel-from_told s rings gives on.0 given on.1, on.2),
-        λ on. marked.each b within (on.0, told-from_huckel s rings gives on.0 given on.1, on.2),
+        λ q. let on = marked.sound b q in (on.0, (huckel-told s rings gives on.0 given).0 on.1, on.2),
+        λ on. marked.each b within (on.0, (huckel-told s rings gives on.0 given).1 on.1, on.2),
       );
     }
 

@@ -7,18 +7,22 @@ use Rattle.chem_core.specs.declared.sketch.SketchKind.{SketchKind}
 use Rattle.chem_core.specs.declared.sketch.SketchKind.TheVariants.{Colon}
 use Rattle.chem_core.specs.Drawing.{Drawing, ends_at, order_of}
 use Rattle.chem_core.specs.Sound.{sketch_ends}
-use Rattle.chem_core.specs.Graph.{IsSimpleCycle, LiesOn}
+use Rattle.chem_core.specs.Graph.{Ends, IsSimpleCycle, LiesOn}
 use Rattle.aromatic.specs.declared.perception.AromFault.{AromFault}
 use Rattle.aromatic.specs.declared.perception.AromFault.TheVariants.{Aromatic, NoMemory}
 use Rattle.aromatic.specs.declared.table.Row.{Row}
 use Rattle.aromatic.specs.Electrons.{row_at, electrons, is_double, by_ring_double}
 
--- a simple cycle of 3 to 18 candidates whose electrons sum to 2 modulo 4
-pub record IsHuckelCycle (s : Drawing) (rings : List Bool) (atoms : List ℕ) : Type 0 where
-  pub cycle : IsSimpleCycle (sketch_ends s) atoms
+-- a simple cycle of 3 to 18 atoms, each of which gives electrons, that sum to 2 modulo 4
+pub record IsHuckelBy (ends : Ends) (gives : ℕ → Option ℕ) (atoms : List ℕ) : Type 0 where
+  pub cycle : IsSimpleCycle ends atoms
   pub most : length atoms ≤ 18
-  pub candidates : All (λ a. IsSome (electrons s rings a)) atoms
-  pub count : sum_by (λ a. unwrap_or (electrons s rings a) 0) atoms % 4 ≡ 2
+  pub candidates : All (λ a. IsSome (gives a)) atoms
+  pub count : sum_by (λ a. unwrap_or (gives a) 0) atoms % 4 ≡ 2
+
+-- a simple cycle of 3 to 18 candidates whose electrons sum to 2 modulo 4
+abbrev pub IsHuckelCycle : Drawing → List Bool → List ℕ → Type 0
+IsHuckelCycle s rings atoms = IsHuckelBy (sketch_ends s) (electrons s rings) atoms
 
 abbrev pub IsAromaticAtom : Drawing → List Bool → ℕ → Type 0
 IsAromaticAtom s rings a = (atoms : List ℕ) × IsHuckelCycle s rings atoms × Contains atoms a

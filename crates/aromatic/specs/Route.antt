@@ -1,11 +1,11 @@
 -- Paths of links, from one end of a bond on the way to its other end.
-use Rattle.std.specs.Prelude.{◌≡◌, ◌≢◌, ℕ, ◌+◌, ◌-◌, ◌%◌, ◌<◌, ◌≤◌, List, ◌++◌, length, map, sum_by, slice_index, slice_index_or, All, AllPairs, Contains, Option, None, unwrap_or, Bool, true, false, ◌↔◌}
+use Rattle.std.specs.Prelude.{◌≡◌, ◌≢◌, ℕ, ◌+◌, ◌-◌, ◌%◌, ◌<◌, ◌≤◌, List, ◌++◌, length, map, sum_by, slice_index, slice_index_or, AllPairs, Contains, Option, None, unwrap_or, Bool, true, false, ◌↔◌}
 use Rattle.chem_core.specs.Drawing.{Drawing}
 use Rattle.chem_core.specs.RingFacts.{AreRingBonds}
-use Rattle.chem_core.specs.Graph.{Ends, IsSimpleCycle, IsSimpleGraph, JoinsAt, LiesOn}
+use Rattle.chem_core.specs.Graph.{Ends, IsSimpleGraph, JoinsAt, LiesOn}
 use Rattle.aromatic.specs.Electrons.{row_at}
-use Rattle.aromatic.specs.Huckel.{IsAromaticAtom, IsAromaticBond}
-use Rattle.aromatic.specs.Links.{AreLinks, IsCandidateAt, IsLinked, links_at}
+use Rattle.aromatic.specs.Huckel.{IsAromaticAtom, IsAromaticBond, IsHuckelBy}
+use Rattle.aromatic.specs.Links.{AreLinks, IsLinked, links_at}
 use Rattle.aromatic.specs.declared.links.Link.{Link}
 use Rattle.aromatic.specs.declared.table.Row.{Row}
 
@@ -50,16 +50,9 @@ pub record Completes (links : List (List Link)) (gives : List (Option ℕ)) (tar
 
 -- ---- cycles and marks, where the electrons of each atom are told
 
--- a simple cycle of 3 to 18 candidates whose electrons sum to 2 modulo 4
-pub record IsHuckelBy (ends : Ends) (gives : List (Option ℕ)) (atoms : List ℕ) : Type 0 where
-  pub cycle : IsSimpleCycle ends atoms
-  pub most : length atoms ≤ 18
-  pub candidates : All (IsCandidateAt gives) atoms
-  pub count : sum_by (λ a. given_at gives a) atoms % 4 ≡ 2
-
--- the bond lies on such a cycle
+-- the bond lies on a Hückel cycle
 abbrev pub IsAromaticBy : Ends → List (Option ℕ) → ℕ → Type 0
-IsAromaticBy ends gives b = (atoms : List ℕ) × IsHuckelBy ends gives atoms × LiesOn ends b atoms
+IsAromaticBy ends gives b = (atoms : List ℕ) × IsHuckelBy ends (λ a. slice_index_or gives a None) atoms × LiesOn ends b atoms
 
 -- the ring bonds, and the links between the candidates that they join
 pub record IsNet (ends : Ends) (rings : List Bool) (gives : List (Option ℕ)) (links : List (List Link)) : Type 0 where
