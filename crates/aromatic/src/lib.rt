@@ -17,6 +17,3 @@ mod tally;
 
 pub use perception::{Arom, AromFault, perceive};
 pub use site::electrons;
-
-#[cfg(test)]
-mod tests;

@@ -14,6 +14,3 @@ mod symbol;
 
 pub use fault::SmilesFault;
 pub use read::{one_tree, read_smiles};
-
-#[cfg(test)]
-mod tests;

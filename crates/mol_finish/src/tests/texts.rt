@@ -1,7 +1,7 @@
 //! Texts and their answers, by the grammar.
 
-use crate::{SmilesFault, read_smiles};
 use chem_core::{Fill, SketchAtom, SketchBond, SketchKind};
+use smiles_read::{SmilesFault, read_smiles};
 use std::alloc::{AllocError, Global};
 use std::test::Fail;
 

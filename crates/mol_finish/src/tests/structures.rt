@@ -1,0 +1,160 @@
+//! Structures of texts.
+
+use crate::{Format, TextFault, structure};
+use chem_core::{BondKind, Mol};
+use smiles_read::SmilesFault;
+use std::test::Fail;
+
+/// A SMILES and its molecule: a character for each atom or bond.
+struct Example {
+    text: &'static str,
+    /// Hydrogens, valence and smallest ring as digits; `a` where an atom is aromatic.
+    hydrogens: &'static str,
+    valence: &'static str,
+    small: &'static str,
+    aromatic: &'static str,
+    /// `-`, `=` or `:`, and `r` where a bond is a ring bond.
+    kinds: &'static str,
+    rings: &'static str,
+}
+
+const EXAMPLES: &[Example] = &[
+    Example {
+        text: "[H]C",
+        hydrogens: "4",
+        valence: "4",
+        small: "0",
+        aromatic: ".",
+        kinds: "",
+        rings: "",
+    },
+    Example {
+        text: "[2H]C",
+        hydrogens: "03",
+        valence: "14",
+        small: "00",
+        aromatic: "..",
+        kinds: "-",
+        rings: ".",
+    },
+    Example {
+        text: "c1ccccc1",
+        hydrogens: "111111",
+        valence: "444444",
+        small: "666666",
+        aromatic: "aaaaaa",
+        kinds: "::::::",
+        rings: "rrrrrr",
+    },
+    Example {
+        text: "C1=CC=CC=C1",
+        hydrogens: "111111",
+        valence: "444444",
+        small: "666666",
+        aromatic: "aaaaaa",
+        kinds: "::::::",
+        rings: "rrrrrr",
+    },
+    // azulene
+    Example {
+        text: "c1ccc2cccc2cc1",
+        hydrogens: "1110111011",
+        valence: "4444444444",
+        small: "7775555577",
+        aromatic: "aaaaaaaaaa",
+        kinds: ":::::::-:::",
+        rings: "rrrrrrrrrrr",
+    },
+    // caffeine
+    Example {
+        text: "Cn1cnc2c1c(=O)n(C)c(=O)n2C",
+        hydrogens: "30100000030003",
+        valence: "43434442344234",
+        small: "05555560606060",
+        aromatic: ".aaaaaa.a.a.a.",
+        kinds: "-::::::=:-:=::-",
+        rings: ".rrrrrr.r.r.rr.",
+    },
+];
+
+// The character at a place; a blank past the end.
+fn at(text: &str, place: usize) -> u8 {
+    text.as_bytes().get(place).copied().unwrap_or(b' ')
+}
+
+fn letter(kind: BondKind) -> u8 {
+    match kind {
+        BondKind::Single => b'-',
+        BondKind::Double => b'=',
+        BondKind::Triple => b'#',
+        BondKind::Quad => b'$',
+        BondKind::Aromatic => b':',
+    }
+}
+
+// Whether the molecule's atoms are those of the example.
+fn atoms_are(mol: &Mol, example: &Example) -> bool {
+    let mut right = mol.atoms().len() == example.hydrogens.len();
+    for (place, atom) in mol.atoms().iter().enumerate() {
+        let aromatic = if atom.aromatic { b'a' } else { b'.' };
+        right = right
+            && usize::from(atom.hydrogens) + 48 == usize::from(at(example.hydrogens, place))
+            && usize::from(atom.valence) + 48 == usize::from(at(example.valence, place))
+            && usize::from(mol.small(place as u16)) + 48 == usize::from(at(example.small, place))
+            && aromatic == at(example.aromatic, place);
+    }
+    right
+}
+
+// Whether the molecule's bonds are those of the example.
+fn bonds_are(mol: &Mol, example: &Example) -> bool {
+    let mut right = mol.bonds().len() == example.kinds.len();
+    for (place, bond) in mol.bonds().iter().enumerate() {
+        let ring = if mol.ring_bond(place as u16) {
+            b'r'
+        } else {
+            b'.'
+        };
+        right = right
+            && letter(bond.kind) == at(example.kinds, place)
+            && ring == at(example.rings, place);
+    }
+    right
+}
+
+#[test]
+fn examples(rt: HostRuntime) -> Result<(), Fail> {
+    for example in EXAMPLES {
+        let text = example.text;
+        let mol = structure(rt.alloc(), Format::Smiles, text.as_bytes())?;
+        assert!(rt; atoms_are(&mol, example), "the atoms of {text}");
+        assert!(rt; bonds_are(&mol, example), "the bonds of {text}");
+    }
+    Ok(())
+}
+
+#[test]
+fn refusals(rt: HostRuntime) -> Result<(), Fail> {
+    let kekule = structure(rt.alloc(), Format::Smiles, b"C1=CC=CC=C1")?;
+    let lower = structure(rt.alloc(), Format::Smiles, b"c1ccccc1")?;
+    assert_eq!(rt; kekule.atoms(), lower.atoms());
+    assert_eq!(rt; kekule.bonds(), lower.bonds());
+    for (format, text, want) in [
+        (
+            Format::Smiles,
+            "c1cccc1",
+            TextFault::Smiles(SmilesFault::Aromatic(0)),
+        ),
+        (
+            Format::Smiles,
+            "[H]c1cccc1",
+            TextFault::Smiles(SmilesFault::Aromatic(1)),
+        ),
+        (Format::Smiles, "C(", TextFault::Smiles(SmilesFault::Syntax)),
+        (Format::Molfile, "C", TextFault::NotYet),
+    ] {
+        let got = structure(rt.alloc(), format, text.as_bytes()).map(|_| ());
+        assert_eq!(rt; got, Err(want), "at {text}");
+    }
+    Ok(())
+}
