@@ -1,10 +1,8 @@
 -- Each atom is tried in turn.
-use Rattle.std.proofs.Common.{◌≡◌, ◌<◌, ◌≤◌, ◌++◌, ◌∷◌, ◌∙◌, [], ap, arith, below_more, length, refl, subst, sym, take, map, get_or, slice_index, rules, List}
+use Rattle.std.proofs.Common.{◌≡◌, ◌++◌, ◌∷◌, ◌∙◌, [], ap, arith, below_more, length, refl, subst, sym, take, map, rules, List}
 use Rattle.std.proofs.lemmas.Bool.{iff_false}
 use Rattle.std.proofs.lemmas.List.{length-map, length-take-le, take_more_set}
 use Rattle.chem_core.specs.Graph.{Joined}
-use Rattle.chem_core.specs.Molecule.{ends_of}
-use Rattle.smarts_parse.specs.Sound.{pattern_ends}
 use Rattle.smarts_parse.specs.declared.pattern.PatBond.{PatBond}
 use Rattle.smarts_parse.specs.Pattern.{BondTerm, bond_of, graph_of, term_of}
 use Rattle.chem_shell.specs.Partial.{IsPartial}

@@ -2,6 +2,7 @@ use Rattle.std.proofs.Common.{ℕ, ◌+◌, ◌≤◌, Option, None, Some, is_so
 use Rattle.std.proofs.lemmas.List.{map-append}
 use Rattle.chem_shell.specs.Store.{change_of, IsLiveNow}
 use Rattle.chem_shell.specs.History.{Change, most_commits}
+use Rattle.chem_shell.specs.declared.store.Commit.{Commit}
 use Rattle.chem_shell.proofs.HistoryLemmas.{IsLiveNow-push}
 use Rattle.chem_shell.proofs.store.Store.commit.Goals as goal
 
@@ -15,3 +16,7 @@ invariant_of-self-2 c =
     let few : length items < most_commits = subst (λ (h : List Change). length h < most_commits) (sym c.self.view_is) c.requires.room in
     subst (λ h. IsLiveNow h c.insert.new.self) (rw (c.push_reserved.ensures.items, c.reserve.ensures.items, map-append change_of, c.in_ok-text.ensures.items) refl)
     (IsLiveNow-push items c.self.inside.live c.insert.new.self c.args.id c.args.text.now c.args.mol few c.requires.structure (c.in_ok-insert.ensures.updates.0) (at_most_one_more _ _ c.in_ok-insert.field-0 c.in_ok-insert.ensures.len) c.self.invariant)
+
+-- what fails changes no commit
+pub invariant_of-self : goal.invariant_of-self
+invariant_of-self c = subst (λ (items : List Commit). IsLiveNow (map change_of items) c.self.inside.live) (sym c.reserve.ensures.items) c.self.invariant
