@@ -4,6 +4,7 @@ use Rattle.std.specs.List.Sorted.{IsStrictlyIncreasing}
 use Rattle.std.specs.Ordering.{nat_cmp}
 use Rattle.std.specs.BTreeMap.{BTreeMap, get, IsOrdered}
 use Rattle.std.proofs.lemmas.Cmp.{nat_cmp_total}
+use Rattle.std.proofs.lemmas.Option.{none-some, same_Some}
 use Rattle.std.proofs.lemmas.Map.Keys.{IsStrictlyIncreasing-from_sorted}
 use Rattle.std.proofs.lemmas.Map.Lookups.{exact_unsigned}
 use Rattle.std.proofs.lemmas.Map.Views.{btree_map_get_iff}
@@ -102,21 +103,15 @@ module _ {X : Type 0} (P : X → Type 0) where
 abbrev OneStructure : Type 0
 OneStructure = (text : List ℕ) (a b : Molecule) → IsStructureOf text a → IsStructureOf text b → a ≡ b
 
-none_is_no_some : {A : Type 0} {x : A} → None ≡ Some x → ⊥
-none_is_no_some e = cc
-
-same_some : {A : Type 0} {x y : A} → Some x ≡ Some y → x ≡ y
-same_some e = cc
-
 -- what is live at an identifier, and its structure
 live_at : (h : History) (id : ℕ) (found : Option Molecule) (m : Molecule) → MatchOption found (head h id ≡ None) (λ n. (l : Live) × (head h id ≡ Some l) × IsStructureOf l.text n) → found ≡ Some m → (l : Live) × (head h id ≡ Some l) × IsStructureOf l.text m
-live_at h id None m w e = absurd (none_is_no_some e)
-live_at h id (Some n) m w e = subst (λ x. (l : Live) × (head h id ≡ Some l) × IsStructureOf l.text x) (same_some e) w
+live_at h id None m w e = absurd (none-some m e)
+live_at h id (Some n) m w e = subst (λ x. (l : Live) × (head h id ≡ Some l) × IsStructureOf l.text x) (same_Some n m e) w
 
 -- the structure that is kept of a live identifier
 kept_at : OneStructure → (h : History) (id : ℕ) (l : Live) (found : Option Molecule) (m : Molecule) → MatchOption found (head h id ≡ None) (λ n. (k : Live) × (head h id ≡ Some k) × IsStructureOf k.text n) → head h id ≡ Some l → IsStructureOf l.text m → found ≡ Some m
-kept_at one h id l None m w e s = absurd (none_is_no_some (sym w ∙ e))
-kept_at one h id l (Some n) m w e s = ap Some (one l.text n m (subst (λ (k : Live). IsStructureOf k.text n) (same_some (sym w.1 ∙ e)) w.2) s)
+kept_at one h id l None m w e s = absurd (none-some l (sym w ∙ e))
+kept_at one h id l (Some n) m w e s = ap Some (one l.text n m (subst (λ (k : Live). IsStructureOf k.text n) (same_Some w.0 l (sym w.1 ∙ e)) w.2) s)
 
 -- the identifiers that are selected are the hits
 pub hits_from_selected : OneStructure → (h : History) (live : BTreeMap ℕ Molecule) (p : PatternTerm) (ids : List ℕ) → IsOrdered nat_cmp live → IsLiveNow h live → Selects (Matches p) live.entries ids → AreHits h (length h) p ids

@@ -22,15 +22,6 @@ use Rattle.smarts_parse.specs.Embedding.{BondEmbeds, IsEmbedding}
 use Rattle.chem_shell.specs.Flat.{NoParts}
 use Rattle.chem_shell.specs.Partial.{CanComplete, EndsInRange, IsPartial}
 
-pub IsPartial-none : (g : GraphTerm) (m : Molecule) → IsPartial g m []
-IsPartial-none g m = record {
-  few = omega arith;
-  in_range = λ k d l. absurd (omega (arith, l));
-  distinct = λ i j d l h. absurd (omega (arith, h));
-  atoms = λ k e l h. absurd (omega (arith, l));
-  bonds = λ k d l h. absurd (omega (arith, h));
-}
-
 -- a bond between two atoms of the front embeds alike in the front and in the whole
 index_front : (front rest : List ℕ) (k : ℕ) → k < length front → slice_index (front ++ rest) k ≡ slice_index front k
 index_front front rest k l = get_or-append front rest 0 k l
