@@ -1,9 +1,10 @@
 -- What is selected from the entries of a map, as the hits of a search.
-use Rattle.std.proofs.Common.{◌≡◌, ◌⊎◌, inl, inr, ℕ, zero, suc, ◌+◌, ◌<◌, ◌≤◌, List, [], ◌∷◌, length, map, Option, None, Some, MatchOption, sym, ap, subst, ⊎_elim, arith, slice_index, Contains}
+use Rattle.std.proofs.Common.{◌≡◌, ◌⊎◌, inl, inr, ℕ, zero, suc, ◌+◌, ◌<◌, ◌≤◌, List, [], ◌∷◌, length, map, Option, None, Some, MatchOption, sym, ap, ◌∙◌, subst, ⊎_elim, arith, slice_index, Contains}
 use Rattle.std.specs.List.Sorted.{IsStrictlyIncreasing}
 use Rattle.std.specs.Ordering.{nat_cmp}
 use Rattle.std.specs.BTreeMap.{BTreeMap, get, IsOrdered}
 use Rattle.std.proofs.lemmas.Cmp.{nat_cmp_total}
+use Rattle.std.proofs.lemmas.Option.{none-some, same_Some}
 use Rattle.std.proofs.lemmas.Map.Keys.{IsStrictlyIncreasing-from_sorted}
 use Rattle.std.proofs.lemmas.Map.Lookups.{exact_unsigned}
 use Rattle.std.proofs.lemmas.Map.Views.{btree_map_get_iff}
@@ -104,15 +105,13 @@ OneStructure = (text : List ℕ) (a b : Molecule) → IsStructureOf text a → I
 
 -- what is live at an identifier, and its structure
 live_at : (h : History) (id : ℕ) (found : Option Molecule) (m : Molecule) → MatchOption found (head h id ≡ None) (λ n. (l : Live) × (head h id ≡ Some l) × IsStructureOf l.text n) → found ≡ Some m → (l : Live) × (head h id ≡ Some l) × IsStructureOf l.text m
-live_at h id None m w e = cc
-live_at h id (Some n) m w e = let q : n ≡ m = cc in subst (λ x. (l : Live) × (head h id ≡ Some l) × IsStructureOf l.text x) q w
+live_at h id None m w e = absurd (none-some m e)
+live_at h id (Some n) m w e = subst (λ x. (l : Live) × (head h id ≡ Some l) × IsStructureOf l.text x) (same_Some n m e) w
 
 -- the structure that is kept of a live identifier
 kept_at : OneStructure → (h : History) (id : ℕ) (l : Live) (found : Option Molecule) (m : Molecule) → MatchOption found (head h id ≡ None) (λ n. (k : Live) × (head h id ≡ Some k) × IsStructureOf k.text n) → head h id ≡ Some l → IsStructureOf l.text m → found ≡ Some m
-kept_at one h id l None m w e s = cc
-kept_at one h id l (Some n) m w e s =
-    let q : w.0 ≡ l = cc in
-    ap Some (one l.text n m (subst (λ (k : Live). IsStructureOf k.text n) q w.2) s)
+kept_at one h id l None m w e s = absurd (none-some l (sym w ∙ e))
+kept_at one h id l (Some n) m w e s = ap Some (one l.text n m (subst (λ (k : Live). IsStructureOf k.text n) (same_Some w.0 l (sym w.1 ∙ e)) w.2) s)
 
 -- the identifiers that are selected are the hits
 pub hits_from_selected : OneStructure → (h : History) (live : BTreeMap ℕ Molecule) (p : PatternTerm) (ids : List ℕ) → IsOrdered nat_cmp live → IsLiveNow h live → Selects (Matches p) live.entries ids → AreHits h (length h) p ids

@@ -1,9 +1,9 @@
 -- Atoms of a pattern placed in turn: the first none, one more, all.
-use Rattle.std.proofs.Common.{◌≡◌, ◌≢◌, ℕ, ◌+◌, ◌<◌, ◌≤◌, List, [], ◌∷◌, ◌++◌, length, max, map, slice_get, slice_index, get_or, Some, All, Contains, refl, sym, ap, ◌∙◌, subst, ⊎_elim, append_assoc, arith, length-append, inl, inr, min}
+use Rattle.std.proofs.Common.{◌≡◌, ◌≢◌, ℕ, ◌+◌, ◌<◌, ◌≤◌, List, [], ◌∷◌, ◌++◌, length, max, map, slice_get, slice_index, get_or, Some, All, Contains, refl, sym, ap, ◌∙◌, subst, ⊎_elim, append_assoc, arith, length-append, inl, inr, min, take, IsTrue, Bool, false, ◌↔◌}
 use Rattle.std.proofs.lemmas.Bool.{cases_lt}
 use Rattle.std.proofs.Math.ListN.{get_or-append}
 use Rattle.std.proofs.Math.Seq.{get_or-append_seam}
-use Rattle.std.proofs.lemmas.List.{append-nil, get_or-map, get_or_default, get_or_push, length-map, length_push}
+use Rattle.std.proofs.lemmas.List.{append-nil, get_or-map, get_or-take, get_or_default, get_or_push, length-map, length-take-le, length_push}
 use Rattle.std.proofs.lemmas.List.Elements.{All-push, Contains-get_or}
 use Rattle.std.proofs.lemmas.List.Kept.{AllPairs-from_increasing}
 use Rattle.std.proofs.lemmas.List.Quantifiers.{all_pairs_push}
@@ -21,15 +21,6 @@ use Rattle.smarts_parse.specs.Truth.{AtomTrue}
 use Rattle.smarts_parse.specs.Embedding.{BondEmbeds, IsEmbedding}
 use Rattle.chem_shell.specs.Flat.{NoParts}
 use Rattle.chem_shell.specs.Partial.{CanComplete, EndsInRange, IsPartial}
-
-pub IsPartial-none : (g : GraphTerm) (m : Molecule) → IsPartial g m []
-IsPartial-none g m = record {
-  few = omega arith;
-  in_range = λ k d l. absurd (omega (arith, l));
-  distinct = λ i j d l h. absurd (omega (arith, h));
-  atoms = λ k e l h. absurd (omega (arith, l));
-  bonds = λ k d l h. absurd (omega (arith, h));
-}
 
 -- a bond between two atoms of the front embeds alike in the front and in the whole
 index_front : (front rest : List ℕ) (k : ℕ) → k < length front → slice_index (front ++ rest) k ≡ slice_index front k
@@ -193,6 +184,22 @@ CanComplete-next g m front lt w = next w.0 w.1
           (rest, subst (IsEmbedding NoParts g m) (sym (append_assoc front (a ∷ []) rest)) h),
         )
 
+-- where the next atom can stand at no atom, nothing can be completed
+pub CanComplete-none : (g : GraphTerm) (m : Molecule) (front : List ℕ) → length front < length g.atoms → ((a : ℕ) → a < length m.atoms → CanComplete g m (front ++ a ∷ []) → ⊥) → CanComplete g m front → ⊥
+CanComplete-none g m front lt none w = let next = CanComplete-next g m front lt w in none next.0 next.1 next.2
+
+-- the same atoms before an atom
+pub CanComplete-same : (g : GraphTerm) (m : Molecule) (front same : List ℕ) (a : ℕ) → same ≡ front → CanComplete g m (front ++ a ∷ []) → CanComplete g m (same ++ a ∷ [])
+CanComplete-same g m front same a e w = subst (λ xs. CanComplete g m (xs ++ a ∷ [])) (sym e) w
+
+-- an atom of the pattern is left to be placed
+pub left_over : {A : Type 0} (term : A → Term AtomPrim) (atoms : List A) (image : List ℕ) (placed : ℕ) → length atoms ≤ length image → placed < length atoms → length (take placed image) < length (map term atoms)
+left_over term atoms image placed room few = omega (arith, length-map atoms term, length-take-le placed image (omega arith))
+
+-- what is never so is not found
+pub not_found : {b : Bool} {P : Type 0} → b ≡ false → (P → ⊥) → IsTrue b ↔ P
+not_found is none = (λ t. absurd (cc), λ p. absurd (none p))
+
 -- a bond joins its ends either way
 joined_back : (ends : Ends) (b x y : ℕ) → JoinsAt ends b x y → JoinsAt ends b y x
 joined_back ends b x y (inl e) = inr e
@@ -213,7 +220,7 @@ bond_at g m image k x y h lx ly get =
     (embeds.0, subst (λ i. JoinsAt (ends_of m) embeds.0 (slice_index image i) (slice_index image y)) left (subst (λ i. JoinsAt (ends_of m) embeds.0 (slice_index image bond.a) (slice_index image i)) right embeds.1))
 
 -- the next atom stands at a neighbour of each one that the pattern bonds it to
-pub near_earlier : (g : GraphTerm) (m : Molecule) (front : List ℕ) (e : ℕ) → e < length front → Joined (pattern_ends g) e (length front) → (a : ℕ) → CanComplete g m (front ++ a ∷ []) → Joined (ends_of m) (slice_index front e) a
+near_earlier : (g : GraphTerm) (m : Molecule) (front : List ℕ) (e : ℕ) → e < length front → Joined (pattern_ends g) e (length front) → (a : ℕ) → CanComplete g m (front ++ a ∷ []) → Joined (ends_of m) (slice_index front e) a
 near_earlier g m front e l joined a w =
     let h = IsPartial-from_completion g m (front ++ a ∷ []) w in
     let size : length (front ++ a ∷ []) ≡ length front + 1 = length_push front a in
@@ -224,6 +231,24 @@ near_earlier g m front e l joined a w =
     (λ get. let found = bond_at g m (front ++ a ∷ []) joined.0 (length front) e h (omega arith) (omega arith) get in
     (found.0, joined_back (ends_of m) found.0 (slice_index (front ++ a ∷ []) (length front)) (slice_index (front ++ a ∷ []) e) found.1))
     joined.1))
+
+-- the same of the atom that is placed for the one at e, and that it is one of the molecule's
+pub near_placed : (g : GraphTerm) (m : Molecule) (image : List ℕ) (placed e : ℕ) → placed ≤ length image → e < placed → Joined (pattern_ends g) e placed → IsPartial g m (take placed image)
+    → (get_or image e 0 < length m.atoms) × ((a : ℕ) → CanComplete g m (take placed image ++ a ∷ []) → Joined (ends_of m) (get_or image e 0) a)
+near_placed g m image placed e few l joined h =
+    let size : length (take placed image) ≡ placed = length-take-le placed image few in
+    let before : e < length (take placed image) = omega arith in
+    let here : slice_index (take placed image) e ≡ get_or image e 0 = get_or-take placed image e 0 l in (
+      subst (λ x. x < length m.atoms) here (h.in_range e 0 before),
+      λ a w. subst (λ x. Joined (ends_of m) x a) here (near_earlier g m (take placed image) e before (subst (λ n. Joined (pattern_ends g) e n) (sym size) joined) a w),
+    )
+
+-- what is left of a pattern has room in an image that has room for all of it
+pub in_room : {a b c : ℕ} → a < b → b ≤ c → a < c
+in_room l r = omega arith
+
+pub all_in_room : {a b c : ℕ} → a ≤ b → b ≤ c → a ≤ c
+all_in_room l r = omega arith
 
 -- a neighbour is an atom
 pub neighbour_in_range : (m : Molecule) (from : ℕ) (pairs : List (ℕ × ℕ)) (k : ℕ) (d : ℕ × ℕ) → IsMolecule m → AreNeighbours (ends_of m) from pairs → k < length pairs → (get_or pairs k d).0 < length m.atoms
@@ -237,8 +262,16 @@ neighbour_in_range m from pairs k d valid h l = in_range (get_or pairs k d).1 fr
     in_range b x y (inr e) = (at b y x e).0
 
 -- what is joined to an atom is among its neighbours
-pub among_neighbours : (ends : Ends) (from a : ℕ) (pairs : List (ℕ × ℕ)) → AreNeighbours ends from pairs → Joined ends from a → (k : ℕ) × (d : ℕ × ℕ) × (k < length pairs) × ((get_or pairs k d).0 ≡ a)
-among_neighbours ends from a pairs h joined = let w = h.each a joined.0 joined.1 in (w.0, (a, joined.0), w.1, ap (λ (e : ℕ × ℕ). e.0) w.2)
+among_neighbours : (ends : Ends) (from a : ℕ) (pairs : List (ℕ × ℕ)) → AreNeighbours ends from pairs → Joined ends from a → (k : ℕ) × (k < length pairs) × ((get_or pairs k (0, 0)).0 ≡ a)
+among_neighbours ends from a pairs h joined = let w = h.each a joined.0 joined.1 in (w.0, w.1, ap (λ (e : ℕ × ℕ). e.0) (get_or_default pairs w.0 (0, 0) (a, joined.0) w.1 ∙ w.2))
+
+-- where the next atom can stand at neighbours alone, and at none of them, nothing can be completed
+pub none_near : (g : GraphTerm) (m : Molecule) (front : List ℕ) (from : ℕ) (pairs : List (ℕ × ℕ)) → length front < length g.atoms → AreNeighbours (ends_of m) from pairs
+    → ((a : ℕ) → CanComplete g m (front ++ a ∷ []) → Joined (ends_of m) from a) → ((k : ℕ) → k < length pairs → CanComplete g m (front ++ (get_or pairs k (0, 0)).0 ∷ []) → ⊥) → CanComplete g m front → ⊥
+none_near g m front from pairs lt h near none w =
+    let next = CanComplete-next g m front lt w in
+    let among = among_neighbours (ends_of m) from next.0 pairs h (near next.0 next.2) in
+    none among.0 among.1 (subst (λ a. CanComplete g m (front ++ a ∷ [])) (sym among.2) next.2)
 
 -- the ends of the bonds of a pattern as it lies in memory
 abbrev ends_in : List PatBond → Ends

@@ -6,11 +6,16 @@ use Rattle.smarts_parse.specs.Pattern.{Term, GraphTerm}
 use Rattle.smarts_parse.specs.Sound.{pattern_ends}
 use Rattle.smarts_parse.specs.Truth.{AtomTrue}
 use Rattle.smarts_parse.specs.Embedding.{BondEmbeds, IsEmbedding}
-use Rattle.chem_shell.specs.Flat.{NoParts}
+use Rattle.chem_shell.specs.Flat.{IsFlatGraph, NoParts}
 
 -- the bonds of the pattern end at its atoms
 abbrev pub EndsInRange : GraphTerm → Type 0
 EndsInRange g = All (λ e. (e.0 < length g.atoms) × (e.1 < length g.atoms)) (pattern_ends g)
+
+-- what a pattern keeps that is searched for
+pub record IsSearchable (g : GraphTerm) : Type 0 where
+  pub flat : IsFlatGraph g
+  pub ends : EndsInRange g
 
 -- an embedding of the pattern's first atoms, and of the bonds between these
 pub record IsPartial (g : GraphTerm) (m : Molecule) (image : List ℕ) : Type 0 where

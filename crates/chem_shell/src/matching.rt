@@ -6,7 +6,7 @@
 
 ghost use Rattle.std.specs.Prelude.{◌≡◌, ◌<◌, ◌≤◌, ◌+◌, ◌++◌, ◌∷◌, [], ◌↔◌, ℕ, List, length, map, max, slice_index_or, take, All, Contains, IfNone, IfSome, IsTrue, vec_len};
 ghost use Rattle.chem_core.specs.Graph.{Joined, JoinsAt};
-ghost use Rattle.chem_core.specs.Molecule.{IsMolecule, ends_of};
+ghost use Rattle.chem_core.specs.Molecule.{ends_of};
 ghost use Rattle.smarts_parse.specs.Chain.{Chain, chain_pattern};
 ghost use Rattle.smarts_parse.specs.Embedding.{BondEmbeds, Matches};
 ghost use Rattle.smarts_parse.specs.Pattern.{Prim, bond_of, graph_of, pattern_of, term_of};
@@ -14,7 +14,7 @@ ghost use Rattle.smarts_parse.specs.Sound.{IsSoundPattern, pattern_ends};
 ghost use Rattle.smarts_parse.specs.Truth.{AtomTrue, BondTrue};
 ghost use Rattle.smarts_parse.specs.declared.pattern.AtomPrim.TheVariants as atoms;
 ghost use Rattle.chem_shell.specs.Flat.{AllPrims, IsFlat, IsFlatBond, IsFlatGraph, NoParts};
-ghost use Rattle.chem_shell.specs.Partial.{CanComplete, EndsInRange, IsPartial};
+ghost use Rattle.chem_shell.specs.Partial.{CanComplete, IsPartial, IsSearchable};
 
 use chem_core::Mol;
 use smarts_parse::{BondPrim, Expr, Graph, PatBond, Pattern};
@@ -140,12 +140,10 @@ fn bonded_before(bonds: &[PatBond], place: usize) -> Option<usize>
 // Whether the pattern's other atoms can be placed after these, with the next at that atom.
 #[cycle(search)]
 fn extend_at(graph: &Graph, mol: &Mol, image: &mut [u16], placed: usize, atom: u16) -> bool
-    requires flat { IsFlatGraph (graph_of graph.now) }
-    requires sound { EndsInRange (graph_of graph.now) }
+    requires searchable { IsSearchable (graph_of graph.now) }
     requires room { length graph.now.atoms.items ≤ length image.old }
     requires few { placed < length graph.now.atoms.items }
     requires in_range { atom < length mol.now.atoms }
-    requires valid { IsMolecule mol.now }
     requires partial { IsPartial (graph_of graph.now) mol.now (take placed image.old) }
     ensures kept { take placed image.new ≡ take placed image.old }
     ensures found { IsTrue result
@@ -158,11 +156,9 @@ fn extend_at(graph: &Graph, mol: &Mol, image: &mut [u16], placed: usize, atom: u
 // The same with the next atom at any atom of the molecule.
 #[cycle(search)]
 fn extend_anywhere(graph: &Graph, mol: &Mol, image: &mut [u16], placed: usize) -> bool
-    requires flat { IsFlatGraph (graph_of graph.now) }
-    requires sound { EndsInRange (graph_of graph.now) }
+    requires searchable { IsSearchable (graph_of graph.now) }
     requires room { length graph.now.atoms.items ≤ length image.old }
     requires few { placed < length graph.now.atoms.items }
-    requires valid { IsMolecule mol.now }
     requires partial { IsPartial (graph_of graph.now) mol.now (take placed image.old) }
     ensures kept { take placed image.new ≡ take placed image.old }
     ensures found { IsTrue result ↔ CanComplete (graph_of graph.now) mol.now (take placed image.old) }
@@ -178,12 +174,10 @@ fn extend_anywhere(graph: &Graph, mol: &Mol, image: &mut [u16], placed: usize) -
 // The same where the next atom can stand only at a neighbour of an atom.
 #[cycle(search)]
 fn extend_near(graph: &Graph, mol: &Mol, image: &mut [u16], placed: usize, from: u16) -> bool
-    requires flat { IsFlatGraph (graph_of graph.now) }
-    requires sound { EndsInRange (graph_of graph.now) }
+    requires searchable { IsSearchable (graph_of graph.now) }
     requires room { length graph.now.atoms.items ≤ length image.old }
     requires few { placed < length graph.now.atoms.items }
     requires partial { IsPartial (graph_of graph.now) mol.now (take placed image.old) }
-    requires valid { IsMolecule mol.now }
     requires in_range { from < length mol.now.atoms }
     requires near { (a : ℕ) → CanComplete (graph_of graph.now) mol.now (take placed image.old ++ a ∷ [])
         → Joined (ends_of mol.now) from a }
@@ -202,11 +196,9 @@ fn extend_near(graph: &Graph, mol: &Mol, image: &mut [u16], placed: usize, from:
 // Whether the pattern's other atoms can be placed after these.
 #[cycle(search)]
 fn extend(graph: &Graph, mol: &Mol, image: &mut [u16], placed: usize) -> bool
-    requires flat { IsFlatGraph (graph_of graph.now) }
-    requires sound { EndsInRange (graph_of graph.now) }
+    requires searchable { IsSearchable (graph_of graph.now) }
     requires room { length graph.now.atoms.items ≤ length image.old }
     requires few { placed ≤ length graph.now.atoms.items }
-    requires valid { IsMolecule mol.now }
     requires partial { IsPartial (graph_of graph.now) mol.now (take placed image.old) }
     ensures kept { take placed image.new ≡ take placed image.old }
     ensures found { IsTrue result ↔ CanComplete (graph_of graph.now) mol.now (take placed image.old) }

@@ -1,5 +1,6 @@
 //! The store: a plain list of commits, and the structures that are live now.
-ghost use Rattle.std.specs.Prelude.{◌≡◌, ◌≢◌, ◌+◌, ◌<◌, ◌≤◌, ◌↔◌, [], ◌∷◌, ◌++◌, length, None, IfOk, OnOk, OnErr, IsErrOf};
+ghost use Rattle.std.specs.Prelude.{◌≡◌, ◌≢◌, ◌+◌, ◌<◌, ◌≤◌, ◌↔◌, [], ◌∷◌, ◌++◌, length, None, IfOk, OnOk, OnErr, IsErrOf, IsTrue};
+ghost use Rattle.std.specs.Bool.{OnFalse};
 ghost use Rattle.smarts_parse.specs.Pattern.{pattern_of};
 ghost use Rattle.smarts_parse.specs.Sound.{IsSoundPattern};
 ghost use Rattle.chem_shell.specs.History.{Register, head, most_commits};
@@ -15,7 +16,7 @@ use crate::matching::{Scratch, has};
 use chem_core::Mol;
 use mol_finish::one_structure;
 use smarts_parse::Pattern;
-use std::alloc::{AllocError, AllocFailed, Global};
+use std::alloc::{AllocError, Global};
 use std::collections::BTreeMap;
 use std::marker::Model;
 
@@ -95,21 +96,38 @@ impl Store {
         ensures full { IsErrOf result CommitFault.Full ↔ ((head self.old id ≡ None) × (most_commits ≤ length self.old)) }
         ensures err { OnErr result (self.new ≡ self.old) }
     {
-        if self.live.contains_key(&id) {
+        if self.is_known(id) {
             return Err(CommitFault::Known);
         }
-        if self.commits.len() >= MOST_COMMITS {
+        if self.version() as usize >= MOST_COMMITS {
             return Err(CommitFault::Full);
         }
+        self.commit(alloc, id, text, mol)?;
+        Ok(self.version())
+    }
+
+    // Whether the identifier was registered before.
+    fn is_known(&self, id: u32) -> bool
+        ensures known { IsTrue result → head self.now id ≢ None }
+        ensures new { OnFalse result (head self.now id ≡ None) }
+    {
+        self.live.contains_key(&id)
+    }
+
+    // Appends a commit and keeps its structure, where there is room for one more. An `Err` changes nothing.
+    fn commit(&mut self, alloc: Global, id: u32, text: &[u8], mol: Mol) -> Result<(), AllocError>
+        requires structure { IsStructureOf text.now mol }
+        requires room { length self.old < most_commits }
+        ensures ok { OnOk result (self.new ≡ self.old ++ Register id text.now ∷ []) }
+        ensures err { OnErr result (self.new ≡ self.old) }
+    {
         let text = Vec::from_slice(alloc, text)?;
         self.commits.reserve(1)?;
         self.live.insert(id, mol)?;
         self.commits.push_reserved(Commit { id, text });
-        Ok(self.commits.len() as u32)
+        Ok(())
     }
-}
 
-impl Store {
     /// The live identifiers in whose structure the pattern embeds, ascending.
     pub fn hits(
         &self,
@@ -155,16 +173,6 @@ impl From<AllocError> for CommitFault {
     ghost from_gives = { λ _ e. e ≡ NoMemory };
 
     fn from(_: AllocError) -> Self {
-        CommitFault::NoMemory
-    }
-}
-
-impl<T: Drop> From<AllocFailed<T>> for CommitFault {
-    ghost use Rattle.chem_shell.specs.declared.store.CommitFault.TheVariants.{NoMemory};
-
-    ghost from_gives = { λ _ e. e ≡ NoMemory };
-
-    fn from(_: AllocFailed<T>) -> Self {
         CommitFault::NoMemory
     }
 }

@@ -27,5 +27,5 @@ invariant-extend_anywhere-loop-atom l = record {
 abbrev pub invariant-extend_near-loop-atom : goal.invariant-extend_near-loop-atom
 invariant-extend_near-loop-atom l = record {
   kept : take l.placed l.image ≡ take l.placed l.initial.image;
-  none : (k : ℕ) (d : ℕ × ℕ) → k < l.atom-index → CanComplete (graph_of l.graph) l.mol (take l.placed l.initial.image ++ (get_or l.neighbours k d).0 ∷ []) → ⊥;
+  none : (k : ℕ) → k < l.atom-index → CanComplete (graph_of l.graph) l.mol (take l.placed l.initial.image ++ (get_or l.neighbours k (0, 0)).0 ∷ []) → ⊥;
 }

@@ -1,4 +1,5 @@
-use Rattle.std.proofs.Common.{refl, ◌∙◌, inl, inr, arith}
+use Rattle.std.proofs.Common.{refl, ◌∙◌, inl, inr}
+use Rattle.std.proofs.lemmas.Bool.{eqb-false}
 use Rattle.chem_shell.specs.Ends.{with_status, IsServed}
 use Rattle.chem_shell.specs.Status.{IsEndStatus}
 use Rattle.chem_shell.proofs.EndsLemmas.{zip_weaker, zip_right, zip_mapped, all_mapped, fault_of_all_alike, never_usage}
@@ -6,31 +7,31 @@ use Rattle.chem_shell.proofs.SessionLemmas.{front_unmoved}
 use Rattle.chem_shell.proofs.top.chemdb.Goals as goal
 
 pub returns-in-Err-Usage-clause-source_fault : goal.returns-in-Err-Usage-clause-source_fault
-returns-in-Err-Usage-clause-source_fault g c = zip_mapped _ (with_status 2) (λ e q. absurd (omega arith)) _ _ c.unserved.ensures.ends
+returns-in-Err-Usage-clause-source_fault g c = zip_mapped _ (with_status 2) (λ e q. absurd (eqb-false 2 3 refl q)) _ _ c.unserved.ensures.ends
 
 pub returns-in-Err-Usage-clause-sink_fault : goal.returns-in-Err-Usage-clause-sink_fault
-returns-in-Err-Usage-clause-sink_fault g c = zip_mapped _ (with_status 2) (λ e q. absurd (omega arith)) _ _ c.unserved.ensures.ends
+returns-in-Err-Usage-clause-sink_fault g c = zip_mapped _ (with_status 2) (λ e q. absurd (eqb-false 2 4 refl q)) _ _ c.unserved.ensures.ends
 
 pub returns-in-Err-Usage-clause-input_too_long : goal.returns-in-Err-Usage-clause-input_too_long
-returns-in-Err-Usage-clause-input_too_long g c = zip_mapped _ (with_status 2) (λ e q. absurd (omega arith)) _ _ c.unserved.ensures.ends
+returns-in-Err-Usage-clause-input_too_long g c = zip_mapped _ (with_status 2) (λ e q. absurd (eqb-false 2 9 refl q)) _ _ c.unserved.ensures.ends
 
 pub returns-in-Err-NoMemory-clause-statuses : goal.returns-in-Err-NoMemory-clause-statuses
 returns-in-Err-NoMemory-clause-statuses g c = λ asks. all_mapped (λ end. IsEndStatus end.status) (with_status 8) (λ e. inr (inr (inr (inl refl)))) _ _ c.unserved-in-Err-NoMemory.ensures.ends
 
 pub returns-in-Err-NoMemory-clause-source_fault : goal.returns-in-Err-NoMemory-clause-source_fault
-returns-in-Err-NoMemory-clause-source_fault g c = zip_mapped _ (with_status 8) (λ e q. absurd (omega arith)) _ _ c.unserved-in-Err-NoMemory.ensures.ends
+returns-in-Err-NoMemory-clause-source_fault g c = zip_mapped _ (with_status 8) (λ e q. absurd (eqb-false 8 3 refl q)) _ _ c.unserved-in-Err-NoMemory.ensures.ends
 
 pub returns-in-Err-NoMemory-clause-sink_fault : goal.returns-in-Err-NoMemory-clause-sink_fault
-returns-in-Err-NoMemory-clause-sink_fault g c = zip_mapped _ (with_status 8) (λ e q. absurd (omega arith)) _ _ c.unserved-in-Err-NoMemory.ensures.ends
+returns-in-Err-NoMemory-clause-sink_fault g c = zip_mapped _ (with_status 8) (λ e q. absurd (eqb-false 8 4 refl q)) _ _ c.unserved-in-Err-NoMemory.ensures.ends
 
 pub returns-in-Err-NoMemory-clause-input_too_long : goal.returns-in-Err-NoMemory-clause-input_too_long
-returns-in-Err-NoMemory-clause-input_too_long g c = zip_mapped _ (with_status 8) (λ e q. absurd (omega arith)) _ _ c.unserved-in-Err-NoMemory.ensures.ends
+returns-in-Err-NoMemory-clause-input_too_long g c = zip_mapped _ (with_status 8) (λ e q. absurd (eqb-false 8 9 refl q)) _ _ c.unserved-in-Err-NoMemory.ensures.ends
 
 pub returns-in-Err-NoMemory-clause-mem_front : goal.returns-in-Err-NoMemory-clause-mem_front
 returns-in-Err-NoMemory-clause-mem_front g c = λ asks. zip_mapped _ (with_status 8) (λ e. front_unmoved _ _) _ _ c.unserved-in-Err-NoMemory.ensures.ends
 
 pub returns-in-Err-NoMemory-clause-mem_all : goal.returns-in-Err-NoMemory-clause-mem_all
-returns-in-Err-NoMemory-clause-mem_all g c = λ asks. zip_mapped _ (with_status 8) (λ e q. absurd (omega arith)) _ _ c.unserved-in-Err-NoMemory.ensures.ends
+returns-in-Err-NoMemory-clause-mem_all g c = λ asks. zip_mapped _ (with_status 8) (λ e q. absurd (eqb-false 8 0 refl q)) _ _ c.unserved-in-Err-NoMemory.ensures.ends
 
 pub returns-in-Err-NoMemory-clause-overall : goal.returns-in-Err-NoMemory-clause-overall
 returns-in-Err-NoMemory-clause-overall g c = λ asks.
