@@ -110,6 +110,17 @@ fn scripts_and_replies(rt: HostRuntime) -> Result<(), Fail> {
     Ok(())
 }
 
+// What `mem` answers where a structure is registered and a pattern searched.
+fn search<R: Threads + Wait + Sync>(
+    rt: &R,
+    alloc: Global,
+    text: &str,
+    pattern: &str,
+) -> Result<Outcome<(), MemSource, MemSink>, AllocError> {
+    let script = format!(in alloc; "register 1 {text}\nsearch {pattern}\n")?;
+    mem(rt, alloc, script.as_bytes(), 1000, &[], &[])
+}
+
 // Fullerene C60, its 30 double bonds written: each of its 60 atoms lies on a hexagon of six electrons.
 const C60: &str =
     "C12=C3C4=C5C6=C1C7=C8C9=C1C%10=C%11C(=C29)C3=C2C3=C4C4=C5C5=C9C6=C7C6=C7C8=C1C1=C8C%10=C%10C%11=C2C2=C3C3=C4C4=C5C5=C%11C%12=C(C6=C95)C7=C1C1=C%12C5=C%11C4=C3C3=C5C(=C81)C%10=C23";
@@ -168,12 +179,39 @@ fn aromatic_forms(rt: HostRuntime) -> Result<(), Fail> {
         ("C1=CC2=CC3=CC=C(N3)C=C4C=CC(=N4)C=C5C=CC(=CC1=N2)N5", plain),
     ];
     for (text, replies) in rows {
-        let mut script = Vec::from_slice(rt.alloc(), b"register 1 ")?;
-        script.extend_from_slice(text.as_bytes())?;
-        script.extend_from_slice(b"\nsearch C\n")?;
-        let outcome = mem(&rt, rt.alloc(), &script, 1000, &[], &[])?;
+        let outcome = search(&rt, rt.alloc(), text, "C")?;
         assert_eq!(rt; outcome.status, 0, "at {text}");
         assert_eq!(rt; put_by(&outcome), replies.as_bytes(), "at {text}");
+    }
+    Ok(())
+}
+
+#[test]
+fn patterns_embed(rt: HostRuntime) -> Result<(), Fail> {
+    let rows = [
+        ("CO", "OCC", true),
+        ("C=O", "CC=O", true),
+        ("C=O", "CCO", false),
+        ("CCC", "CC", false),
+        ("CC", "CCC", true),
+        ("OCO", "CCO", false),
+        ("OCO", "COCO", true),
+        ("C=C", "CC#N", false),
+        ("C#N", "CC#N", true),
+        ("C-=C", "C=C", false),
+        ("CBr", "BrCCl", true),
+        ("CI", "BrCCl", false),
+        ("CCCCCCCC", "CCCCCCCC", true),
+        ("CCCCCCCC", "CCCCOCCCC", false),
+    ];
+    for (pattern, text, found) in rows {
+        let replies = if found {
+            "ok 1\nhit 1\nend at 1 hits 1\n"
+        } else {
+            "ok 1\nend at 1 hits 0\n"
+        };
+        let outcome = search(&rt, rt.alloc(), text, pattern)?;
+        assert_eq!(rt; put_by(&outcome), replies.as_bytes(), "{pattern} in {text}");
     }
     Ok(())
 }

@@ -251,6 +251,3 @@ pub fn has(pattern: &Pattern, mol: &Mol, scratch: &mut Scratch) -> bool
 pub fn chains_are_flat()
     ensures { (chain : Chain) → IsFlat (chain_pattern chain) }
 {}
-
-#[cfg(test)]
-mod tests;
