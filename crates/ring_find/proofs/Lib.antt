@@ -3,7 +3,7 @@ pub mod Cycles
 pub mod Searches
 pub mod Tables
 pub mod Visits
-pub mod Strips
+pub mod Labels
 pub mod Leasts
 pub mod Ringed
 pub mod Drawn

@@ -2,5 +2,5 @@ pub mod Walk
 pub mod BondRings
 pub mod Search
 pub mod Network
-pub mod Strip
+pub mod Bridges
 pub mod Least

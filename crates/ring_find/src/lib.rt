@@ -1,25 +1,25 @@
 //! Which bonds of a sketch are ring bonds, and the smallest ring of each atom.
 //!
 //! A bond lies on a ring exactly where a walk without it joins its ends, and the least such walk and the bond are the
-//! smallest ring through it. So one breadth-first search for each bond finds all; bonds that lead to dead ends are
-//! stripped first, so a structure without rings costs one pass.
+//! smallest ring through it. So one breadth-first search for each bond finds all; bonds between rings, and those that
+//! lead to dead ends, are dropped first, in one pass, and a search stays among the rings that share bonds or atoms.
 #![tactic(auto)]
 
+mod bridges;
 mod facts;
 mod graph;
 mod least;
 mod search;
-mod strip;
 
 ghost use Rattle.std.specs.Prelude.{◌≡◌, ◌==◌, ℕ, Bool, List, not, length, map, IfOk};
 ghost use Rattle.chem_core.specs.Graph.{Ends};
 ghost use Rattle.chem_core.specs.Sound.{IsSound, sketch_ends};
 ghost use Rattle.chem_core.specs.RingFacts.{AreRingBonds, AreSmallestRings};
 
+use crate::bridges::drop_bridges;
 use crate::graph::Graph;
 use crate::least::smallest_rings;
 use crate::search::ring_lengths;
-use crate::strip::strip_dead_ends;
 use chem_core::Sketch;
 pub use facts::Rings;
 use std::alloc::{AllocError, Global};
@@ -34,7 +34,7 @@ pub fn rings(alloc: Global, sketch: &Sketch) -> Result<Rings, AllocError>
     ensures atoms { IfOk result (λ r. AreSmallestRings (length sketch.now.atoms) (sketch_ends sketch.now) r.atom_small.items) }
 {
     let graph = Graph::of(alloc, sketch)?;
-    let kept = strip_dead_ends(alloc, &graph)?;
+    let kept = drop_bridges(alloc, &graph)?;
     let lengths = ring_lengths(alloc, &graph, &kept)?;
     let bond_in_ring = nonzero(alloc, &lengths)?;
     let atom_small = smallest_rings(alloc, &graph, &lengths)?;

@@ -1,0 +1,239 @@
+//! Bonds that no ring goes through are dropped, all at once.
+//!
+//! A depth-first walk over the bonds gives each atom a label, one for all atoms that hang together by rings, so that a
+//! bond between two labels is a bridge. Nothing is promised of the labels. Bonds between labels are dropped where from
+//! each label at most one bond leads to a lower one: then no ring goes from one label to another and back.
+ghost use Rattle.std.specs.Prelude.{◌≡◌, ◌<◌, ◌+◌, ◌⊎◌, length, true, IfOk, MatchOption, Ok};
+ghost use Rattle.chem_core.specs.Graph.{IsSimpleGraph};
+ghost use Rattle.ring_find.specs.BondRings.{KeepsRings};
+ghost use Rattle.ring_find.specs.Bridges.{AreForest, AreTaken};
+
+use crate::graph::Graph;
+use std::alloc::{AllocError, Global};
+
+/// No atom, no bond, no number.
+const NONE: u16 = u16::MAX;
+
+/// How a depth-first walk comes to an atom: from which atom, and by which bond.
+#[derive(Clone, Copy, Debug)]
+struct Way {
+    to: u16,
+    from: u16,
+    bond: u16,
+}
+
+/// An atom of the walk.
+#[derive(Clone, Copy, Debug)]
+struct Seen {
+    /// Its number in the order of the walk; `NONE` before the walk comes to it.
+    number: u16,
+    from: u16,
+    bond: u16,
+    /// The least number that a bond leads to from here, or from what was reached by way of here.
+    low: u16,
+}
+
+/// For each bond whether it is kept: each ring bond is.
+pub fn drop_bridges(alloc: Global, graph: &Graph) -> Result<Vec<bool>, AllocError>
+    ensures { IfOk result (λ kept. KeepsRings graph.now.ends kept.items) }
+{
+    let ends = graph.ends();
+    let labels = labels(alloc, graph)?;
+    if is_forest(alloc, ends, &labels)? {
+        return within_labels(alloc, ends, &labels);
+    }
+    let kept = vec![in alloc; true; ends.len()]?;
+    Ok(kept)
+}
+
+// Keeps the bonds between atoms of one label.
+fn within_labels(
+    alloc: Global,
+    ends: &[(u16, u16)],
+    labels: &[u16],
+) -> Result<Vec<bool>, AllocError>
+    requires graph { IsSimpleGraph (length labels.now) ends.now }
+    requires forest { AreForest ends.now labels.now }
+    ensures { IfOk result (λ kept. KeepsRings ends.now kept.items) }
+{
+    let mut kept = Vec::with_capacity(alloc, ends.len())?;
+    for (a, b) in ends {
+        kept.push(labels[usize::from(*a)] == labels[usize::from(*b)])?;
+    }
+    Ok(kept)
+}
+
+// Whether from each label at most one bond leads to a lower one. It may say no where that is so.
+fn is_forest(alloc: Global, ends: &[(u16, u16)], labels: &[u16]) -> Result<bool, AllocError>
+    requires { IsSimpleGraph (length labels.now) ends.now }
+    ensures { result ≡ Ok true → AreForest ends.now labels.now }
+{
+    let mut taken = vec![in alloc; false; labels.len()]?;
+    for place in 0..ends.len() {
+        if !take(&mut taken, ends, labels, place) {
+            return Ok(false);
+        }
+    }
+    Ok(true)
+}
+
+// Takes the higher label of a bond between two labels, unless a bond before it took that.
+fn take(taken: &mut [bool], ends: &[(u16, u16)], labels: &[u16], place: usize) -> bool
+    requires graph { IsSimpleGraph (length labels.now) ends.now }
+    requires place { place < length ends.now }
+    requires taken { AreTaken ends.now labels.now taken.old place }
+    ensures { result ≡ true → AreTaken ends.now labels.now taken.new (place + 1) }
+{
+    let (a, b) = ends[place];
+    let Some(high) = higher(labels[usize::from(a)], labels[usize::from(b)]) else {
+        return true;
+    };
+    let high = usize::from(high);
+    if high >= taken.len() || taken[high] {
+        return false;
+    }
+    taken[high] = true;
+    true
+}
+
+// The higher of two labels, if they differ.
+fn higher(one: u16, other: u16) -> Option<u16>
+    ensures { MatchOption result (one ≡ other)
+        (λ high. ((one < other) × (high ≡ other)) ⊎ ((other < one) × (high ≡ one))) }
+{
+    if one == other {
+        None
+    } else if one < other {
+        Some(other)
+    } else {
+        Some(one)
+    }
+}
+
+// A label for each atom: the number of the first atom that it hangs together with by rings.
+fn labels(alloc: Global, graph: &Graph) -> Result<Vec<u16>, AllocError>
+    ensures { IfOk result (λ labels. length labels.items ≡ graph.now.atoms) }
+{
+    let unseen = Seen {
+        number: NONE,
+        from: NONE,
+        bond: NONE,
+        low: NONE,
+    };
+    let mut visits = vec![in alloc; unseen; graph.atoms()]?;
+    let mut order = Vec::with_capacity(alloc, graph.atoms())?;
+    let mut ways = Vec::new(alloc);
+    for atom in 0..graph.atoms() {
+        walk_from(graph, atom as u16, &mut visits, &mut order, &mut ways)?;
+    }
+    find_lows(graph, &order, &mut visits);
+    let mut labels = vec![in alloc; 0; graph.atoms()]?;
+    for atom in order.iter() {
+        label(*atom, &visits, &mut labels);
+    }
+    Ok(labels)
+}
+
+// Walks to all atoms that can be reached from the first and that the walk has not come to.
+fn walk_from(
+    graph: &Graph,
+    first: u16,
+    visits: &mut [Seen],
+    order: &mut Vec<u16>,
+    ways: &mut Vec<Way>,
+) -> Result<(), AllocError>
+    requires { length visits.old ≡ graph.now.atoms }
+{
+    ways.clear();
+    ways.push(Way {
+        to: first,
+        from: NONE,
+        bond: NONE,
+    })?;
+    // Each bond is a way from both of its ends, once.
+    for _ in 0..=2 * graph.ends().len() {
+        match ways.pop() {
+            Some(way) => visit(graph, way, visits, order, ways)?,
+            None => break,
+        }
+    }
+    Ok(())
+}
+
+// Comes to an atom for the first time, and sees the ways from there.
+fn visit(
+    graph: &Graph,
+    way: Way,
+    visits: &mut [Seen],
+    order: &mut Vec<u16>,
+    ways: &mut Vec<Way>,
+) -> Result<(), AllocError>
+    requires { length visits.old ≡ graph.now.atoms }
+{
+    let atom = usize::from(way.to);
+    if atom >= visits.len() || visits[atom].number != NONE {
+        return Ok(());
+    }
+    visits[atom] = Seen {
+        number: u16::try_from(order.len()).unwrap_or(NONE),
+        from: way.from,
+        bond: way.bond,
+        low: NONE,
+    };
+    order.push(way.to)?;
+    for step in graph.steps_from(way.to) {
+        ways.push(Way {
+            to: step.to,
+            from: way.to,
+            bond: step.bond,
+        })?;
+    }
+    Ok(())
+}
+
+// Finds the lows, those of later atoms first.
+fn find_lows(graph: &Graph, order: &[u16], visits: &mut [Seen])
+    requires { length visits.old ≡ graph.now.atoms }
+{
+    for atom in order.iter().rev() {
+        let low = low_of(graph, *atom, visits);
+        if let Some(visit) = visits.get_mut(usize::from(*atom)) {
+            visit.low = low;
+        }
+    }
+}
+
+// The low of an atom, where those of the atoms reached from it are found.
+fn low_of(graph: &Graph, atom: u16, visits: &[Seen]) -> u16
+    requires { length visits.now ≡ graph.now.atoms }
+{
+    let place = usize::from(atom);
+    if place >= visits.len() {
+        return NONE;
+    }
+    let here = visits[place];
+    let mut low = here.number;
+    for step in graph.steps_from(atom) {
+        if step.bond == here.bond {
+            continue;
+        }
+        if let Some(there) = visits.get(usize::from(step.to)) {
+            let reached = there.bond == step.bond;
+            low = low.min(if reached { there.low } else { there.number });
+        }
+    }
+    low
+}
+
+// Labels an atom, where the atom that it was reached from is labelled: the same, if bonds lead back past that.
+fn label(atom: u16, visits: &[Seen], labels: &mut [u16]) {
+    let Some(visit) = visits.get(usize::from(atom)) else {
+        return;
+    };
+    let before = labels.get(usize::from(visit.from)).copied();
+    let own = visit.low == visit.number;
+    let label = before.filter(|_| !own).unwrap_or(visit.number);
+    if let Some(place) = labels.get_mut(usize::from(atom)) {
+        *place = label;
+    }
+}
