@@ -1,24 +1,15 @@
 -- No ring goes through a bond between two labels, where from each label at most one bond leads to a lower one.
-use Rattle.std.proofs.Common.{ℕ, zero, suc, ◌+◌, ◌<◌, ◌≤◌, ◌≡◌, ◌≢◌, ◌⊎◌, inl, inr, Bool, true, false, eqb, Some, slice_get, List, length, get_or, set, map, replicate, refl, sym, ap, subst, ◌∙◌, arith}
-use Rattle.std.proofs.lemmas.Bool.{cases_lt, cases_eq, eq-eqb, false≢true}
-use Rattle.std.proofs.lemmas.Option.{slice_get_within, slice_get-get_or}
-use Rattle.std.proofs.lemmas.List.{length-map, length-replicate, get_or-map, get_or-replicate, get_or-set_same, get_or-set_other}
+use Rattle.std.proofs.Common.{ℕ, zero, suc, ◌+◌, ◌<◌, ◌≤◌, ◌≡◌, ◌≢◌, ◌⊎◌, inl, inr, Bool, true, false, Some, slice_get, List, length, get_or, set, replicate, refl, sym, ap, subst, ◌∙◌, arith}
+use Rattle.std.proofs.lemmas.Bool.{cases_lt, cases_eq, false≢true}
+use Rattle.std.proofs.lemmas.Option.{slice_get_within}
+use Rattle.std.proofs.lemmas.List.{length-set, get_or-set_same, get_or-set_other}
 use Rattle.chem_core.specs.Graph.{Ends, JoinsAt, IsRingBond}
 use Rattle.ring_find.specs.Walk.{StepBut, Walk}
 use Rattle.ring_find.specs.BondRings.{KeepsRings}
 use Rattle.ring_find.specs.Bridges.{AreForest, AreTaken, LeadsDown}
 use Rattle.ring_find.proofs.Walks.{walk_back}
 use Rattle.ring_find.proofs.Cycles.{joins_back, joins_one, step_back, walk_from_cycle}
-
-ring_bond_within : (ends : Ends) (b : ℕ) → IsRingBond ends b → b < length ends
-ring_bond_within ends b ring =
-    elim (ring.2.2) [ inl q ↦ slice_get_within ends b _ q | inr q ↦ slice_get_within ends b _ q ]
-
-pub keeps_all : (ends : Ends) → KeepsRings ends (replicate (length ends) true)
-keeps_all ends = record {
-  one_each = length-replicate (length ends) true;
-  each = λ b ring. get_or-replicate (length ends) b true false (ring_bond_within ends b ring);
-}
+use Rattle.ring_find.proofs.Strips.{keeps_all}
 
 -- ---- from label to label
 
@@ -79,18 +70,14 @@ no_ring_between ends labels b x y forest at (xs, cycle, lies) differ =
       ]
     ]
 
-pub keeps_labels : (ends : Ends) (labels : List ℕ) → AreForest ends labels → KeepsRings ends (map (λ e. eqb (get_or labels e.0 0) (get_or labels e.1 0)) ends)
-keeps_labels ends labels forest = record {
-  one_each = length-map ends (λ e. eqb (get_or labels e.0 0) (get_or labels e.1 0));
-  each = λ b ring.
-      let within = ring_bond_within ends b ring in
-      let e : ℕ × ℕ = get_or ends b (0, 0) in
-      let at : slice_get ends b ≡ Some e = slice_get-get_or ends b (0, 0) within in
-      let read = get_or-map (λ e. eqb (get_or labels e.0 0) (get_or labels e.1 0)) ends b (0, 0) false within in
-      read ∙ elim (cases_eq (get_or labels e.0 0) (get_or labels e.1 0)) [
-        | inl same ↦ eq-eqb (get_or labels e.0 0) (get_or labels e.1 0) same
-        | inr differ ↦ absurd (no_ring_between ends labels b e.0 e.1 forest at ring differ)
-      ];
+-- a bond between two labels is dropped
+pub keeps_dropped : (ends : Ends) (labels : List ℕ) (kept : List Bool) (k x y : ℕ) → AreForest ends labels → slice_get ends k ≡ Some (x, y) → get_or labels x 0 ≢ get_or labels y 0 → KeepsRings ends kept → KeepsRings ends (set kept k false)
+keeps_dropped ends labels kept k x y forest at differ keeps = record {
+  one_each = length-set kept k false ∙ keeps.one_each;
+  each = λ b ring. elim (cases_eq b k) [
+    | inr ne ↦ get_or-set_other kept k b false false ne ∙ keeps.each b ring
+    | inl e ↦ absurd (no_ring_between ends labels k x y forest at (subst (λ i. IsRingBond ends i) e ring) differ)
+  ];
 }
 
 -- ---- labels taken, one bond after another

@@ -7,3 +7,4 @@ pub mod Labels
 pub mod Leasts
 pub mod Ringed
 pub mod Drawn
+pub mod Strips

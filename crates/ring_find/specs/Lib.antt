@@ -4,3 +4,4 @@ pub mod Search
 pub mod Network
 pub mod Bridges
 pub mod Least
+pub mod Strip

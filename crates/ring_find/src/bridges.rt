@@ -1,9 +1,9 @@
-//! Bonds that no ring goes through are dropped, all at once.
+//! Bonds between rings are dropped, since no ring goes through them.
 //!
 //! A depth-first walk over the bonds gives each atom a label, one for all atoms that hang together by rings, so that a
 //! bond between two labels is a bridge. Nothing is promised of the labels. Bonds between labels are dropped where from
 //! each label at most one bond leads to a lower one: then no ring goes from one label to another and back.
-ghost use Rattle.std.specs.Prelude.{◌≡◌, ◌<◌, ◌+◌, ◌⊎◌, length, true, IfOk, MatchOption, Ok};
+ghost use Rattle.std.specs.Prelude.{◌≡◌, ◌<◌, ◌+◌, ◌⊎◌, length, true, IfOk, MatchOption, Ok, OnOk};
 ghost use Rattle.chem_core.specs.Graph.{IsSimpleGraph};
 ghost use Rattle.ring_find.specs.BondRings.{KeepsRings};
 ghost use Rattle.ring_find.specs.Bridges.{AreForest, AreTaken};
@@ -33,34 +33,34 @@ struct Seen {
     low: u16,
 }
 
-/// For each bond whether it is kept: each ring bond is.
-pub fn drop_bridges(alloc: Global, graph: &Graph) -> Result<Vec<bool>, AllocError>
-    ensures { IfOk result (λ kept. KeepsRings graph.now.ends kept.items) }
+/// Drops bonds that are kept and lie between rings. Each ring bond stays.
+pub fn drop_bridges(alloc: Global, graph: &Graph, kept: &mut [bool]) -> Result<(), AllocError>
+    requires { KeepsRings graph.now.ends kept.old }
+    ensures { OnOk result (KeepsRings graph.now.ends kept.new) }
 {
+    if !kept.contains(&true) {
+        return Ok(());
+    }
     let ends = graph.ends();
     let labels = labels(alloc, graph)?;
     if is_forest(alloc, ends, &labels)? {
-        return within_labels(alloc, ends, &labels);
+        drop_between(kept, ends, &labels);
     }
-    let kept = vec![in alloc; true; ends.len()]?;
-    Ok(kept)
+    Ok(())
 }
 
-// Keeps the bonds between atoms of one label.
-fn within_labels(
-    alloc: Global,
-    ends: &[(u16, u16)],
-    labels: &[u16],
-) -> Result<Vec<bool>, AllocError>
+// Drops the bonds between labels.
+fn drop_between(kept: &mut [bool], ends: &[(u16, u16)], labels: &[u16])
     requires graph { IsSimpleGraph (length labels.now) ends.now }
     requires forest { AreForest ends.now labels.now }
-    ensures { IfOk result (λ kept. KeepsRings ends.now kept.items) }
+    requires rings { KeepsRings ends.now kept.old }
+    ensures { KeepsRings ends.now kept.new }
 {
-    let mut kept = Vec::with_capacity(alloc, ends.len())?;
-    for (a, b) in ends {
-        kept.push(labels[usize::from(*a)] == labels[usize::from(*b)])?;
+    for (place, (a, b)) in ends.iter().enumerate() {
+        if labels[usize::from(*a)] != labels[usize::from(*b)] {
+            kept[place] = false;
+        }
     }
-    Ok(kept)
 }
 
 // Whether from each label at most one bond leads to a lower one. It may say no where that is so.

@@ -1,8 +1,9 @@
 //! Which bonds of a sketch are ring bonds, and the smallest ring of each atom.
 //!
 //! A bond lies on a ring exactly where a walk without it joins its ends, and the least such walk and the bond are the
-//! smallest ring through it. So one breadth-first search for each bond finds all; bonds between rings, and those that
-//! lead to dead ends, are dropped first, in one pass, and a search stays among the rings that share bonds or atoms.
+//! smallest ring through it. So one breadth-first search for each bond finds all. Bonds that lead to dead ends are
+//! stripped first, so a structure without rings costs one pass; then bonds between rings are dropped, so that a search
+//! stays among rings that share bonds or atoms.
 #![tactic(auto)]
 
 mod bridges;
@@ -10,6 +11,7 @@ mod facts;
 mod graph;
 mod least;
 mod search;
+mod strip;
 
 ghost use Rattle.std.specs.Prelude.{◌≡◌, ◌==◌, ℕ, Bool, List, not, length, map, IfOk};
 ghost use Rattle.chem_core.specs.Graph.{Ends};
@@ -20,6 +22,7 @@ use crate::bridges::drop_bridges;
 use crate::graph::Graph;
 use crate::least::smallest_rings;
 use crate::search::ring_lengths;
+use crate::strip::strip_dead_ends;
 use chem_core::Sketch;
 pub use facts::Rings;
 use std::alloc::{AllocError, Global};
@@ -27,14 +30,15 @@ use std::alloc::{AllocError, Global};
 /// Which bonds are ring bonds, and the length of the smallest ring of each atom, 0 where it is in none.
 ///
 /// A ring is a simple cycle. Fails only for want of memory. A sketch without rings takes time linear in its atoms and
-/// bonds; at worst the time is the number of bonds between rings or in them times the number of atoms and bonds.
+/// bonds, and so does a chain of small rings; at worst the time is the number of ring bonds times that of atoms and bonds.
 pub fn rings(alloc: Global, sketch: &Sketch) -> Result<Rings, AllocError>
     requires { IsSound sketch.now }
     ensures bonds { IfOk result (λ r. AreRingBonds (sketch_ends sketch.now) r.bond_in_ring.items) }
     ensures atoms { IfOk result (λ r. AreSmallestRings (length sketch.now.atoms) (sketch_ends sketch.now) r.atom_small.items) }
 {
     let graph = Graph::of(alloc, sketch)?;
-    let kept = drop_bridges(alloc, &graph)?;
+    let mut kept = strip_dead_ends(alloc, &graph)?;
+    drop_bridges(alloc, &graph, &mut kept)?;
     let lengths = ring_lengths(alloc, &graph, &kept)?;
     let bond_in_ring = nonzero(alloc, &lengths)?;
     let atom_small = smallest_rings(alloc, &graph, &lengths)?;

@@ -1,0 +1,5 @@
+use Rattle.ring_find.proofs.Strips.{KeptSoFar}
+use Rattle.ring_find.proofs.strip.only_kept.Given as goal
+
+abbrev pub invariant-loop-step : goal.invariant-loop-step
+invariant-loop-step l = KeptSoFar l.steps l.kept l.step-index l.only
