@@ -1,6 +1,7 @@
 #!/usr/bin/env bash
-# Registers drug-like structures, fullerene C60, and the worst graphs that the limits allow: 666 boron atoms of three ring bonds each,
-# none of whose cycles is Hückel, as a sheet closed to a tube and that to a ring, and as a tangle. Prints the time for each register line.
+# Reads drug-like structures, fullerene C60, and the worst graphs that the limits allow: 666 boron atoms of three ring bonds each, none
+# of whose cycles is Hückel, as a sheet closed to a tube and that to a ring, and as a tangle. Prints the time for each register line, more
+# than perception alone takes. All lines name one identifier: the structure of each is worked out, and all but the first are `refused known`.
 # Usage: bench/aromatic.sh [LINES]
 set -euo pipefail
 cd "$(dirname "${BASH_SOURCE[0]}")/.."
@@ -78,11 +79,12 @@ def tangle(count=666, reach=60):
 
 
 def seconds(texts):
-    script = "".join(f"register {i} {text}\n" for i, text in enumerate(texts, 1)).encode()
+    script = "".join(f"register 1 {text}\n" for text in texts).encode()
     start = time.monotonic()
     done = subprocess.run(["crates/chemdb/out/chemdb", "mem"], input=script, capture_output=True)
     taken = time.monotonic() - start
-    assert done.returncode == 0 and done.stdout.count(b"ok ") == len(texts), done.stdout[-80:]
+    answers = b"ok 1\n" + b"refused known\n" * (len(texts) - 1)
+    assert done.returncode == 0 and done.stdout == answers, done.stdout[-80:]
     return taken
 
 
