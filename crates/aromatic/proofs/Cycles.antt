@@ -5,7 +5,7 @@ use Rattle.std.proofs.lemmas.List.{get_or_append_left, get_or-append_right, get_
 use Rattle.std.proofs.lemmas.List.Sorted.{IsPermutation-append_comm, IsPermutation-reverse, All-permutation, sum_by-IsPermutation}
 use Rattle.std.proofs.lemmas.Option.{slice_get_within, slice_get_past, same_Some}
 use Rattle.std.proofs.lemmas.Bool.{cases_lt, false≢true}
-use Rattle.chem_core.specs.Drawing.{Drawing}
+use Rattle.chem_core.specs.Sketch.{SketchTerm}
 use Rattle.chem_core.specs.Sound.{IsSound, sketch_ends, ends_among}
 use Rattle.chem_core.specs.Graph.{Ends, JoinsAt, IsSimpleGraph, next_place}
 use Rattle.aromatic.specs.Electrons.{electrons, row_at, row_of, site_of, is_eligible}
@@ -362,13 +362,13 @@ marks-path ends rings gives links k x y marks after path net here whole h len st
 
 -- ---- the same of what the code reads
 
-rows_everywhere : (s : Drawing) (rings : List Bool) (rows : List (Option Row)) → AreRows s rings rows → (a : ℕ) → get_or rows a None ≡ row_at s rings a
+rows_everywhere : (s : SketchTerm) (rings : List Bool) (rows : List (Option Row)) → AreRows s rings rows → (a : ℕ) → get_or rows a None ≡ row_at s rings a
 rows_everywhere s rings rows h a = elim (cases_lt a (length s.atoms)) [
   | inl l ↦ h.each a l
   | inr l ↦ get_or_past rows a None (rw h.count l) ∙ sym (ap (λ o. option_and_then (λ x. let site = site_of s rings a x in if is_eligible site then row_of site else None) o) (slice_get_past s.atoms a l))
 ]
 
-pub given_by_rows : (s : Drawing) (rings : List Bool) (rows : List (Option Row)) (gives : List (Option ℕ)) → AreRows s rings rows → gives ≡ map (λ row. option_map (λ (r : Row). r.electrons) row) rows → (a : ℕ) → get_or gives a None ≡ electrons s rings a
+pub given_by_rows : (s : SketchTerm) (rings : List Bool) (rows : List (Option Row)) (gives : List (Option ℕ)) → AreRows s rings rows → gives ≡ map (λ row. option_map (λ (r : Row). r.electrons) row) rows → (a : ℕ) → get_or gives a None ≡ electrons s rings a
 given_by_rows s rings rows gives h is a =
     let f : Option Row → Option ℕ = λ row. option_map (λ (r : Row). r.electrons) row in
     let read : get_or (map f rows) a None ≡ f (get_or rows a None) = elim (cases_lt a (length rows)) [
@@ -378,7 +378,7 @@ given_by_rows s rings rows gives h is a =
     rw is (read ∙ ap f (rows_everywhere s rings rows h a))
 
 -- a cycle, where the electrons of each atom are told
-huckel-told : (s : Drawing) (rings : List Bool) (gives : List (Option ℕ)) (atoms : List ℕ) → ((a : ℕ) → get_or gives a None ≡ electrons s rings a) → IsHuckelBy (sketch_ends s) (λ a. get_or gives a None) atoms ↔ IsHuckelCycle s rings atoms
+huckel-told : (s : SketchTerm) (rings : List Bool) (gives : List (Option ℕ)) (atoms : List ℕ) → ((a : ℕ) → get_or gives a None ≡ electrons s rings a) → IsHuckelBy (sketch_ends s) (λ a. get_or gives a None) atoms ↔ IsHuckelCycle s rings atoms
 huckel-told s rings gives atoms given =
     let same : ◌≡◌ {A = ℕ → Option ℕ} (λ a. get_or gives a None) (electrons s rings) = λ i a. given a i in
     (λ h. subst (λ f. IsHuckelBy (sketch_ends s) f atoms) same h, λ h. subst (λ f. IsHuckelBy (sketch_ends s) f atoms) (sym same) h)
@@ -403,7 +403,7 @@ which_end ends b a n atoms i j hi hj one two =
     ]
 
 -- an atom lies on a Hückel cycle exactly where one of its bonds does
-pub ends-aromatic : (s : Drawing) (rings marks flags : List Bool) → AreAromaticBonds s rings marks → length flags ≡ length s.atoms → ((a : ℕ) → (get_or flags a false ≡ true) ↔ IsMarkedEnd (ends_among s.bonds) marks (length s.bonds) a) → AreAromaticAtoms s rings flags
+pub ends-aromatic : (s : SketchTerm) (rings marks flags : List Bool) → AreAromaticBonds s rings marks → length flags ≡ length s.atoms → ((a : ℕ) → (get_or flags a false ≡ true) ↔ IsMarkedEnd (ends_among s.bonds) marks (length s.bonds) a) → AreAromaticAtoms s rings flags
 ends-aromatic s rings marks flags h len each = record {
   count = len;
   each = λ a. (
@@ -426,7 +426,7 @@ ends-aromatic s rings marks flags h len each = record {
   );
 }
 
-pub bonds-found : (s : Drawing) (rings : List Bool) (rows : List (Option Row)) (gives : List (Option ℕ)) (marks : List Bool) → AreRows s rings rows → gives ≡ map (λ row. option_map (λ (r : Row). r.electrons) row) rows → AreMarksBelow (sketch_ends s) gives (length s.bonds) marks → AreAromaticBonds s rings marks
+pub bonds-found : (s : SketchTerm) (rings : List Bool) (rows : List (Option Row)) (gives : List (Option ℕ)) (marks : List Bool) → AreRows s rings rows → gives ≡ map (λ row. option_map (λ (r : Row). r.electrons) row) rows → AreMarksBelow (sketch_ends s) gives (length s.bonds) marks → AreAromaticBonds s rings marks
 bonds-found s rings rows gives marks h is marked =
     let given = given_by_rows s rings rows gives h is in
     record {
@@ -438,7 +438,7 @@ bonds-found s rings rows gives marks h is marked =
     }
 
 -- the links are those of a sketch
-pub net-found : (s : Drawing) (rings : List Bool) (rows : List (Option Row)) (gives : List (Option ℕ)) (links : List (List Link)) → IsSound s → AreRingBonds (sketch_ends s) rings → AreRows s rings rows → gives ≡ map (λ row. option_map (λ (r : Row). r.electrons) row) rows → AreLinks (sketch_ends s) rings gives (length s.bonds) links → IsNet (sketch_ends s) rings gives links
+pub net-found : (s : SketchTerm) (rings : List Bool) (rows : List (Option Row)) (gives : List (Option ℕ)) (links : List (List Link)) → IsSound s → AreRingBonds (sketch_ends s) rings → AreRows s rings rows → gives ≡ map (λ row. option_map (λ (r : Row). r.electrons) row) rows → AreLinks (sketch_ends s) rings gives (length s.bonds) links → IsNet (sketch_ends s) rings gives links
 net-found s rings rows gives links sound flags h is linked =
     let many : length s.bonds ≡ length (sketch_ends s) = sym (length-map s.bonds (λ b. (b.a, b.b))) in
     let each : length s.atoms ≡ length gives = sym (ap length is ∙ length-map rows (λ row. option_map (λ (r : Row). r.electrons) row) ∙ h.count) in
@@ -450,30 +450,30 @@ net-found s rings rows gives links sound flags h is linked =
 
 -- ---- refusals
 
-refused_if : (s : Drawing) (rings : List Bool) (a : ℕ) (flag lower : Bool) → ((flag ≡ true) ↔ IsAromaticAtom s rings a) → (if lower then not flag else has_colon s.bonds a) ≡ true → ((lower ≡ true) × (IsAromaticAtom s rings a → ⊥)) ⊎ ((lower ≡ false) × (has_colon s.bonds a ≡ true))
+refused_if : (s : SketchTerm) (rings : List Bool) (a : ℕ) (flag lower : Bool) → ((flag ≡ true) ↔ IsAromaticAtom s rings a) → (if lower then not flag else has_colon s.bonds a) ≡ true → ((lower ≡ true) × (IsAromaticAtom s rings a → ⊥)) ⊎ ((lower ≡ false) × (has_colon s.bonds a ≡ true))
 refused_if s rings a true true h r = absurd (false≢true r)
 refused_if s rings a false true h r = inl (refl, λ q. false≢true (h.1 q))
 refused_if s rings a flag false h r = inr (refl, r)
 
-not_refused_if : (s : Drawing) (rings : List Bool) (a : ℕ) (flag lower : Bool) → ((flag ≡ true) ↔ IsAromaticAtom s rings a) → (if lower then not flag else has_colon s.bonds a) ≡ false → ((lower ≡ true) × (IsAromaticAtom s rings a → ⊥)) ⊎ ((lower ≡ false) × (has_colon s.bonds a ≡ true)) → ⊥
+not_refused_if : (s : SketchTerm) (rings : List Bool) (a : ℕ) (flag lower : Bool) → ((flag ≡ true) ↔ IsAromaticAtom s rings a) → (if lower then not flag else has_colon s.bonds a) ≡ false → ((lower ≡ true) × (IsAromaticAtom s rings a → ⊥)) ⊎ ((lower ≡ false) × (has_colon s.bonds a ≡ true)) → ⊥
 not_refused_if s rings a true true h r (inl q) = q.1 (h.0 refl)
 not_refused_if s rings a true true h r (inr q) = false≢true (sym q.0)
 not_refused_if s rings a false true h r q = false≢true (sym r)
 not_refused_if s rings a flag false h r (inl q) = false≢true q.0
 not_refused_if s rings a flag false h r (inr q) = false≢true (sym r ∙ q.1)
 
-pub refused-false : (s : Drawing) (rings flags : List Bool) (a : ℕ) (x : SketchAtom) → AreAromaticAtoms s rings flags → refused s.bonds (get_or flags a false) a x ≡ false → IsRefused s rings a x → ⊥
+pub refused-false : (s : SketchTerm) (rings flags : List Bool) (a : ℕ) (x : SketchAtom) → AreAromaticAtoms s rings flags → refused s.bonds (get_or flags a false) a x ≡ false → IsRefused s rings a x → ⊥
 refused-false s rings flags a x h = not_refused_if s rings a (get_or flags a false) x.lower (h.each a)
 
-pub refused-true : (s : Drawing) (rings flags : List Bool) (a : ℕ) (x : SketchAtom) → AreAromaticAtoms s rings flags → refused s.bonds (get_or flags a false) a x ≡ true → IsRefused s rings a x
+pub refused-true : (s : SketchTerm) (rings flags : List Bool) (a : ℕ) (x : SketchAtom) → AreAromaticAtoms s rings flags → refused s.bonds (get_or flags a false) a x ≡ true → IsRefused s rings a x
 refused-true s rings flags a x h = refused_if s rings a (get_or flags a false) x.lower (h.each a)
 
-pub fault-first : (s : Drawing) (rings flags : List Bool) (w : ℕ) → AreAromaticAtoms s rings flags → (a : ℕ) × (x : SketchAtom) × (slice_get s.atoms a ≡ Some x) × (refused s.bonds (get_or flags a false) a x ≡ true) × (x.written ≡ w) × ((b : ℕ) (y : SketchAtom) → b < a → slice_get s.atoms b ≡ Some y → refused s.bonds (get_or flags b false) b y ≡ false) → IsFirstRefused s rings w
+pub fault-first : (s : SketchTerm) (rings flags : List Bool) (w : ℕ) → AreAromaticAtoms s rings flags → (a : ℕ) × (x : SketchAtom) × (slice_get s.atoms a ≡ Some x) × (refused s.bonds (get_or flags a false) a x ≡ true) × (x.written ≡ w) × ((b : ℕ) (y : SketchAtom) → b < a → slice_get s.atoms b ≡ Some y → refused s.bonds (get_or flags b false) b y ≡ false) → IsFirstRefused s rings w
 fault-first s rings flags w h (a, x, here, yes_refused, at, before) = (a, x, here, refused-true s rings flags a x h yes_refused, at, λ b y lt there. refused-false s rings flags b y h (before b y lt there))
 
 -- ---- all that is found
 
-pub all-found : (s : Drawing) (rings : List Bool) (rows : List (Option Row)) (flags marks : List Bool) (sums : List ℕ) → AreRows s rings rows → AreAromaticBonds s rings marks → AreAromaticAtoms s rings flags → ((b : ℕ) (y : SketchAtom) → slice_get s.atoms b ≡ Some y → refused s.bonds (get_or flags b false) b y ≡ false) → sums ≡ map (λ p. valence_by rows flags s.bonds marks p.0 p.1) (enumerate_from 0 s.atoms) → IsPerceived s rings flags marks sums
+pub all-found : (s : SketchTerm) (rings : List Bool) (rows : List (Option Row)) (flags marks : List Bool) (sums : List ℕ) → AreRows s rings rows → AreAromaticBonds s rings marks → AreAromaticAtoms s rings flags → ((b : ℕ) (y : SketchAtom) → slice_get s.atoms b ≡ Some y → refused s.bonds (get_or flags b false) b y ≡ false) → sums ≡ map (λ p. valence_by rows flags s.bonds marks p.0 p.1) (enumerate_from 0 s.atoms) → IsPerceived s rings flags marks sums
 all-found s rings rows flags marks sums rows_are marks_are flags_are none values = record {
   atom_each = flags_are.count;
   bond_each = marks_are.count;

@@ -6,7 +6,7 @@ use Rattle.std.proofs.lemmas.Option.{slice_get_within, slice_get-map, unwrap_or-
 use Rattle.std.proofs.lemmas.Slice.Zip.{get_or-zip, length-zip}
 use Rattle.chem_core.specs.declared.sketch.SketchAtom.{SketchAtom}
 use Rattle.chem_core.specs.declared.sketch.SketchBond.{SketchBond}
-use Rattle.chem_core.specs.Drawing.{Drawing, ends_at}
+use Rattle.chem_core.specs.Sketch.{SketchTerm, ends_at}
 use Rattle.chem_core.specs.Graph.{IsSimpleGraph}
 use Rattle.chem_core.specs.Sound.{ends_among}
 use Rattle.aromatic.specs.declared.site.Site.{Site}
@@ -111,7 +111,7 @@ sites-whole atoms bonds rings sites i count past are = record {
       slice_get-get_or sites a (bare x) (omega arith) ∙ ap (λ y. Some y) (are a x (bare x) here) ∙ ap (λ ps. Some (site_among atoms a x ps)) whole;
 }
 
-pub rows-are : (s : Drawing) (rings : List Bool) (sites : List Site) (rows : List (Option Row)) → AreSites s.atoms (zip s.bonds rings) sites → rows ≡ map candidate_row sites → AreRows s rings rows
+pub rows-are : (s : SketchTerm) (rings : List Bool) (sites : List Site) (rows : List (Option Row)) → AreSites s.atoms (zip s.bonds rings) sites → rows ≡ map candidate_row sites → AreRows s rings rows
 rows-are s rings sites rows are is = record {
   count = ap (λ rs. length rs) is ∙ length-map sites candidate_row ∙ are.count;
   each = λ a within.

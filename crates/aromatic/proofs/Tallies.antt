@@ -6,7 +6,7 @@ use Rattle.std.proofs.lemmas.List.{take_all, get_or_default}
 use Rattle.std.proofs.lemmas.List.Folds.{list_any_more}
 use Rattle.std.proofs.lemmas.List.Sums.{sum_by_more, sum_by-take-le}
 use Rattle.chem_core.specs.declared.sketch.SketchBond.{SketchBond}
-use Rattle.chem_core.specs.Drawing.{ends_at}
+use Rattle.chem_core.specs.Sketch.{ends_at}
 use Rattle.chem_core.specs.Graph.{IsSimpleGraph}
 use Rattle.chem_core.specs.Sound.{ends_among}
 use Rattle.aromatic.specs.declared.tally.Tally.{Tally}

@@ -10,7 +10,7 @@ use Rattle.chem_core.specs.declared.sketch.SketchBond.{SketchBond}
 use Rattle.chem_core.specs.declared.sketch.SketchKind.{SketchKind}
 use Rattle.chem_core.specs.declared.sketch.SketchKind.TheVariants.{Unwritten, Single, Double, Triple, Quad, Colon}
 use Rattle.chem_core.specs.Graph.{degree}
-use Rattle.chem_core.specs.Drawing.{ends_at, order_of}
+use Rattle.chem_core.specs.Sketch.{ends_at, order_of}
 use Rattle.aromatic.specs.Huckel.{bonded, share}
 use Rattle.chem_core.specs.Sound.{ends_among}
 

@@ -6,7 +6,7 @@ use Rattle.chem_core.specs.declared.sketch.SketchAtom.{SketchAtom}
 use Rattle.chem_core.specs.declared.sketch.SketchBond.{SketchBond}
 use Rattle.chem_core.specs.declared.sketch.SketchKind.{SketchKind}
 use Rattle.chem_core.specs.declared.sketch.SketchKind.TheVariants.{Double, Triple, Quad}
-use Rattle.chem_core.specs.Drawing.{Drawing, ends_at}
+use Rattle.chem_core.specs.Sketch.{SketchTerm, ends_at}
 use Rattle.aromatic.specs.declared.site.Site.{Site}
 use Rattle.aromatic.specs.declared.table.Row.{Row}
 use Rattle.aromatic.specs.declared.table.Family.{Family}
@@ -59,7 +59,7 @@ site_among atoms a x pairs = record {
   to_hetero = count_at pairs a (λ bond ring. not ring && (is_double bond.kind && is_hetero (element_beyond atoms a bond)));
 }
 
-abbrev pub site_of : Drawing → List Bool → ℕ → SketchAtom → Site
+abbrev pub site_of : SketchTerm → List Bool → ℕ → SketchAtom → Site
 site_of s rings a x = site_among s.atoms a x (zip s.bonds rings)
 
 -- ---- the table
@@ -144,9 +144,9 @@ abbrev pub candidate_row : Site → Option Row
 candidate_row x = if is_eligible x then row_of x else None
 
 -- the row of an atom, if it is a candidate
-abbrev pub row_at : Drawing → List Bool → ℕ → Option Row
+abbrev pub row_at : SketchTerm → List Bool → ℕ → Option Row
 row_at s rings a = option_and_then (λ x. candidate_row (site_of s rings a x)) (slice_get s.atoms a)
 
 -- the electrons that an atom gives; none where it is no candidate
-abbrev pub electrons : Drawing → List Bool → ℕ → Option ℕ
+abbrev pub electrons : SketchTerm → List Bool → ℕ → Option ℕ
 electrons s rings a = option_map (λ row. row.electrons) (row_at s rings a)

@@ -5,7 +5,7 @@ use Rattle.chem_core.specs.declared.sketch.SketchAtom.{SketchAtom}
 use Rattle.chem_core.specs.declared.sketch.SketchBond.{SketchBond}
 use Rattle.chem_core.specs.declared.sketch.SketchKind.{SketchKind}
 use Rattle.chem_core.specs.declared.sketch.SketchKind.TheVariants.{Colon}
-use Rattle.chem_core.specs.Drawing.{Drawing, ends_at, order_of}
+use Rattle.chem_core.specs.Sketch.{SketchTerm, ends_at, order_of}
 use Rattle.chem_core.specs.Sound.{sketch_ends}
 use Rattle.chem_core.specs.Graph.{Ends, IsSimpleCycle, LiesOn}
 use Rattle.aromatic.specs.declared.perception.AromFault.{AromFault}
@@ -21,13 +21,13 @@ pub record IsHuckelBy (ends : Ends) (gives : ℕ → Option ℕ) (atoms : List �
   pub count : sum_by (λ a. unwrap_or (gives a) 0) atoms % 4 ≡ 2
 
 -- a simple cycle of 3 to 18 candidates whose electrons sum to 2 modulo 4
-abbrev pub IsHuckelCycle : Drawing → List Bool → List ℕ → Type 0
+abbrev pub IsHuckelCycle : SketchTerm → List Bool → List ℕ → Type 0
 IsHuckelCycle s rings atoms = IsHuckelBy (sketch_ends s) (electrons s rings) atoms
 
-abbrev pub IsAromaticAtom : Drawing → List Bool → ℕ → Type 0
+abbrev pub IsAromaticAtom : SketchTerm → List Bool → ℕ → Type 0
 IsAromaticAtom s rings a = (atoms : List ℕ) × IsHuckelCycle s rings atoms × Contains atoms a
 
-abbrev pub IsAromaticBond : Drawing → List Bool → ℕ → Type 0
+abbrev pub IsAromaticBond : SketchTerm → List Bool → ℕ → Type 0
 IsAromaticBond s rings b = (atoms : List ℕ) × IsHuckelCycle s rings atoms × LiesOn (sketch_ends s) b atoms
 
 abbrev pub is_colon : SketchKind → Bool
@@ -39,7 +39,7 @@ abbrev pub has_colon : List SketchBond → ℕ → Bool
 has_colon bonds a = list_any (λ bond. is_colon bond.kind && ends_at a bond) bonds
 
 -- The atom is refused: it is written in lower case and lies on no Hückel cycle, or it is not and a bond `:` ends at it.
-abbrev pub IsRefused : Drawing → List Bool → ℕ → SketchAtom → Type 0
+abbrev pub IsRefused : SketchTerm → List Bool → ℕ → SketchAtom → Type 0
 IsRefused s rings a x = ((x.lower ≡ true) × (IsAromaticAtom s rings a → ⊥)) ⊎ ((x.lower ≡ false) × (has_colon s.bonds a ≡ true))
 
 -- what a bond adds to the valence of an atom that it ends at: 1 where it is aromatic, else its order
@@ -64,13 +64,13 @@ abbrev pub bonded : List SketchBond → List Bool → ℕ → ℕ
 bonded bonds aromatic a = sum_by (λ p. share a p.0 p.1) (zip bonds aromatic)
 
 -- the bonds of an atom, its hydrogens, and one more where it is aromatic and its row adds one
-abbrev pub valence_of : Drawing → List Bool → List Bool → List Bool → ℕ → SketchAtom → ℕ
+abbrev pub valence_of : SketchTerm → List Bool → List Bool → List Bool → ℕ → SketchAtom → ℕ
 valence_of s rings aromatic_atoms aromatic_bonds a x =
     bonded s.bonds aromatic_bonds a + x.hydrogens
     + (if slice_index_or aromatic_atoms a false && adds_one s.bonds aromatic_bonds a (row_at s rings a) then 1 else 0)
 
 -- What perception finds in a sketch: a truth value for each atom and for each bond, and a valence for each atom.
-pub record IsPerceived (s : Drawing) (rings : List Bool) (aromatic_atoms aromatic_bonds : List Bool) (sums : List ℕ) : Type 0 where
+pub record IsPerceived (s : SketchTerm) (rings : List Bool) (aromatic_atoms aromatic_bonds : List Bool) (sums : List ℕ) : Type 0 where
   pub atom_each : length aromatic_atoms ≡ length s.atoms
   pub bond_each : length aromatic_bonds ≡ length s.bonds
   pub atoms : (a : ℕ) → a < length s.atoms → (slice_index_or aromatic_atoms a false ≡ true) ↔ IsAromaticAtom s rings a
@@ -80,12 +80,12 @@ pub record IsPerceived (s : Drawing) (rings : List Bool) (aromatic_atoms aromati
   pub accepted : (a : ℕ) (x : SketchAtom) → slice_get s.atoms a ≡ Some x → IsRefused s rings a x → ⊥
 
 -- the least atom that is refused is written as the w-th
-abbrev pub IsFirstRefused : Drawing → List Bool → ℕ → Type 0
+abbrev pub IsFirstRefused : SketchTerm → List Bool → ℕ → Type 0
 IsFirstRefused s rings w =
     (a : ℕ) × (x : SketchAtom) × (slice_get s.atoms a ≡ Some x) × IsRefused s rings a x × (x.written ≡ w)
     × ((b : ℕ) (y : SketchAtom) → b < a → slice_get s.atoms b ≡ Some y → IsRefused s rings b y → ⊥)
 
 -- an atom is at fault exactly where it is the first that is refused; of memory nothing is said
-abbrev pub IsFaultOf : Drawing → List Bool → AromFault → Type 0
+abbrev pub IsFaultOf : SketchTerm → List Bool → AromFault → Type 0
 IsFaultOf s rings (Aromatic w) = IsFirstRefused s rings w
 IsFaultOf s rings NoMemory = Unit {0}

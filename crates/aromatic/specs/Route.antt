@@ -1,6 +1,6 @@
 -- Paths of links, from one end of a bond on the way to its other end.
 use Rattle.std.specs.Prelude.{◌≡◌, ◌≢◌, ℕ, ◌+◌, ◌-◌, ◌%◌, ◌<◌, ◌≤◌, List, ◌++◌, length, map, sum_by, slice_index, slice_index_or, AllPairs, Contains, Option, None, unwrap_or, Bool, true, false, ◌↔◌}
-use Rattle.chem_core.specs.Drawing.{Drawing}
+use Rattle.chem_core.specs.Sketch.{SketchTerm}
 use Rattle.chem_core.specs.RingFacts.{AreRingBonds}
 use Rattle.chem_core.specs.Graph.{Ends, IsSimpleGraph, JoinsAt, LiesOn}
 use Rattle.aromatic.specs.Electrons.{row_at}
@@ -73,16 +73,16 @@ abbrev pub IsMarkedEnd : Ends → List Bool → ℕ → ℕ → Type 0
 IsMarkedEnd ends marks k a = (b n : ℕ) × (b < k) × JoinsAt ends b a n × (slice_index_or marks b false ≡ true)
 
 -- the row of each atom
-pub record AreRows (s : Drawing) (rings : List Bool) (rows : List (Option Row)) : Type 0 where
+pub record AreRows (s : SketchTerm) (rings : List Bool) (rows : List (Option Row)) : Type 0 where
   pub count : length rows ≡ length s.atoms
   pub each : (a : ℕ) → a < length s.atoms → slice_index_or rows a None ≡ row_at s rings a
 
 -- a truth value for each bond: it lies on a Hückel cycle
-pub record AreAromaticBonds (s : Drawing) (rings marks : List Bool) : Type 0 where
+pub record AreAromaticBonds (s : SketchTerm) (rings marks : List Bool) : Type 0 where
   pub count : length marks ≡ length s.bonds
   pub each : (b : ℕ) → b < length s.bonds → (slice_index_or marks b false ≡ true) ↔ IsAromaticBond s rings b
 
 -- a truth value for each atom: it lies on a Hückel cycle
-pub record AreAromaticAtoms (s : Drawing) (rings flags : List Bool) : Type 0 where
+pub record AreAromaticAtoms (s : SketchTerm) (rings flags : List Bool) : Type 0 where
   pub count : length flags ≡ length s.atoms
   pub each : (a : ℕ) → (slice_index_or flags a false ≡ true) ↔ IsAromaticAtom s rings a

@@ -1,7 +1,7 @@
 //! What the table reads of an atom, and the electrons that it gives.
 ghost use Rattle.std.specs.Prelude.{◌≡◌, ◌≢◌, ◌<◌, ℕ, length, map, slice_get, slice_index_or, All, IfOk, Some, if◌then◌else◌};
 ghost use Rattle.std.specs.List.{zip};
-ghost use Rattle.chem_core.specs.Drawing.{ends_at};
+ghost use Rattle.chem_core.specs.Sketch.{ends_at};
 ghost use Rattle.chem_core.specs.Sound.{IsSound, sketch_ends};
 ghost use Rattle.chem_core.specs.RingFacts.{AreRingBonds};
 ghost use Rattle.aromatic.specs.Electrons.{candidate_row, electrons, element_beyond, is_eligible, row_at, site_among};

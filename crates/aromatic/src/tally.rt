@@ -1,6 +1,6 @@
 //! What the bonds of each atom come to.
 ghost use Rattle.std.specs.Prelude.{◌≡◌, ◌≢◌, ◌<◌, ◌≤◌, ℕ, length, replicate, All, IfOk, if◌then◌else◌};
-ghost use Rattle.chem_core.specs.Drawing.{ends_at};
+ghost use Rattle.chem_core.specs.Sketch.{ends_at};
 ghost use Rattle.chem_core.specs.Graph.{IsSimpleGraph};
 ghost use Rattle.chem_core.specs.Sound.{ends_among};
 ghost use Rattle.aromatic.specs.Tallies.{AreTallies, no_bonds, tally_at, with_bond};

@@ -1,6 +1,7 @@
 -- Bonds as pairs of ends: what joins what, cycles, rings. Atoms and bonds are named by their places, from 0.
 use Rattle.std.specs.Prelude.{◌≡◌, ◌≢◌, ◌⊎◌, ℕ, ◌+◌, ◌%◌, ◌<◌, ◌≤◌, List, length, slice_get, slice_index, slice_index_or, [], count_by, Some, All, AllPairs, Contains, ◌==◌, ◌||◌, map}
 use Rattle.std.specs.List.Sorted.{IsStrictlyIncreasing}
+use Rattle.chem_core.specs.declared.limits.TheConstants.{MOST_ATOMS, MOST_BONDS, MOST_NEIGHBOURS}
 
 -- the two ends of each bond
 abbrev pub Ends : Type 0
@@ -18,11 +19,11 @@ Joined ends x y = (b : ℕ) × JoinsAt ends b x y
 abbrev pub degree : Ends → ℕ → ℕ
 degree ends a = count_by (λ e. (e.0 == a) || (e.1 == a)) ends
 
--- The limits: 999 atoms, 999 bonds, 12 neighbours of an atom. Ends are distinct and in range, and no two bonds join the same atoms.
+-- Within the limits on atoms, bonds and neighbours of an atom. Ends are distinct and in range, and no two bonds join the same atoms.
 pub record IsSimpleGraph (atoms : ℕ) (ends : Ends) : Type 0 where
-  pub few_atoms : atoms ≤ 999
-  pub few_bonds : length ends ≤ 999
-  pub few_neighbours : (a : ℕ) → degree ends a ≤ 12
+  pub few_atoms : atoms ≤ MOST_ATOMS
+  pub few_bonds : length ends ≤ MOST_BONDS
+  pub few_neighbours : (a : ℕ) → degree ends a ≤ MOST_NEIGHBOURS
   pub in_range : All (λ e. (e.0 < atoms) × (e.1 < atoms)) ends
   pub distinct : All (λ e. e.0 ≢ e.1) ends
   pub once : (b c x y : ℕ) → JoinsAt ends b x y → JoinsAt ends c x y → b ≡ c

@@ -1,6 +1,6 @@
 pub mod Graph
 pub mod Element
-pub mod Drawing
+pub mod Sketch
 pub mod Sound
 pub mod Molecule
 pub mod Bits

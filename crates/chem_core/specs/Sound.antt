@@ -5,14 +5,14 @@ use Rattle.chem_core.specs.declared.sketch.SketchBond.{SketchBond}
 use Rattle.chem_core.specs.declared.sketch.Fill.{Fill}
 use Rattle.chem_core.specs.declared.sketch.Fill.TheVariants.{Given, Organic, Table, Fixed}
 use Rattle.chem_core.specs.Graph.{Ends, IsSimpleGraph}
-use Rattle.chem_core.specs.Drawing.{Drawing}
+use Rattle.chem_core.specs.Sketch.{SketchTerm}
 
 -- the two ends of each bond of a list
 abbrev pub ends_among : List SketchBond → Ends
 ends_among bonds = map (λ b. (b.a, b.b)) bonds
 
 -- the two ends of each bond of a sketch
-abbrev pub sketch_ends : Drawing → Ends
+abbrev pub sketch_ends : SketchTerm → Ends
 sketch_ends s = ends_among s.bonds
 
 -- at most 2 radical electrons, and a written valence of at most 15
@@ -30,6 +30,6 @@ pub record IsSketchAtom (atom : SketchAtom) : Type 0 where
   pub fill : IsFill atom.fill
   pub hydrogens : atom.hydrogens ≤ 27
 
-pub record IsSound (s : Drawing) : Type 0 where
+pub record IsSound (s : SketchTerm) : Type 0 where
   pub graph : IsSimpleGraph (length s.atoms) (sketch_ends s)
   pub each : All IsSketchAtom s.atoms

@@ -21,7 +21,8 @@ pub struct Atom {
     /// Hydrogens that are no atoms of the molecule.
     pub hydrogens: u8,
     pub aromatic: bool,
-    /// The sum of the orders of its bonds, and its hydrogens.
+    /// The sum of its bond orders, aromatic bonds as 1, and its hydrogens; 1 more for an aromatic atom that gives one
+    /// electron to its ring.
     pub valence: u8,
 }
 
@@ -48,7 +49,7 @@ type Neighbours = SmallVec<(u16, u16), 4>;
 
 /// A molecule: atoms and bonds as they are meant, for each atom its neighbours, and what lies on rings.
 ///
-/// It has at most 999 atoms and 999 bonds, and at most 12 neighbours at an atom. No two bonds join the same atoms, and
+/// It has at most `MOST_ATOMS` atoms and `MOST_BONDS` bonds, and at most `MOST_NEIGHBOURS` neighbours at an atom. No two bonds join the same atoms, and
 /// none joins an atom to itself. Atoms and bonds are named by their places, from 0. Contracts see it as its two lists.
 #[derive(Debug, Drop)]
 pub struct Mol {

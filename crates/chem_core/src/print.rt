@@ -1,5 +1,5 @@
-//! Fingerprints: a bit for each feature that a structure may have, so that most structures without what a pattern
-//! needs are told apart by sixteen words (Daylight Theory Manual, chapter Fingerprints).
+//! Fingerprints: one bit for each feature that a structure may have; most structures that lack what a pattern needs
+//! are ruled out by comparing sixteen words (Daylight Theory Manual, chapter Fingerprints).
 ghost use Rattle.std.specs.Prelude.{◌≡◌, ◌↔◌, ℕ, ◌^◌, ◌<◌, true, length, slice_index, slice_set, bit_and, EachIndex, IsTrue};
 ghost use Rattle.chem_core.specs.Bits.{HasBit};
 
@@ -50,7 +50,7 @@ impl Print {
         }
     }
 
-    /// Whether this print has each bit that `need` has, as a structure's has where it holds the one of `need`.
+    /// Whether every bit of `need` is set in this print.
     pub fn holds(&self, need: &Print) -> bool
         ensures value { IsTrue result ↔ ((bit : ℕ) → HasBit need.now bit → HasBit self.now bit) }
         ensures length { length self.now ≡ 1024 }

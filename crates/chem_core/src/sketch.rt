@@ -1,6 +1,6 @@
 //! Sketches: structures as they are written, before hydrogens and aromaticity are worked out.
 ghost use Rattle.std.specs.Prelude.{◌≡◌, ◌≤◌};
-ghost use Rattle.chem_core.specs.Drawing.{order_of};
+ghost use Rattle.chem_core.specs.Sketch.{order_of};
 
 use std::marker::Model;
 
@@ -11,9 +11,9 @@ pub enum Fill {
     Given,
     /// By the valence table of the organic subset.
     Organic,
-    /// By the valence table of molfiles, beside so many radical electrons (at most 2).
+    /// By the valence table of molfiles, beside this number of radical electrons (at most 2).
     Table { radicals: u8 },
-    /// By a valence that is written (at most 15).
+    /// By a valence that is written, 0 to 15. (A molfile writes 15 for a valence of 0; its reader gives 0 here.)
     Fixed { valence: u8 },
 }
 
@@ -81,9 +81,9 @@ pub struct Sketch {
 }
 
 impl Model for Sketch {
-    ghost use Rattle.chem_core.specs.Drawing.{Drawing};
+    ghost use Rattle.chem_core.specs.Sketch.{SketchTerm};
 
-    ghost Value = { Drawing };
+    ghost Value = { SketchTerm };
 
     ghost view = { λ s. record { atoms = s.atoms.items; bonds = s.bonds.items } };
 }

@@ -8,7 +8,7 @@ use Rattle.chem_core.specs.declared.mol.Atom.{Atom}
 use Rattle.chem_core.specs.declared.mol.Bond.{Bond}
 use Rattle.chem_core.specs.declared.sketch.SketchAtom.{SketchAtom}
 use Rattle.chem_core.specs.declared.sketch.SketchBond.{SketchBond}
-use Rattle.chem_core.specs.Drawing.{Drawing}
+use Rattle.chem_core.specs.Sketch.{SketchTerm}
 use Rattle.chem_core.specs.Molecule.{IsAtom, IsMolecule, bond_ends}
 use Rattle.chem_core.specs.RingFacts.{AreRingBonds, AreSmallestRings}
 use Rattle.chem_core.specs.Sound.{IsSketchAtom, IsSound, sketch_ends}
@@ -45,7 +45,7 @@ ends-from aromatic n [] = refl
 ends-from aromatic n (x ∷ xs) = ap (λ es. (x.a, x.b) ∷ es) (ends-from aromatic (n + 1) xs)
 
 -- the ends are those of the sketch
-pub meant-ends : (aromatic : List Bool) (s : Drawing) → bond_ends (meant_bonds aromatic s.bonds) ≡ sketch_ends s
+pub meant-ends : (aromatic : List Bool) (s : SketchTerm) → bond_ends (meant_bonds aromatic s.bonds) ≡ sketch_ends s
 meant-ends aromatic s = ends-from aromatic 0 s.bonds
 
 pub length-meant_atoms : (aromatic : List Bool) (valences : List ℕ) (xs : List SketchAtom) → length (meant_atoms aromatic valences xs) ≡ length xs
@@ -63,18 +63,18 @@ atoms-from aromatic valences xs each =
     rw (get_or-enumerate_from 0 xs i d within') (atom-kept _ _ _ (each i d.1 within')))
 
 -- a sound sketch means a molecule
-pub meant-molecule : (s : Drawing) (atoms bonds : List Bool) (valences : List ℕ) → IsSound s → IsMolecule (meant s atoms bonds valences)
+pub meant-molecule : (s : SketchTerm) (atoms bonds : List Bool) (valences : List ℕ) → IsSound s → IsMolecule (meant s atoms bonds valences)
 meant-molecule s atoms bonds valences sound = record {
   graph = rw (length-meant_atoms, meant-ends bonds s) sound.graph;
   each = atoms-from atoms valences s.atoms sound.each;
 }
 
 -- the same of the lists that were made
-pub made-molecule : (s : Drawing) (atoms bonds : List Bool) (valences : List ℕ) (made : List Atom) (joined : List Bond) → made ≡ meant_atoms atoms valences s.atoms → joined ≡ meant_bonds bonds s.bonds → IsSound s → IsMolecule (record { atoms = made; bonds = joined })
+pub made-molecule : (s : SketchTerm) (atoms bonds : List Bool) (valences : List ℕ) (made : List Atom) (joined : List Bond) → made ≡ meant_atoms atoms valences s.atoms → joined ≡ meant_bonds bonds s.bonds → IsSound s → IsMolecule (record { atoms = made; bonds = joined })
 made-molecule s atoms bonds valences made joined p q sound = rw (p, q) (meant-molecule s atoms bonds valences sound)
 
-pub made-rings : (s : Drawing) (bonds : List Bool) (joined : List Bond) (rings : List Bool) → joined ≡ meant_bonds bonds s.bonds → AreRingBonds (sketch_ends s) rings → AreRingBonds (bond_ends joined) rings
+pub made-rings : (s : SketchTerm) (bonds : List Bool) (joined : List Bond) (rings : List Bool) → joined ≡ meant_bonds bonds s.bonds → AreRingBonds (sketch_ends s) rings → AreRingBonds (bond_ends joined) rings
 made-rings s bonds joined rings q h = rw (q, meant-ends bonds s) h
 
-pub made-smallest : (s : Drawing) (atoms bonds : List Bool) (valences : List ℕ) (made : List Atom) (joined : List Bond) (smallest : List ℕ) → made ≡ meant_atoms atoms valences s.atoms → joined ≡ meant_bonds bonds s.bonds → AreSmallestRings (length s.atoms) (sketch_ends s) smallest → AreSmallestRings (length made) (bond_ends joined) smallest
+pub made-smallest : (s : SketchTerm) (atoms bonds : List Bool) (valences : List ℕ) (made : List Atom) (joined : List Bond) (smallest : List ℕ) → made ≡ meant_atoms atoms valences s.atoms → joined ≡ meant_bonds bonds s.bonds → AreSmallestRings (length s.atoms) (sketch_ends s) smallest → AreSmallestRings (length made) (bond_ends joined) smallest
 made-smallest s atoms bonds valences made joined smallest p q h = rw (p, q, meant-ends bonds s, length-meant_atoms atoms valences s.atoms) h

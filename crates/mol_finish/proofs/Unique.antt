@@ -4,7 +4,7 @@ use Rattle.std.specs.List.{enumerate_from}
 use Rattle.std.proofs.lemmas.Bool.{cases_Bool, cases_lt, cases_eq}
 use Rattle.std.proofs.lemmas.List.{ext_get_or}
 use Rattle.chem_core.specs.declared.sketch.SketchAtom.{SketchAtom}
-use Rattle.chem_core.specs.Drawing.{Drawing}
+use Rattle.chem_core.specs.Sketch.{SketchTerm}
 use Rattle.chem_core.specs.Graph.{Ends}
 use Rattle.chem_core.specs.Molecule.{Molecule}
 use Rattle.chem_core.specs.RingFacts.{AreRingBonds}
@@ -28,17 +28,17 @@ abbrev OneRings : Type 0
 OneRings = (ends : Ends) (xs ys : List Bool) → AreRingBonds ends xs → AreRingBonds ends ys → xs ≡ ys
 
 -- one sketch
-sketch-same : (s t : Tree) (a b : Drawing) → s ≡ t → sketch_of s ≡ Some a → sketch_of t ≡ Some b → a ≡ b
+sketch-same : (s t : Tree) (a b : SketchTerm) → s ≡ t → sketch_of s ≡ Some a → sketch_of t ≡ Some b → a ≡ b
 sketch-same s t a b is p q = cc
 
-sketch-not : (s t : Tree) (a : Drawing) → s ≡ t → sketch_of s ≡ Some a → sketch_of t ≡ None → ⊥
+sketch-not : (s t : Tree) (a : SketchTerm) → s ≡ t → sketch_of s ≡ Some a → sketch_of t ≡ None → ⊥
 sketch-not s t a is p q = cc
 
-reading-one : OneTree → (text : List ℕ) (s t : Drawing) → IsReading text (Ok s) → IsReading text (Ok t) → s ≡ t
+reading-one : OneTree → (text : List ℕ) (s t : SketchTerm) → IsReading text (Ok s) → IsReading text (Ok t) → s ≡ t
 reading-one trees text s t p q = sketch-same _ _ _ _ (trees text _ _ p.2 q.2) p.3 q.3
 
 -- a text that is read has no fault
-reading-not : OneTree → (text : List ℕ) (s : Drawing) (e : SmilesFault) → IsReading text (Ok s) → IsReading text (Err e) → e ≡ smiles.NoMemory
+reading-not : OneTree → (text : List ℕ) (s : SketchTerm) (e : SmilesFault) → IsReading text (Ok s) → IsReading text (Err e) → e ≡ smiles.NoMemory
 reading-not trees text s smiles.Syntax p q = absurd (q.1 p.1 p.2)
 reading-not trees text s smiles.Ring p q = absurd (sketch-not _ _ _ (trees text _ _ p.2 q.2) p.3 q.3)
 reading-not trees text s smiles.Limit p (inl long) = absurd (omega (arith, p.0))
@@ -84,20 +84,20 @@ flags-one P n xs ys p q f g =
     let within : a < n = omega arith in
     same_flag _ _ (P a) (f a within) (g a within))
 
-perceived-one : (s : Drawing) (rings atoms bonds atoms' bonds' : List Bool) (sums sums' : List ℕ) → IsPerceived s rings atoms bonds sums → IsPerceived s rings atoms' bonds' sums' → meant s atoms bonds sums ≡ meant s atoms' bonds' sums'
+perceived-one : (s : SketchTerm) (rings atoms bonds atoms' bonds' : List Bool) (sums sums' : List ℕ) → IsPerceived s rings atoms bonds sums → IsPerceived s rings atoms' bonds' sums' → meant s atoms bonds sums ≡ meant s atoms' bonds' sums'
 perceived-one s rings atoms bonds atoms' bonds' sums sums' p q =
     let one : atoms ≡ atoms' = flags-one (IsAromaticAtom s rings) (length s.atoms) atoms atoms' p.atom_each q.atom_each p.atoms q.atoms in
     let two : bonds ≡ bonds' = flags-one (IsAromaticBond s rings) (length s.bonds) bonds bonds' p.bond_each q.bond_each p.bonds q.bonds in
     let same : sums ≡ sums' = p.valences ∙ ap (λ xs. map (λ p. valence_of s rings xs bonds p.0 p.1) (enumerate_from 0 s.atoms)) one ∙ ap (λ xs. map (λ p. valence_of s rings atoms' xs p.0 p.1) (enumerate_from 0 s.atoms)) two ∙ sym q.valences in
     ap (λ xs. meant s xs bonds sums) one ∙ ap (λ xs. meant s atoms' xs sums) two ∙ ap (λ xs. meant s atoms' bonds' xs) same
 
-meant-one : OneRings → (s : Drawing) (m n : Molecule) → IsMeant s m → IsMeant s n → m ≡ n
+meant-one : OneRings → (s : SketchTerm) (m n : Molecule) → IsMeant s m → IsMeant s n → m ≡ n
 meant-one lists s m n p q =
     let same = lists (sketch_ends s) p.0 q.0 p.4 q.4 in
     let again = subst (λ r. IsPerceived s r q.1 q.2 q.3) (sym same) q.5 in
     p.6 ∙ perceived-one s p.0 p.1 p.2 q.1 q.2 p.3 q.3 p.5 again ∙ sym q.6
 
-meant-not : OneRings → (s : Drawing) (m : Molecule) (w : ℕ) → IsMeant s m → IsRefusedAt s w → ⊥
+meant-not : OneRings → (s : SketchTerm) (m : Molecule) (w : ℕ) → IsMeant s m → IsRefusedAt s w → ⊥
 meant-not lists s m w p q =
     let same = lists (sketch_ends s) p.0 q.0 p.4 q.1 in
     let first = subst (λ r. IsFirstRefused s r w) (sym same) q.2 in
@@ -106,7 +106,7 @@ meant-not lists s m w p q =
 same-atom : (o : List SketchAtom) (a b : ℕ) (x y : SketchAtom) → a ≡ b → slice_get o a ≡ Some x → slice_get o b ≡ Some y → x ≡ y
 same-atom o a b x y is p q = cc
 
-first-one : (s : Drawing) (rings : List Bool) (v w : ℕ) → IsFirstRefused s rings v → IsFirstRefused s rings w → v ≡ w
+first-one : (s : SketchTerm) (rings : List Bool) (v w : ℕ) → IsFirstRefused s rings v → IsFirstRefused s rings w → v ≡ w
 first-one s rings v w p q =
     elim (cases_lt p.0 q.0) [
       | inl l ↦ absurd (q.5 p.0 p.1 l p.2 p.3)
@@ -118,7 +118,7 @@ first-one s rings v w p q =
       ]
     ]
 
-refused-one : OneRings → (s : Drawing) (v w : ℕ) → IsRefusedAt s v → IsRefusedAt s w → v ≡ w
+refused-one : OneRings → (s : SketchTerm) (v w : ℕ) → IsRefusedAt s v → IsRefusedAt s w → v ≡ w
 refused-one lists s v w p q =
     let same = lists (sketch_ends s) p.0 q.0 p.1 q.1 in
     first-one s p.0 v w p.2 (subst (λ r. IsFirstRefused s r w) (sym same) q.2)
@@ -132,8 +132,8 @@ structure-one trees lists text m n p q =
 data Way (text : List ℕ) (a : Result Molecule TextFault) : Type 0 where
   short : a ≡ Err NoMemory → Way text a
   unread : (e : SmilesFault) → e ≢ smiles.NoMemory → a ≡ Err (Smiles e) → IsReading text (Err e) → Way text a
-  made : (s : Drawing) (m : Molecule) → a ≡ Ok m → IsReading text (Ok s) → IsMeant (prepared s) m → Way text a
-  refused : (s : Drawing) (w : ℕ) → a ≡ Err (Smiles (smiles.Aromatic w)) → IsReading text (Ok s) → IsRefusedAt (prepared s) w → Way text a
+  made : (s : SketchTerm) (m : Molecule) → a ≡ Ok m → IsReading text (Ok s) → IsMeant (prepared s) m → Way text a
+  refused : (s : SketchTerm) (w : ℕ) → a ≡ Err (Smiles (smiles.Aromatic w)) → IsReading text (Ok s) → IsRefusedAt (prepared s) w → Way text a
 
 way-of : (text : List ℕ) (a : Result Molecule TextFault) → IsStructure text a → Way text a
 way-of text (Ok m) h = made h.0 m refl h.1 h.2

@@ -9,7 +9,7 @@ use Rattle.chem_core.specs.declared.sketch.SketchAtom.{SketchAtom}
 use Rattle.chem_core.specs.declared.sketch.SketchBond.{SketchBond}
 use Rattle.chem_core.specs.declared.sketch.SketchKind.{SketchKind}
 use Rattle.chem_core.specs.declared.sketch.SketchKind.TheVariants.{Unwritten, Single, Double, Triple, Quad, Colon}
-use Rattle.chem_core.specs.Drawing.{Drawing}
+use Rattle.chem_core.specs.Sketch.{SketchTerm}
 use Rattle.chem_core.specs.Molecule.{Molecule}
 
 -- a bond that is not aromatic keeps its order; without a symbol, or with `:`, it is single
@@ -49,5 +49,5 @@ abbrev pub meant_bonds : List Bool → List SketchBond → List Bond
 meant_bonds aromatic bonds = map (λ p. meant_bond (slice_index_or aromatic p.0 false) p.1) (enumerate_from 0 bonds)
 
 -- the sketch with these aromatic atoms and bonds, and these valences
-abbrev pub meant : Drawing → List Bool → List Bool → List ℕ → Molecule
+abbrev pub meant : SketchTerm → List Bool → List Bool → List ℕ → Molecule
 meant s atoms bonds valences = record { atoms = meant_atoms atoms valences s.atoms; bonds = meant_bonds bonds s.bonds }

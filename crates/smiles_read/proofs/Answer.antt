@@ -7,7 +7,7 @@ use Rattle.std.specs.List.{All, AllByRecursion}
 use Rattle.std.specs.Option.{IfSome, option_and_then, option_map}
 use Rattle.chem_core.specs.declared.sketch.SketchAtom.{SketchAtom}
 use Rattle.chem_core.specs.declared.sketch.SketchBond.{SketchBond}
-use Rattle.chem_core.specs.Drawing.{Drawing}
+use Rattle.chem_core.specs.Sketch.{SketchTerm}
 use Rattle.chem_core.specs.Graph.{JoinsAt, degree}
 use Rattle.chem_core.specs.Sound.{IsSketchAtom, IsSound}
 use Rattle.smiles_read.specs.declared.pairs.Opening.{Opening}
@@ -21,7 +21,7 @@ use Rattle.smiles_read.proofs.Pairing.{agree, all_weaker}
 abbrev start : Pairing
 start = record { openings = []; bonds = [] }
 
-abbrev drawn : Tree → Option Pairing → Option Drawing
+abbrev drawn : Tree → Option Pairing → Option SketchTerm
 drawn tree q = option_map (λ bonds. record { atoms = atoms_from 0 (placed_nodes tree); bonds = bonds }) (option_and_then bonds_if_closed q)
 
 closed_test : (n : ℕ) → n ≡ 0 → (n == 0) ≡ true
@@ -37,13 +37,13 @@ drawn_none : (tree : Tree) (clash : Bool) (os : List Opening) (bs : List SketchB
 drawn_none tree true os bs h = refl
 drawn_none tree false os bs (inl e) = absurd (cc)
 drawn_none tree false os bs (inr e) =
-    ap (λ b. option_map (λ bonds. (let d : Drawing = record { atoms = atoms_from 0 (placed_nodes tree); bonds = bonds } in d)) (cond b (Some bs) None)) (open_test (length os) e)
+    ap (λ b. option_map (λ bonds. (let d : SketchTerm = record { atoms = atoms_from 0 (placed_nodes tree); bonds = bonds } in d)) (cond b (Some bs) None)) (open_test (length os) e)
 
 drawn_some : (tree : Tree) (clash : Bool) (os : List Opening) (bs : List SketchBond) → clash ≡ false → length os ≡ 0
     → drawn tree (unless clash os bs) ≡ Some (record { atoms = atoms_from 0 (placed_nodes tree); bonds = bs })
 drawn_some tree true os bs e l = absurd (cc)
 drawn_some tree false os bs e l =
-    ap (λ b. option_map (λ bonds. (let d : Drawing = record { atoms = atoms_from 0 (placed_nodes tree); bonds = bonds } in d)) (cond b (Some bs) None)) (closed_test (length os) l)
+    ap (λ b. option_map (λ bonds. (let d : SketchTerm = record { atoms = atoms_from 0 (placed_nodes tree); bonds = bonds } in d)) (cond b (Some bs) None)) (closed_test (length os) l)
 
 pub ring_fault : (text : List ℕ) (reader : Reader) → IsTreeRead text reader → (reader.pairs.clash ≡ true) ⊎ (1 ≤ length reader.pairs.openings.items)
     → (tree : Tree) × IsTreeOf text tree × (sketch_of tree ≡ None)
@@ -51,7 +51,7 @@ ring_fault text reader t h =
     (t.tree, t.is, ap (λ q. drawn t.tree q) (sym t.pairing) ∙ drawn_none t.tree reader.pairs.clash reader.pairs.openings.items reader.pairs.bonds.items h)
 
 -- the sketch that is read
-abbrev pub drawing_of : Reader → Drawing
+abbrev pub drawing_of : Reader → SketchTerm
 drawing_of reader = record { atoms = reader.atoms.items; bonds = reader.pairs.bonds.items }
 
 pub record Answered (text : List ℕ) (reader : Reader) : Type 0 where
@@ -68,7 +68,7 @@ answered text reader t e l =
       tree = t.tree;
       is = t.is;
       sketch = ap (λ q. drawn t.tree q) (sym t.pairing) ∙ drawn_some t.tree reader.pairs.clash reader.pairs.openings.items reader.pairs.bonds.items e l
-          ∙ ap (λ w. Some (let r : Drawing = record { atoms = w; bonds = reader.pairs.bonds.items } in r)) (sym t.atoms);
+          ∙ ap (λ w. Some (let r : SketchTerm = record { atoms = w; bonds = reader.pairs.bonds.items } in r)) (sym t.atoms);
       within = λ s. let k = s.depth in record { depth = omega arith; atoms = s.atoms; bonds = s.bonds; neighbours = s.neighbours };
       small = λ s. let k = s.depth in record { depth = omega arith; atoms = s.atoms; bonds = s.bonds; neighbours = s.neighbours };
     }

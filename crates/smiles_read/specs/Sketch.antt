@@ -5,7 +5,7 @@ use Rattle.chem_core.specs.declared.sketch.SketchAtom.{SketchAtom}
 use Rattle.chem_core.specs.declared.sketch.SketchBond.{SketchBond}
 use Rattle.chem_core.specs.declared.sketch.SketchKind.{SketchKind}
 use Rattle.chem_core.specs.declared.sketch.SketchKind.TheVariants as kinds
-use Rattle.chem_core.specs.Drawing.{Drawing}
+use Rattle.chem_core.specs.Sketch.{SketchTerm}
 use Rattle.smiles_read.specs.declared.pairs.Opening.{Opening}
 use Rattle.smiles_read.specs.Atom.{atom_of}
 use Rattle.smiles_read.specs.Tree.{BondText, minus, equals, hash, dollar, colon, slash, backslash, RingNumber, digit, percent, RingText, Node, Joint, bonded, dotted, Tail, stop, next, branch, Tree}
@@ -132,7 +132,7 @@ abbrev pub bonds_if_closed : Pairing → Option (List SketchBond)
 bonds_if_closed p = if length p.openings == 0 then Some p.bonds else None
 
 -- the sketch, unless the ring numbers do not pair
-abbrev pub sketch_of : Tree → Option Drawing
+abbrev pub sketch_of : Tree → Option SketchTerm
 sketch_of tree =
     option_map (λ bonds. record { atoms = atoms_from 0 (placed_nodes tree); bonds = bonds })
     (option_and_then bonds_if_closed (nodes_read 0 (placed_nodes tree) (record { openings = []; bonds = [] })))

@@ -1,7 +1,7 @@
 //! SMILES, read into sketches.
 
 ghost use Rattle.std.specs.Prelude.{◌≡◌, ◌⊎◌, ℕ, ◌≤◌, List, length, All, AllPairs, Some, None, false, true, IfOk, IfErr, IsTrue, ◌↔◌, IsErrOf, OnOk};
-ghost use Rattle.chem_core.specs.Drawing.{Drawing};
+ghost use Rattle.chem_core.specs.Sketch.{SketchTerm};
 ghost use Rattle.chem_core.specs.Graph.{degree, Ends};
 ghost use Rattle.chem_core.specs.Sound.{IsSound, sketch_ends};
 ghost use Rattle.smiles_read.specs.Tree.{Tree, IsTreeOf, depth_of};

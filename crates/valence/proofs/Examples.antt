@@ -12,7 +12,7 @@ use Rattle.chem_core.specs.declared.sketch.SketchAtom.{SketchAtom}
 use Rattle.chem_core.specs.declared.sketch.SketchBond.{SketchBond}
 use Rattle.chem_core.specs.declared.sketch.Fill.{Fill}
 use Rattle.chem_core.specs.declared.sketch.Fill.TheVariants.{Given, Organic, Table, Fixed}
-use Rattle.chem_core.specs.Drawing.{Drawing}
+use Rattle.chem_core.specs.Sketch.{SketchTerm}
 use Rattle.chem_core.specs.Sound.{IsSound, IsSketchAtom, IsFill, ends_among}
 use Rattle.valence.specs.Small.{is_small, is_small_atom, is_small_charge, is_small_fill, are_small_bonds, joins_same}
 use Rattle.valence.proofs.Staying.{Apart, once-from_apart}
@@ -74,7 +74,7 @@ bonds-valid n (b ∷ bs) h =
       AllPairs-cons Apart b bs (λ k d l. apart-by_test b (get_or bs k d) (later k d l)) rest.1,
     )
 
-pub small-sound : (s : Drawing) → is_small s.atoms s.bonds ≡ true → IsSound s × All (λ a. a.hydrogens ≤ 9) s.atoms
+pub small-sound : (s : SketchTerm) → is_small s.atoms s.bonds ≡ true → IsSound s × All (λ a. a.hydrogens ≤ 9) s.atoms
 small-sound s h =
     let p = and_parts (nat_le (length s.atoms) 999) _ h in
     let q = and_parts (nat_le (length s.bonds) 12) _ p.1 in

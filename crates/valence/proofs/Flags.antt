@@ -9,7 +9,7 @@ use Rattle.chem_core.specs.declared.sketch.SketchAtom.{SketchAtom}
 use Rattle.chem_core.specs.declared.sketch.SketchBond.{SketchBond}
 use Rattle.valence.specs.Suppressed.{is_plain_kind, is_bare_hydrogen, is_heavy, is_suppressed, atom_is, leads_to_heavy}
 use Rattle.valence.proofs.Sums.{degree_is}
-use Rattle.chem_core.specs.Drawing.{Drawing, ends_at}
+use Rattle.chem_core.specs.Sketch.{SketchTerm, ends_at}
 use Rattle.chem_core.specs.Graph.{degree}
 use Rattle.chem_core.specs.Sound.{sketch_ends}
 
@@ -76,13 +76,13 @@ leads-more atoms xs bonds i p q d e h inx iny ina inb apart isp isq before a =
     raised-at xs b.a b.b p q a inx iny apart ∙ ap (λ t. t || ((eqb b.a a && p) || (eqb b.b a && q))) (before a) ∙ ap (λ t. list_any (leads_to_heavy atoms a) (take i bonds) || t) new ∙ sym (list_any_more (leads_to_heavy atoms a) bonds i d h)
 
 -- whether the atom at a place goes, by how many neighbours it has and whether one is reached by a plain bond and no hydrogen
-pub suppressed-within : (s : Drawing) (a : ℕ) (d : SketchAtom) {n : ℕ} {leads : Bool} → a < length s.atoms → n ≡ count_by (ends_at a) s.bonds → leads ≡ list_any (leads_to_heavy s.atoms a) s.bonds → is_suppressed s a ≡ (is_bare_hydrogen (get_or s.atoms a d) && (eqb n 1 && leads))
+pub suppressed-within : (s : SketchTerm) (a : ℕ) (d : SketchAtom) {n : ℕ} {leads : Bool} → a < length s.atoms → n ≡ count_by (ends_at a) s.bonds → leads ≡ list_any (leads_to_heavy s.atoms a) s.bonds → is_suppressed s a ≡ (is_bare_hydrogen (get_or s.atoms a d) && (eqb n 1 && leads))
 suppressed-within s a d {n} {leads} h isn isl =
     ap (λ t. t && (eqb (degree (sketch_ends s) a) 1 && list_any (leads_to_heavy s.atoms a) s.bonds)) (atom_is-at is_bare_hydrogen s.atoms a d h)
     ∙ ap (λ k. is_bare_hydrogen (get_or s.atoms a d) && (eqb k 1 && list_any (leads_to_heavy s.atoms a) s.bonds)) (degree_is s.bonds a ∙ sym isn)
     ∙ ap (λ t. is_bare_hydrogen (get_or s.atoms a d) && (eqb n 1 && t)) (sym isl)
 
-pub known-more : (s : Drawing) (xs : List Bool) (i : ℕ) (v : Bool) → i < length xs → v ≡ is_suppressed s i → ((a : ℕ) → a < i → get_or xs a false ≡ is_suppressed s a) → (a : ℕ) → a < i + 1 → get_or (set xs i v) a false ≡ is_suppressed s a
+pub known-more : (s : SketchTerm) (xs : List Bool) (i : ℕ) (v : Bool) → i < length xs → v ≡ is_suppressed s i → ((a : ℕ) → a < i → get_or xs a false ≡ is_suppressed s a) → (a : ℕ) → a < i + 1 → get_or (set xs i v) a false ≡ is_suppressed s a
 known-more s xs i v within is before = below_more (λ a. get_or (set xs i v) a false ≡ is_suppressed s a) i
     (λ a h. let ne : a ≢ i = λ e. absurd (omega arith) in get_or-set_other xs i a v false ne ∙ before a h)
     (get_or-set_same xs i v false within ∙ is)
@@ -93,7 +93,7 @@ later-more xs i v before a h =
     get_or-set_other xs i a v false ne ∙ before a (omega arith)
 
 -- no atom past the last goes
-pub suppressed-past : (s : Drawing) (xs : List Bool) (n : ℕ) → length s.atoms ≤ n → ((a : ℕ) → a < n → get_or xs a false ≡ is_suppressed s a) → ((a : ℕ) → n ≤ a → get_or xs a false ≡ false) → (a : ℕ) → get_or xs a false ≡ is_suppressed s a
+pub suppressed-past : (s : SketchTerm) (xs : List Bool) (n : ℕ) → length s.atoms ≤ n → ((a : ℕ) → a < n → get_or xs a false ≡ is_suppressed s a) → ((a : ℕ) → n ≤ a → get_or xs a false ≡ false) → (a : ℕ) → get_or xs a false ≡ is_suppressed s a
 suppressed-past s xs n end known later a = elim (cases_lt a n) [
   | inl h ↦ known a h
   | inr h ↦

@@ -7,7 +7,7 @@ use Rattle.std.proofs.lemmas.List.FromFn.{length-enumerate_from, get_or-enumerat
 use Rattle.chem_core.specs.declared.sketch.SketchAtom.{SketchAtom}
 use Rattle.chem_core.specs.declared.sketch.Fill.{Fill}
 use Rattle.chem_core.specs.declared.sketch.Fill.TheVariants.{Given, Organic, Table, Fixed}
-use Rattle.chem_core.specs.Drawing.{Drawing}
+use Rattle.chem_core.specs.Sketch.{SketchTerm}
 use Rattle.chem_core.specs.Graph.{IsSimpleGraph}
 use Rattle.chem_core.specs.Sound.{IsSound, IsSketchAtom, IsFill, sketch_ends}
 use Rattle.valence.specs.Valence.{organic_valences, table_valences, anion_valences, cation_valences, bond_sum}
@@ -78,17 +78,17 @@ fill-more sums xs ys i h d within is counted =
     let new : record (get_or ys i d) { hydrogens = h } ≡ f (i, get_or xs i d) = ap (λ n. record (get_or ys i d) { hydrogens = n }) counted ∙ ap (filled_atom (get_or sums i 0)) same in
     ap (λ zs. set zs i (record (get_or ys i d) { hydrogens = h })) is ∙ ap (λ v. set (map f (enumerate_from 0 (take i xs)) ++ drop i xs) i v) new ∙ written-more f xs i d within
 
-length-filled : (s : Drawing) → length (filled s).atoms ≡ length s.atoms
+length-filled : (s : SketchTerm) → length (filled s).atoms ≡ length s.atoms
 length-filled s = length-map (enumerate_from 0 s.atoms) (λ p. filled_atom (bond_sum s p.0) p.1) ∙ length-enumerate_from 0 s.atoms
 
-filled-at : (s : Drawing) (k : ℕ) (d : SketchAtom) → k < length s.atoms → get_or (filled s).atoms k d ≡ filled_atom (bond_sum s k) (get_or s.atoms k d)
+filled-at : (s : SketchTerm) (k : ℕ) (d : SketchAtom) → k < length s.atoms → get_or (filled s).atoms k d ≡ filled_atom (bond_sum s k) (get_or s.atoms k d)
 filled-at s k d h =
     let f : ℕ × SketchAtom → SketchAtom = λ p. filled_atom (bond_sum s p.0) p.1 in
     let within : k < length (enumerate_from 0 s.atoms) = omega (arith, length-enumerate_from 0 s.atoms) in
     let z : 0 + k ≡ k = omega arith in
     get_or-map f (enumerate_from 0 s.atoms) k (0, d) d within ∙ ap f (get_or-enumerate_from 0 s.atoms k (0, d) h ∙ ap (λ n. (n, get_or s.atoms k d)) z)
 
-pub filled-few : (s : Drawing) → IsSound s → All (λ a. a.hydrogens ≤ 9) s.atoms → All (λ a. a.hydrogens ≤ 15) (filled s).atoms
+pub filled-few : (s : SketchTerm) → IsSound s → All (λ a. a.hydrogens ≤ 9) s.atoms → All (λ a. a.hydrogens ≤ 15) (filled s).atoms
 filled-few s sound few k d h =
     let within : k < length s.atoms = omega (arith, length-filled s) in
     rw (filled-at s k d within) (hydrogens_of-le _ _ _ (sound.each k d within).fill (few k d within))
@@ -104,7 +104,7 @@ with_hydrogens atom n old few = record {
   hydrogens = few;
 }
 
-pub filled-sound : (s : Drawing) → IsSound s → All (λ a. a.hydrogens ≤ 9) s.atoms → IsSound (filled s)
+pub filled-sound : (s : SketchTerm) → IsSound s → All (λ a. a.hydrogens ≤ 9) s.atoms → IsSound (filled s)
 filled-sound s sound few = record {
   graph = subst (λ n. IsSimpleGraph n (sketch_ends s)) (sym (length-filled s)) sound.graph;
   each = λ k d h.
@@ -116,7 +116,7 @@ filled-sound s sound few = record {
 }
 
 -- the atoms with the hydrogens of equal sums
-pub filled-by : (s : Drawing) (sums : List ℕ) → ((a : ℕ) → get_or sums a 0 ≡ bond_sum s a) → map (λ p. filled_atom (get_or sums p.0 0) p.1) (enumerate_from 0 s.atoms) ≡ (filled s).atoms
+pub filled-by : (s : SketchTerm) (sums : List ℕ) → ((a : ℕ) → get_or sums a 0 ≡ bond_sum s a) → map (λ p. filled_atom (get_or sums p.0 0) p.1) (enumerate_from 0 s.atoms) ≡ (filled s).atoms
 filled-by s sums h =
     let f : ℕ × SketchAtom → SketchAtom = λ p. filled_atom (get_or sums p.0 0) p.1 in
     let g : ℕ × SketchAtom → SketchAtom = λ p. filled_atom (bond_sum s p.0) p.1 in

@@ -15,7 +15,7 @@ use Rattle.std.proofs.lemmas.List.Sums.{sum_by-cons}
 use Rattle.chem_core.specs.declared.sketch.SketchAtom.{SketchAtom}
 use Rattle.chem_core.specs.declared.sketch.SketchBond.{SketchBond}
 use Rattle.chem_core.specs.declared.sketch.Fill.TheVariants.{Given}
-use Rattle.chem_core.specs.Drawing.{Drawing, ends_at}
+use Rattle.chem_core.specs.Sketch.{SketchTerm, ends_at}
 use Rattle.chem_core.specs.Graph.{degree}
 use Rattle.chem_core.specs.Sound.{IsSound, sketch_ends}
 use Rattle.valence.specs.Suppressed.{is_plain_kind, is_bare_hydrogen, atom_is, is_heavy, leads_to_heavy, is_suppressed, new_place, brings, stays, staying_atoms, staying_bonds, renumbered, gained, suppressed}
@@ -31,7 +31,7 @@ some_atom = record { number = 0; isotope = 0; charge = pos 0; lower = false; fil
 
 -- ---- the order
 
-pub order-stays : (s : Drawing) → IsStrictlyIncreasing (map (λ a. a.written) s.atoms) → IsStrictlyIncreasing (map (λ a. a.written) (suppressed s).atoms)
+pub order-stays : (s : SketchTerm) → IsStrictlyIncreasing (map (λ a. a.written) s.atoms) → IsStrictlyIncreasing (map (λ a. a.written) (suppressed s).atoms)
 order-stays s up k h =
     let xs : List SketchAtom = s.atoms in
     let w : SketchAtom → ℕ = λ a. a.written in
@@ -155,7 +155,7 @@ leads-ends xs y b h =
     ]
 
 -- an atom does not go if a bond of its leads to a hydrogen
-stays-by_bond : (s : Drawing) (y j : ℕ) (d : SketchBond) → j < length s.bonds → ends_at y (get_or s.bonds j d) ≡ true → (leads_to_heavy s.atoms y (get_or s.bonds j d) ≡ true → ⊥) → is_suppressed s y ≡ false
+stays-by_bond : (s : SketchTerm) (y j : ℕ) (d : SketchBond) → j < length s.bonds → ends_at y (get_or s.bonds j d) ≡ true → (leads_to_heavy s.atoms y (get_or s.bonds j d) ≡ true → ⊥) → is_suppressed s y ≡ false
 stays-by_bond s y j d h ends light = false_from_ne_true (is_suppressed s y) (λ going.
     let p = and_parts (atom_is is_bare_hydrogen s.atoms y) (eqb (degree (sketch_ends s) y) 1 && list_any (leads_to_heavy s.atoms y) s.bonds) going in
     let q = and_parts (eqb (degree (sketch_ends s) y) 1) (list_any (leads_to_heavy s.atoms y) s.bonds) p.1 in
@@ -184,7 +184,7 @@ both-stay goes b p q = and_from (not (goes b.a)) (not (goes b.b)) (ap not p) (ap
 abbrev KeepsBonds : (ℕ → Bool) → ℕ → List SketchBond → Type 0
 KeepsBonds goes x bonds = All (λ b. ends_at x b ≡ true → stays goes b ≡ true) bonds
 
-hydrogen-keeps : (s : Drawing) (x : ℕ) → IsSound s → is_suppressed s x ≡ false → is_heavy s.atoms x ≡ false → KeepsBonds (is_suppressed s) x s.bonds
+hydrogen-keeps : (s : SketchTerm) (x : ℕ) → IsSound s → is_suppressed s x ≡ false → is_heavy s.atoms x ≡ false → KeepsBonds (is_suppressed s) x s.bonds
 hydrogen-keeps s x sound stay light j d h ends =
     let b : SketchBond = get_or s.bonds j d in
     let range = bond-in_graph s.bonds (length s.atoms) j d sound.graph h in
@@ -278,10 +278,10 @@ heavy-same goes gain xs y h p =
     let within : new_place goes y < length new = omega (arith, length-staying goes gain xs, new_place-lt goes y (length xs) p h) in
     atom_is-at test new (new_place goes y) some_atom within ∙ ap test (staying-at goes gain xs y some_atom h p) ∙ sym (atom_is-at test xs y some_atom h)
 
-none-at : (s : Drawing) (x : ℕ) → IsSound s → x < length s.atoms → is_suppressed s x ≡ false → is_suppressed (suppressed s) (new_place (is_suppressed s) x) ≡ false
+none-at : (s : SketchTerm) (x : ℕ) → IsSound s → x < length s.atoms → is_suppressed s x ≡ false → is_suppressed (suppressed s) (new_place (is_suppressed s) x) ≡ false
 none-at s x sound h p =
     let g : ℕ → Bool = is_suppressed s in
-    let t : Drawing = suppressed s in
+    let t : SketchTerm = suppressed s in
     let place : ℕ → ℕ = new_place g in
     let atom : SketchAtom = get_or s.atoms x some_atom in
     let within : place x < length t.atoms = omega (arith, length-staying g (gained s) s.atoms, new_place-lt g x (length s.atoms) p h) in
@@ -305,9 +305,9 @@ none-at s x sound h p =
           ∙ p
     ]
 
-none-left : (s : Drawing) → IsSound s → (a : ℕ) → is_suppressed (suppressed s) a ≡ false
+none-left : (s : SketchTerm) → IsSound s → (a : ℕ) → is_suppressed (suppressed s) a ≡ false
 none-left s sound a =
-    let t : Drawing = suppressed s in
+    let t : SketchTerm = suppressed s in
     elim (cases_lt a (length t.atoms)) [
       | inl h ↦
           let o = place-of (is_suppressed s) a (length s.atoms) (omega (arith, length-staying (is_suppressed s) (gained s) s.atoms)) in
@@ -350,7 +350,7 @@ bonds-none : (bs : List SketchBond) → staying_bonds none (λ a. a) bs ≡ bs
 bonds-none [] = refl
 bonds-none (b ∷ bs) = ap (λ cs. b ∷ cs) (bonds-none bs)
 
-suppressed-none : (t : Drawing) → ((a : ℕ) → is_suppressed t a ≡ false) → suppressed t ≡ t
+suppressed-none : (t : SketchTerm) → ((a : ℕ) → is_suppressed t a ≡ false) → suppressed t ≡ t
 suppressed-none t h =
     let g : is_suppressed t ≡ none = fun_ext h in
     let n : gained t ≡ (λ (a : ℕ). 0) = fun_ext (λ (a : ℕ). ap (λ (f : ℕ → Bool). count_by (brings f a) t.bonds) g ∙ gain-none a t.bonds) in
@@ -360,7 +360,7 @@ suppressed-none t h =
     (ap (λ (f : ℕ → Bool). staying_bonds f (new_place f) t.bonds) g ∙ ap (λ (f : ℕ → ℕ). staying_bonds none f t.bonds) p ∙ bonds-none t.bonds)
 
 -- where no atom is hydrogen without isotope and charge, none goes
-pub suppressed-no_hydrogen : (s : Drawing) → list_any is_bare_hydrogen s.atoms ≡ false → suppressed s ≡ s
+pub suppressed-no_hydrogen : (s : SketchTerm) → list_any is_bare_hydrogen s.atoms ≡ false → suppressed s ≡ s
 suppressed-no_hydrogen s without = suppressed-none s (λ a.
     let bare : atom_is is_bare_hydrogen s.atoms a ≡ false = elim (cases_lt a (length s.atoms)) [
       | inl h ↦ atom_is-at is_bare_hydrogen s.atoms a some_atom h ∙ false_from_ne_true (is_bare_hydrogen (get_or s.atoms a some_atom)) (λ yes. false≢true (sym without ∙ list_any_at is_bare_hydrogen s.atoms a some_atom h yes))
@@ -368,5 +368,5 @@ suppressed-no_hydrogen s without = suppressed-none s (λ a.
     ] in
     ap (λ t. t && (eqb (degree (sketch_ends s) a) 1 && list_any (leads_to_heavy s.atoms a) s.bonds)) bare)
 
-pub twice-is-once : (s : Drawing) → IsSound s → suppressed (suppressed s) ≡ suppressed s
+pub twice-is-once : (s : SketchTerm) → IsSound s → suppressed (suppressed s) ≡ suppressed s
 twice-is-once s sound = suppressed-none (suppressed s) (none-left s sound)

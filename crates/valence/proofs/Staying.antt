@@ -12,7 +12,7 @@ use Rattle.std.proofs.Math.Path.{fun_ext}
 use Rattle.chem_core.specs.declared.sketch.SketchAtom.{SketchAtom}
 use Rattle.chem_core.specs.declared.sketch.SketchBond.{SketchBond}
 use Rattle.chem_core.specs.declared.sketch.SketchKind.TheVariants.{Unwritten}
-use Rattle.chem_core.specs.Drawing.{Drawing, ends_at}
+use Rattle.chem_core.specs.Sketch.{SketchTerm, ends_at}
 use Rattle.chem_core.specs.Graph.{JoinsAt, IsSimpleGraph}
 use Rattle.chem_core.specs.Sound.{IsSound, IsSketchAtom, ends_among, sketch_ends}
 use Rattle.valence.specs.Suppressed.{is_suppressed, new_place, brings, stays, staying_atoms, staying_bonds, renumbered, gained, suppressed}
@@ -207,10 +207,10 @@ graph-stays goes bonds n graph =
       once = once-from_apart new (apart-stay goes bonds (apart-from_once bonds n graph));
     }
 
-gained-le : (s : Drawing) → IsSound s → (a : ℕ) → gained s a ≤ 12
+gained-le : (s : SketchTerm) → IsSound s → (a : ℕ) → gained s a ≤ 12
 gained-le s sound a = omega (arith, brought-le (is_suppressed s) a s.bonds, degree_is s.bonds a, sound.graph.few_neighbours a)
 
-pub suppressed-sound : (s : Drawing) → IsSound s → All (λ a. a.hydrogens ≤ 15) s.atoms → IsSound (suppressed s)
+pub suppressed-sound : (s : SketchTerm) → IsSound s → All (λ a. a.hydrogens ≤ 15) s.atoms → IsSound (suppressed s)
 suppressed-sound s sound few = record {
   graph = subst (λ n. IsSimpleGraph n (sketch_ends (suppressed s))) (sym (length-staying (is_suppressed s) (gained s) s.atoms)) (graph-stays (is_suppressed s) s.bonds (length s.atoms) sound.graph);
   each = atoms-stay (is_suppressed s) (gained s) s.atoms sound.each few (gained-le s sound);
@@ -239,19 +239,19 @@ new_place-front goes n a h = new_place-agree (gone (take n goes)) (gone goes) a 
 abbrev pub number_at : List ℕ → ℕ → ℕ
 number_at xs k = get_or xs k 0
 
-pub same_drawing : (xs ys : List SketchAtom) (ps qs : List SketchBond) → xs ≡ ys → ps ≡ qs → ◌≡◌ {A = Drawing} (record { atoms = xs; bonds = ps }) (record { atoms = ys; bonds = qs })
+pub same_drawing : (xs ys : List SketchAtom) (ps qs : List SketchBond) → xs ≡ ys → ps ≡ qs → ◌≡◌ {A = SketchTerm} (record { atoms = xs; bonds = ps }) (record { atoms = ys; bonds = qs })
 same_drawing xs ys ps qs e f = λ i. record { atoms = e i; bonds = f i }
 
-pub bonds-in_range : (s : Drawing) → IsSound s → All (λ b. (b.a < 999) × (b.b < 999)) s.bonds
+pub bonds-in_range : (s : SketchTerm) → IsSound s → All (λ b. (b.a < 999) × (b.b < 999)) s.bonds
 bonds-in_range s sound k d h =
     let at = bond-in_graph s.bonds (length s.atoms) k d sound.graph h in
     let few = sound.graph.few_atoms in
     (omega (arith, at.0), omega (arith, at.1))
 
-pub few_at : (s : Drawing) → IsSound s → (a : ℕ) → count_by (ends_at a) s.bonds ≤ 12
+pub few_at : (s : SketchTerm) → IsSound s → (a : ℕ) → count_by (ends_at a) s.bonds ≤ 12
 few_at s sound a = omega (arith, degree_is s.bonds a, sound.graph.few_neighbours a)
 
-pub suppressed-is : (s : Drawing) (goes : List Bool) (gains places : List ℕ) (atoms : List SketchAtom) (bonds : List SketchBond) → IsSound s → ((a : ℕ) → get_or goes a false ≡ is_suppressed s a) → ((a : ℕ) → get_or gains a 0 ≡ count_by (brings (gone goes) a) s.bonds) → ((a : ℕ) → a < length s.atoms → get_or places a 0 ≡ new_place (gone goes) a) → atoms ≡ staying_atoms (gone goes) (number_at gains) s.atoms → bonds ≡ staying_bonds (gone goes) (number_at places) s.bonds → ◌≡◌ {A = Drawing} (record { atoms = atoms; bonds = bonds }) (suppressed s)
+pub suppressed-is : (s : SketchTerm) (goes : List Bool) (gains places : List ℕ) (atoms : List SketchAtom) (bonds : List SketchBond) → IsSound s → ((a : ℕ) → get_or goes a false ≡ is_suppressed s a) → ((a : ℕ) → get_or gains a 0 ≡ count_by (brings (gone goes) a) s.bonds) → ((a : ℕ) → a < length s.atoms → get_or places a 0 ≡ new_place (gone goes) a) → atoms ≡ staying_atoms (gone goes) (number_at gains) s.atoms → bonds ≡ staying_bonds (gone goes) (number_at places) s.bonds → ◌≡◌ {A = SketchTerm} (record { atoms = atoms; bonds = bonds }) (suppressed s)
 suppressed-is s goes gains places atoms bonds sound going gaining placing es fs =
     let g : gone goes ≡ is_suppressed s = fun_ext going in
     let n : number_at gains ≡ gained s = fun_ext (λ (a : ℕ). gaining a ∙ ap (λ (f : ℕ → Bool). count_by (brings f a) s.bonds) g) in

@@ -9,7 +9,7 @@ use Rattle.chem_core.specs.declared.sketch.SketchKind.{SketchKind}
 use Rattle.chem_core.specs.declared.sketch.SketchKind.TheVariants.{Unwritten, Single, Double, Triple, Quad, Colon}
 use Rattle.chem_core.specs.Graph.{degree, IsSimpleGraph}
 use Rattle.chem_core.specs.Sound.{ends_among}
-use Rattle.chem_core.specs.Drawing.{ends_at, order_of}
+use Rattle.chem_core.specs.Sketch.{ends_at, order_of}
 use Rattle.valence.specs.Valence.{adds}
 use Rattle.valence.specs.Suppressed.{brings}
 

@@ -4,7 +4,7 @@ use Rattle.std.specs.List.{enumerate_from}
 use Rattle.chem_core.specs.declared.sketch.SketchAtom.{SketchAtom}
 use Rattle.chem_core.specs.declared.sketch.Fill.{Fill}
 use Rattle.chem_core.specs.declared.sketch.Fill.TheVariants.{Given, Organic, Table, Fixed}
-use Rattle.chem_core.specs.Drawing.{Drawing}
+use Rattle.chem_core.specs.Sketch.{SketchTerm}
 use Rattle.valence.specs.Valence.{organic_valences, table_valences, bond_sum}
 
 -- what the least of these valences that is not below the sum leaves, and 0 where there is none
@@ -28,5 +28,5 @@ abbrev pub filled_atom : ℕ → SketchAtom → SketchAtom
 filled_atom total atom = record atom { hydrogens = hydrogens_of atom.fill atom total }
 
 -- each atom with its hydrogens, and the bonds as they were
-abbrev pub filled : Drawing → Drawing
+abbrev pub filled : SketchTerm → SketchTerm
 filled s = record { atoms = map (λ p. filled_atom (bond_sum s p.0) p.1) (enumerate_from 0 s.atoms); bonds = s.bonds }

@@ -6,7 +6,7 @@ use Rattle.chem_core.specs.declared.sketch.SketchAtom.{SketchAtom}
 use Rattle.chem_core.specs.declared.sketch.SketchBond.{SketchBond}
 use Rattle.chem_core.specs.declared.sketch.SketchKind.{SketchKind}
 use Rattle.chem_core.specs.declared.sketch.SketchKind.TheVariants.{Unwritten, Single, Double, Triple, Quad, Colon}
-use Rattle.chem_core.specs.Drawing.{Drawing}
+use Rattle.chem_core.specs.Sketch.{SketchTerm}
 use Rattle.chem_core.specs.Graph.{degree}
 use Rattle.chem_core.specs.Sound.{sketch_ends}
 
@@ -36,7 +36,7 @@ abbrev pub leads_to_heavy : List SketchAtom → ℕ → SketchBond → Bool
 leads_to_heavy atoms a b = is_plain_kind b.kind && (((b.a == a) && is_heavy atoms b.b) || ((b.b == a) && is_heavy atoms b.a))
 
 -- The atom is taken away: hydrogen without isotope and charge, whose only bond is plain and leads to an atom that is no hydrogen.
-abbrev pub is_suppressed : Drawing → ℕ → Bool
+abbrev pub is_suppressed : SketchTerm → ℕ → Bool
 is_suppressed s a =
     atom_is is_bare_hydrogen s.atoms a
     && ((degree (sketch_ends s) a == 1) && list_any (leads_to_heavy s.atoms a) s.bonds)
@@ -66,11 +66,11 @@ abbrev pub staying_bonds : (ℕ → Bool) → (ℕ → ℕ) → List SketchBond 
 staying_bonds goes place bonds = map (renumbered place) (filter (stays goes) bonds)
 
 -- how many of its neighbours are taken away
-abbrev pub gained : Drawing → ℕ → ℕ
+abbrev pub gained : SketchTerm → ℕ → ℕ
 gained s a = count_by (brings (is_suppressed s) a) s.bonds
 
 -- what stays: atoms with the hydrogens that they gain, and bonds
-abbrev pub suppressed : Drawing → Drawing
+abbrev pub suppressed : SketchTerm → SketchTerm
 suppressed s = record {
   atoms = staying_atoms (is_suppressed s) (gained s) s.atoms;
   bonds = staying_bonds (is_suppressed s) (new_place (is_suppressed s)) s.bonds;

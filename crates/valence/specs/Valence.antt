@@ -1,7 +1,7 @@
 -- The normal valences, and what the bonds of an atom sum to.
 use Rattle.std.specs.Prelude.{ℕ, zero, suc, ◌==◌, ◌||◌, List, [], ◌∷◌, sum_by, if◌then◌else◌, ℤ, pos, negsuc}
 use Rattle.chem_core.specs.declared.sketch.SketchBond.{SketchBond}
-use Rattle.chem_core.specs.Drawing.{Drawing, ends_at, order_of}
+use Rattle.chem_core.specs.Sketch.{SketchTerm, ends_at, order_of}
 
 -- the valences of the organic subset, ascending (OpenSMILES 1.0, section 3.1.5); none for every other element
 abbrev pub organic_valences : ℕ → List ℕ
@@ -43,5 +43,5 @@ abbrev pub adds : ℕ → SketchBond → ℕ
 adds a b = if ends_at a b then order_of b.kind else 0
 
 -- the sum of the bonds that end at an atom
-abbrev pub bond_sum : Drawing → ℕ → ℕ
+abbrev pub bond_sum : SketchTerm → ℕ → ℕ
 bond_sum s a = sum_by (adds a) s.bonds

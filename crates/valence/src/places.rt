@@ -1,7 +1,7 @@
 //! Which atoms go, and where the others move: one list for each fact, by the atom's place.
 ghost use Rattle.std.specs.Prelude.{◌≡◌, ◌≢◌, ◌<◌, ◌≤◌, ◌==◌, ◌&&◌, not, ℕ, length, count_by, slice_index, slice_index_or, false, All};
 ghost use Rattle.std.specs.List.{list_any};
-ghost use Rattle.chem_core.specs.Drawing.{ends_at};
+ghost use Rattle.chem_core.specs.Sketch.{ends_at};
 ghost use Rattle.valence.specs.Suppressed.{is_plain_kind, is_bare_hydrogen, leads_to_heavy, is_suppressed, new_place, brings};
 
 use chem_core::{SketchAtom, SketchBond, SketchKind};

@@ -1,7 +1,7 @@
 use Rattle.std.proofs.Common.{◌≡◌, ◌≤◌, ◌⊎◌, ℕ, Some, Bool, true, false, ◌==◌, length, inl, inr, sym, ◌∙◌, ap, subst, arith}
 use Rattle.std.proofs.lemmas.Bool.Decides.{nat_tests}
 use Rattle.std.specs.List.{All}
-use Rattle.chem_core.specs.Drawing.{Drawing}
+use Rattle.chem_core.specs.Sketch.{SketchTerm}
 use Rattle.chem_core.specs.Sound.{IsSound}
 use Rattle.smiles_read.specs.Reading.{IsWithinLimits}
 use Rattle.smiles_read.proofs.Answer.{ring_fault, answered, reader_ends, reader_hydrogens, reader_sound, drawing_of}
@@ -33,12 +33,12 @@ returns-clause-reading c =
     let closed : length openings.items ≡ 0 = omega arith in
     let a = answered c.args.text.now reader c.in_ok-reader.ensures.found c.if-reader.false closed in
     let within = a.within (c.in_ok-is_small.ensures.0 c.if-not-branch.false) in
-    let P : Drawing → Type 0 = λ d. IsWithinLimits a.tree d in
+    let P : SketchTerm → Type 0 = λ d. IsWithinLimits a.tree d in
     (c.if-text-gt-MOST_BYTES.false, a.tree, a.is, a.sketch ∙ ap (λ d. Some d) (sym c.finish.ensures), subst P (sym c.finish.ensures) within)
 
 pub returns-clause-sound : goal.returns-clause-sound
 returns-clause-sound c =
-    let P : Drawing → Type 0 = λ d. IsSound d in
+    let P : SketchTerm → Type 0 = λ d. IsSound d in
     subst P (sym c.finish.ensures) (reader_sound c.in_ok-reader.reader c.in_ok-reader.ensures.keeps c.if-reader.false (c.in_ok-is_small.ensures.0 c.if-not-branch.false))
 
 pub returns-then-reader-clause-reading : goal.returns-then-reader-clause-reading
@@ -58,5 +58,5 @@ is_small-requires c = reader_ends c.in_ok-reader.reader c.in_ok-reader.ensures.k
 
 pub returns-clause-few_hydrogens : goal.returns-clause-few_hydrogens
 returns-clause-few_hydrogens c =
-    let P : Drawing → Type 0 = λ d. All (λ a. a.hydrogens ≤ 9) d.atoms in
+    let P : SketchTerm → Type 0 = λ d. All (λ a. a.hydrogens ≤ 9) d.atoms in
     subst P (sym c.finish.ensures) (reader_hydrogens c.in_ok-reader.reader c.in_ok-reader.ensures.keeps)

@@ -1,6 +1,6 @@
 use Rattle.std.proofs.Common.{ℕ, cond, refl}
 use Rattle.chem_core.specs.declared.sketch.SketchBond.{SketchBond}
-use Rattle.chem_core.specs.Drawing.{ends_at}
+use Rattle.chem_core.specs.Sketch.{ends_at}
 use Rattle.valence.proofs.Sums.{zeros, tally-first-fits, tally-second-fits, ends-at}
 use Rattle.valence.proofs.places.degrees.Goals as goal
 

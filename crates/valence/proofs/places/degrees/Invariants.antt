@@ -1,5 +1,5 @@
 use Rattle.std.proofs.Common.{◌≡◌, ℕ, length, take, slice_index, count_by}
-use Rattle.chem_core.specs.Drawing.{ends_at}
+use Rattle.chem_core.specs.Sketch.{ends_at}
 use Rattle.valence.proofs.places.degrees.Given as goal
 
 abbrev pub invariant-loop-bond : goal.invariant-loop-bond

@@ -1,7 +1,7 @@
 use Rattle.std.proofs.Common.{ℕ, Bool, false, ◌≤◌, List, cond, count_by, get_or, refl, arith, ap, ◌∙◌}
 use Rattle.std.proofs.lemmas.List.{length-set}
 use Rattle.chem_core.specs.declared.sketch.SketchBond.{SketchBond}
-use Rattle.chem_core.specs.Drawing.{ends_at}
+use Rattle.chem_core.specs.Sketch.{ends_at}
 use Rattle.valence.specs.Suppressed.{brings}
 use Rattle.valence.proofs.Sums.{zeros, tally-first-fits, tally-second-fits, tally-more, brings-at, brought-le}
 use Rattle.valence.proofs.places.gains.Goals as goal

@@ -1,6 +1,6 @@
 use Rattle.std.proofs.Common.{refl, arith, sym, ◌∙◌}
 use Rattle.std.proofs.lemmas.List.{length-set}
-use Rattle.chem_core.specs.Drawing.{Drawing}
+use Rattle.chem_core.specs.Sketch.{SketchTerm}
 use Rattle.valence.proofs.Flags.{unset, known-more, later-more, suppressed-within, suppressed-past}
 use Rattle.valence.proofs.places.suppressed_atoms.Goals as goal
 
@@ -9,7 +9,7 @@ loop-place-init c = record { long = refl; known = λ a h. absurd (omega arith); 
 
 pub loop-place-preserved : goal.loop-place-preserved
 loop-place-preserved c =
-    let s : Drawing = record { atoms = c.args.atoms.now; bonds = c.args.bonds.now } in
+    let s : SketchTerm = record { atoms = c.args.atoms.now; bonds = c.args.bonds.now } in
     let within = c.loop-place-test.true in
     let few = c.requires.few in
     let long = c.loop-place.invariant.long in
@@ -22,6 +22,6 @@ loop-place-preserved c =
 
 pub returns : goal.returns
 returns c =
-    let s : Drawing = record { atoms = c.args.atoms.now; bonds = c.args.bonds.now } in
+    let s : SketchTerm = record { atoms = c.args.atoms.now; bonds = c.args.bonds.now } in
     let end = c.loop-place-test.false in
     suppressed-past s c.loop-place.goes c.loop-place.place end c.loop-place.invariant.known c.loop-place.invariant.later

@@ -1,6 +1,6 @@
 use Rattle.std.proofs.Common.{◌≡◌, List, length, take, count_by, arith, rules, sym, ap, subst, ◌∙◌}
 use Rattle.std.proofs.lemmas.List.{length-take-le}
-use Rattle.chem_core.specs.Drawing.{Drawing}
+use Rattle.chem_core.specs.Sketch.{SketchTerm}
 use Rattle.chem_core.specs.Sound.{IsSound}
 use Rattle.chem_core.specs.declared.sketch.SketchBond.{SketchBond}
 use Rattle.valence.specs.Suppressed.{is_suppressed, brings, staying_atoms, staying_bonds}
@@ -51,7 +51,7 @@ keep_bonds-requires c =
 
 pub returns-clause-suppressed : goal.returns-clause-suppressed
 returns-clause-suppressed c =
-    let s : Drawing = c.args.sketch.now in
+    let s : SketchTerm = c.args.sketch.now in
     let goes = c.suppressed_atoms-goes.result in
     let atoms = ap (λ s. s.atoms) c.sketch.view_is in
     let bonds = ap (λ s. s.bonds) c.sketch.view_is in
@@ -61,7 +61,7 @@ returns-clause-suppressed c =
     let long : length goes ≡ 999 = search rules in
     let front : length (take c.len.result goes) ≡ c.len.result = length-take-le c.len.result goes (omega arith) in
     suppressed-is s goes c.gains-gains.result c.new_places-places.result _ _ c.requires.sound
-    (λ a. c.suppressed_atoms-goes.ensures a ∙ ap (λ (t : Drawing). is_suppressed t a) drawing)
+    (λ a. c.suppressed_atoms-goes.ensures a ∙ ap (λ (t : SketchTerm). is_suppressed t a) drawing)
     (λ a. c.gains-gains.ensures a ∙ ap (λ (bs : List SketchBond). count_by (brings (gone goes) a) bs) (c.deref-3.ensures.value ∙ bonds))
     (λ a h. c.new_places-places.ensures a (omega (arith, front)) ∙ new_place-front goes c.len.result a (omega arith))
     (c.keep_atoms.ensures ∙ ap (staying_atoms (gone goes) (number_at c.gains-gains.result)) atoms)

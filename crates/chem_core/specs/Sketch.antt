@@ -5,7 +5,7 @@ use Rattle.chem_core.specs.declared.sketch.SketchBond.{SketchBond}
 use Rattle.chem_core.specs.declared.sketch.SketchKind.{SketchKind}
 use Rattle.chem_core.specs.declared.sketch.SketchKind.TheVariants.{Unwritten, Single, Double, Triple, Quad, Colon}
 
-pub record Drawing : Type 0 where
+pub record SketchTerm : Type 0 where
   pub atoms : List SketchAtom
   pub bonds : List SketchBond
 
