@@ -1,0 +1,4 @@
+pub mod Word
+pub mod Command
+pub mod CommandView
+pub mod Cut

@@ -1,0 +1,7 @@
+//! The language of scripts: from lines to commands, from replies to lines.
+#![tactic(auto)]
+
+mod command;
+mod word;
+
+pub use command::{Command, LAST_IDENTIFIER, LONGEST_NAME, LineRefusal, one_command, read_command};
