@@ -9,7 +9,7 @@ use crate::meant::molecule;
 use aromatic::perceive;
 use chem_core::Mol;
 use ring_find::rings;
-use smiles_read::{one_tree, read_smiles};
+use smiles_read::{one_reading, read_smiles};
 use std::alloc::Global;
 use valence::{fill_hydrogens, suppress};
 
@@ -46,7 +46,7 @@ pub fn one_structure()
     ensures { (text : List ℕ) (m n : Molecule)
         → IsStructureOf text m → IsStructureOf text n → m ≡ n }
 {
-    one_tree();
+    one_reading();
     ring_find::one_answer();
 }
 
@@ -55,6 +55,6 @@ pub fn one_answer()
     ensures { (text : List ℕ) (a b : Result Molecule TextFault) → IsStructure text a → IsStructure text b
         → (a ≡ b) ⊎ (a ≡ Err TextFault.NoMemory) ⊎ (b ≡ Err TextFault.NoMemory) }
 {
-    one_tree();
+    one_reading();
     ring_find::one_answer();
 }

@@ -3,6 +3,7 @@ use Rattle.std.specs.Prelude.{◌≢◌, ℕ, ◌+◌, ◌*◌, ◌-◌, ◌≤�
 use Rattle.std.specs.List.{AllByRecursion}
 use Rattle.std.specs.Fmt.{decimal}
 use Rattle.chem_core.specs.declared.sketch.SketchAtom.{SketchAtom}
+use Rattle.chem_core.specs.declared.sketch.Fill.{Fill}
 use Rattle.chem_core.specs.declared.sketch.Fill.TheVariants as fills
 use Rattle.chem_core.specs.Element.{symbols}
 use Rattle.chem_core.specs.Organic.{Organic, symbol_bytes, atomic_number}
@@ -201,6 +202,18 @@ pub record IsBracket (x : Bracket) : Type 0 where
   pub charge : IsCharge x.charge
   pub class : IsClass x.class
 
+-- the atom in brackets; its place comes with the sketch
+abbrev pub bracket_atom : Bracket → SketchAtom
+bracket_atom x = record {
+  number = symbol_number x.symbol;
+  isotope = value_of x.isotope;
+  charge = charge_value x.charge;
+  lower = is_lower x.symbol;
+  fill = fills.Given;
+  hydrogens = hydrogen_count x.hydrogens;
+  written = 0;
+}
+
 pub data AtomText : Type 0 where
   star : AtomText
   organic : Organic → AtomText
@@ -219,17 +232,13 @@ IsAtomText (organic x) = Unit {0}
 IsAtomText (aromatic x) = IsOrganicLower x
 IsAtomText (bracket x) = IsBracket x
 
--- the atom that is written as the i-th
-abbrev pub atom_of : ℕ → AtomText → SketchAtom
-atom_of i star = record { number = 0; isotope = 0; charge = pos 0; lower = false; fill = fills.Given; hydrogens = 0; written = i }
-atom_of i (organic x) = record { number = atomic_number x; isotope = 0; charge = pos 0; lower = false; fill = fills.Organic; hydrogens = 0; written = i }
-atom_of i (aromatic x) = record { number = lower_number x; isotope = 0; charge = pos 0; lower = true; fill = fills.Organic; hydrogens = 0; written = i }
-atom_of i (bracket x) = record {
-  number = symbol_number x.symbol;
-  isotope = value_of x.isotope;
-  charge = charge_value x.charge;
-  lower = is_lower x.symbol;
-  fill = fills.Given;
-  hydrogens = hydrogen_count x.hydrogens;
-  written = i;
-}
+-- an atom without brackets
+abbrev pub bare_atom : ℕ → Bool → Fill → SketchAtom
+bare_atom number small fill = record { number = number; isotope = 0; charge = pos 0; lower = small; fill = fill; hydrogens = 0; written = 0 }
+
+-- what an atom is read as; its place comes with the sketch
+abbrev pub atom_of : AtomText → SketchAtom
+atom_of star = bare_atom 0 false fills.Given
+atom_of (organic x) = bare_atom (atomic_number x) false fills.Organic
+atom_of (aromatic x) = bare_atom (lower_number x) true fills.Organic
+atom_of (bracket x) = bracket_atom x

@@ -1,10 +1,10 @@
 //! Atoms (OpenSMILES 1.0, section 3.1).
 
-ghost use Rattle.std.specs.Prelude.{◌≡◌, ◌≢◌, ℕ, ◌<◌, ◌≤◌, pos, length, List, [], ◌∷◌, ◌++◌, IfSome, IsSomeAnd, MatchOption};
+ghost use Rattle.std.specs.Prelude.{◌≡◌, ◌≢◌, ℕ, ◌<◌, ◌≤◌, pos, List, [], ◌∷◌, ◌++◌, IfSome, IsSomeAnd, MatchOption, option_map};
 ghost use Rattle.chem_core.specs.Organic.{Organic, symbol_bytes, atomic_number};
-ghost use Rattle.chem_core.specs.Sound.{IsSketchAtom};
-ghost use Rattle.smiles_read.specs.Atom.{Lower, lower_bytes, lower_number, IsOrganicLower, AtomText, organic, aromatic, atom_text, IsAtomText, atom_of};
-ghost use Rattle.smiles_read.specs.Follow.{AfterAtom};
+ghost use Rattle.smiles_read.specs.Atom.{Lower, lower_bytes, lower_number, IsOrganicLower, AtomText, organic, aromatic, atom_text, IsAtomText, bare_atom, atom_of};
+ghost use Rattle.line_walk.specs.Follow.{Reads, AfterAtom};
+ghost use Rattle.smiles_read.specs.Words.{smiles_words};
 
 use crate::bracket::bracket_at;
 use crate::symbol::small_at;
@@ -31,7 +31,7 @@ fn letter_number(byte: u8) -> Option<u8>
 /// The element of the organic subset whose symbol the bytes begin with, and the bytes after it.
 fn upper_at(bytes: &[u8]) -> Option<(u8, &[u8])>
     ensures found { IfSome result (λ r. (x : Organic) × (bytes.now ≡ symbol_bytes x ++ r.1.now) × (r.0 ≡ atomic_number x)) }
-    ensures only { (x : Organic) (rest : List ℕ) → AfterAtom rest → bytes.now ≡ symbol_bytes x ++ rest
+    ensures only { (x : Organic) (rest : List ℕ) → AfterAtom smiles_words rest → bytes.now ≡ symbol_bytes x ++ rest
         → IsSomeAnd result (λ r. (r.1.now ≡ rest) × (r.0 ≡ atomic_number x)) }
 {
     match bytes {
@@ -46,8 +46,8 @@ fn upper_at(bytes: &[u8]) -> Option<(u8, &[u8])>
 }
 
 /// The atom without brackets.
-fn bare(number: u8, lower: bool, fill: Fill, written: u16) -> SketchAtom
-    ensures { result ≡ record { number = number; isotope = 0; charge = pos 0; lower = lower; fill = fill; hydrogens = 0; written = written } }
+fn bare(number: u8, lower: bool, fill: Fill) -> SketchAtom
+    ensures { result ≡ bare_atom number lower fill }
 {
     SketchAtom {
         number,
@@ -56,38 +56,35 @@ fn bare(number: u8, lower: bool, fill: Fill, written: u16) -> SketchAtom
         lower,
         fill,
         hydrogens: 0,
-        written,
+        written: 0,
     }
 }
 
 /// The atom of the organic subset that the bytes begin with, and the bytes after it.
-fn organic_at(bytes: &[u8], written: u16) -> Option<(SketchAtom, &[u8])>
-    ensures found { IfSome result (λ r. (x : AtomText) × IsAtomText x × (bytes.now ≡ atom_text x ++ r.1.now) × (r.0 ≡ atom_of written x)) }
-    ensures upper { (x : Organic) (rest : List ℕ) → AfterAtom rest → bytes.now ≡ symbol_bytes x ++ rest
-        → IsSomeAnd result (λ r. (r.1.now ≡ rest) × (r.0 ≡ atom_of written (organic x))) }
+fn organic_at(bytes: &[u8]) -> Option<(SketchAtom, &[u8])>
+    ensures found { IfSome result (λ r. (x : AtomText) × IsAtomText x × (bytes.now ≡ atom_text x ++ r.1.now) × (r.0 ≡ atom_of x)) }
+    ensures upper { (x : Organic) (rest : List ℕ) → AfterAtom smiles_words rest → bytes.now ≡ symbol_bytes x ++ rest
+        → IsSomeAnd result (λ r. (r.1.now ≡ rest) × (r.0 ≡ atom_of (organic x))) }
     ensures lower { (x : Lower) (rest : List ℕ) → IsOrganicLower x → bytes.now ≡ lower_bytes x ++ rest
-        → IsSomeAnd result (λ r. (r.1.now ≡ rest) × (r.0 ≡ atom_of written (aromatic x))) }
+        → IsSomeAnd result (λ r. (r.1.now ≡ rest) × (r.0 ≡ atom_of (aromatic x))) }
 {
     match upper_at(bytes) {
-        Some((number, rest)) => Some((bare(number, false, Fill::Organic, written), rest)),
+        Some((number, rest)) => Some((bare(number, false, Fill::Organic), rest)),
         None => {
             let (number, rest) = small_at(bytes)?;
-            Some((bare(number, true, Fill::Organic, written), rest))
+            Some((bare(number, true, Fill::Organic), rest))
         }
     }
 }
 
-/// The atom that the bytes begin with, the longest, and the bytes after it. Its place as written is given.
-pub fn atom_at(bytes: &[u8], written: u16) -> Option<(SketchAtom, &[u8])>
-    ensures found { IfSome result (λ r. (x : AtomText) × IsAtomText x × (bytes.now ≡ atom_text x ++ r.1.now) × (r.0 ≡ atom_of written x)) }
-    ensures only { (x : AtomText) (rest : List ℕ) → IsAtomText x → AfterAtom rest → bytes.now ≡ atom_text x ++ rest
-        → IsSomeAnd result (λ r. (r.1.now ≡ rest) × (r.0 ≡ atom_of written x)) }
-    ensures sound { IfSome result (λ r. IsSketchAtom r.0 × (r.0.hydrogens ≤ 9)) }
-    ensures shorter { IfSome result (λ r. length r.1.now < length bytes.now) }
+/// The atom that the bytes begin with, the longest, and the bytes after it. It is read as the first one of its text.
+pub fn atom_at(bytes: &[u8]) -> Option<(SketchAtom, &[u8])>
+    ensures { Reads atom_text IsAtomText atom_of (AfterAtom smiles_words) bytes.now
+        (option_map (λ r. (r.0, r.1.now)) result) }
 {
     match bytes {
-        [b'[', rest @ ..] => bracket_at(rest, written),
-        [b'*', rest @ ..] => Some((bare(0, false, Fill::Given, written), rest)),
-        _ => organic_at(bytes, written),
+        [b'[', rest @ ..] => bracket_at(rest),
+        [b'*', rest @ ..] => Some((bare(0, false, Fill::Given), rest)),
+        _ => organic_at(bytes),
     }
 }

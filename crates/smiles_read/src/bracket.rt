@@ -1,11 +1,12 @@
 //! What stands in brackets (OpenSMILES 1.0, section 3.1).
 
-ghost use Rattle.std.specs.Prelude.{◌≡◌, ◌≢◌, ℕ, ◌+◌, ◌<◌, ◌≤◌, List, [], ◌∷◌, ◌++◌, length, replicate, Option, IfSome, MatchOption, IsSomeAnd};
+ghost use Rattle.std.specs.Prelude.{◌≡◌, ◌≢◌, ℕ, ◌+◌, ◌<◌, ◌≤◌, List, [], ◌∷◌, ◌++◌, length, replicate, Option, IfSome, MatchOption, IsSomeAnd, option_map};
 ghost use Rattle.std.specs.List.{AllByRecursion};
 ghost use Rattle.std.specs.Fmt.{decimal};
-ghost use Rattle.smiles_read.specs.Atom.{ChiralClass, class_bytes, most_of, Chiral, chiral_text, IsChiral, Hydrogens, hydrogens_text, hydrogen_count, Sign, sign_byte, signed, Charge, charge_text, charge_value, IsCharge, class_text, IsClass, IsDigit, value_of, Symbol, symbol_text, IsSymbol, symbol_number, is_lower, Bracket, bracket_text, IsBracket, bracket, atom_of};
+ghost use Rattle.line_walk.specs.Follow.{Reads, Anything};
+ghost use Rattle.smiles_read.specs.Atom.{ChiralClass, class_bytes, most_of, Chiral, chiral_text, IsChiral, Hydrogens, hydrogens_text, hydrogen_count, Sign, sign_byte, signed, Charge, charge_text, charge_value, IsCharge, class_text, IsClass, IsDigit, value_of, Symbol, symbol_text, IsSymbol, symbol_number, is_lower, Bracket, bracket_text, IsBracket, bracket_atom};
 ghost use Rattle.smiles_read.specs.Follow.{NoDigitFirst, AfterChiral, AfterHydrogens, AfterCharge, AfterClass};
-ghost use Rattle.smiles_read.specs.State.{written_hydrogens};
+ghost use Rattle.smiles_read.specs.Small.{written_hydrogens};
 
 use crate::digit::{digits_at, short_number, value};
 use crate::symbol::symbol_at;
@@ -187,10 +188,9 @@ fn front_at(bytes: &[u8]) -> Option<(u16, u8, bool, &[u8])>
 }
 
 /// The atom whose bracket, after `[`, the bytes begin with, and the bytes after it.
-pub fn bracket_at(bytes: &[u8], written: u16) -> Option<(SketchAtom, &[u8])>
-    ensures found { IfSome result (λ r. (x : Bracket) × IsBracket x × (91 ∷ bytes.now ≡ bracket_text x ++ r.1.now) × (r.0 ≡ atom_of written (bracket x))) }
-    ensures only { (x : Bracket) (rest : List ℕ) → IsBracket x → 91 ∷ bytes.now ≡ bracket_text x ++ rest
-        → IsSomeAnd result (λ r. (r.1.now ≡ rest) × (r.0 ≡ atom_of written (bracket x))) }
+pub fn bracket_at(bytes: &[u8]) -> Option<(SketchAtom, &[u8])>
+    ensures { Reads bracket_text IsBracket bracket_atom Anything (91 ∷ bytes.now)
+        (option_map (λ r. (r.0, r.1.now)) result) }
 {
     let (isotope, number, lower, rest) = front_at(bytes)?;
     let (hydrogens, charge, rest) = end_at(rest)?;
@@ -204,7 +204,7 @@ pub fn bracket_at(bytes: &[u8], written: u16) -> Option<(SketchAtom, &[u8])>
         lower,
         fill: Fill::Given,
         hydrogens: hydrogens.unwrap_or(0),
-        written,
+        written: 0,
     };
     Some((atom, rest))
 }

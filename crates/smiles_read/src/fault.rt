@@ -1,12 +1,13 @@
-//! Why a text is no SMILES that is taken.
+//! Why a SMILES is refused.
 
 ghost use Rattle.std.specs.Prelude.{◌≡◌};
 ghost use Rattle.smiles_read.specs.declared.fault.SmilesFault.TheVariants.{NoMemory};
 
+use line_walk::Fault;
 use std::alloc::{AllocError, AllocFailed};
 use thiserror::Error;
 
-/// Why a text is no SMILES that is taken. A text that breaks several rules has the first fault of this order: a text over 65,536 bytes is `Limit`, then
+/// Why a SMILES is refused. A text that breaks several rules has the first fault of this order: a text over 65,536 bytes is `Limit`, then
 /// `Syntax`, `Ring`, `Limit` by the number of its parts.
 #[derive(Clone, Copy, Debug, PartialEq, Eq, Error)]
 pub enum SmilesFault {
@@ -26,6 +27,20 @@ pub enum SmilesFault {
     /// Memory ran out.
     #[error("out of memory")]
     NoMemory,
+}
+
+impl From<Fault> for SmilesFault {
+    ghost use Rattle.smiles_read.specs.Faults.{walk_fault};
+
+    ghost from_gives = { λ e f. f ≡ walk_fault e };
+
+    fn from(e: Fault) -> SmilesFault {
+        match e {
+            Fault::Syntax => SmilesFault::Syntax,
+            Fault::Ring => SmilesFault::Ring,
+            Fault::NoMemory => SmilesFault::NoMemory,
+        }
+    }
 }
 
 impl From<AllocError> for SmilesFault {

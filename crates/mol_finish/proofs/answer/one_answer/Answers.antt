@@ -2,4 +2,4 @@ use Rattle.mol_finish.proofs.Unique.{answer-one}
 use Rattle.mol_finish.proofs.answer.one_answer.Goals as goal
 
 pub returns : goal.returns
-returns c = answer-one c.one_tree.ensures c.one_answer.ensures.bonds
+returns c = answer-one c.one_reading.ensures c.one_answer.ensures.bonds

@@ -1,7 +1,7 @@
 use Rattle.std.proofs.Common.{refl, ap, arith}
 use Rattle.chem_core.specs.Organic.{chlorine, bromine}
 use Rattle.smiles_read.proofs.Fronts.{front_two}
-use Rattle.smiles_read.proofs.Unique.{organic_read, organic_only}
+use Rattle.smiles_read.specs.Owed.Unique.{organic_read, organic_only}
 use Rattle.smiles_read.proofs.atom.upper_at.Goals as goal
 
 pub returns-in-67-clause-found : goal.returns-in-67-clause-found

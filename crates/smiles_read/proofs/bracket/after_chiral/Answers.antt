@@ -2,7 +2,7 @@ use Rattle.std.proofs.Common.{◌-◌, ◌∷◌, ◌++◌, length, take, drop, 
 use Rattle.std.proofs.lemmas.Option.{IfSome_then}
 use Rattle.smiles_read.specs.Atom.{none, one, two, numbered, class_bytes}
 use Rattle.smiles_read.proofs.Fronts.{front_is}
-use Rattle.smiles_read.proofs.Pieces.{numbered_text, chiral_two, chiral_only, chiral_no_digit}
+use Rattle.smiles_read.specs.Owed.Pieces.{numbered_text, chiral_two, chiral_only, chiral_no_digit}
 use Rattle.smiles_read.proofs.bracket.after_chiral.Goals as goal
 
 pub returns-in-Some-clause-found : goal.returns-in-Some-clause-found

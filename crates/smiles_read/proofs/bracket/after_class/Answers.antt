@@ -1,6 +1,6 @@
 use Rattle.std.proofs.Common.{◌≡◌, ◌-◌, ◌∷◌, length, take, drop, Some, arith}
 use Rattle.std.proofs.lemmas.Grind.{common_steps}
-use Rattle.smiles_read.proofs.Pieces.{class_only}
+use Rattle.smiles_read.specs.Owed.Pieces.{class_only}
 use Rattle.smiles_read.proofs.bracket.after_class.Goals as goal
 
 pub returns-clause-found : goal.returns-clause-found

@@ -1,6 +1,6 @@
 use Rattle.std.proofs.Common.{◌∙◌, sym, ◌++◌, inl, inr, arith, ap}
 use Rattle.std.specs.Fmt.{decimal}
-use Rattle.smiles_read.proofs.Digits.{same_digits, decimal_digits}
+use Rattle.smiles_read.specs.Owed.Digits.{same_digits, decimal_digits}
 use Rattle.smiles_read.proofs.bracket.after_number.Goals as goal
 use Rattle.smiles_read.proofs.bracket.after_number.Goals.{then-number-eq0-via-then-number-eq0, then-number-eq0-via-else-number-eq0+then-number-most}
 

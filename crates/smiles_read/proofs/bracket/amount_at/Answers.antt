@@ -1,7 +1,7 @@
 use Rattle.std.proofs.Common.{◌≤◌, ◌≡◌, ◌+◌, ◌∷◌, ◌∙◌, ℕ, List, suc, length, arith, refl, ap, sym}
 use Rattle.std.proofs.lemmas.Bool.Decides.{nat_tests}
 use Rattle.smiles_read.specs.Atom.{run, amount, signed, sign_byte}
-use Rattle.smiles_read.proofs.Pieces.{amount_empty, amount_digits, run_found}
+use Rattle.smiles_read.specs.Owed.Pieces.{amount_empty, amount_digits, run_found}
 use Rattle.smiles_read.proofs.bracket.amount_at.Goals as goal
 
 pub returns-then-more-gt14-clause-only : goal.returns-then-more-gt14-clause-only

@@ -1,8 +1,8 @@
 use Rattle.std.proofs.Common.{sym, ap, ◌∙◌, length, arith, ◌++◌}
 use Rattle.smiles_read.specs.Atom.{symbol_text, chiral_text, value_of}
-use Rattle.smiles_read.proofs.Digits.{same_digits}
-use Rattle.smiles_read.proofs.Symbols.{symbol_no_digit}
-use Rattle.smiles_read.proofs.Pieces.{chiral_then}
+use Rattle.smiles_read.specs.Owed.Digits.{same_digits}
+use Rattle.smiles_read.specs.Owed.Symbols.{symbol_no_digit}
+use Rattle.smiles_read.specs.Owed.Pieces.{chiral_then}
 use Rattle.smiles_read.proofs.bracket.front_at.Goals as goal
 
 pub returns-then-digits-gt3-clause-only : goal.returns-then-digits-gt3-clause-only

@@ -1,7 +1,7 @@
 use Rattle.std.proofs.Common.{◌≡◌, ℕ, List, [], ◌∷◌, ◌++◌, ◌∙◌, sym, ap}
 use Rattle.std.proofs.lemmas.Option.{get_or_from_slice_get}
 use Rattle.chem_core.specs.Element.{symbols}
-use Rattle.smiles_read.proofs.Symbols.{element_two, element_one, one_element}
+use Rattle.smiles_read.specs.Owed.Symbols.{element_two, element_one, one_element}
 use Rattle.smiles_read.proofs.symbol.element_at.Goals as goal
 
 pub returns-in-Some-clause-found : goal.returns-in-Some-clause-found

@@ -1,7 +1,7 @@
 use Rattle.std.proofs.Common.{refl, ap, arith}
 use Rattle.smiles_read.specs.Atom.{small_se, small_as}
 use Rattle.smiles_read.proofs.Fronts.{front_two}
-use Rattle.smiles_read.proofs.Symbols.{lower_read, lower_only}
+use Rattle.smiles_read.specs.Owed.Symbols.{lower_read, lower_only}
 use Rattle.smiles_read.proofs.symbol.lower_at.Goals as goal
 
 pub returns-in-115-clause-found : goal.returns-in-115-clause-found

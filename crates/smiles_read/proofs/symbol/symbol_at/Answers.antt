@@ -1,6 +1,6 @@
 use Rattle.std.proofs.Common.{◌∙◌, sym, refl}
 use Rattle.smiles_read.specs.Atom.{element, lower}
-use Rattle.smiles_read.proofs.Symbols.{element_not_lower}
+use Rattle.smiles_read.specs.Owed.Symbols.{element_not_lower}
 use Rattle.smiles_read.proofs.symbol.symbol_at.Goals as goal
 
 pub returns-in-Some-clause-found : goal.returns-in-Some-clause-found
