@@ -1,7 +1,8 @@
 //! SMILES as a language of the walk: its atoms, its bond symbols, and which bonds of one ring number agree.
 
-ghost use Rattle.std.specs.Prelude.{◌≡◌, ◌≢◌, ◌∷◌, [], MatchOption};
-ghost use Rattle.smiles_read.specs.Words.{BondText, bond_text, kind_of, agreed_kind, smiles_words};
+ghost use Rattle.std.specs.Prelude.{◌≡◌, ◌≢◌, ◌∷◌, [], MatchOption, option_map};
+ghost use Rattle.line_walk.specs.Follow.{Reads, AfterBond};
+ghost use Rattle.smiles_read.specs.Words.{BondText, IsBondText, bond_text, kind_of, agreed_kind, smiles_words};
 ghost use Rattle.smiles_read.specs.Owed.{smiles_apart};
 
 use crate::atom::atom_at;
@@ -23,15 +24,11 @@ impl Notation for Smiles {
         Ok(atom_at(bytes))
     }
 
-    fn bond_at(bytes: &[u8]) -> Option<(SketchKind, &[u8])> {
-        let [first, rest @ ..] = bytes else {
-            return None;
-        };
-        let kind = kind_of_byte(*first)?;
-        Some((kind, rest))
+    fn bond_at(_alloc: Global, bytes: &[u8]) -> Result<Option<(SketchKind, &[u8])>, AllocError> {
+        Ok(bond_at(bytes))
     }
 
-    fn unwritten() -> SketchKind {
+    fn unwritten(_alloc: Global) -> SketchKind {
         SketchKind::Unwritten
     }
 
@@ -40,6 +37,18 @@ impl Notation for Smiles {
     }
 
     ghost apart = { smiles_apart };
+}
+
+// The bond symbol that the bytes begin with, and the bytes after it.
+fn bond_at(bytes: &[u8]) -> Option<(SketchKind, &[u8])>
+    ensures { Reads bond_text IsBondText kind_of (AfterBond smiles_words) bytes.now
+        (option_map (λ r. (r.0, r.1.now)) result) }
+{
+    let [first, rest @ ..] = bytes else {
+        return None;
+    };
+    let kind = kind_of_byte(*first)?;
+    Some((kind, rest))
 }
 
 // The kind of the bond symbol that the byte is.
