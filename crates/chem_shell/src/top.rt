@@ -3,7 +3,7 @@ ghost use Rattle.std.specs.Prelude.{◌≡◌, ◌↔◌, All, length, map};
 ghost use Rattle.std.specs.List.{AllZip};
 ghost use Rattle.io_edge.specs.Faults.{Rose};
 ghost use Rattle.chem_shell.specs.Words.{AsksMem};
-ghost use Rattle.chem_shell.specs.Served.{WritesFront, WritesAll, TakesExactly};
+ghost use Rattle.chem_shell.specs.Served.{WritesPrefix, WritesAll, TakesExactly};
 ghost use Rattle.chem_shell.specs.Ends.{with_status, IsServed};
 ghost use Rattle.chem_shell.specs.Status.{IsEndStatus, first_fault};
 
@@ -148,9 +148,9 @@ pub fn chemdb<
     ensures sink_fault { AllZip (λ old new. new.status ≡ 4 → Rose (K.faults old.sink) (K.faults new.sink)) ends.items result.ends.items }
     ensures input_too_long { AllZip (λ old new. new.status ≡ 9 → TakesExactly (S.left old.source) (S.left new.source) 4294967296) ends.items result.ends.items }
 
-    // `mem`: what was written is a front of the transcript of the source's bytes, and all of it where the status is 0.
-    ensures mem_front { AsksMem (map (λ w. w.now) words.now)
-        → AllZip (λ old new. WritesFront (S.left old.source) (K.written old.sink) (K.written new.sink)) ends.items result.ends.items }
+    // `mem`: what was written is a prefix of the transcript of the source's bytes, and all of it where the status is 0.
+    ensures mem_prefix { AsksMem (map (λ w. w.now) words.now)
+        → AllZip (λ old new. WritesPrefix (S.left old.source) (K.written old.sink) (K.written new.sink)) ends.items result.ends.items }
     ensures mem_all { AsksMem (map (λ w. w.now) words.now)
         → AllZip (λ old new. new.status ≡ 0 → WritesAll (S.left old.source) (K.written old.sink) (K.written new.sink)) ends.items result.ends.items }
 {
