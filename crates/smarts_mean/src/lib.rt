@@ -12,3 +12,6 @@ mod table;
 pub use atom::atom_true;
 pub use bond::bond_true;
 pub use table::{MOST_PARTS, RecTable};
+
+#[cfg(test)]
+mod tests;
