@@ -4,6 +4,7 @@ pub mod Bytes
 pub mod Digits
 pub mod Symbols
 pub mod Pieces
+pub mod Brackets
 pub mod Unique
 use Rattle.std.proofs.Common.{◌≡◌, ℕ, inl, inr, List, [], ◌∷◌, ◌++◌, cond, ◌==◌, refl, sym, ◌∙◌, ap}
 use Rattle.chem_core.specs.Organic.{Organic, boron, carbon, nitrogen, oxygen, phosphorus, sulfur, fluorine, chlorine, bromine, iodine, symbol_bytes}
