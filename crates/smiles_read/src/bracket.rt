@@ -70,7 +70,8 @@ fn front_at(bytes: &[u8]) -> Option<(Front, &[u8])>
     Some((front, rest))
 }
 
-// The bytes after the chirality mark that the bytes begin with, if they begin with one; none where its number is out of range.
+// The bytes after the chirality mark that the bytes begin with, if they begin with one. Returns nothing where its number
+// is out of range.
 fn after_chiral(bytes: &[u8]) -> Option<&[u8]>
     ensures { Reads chiral_text IsChiral dropped AfterChiral bytes.now
         (option_map (λ r. (tt, r.now)) result) }
@@ -142,7 +143,8 @@ fn hydrogens_at(bytes: &[u8]) -> (Option<u8>, &[u8])
     }
 }
 
-// The charge that the bytes begin with, 0 where they begin with none, and the bytes after it; none where it is out of range.
+// The charge that the bytes begin with, 0 if they begin with none, and the bytes after it. Returns nothing where it is
+// out of range.
 fn charge_at(bytes: &[u8]) -> Option<(i8, &[u8])>
     ensures { Reads charge_text IsCharge charge_value AfterCharge bytes.now
         (option_map (λ r. (r.0, r.1.now)) result) }
@@ -160,7 +162,8 @@ fn charge_at(bytes: &[u8]) -> Option<(i8, &[u8])>
     }
 }
 
-// The amount of a charge whose first sign stands before the bytes: digits, or more of that sign. Then the bytes after it.
+// The amount of a charge whose first sign stands before the bytes: digits, or more of that sign. Then the bytes after
+// it.
 fn amount_at(bytes: &[u8], sign: u8) -> Option<(u8, &[u8])>
     ensures reads { (s : Sign) → sign_byte s ≡ sign → Reads charge_text IsCharge charge_value AfterCharge
         (sign ∷ bytes.now) (option_map (λ r. (signed s r.0, r.1.now)) result) }
@@ -202,7 +205,7 @@ fn run_at(bytes: &[u8], sign: u8) -> (u8, &[u8])
     (count, rest)
 }
 
-// The bytes after the class that the bytes begin with, if they begin with one; none where it has no digit.
+// The bytes after the class that the bytes begin with, if they begin with one. Returns nothing where it has no digit.
 fn after_class(bytes: &[u8]) -> Option<&[u8]>
     ensures { Reads class_text IsClass dropped AfterClass bytes.now
         (option_map (λ r. (tt, r.now)) result) }

@@ -9,7 +9,8 @@ ghost use Rattle.smiles_read.specs.Follow.{AfterSymbol};
 
 use chem_core::number_of;
 
-/// The number of the symbol that the bytes begin with, the longest, and whether it is in lower case. Then the bytes after it.
+/// The number of the symbol that the bytes begin with, the longest, and whether it is in lower case. Then the bytes
+/// after it.
 pub fn symbol_at(bytes: &[u8]) -> Option<((u8, bool), &[u8])>
     ensures { Reads symbol_text IsSymbol symbol_value AfterSymbol bytes.now
         (option_map (λ r. (r.0, r.1.now)) result) }
@@ -79,9 +80,11 @@ fn element_at(bytes: &[u8]) -> Option<(u8, &[u8])>
 
 // The element whose symbol of two letters the bytes begin with, and the bytes after it.
 fn two_letters_at(bytes: &[u8]) -> Option<(u8, &[u8])>
-    ensures found { IfSome result (λ r. (a b : ℕ) × (slice_get symbols r.0 ≡ Some (a ∷ b ∷ [])) × (bytes.now ≡ a ∷ b ∷ r.1.now)) }
+    ensures found { IfSome result (λ r. (a b : ℕ) × (slice_get symbols r.0 ≡ Some (a ∷ b ∷ []))
+        × (bytes.now ≡ a ∷ b ∷ r.1.now)) }
     ensures range { IfSome result (λ r. r.0 ≤ 103) }
-    ensures none { IfNone result ((a b n : ℕ) (rest : List ℕ) → bytes.now ≡ a ∷ b ∷ rest → slice_get symbols n ≢ Some (a ∷ b ∷ [])) }
+    ensures none { IfNone result ((a b n : ℕ) (rest : List ℕ) → bytes.now ≡ a ∷ b ∷ rest
+        → slice_get symbols n ≢ Some (a ∷ b ∷ [])) }
 {
     let [first, second, rest @ ..] = bytes else {
         return None;
@@ -100,7 +103,8 @@ fn two_letters_at(bytes: &[u8]) -> Option<(u8, &[u8])>
 fn one_letter_at(bytes: &[u8]) -> Option<(u8, &[u8])>
     ensures found { IfSome result (λ r. (a : ℕ) × (slice_get symbols r.0 ≡ Some (a ∷ [])) × (bytes.now ≡ a ∷ r.1.now)) }
     ensures range { IfSome result (λ r. r.0 ≤ 103) }
-    ensures none { IfNone result ((a n : ℕ) (rest : List ℕ) → bytes.now ≡ a ∷ rest → slice_get symbols n ≢ Some (a ∷ [])) }
+    ensures none { IfNone result ((a n : ℕ) (rest : List ℕ) → bytes.now ≡ a ∷ rest
+        → slice_get symbols n ≢ Some (a ∷ [])) }
 {
     let [first, rest @ ..] = bytes else {
         return None;

@@ -11,7 +11,7 @@ returns-then-more-gt14-clause-reads c s es = record {
       let d = c.digits_at.result.0.now in
       let none : length d ≡ 0 = grind (arith, nat_tests) in
       let p = amount_empty s c.args.sign x rest c.args.bytes.now c.run_at-more.result.1.now d c.digits_at.result.1.now c.run_at-more.result.0 es is after h none
-          c.digits_at.ensures.split c.digits_at.ensures.all c.run_at-more.ensures.found c.run_at-more.ensures.few c.run_at-more.ensures.all in
+      c.digits_at.ensures.split c.digits_at.ensures.all c.run_at-more.ensures.found c.run_at-more.ensures.few c.run_at-more.ensures.all in
       let q = p.0 in
       omega arith;
 }
@@ -28,7 +28,7 @@ returns-then-is_empty-clause-reads c s es = record {
       let d = c.digits_at.result.0.now in
       let none : length d ≡ 0 = grind (arith, nat_tests) in
       (amount_empty s c.args.sign x rest c.args.bytes.now c.run_at-more.result.1.now d c.digits_at.result.1.now c.run_at-more.result.0 es is after h none
-          c.digits_at.ensures.split c.digits_at.ensures.all c.run_at-more.ensures.found c.run_at-more.ensures.few c.run_at-more.ensures.all).1;
+      c.digits_at.ensures.split c.digits_at.ensures.all c.run_at-more.ensures.found c.run_at-more.ensures.few c.run_at-more.ensures.all).1;
 }
 
 pub returns-then-digits-gt2-clause-reads : goal.returns-then-digits-gt2-clause-reads
