@@ -1,4 +1,5 @@
--- An atom as it is written (OpenSMILES 1.0, section 3.1). A text is an atom exactly where some AtomText that is one is spelled so.
+-- An atom as it is written (OpenSMILES 1.0, section 3.1), and what it is read as. A text is an atom exactly where some
+-- AtomText that is one is spelled so. For callers.
 use Rattle.std.specs.Prelude.{◌≢◌, ℕ, ◌+◌, ◌*◌, ◌-◌, ◌≤◌, Bool, true, false, List, [], ◌∷◌, ◌++◌, length, replicate, fold, slice_index_or, ℤ, pos, neg_ℤ, Option, None, Some, codes}
 use Rattle.std.specs.List.{AllByRecursion}
 use Rattle.std.specs.Fmt.{decimal}
@@ -168,7 +169,8 @@ charge_value (amount sign digits) = signed sign (value_of digits)
 abbrev pub IsCharge : Charge → Type 0
 IsCharge neutral = Unit {0}
 IsCharge (run sign count) = (1 ≤ count) × (count ≤ 15)
-IsCharge (amount sign digits) = (1 ≤ length digits) × (length digits ≤ 2) × AllByRecursion IsDigit digits × (value_of digits ≤ 15)
+IsCharge (amount sign digits) =
+    (1 ≤ length digits) × (length digits ≤ 2) × AllByRecursion IsDigit digits × (value_of digits ≤ 15)
 
 -- what stands in brackets
 pub record Bracket : Type 0 where
@@ -190,7 +192,8 @@ IsClass (Some digits) = (1 ≤ length digits) × AllByRecursion IsDigit digits
 
 abbrev pub bracket_text : Bracket → List ℕ
 bracket_text x =
-    91 ∷ (x.isotope ++ (symbol_text x.symbol ++ (chiral_text x.chiral ++ (hydrogens_text x.hydrogens ++ (charge_text x.charge ++ (class_text x.class ++ 93 ∷ []))))))
+    91 ∷ (x.isotope ++ (symbol_text x.symbol ++ (chiral_text x.chiral
+    ++ (hydrogens_text x.hydrogens ++ (charge_text x.charge ++ (class_text x.class ++ 93 ∷ []))))))
 
 -- an isotope has at most three digits
 pub record IsBracket (x : Bracket) : Type 0 where
@@ -234,7 +237,8 @@ IsAtomText (bracket x) = IsBracket x
 
 -- an atom without brackets
 abbrev pub bare_atom : ℕ → Bool → Fill → SketchAtom
-bare_atom number small fill = record { number = number; isotope = 0; charge = pos 0; lower = small; fill = fill; hydrogens = 0; written = 0 }
+bare_atom number small fill =
+    record { number = number; isotope = 0; charge = pos 0; lower = small; fill = fill; hydrogens = 0; written = 0 }
 
 -- what an atom is read as; its place comes with the sketch
 abbrev pub atom_of : AtomText → SketchAtom

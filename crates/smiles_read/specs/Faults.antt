@@ -1,4 +1,4 @@
--- The faults of the walk, as faults of a SMILES.
+-- The faults of the walk, as faults of a SMILES: for private clauses only.
 use Rattle.line_walk.specs.declared.fault.Fault.{Fault}
 use Rattle.line_walk.specs.declared.fault.Fault.TheVariants as walk
 use Rattle.smiles_read.specs.declared.fault.SmilesFault.{SmilesFault}

@@ -5,4 +5,5 @@ pub mod Sketch
 pub mod Faults
 pub mod Reading
 pub mod Small
+pub mod Parts
 pub mod Owed

@@ -1,9 +1,11 @@
--- What SMILES owes the walk: first bytes tell its atoms and bond symbols apart, and what is spelled alike is the same, where
--- what follows may follow. Here and below stand proofs: a language wants this one below specs.
+-- What SMILES owes the walk: first bytes tell its atoms and bond symbols apart, and what is spelled alike is the same,
+-- where what follows may follow. Here and in the folder stand proofs, no definitions that a reader must believe: a
+-- language has to give this proof from its specs.
 pub mod Bytes
 pub mod Digits
 pub mod Symbols
 pub mod Pieces
+pub mod Brackets
 pub mod Unique
 use Rattle.std.proofs.Common.{◌≡◌, ℕ, inl, inr, List, [], ◌∷◌, ◌++◌, cond, ◌==◌, refl, sym, ◌∙◌, ap}
 use Rattle.chem_core.specs.Organic.{Organic, boron, carbon, nitrogen, oxygen, phosphorus, sulfur, fluorine, chlorine, bromine, iodine, symbol_bytes}
@@ -53,7 +55,8 @@ bond_first backslash = is_one_of bond_bytes 92 refl
 
 abbrev bond_from : List ℕ → BondText
 bond_from [] = minus
-bond_from (b ∷ bs) = cond (b == 45) minus (cond (b == 61) equals (cond (b == 35) hash (cond (b == 36) dollar (cond (b == 58) colon (cond (b == 47) slash backslash)))))
+bond_from (b ∷ bs) =
+    cond (b == 45) minus (cond (b == 61) equals (cond (b == 35) hash (cond (b == 36) dollar (cond (b == 58) colon (cond (b == 47) slash backslash)))))
 
 bond_is : (x : BondText) (r : List ℕ) → bond_from (bond_text x ++ r) ≡ x
 bond_is minus r = refl

@@ -1,4 +1,4 @@
--- What is read from a text, and which fault comes first.
+-- What is read from a text, and which fault comes first. For callers.
 use Rattle.std.specs.Prelude.{◌⊎◌, ℕ, ◌<◌, ◌≤◌, List, length, Result, Ok, Err}
 use Rattle.chem_core.specs.declared.limits.TheConstants.{MOST_ATOMS, MOST_BONDS, MOST_NEIGHBOURS}
 use Rattle.chem_core.specs.Sketch.{SketchTerm}
@@ -20,7 +20,8 @@ pub record IsWithinLimits (tree : Tree) (s : SketchTerm) : Type 0 where
 
 -- The answer to a text: the sketch of its tree, or the first fault. Want of memory may come at any text.
 abbrev pub IsReading : List ℕ → Result SketchTerm SmilesFault → Type 0
-IsReading text (Ok s) = (length text ≤ MOST_BYTES) × (tree : Tree) × IsTreeOf text tree × IsSketchOf tree s × IsWithinLimits tree s
+IsReading text (Ok s) =
+    (length text ≤ MOST_BYTES) × (tree : Tree) × IsTreeOf text tree × IsSketchOf tree s × IsWithinLimits tree s
 IsReading text (Err Syntax) = (length text ≤ MOST_BYTES) × ((tree : Tree) → IsTreeOf text tree → ⊥)
 IsReading text (Err Ring) =
     (length text ≤ MOST_BYTES) × (tree : Tree) × IsTreeOf text tree × ((s : SketchTerm) → IsSketchOf tree s → ⊥)

@@ -1,5 +1,5 @@
 -- The sketch of a tree: its atoms in the order of the text, and the bonds of its graph in the order in which the text
--- completes them, a bond of the chain as its second atom is read, a ring bond as its second number is.
+-- completes them, a bond of the chain as its second atom is read, a ring bond as its second number is. For callers.
 use Rattle.std.specs.Prelude.{◌≡◌, List, map}
 use Rattle.std.specs.List.{enumerate_from}
 use Rattle.chem_core.specs.declared.sketch.SketchAtom.{SketchAtom}
@@ -19,6 +19,7 @@ numbered atoms = map (λ p. record p.1 { written = p.0 }) (enumerate_from 0 atom
 abbrev pub link_of : SketchBond → Link SketchKind
 link_of bond = record { a = bond.a; b = bond.b; kind = bond.kind }
 
+-- the sketch of a tree
 pub record IsSketchOf (tree : Tree) (s : SketchTerm) : Type 0 where
   pub atoms : s.atoms ≡ numbered (atoms_of smiles_words tree)
   pub bonds : IsGraph agreed_kind (entries_of smiles_words tree) (map link_of s.bonds)

@@ -1,5 +1,5 @@
--- What the reader's parts say of one another: for private clauses only.
-use Rattle.std.specs.Prelude.{ℕ, ◌≤◌, List, length, map, Option, None, Some}
+-- A graph within the limits, and its bonds: for private clauses only.
+use Rattle.std.specs.Prelude.{ℕ, ◌≤◌, List, length, map}
 use Rattle.chem_core.specs.declared.limits.TheConstants.{MOST_ATOMS, MOST_BONDS, MOST_NEIGHBOURS}
 use Rattle.chem_core.specs.declared.sketch.SketchAtom.{SketchAtom}
 use Rattle.chem_core.specs.declared.sketch.SketchBond.{SketchBond}
@@ -8,13 +8,6 @@ use Rattle.chem_core.specs.Graph.{Ends, degree}
 use Rattle.line_walk.specs.declared.pairs.Link.{Link}
 use Rattle.line_walk.specs.declared.read.Graph.{Graph}
 use Rattle.smiles_read.specs.declared.limits.TheConstants.{MOST_BRANCHES}
-use Rattle.smiles_read.specs.Atom.{Hydrogens, unwritten, single, counted}
-
--- the count of hydrogens, where one is written
-abbrev pub written_hydrogens : Hydrogens → Option ℕ
-written_hydrogens unwritten = None
-written_hydrogens single = Some 1
-written_hydrogens (counted count) = Some count
 
 -- a bond of a graph, as a bond of a sketch
 abbrev pub bond_of : Link SketchKind → SketchBond

@@ -1,5 +1,5 @@
--- The words of SMILES (OpenSMILES 1.0, sections 3 and 4): its atoms and bond symbols, what they are read as, and when two
--- bonds of one ring number agree. What is written with them is said in `line_walk`.
+-- The words of SMILES (OpenSMILES 1.0, sections 3 and 4): its atoms and bond symbols, what they are read as, and when
+-- two bonds of one ring number agree. What is written with them is said in `line_walk`. For callers.
 use Rattle.std.specs.Prelude.{ℕ, List, [], ◌∷◌, Option, None, Some, codes}
 use Rattle.chem_core.specs.declared.sketch.SketchAtom.{SketchAtom}
 use Rattle.chem_core.specs.declared.sketch.SketchKind.{SketchKind}
@@ -28,7 +28,7 @@ bond_text colon = codes ":"
 bond_text slash = codes "/"
 bond_text backslash = 92 ∷ []
 
--- every bond symbol may be written
+-- every bond symbol is one
 abbrev pub IsBondText : BondText → Type 0
 IsBondText bond = Unit {0}
 

@@ -1,8 +1,8 @@
 //! SMILES, read into sketches (OpenSMILES 1.0; Daylight Theory Manual, chapter SMILES).
 //!
-//! Runs, branches, dots and ring numbers are read by `line_walk`; here stand what an atom is, what a bond symbol is, and
-//! when two bonds of one ring number agree. The tree of a text is in the contracts alone: code reads a text from left to
-//! right, and keeps atoms and bonds.
+//! Runs, branches, dots and ring numbers are read by `line_walk`; here stand what an atom is, what a bond symbol is,
+//! and when two bonds of one ring number agree. The tree of a text is in the contracts alone: code reads a text from
+//! left to right, and keeps atoms and bonds.
 #![tactic(auto)]
 
 mod atom;

@@ -5,7 +5,7 @@ ghost use Rattle.std.specs.List.{AllByRecursion};
 ghost use Rattle.chem_core.specs.Graph.{degree};
 ghost use Rattle.smiles_read.specs.Small.{link_ends, IsSmall};
 
-use chem_core::{MOST_ATOMS, MOST_BONDS, SketchAtom, SketchKind};
+use chem_core::{MOST_ATOMS, MOST_BONDS, MOST_NEIGHBOURS, SketchAtom, SketchKind};
 use line_walk::{Graph, Link};
 use std::alloc::{AllocError, Global};
 
@@ -14,6 +14,9 @@ pub const MOST_BYTES: usize = 65_536;
 
 /// The most branches that may be open at once.
 pub const MOST_BRANCHES: usize = 256;
+
+// The most neighbours, as they are counted.
+const MOST: u8 = MOST_NEIGHBOURS as u8;
 
 /// Whether the graph is within the limits.
 pub fn is_small(alloc: Global, graph: &Graph<SketchAtom, SketchKind>) -> Result<bool, AllocError>
@@ -30,20 +33,20 @@ pub fn is_small(alloc: Global, graph: &Graph<SketchAtom, SketchKind>) -> Result<
     are_few_neighbours(alloc, graph.atoms.len(), &graph.links)
 }
 
-// Whether none of the atoms has more than 12 bonds.
+// Whether none of the atoms has more than `MOST_NEIGHBOURS` bonds.
 fn are_few_neighbours(
     alloc: Global,
     atoms: usize,
     links: &[Link<SketchKind>],
 ) -> Result<bool, AllocError>
     requires { AllByRecursion (λ x. (x.a < x.b) × (x.b < atoms)) links.now }
-    ensures { IfOk result (λ r. IsTrue r ↔ ((a : ℕ) → degree (link_ends links.now) a ≤ 12)) }
+    ensures { IfOk result (λ r. IsTrue r ↔ ((a : ℕ) → degree (link_ends links.now) a ≤ MOST_NEIGHBOURS)) }
 {
     let mut counts = vec![in alloc; 0u8; atoms]?;
     for link in links {
         counts[link.a] += 1;
         counts[link.b] += 1;
-        if counts[link.a] > 12 || counts[link.b] > 12 {
+        if counts[link.a] > MOST || counts[link.b] > MOST {
             return Ok(false);
         }
     }

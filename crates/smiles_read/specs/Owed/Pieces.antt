@@ -4,7 +4,7 @@ use Rattle.std.specs.List.{AllByRecursion}
 use Rattle.std.specs.Fmt.{decimal}
 use Rattle.std.proofs.lemmas.Fmt.{decimal_injective}
 use Rattle.smiles_read.specs.Atom.{IsDigit, ChiralClass, th, al, sp, tb, oh, class_bytes, most_of, Chiral, none, one, two, numbered, chiral_text, IsChiral, Hydrogens, unwritten, single, counted, hydrogens_text, hydrogen_count, Sign, plus, minus, sign_byte, Charge, neutral, run, amount, signed, charge_text, charge_value, value_of, IsCharge, class_text, IsClass, Lower, small_b, small_c, small_n, small_o, small_p, small_s, small_se, small_as, lower_number, Symbol, element, lower, symbol_text, symbol_number, AreHydrogens, Bracket, bracket_text}
-use Rattle.smiles_read.specs.Small.{written_hydrogens}
+use Rattle.smiles_read.specs.Parts.{written_hydrogens}
 use Rattle.smiles_read.specs.Follow.{NoDigitFirst, AfterClass, AfterCharge, AfterHydrogens, AfterChiral, AfterSymbol}
 use Rattle.smiles_read.specs.Owed.Bytes.{goes_within, goes_no_digit}
 use Rattle.smiles_read.specs.Owed.Digits.{same_digits, no_digit, decimal_digits}
@@ -322,6 +322,14 @@ no_hydrogen xs a f e = let g : AfterHydrogens (72 ∷ xs) = subst AfterHydrogens
 
 no_count : (k : ℕ) (xs a : List ℕ) → k ≤ 9 → AfterHydrogens a → a ≡ (48 + k) ∷ xs → ⊥
 no_count k xs a le f e = no_digit (48 + k) xs a (omega arith, omega arith) (hydrogens_no_digit a f) e
+
+-- `H` and a digit is a count
+pub hydrogens_counted : (x : Hydrogens) (k : ℕ) (r rest bytes : List ℕ) → k ≤ 9 → hydrogen_count x ≤ 9 → AfterHydrogens rest → bytes ≡ 72 ∷ (48 + k) ∷ r → bytes ≡ hydrogens_text x ++ rest → r ≡ rest
+hydrogens_counted unwritten k r rest bytes lk lx after front h = absurd (no_hydrogen ((48 + k) ∷ r) rest after (sym h ∙ front))
+hydrogens_counted single k r rest bytes lk lx after front h =
+    let e : 72 ∷ (48 + k) ∷ r ≡ 72 ∷ rest = sym front ∙ h in
+    absurd (no_count k r rest lk after (let m : rest ≡ (48 + k) ∷ r = cc in m))
+hydrogens_counted (counted j) k r rest bytes lk lx after front h = let e : 72 ∷ (48 + k) ∷ r ≡ 72 ∷ (48 + j) ∷ rest = sym front ∙ h in cc
 
 pub same_hydrogens : (x y : Hydrogens) (a b : List ℕ) → hydrogen_count x ≤ 9 → hydrogen_count y ≤ 9 → AfterHydrogens a → AfterHydrogens b → hydrogens_text x ++ a ≡ hydrogens_text y ++ b → (x ≡ y) × (a ≡ b)
 same_hydrogens unwritten unwritten a b lx ly fa fb h = (refl, h)

@@ -2,51 +2,11 @@
 use Rattle.std.proofs.Common.{◌≡◌, ℕ, ◌<◌, ◌≤◌, ◌⊎◌, inl, inr, cond, ◌==◌, ◌&&◌, List, [], ◌∷◌, ◌++◌, Option, refl, sym, ◌∙◌, ap, arith}
 use Rattle.chem_core.specs.Organic.{Organic, boron, carbon, nitrogen, oxygen, phosphorus, sulfur, fluorine, chlorine, bromine, iodine, symbol_bytes, atomic_number}
 use Rattle.line_walk.specs.Follow.{AfterAtom}
-use Rattle.smiles_read.specs.Atom.{Lower, lower_bytes, Symbol, symbol_text, chiral_text, hydrogens_text, charge_text, class_text, Chiral, Hydrogens, Charge, Bracket, bracket_text, IsBracket, AtomText, star, organic, aromatic, bracket, atom_text, IsAtomText}
+use Rattle.smiles_read.specs.Atom.{Lower, lower_bytes, AtomText, star, organic, aromatic, bracket, atom_text, IsAtomText}
 use Rattle.smiles_read.specs.Words.{smiles_words}
 use Rattle.smiles_read.specs.Owed.Bytes.{no_second_letter, differ}
-use Rattle.smiles_read.specs.Owed.Digits.{same_digits}
-use Rattle.smiles_read.specs.Owed.Symbols.{symbol_no_digit, same_symbol, same_small, lower_first}
-use Rattle.smiles_read.specs.Owed.Pieces.{class_then, charge_then, hydrogens_then, chiral_then, same_class, same_charge, same_hydrogens, same_chiral, few_hydrogens, bracket_spelled}
-
--- brackets
-abbrev end_of : Bracket → List ℕ → List ℕ
-end_of x rest = hydrogens_text x.hydrogens ++ (charge_text x.charge ++ (class_text x.class ++ 93 ∷ rest))
-
-made : List ℕ → Symbol → Chiral → Hydrogens → Charge → Option (List ℕ) → Bracket
-made i s m h c k = record { isotope = i; symbol = s; chiral = m; hydrogens = h; charge = c; class = k }
-
-made_same : (i i' : List ℕ) (s s' : Symbol) (m m' : Chiral) (h h' : Hydrogens) (c c' : Charge) (k k' : Option (List ℕ)) → i ≡ i' → s ≡ s' → m ≡ m' → h ≡ h' → c ≡ c' → k ≡ k' → made i s m h c k ≡ made i' s' m' h' c' k'
-made_same i i' s s' m m' h h' c c' k k' a b d e f g = cc
-
-made_is : (x : Bracket) → made x.isotope x.symbol x.chiral x.hydrogens x.charge x.class ≡ x
-unfolding made
-made_is x = refl
-
-last_same : (a b : List ℕ) → 93 ∷ a ≡ 93 ∷ b → a ≡ b
-last_same a b h = cc
-
-front_same : (xs ys : List ℕ) → 91 ∷ xs ≡ 91 ∷ ys → xs ≡ ys
-front_same xs ys h = cc
-
-same_bracket : (x y : Bracket) (a b : List ℕ) → IsBracket x → IsBracket y → bracket_text x ++ a ≡ bracket_text y ++ b → (x ≡ y) × (a ≡ b)
-same_bracket x y a b ix iy h =
-    let cx = class_then x.class (93 ∷ a) (inl refl) in
-    let cy = class_then y.class (93 ∷ b) (inl refl) in
-    let ex = charge_then x.charge _ ix.charge cx in
-    let ey = charge_then y.charge _ iy.charge cy in
-    let hx = hydrogens_then x.hydrogens _ ex in
-    let hy = hydrogens_then y.hydrogens _ ey in
-    let mx = chiral_then x.chiral _ hx in
-    let my = chiral_then y.chiral _ hy in
-    let e0 = front_same _ _ (sym (bracket_spelled x a) ∙ h ∙ bracket_spelled y b) in
-    let p0 = same_digits x.isotope y.isotope (symbol_text x.symbol ++ (chiral_text x.chiral ++ end_of x a)) (symbol_text y.symbol ++ (chiral_text y.chiral ++ end_of y b)) ix.digits iy.digits (symbol_no_digit x.symbol _ ix.symbol) (symbol_no_digit y.symbol _ iy.symbol) e0 in
-    let p1 = same_symbol x.symbol y.symbol (chiral_text x.chiral ++ end_of x a) (chiral_text y.chiral ++ end_of y b) ix.symbol iy.symbol mx my p0.1 in
-    let p2 = same_chiral x.chiral y.chiral (end_of x a) (end_of y b) ix.chiral iy.chiral hx hy p1.1 in
-    let p3 = same_hydrogens x.hydrogens y.hydrogens (charge_text x.charge ++ (class_text x.class ++ 93 ∷ a)) (charge_text y.charge ++ (class_text y.class ++ 93 ∷ b)) (few_hydrogens x.symbol x.hydrogens ix.hydrogens) (few_hydrogens y.symbol y.hydrogens iy.hydrogens) ex ey p2.1 in
-    let p4 = same_charge x.charge y.charge (class_text x.class ++ 93 ∷ a) (class_text y.class ++ 93 ∷ b) ix.charge iy.charge cx cy p3.1 in
-    let p5 = same_class x.class y.class (93 ∷ a) (93 ∷ b) ix.class iy.class (inl refl) (inl refl) p4.1 in
-    (sym (made_is x) ∙ made_same _ _ _ _ _ _ _ _ _ _ _ _ p0.0 p1.0 p2.0 p3.0 p4.0 p5.0 ∙ made_is y, last_same a b p5.1)
+use Rattle.smiles_read.specs.Owed.Symbols.{same_small, lower_first}
+use Rattle.smiles_read.specs.Owed.Brackets.{same_bracket}
 
 -- the organic subset
 abbrev letter : ℕ → Organic
@@ -121,7 +81,7 @@ not_small b bs a l out h =
     let low = u.3 in
     omega arith
 
-organic_not_small : (x : Organic) (l : Lower) (a b : List ℕ) → symbol_bytes x ++ a ≡ lower_bytes l ++ b → ⊥
+pub organic_not_small : (x : Organic) (l : Lower) (a b : List ℕ) → symbol_bytes x ++ a ≡ lower_bytes l ++ b → ⊥
 organic_not_small x l a b h =
     let u = organic_first x in
     let high = u.4 in
