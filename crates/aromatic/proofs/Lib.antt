@@ -6,4 +6,5 @@ mod Routes
 mod Sketches
 mod Spreads
 mod Tallies
+mod Unlinks
 mod Valences
