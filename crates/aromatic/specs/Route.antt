@@ -6,6 +6,7 @@ use Rattle.aromatic.specs.Electrons.{row_at}
 use Rattle.aromatic.specs.Huckel.{IsAromaticAtom, IsAromaticBond, IsHuckelBy}
 use Rattle.aromatic.specs.Links.{AreLinks, IsLinked, links_at}
 use Rattle.aromatic.specs.declared.cycle.Scratch.{Scratch}
+use Rattle.aromatic.specs.declared.limits.TheConstants.{LONGEST, SHORTEST}
 use Rattle.aromatic.specs.declared.links.Link.{Link}
 use Rattle.aromatic.specs.declared.table.Row.{Row}
 
@@ -19,10 +20,10 @@ last_of path = slice_index path (length path - 1)
 abbrev pub given_at : List (Option ℕ) → ℕ → ℕ
 given_at gives a = unwrap_or (slice_index_or gives a None) 0
 
--- 1 to 18 distinct atoms, each linked to the one before it
+-- 1 to LONGEST distinct atoms, each linked to the one before it
 pub record IsTrail (links : List (List Link)) (path : List ℕ) : Type 0 where
   pub some : 1 ≤ length path
-  pub most : length path ≤ 18
+  pub most : length path ≤ LONGEST
   pub in_range : (k : ℕ) → k < length path → slice_index path k < length links
   pub distinct : AllPairs ◌≢◌ path
   pub linked : (i : ℕ) → i + 1 < length path → IsLinked links (slice_index path i) (slice_index path (i + 1))
@@ -33,12 +34,12 @@ AreFlags flags path = (a : ℕ) → (slice_index_or flags a false ≡ true) ↔ 
 
 -- between two searches: no atom has a distance, or is on a path
 abbrev pub IsBlank : ℕ → Scratch → Type 0
-IsBlank atoms scratch = (scratch.distances.items ≡ replicate atoms 18) × (scratch.path.flags.items ≡ replicate atoms false)
+IsBlank atoms scratch = (scratch.distances.items ≡ replicate atoms LONGEST) × (scratch.path.flags.items ≡ replicate atoms false)
 
 -- such a path of at least three atoms that ends at the target, and whose electrons sum to 2 modulo 4
 pub record IsRoute (links : List (List Link)) (gives : List (Option ℕ)) (target : ℕ) (path : List ℕ) : Type 0 where
   pub trail : IsTrail links path
-  pub three : 3 ≤ length path
+  pub three : SHORTEST ≤ length path
   pub ends : last_of path ≡ target
   pub count : sum_by (λ a. given_at gives a) path % 4 ≡ 2
 

@@ -3,13 +3,12 @@ ghost use Rattle.std.specs.Prelude.{◌≡◌, ◌≤◌, ◌<◌, ◌+◌, ◌%
 ghost use Rattle.aromatic.specs.Links.{AreClosed, AreMutual, links_in};
 ghost use Rattle.aromatic.specs.Distances.{AreDistances};
 ghost use Rattle.aromatic.specs.Route.{AreFlags, AreSteps, CanReach, Completes, IsBlank, IsTrail, atoms_of, given_at, last_of};
+ghost use Rattle.aromatic.specs.declared.limits.TheConstants.{LONGEST, SHORTEST};
 
 use crate::distance::{FAR, forget, spread};
+use crate::limits::{LONGEST, SHORTEST};
 use crate::links::{Link, Links, links_of};
 use std::alloc::{AllocError, Global};
-
-/// How many atoms a Hückel cycle has at most.
-const LONGEST: usize = 18;
 
 /// A search's working memory, allocated once and reused.
 #[derive(Drop)]
@@ -61,12 +60,12 @@ pub fn closes(
     requires each { length gives.now ≡ length links.now }
     requires first { first.to < length links.now }
     requires target { target < length links.now }
-    requires far { scratch.old.distances.items ≡ replicate (length links.now) 18 }
+    requires far { scratch.old.distances.items ≡ replicate (length links.now) LONGEST }
     requires off { scratch.old.path.flags.items ≡ replicate (length links.now) false }
     ensures found { result ≡ Ok true
         → Completes (links_in links.now) gives.now target (first ∷ []) scratch.new.path.links.items }
     ensures none { result ≡ Ok false → CanReach (links_in links.now) gives.now target (first.to ∷ []) → ⊥ }
-    ensures far { OnOk result (scratch.new.distances.items ≡ replicate (length links.now) 18) }
+    ensures far { OnOk result (scratch.new.distances.items ≡ replicate (length links.now) LONGEST) }
     ensures off { OnOk result (scratch.new.path.flags.items ≡ replicate (length links.now) false) }
 {
     spread(links, target, &mut scratch.distances, &mut scratch.queue)?;
@@ -138,12 +137,12 @@ impl Path {
         Ok(())
     }
 
-    // Whether the atom is new on the path, and near enough to the target for a cycle of at most 18 atoms.
+    // Whether the atom is new on the path, and near enough to the target for a cycle of at most `LONGEST` atoms.
     fn may_go_to(&self, atom: u16, distances: &[u8]) -> bool
-        requires few { length self.now.links.items ≤ 18 }
+        requires few { length self.now.links.items ≤ LONGEST }
         requires flagged { atom < length self.now.flags.items }
         requires in_range { atom < length distances.now }
-        ensures { IsTrue result ↔ (length self.now.links.items + 1 + slice_index distances.now atom ≤ 18)
+        ensures { IsTrue result ↔ (length self.now.links.items + 1 + slice_index distances.now atom ≤ LONGEST)
             × (slice_index_or self.now.flags.items atom false ≡ false) }
     {
         let place = usize::from(atom);
@@ -151,16 +150,16 @@ impl Path {
     }
 }
 
-// Whether there are at least three atoms, whose electrons sum to 2 modulo 4.
+// Whether there are at least `SHORTEST` atoms, whose electrons sum to 2 modulo 4.
 fn is_huckel(gives: &[Option<u8>], path: &[Link]) -> bool
-    requires few { length path.now ≤ 18 }
+    requires few { length path.now ≤ LONGEST }
     requires in_range { All (λ l. l.to < length gives.now) path.now }
     ensures { IsTrue result
-        ↔ (3 ≤ length path.now) × (sum_by (λ l. given_at gives.now l.to) path.now % 4 ≡ 2) }
+        ↔ (SHORTEST ≤ length path.now) × (sum_by (λ l. given_at gives.now l.to) path.now % 4 ≡ 2) }
 {
     let mut total = 0;
     for link in path {
         total += u32::from(gives[usize::from(link.to)].unwrap_or(0));
     }
-    path.len() >= 3 && total % 4 == 2
+    path.len() >= SHORTEST && total % 4 == 2
 }

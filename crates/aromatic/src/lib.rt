@@ -8,6 +8,7 @@
 
 mod cycle;
 mod distance;
+mod limits;
 mod links;
 mod marks;
 mod perception;
