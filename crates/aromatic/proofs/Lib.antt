@@ -3,6 +3,7 @@ mod Finds
 mod LinkLists
 mod MarkSteps
 mod Routes
+mod Rows
 mod Sketches
 mod Spreads
 mod Tallies

@@ -18,3 +18,4 @@ mod tally;
 
 pub use perception::{Arom, AromFault, perceive};
 pub use site::electrons;
+pub use table::one_row;
