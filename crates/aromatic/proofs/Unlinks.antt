@@ -76,7 +76,7 @@ end_of ends b k a n x y here e (inr j) =
 pub net-less : (ends : Ends) (possible after : List Bool) (gives : List (Option ℕ)) (links less : List (List Link)) (k x y : ℕ)
     → slice_get ends k ≡ Some (x, y) → k < length possible → after ≡ set possible k false → length less ≡ length links
     → ((a n b : ℕ) → Contains (links_at less a) (record { to = n; bond = b })
-      ↔ (Contains (links_at links a) (record { to = n; bond = b }) × (b ≡ k → (a ≡ x) ⊎ (a ≡ y) → ⊥)))
+    ↔ (Contains (links_at links a) (record { to = n; bond = b }) × (b ≡ k → (a ≡ x) ⊎ (a ≡ y) → ⊥)))
     → IsNet ends possible gives links → (IsAromaticBy ends gives k → ⊥) → IsNet ends after gives less
 net-less ends possible after gives links less k x y here within is len step net none =
     let same : get_or after k false ≡ false = ap (λ xs. get_or xs k false) is ∙ get_or-set_same possible k false false within in

@@ -2,8 +2,9 @@
 //!
 //! One pass over the bonds counts what the table reads of each atom (`site`, `table`). Ring bonds between candidates
 //! become links (`links`). From each of them that is not marked yet a search looks for a Hückel cycle through it, and
-//! marks the whole cycle (`marks`, `cycle`); it tries an atom only where that is near enough to the search's target
-//! (`distance`). Another pass over the bonds sums up valences and finds what is refused (`tally`, `perception`).
+//! marks the whole cycle, or rules the bond out for later searches (`marks`, `cycle`); it tries an atom only where that
+//! is near enough to the search's target (`distance`). Another pass over the bonds sums up valences and finds what is
+//! refused (`tally`, `perception`).
 #![tactic(auto)]
 
 mod cycle;

@@ -1,4 +1,4 @@
-use Rattle.std.proofs.Common.{◌≡◌, false, true, length, get_or, set, replicate, ap, ◌∙◌}
+use Rattle.std.proofs.Common.{◌≡◌, false, true, length, get_or, set, ◌∙◌}
 use Rattle.std.proofs.lemmas.List.{get_or-replicate}
 use Rattle.aromatic.proofs.Routes.{flags-back}
 use Rattle.aromatic.proofs.cycle.closes.Goals as goal

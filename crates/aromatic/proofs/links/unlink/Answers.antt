@@ -1,4 +1,4 @@
-use Rattle.std.proofs.Common.{◌⊎◌, inl, inr}
+use Rattle.std.proofs.Common.{inl, inr}
 use Rattle.aromatic.proofs.links.unlink.Goals as goal
 
 pub returns : goal.returns

@@ -1,4 +1,4 @@
-use Rattle.std.proofs.Common.{ap, refl, sym, ◌∙◌}
+use Rattle.std.proofs.Common.{refl, sym, ◌∙◌}
 use Rattle.aromatic.specs.Links.{links_in}
 use Rattle.aromatic.proofs.MarkSteps.{ends_at_place}
 use Rattle.aromatic.proofs.Routes.{length-links_in}
