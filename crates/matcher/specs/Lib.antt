@@ -1,0 +1,4 @@
+pub mod Least
+pub mod Partial
+pub mod Plan
+pub mod Parts
