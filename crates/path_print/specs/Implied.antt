@@ -33,12 +33,18 @@ prim_implies atoms.Aromatic = record { number = None; aromatic = Some true }
 prim_implies atoms.Aliphatic = record { number = None; aromatic = Some false }
 prim_implies _ = nothing
 
+abbrev pub both : Known → Known → Known
+both k l = record { number = either k.number l.number; aromatic = either k.aromatic l.aromatic }
+
+abbrev pub common : Known → Known → Known
+common k l = record { number = alike nat_eq k.number l.number; aromatic = alike same_flag k.aromatic l.aromatic }
+
 -- what an atom expression implies
 abbrev pub implied : Term AtomPrim → Known
 implied (Prim p) = prim_implies p
 implied (Not e) = nothing
-implied (And e f) = record { number = either (implied e).number (implied f).number; aromatic = either (implied e).aromatic (implied f).aromatic }
-implied (Or e f) = record { number = alike nat_eq (implied e).number (implied f).number; aromatic = alike same_flag (implied e).aromatic (implied f).aromatic }
+implied (And e f) = both (implied e) (implied f)
+implied (Or e f) = common (implied e) (implied f)
 
 -- Single, aromatic and unwritten bonds have byte 1, double, triple and quadruple ones 2, 3 and 4.
 abbrev pub prim_byte : BondPrim → Option ℕ

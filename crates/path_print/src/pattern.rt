@@ -1,0 +1,89 @@
+//! The need of a pattern: the bits that every molecule has in which it embeds.
+//!
+//! What its expressions imply is worked out once: for each atom, and in a square for each two atoms.
+ghost use Rattle.std.specs.Prelude.{◌≡◌, ◌+◌, ◌*◌, ◌<◌, ◌≤◌, ℕ, length, map, slice_index, All};
+ghost use Rattle.smarts_parse.specs.Pattern.{pattern_of, graph_of, bond_of};
+ghost use Rattle.smarts_parse.specs.Sound.{IsSoundPattern};
+ghost use Rattle.path_print.specs.Prints.{graph_view, IsNeed};
+ghost use Rattle.path_print.specs.Texts.{IsOn, IsBitFrom, SetsBits};
+ghost use Rattle.path_print.specs.Squares.{AreKnown, IsSimplePattern, IsSquare};
+
+use crate::implied::{implied, implied_byte};
+use crate::known::Known;
+use crate::path::Path;
+use chem_core::Print;
+use smarts_parse::{Graph, PatBond, Pattern};
+
+/// The most atoms of a pattern, and the side of the square.
+const SIDE: usize = 256;
+
+/// The bits of the paths whose atoms and bonds all imply their labels and bytes.
+pub fn need(pattern: &Pattern) -> Print
+    requires { IsSoundPattern (pattern_of pattern.now) }
+    ensures { IsNeed (pattern_of pattern.now) result }
+{
+    let graph = &pattern.top;
+    let mut known = [Known::NOTHING; SIDE];
+    let mut square = [0; SIDE * SIDE];
+    fill_known(&mut known, graph);
+    fill_square(&mut square, &graph.bonds);
+    let mut print = Print::empty();
+    for atom in 0..graph.atoms.len() {
+        let path = Path::start(atom as u16, known[atom]);
+        walk(graph, &known, &square, &path, &mut print);
+    }
+    print
+}
+
+// Writes what each atom implies.
+fn fill_known(known: &mut [Known], graph: &Graph)
+    requires { length (graph_of graph.now).atoms ≤ length known.old }
+    ensures known { AreKnown (graph_of graph.now) known.new }
+{
+    for (place, expr) in graph.atoms.iter().enumerate() {
+        known[place] = implied(expr);
+    }
+}
+
+// Writes the byte that each bond implies, for its ends either way round; 0 stays where none does.
+fn fill_square(square: &mut [u8], bonds: &[PatBond])
+    requires size { length square.old ≡ SIDE * SIDE }
+    requires zero { (i : ℕ) → slice_index square.old i ≡ 0 }
+    requires graph { IsSimplePattern SIDE (map bond_of bonds.now) }
+    ensures { IsSquare (map bond_of bonds.now) square.new }
+{
+    for bond in bonds {
+        if let Some(byte) = implied_byte(&bond.expr) {
+            let (a, b) = (usize::from(bond.a), usize::from(bond.b));
+            square[SIDE * a + b] = byte;
+            square[SIDE * b + a] = byte;
+        }
+    }
+}
+
+// Sets the bits of all paths that begin with this one.
+fn walk(graph: &Graph, known: &[Known], square: &[u8], path: &Path, print: &mut Print)
+    requires few { length (graph_of graph.now).atoms ≤ SIDE }
+    requires ends { All (λ b. (b.a < length (graph_of graph.now).atoms) × (b.b < length (graph_of graph.now).atoms))
+        (graph_of graph.now).bonds }
+    requires known { AreKnown (graph_of graph.now) known.now }
+    requires square { IsSquare (graph_of graph.now).bonds square.now }
+    requires room { length known.now ≡ SIDE }
+    requires square_room { length square.now ≡ SIDE * SIDE }
+    requires path { IsOn (graph_view (graph_of graph.now)) path.now }
+    ensures { SetsBits (IsBitFrom (graph_view (graph_of graph.now)) path.now.atoms) print.old print.new }
+{
+    path.mark(print);
+    if path.is_full() {
+        return;
+    }
+    let row = SIDE * usize::from(path.last());
+    for atom in 0..graph.atoms.len() {
+        let byte = square[row + atom];
+        if byte != 0 {
+            if let Some(longer) = path.longer(atom as u16, byte, known[atom]) {
+                walk(graph, known, square, &longer, print);
+            }
+        }
+    }
+}
