@@ -1,3 +1,4 @@
 pub mod Options
 pub mod Truths
 pub mod Carries
+pub mod Digits
