@@ -1,5 +1,5 @@
 -- Strings of paths in both directions, and paths under way, for private clauses alone.
-use Rattle.std.specs.Prelude.{◌≡◌, ◌≢◌, ◌⊎◌, ◌↔◌, ℕ, zero, suc, ◌+◌, ◌*◌, ◌/◌, ◌%◌, ◌^◌, ◌<◌, ◌≤◌, Bool, List, [], ◌∷◌, ◌++◌, length, reverse, fold, AllPairs, Option, None, Some, IfSome, option_map, option_and_then}
+use Rattle.std.specs.Prelude.{◌≡◌, ◌≢◌, ◌⊎◌, ◌↔◌, ℕ, zero, suc, ◌+◌, ◌-◌, ◌*◌, ◌/◌, ◌%◌, ◌^◌, ◌<◌, ◌≤◌, Bool, List, [], ◌∷◌, ◌++◌, length, slice_index, reverse, fold, AllPairs, Option, None, Some, IfSome, option_map, option_and_then}
 use Rattle.chem_core.specs.Bits.{HasBit}
 use Rattle.path_print.specs.declared.known.Known.{Known}
 use Rattle.path_print.specs.Path.{◌>>=◌, Family, exact, plain, label_of, View, string_of, bit_of, IsPath}
@@ -75,6 +75,10 @@ pub record IsPathInside (atoms : List ℕ) (count : ℕ) (exact_text plain_text 
   pub exact_long : IsLong count exact_text
   pub plain_long : IsLong count plain_text
 
+-- the atom that a path has come to
+abbrev pub last_of : List ℕ → ℕ
+last_of atoms = slice_index atoms (length atoms - 1)
+
 -- the path under way is one of these views
 pub record IsOn (views : Family → View) (p : PathTerm) : Type 0 where
   pub some : 1 ≤ length p.atoms
@@ -98,3 +102,13 @@ SetsBits IsBit old new = (bit : ℕ) → HasBit new bit ↔ (HasBit old bit ⊎ 
 -- the bit of a text, if there is one
 abbrev pub IsBitOf : Option TextTerm → ℕ → Type 0
 IsBitOf text bit = (t : TextTerm) × (text ≡ Some t) × (bit ≡ bit_of t.there t.back)
+
+-- the path that goes on to one more atom
+pub record IsOneLonger (views : Family → View) (p : PathTerm) (y : ℕ) (q : PathTerm) : Type 0 where
+  pub on : IsOn views q
+  pub atoms : q.atoms ≡ p.atoms ++ y ∷ []
+  pub last : last_of q.atoms ≡ y
+
+-- no path begins so
+abbrev pub NoneFrom : (Family → View) → List ℕ → Type 0
+NoneFrom views atoms = (bit : ℕ) → IsBitFrom views atoms bit → ⊥

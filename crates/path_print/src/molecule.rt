@@ -1,7 +1,9 @@
 //! The print of a molecule.
-ghost use Rattle.std.specs.Prelude.{◌≡◌, ◌+◌, ◌<◌, length};
+ghost use Rattle.std.specs.Prelude.{◌≡◌, ◌<◌, [], ◌∷◌, ◌++◌, length, IfSome, IfNone};
+ghost use Rattle.chem_core.specs.Graph.{JoinsAt};
+ghost use Rattle.chem_core.specs.Molecule.{ends_of};
 ghost use Rattle.path_print.specs.Prints.{known_of, kind_byte, molecule_view, IsPrint};
-ghost use Rattle.path_print.specs.Texts.{IsOn, IsBitFrom, SetsBits};
+ghost use Rattle.path_print.specs.Texts.{IsOn, IsOneLonger, IsBitFrom, NoneFrom, SetsBits, last_of};
 
 use crate::known::Known;
 use crate::path::Path;
@@ -20,20 +22,31 @@ pub fn print(mol: &Mol) -> Print
 
 // Sets the bits of all paths that begin with this one.
 fn walk(mol: &Mol, path: &Path, print: &mut Print)
-    requires { IsOn (molecule_view mol.now) path.now }
+    requires path { IsOn (molecule_view mol.now) path.now }
+    requires atom { last_of path.now.atoms < length mol.now.atoms }
     ensures { SetsBits (IsBitFrom (molecule_view mol.now) path.now.atoms) print.old print.new }
 {
     path.mark(print);
     if path.is_full() {
         return;
     }
-    for (to, bond) in mol.neighbours(path.last()) {
-        let byte = byte_of(mol.bonds()[usize::from(*bond)].kind);
-        let atom = &mol.atoms()[usize::from(*to)];
-        if let Some(longer) = path.longer(*to, byte, known(atom)) {
+    let neighbours = mol.neighbours(path.last());
+    for (to, bond) in neighbours {
+        if let Some(longer) = step(mol, path, *to, *bond) {
             walk(mol, &longer, print);
         }
     }
+}
+
+// The path that goes on to a neighbour by the bond between. `None` where no path does.
+fn step(mol: &Mol, path: &Path, to: u16, bond: u16) -> Option<Path>
+    requires path { IsOn (molecule_view mol.now) path.now }
+    requires joined { JoinsAt (ends_of mol.now) bond (last_of path.now.atoms) to }
+    ensures some { IfSome result (IsOneLonger (molecule_view mol.now) path.now to) }
+    ensures none { IfNone result (NoneFrom (molecule_view mol.now) (path.now.atoms ++ to ∷ [])) }
+{
+    let byte = byte_of(mol.bonds()[usize::from(bond)].kind);
+    path.longer(to, byte, known(&mol.atoms()[usize::from(to)]))
 }
 
 fn known(atom: &Atom) -> Known

@@ -1,7 +1,7 @@
 //! Paths under way: the atoms so far, and the text in each family of labels.
-ghost use Rattle.std.specs.Prelude.{◌≡◌, ◌<◌, ◌≤◌, ◌+◌, ◌-◌, ◌⊎◌, ◌↔◌, length, slice_index, Contains, None, IsTrue, IfSome, IfNone};
+ghost use Rattle.std.specs.Prelude.{◌≡◌, ◌<◌, ◌≤◌, ◌+◌, ◌⊎◌, ◌↔◌, length, Contains, None, IsTrue, IfSome, IfNone};
 ghost use Rattle.chem_core.specs.Bits.{HasBit};
-ghost use Rattle.path_print.specs.Texts.{longer_if, path_start, path_longer, IsBitHere, IsBitOf, SetsBits};
+ghost use Rattle.path_print.specs.Texts.{longer_if, path_start, path_longer, IsBitHere, IsBitOf, SetsBits, last_of};
 
 use crate::known::Known;
 use crate::text::Text;
@@ -53,7 +53,7 @@ impl Path {
 
     /// The atom that it has come to.
     pub fn last(&self) -> u16
-        ensures { result ≡ slice_index self.now.atoms (length self.now.atoms - 1) }
+        ensures { result ≡ last_of self.now.atoms }
     {
         self.atoms[self.count - 1]
     }
