@@ -10,7 +10,7 @@ use Rattle.chem_core.specs.Graph.{Ends, JoinsAt, IsSimpleGraph, AreNeighbours}
 use Rattle.chem_core.specs.Molecule.{Molecule, IsMolecule, bond_ends, ends_of}
 use Rattle.path_print.specs.Path.{Family, exact, plain, label_of, View}
 use Rattle.path_print.specs.Prints.{known_of, kind_byte, are_ends, molecule_view}
-use Rattle.path_print.proofs.Options.{map_some, find_there}
+use Rattle.path_print.proofs.Options.{and_then_some, map_some, find_there}
 use Rattle.path_print.proofs.Carries.{joins_from_ends, found_bond}
 
 or-comm : (a b : Bool) → (a || b) ≡ (b || a)
@@ -63,3 +63,6 @@ byte_neighbour m family x y b pairs neighbours h =
 -- the label of an atom
 pub atom_label : (m : Molecule) (family : Family) (y : ℕ) (d : Atom) → y < length m.atoms → (molecule_view m family).label y ≡ label_of family (known_of (get_or m.atoms y d))
 atom_label m family y d within = ap (option_and_then (λ z. label_of family (known_of z))) (slice_get-get_or m.atoms y d within)
+
+pub label_within : (m : Molecule) (family : Family) (x : ℕ) (l : ℕ × ℕ) → (molecule_view m family).label x ≡ Some l → x < length m.atoms
+label_within m family x l h = let q = and_then_some _ (slice_get m.atoms x) l h in slice_get_within m.atoms x q.0 q.1

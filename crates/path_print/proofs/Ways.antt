@@ -1,5 +1,5 @@
 -- Walks that set the bits of all paths that begin with a path.
-use Rattle.std.proofs.Common.{ℕ, zero, suc, ◌+◌, ◌-◌, ◌<◌, ◌≤◌, ◌≡◌, ◌≢◌, ◌⊎◌, ◌↔◌, inl, inr, Bool, List, [], ◌∷◌, ◌++◌, length, get_or, take, reverse, AllPairs, Contains, refl, sym, ap, ◌∙◌, subst, ⊎_elim, arith}
+use Rattle.std.proofs.Common.{ℕ, zero, suc, ◌+◌, ◌-◌, ◌<◌, ◌≤◌, ◌≡◌, ◌≢◌, ◌⊎◌, ◌↔◌, inl, inr, Bool, List, [], ◌∷◌, ◌++◌, length, get_or, take, reverse, AllPairs, Contains, refl, sym, ap, ◌∙◌, subst, ⊎_elim, lit≤, arith}
 use Rattle.std.specs.Prelude.{Option, None, Some, IfSome, IfNone, option_map, option_and_then}
 use Rattle.std.proofs.lemmas.Bool.{cases_lt, cases_eq}
 use Rattle.std.proofs.lemmas.List.{append_assoc, append-nil, length-append, get_or_append_left, get_or_default}
@@ -9,7 +9,9 @@ use Rattle.chem_core.specs.Bits.{HasBit}
 use Rattle.path_print.specs.declared.known.Known.{Known}
 use Rattle.path_print.specs.Path.{Family, exact, plain, label_of, View, string_of, bit_of, IsPath}
 use Rattle.path_print.specs.Texts.{TextTerm, PathTerm, text_in, longer_if, of_label, path_start, path_longer, IsOn, IsOneLonger, NoneFrom, IsBitHere, IsBitFrom, SetsBits, last_of}
+use Rattle.path_print.specs.Prints.{HasPathBits}
 use Rattle.path_print.proofs.Options.{and_then_some, map_some}
+use Rattle.path_print.proofs.Carries.{labels_in}
 use Rattle.path_print.proofs.Strings.{string-push, string_prefix, step_byte, there_longer, back_longer, split_last}
 
 -- the bit of some path that goes on to one of the first i atoms of a row
@@ -19,34 +21,34 @@ IsBitVia views atoms to i bit = (k : ℕ) × (k < i) × IsBitFrom views (atoms +
 -- ---- bits that are set
 
 pub sets_more : (H : ℕ → Type 0) (F : ℕ → ℕ → Type 0) (i : ℕ) (a b c : List Bool) → SetsBits (λ bit. H bit ⊎ ((k : ℕ) × (k < i) × F k bit)) a b → SetsBits (F i) b c → SetsBits (λ bit. H bit ⊎ ((k : ℕ) × (k < i + 1) × F k bit)) a c
-sets_more H F i a b c first second = λ bit. (
-    λ h. elim ((second bit).0 h) [
-      | inl g ↦ elim ((first bit).0 g) [
+sets_more H F i a b c first second = record { size = second.size ∙ first.size; bits = λ bit. (
+    λ h. elim ((second.bits bit).0 h) [
+      | inl g ↦ elim ((first.bits bit).0 g) [
         | inl old ↦ inl old
         | inr new ↦ elim new [ inl here ↦ inr (inl here) | inr via ↦ inr (inr (via.0, omega (arith, via.1), via.2)) ]
       ]
       | inr f ↦ inr (inr (i, omega arith, f))
     ],
     λ h. elim h [
-      | inl old ↦ (second bit).1 (inl ((first bit).1 (inl old)))
+      | inl old ↦ (second.bits bit).1 (inl ((first.bits bit).1 (inl old)))
       | inr new ↦ elim new [
-        | inl here ↦ (second bit).1 (inl ((first bit).1 (inr (inl here))))
+        | inl here ↦ (second.bits bit).1 (inl ((first.bits bit).1 (inr (inl here))))
         | inr via ↦ elim (cases_eq via.0 i) [
-          | inl same ↦ (second bit).1 (inr (subst (λ k. F k bit) same via.2))
-          | inr other ↦ (second bit).1 (inl ((first bit).1 (inr (inr (via.0, omega (arith, via.1), via.2)))))
+          | inl same ↦ (second.bits bit).1 (inr (subst (λ k. F k bit) same via.2))
+          | inr other ↦ (second.bits bit).1 (inl ((first.bits bit).1 (inr (inr (via.0, omega (arith, via.1), via.2)))))
         ]
       ]
     ],
-  )
+  ) }
 
 pub sets_none : (F : ℕ → Type 0) (a : List Bool) → ((bit : ℕ) → F bit → ⊥) → SetsBits F a a
-sets_none F a none = λ bit. (λ h. inl h, λ h. ⊎_elim (λ g. g) (λ f. absurd (none bit f)) h)
+sets_none F a none = record { size = refl; bits = λ bit. (λ h. inl h, λ h. ⊎_elim (λ g. g) (λ f. absurd (none bit f)) h) }
 
 pub sets_same : (F G : ℕ → Type 0) (a b : List Bool) → ((bit : ℕ) → F bit → G bit) → ((bit : ℕ) → G bit → F bit) → SetsBits F a b → SetsBits G a b
-sets_same F G a b there back sets = λ bit. (
-    λ h. elim ((sets bit).0 h) [ inl old ↦ inl old | inr f ↦ inr (there bit f) ],
-    λ h. elim h [ inl old ↦ (sets bit).1 (inl old) | inr g ↦ (sets bit).1 (inr (back bit g)) ],
-  )
+sets_same F G a b there back sets = record { size = sets.size; bits = λ bit. (
+    λ h. elim ((sets.bits bit).0 h) [ inl old ↦ inl old | inr f ↦ inr (there bit f) ],
+    λ h. elim h [ inl old ↦ (sets.bits bit).1 (inl old) | inr g ↦ (sets.bits bit).1 (inr (back bit g)) ],
+  ) }
 
 -- ---- one step
 
@@ -201,3 +203,72 @@ sets_full views p on full old new sets =
           absurd (omega (arith, short, count, count2, full))
     ])
     sets
+
+-- ---- from the start
+
+-- the path of one atom
+pub start_on : (views : Family → View) (atom : ℕ) (known : Known) → ((family : Family) → (views family).label atom ≡ label_of family known) → IsOn views (path_start atom known)
+start_on views atom known label = record {
+  some = lit≤ tt;
+  short = lit≤ tt;
+  distinct = λ i j d lo hi. absurd (omega arith);
+  there = λ family. there family;
+  back = λ family. back family;
+}
+  where
+    two : (o : Option (ℕ × ℕ)) → option_map (λ t. t.there) (option_map of_label o) ≡ option_map (λ l. l.0 ∷ l.1 ∷ []) o
+    two None = refl
+    two (Some l) = refl
+    two_back : (o : Option (ℕ × ℕ)) → option_map (λ t. t.back) (option_map of_label o) ≡ option_map (λ l. l.0 ∷ l.1 ∷ []) o
+    two_back None = refl
+    two_back (Some l) = refl
+    there : (family : Family) → option_map (λ t. t.there) (text_in (path_start atom known) family) ≡ string_of (views family) (atom ∷ [])
+    there exact = two (label_of exact known) ∙ ap (option_map (λ l. l.0 ∷ l.1 ∷ [])) (sym (label exact))
+    there plain = two (label_of plain known) ∙ ap (option_map (λ l. l.0 ∷ l.1 ∷ [])) (sym (label plain))
+    back : (family : Family) → option_map (λ t. t.back) (text_in (path_start atom known) family) ≡ string_of (views family) (atom ∷ [])
+    back exact = two_back (label_of exact known) ∙ ap (option_map (λ l. l.0 ∷ l.1 ∷ [])) (sym (label exact))
+    back plain = two_back (label_of plain known) ∙ ap (option_map (λ l. l.0 ∷ l.1 ∷ [])) (sym (label plain))
+
+-- the bits of all paths that begin with one of the first atoms
+abbrev pub IsBitBelow : (Family → View) → ℕ → ℕ → Type 0
+IsBitBelow views n bit = (k : ℕ) × (k < n) × IsBitFrom views (k ∷ []) bit
+
+pub below_none : (views : Family → View) (print : List Bool) → ((bit : ℕ) → HasBit print bit → ⊥) → SetsBits (IsBitBelow views 0) print print
+below_none views print none = record { size = refl; bits = λ bit. (λ h. inl h, λ h. ⊎_elim (λ g. g) (λ f. absurd (omega (arith, f.1))) h) }
+
+pub below_more : (views : Family → View) (i : ℕ) (a b c : List Bool) → SetsBits (IsBitBelow views i) a b → SetsBits (IsBitFrom views (i ∷ [])) b c → SetsBits (IsBitBelow views (i + 1)) a c
+below_more views i a b c first second = record {
+  size = second.size ∙ first.size;
+  bits = λ bit. (
+    λ h. elim ((second.bits bit).0 h) [
+      | inl g ↦ elim ((first.bits bit).0 g) [ inl old ↦ inl old | inr new ↦ inr (new.0, omega (arith, new.1), new.2) ]
+      | inr f ↦ inr (i, omega arith, f)
+    ],
+    λ h. elim h [
+      | inl old ↦ (second.bits bit).1 (inl ((first.bits bit).1 (inl old)))
+      | inr new ↦ elim (cases_eq new.0 i) [
+        | inl same ↦ (second.bits bit).1 (inr (subst (λ k. IsBitFrom views (k ∷ []) bit) same new.2))
+        | inr other ↦ (second.bits bit).1 (inl ((first.bits bit).1 (inr (new.0, omega (arith, new.1), new.2))))
+      ]
+    ],
+  );
+}
+
+-- all atoms: the bits of all paths
+pub below_all : (views : Family → View) (n : ℕ) (empty print : List Bool) → ((family : Family) (x : ℕ) (l : ℕ × ℕ) → (views family).label x ≡ Some l → x < n) → length empty ≡ 1024 → ((bit : ℕ) → HasBit empty bit → ⊥) → SetsBits (IsBitBelow views n) empty print → HasPathBits views print
+below_all views n empty print within size none sets = record {
+  size = sets.size ∙ size;
+  bits = λ bit. (
+    λ h. elim ((sets.bits bit).0 h) [
+      | inl old ↦ absurd (none bit old)
+      | inr new ↦ let from = new.2 in (from.0, (new.0 ∷ from.1, from.2, from.3, from.4, from.5))
+    ],
+    λ h. (sets.bits bit).1 (inr (first h.0 bit h.1.0 h.1.1 h.1.2 h.1.3 h.1.4)),
+  );
+}
+  where
+    first : (family : Family) (bit : ℕ) (atoms there back : List ℕ) → IsPath (views family) atoms there back → bit ≡ bit_of there back → IsBitBelow views n bit
+    first family bit [] there back path is = absurd (none-some there path.reads)
+    first family bit (x ∷ xs) there back path is =
+        let l = labels_in (views family) (x ∷ xs) there path.reads 0 0 (omega arith) in
+        (x, within family x l.0 l.1, (family, xs, there, back, path, is))

@@ -96,8 +96,9 @@ abbrev pub IsBitFrom : (Family → View) → List ℕ → ℕ → Type 0
 IsBitFrom views atoms bit = (family : Family) × (more there back : List ℕ) × IsPath (views family) (atoms ++ more) there back × (bit ≡ bit_of there back)
 
 -- the bits are set, and those that were
-abbrev pub SetsBits : (ℕ → Type 0) → List Bool → List Bool → Type 0
-SetsBits IsBit old new = (bit : ℕ) → HasBit new bit ↔ (HasBit old bit ⊎ IsBit bit)
+pub record SetsBits (IsBit : ℕ → Type 0) (old new : List Bool) : Type 0 where
+  pub size : length new ≡ length old
+  pub bits : (bit : ℕ) → HasBit new bit ↔ (HasBit old bit ⊎ IsBit bit)
 
 -- the bit of a text, if there is one
 abbrev pub IsBitOf : Option TextTerm → ℕ → Type 0
