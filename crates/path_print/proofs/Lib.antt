@@ -5,3 +5,4 @@ pub mod Digits
 pub mod Strings
 pub mod Ways
 pub mod Molecules
+pub mod Sheets

@@ -1,5 +1,5 @@
 -- What a pattern's expressions imply, worked out once, for private clauses alone.
-use Rattle.std.specs.Prelude.{◌≡◌, ℕ, ◌+◌, ◌*◌, ◌<◌, List, length, map, All, slice_get, slice_index, find, option_map, option_and_then, unwrap_or}
+use Rattle.std.specs.Prelude.{◌≡◌, ℕ, ◌+◌, ◌*◌, ◌<◌, ◌≤◌, List, length, map, All, slice_get, slice_index, find, option_map, option_and_then, unwrap_or}
 use Rattle.chem_core.specs.Graph.{JoinsAt}
 use Rattle.smarts_parse.specs.Pattern.{BondTerm, GraphTerm}
 use Rattle.path_print.specs.declared.known.Known.{Known}
@@ -19,3 +19,12 @@ IsSquare bonds square = (x y : ℕ) → x < 256 → y < 256
 pub record IsSimplePattern (n : ℕ) (bonds : List BondTerm) : Type 0 where
   pub in_range : All (λ bond. (bond.a < n) × (bond.b < n)) bonds
   pub once : (b c x y : ℕ) → JoinsAt (map (λ bond. (bond.a, bond.b)) bonds) b x y → JoinsAt (map (λ bond. (bond.a, bond.b)) bonds) c x y → b ≡ c
+
+-- a graph, and what its expressions imply
+pub record IsSheet (g : GraphTerm) (known : List Known) (square : List ℕ) : Type 0 where
+  pub few : length g.atoms ≤ 256
+  pub ends : IsSimplePattern (length g.atoms) g.bonds
+  pub room : length known ≡ 256
+  pub side : length square ≡ 65536
+  pub atoms : AreKnown g known
+  pub bonds : IsSquare g.bonds square

@@ -1,12 +1,12 @@
 //! The need of a pattern: the bits that every molecule has in which it embeds.
 //!
-//! What its expressions imply is worked out once: for each atom, and in a square for each two atoms.
-ghost use Rattle.std.specs.Prelude.{◌≡◌, ◌+◌, ◌*◌, ◌<◌, ◌≤◌, ℕ, length, map, slice_index, All};
+//! What the expressions imply is worked out once: for each atom, and in a square for each two atoms.
+ghost use Rattle.std.specs.Prelude.{◌≡◌, ◌+◌, ◌*◌, ◌<◌, ◌≤◌, ℕ, [], ◌∷◌, ◌++◌, length, map, slice_index, slice_set, IfSome, IfNone};
 ghost use Rattle.smarts_parse.specs.Pattern.{pattern_of, graph_of, bond_of};
 ghost use Rattle.smarts_parse.specs.Sound.{IsSoundPattern};
 ghost use Rattle.path_print.specs.Prints.{graph_view, IsNeed};
-ghost use Rattle.path_print.specs.Texts.{IsOn, IsBitFrom, SetsBits};
-ghost use Rattle.path_print.specs.Squares.{AreKnown, IsSimplePattern, IsSquare};
+ghost use Rattle.path_print.specs.Texts.{IsOn, IsOneLonger, IsBitFrom, NoneFrom, SetsBits, last_of};
+ghost use Rattle.path_print.specs.Squares.{AreKnown, IsSimplePattern, IsSquare, IsSheet};
 
 use crate::implied::{implied, implied_byte};
 use crate::known::Known;
@@ -38,7 +38,7 @@ pub fn need(pattern: &Pattern) -> Print
 // Writes what each atom implies.
 fn fill_known(known: &mut [Known], graph: &Graph)
     requires { length (graph_of graph.now).atoms ≤ length known.old }
-    ensures known { AreKnown (graph_of graph.now) known.new }
+    ensures { AreKnown (graph_of graph.now) known.new }
 {
     for (place, expr) in graph.atoms.iter().enumerate() {
         known[place] = implied(expr);
@@ -49,41 +49,56 @@ fn fill_known(known: &mut [Known], graph: &Graph)
 fn fill_square(square: &mut [u8], bonds: &[PatBond])
     requires size { length square.old ≡ SIDE * SIDE }
     requires zero { (i : ℕ) → slice_index square.old i ≡ 0 }
-    requires graph { IsSimplePattern SIDE (map bond_of bonds.now) }
+    requires bonds { IsSimplePattern SIDE (map bond_of bonds.now) }
     ensures { IsSquare (map bond_of bonds.now) square.new }
 {
     for bond in bonds {
         if let Some(byte) = implied_byte(&bond.expr) {
-            let (a, b) = (usize::from(bond.a), usize::from(bond.b));
-            square[SIDE * a + b] = byte;
-            square[SIDE * b + a] = byte;
+            write(square, usize::from(bond.a), usize::from(bond.b), byte);
         }
     }
 }
 
+fn write(square: &mut [u8], a: usize, b: usize, byte: u8)
+    requires size { length square.old ≡ SIDE * SIDE }
+    requires a { a < SIDE }
+    requires b { b < SIDE }
+    ensures { square.new ≡ slice_set (slice_set square.old (SIDE * a + b) byte) (SIDE * b + a) byte }
+{
+    square[SIDE * a + b] = byte;
+    square[SIDE * b + a] = byte;
+}
+
 // Sets the bits of all paths that begin with this one.
 fn walk(graph: &Graph, known: &[Known], square: &[u8], path: &Path, print: &mut Print)
-    requires few { length (graph_of graph.now).atoms ≤ SIDE }
-    requires ends { All (λ b. (b.a < length (graph_of graph.now).atoms) × (b.b < length (graph_of graph.now).atoms))
-        (graph_of graph.now).bonds }
-    requires known { AreKnown (graph_of graph.now) known.now }
-    requires square { IsSquare (graph_of graph.now).bonds square.now }
-    requires room { length known.now ≡ SIDE }
-    requires square_room { length square.now ≡ SIDE * SIDE }
+    requires sheet { IsSheet (graph_of graph.now) known.now square.now }
     requires path { IsOn (graph_view (graph_of graph.now)) path.now }
+    requires atom { last_of path.now.atoms < length (graph_of graph.now).atoms }
     ensures { SetsBits (IsBitFrom (graph_view (graph_of graph.now)) path.now.atoms) print.old print.new }
 {
     path.mark(print);
     if path.is_full() {
         return;
     }
-    let row = SIDE * usize::from(path.last());
     for atom in 0..graph.atoms.len() {
-        let byte = square[row + atom];
-        if byte != 0 {
-            if let Some(longer) = path.longer(atom as u16, byte, known[atom]) {
-                walk(graph, known, square, &longer, print);
-            }
+        if let Some(longer) = step(graph, known, square, path, atom as u16) {
+            walk(graph, known, square, &longer, print);
         }
     }
+}
+
+// The path that goes on to an atom. `None` where no path does.
+fn step(graph: &Graph, known: &[Known], square: &[u8], path: &Path, atom: u16) -> Option<Path>
+    requires sheet { IsSheet (graph_of graph.now) known.now square.now }
+    requires path { IsOn (graph_view (graph_of graph.now)) path.now }
+    requires last { last_of path.now.atoms < length (graph_of graph.now).atoms }
+    requires atom { atom < length (graph_of graph.now).atoms }
+    ensures some { IfSome result (IsOneLonger (graph_view (graph_of graph.now)) path.now atom) }
+    ensures none { IfNone result (NoneFrom (graph_view (graph_of graph.now)) (path.now.atoms ++ atom ∷ [])) }
+{
+    let byte = square[SIDE * usize::from(path.last()) + usize::from(atom)];
+    if byte == 0 {
+        return None;
+    }
+    path.longer(atom, byte, known[usize::from(atom)])
 }

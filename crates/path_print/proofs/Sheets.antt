@@ -1,0 +1,131 @@
+-- What a pattern's expressions imply, as it is written into a row and a square.
+use Rattle.std.proofs.Common.{ℕ, zero, suc, ◌+◌, ◌-◌, ◌*◌, ◌<◌, ◌≤◌, ◌≡◌, ◌≢◌, ◌⊎◌, inl, inr, Bool, true, false, cond, eqb, List, [], ◌∷◌, ◌++◌, length, get_or, set, map, take, Contains, refl, sym, ap, ◌∙◌, subst, ⊎_elim, arith}
+use Rattle.std.specs.Prelude.{Option, None, Some, option_map, option_and_then, find, unwrap_or}
+use Rattle.std.specs.List.{slice_get}
+use Rattle.std.proofs.lemmas.Bool.{cases_lt, cases_eq, false≢true}
+use Rattle.std.proofs.lemmas.List.{length-set, length-map, length-append, get_or-set_same, get_or-set_other}
+use Rattle.std.proofs.lemmas.Option.{none-some, same_Some, slice_get_within, slice_get-map, slice_get-get_or, get_or_from_slice_get}
+use Rattle.chem_core.specs.Graph.{Ends, JoinsAt}
+use Rattle.smarts_parse.specs.Pattern.{Term, Prim, Not, And, Or, BondTerm, GraphTerm}
+use Rattle.smarts_parse.specs.declared.pattern.BondPrim.{BondPrim}
+use Rattle.smarts_parse.specs.declared.pattern.BondPrim.TheVariants as bonds
+use Rattle.path_print.specs.declared.known.Known.{Known}
+use Rattle.path_print.specs.Path.{Family, exact, plain, label_of, View, string_of}
+use Rattle.path_print.specs.Implied.{implied, implied_byte, prim_byte, either, alike}
+use Rattle.path_print.specs.Prints.{are_ends, graph_view}
+use Rattle.path_print.specs.Squares.{AreKnown, IsSquare, IsSimplePattern, IsSheet}
+use Rattle.path_print.specs.Texts.{PathTerm, IsOn, IsBitFrom, NoneFrom, last_of}
+use Rattle.path_print.proofs.Options.{and_then_some, find_there, find_some, either_some, alike_some}
+use Rattle.path_print.proofs.Carries.{ends_cases, ends_there, ends_back}
+use Rattle.path_print.proofs.Molecules.{find_same, ends_swap}
+use Rattle.path_print.proofs.Strings.{split_last, step_byte}
+
+-- ---- bytes
+
+prim_above : (p : BondPrim) (n : ℕ) → prim_byte p ≡ Some n → n ≢ 0
+prim_above bonds.Single n h e = absurd (omega (arith, same_Some 1 n h, e))
+prim_above bonds.Aromatic n h e = absurd (omega (arith, same_Some 1 n h, e))
+prim_above bonds.Unwritten n h e = absurd (omega (arith, same_Some 1 n h, e))
+prim_above bonds.Double n h e = absurd (omega (arith, same_Some 2 n h, e))
+prim_above bonds.Triple n h e = absurd (omega (arith, same_Some 3 n h, e))
+prim_above bonds.Quad n h e = absurd (omega (arith, same_Some 4 n h, e))
+prim_above bonds.Any n h e = absurd (none-some n h)
+prim_above bonds.Ring n h e = absurd (none-some n h)
+
+-- an implied byte is not 0
+pub byte_above : (e : Term BondPrim) (n : ℕ) → implied_byte e ≡ Some n → n ≢ 0
+byte_above (Prim p) n h = prim_above p n h
+byte_above (Not e) n h = absurd (none-some n h)
+byte_above (And e f) n h = ⊎_elim (byte_above e n) (byte_above f n) (either_some (implied_byte e) (implied_byte f) n h)
+byte_above (Or e f) n h = byte_above e n (alike_some _ (implied_byte e) (implied_byte f) n h).0
+
+pub graph_symmetric : (g : GraphTerm) (family : Family) (x y : ℕ) → (graph_view g family).byte x y ≡ (graph_view g family).byte y x
+graph_symmetric g family x y =
+    ap (option_and_then (λ bond. implied_byte bond.expr)) (find_same (λ bond. are_ends x y bond.a bond.b) (λ bond. are_ends y x bond.a bond.b) (λ bond. ends_swap x y bond.a bond.b) g.bonds)
+
+-- ---- one more bond in the square
+
+find_push_some : {A : Type 0} (p : A → Bool) (xs : List A) (x y : A) → find p xs ≡ Some y → find p (xs ++ x ∷ []) ≡ Some y
+find_push_some p [] x y h = absurd (none-some y h)
+find_push_some p (z ∷ zs) x y h = at (p z) h (find_push_some p zs x y)
+  where
+    at : (b : Bool) → cond b (Some z) (find p zs) ≡ Some y → (find p zs ≡ Some y → find p (zs ++ x ∷ []) ≡ Some y) → cond b (Some z) (find p (zs ++ x ∷ [])) ≡ Some y
+    at true g more = g
+    at false g more = more g
+
+find_push_none : {A : Type 0} (p : A → Bool) (xs : List A) (x : A) → find p xs ≡ None → find p (xs ++ x ∷ []) ≡ cond (p x) (Some x) None
+find_push_none p [] x h = refl
+find_push_none p (z ∷ zs) x h = at (p z) h (find_push_none p zs x)
+  where
+    at : (b : Bool) → cond b (Some z) (find p zs) ≡ None → (find p zs ≡ None → find p (zs ++ x ∷ []) ≡ cond (p x) (Some x) None) → cond b (Some z) (find p (zs ++ x ∷ [])) ≡ cond (p x) (Some x) None
+    at true g more = absurd (none-some z (sym g))
+    at false g more = more g
+
+option_cases : {A : Type 0} (o : Option A) → (o ≡ None) ⊎ ((x : A) × (o ≡ Some x))
+option_cases None = inl refl
+option_cases (Some x) = inr (x, refl)
+
+bool_cases : (b : Bool) → (b ≡ true) ⊎ (b ≡ false)
+bool_cases true = inl refl
+bool_cases false = inr refl
+
+-- what stands in the square for two atoms
+abbrev value_of : List BondTerm → ℕ → ℕ → ℕ
+value_of bs x y = unwrap_or (option_and_then (λ bond. implied_byte bond.expr) (find (λ bond. are_ends x y bond.a bond.b) bs)) 0
+
+pub square_step : (bs : List BondTerm) (b : BondTerm) (old new : List ℕ) → IsSquare bs old → length old ≡ 65536 → b.a < 256 → b.b < 256
+    → ((x y : ℕ) → are_ends x y b.a b.b ≡ true → find (λ bond. are_ends x y bond.a bond.b) bs ≡ None)
+    → ((implied_byte b.expr ≡ None) × (new ≡ old)) ⊎ ((n : ℕ) × (implied_byte b.expr ≡ Some n) × (new ≡ set (set old (256 * b.a + b.b) n) (256 * b.b + b.a) n))
+    → IsSquare (bs ++ b ∷ []) new
+square_step bs b old new square size ha hb fresh cases x y hx hy =
+    elim (bool_cases (are_ends x y b.a b.b)) [
+      | inl ends ↦
+          let none = fresh x y ends in
+          let found : find (λ bond. are_ends x y bond.a bond.b) (bs ++ b ∷ []) ≡ Some b = find_push_none (λ bond. are_ends x y bond.a bond.b) bs b none ∙ ap (λ c. cond c (Some b) None) ends in
+          let is : value_of (bs ++ b ∷ []) x y ≡ unwrap_or (implied_byte b.expr) 0 = ap (λ o. unwrap_or (option_and_then (λ bond. implied_byte bond.expr) o) 0) found in
+          let was : get_or old (256 * x + y) 0 ≡ 0 = square x y hx hy ∙ ap (λ o. unwrap_or (option_and_then (λ bond. implied_byte bond.expr) o) 0) none in
+          elim cases [
+            | inl q ↦ ap (λ zs. get_or zs (256 * x + y) 0) q.1 ∙ was ∙ sym (is ∙ ap (λ o. unwrap_or o 0) q.0)
+            | inr q ↦
+                let n : ℕ = q.0 in
+                let i : ℕ = 256 * b.a + b.b in
+                let j : ℕ = 256 * b.b + b.a in
+                let hi : i < length old = omega arith in
+                let hj : j < length (set old i n) = rw length-set (omega arith) in
+                let there : get_or (set (set old i n) j n) (256 * x + y) 0 ≡ n = elim (ends_cases x y b.a b.b ends) [
+                  | inl r ↦
+                      let at : 256 * x + y ≡ i = omega (arith, r.0, r.1) in
+                      rw at (elim (cases_eq i j) [
+                        | inl same ↦ rw same (get_or-set_same (set old j n) j n 0 (rw length-set (omega arith)))
+                        | inr other ↦ get_or-set_other (set old i n) j i n 0 other ∙ get_or-set_same old i n 0 hi
+                      ])
+                  | inr r ↦
+                      let at : 256 * x + y ≡ j = omega (arith, r.0, r.1) in
+                      rw at (get_or-set_same (set old i n) j n 0 hj)
+                ] in
+                ap (λ zs. get_or zs (256 * x + y) 0) q.2 ∙ there ∙ sym (is ∙ ap (λ o. unwrap_or o 0) q.1)
+          ]
+      | inr apart ↦
+          let found : find (λ bond. are_ends x y bond.a bond.b) (bs ++ b ∷ []) ≡ find (λ bond. are_ends x y bond.a bond.b) bs = elim (option_cases (find (λ bond. are_ends x y bond.a bond.b) bs)) [
+            | inl none ↦ find_push_none (λ bond. are_ends x y bond.a bond.b) bs b none ∙ ap (λ c. cond c (Some b) None) apart ∙ sym none
+            | inr some ↦ find_push_some (λ bond. are_ends x y bond.a bond.b) bs b some.0 some.1 ∙ sym some.1
+          ] in
+          let is : value_of (bs ++ b ∷ []) x y ≡ value_of bs x y = ap (λ o. unwrap_or (option_and_then (λ bond. implied_byte bond.expr) o) 0) found in
+          let kept : get_or new (256 * x + y) 0 ≡ get_or old (256 * x + y) 0 = elim cases [
+            | inl q ↦ ap (λ zs. get_or zs (256 * x + y) 0) q.1
+            | inr q ↦
+                let n : ℕ = q.0 in
+                let i : ℕ = 256 * b.a + b.b in
+                let j : ℕ = 256 * b.b + b.a in
+                let ni : 256 * x + y ≢ i = λ e.
+                    let ea : x ≡ b.a = omega arith in
+                    let eb : y ≡ b.b = omega arith in
+                    false≢true (sym apart ∙ rw (ea, eb) (ends_there b.a b.b)) in
+                let nj : 256 * x + y ≢ j = λ e.
+                    let ea : x ≡ b.b = omega arith in
+                    let eb : y ≡ b.a = omega arith in
+                    false≢true (sym apart ∙ rw (ea, eb) (ends_back b.b b.a)) in
+                ap (λ zs. get_or zs (256 * x + y) 0) q.2 ∙ get_or-set_other (set old i n) j (256 * x + y) n 0 nj ∙ get_or-set_other old i (256 * x + y) n 0 ni
+          ] in
+          kept ∙ square x y hx hy ∙ sym is
+    ]
