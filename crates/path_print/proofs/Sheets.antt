@@ -3,10 +3,11 @@ use Rattle.std.proofs.Common.{ℕ, zero, suc, ◌+◌, ◌-◌, ◌*◌, ◌<◌
 use Rattle.std.specs.Prelude.{Option, None, Some, option_map, option_and_then, find, unwrap_or}
 use Rattle.std.specs.List.{slice_get}
 use Rattle.std.proofs.lemmas.Bool.{cases_lt, cases_eq, false≢true}
-use Rattle.std.proofs.lemmas.List.{length-set, length-map, length-append, get_or-set_same, get_or-set_other}
+use Rattle.std.proofs.lemmas.List.{length-set, length-map, length-append, get_or-map, get_or-set_same, get_or-set_other}
 use Rattle.std.proofs.lemmas.Option.{none-some, same_Some, slice_get_within, slice_get-map, slice_get-get_or, get_or_from_slice_get}
 use Rattle.chem_core.specs.Graph.{Ends, JoinsAt}
 use Rattle.smarts_parse.specs.Pattern.{Term, Prim, Not, And, Or, BondTerm, GraphTerm}
+use Rattle.smarts_parse.specs.Sound.{IsSoundGraph}
 use Rattle.smarts_parse.specs.declared.pattern.BondPrim.{BondPrim}
 use Rattle.smarts_parse.specs.declared.pattern.BondPrim.TheVariants as bonds
 use Rattle.path_print.specs.declared.known.Known.{Known}
@@ -129,3 +130,99 @@ square_step bs b old new square size ha hb fresh cases x y hx hy =
           ] in
           kept ∙ square x y hx hy ∙ sym is
     ]
+
+-- ---- what is read
+
+value_some : (e : Option ℕ) (f : ℕ) → e ≡ Some f → unwrap_or e 0 ≡ f
+value_some e f h = ap (λ o. unwrap_or o 0) h
+
+module _ (g : GraphTerm) (known : List Known) (square : List ℕ) (sheet : IsSheet g known square) (family : Family) (x y : ℕ) (hx : x < length g.atoms) (hy : y < length g.atoms) where
+  square_at : get_or square (256 * x + y) 0 ≡ value_of g.bonds x y
+  square_at =
+      let few = sheet.few in
+      sheet.bonds x y (omega arith) (omega arith)
+
+  pub byte_from_square : get_or square (256 * x + y) 0 ≢ 0 → (graph_view g family).byte x y ≡ Some (get_or square (256 * x + y) 0)
+  byte_from_square above =
+      elim (option_cases ((graph_view g family).byte x y)) [
+        | inl none ↦ absurd (above (square_at ∙ ap (λ o. unwrap_or o 0) none))
+        | inr some ↦ some.1 ∙ ap Some (sym (square_at ∙ ap (λ o. unwrap_or o 0) some.1))
+      ]
+
+  pub no_byte_from_square : get_or square (256 * x + y) 0 ≡ 0 → (b : ℕ) → (graph_view g family).byte x y ≡ Some b → ⊥
+  no_byte_from_square none b h =
+      let q = and_then_some _ (find (λ bond. are_ends x y bond.a bond.b) g.bonds) b h in
+      byte_above q.0.expr b q.2 (sym (square_at ∙ ap (λ o. unwrap_or o 0) h) ∙ none)
+
+  pub label_from_known : (d : Known) → (graph_view g family).label y ≡ label_of family (get_or known y d)
+  label_from_known d =
+      let few = sheet.few in
+      let room = sheet.room in
+      let got : Some (get_or known y d) ≡ option_map implied (slice_get g.atoms y) = sym (slice_get-get_or known y d (omega arith)) ∙ sheet.atoms y hy in
+      at (slice_get g.atoms y) (get_or known y d) got
+    where
+      at : (o : Option (Term _)) (k : Known) → Some k ≡ option_map implied o → option_and_then (λ e. label_of family (implied e)) o ≡ label_of family k
+      at None k h = absurd (none-some k (sym h))
+      at (Some e) k h = ap (label_of family) (sym (same_Some k (implied e) h))
+
+pub byte_within : (g : GraphTerm) → IsSimplePattern (length g.atoms) g.bonds → (family : Family) (x y b : ℕ) → (graph_view g family).byte x y ≡ Some b → y < length g.atoms
+byte_within g simple family x y b h =
+    let q = and_then_some _ (find (λ bond. are_ends x y bond.a bond.b) g.bonds) b h in
+    let there = find_there (λ bond. are_ends x y bond.a bond.b) g.bonds q.0 q.1 in
+    let ok = simple.in_range there.0 q.0 (slice_get_within g.bonds there.0 q.0 there.1) in
+    let ok' : (q.0.a < length g.atoms) × (q.0.b < length g.atoms) = subst (λ (z : BondTerm). (z.a < length g.atoms) × (z.b < length g.atoms)) (get_or_from_slice_get g.bonds there.0 q.0 q.0 there.1) ok in
+    elim (ends_cases x y q.0.a q.0.b there.2) [ inl r ↦ subst (λ z. z < length g.atoms) r.1 ok'.1 | inr r ↦ subst (λ z. z < length g.atoms) r.0 ok'.0 ]
+
+pub graph_label_within : (g : GraphTerm) (family : Family) (x : ℕ) (l : ℕ × ℕ) → (graph_view g family).label x ≡ Some l → x < length g.atoms
+graph_label_within g family x l h = let q = and_then_some _ (slice_get g.atoms x) l h in slice_get_within g.atoms x q.0 q.1
+
+-- ---- what is written
+
+-- one more atom
+pub known_more : (g : GraphTerm) (known : List Known) (i : ℕ) (v : Known) (e : Term _) → i < length known → slice_get g.atoms i ≡ Some e → v ≡ implied e → ((j : ℕ) → j < i → slice_get known j ≡ option_map implied (slice_get g.atoms j)) → (j : ℕ) → j < i + 1 → slice_get (set known i v) j ≡ option_map implied (slice_get g.atoms j)
+known_more g known i v e within at is before j h =
+    elim (cases_eq j i) [
+      | inl same ↦
+          let here : slice_get (set known i v) i ≡ Some v = slice_get-get_or (set known i v) i v (rw length-set within) ∙ ap Some (get_or-set_same known i v v within) in
+          rw same (here ∙ ap Some is ∙ sym (ap (option_map implied) at))
+      | inr other ↦
+          let lt : j < i = omega arith in
+          slice_get-get_or (set known i v) j v (rw length-set (omega arith)) ∙ ap Some (get_or-set_other known i j v v other) ∙ sym (slice_get-get_or known j v (omega arith)) ∙ before j lt
+    ]
+
+-- no bond before joins the same two
+pub fresh_bond : (n : ℕ) (bs : List BondTerm) (b : BondTerm) (whole : List BondTerm) → IsSimplePattern n whole → ((j : ℕ) (c : BondTerm) → slice_get bs j ≡ Some c → slice_get whole j ≡ Some c) → slice_get whole (length bs) ≡ Some b → (x y : ℕ) → are_ends x y b.a b.b ≡ true → find (λ bond. are_ends x y bond.a bond.b) bs ≡ None
+fresh_bond n bs b whole simple begins at x y ends =
+    elim (option_cases (find (λ bond. are_ends x y bond.a bond.b) bs)) [
+      | inl none ↦ none
+      | inr some ↦
+          let there = find_there (λ bond. are_ends x y bond.a bond.b) bs some.0 some.1 in
+          let low = slice_get_within bs there.0 some.0 there.1 in
+          let same = simple.once there.0 (length bs) x y (joins_at whole there.0 some.0 (begins there.0 some.0 there.1) there.2) (joins_at whole (length bs) b at ends) in
+          absurd (omega (arith, low, same))
+    ]
+  where
+    joins_at : (zs : List BondTerm) (j : ℕ) (c : BondTerm) → slice_get zs j ≡ Some c → are_ends x y c.a c.b ≡ true → JoinsAt (map (λ bond. (bond.a, bond.b)) zs) j x y
+    joins_at zs j c here e =
+        let ends : BondTerm → ℕ × ℕ = λ bond. (bond.a, bond.b) in
+        let pair : slice_get (map ends zs) j ≡ Some (ends c) = slice_get-map ends zs j ∙ ap (option_map ends) here in
+        elim (ends_cases x y c.a c.b e) [ inl r ↦ inl (rw (r.0, r.1) at pair) | inr r ↦ inr (rw (r.0, r.1) at pair) ]
+
+pub simple_within : (g : GraphTerm) (n : ℕ) → IsSoundGraph n g → IsSimplePattern (length g.atoms) g.bonds
+simple_within g n sound = record {
+  in_range = λ k d h.
+      let ends : BondTerm → ℕ × ℕ = λ bond. (bond.a, bond.b) in
+      let at : get_or (map ends g.bonds) k (ends d) ≡ ends (get_or g.bonds k d) = get_or-map ends g.bonds k d (ends d) h in
+      let ok = sound.in_range k (ends d) (rw length-map h) in
+      subst (λ (e : ℕ × ℕ). (e.0 < length g.atoms) × (e.1 < length g.atoms)) at ok;
+  once = sound.once;
+}
+
+pub simple_wider : (m n : ℕ) (bs : List BondTerm) → m ≤ n → IsSimplePattern m bs → IsSimplePattern n bs
+simple_wider m n bs le simple = record {
+  in_range = λ k d h. let ok = simple.in_range k d h in (omega (arith, ok.0), omega (arith, ok.1));
+  once = simple.once;
+}
+
+pub square_blank : (square : List ℕ) → ((i : ℕ) → get_or square i 0 ≡ 0) → IsSquare [] square
+square_blank square zeros x y hx hy = zeros (256 * x + y)

@@ -272,3 +272,11 @@ below_all views n empty print within size none sets = record {
     first family bit (x ∷ xs) there back path is =
         let l = labels_in (views family) (x ∷ xs) there path.reads 0 0 (omega arith) in
         (x, within family x l.0 l.1, (family, xs, there, back, path, is))
+
+-- without a bond that has a byte no path goes on
+pub none_without_byte : (views : Family → View) (p : PathTerm) → IsOn views p → (y : ℕ) → ((family : Family) (b : ℕ) → (views family).byte (last_of p.atoms) y ≡ Some b → ⊥) → NoneFrom views (p.atoms ++ y ∷ [])
+none_without_byte views p on y none = λ bit from.
+    let whole = split_last p.atoms on.some in
+    let reads : string_of (views from.0) (((take (length p.atoms - 1) p.atoms ++ last_of p.atoms ∷ []) ++ y ∷ []) ++ from.1) ≡ Some from.2 = sym (ap (λ xs. string_of (views from.0) ((xs ++ y ∷ []) ++ from.1)) whole) ∙ from.4.reads in
+    let b = step_byte (views from.0) (take (length p.atoms - 1) p.atoms) (last_of p.atoms) y from.1 from.2 reads in
+    none from.0 b.0 b.1

@@ -1,8 +1,8 @@
 //! The need of a pattern: the bits that every molecule has in which it embeds.
 //!
 //! What the expressions imply is worked out once: for each atom, and in a square for each two atoms.
-ghost use Rattle.std.specs.Prelude.{◌≡◌, ◌+◌, ◌*◌, ◌<◌, ◌≤◌, ℕ, [], ◌∷◌, ◌++◌, length, map, slice_index, slice_set, IfSome, IfNone};
-ghost use Rattle.smarts_parse.specs.Pattern.{pattern_of, graph_of, bond_of};
+ghost use Rattle.std.specs.Prelude.{◌≡◌, ◌+◌, ◌*◌, ◌<◌, ◌≤◌, ℕ, [], ◌∷◌, ◌++◌, length, slice_index, slice_set, IfSome, IfNone};
+ghost use Rattle.smarts_parse.specs.Pattern.{pattern_of, graph_of};
 ghost use Rattle.smarts_parse.specs.Sound.{IsSoundPattern};
 ghost use Rattle.path_print.specs.Prints.{graph_view, IsNeed};
 ghost use Rattle.path_print.specs.Texts.{IsOn, IsOneLonger, IsBitFrom, NoneFrom, SetsBits, last_of};
@@ -12,10 +12,13 @@ use crate::implied::{implied, implied_byte};
 use crate::known::Known;
 use crate::path::Path;
 use chem_core::Print;
-use smarts_parse::{Graph, PatBond, Pattern};
+use smarts_parse::{Graph, Pattern};
 
 /// The most atoms of a pattern, and the side of the square.
 const SIDE: usize = 256;
+
+/// The places of the square.
+const PLACES: usize = SIDE * SIDE;
 
 /// The bits of the paths whose atoms and bonds all imply their labels and bytes.
 pub fn need(pattern: &Pattern) -> Print
@@ -23,10 +26,8 @@ pub fn need(pattern: &Pattern) -> Print
     ensures { IsNeed (pattern_of pattern.now) result }
 {
     let graph = &pattern.top;
-    let mut known = [Known::NOTHING; SIDE];
-    let mut square = [0; SIDE * SIDE];
-    fill_known(&mut known, graph);
-    fill_square(&mut square, &graph.bonds);
+    let known = known_atoms(graph);
+    let square = square_of(graph);
     let mut print = Print::empty();
     for atom in 0..graph.atoms.len() {
         let path = Path::start(atom as u16, known[atom]);
@@ -35,32 +36,43 @@ pub fn need(pattern: &Pattern) -> Print
     print
 }
 
-// Writes what each atom implies.
-fn fill_known(known: &mut [Known], graph: &Graph)
-    requires { length (graph_of graph.now).atoms ≤ length known.old }
-    ensures { AreKnown (graph_of graph.now) known.new }
+// What each atom implies.
+fn known_atoms(graph: &Graph) -> [Known; SIDE]
+    requires { length (graph_of graph.now).atoms ≤ SIDE }
+    ensures known { AreKnown (graph_of graph.now) result }
+    ensures size { length result ≡ SIDE }
 {
+    let mut known = [Known::NOTHING; SIDE];
     for (place, expr) in graph.atoms.iter().enumerate() {
         known[place] = implied(expr);
     }
+    known
 }
 
-// Writes the byte that each bond implies, for its ends either way round; 0 stays where none does.
-fn fill_square(square: &mut [u8], bonds: &[PatBond])
-    requires size { length square.old ≡ SIDE * SIDE }
-    requires zero { (i : ℕ) → slice_index square.old i ≡ 0 }
-    requires bonds { IsSimplePattern SIDE (map bond_of bonds.now) }
-    ensures { IsSquare (map bond_of bonds.now) square.new }
+// The byte that each bond implies, at its ends either way round; 0 where none does.
+fn square_of(graph: &Graph) -> [u8; PLACES]
+    requires { IsSimplePattern SIDE (graph_of graph.now).bonds }
+    ensures square { IsSquare (graph_of graph.now).bonds result }
+    ensures size { length result ≡ PLACES }
 {
-    for bond in bonds {
+    let mut square = blank_square();
+    for bond in &graph.bonds {
         if let Some(byte) = implied_byte(&bond.expr) {
-            write(square, usize::from(bond.a), usize::from(bond.b), byte);
+            write(&mut square, usize::from(bond.a), usize::from(bond.b), byte);
         }
     }
+    square
+}
+
+fn blank_square() -> [u8; PLACES]
+    ensures zero { (i : ℕ) → slice_index result i ≡ 0 }
+    ensures size { length result ≡ PLACES }
+{
+    [0; PLACES]
 }
 
 fn write(square: &mut [u8], a: usize, b: usize, byte: u8)
-    requires size { length square.old ≡ SIDE * SIDE }
+    requires size { length square.old ≡ PLACES }
     requires a { a < SIDE }
     requires b { b < SIDE }
     ensures { square.new ≡ slice_set (slice_set square.old (SIDE * a + b) byte) (SIDE * b + a) byte }
