@@ -3,7 +3,7 @@ use Rattle.std.proofs.Common.{ℕ, zero, suc, ◌+◌, ◌-◌, ◌*◌, ◌<◌
 use Rattle.std.specs.Prelude.{Option, None, Some, option_map, option_and_then, find, unwrap_or}
 use Rattle.std.specs.List.{slice_get}
 use Rattle.std.proofs.lemmas.Bool.{cases_lt, cases_eq, false≢true}
-use Rattle.std.proofs.lemmas.List.{length-set, length-map, length-append, get_or-map, get_or-set_same, get_or-set_other}
+use Rattle.std.proofs.lemmas.List.{length-set, length-map, length-append, length-take-le, take_more, get_or-map, get_or-set_same, get_or-set_other}
 use Rattle.std.proofs.lemmas.Option.{none-some, same_Some, slice_get_within, slice_get-map, slice_get-get_or, get_or_from_slice_get}
 use Rattle.chem_core.specs.Graph.{Ends, JoinsAt}
 use Rattle.smarts_parse.specs.Pattern.{Term, Prim, Not, And, Or, BondTerm, GraphTerm}
@@ -226,3 +226,28 @@ simple_wider m n bs le simple = record {
 
 pub square_blank : (square : List ℕ) → ((i : ℕ) → get_or square i 0 ≡ 0) → IsSquare [] square
 square_blank square zeros x y hx hy = zeros (256 * x + y)
+
+begins_take : (i : ℕ) (xs : List BondTerm) (j : ℕ) (c : BondTerm) → slice_get (take i xs) j ≡ Some c → slice_get xs j ≡ Some c
+begins_take zero xs j c h = absurd (none-some c h)
+begins_take (suc i) [] j c h = absurd (none-some c h)
+begins_take (suc i) (x ∷ xs) zero c h = h
+begins_take (suc i) (x ∷ xs) (suc j) c h = begins_take i xs j c h
+
+-- the ends of a bond
+pub ends_small : (n : ℕ) (whole : List BondTerm) (i : ℕ) (b : BondTerm) → IsSimplePattern n whole → slice_get whole i ≡ Some b → (b.a < n) × (b.b < n)
+ends_small n whole i b simple at =
+    let ok = simple.in_range i b (slice_get_within whole i b at) in
+    subst (λ (z : BondTerm). (z.a < n) × (z.b < n)) (get_or_from_slice_get whole i b b at) ok
+
+-- one more bond of a graph
+pub square_more : (whole : List BondTerm) (i : ℕ) (b : BondTerm) (old new : List ℕ) → IsSimplePattern 256 whole → slice_get whole i ≡ Some b → IsSquare (take i whole) old → length old ≡ 65536
+    → ((implied_byte b.expr ≡ None) × (new ≡ old)) ⊎ ((n : ℕ) × (implied_byte b.expr ≡ Some n) × (new ≡ set (set old (256 * b.a + b.b) n) (256 * b.b + b.a) n))
+    → IsSquare (take (i + 1) whole) new
+square_more whole i b old new simple at square size cases =
+    let ends = ends_small 256 whole i b simple at in
+    let within = slice_get_within whole i b at in
+    let long : length (take i whole) ≡ i = length-take-le i whole (omega arith) in
+    let next : take (i + 1) whole ≡ take i whole ++ b ∷ [] = take_more whole i b within ∙ ap (λ z. take i whole ++ z ∷ []) (get_or_from_slice_get whole i b b at) in
+    rw next
+    (square_step (take i whole) b old new square size ends.0 ends.1
+    (fresh_bond 256 (take i whole) b whole simple (begins_take i whole) (ap (slice_get whole) long ∙ at)) cases)
