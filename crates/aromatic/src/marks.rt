@@ -2,7 +2,7 @@
 //!
 //! Each bond is searched in turn. If a Hückel cycle goes through it, all bonds of the cycle are marked; if none does, the
 //! bond is ruled out, so that no later search goes over it.
-ghost use Rattle.std.specs.Prelude.{◌≡◌, ◌<◌, ◌+◌, ◌↔◌, ◌⊎◌, List, Option, length, map, replicate, option_map, slice_index_or, All, Contains, IfOk, OnOk, ℕ, true, false};
+ghost use Rattle.std.specs.Prelude.{◌≡◌, ◌<◌, ◌+◌, ◌↔◌, ◌⊎◌, List, Option, length, map, replicate, option_map, slice_index_or, slice_set, All, Contains, IfOk, OnOk, ℕ, true, false};
 ghost use Rattle.chem_core.specs.Graph.{IsSimpleGraph};
 ghost use Rattle.chem_core.specs.RingFacts.{AreRingBonds};
 ghost use Rattle.chem_core.specs.Sound.{IsSound, ends_among};
@@ -117,7 +117,8 @@ fn rule_out(bonds: &[SketchBond], place: usize, possible: &mut [bool], links: &m
     requires place { place < length bonds.now }
     requires each { length possible.old ≡ length bonds.now }
     requires graph { IsSimpleGraph (length links.old) (ends_among bonds.now) }
-    ensures { (gives : List (Option ℕ)) → IsNet (ends_among bonds.now) possible.old gives (links_in links.old)
+    ensures ruled_out { possible.new ≡ slice_set possible.old place false }
+    ensures net { (gives : List (Option ℕ)) → IsNet (ends_among bonds.now) possible.old gives (links_in links.old)
         → (IsAromaticBy (ends_among bonds.now) gives place → ⊥)
         → IsNet (ends_among bonds.now) possible.new gives (links_in links.new) }
 {

@@ -56,7 +56,7 @@ pub returns-else-branch-clause-net : goal.returns-else-branch-clause-net
 returns-else-branch-clause-net c =
     let here = ends_at_place c.args.bonds.now c.args.place _ c.requires.place in
     let none = rw c.deref.ensures.value at (c.in_ok-closes.ensures.none (ap (λ b. Ok b) c.if-branch.false)) in
-    let less = rw (c.deref_mut.ensures.value, c.deref_mut-else-branch.ensures.value) at (c.rule_out.ensures c.args.gives.now) in
+    let less = rw (c.deref_mut.ensures.value, c.deref_mut-else-branch.ensures.value) at (c.rule_out.ensures.net c.args.gives.now) in
     let long : length c.rule_out.new.possible ≡ vec_len c.args.search.now.possible = c.rule_out.auto.possible ∙ ap (λ xs. length xs) c.deref_mut.ensures.value ∙ sym c.args.search.now.possible.ok.0 in
     let long' : length c.rule_out.new.links ≡ vec_len c.args.search.now.links = c.rule_out.auto.links ∙ ap (λ xs. length xs) c.deref_mut-else-branch.ensures.value ∙ sym c.args.search.now.links.ok.0 in
     rw (take_at c.rule_out.new.possible (drop (length c.rule_out.new.possible) c.args.search.now.possible.items) (vec_len c.args.search.now.possible) long, take_at c.rule_out.new.links (drop (length c.rule_out.new.links) c.args.search.now.links.items) (vec_len c.args.search.now.links) long')
