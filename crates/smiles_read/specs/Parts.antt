@@ -1,10 +1,10 @@
 -- The pieces of an atom as they are read: for private clauses only.
-use Rattle.std.specs.Prelude.{ℕ, ◌≤◌, Bool, List, [], ◌∷◌, ◌++◌, length, slice_index_or, ℤ, Option, None, Some, codes}
+use Rattle.std.specs.Prelude.{ℕ, ◌≤◌, Bool, List, [], ◌++◌, length, slice_index_or, Option, None, Some, codes}
 use Rattle.std.specs.List.{AllByRecursion}
 use Rattle.chem_core.specs.Element.{symbols}
 use Rattle.smiles_read.specs.declared.bracket.Front.{Front}
 use Rattle.smiles_read.specs.declared.bracket.End.{End}
-use Rattle.smiles_read.specs.Atom.{IsDigit, value_of, Symbol, symbol_text, IsSymbol, symbol_number, is_lower, Chiral, chiral_text, IsChiral, Hydrogens, unwritten, single, counted, hydrogens_text, hydrogen_count, Charge, charge_text, charge_value, IsCharge, class_text, IsClass, Lower, IsOrganicLower, AtomText, star, organic, aromatic, bracket}
+use Rattle.smiles_read.specs.Atom.{IsDigit, value_of, Symbol, symbol_text, IsSymbol, symbol_number, is_lower, Chiral, chiral_text, IsChiral, Hydrogens, unwritten, single, counted, hydrogens_text, hydrogen_count, Charge, charge_text, charge_value, IsCharge, class_text, IsClass, IsOrganicLower, AtomText, star, organic, aromatic, bracket}
 
 -- every piece of a kind
 abbrev pub IsAny : {X : Type 0} → X → Type 0

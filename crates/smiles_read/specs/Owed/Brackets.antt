@@ -1,5 +1,5 @@
 -- The front and the end of a bracket, read back from their texts.
-use Rattle.std.proofs.Common.{◌≡◌, ℕ, Bool, inl, List, [], ◌∷◌, ◌++◌, Option, refl, sym, ◌∙◌, ap, append_assoc}
+use Rattle.std.proofs.Common.{◌≡◌, ℕ, Bool, inl, List, ◌∷◌, ◌++◌, Option, refl, sym, ◌∙◌, ap, append_assoc}
 use Rattle.std.specs.Prelude.{ℤ}
 use Rattle.smiles_read.specs.declared.bracket.Front.{Front}
 use Rattle.smiles_read.specs.declared.bracket.End.{End}

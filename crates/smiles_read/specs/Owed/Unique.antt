@@ -1,5 +1,5 @@
 -- Atoms that are spelled alike are the same, where what follows them may follow.
-use Rattle.std.proofs.Common.{◌≡◌, ℕ, ◌<◌, ◌≤◌, ◌⊎◌, inl, inr, cond, ◌==◌, ◌&&◌, List, [], ◌∷◌, ◌++◌, Option, refl, sym, ◌∙◌, ap, arith}
+use Rattle.std.proofs.Common.{◌≡◌, ℕ, ◌<◌, ◌≤◌, ◌⊎◌, inl, inr, cond, ◌==◌, ◌&&◌, List, [], ◌∷◌, ◌++◌, refl, sym, ◌∙◌, ap, arith}
 use Rattle.chem_core.specs.Organic.{Organic, boron, carbon, nitrogen, oxygen, phosphorus, sulfur, fluorine, chlorine, bromine, iodine, symbol_bytes, atomic_number}
 use Rattle.line_walk.specs.Follow.{AfterAtom}
 use Rattle.smiles_read.specs.Atom.{Lower, lower_bytes, AtomText, star, organic, aromatic, bracket, atom_text, IsAtomText}

@@ -1,4 +1,4 @@
-use Rattle.std.proofs.Common.{◌≤◌, ◌≡◌, ◌+◌, ◌∷◌, ◌∙◌, ℕ, List, suc, length, arith, refl, ap, sym}
+use Rattle.std.proofs.Common.{◌≤◌, ◌≡◌, ◌+◌, ◌∷◌, ◌∙◌, ℕ, List, length, arith, refl, ap, sym}
 use Rattle.std.proofs.lemmas.Bool.Decides.{nat_tests}
 use Rattle.smiles_read.specs.Atom.{run, amount, signed, sign_byte}
 use Rattle.smiles_read.specs.Owed.Pieces.{amount_empty, amount_digits, run_found}

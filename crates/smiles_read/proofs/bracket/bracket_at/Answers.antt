@@ -5,9 +5,8 @@ use Rattle.std.proofs.lemmas.Int.{to_z-of_z}
 use Rattle.std.specs.Prelude.{ℤ}
 use Rattle.chem_core.specs.declared.sketch.SketchAtom.{SketchAtom}
 use Rattle.chem_core.specs.declared.sketch.Fill.TheVariants.{Given}
-use Rattle.std.proofs.Common.{◌≡◌, ℕ, Bool, None, unwrap_or, List, ◌∷◌, ◌++◌, refl, sym, ap, ◌∙◌, subst, arith}
+use Rattle.std.proofs.Common.{◌≡◌, ℕ, Bool, None, unwrap_or, ◌∷◌, ◌++◌, sym, ap, ◌∙◌, arith}
 use Rattle.smiles_read.specs.Atom.{Bracket, symbol_number}
-use Rattle.smiles_read.specs.Follow.{AfterChiral}
 use Rattle.smiles_read.specs.Parts.{front_text, end_text, written_hydrogens}
 use Rattle.smiles_read.specs.Owed.Pieces.{are_hydrogens, none_on_hydrogen, count_of}
 use Rattle.smiles_read.specs.Owed.Brackets.{front_part, end_part, is_front, is_end, end_then, parts_of, parts_spelled, same_front, same_end}

@@ -1,5 +1,5 @@
 use Rattle.std.proofs.Common.{ℕ, Bool, sym, ap, ◌∙◌, length, arith, ◌++◌}
-use Rattle.smiles_read.specs.Atom.{symbol_text, chiral_text, value_of}
+use Rattle.smiles_read.specs.Atom.{symbol_text, chiral_text}
 use Rattle.smiles_read.specs.Owed.Digits.{same_digits}
 use Rattle.smiles_read.specs.Owed.Symbols.{symbol_no_digit}
 use Rattle.smiles_read.specs.Owed.Pieces.{chiral_then}

@@ -1,4 +1,4 @@
-use Rattle.std.proofs.Common.{◌≡◌, ◌+◌, ◌-◌, ◌≤◌, ◌∷◌, ℕ, length, take, drop, slice_index_or, rules, arith}
+use Rattle.std.proofs.Common.{◌≡◌, ◌+◌, ◌-◌, ◌≤◌, ◌∷◌, length, take, drop, slice_index_or, rules, arith}
 use Rattle.std.proofs.lemmas.Grind.{common_steps}
 use Rattle.smiles_read.specs.Atom.{counted}
 use Rattle.smiles_read.specs.Owed.Pieces.{hydrogens_counted}
