@@ -1,12 +1,12 @@
 -- Each choice takes one of the images.
-use Rattle.std.proofs.Common.{◌≡◌, inl, inr, ◌<◌, ◌≤◌, ℕ, ◌+◌, ◌==◌, ◌&&◌, ◌||◌, nat_le, nat_lt, if◌then◌else◌, Bool, true, false, List, [], ◌∷◌, suc, zero, length, get_or, refl, sym, ◌∙◌, ap, subst, arith, add-zero}
+use Rattle.std.proofs.Common.{◌≡◌, inl, inr, ◌<◌, ◌≤◌, ℕ, ◌+◌, ◌==◌, ◌||◌, if◌then◌else◌, Bool, true, false, List, [], ◌∷◌, suc, zero, length, get_or, refl, sym, ◌∙◌, ap, arith, add-zero}
 use Rattle.std.proofs.lemmas.Bool.{cases_lt}
 use Rattle.std.proofs.lemmas.Bool.Decides.{nat_tests}
 use Rattle.disk_edge.specs.TornLaws.{torn_same}
 use Rattle.disk_edge.specs.Medium.{Call, wrote, failed, synced, replay, Images}
 use Rattle.disk_edge.specs.MediumLaws.{replay_is_image}
 use Rattle.disk_edge.specs.Image.{last_synced, is_within, is_unsynced, next_byte, after_byte, filled, filling_of, image_of}
-use Rattle.disk_edge.specs.MayRemain.{WrittenAt, MayRemain}
+use Rattle.disk_edge.specs.MayRemain.{WrittenAt}
 use Rattle.disk_edge.specs.declared.filling.Filling.{Filling}
 use Rattle.disk_edge.proofs.Remaining.{remains, is_left}
 

@@ -62,7 +62,7 @@ pub trait Disk {
         ensures length { IfOk result (λ n. IfTold (content self.old) (λ l. n ≡ length l)) }
         ensures content { content self.new ≡ content self.old }
         ensures images { Same (images self.old) (images self.new) }
-        ensures time { Elapses (clock self.old) (clock self.new) (images_between self.old) (images_between self.new) (images self.old) (images self.new) }
+        ensures time { Elapses clock images_between images self.old self.new }
         ensures failed { OnFailed result (Rose (faults self.old) (faults self.new)) }
         ensures no_memory { OnNoMemory result ⊥ }
         ensures held { faults self.new < 2 ^ 64 }
@@ -71,10 +71,11 @@ pub trait Disk {
     /// Fills `room` with the bytes from a place on.
     fn read_at(&mut self, at: u64, room: &mut [u8]) -> Result<(), DiskFail>
         requires { IfTold (content self.old) (λ l. at + length room.old ≤ length l) }
-        ensures bytes { OnOk result (IfTold (content self.old) (λ l. room.new ≡ take (length room.old) (drop at l))) }
+        ensures bytes { OnOk result (IfTold (content self.old)
+            (λ l. room.new ≡ take (length room.old) (drop at l))) }
         ensures content { content self.new ≡ content self.old }
         ensures images { Same (images self.old) (images self.new) }
-        ensures time { Elapses (clock self.old) (clock self.new) (images_between self.old) (images_between self.new) (images self.old) (images self.new) }
+        ensures time { Elapses clock images_between images self.old self.new }
         ensures failed { OnFailed result (Rose (faults self.old) (faults self.new)) }
         ensures no_memory { OnNoMemory result ⊥ }
         ensures held { faults self.new < 2 ^ 64 }
@@ -88,14 +89,16 @@ pub trait Disk {
         ensures written { OnOk result (Becomes (content self.old) (content self.new) (written at bytes.now)) }
         ensures images { OnOk result (Tears at (length bytes.now) (images self.old) (images self.new)) }
         ensures failed { OnFailed result (Rose (faults self.old) (faults self.new)) }
-        ensures failed_content { OnFailed result (TearsContent at (length bytes.now) (content self.old) (content self.new)) }
-        ensures failed_images { OnFailed result (Tears at (length bytes.now) (images self.old) (images self.new)) }
+        ensures failed_content { OnFailed result
+            (TearsContent at (length bytes.now) (content self.old) (content self.new)) }
+        ensures failed_images { OnFailed result
+            (Tears at (length bytes.now) (images self.old) (images self.new)) }
         ensures no_memory_content { OnNoMemory result (content self.new ≡ content self.old) }
         ensures no_memory_images { OnNoMemory result (Same (images self.old) (images self.new)) }
         ensures no_memory_time { OnNoMemory result (clock self.new ≡ clock self.old) }
         ensures no_memory_count { OnNoMemory result (faults self.new ≡ faults self.old) }
         ensures no_memory_bound { OnNoMemory result (bound self.new ≡ bound self.old) }
-        ensures time { Elapses (clock self.old) (clock self.new) (images_between self.old) (images_between self.new) (images self.old) (images self.new) }
+        ensures time { Elapses clock images_between images self.old self.new }
         ensures held { faults self.new < 2 ^ 64 }
         ensures count { Counts (faults self.old) (faults self.new) (bound self.old) (bound self.new) };
 
@@ -107,7 +110,7 @@ pub trait Disk {
         ensures failed_images { OnFailed result (Same (images self.old) (images self.new)) }
         ensures no_new { (c : List ℕ) → images self.new c → images self.old c }
         ensures no_memory { OnNoMemory result ⊥ }
-        ensures time { Elapses (clock self.old) (clock self.new) (images_between self.old) (images_between self.new) (images self.old) (images self.new) }
+        ensures time { Elapses clock images_between images self.old self.new }
         ensures held { faults self.new < 2 ^ 64 }
         ensures count { Counts (faults self.old) (faults self.new) (bound self.old) (bound self.new) };
 
@@ -120,10 +123,12 @@ pub trait Disk {
     ghost only_now: { (d : Self) (c : List ℕ) → images_between d (clock d) (clock d) c → images d c };
 
     /// A moment lies before a time between, or after it.
-    ghost parts: { (d : Self) (t v u : ℕ) (c : List ℕ) → t ≤ v → v ≤ u → images_between d t u c → images_between d t v c ⊎ images_between d v u c };
+    ghost parts: { (d : Self) (t v u : ℕ) (c : List ℕ) → t ≤ v → v ≤ u
+        → images_between d t u c → images_between d t v c ⊎ images_between d v u c };
 
     /// A longer time has each moment of a shorter one.
-    ghost whole: { (d : Self) (t t' u' u : ℕ) (c : List ℕ) → t ≤ t' → u' ≤ u → images_between d t' u' c → images_between d t u c };
+    ghost whole: { (d : Self) (t t' u' u : ℕ) (c : List ℕ) → t ≤ t' → u' ≤ u
+        → images_between d t' u' c → images_between d t u c };
 
     /// The count never exceeds the bound.
     ghost within: { (d : Self) (b : ℕ) → bound d ≡ Some b → faults d ≤ b };

@@ -32,9 +32,15 @@ impl Model for MemDisk {
 
     ghost use Rattle.disk_edge.specs.Entries.{first_of, calls_of, IsRecord, Undoes, HasRoom};
 
-    ghost view = { λ d. record { first = first_of d.bytes.items (reverse d.entries.items); calls = calls_of d.bytes.items (reverse d.entries.items); failures = d.failures } };
+    ghost view = { λ d. record {
+      first = first_of d.bytes.items (reverse d.entries.items);
+      calls = calls_of d.bytes.items (reverse d.entries.items);
+      failures = d.failures;
+    } };
 
-    ghost invariant = { λ d. IsRecord d.bytes.items (reverse d.entries.items) × Undoes d.bytes.items (reverse d.entries.items) × HasRoom (reverse d.entries.items) (vec_len d.entries) (vec_capacity d.entries) };
+    ghost invariant = { λ d. IsRecord d.bytes.items (reverse d.entries.items)
+        × Undoes d.bytes.items (reverse d.entries.items)
+        × HasRoom (reverse d.entries.items) (vec_len d.entries) (vec_capacity d.entries) };
 }
 
 impl MemDisk {
@@ -74,7 +80,8 @@ impl MemDisk {
     /// failed yet. The others go on. Takes no memory.
     pub fn fail_once(&mut self, call: u64)
         ensures only { self.new ≡ record self.old { failures = record self.old.failures { once = Some call } } }
-        ensures bound { self.old.failures.passes ≡ None → bound_of self.new.failures ≡ Some (self.old.failures.count + 1) }
+        ensures bound { self.old.failures.passes ≡ None
+            → bound_of self.new.failures ≡ Some (self.old.failures.count + 1) }
     {
         self.failures.once = Some(call);
     }
@@ -107,13 +114,20 @@ impl MemDisk {
         requires start { at ≤ length (medium.replay self.old.first self.old.calls) }
         requires end { at + length bytes.now < 2 ^ 63 }
         ensures ok { OnOk result ((next_fails self.old.failures ≡ false)
-            × (self.new ≡ record { first = self.old.first; calls = medium.wrote at bytes.now ∷ self.old.calls; failures = after_call self.old.failures })) }
+            × (self.new ≡ record self.old {
+              calls = medium.wrote at bytes.now ∷ self.old.calls;
+              failures = after_call self.old.failures;
+            })) }
         ensures failed { OnFailed result ((next_fails self.old.failures ≡ true)
-            × (self.new ≡ record { first = self.old.first; calls = medium.failed at (length bytes.now) ∷ self.old.calls; failures = after_call self.old.failures })) }
+            × (self.new ≡ record self.old {
+              calls = medium.failed at (length bytes.now) ∷ self.old.calls;
+              failures = after_call self.old.failures;
+            })) }
         ensures no_memory { OnNoMemory result (self.new ≡ self.old) }
         ensures rose { OnFailed result (Rose self.old.failures.count self.new.failures.count) }
         ensures held { self.new.failures.count < 2 ^ 64 }
-        ensures counts { Counts self.old.failures.count self.new.failures.count (bound_of self.old.failures) (bound_of self.new.failures) }
+        ensures counts { Counts self.old.failures.count self.new.failures.count
+            (bound_of self.old.failures) (bound_of self.new.failures) }
     {
         let saved = saved_of(self.alloc, &self.bytes, at, bytes.len())?;
         self.entries.reserve(2)?;
@@ -138,13 +152,17 @@ impl MemDisk {
     /// Syncs, and keeps the record.
     pub(crate) fn sync_all(&mut self) -> Result<(), DiskFail>
         ensures ok { OnOk result ((next_fails self.old.failures ≡ false)
-            × (self.new ≡ record { first = self.old.first; calls = medium.after_sync self.old.calls; failures = after_call self.old.failures })) }
+            × (self.new ≡ record self.old {
+              calls = medium.after_sync self.old.calls;
+              failures = after_call self.old.failures;
+            })) }
         ensures failed { OnFailed result ((next_fails self.old.failures ≡ true)
             × (self.new ≡ record self.old { failures = after_call self.old.failures })) }
         ensures no_memory { OnNoMemory result ⊥ }
         ensures rose { OnFailed result (Rose self.old.failures.count self.new.failures.count) }
         ensures held { self.new.failures.count < 2 ^ 64 }
-        ensures counts { Counts self.old.failures.count self.new.failures.count (bound_of self.old.failures) (bound_of self.new.failures) }
+        ensures counts { Counts self.old.failures.count self.new.failures.count
+            (bound_of self.old.failures) (bound_of self.new.failures) }
     {
         if self.failures.call() {
             return Err(DiskFail::Failed);
@@ -161,7 +179,8 @@ impl MemDisk {
         ensures after { self.new ≡ record self.old { failures = after_call self.old.failures } }
         ensures rose { result ≡ true → Rose self.old.failures.count self.new.failures.count }
         ensures held { self.new.failures.count < 2 ^ 64 }
-        ensures counts { Counts self.old.failures.count self.new.failures.count (bound_of self.old.failures) (bound_of self.new.failures) }
+        ensures counts { Counts self.old.failures.count self.new.failures.count
+            (bound_of self.old.failures) (bound_of self.new.failures) }
     {
         self.failures.call()
     }
