@@ -1,0 +1,6 @@
+mod Crash
+mod Looking
+mod RecordLaws
+mod Results
+mod Steps
+mod Told

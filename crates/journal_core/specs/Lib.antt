@@ -1,0 +1,7 @@
+pub mod Answers
+pub mod Found
+pub mod Inside
+pub mod Journal
+pub mod Looks
+pub mod Records
+pub mod Standing
