@@ -57,7 +57,7 @@ module _ (payloads : List (List ℕ)) where
       let tail = body payload ++ 0 ∷ e.rest in
       let gate = get_or c (length (front payloads)) 0 in
       let least : length (front payloads) ≡ min (length (front payloads)) (length d) = omega (arith, long d e.gate tail e.is) in
-      let stays : take (length (front payloads)) c ≡ front payloads = ap (λ (k : ℕ). take k c) least ∙ torn.before ∙ records_kept d e.gate tail e.is in
+      let stays : take (length (front payloads)) c ≡ front payloads = ap (λ (k : ℕ). take k c) least ∙ torn.before ∙ gate_front d e.gate tail e.is in
       let behind : drop (length (front payloads)) c ≡ gate ∷ tail =
       drop_more c (length (front payloads)) 0 (omega (arith, torn.no_shorter, long d e.gate tail e.is))
       ∙ ap (λ (l : List ℕ). gate ∷ l) (torn.after ∙ back d e.gate tail e.is) in
@@ -72,6 +72,6 @@ module _ (payloads : List (List ℕ)) where
   pub written_gate : (payload l : List ℕ) (gate : ℕ) (e : Staged payloads payload l) → written (length (front payloads)) (gate ∷ []) l ≡ front payloads ++ gate ∷ (body payload ++ 0 ∷ e.rest)
   written_gate payload l gate e =
       let tail = body payload ++ 0 ∷ e.rest in
-      ap (λ (k : List ℕ). k ++ (gate ∷ []) ++ drop (length (front payloads) + 1) l) (records_kept l e.gate tail e.is)
+      ap (λ (k : List ℕ). k ++ (gate ∷ []) ++ drop (length (front payloads) + 1) l) (gate_front l e.gate tail e.is)
       ∙ ap (λ (k : List ℕ). front payloads ++ (gate ∷ []) ++ k) (back l e.gate tail e.is)
       ∙ append_assoc (front payloads) (gate ∷ []) tail

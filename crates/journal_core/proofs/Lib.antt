@@ -4,3 +4,4 @@ mod RecordLaws
 mod Results
 mod Steps
 mod Told
+mod Viewed
