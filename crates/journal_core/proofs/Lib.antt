@@ -1,7 +1,10 @@
 mod Crash
+mod Created
 mod Looking
 mod RecordLaws
 mod Results
+mod Shown
 mod Steps
+mod Tail
 mod Told
 mod Viewed

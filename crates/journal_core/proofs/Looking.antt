@@ -1,6 +1,6 @@
 -- Calls that write nothing, one after the other.
 use Rattle.std.proofs.Common.{◌≡◌, ◌≤◌, ◌⊎◌, inl, inr, ℕ, List, Option, Some, refl, sym, ◌∙◌, ap, subst, arith}
-use Rattle.disk_edge.specs.Disk.{Same, Elapses, Keeps, Counts, Bounded}
+use Rattle.disk_edge.specs.Disk.{Same, Exactly, Elapses, Keeps, Counts, Bounded}
 use Rattle.disk_edge.specs.Moments.{AtEachMoment, two_calls}
 use Rattle.journal_core.specs.Looks.{Narrows, Looks}
 
@@ -44,6 +44,10 @@ module _ {D : Type 0} (content : D → Option (List ℕ)) (images : D → List �
 
   pub looks_none : (a : D) → ((c : List ℕ) → between a (clock a) (clock a) c → images a c) → Looks content images clock between faults bound a a
   looks_none a only_now = record { narrows = narrows_none a only_now; no_fewer = λ c i. i }
+
+  -- what was synced still is
+  pub still_exactly : (a b : D) → Looks content images clock between faults bound a b → (l : List ℕ) → Exactly l (images a) → Exactly l (images b)
+  still_exactly a b looks l e = record { only = λ c i. e.only c (looks.narrows.no_more c i); is = looks.no_fewer l e.is }
 
   module _ (parts : (d : D) (t v u : ℕ) (c : List ℕ) → t ≤ v → v ≤ u → between d t u c → between d t v c ⊎ between d v u c) where
     pub narrows_twice : (a b c : D) → Narrows content images clock between faults bound a b → Narrows content images clock between faults bound b c → Narrows content images clock between faults bound a c
