@@ -33,8 +33,8 @@ module _ (l : List ℕ) (place : ℕ) where
       → (LONGEST_PAYLOAD < n) ⊎ (length l < place + 5 + n) → IsBroken (drop place l)
   no_payload n fits is number bad = open_broken is (λ payload behind few same.
       let field : to_le_bytes w32 n ≡ to_le_bytes w32 (length payload) =
-          sym number ∙ ap (λ (t : List ℕ). take 4 t) (same ∙ append_assoc (to_le_bytes w32 (length payload)) payload behind)
-          ∙ take_at (to_le_bytes w32 (length payload)) (payload ++ behind) 4 refl in
+      sym number ∙ ap (λ (t : List ℕ). take 4 t) (same ∙ append_assoc (to_le_bytes w32 (length payload)) payload behind)
+      ∙ take_at (to_le_bytes w32 (length payload)) (payload ++ behind) 4 refl in
       let size : n ≡ length payload = sym (from_le_bytes-to_le_bytes_4 n fits) ∙ ap (λ (t : List ℕ). from_le_bytes w32 t) field ∙ from_le_bytes-to_le_bytes_4 (length payload) (omega (arith, few)) in
       let long = body_len payload behind (drop (place + 1) l) same in
       ⊎_elim (λ (too : LONGEST_PAYLOAD < n). omega (arith, too, size, few)) (λ (missing : length l < place + 5 + n). omega (arith, missing, size, long, length-drop (place + 1) l)) bad)
@@ -46,7 +46,7 @@ module _ (l : List ℕ) (place : ℕ) where
       let rest = drop (place + 1) l in
       let behind : drop 4 rest ≡ drop (place + 5) l = drop-drop 4 (place + 1) l ∙ ap (λ (k : ℕ). drop k l) (omega arith) in
       is ∙ ap (λ (t : List ℕ). OPEN ∷ t) (
-        sym (take-append-drop 4 rest)
-        ∙ ap (λ (t : List ℕ). t ++ drop 4 rest) (number ∙ ap (λ (k : ℕ). to_le_bytes w32 k) (sym size))
-        ∙ ap (λ (t : List ℕ). to_le_bytes w32 (length payload) ++ t) (behind ∙ sym (take-append-drop n (drop (place + 5) l)) ∙ ap (λ (t : List ℕ). t ++ drop n (drop (place + 5) l)) (sym same))
-        ∙ sym (append_assoc (to_le_bytes w32 (length payload)) payload (drop n (drop (place + 5) l))))
+      sym (take-append-drop 4 rest)
+      ∙ ap (λ (t : List ℕ). t ++ drop 4 rest) (number ∙ ap (λ (k : ℕ). to_le_bytes w32 k) (sym size))
+      ∙ ap (λ (t : List ℕ). to_le_bytes w32 (length payload) ++ t) (behind ∙ sym (take-append-drop n (drop (place + 5) l)) ∙ ap (λ (t : List ℕ). t ++ drop n (drop (place + 5) l)) (sym same))
+      ∙ sym (append_assoc (to_le_bytes w32 (length payload)) payload (drop n (drop (place + 5) l))))

@@ -13,10 +13,10 @@ IsFound Shut bytes = (gate : ℕ) × (rest : List ℕ) × (bytes ≡ gate ∷ re
 IsFound (Record payload) bytes = (rest : List ℕ) × (bytes ≡ OPEN ∷ (body payload.items ++ rest)) × IsShort payload.items
 IsFound Broken bytes = IsBroken bytes
 
--- where a record ends, if one was found at a place
+-- A record that was found at a place is short, and ends below a limit.
 abbrev pub EndsBelow : Found → ℕ → ℕ → Type 0
-EndsBelow Shut place limit = place < limit
-EndsBelow (Record payload) place limit = place + 5 + length payload.items < limit
+EndsBelow Shut place limit = Unit {0}
+EndsBelow (Record payload) place limit = IsShort payload.items × (place + 5 + length payload.items < limit)
 EndsBelow Broken place limit = Unit {0}
 
 -- The window's bytes are those of the disk from its start on, and its length is the disk's, where it has one.

@@ -7,7 +7,7 @@ ghost use Rattle.journal_core.specs.Answers.{OnUnwritten, OnRecord, OnEnd, OnDam
 ghost use Rattle.journal_core.specs.Journal.{Reads, Rests};
 ghost use Rattle.journal_core.specs.Looks.{Narrows, Looks};
 ghost use Rattle.journal_core.specs.Found.{IsMeasured};
-ghost use Rattle.journal_core.specs.Records.{Breaks, IsNoJournal, text};
+ghost use Rattle.journal_core.specs.Records.{IsShort, Breaks, IsNoJournal, text};
 
 use crate::faults::{CreateFault, LoadFault};
 use crate::format::{HEADER, NO_RECORDS};
@@ -79,7 +79,7 @@ impl<D: Disk> Journal<D> {
     pub fn next(&mut self) -> Result<Option<(u64, Vec<u8>)>, LoadFault>
         requires settled { self.old.doubt ≡ false }
 
-        ensures record { OnRecord result (λ at payload. (at ≡ self.old.place)
+        ensures record { OnRecord result (λ at payload. (at ≡ self.old.place) × IsShort payload
             × (self.new.place ≡ at + 5 + length payload) × (self.new.ready ≡ false)) }
         ensures reads { OnRecord result (λ at payload. (ps : List (List ℕ))
             → Reads D.content D.images self.old ps

@@ -7,7 +7,7 @@ pub returns-then-len-lt8-clause-synced : goal.returns-then-len-lt8-clause-synced
 returns-then-len-lt8-clause-synced g c l told =
     let d = g.D.Disk in
     let look = looks_call d.content d.images d.clock d.images_between d.faults d.bound c.sync.new.self c.len.new.self
-        c.in_ok-len.ensures.content c.in_ok-len.ensures.images c.in_ok-len.ensures.time c.in_ok-len.ensures.count in
+    c.in_ok-len.ensures.content c.in_ok-len.ensures.images c.in_ok-len.ensures.time c.in_ok-len.ensures.count in
     still_exactly d.content d.images d.clock d.images_between d.faults d.bound c.sync.new.self c.len.new.self look l
     (c.in_ok-sync.ensures.synced l (sym c.in_ok-sync.ensures.content ∙ sym c.in_ok-len.ensures.content ∙ told))
 
@@ -36,8 +36,8 @@ returns-then-eq-clause-synced g c l told =
     let len = c.in_ok-len.ensures in
     let read = c.in_ok-read_at.ensures in
     let look = looks_twice d.content d.images d.clock d.images_between d.faults d.bound g.met.D.Disk.parts c.sync.new.self c.len.new.self c.read_at.new.self
-        (looks c.sync.new.self c.len.new.self len.content len.images len.time len.count)
-        (looks c.len.new.self c.read_at.new.self read.content read.images read.time read.count) in
+    (looks c.sync.new.self c.len.new.self len.content len.images len.time len.count)
+    (looks c.len.new.self c.read_at.new.self read.content read.images read.time read.count) in
     still_exactly d.content d.images d.clock d.images_between d.faults d.bound c.sync.new.self c.read_at.new.self look l
     (c.in_ok-sync.ensures.synced l (sym c.in_ok-sync.ensures.content ∙ sym len.content ∙ sym read.content ∙ told))
 
@@ -62,8 +62,8 @@ returns-else-eq-clause-synced g c l told =
     let len = c.in_ok-len.ensures in
     let read = c.in_ok-read_at.ensures in
     let look = looks_twice d.content d.images d.clock d.images_between d.faults d.bound g.met.D.Disk.parts c.sync.new.self c.len.new.self c.read_at.new.self
-        (looks c.sync.new.self c.len.new.self len.content len.images len.time len.count)
-        (looks c.len.new.self c.read_at.new.self read.content read.images read.time read.count) in
+    (looks c.sync.new.self c.len.new.self len.content len.images len.time len.count)
+    (looks c.len.new.self c.read_at.new.self read.content read.images read.time read.count) in
     still_exactly d.content d.images d.clock d.images_between d.faults d.bound c.sync.new.self c.read_at.new.self look l
     (c.in_ok-sync.ensures.synced l (sym c.in_ok-sync.ensures.content ∙ sym len.content ∙ sym read.content ∙ told))
 

@@ -64,8 +64,8 @@ returns-in-Ok-Record-clause-reads g c ps q =
 
 pub returns-in-Ok-Broken-clause-damaged : goal.returns-in-Ok-Broken-clause-damaged
 returns-in-Ok-Broken-clause-damaged g c = (
-    ap (λ (j : Standing g.row.D.Denot). j.place) c.self.view_is,
-    λ ps q l told.
+  ap (λ (j : Standing g.row.D.Denot). j.place) c.self.view_is,
+  λ ps q l told.
       let d = g.D.Disk in
       let r = subst (λ (j : Standing g.row.D.Denot). Reads d.content d.images j ps) (sym c.self.view_is) q in
       let place = c.self.inside.place in
@@ -78,4 +78,4 @@ returns-in-Ok-Broken-clause-damaged g c = (
         broken = subst IsBroken tail found;
         fit = r.fit;
       },
-  )
+)

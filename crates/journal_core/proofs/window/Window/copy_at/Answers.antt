@@ -7,5 +7,5 @@ returns-clause-bytes g c l told =
     let w = c.cover.new.self in
     let same = c.in_ok-cover.ensures.looks.narrows.same in
     let shown : c.shown.result.now ≡ take c.args.count (drop c.args.at l) = c.shown.ensures ∙ shows c.args.count c.args.at w.start w.bytes.items l
-        (c.in_ok-cover.ensures.holds.bytes l (same ∙ told)) c.in_ok-cover.ensures.covers.0 c.in_ok-cover.ensures.covers.1 in
+    (c.in_ok-cover.ensures.holds.bytes l (same ∙ told)) c.in_ok-cover.ensures.covers.0 c.in_ok-cover.ensures.covers.1 in
     search rules ∙ shown
