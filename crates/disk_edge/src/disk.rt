@@ -66,7 +66,8 @@ pub trait Disk {
         ensures failed { OnFailed result (Rose (faults self.old) (faults self.new)) }
         ensures no_memory { OnNoMemory result ⊥ }
         ensures held { faults self.new < 2 ^ 64 }
-        ensures count { Counts (faults self.old) (faults self.new) (bound self.old) (bound self.new) };
+        ensures count { Counts (faults self.old) (faults self.new)
+            (bound self.old) (bound self.new) };
 
     /// Fills `room` with the bytes from a place on.
     fn read_at(&mut self, at: u64, room: &mut [u8]) -> Result<(), DiskFail>
@@ -79,15 +80,18 @@ pub trait Disk {
         ensures failed { OnFailed result (Rose (faults self.old) (faults self.new)) }
         ensures no_memory { OnNoMemory result ⊥ }
         ensures held { faults self.new < 2 ^ 64 }
-        ensures count { Counts (faults self.old) (faults self.new) (bound self.old) (bound self.new) };
+        ensures count { Counts (faults self.old) (faults self.new)
+            (bound self.old) (bound self.new) };
 
     /// Writes over what is there, and past the end. Until a sync succeeds, a crash may leave any bytes in the
     /// range, also where the write failed.
     fn write_at(&mut self, at: u64, bytes: &[u8]) -> Result<(), DiskFail>
         requires start { IfTold (content self.old) (λ l. at ≤ length l) }
         requires end { at + length bytes.now < 2 ^ 63 }
-        ensures written { OnOk result (Becomes (content self.old) (content self.new) (written at bytes.now)) }
-        ensures images { OnOk result (Tears at (length bytes.now) (images self.old) (images self.new)) }
+        ensures written { OnOk result
+            (Becomes (content self.old) (content self.new) (written at bytes.now)) }
+        ensures images { OnOk result
+            (Tears at (length bytes.now) (images self.old) (images self.new)) }
         ensures failed { OnFailed result (Rose (faults self.old) (faults self.new)) }
         ensures failed_content { OnFailed result
             (TearsContent at (length bytes.now) (content self.old) (content self.new)) }
@@ -100,11 +104,13 @@ pub trait Disk {
         ensures no_memory_bound { OnNoMemory result (bound self.new ≡ bound self.old) }
         ensures time { Elapses clock images_between images self.old self.new }
         ensures held { faults self.new < 2 ^ 64 }
-        ensures count { Counts (faults self.old) (faults self.new) (bound self.old) (bound self.new) };
+        ensures count { Counts (faults self.old) (faults self.new)
+            (bound self.old) (bound self.new) };
 
     /// After a sync that succeeds a crash leaves what a read gives.
     fn sync(&mut self) -> Result<(), DiskFail>
-        ensures synced { OnOk result (IfTold (content self.old) (λ l. Exactly l (images self.new))) }
+        ensures synced { OnOk result
+            (IfTold (content self.old) (λ l. Exactly l (images self.new))) }
         ensures content { content self.new ≡ content self.old }
         ensures failed { OnFailed result (Rose (faults self.old) (faults self.new)) }
         ensures failed_images { OnFailed result (Same (images self.old) (images self.new)) }
@@ -112,15 +118,18 @@ pub trait Disk {
         ensures no_memory { OnNoMemory result ⊥ }
         ensures time { Elapses clock images_between images self.old self.new }
         ensures held { faults self.new < 2 ^ 64 }
-        ensures count { Counts (faults self.old) (faults self.new) (bound self.old) (bound self.new) };
+        ensures count { Counts (faults self.old) (faults self.new)
+            (bound self.old) (bound self.new) };
 
     /// What a read gives is one of the images.
     ghost content_is_image: { (d : Self) (l : List ℕ) → content d ≡ Some l → images d l };
 
     /// At this moment a crash leaves the images of now.
-    ghost counts_now: { (d : Self) (c : List ℕ) → images d c → images_between d (clock d) (clock d) c };
+    ghost counts_now: { (d : Self) (c : List ℕ)
+        → images d c → images_between d (clock d) (clock d) c };
 
-    ghost only_now: { (d : Self) (c : List ℕ) → images_between d (clock d) (clock d) c → images d c };
+    ghost only_now: { (d : Self) (c : List ℕ)
+        → images_between d (clock d) (clock d) c → images d c };
 
     /// A moment lies before a time between, or after it.
     ghost parts: { (d : Self) (t v u : ℕ) (c : List ℕ) → t ≤ v → v ≤ u

@@ -1,7 +1,5 @@
 mod Crash
 mod Created
-mod Looking
-mod RecordLaws
 mod Results
 mod Shown
 mod Steps

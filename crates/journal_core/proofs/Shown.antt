@@ -1,5 +1,5 @@
 -- What a window shows is what the disk has there.
-use Rattle.std.proofs.Common.{◌≡◌, ◌≤◌, ◌+◌, ◌-◌, ℕ, List, [], ◌∷◌, length, get_or, take, drop, refl, sym, ◌∙◌, ap, arith}
+use Rattle.std.proofs.Common.{◌≡◌, ◌≤◌, ◌+◌, ◌-◌, ℕ, List, [], ◌∷◌, length, get_or, take, drop, refl, ◌∙◌, ap, arith}
 use Rattle.std.proofs.lemmas.List.{take-take, drop-take, drop-drop}
 
 pub shows : (count at start : ℕ) (bytes l : List ℕ) → bytes ≡ take (length bytes) (drop start l) → start ≤ at → at + count ≤ start + length bytes

@@ -1,10 +1,10 @@
 -- What each synced write of a journal leaves, for any content and images.
-use Rattle.std.proofs.Common.{◌≡◌, ◌≤◌, ◌+◌, ℕ, List, [], ◌∷◌, ◌++◌, length, Option, Some, sym, subst, arith}
+use Rattle.std.proofs.Common.{◌≡◌, ◌+◌, ℕ, List, [], ◌∷◌, ◌++◌, length, Option, Some, sym, subst, arith}
 use Rattle.disk_edge.specs.Disk.{written, Torn, Exactly, Tears, Becomes, IfTold}
 use Rattle.disk_edge.specs.TornLaws.{torn_written}
 use Rattle.journal_core.specs.Records.{IsShort, body, front, Opens, Staged}
 use Rattle.journal_core.proofs.Told.{becomes_told}
-use Rattle.journal_core.proofs.RecordLaws.{opened}
+use Rattle.journal_core.specs.RecordLaws.{opened}
 use Rattle.journal_core.proofs.Crash.{torn_behind, written_behind, torn_gate, written_gate}
 
 -- the payload stands behind the gate, all of it on the disk

@@ -1,5 +1,5 @@
 -- What is found at a place of a journal's bytes. For private clauses alone.
-use Rattle.std.specs.Prelude.{◌≡◌, ◌≢◌, ◌≤◌, ◌+◌, ◌<◌, ◌^◌, ℕ, List, [], ◌∷◌, ◌++◌, length, take, drop, Option, Some, None}
+use Rattle.std.specs.Prelude.{◌≡◌, ◌≢◌, ◌≤◌, ◌+◌, ◌<◌, ℕ, List, ◌∷◌, ◌++◌, length, take, drop, Option, Some, None}
 use Rattle.disk_edge.specs.Disk.{IfTold}
 use Rattle.journal_core.specs.Records.{IsShort, IsBroken, IsNoJournal, header, body}
 use Rattle.journal_core.specs.declared.format.TheConstants.{OPEN}

@@ -7,7 +7,8 @@ use Rattle.journal_core.specs.Standing.{Standing}
 
 -- The journal has read these payloads: the disk tells its content, which is synced and begins with their records, and
 -- the journal stands behind them.
-pub record Reads {D : Type 0} (content : D → Option (List ℕ)) (images : D → List ℕ → Type 0) (journal : Standing D) (payloads : List (List ℕ)) : Type 0 where
+pub record Reads {D : Type 0} (content : D → Option (List ℕ)) (images : D → List ℕ → Type 0) (journal : Standing D)
+    (payloads : List (List ℕ)) : Type 0 where
   pub told : List ℕ
   pub tail : List ℕ
   pub is_told : content journal.disk ≡ Some told
@@ -17,14 +18,16 @@ pub record Reads {D : Type 0} (content : D → Option (List ℕ)) (images : D �
   pub fit : AllByRecursion IsShort payloads
 
 -- The disk tells its content. Each image opens to these payloads, and the journal stands at the gate behind them.
-pub record Rests {D : Type 0} (content : D → Option (List ℕ)) (images : D → List ℕ → Type 0) (journal : Standing D) (payloads : List (List ℕ)) : Type 0 where
+pub record Rests {D : Type 0} (content : D → Option (List ℕ)) (images : D → List ℕ → Type 0) (journal : Standing D)
+    (payloads : List (List ℕ)) : Type 0 where
   pub told : List ℕ
   pub is_told : content journal.disk ≡ Some told
   pub place : journal.place ≡ length (front payloads)
   pub each : (c : List ℕ) → images journal.disk c → Opens payloads c
 
 -- This payload is in doubt: each image opens to the payloads without it or with it, and some image with it.
-pub record Doubts {D : Type 0} (content : D → Option (List ℕ)) (images : D → List ℕ → Type 0) (journal : Standing D) (payloads : List (List ℕ)) (payload : List ℕ) : Type 0 where
+pub record Doubts {D : Type 0} (content : D → Option (List ℕ)) (images : D → List ℕ → Type 0) (journal : Standing D)
+    (payloads : List (List ℕ)) (payload : List ℕ) : Type 0 where
   pub told : List ℕ
   pub is_told : content journal.disk ≡ Some told
   pub place : journal.place ≡ length (front payloads)

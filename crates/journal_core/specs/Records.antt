@@ -1,5 +1,6 @@
 -- The bytes of a journal: a header, and then records, each a gate byte, the payload's length in four bytes, the lowest
--- first, and the payload. A record counts where its gate is open. Behind an open record stands the next gate. For callers.
+-- first, and the payload. A record counts where its gate is open. Behind an open record stands the next gate.
+-- For callers.
 use Rattle.std.specs.Prelude.{◌≡◌, ◌≢◌, ◌≤◌, ◌⊎◌, ℕ, List, [], ◌∷◌, ◌++◌, length, codes}
 use Rattle.std.specs.List.{AllByRecursion}
 use Rattle.std.specs.Int.{to_le_bytes, w32}
@@ -39,7 +40,8 @@ pub record Opens (payloads : List (List ℕ)) (bytes : List ℕ) : Type 0 where
 -- No gate is at the front of these bytes, or an open one whose length or payload is missing, or too long.
 abbrev pub IsBroken : List ℕ → Type 0
 IsBroken [] = Unit {0}
-IsBroken (gate ∷ rest) = (gate ≡ OPEN) × ((payload behind : List ℕ) → IsShort payload → rest ≡ body payload ++ behind → ⊥)
+IsBroken (gate ∷ rest) = (gate ≡ OPEN)
+    × ((payload behind : List ℕ) → IsShort payload → rest ≡ body payload ++ behind → ⊥)
 
 -- Open records of these payloads, and behind them what is broken.
 pub record Breaks (payloads : List (List ℕ)) (bytes : List ℕ) : Type 0 where

@@ -35,7 +35,12 @@ impl<D: Disk> Model for Journal<D> {
 
     ghost use Rattle.journal_core.specs.Inside.{IsSound};
 
-    ghost view = { λ j. record { disk = j.disk; place = j.place; ready = j.ready; doubt = j.doubt } };
+    ghost view = { λ j. record {
+      disk = j.disk;
+      place = j.place;
+      ready = j.ready;
+      doubt = j.doubt;
+    } };
 
     ghost invariant = { λ j. IsSound (D.content j.disk) j.window j.place j.ready j.doubt };
 }
@@ -54,11 +59,13 @@ impl<D: Disk> Journal<D> {
             → Rests D.content D.images self.new (ps ++ payload.now ∷ [])) }
         ensures sure { OnSure result ((ps : List (List ℕ)) → Rests D.content D.images self.old ps
             → Rests D.content D.images self.new ps) }
-        ensures no_image { OnSure result ((ps : List (List ℕ)) → Rests D.content D.images self.old ps
+        ensures no_image { OnSure result ((ps : List (List ℕ))
+            → Rests D.content D.images self.old ps
             → (c : List ℕ) → D.images self.new.disk c → ¬ Opens (ps ++ payload.now ∷ []) c) }
         ensures doubt { OnDoubt result ((ps : List (List ℕ)) → Rests D.content D.images self.old ps
             → Doubts D.content D.images self.new ps payload.now) }
-        ensures no_memory { OnWant result ((ps : List (List ℕ)) → Rests D.content D.images self.old ps
+        ensures no_memory { OnWant result ((ps : List (List ℕ))
+            → Rests D.content D.images self.old ps
             → Rests D.content D.images self.new ps) }
         ensures in_doubt { self.new.doubt ≡ is_doubt result }
         ensures ready { self.new.ready ≡ true }
@@ -71,8 +78,10 @@ impl<D: Disk> Journal<D> {
             (BeforeOrAfter ps payload.now) }
         ensures past { Keeps D.clock D.images_between self.old.disk self.new.disk }
 
-        ensures sure_cause { OnSure result (Rose (D.faults self.old.disk) (D.faults self.new.disk)) }
-        ensures doubt_cause { OnDoubt result (Rose (D.faults self.old.disk) (D.faults self.new.disk)) }
+        ensures sure_cause { OnSure result
+            (Rose (D.faults self.old.disk) (D.faults self.new.disk)) }
+        ensures doubt_cause { OnDoubt result
+            (Rose (D.faults self.old.disk) (D.faults self.new.disk)) }
         ensures count { Counts (D.faults self.old.disk) (D.faults self.new.disk)
             (D.bound self.old.disk) (D.bound self.new.disk) }
     {
@@ -116,8 +125,10 @@ impl<D: Disk> Journal<D> {
         ensures place { self.new.place ≡ self.old.place }
 
         // A crash at any moment of the call leaves the payloads without the one in doubt or with it.
-        ensures moments { (ps : List (List ℕ)) (p : List ℕ) → Doubts D.content D.images self.old ps p
-            → AtEachMoment D.clock D.images_between self.old.disk self.new.disk (BeforeOrAfter ps p) }
+        ensures moments { (ps : List (List ℕ)) (p : List ℕ)
+            → Doubts D.content D.images self.old ps p
+            → AtEachMoment D.clock D.images_between self.old.disk self.new.disk
+            (BeforeOrAfter ps p) }
         ensures past { Keeps D.clock D.images_between self.old.disk self.new.disk }
 
         ensures cause { OnFailed result (Rose (D.faults self.old.disk) (D.faults self.new.disk)) }

@@ -27,7 +27,8 @@ impl<D: Disk> Journal<D> {
             → IfTold (D.content disk) (λ l. 1 ≤ length l) }
         ensures stays { OnUnwritten result.1 ((D.content result.0 ≡ D.content disk)
             × Same (D.images disk) (D.images result.0)) }
-        ensures cause { IsErrOf result.1 CreateFault.Disk → Rose (D.faults disk) (D.faults result.0) }
+        ensures cause { IsErrOf result.1 CreateFault.Disk
+            → Rose (D.faults disk) (D.faults result.0) }
 
         // Whatever it answers, what is left is what was there, torn in the bytes that are written.
         ensures content { TearsContent 0 9 (D.content disk) (D.content result.0) }
@@ -36,7 +37,8 @@ impl<D: Disk> Journal<D> {
         ensures moments { AtEachMoment D.clock D.images_between disk result.0
             (λ c. (d : List ℕ) × D.images disk d × Torn 0 9 d c) }
         ensures past { Keeps D.clock D.images_between disk result.0 }
-        ensures count { Counts (D.faults disk) (D.faults result.0) (D.bound disk) (D.bound result.0) }
+        ensures count { Counts (D.faults disk) (D.faults result.0)
+            (D.bound disk) (D.bound result.0) }
     {
         let mut disk = disk;
         let outcome = write_header(&mut disk);
@@ -53,7 +55,8 @@ impl<D: Disk> Journal<D> {
             → IfTold (D.content disk) IsNoJournal) }
         ensures cause { IfErr result (λ e. e.0 ≡ LoadFault.Disk
             → Rose (D.faults disk) (D.faults e.1)) }
-        ensures no_other { IfErr result (λ e. (e.0 ≡ LoadFault.NotAStore) ⊎ (e.0 ≡ LoadFault.Disk)) }
+        ensures no_other { IfErr result
+            (λ e. (e.0 ≡ LoadFault.NotAStore) ⊎ (e.0 ≡ LoadFault.Disk)) }
 
         // Each image that was possible during the call was possible before it.
         ensures narrows { Narrows D.content D.images D.clock D.images_between D.faults D.bound
@@ -74,8 +77,8 @@ impl<D: Disk> Journal<D> {
         }
     }
 
-    /// The place and the payload of the record at which the journal stands, which it passes. `None` at a gate that is not
-    /// open: the journal may then be appended to. After a fault it stands where it stood.
+    /// The place and the payload of the record at which the journal stands, which it passes. `None` at a gate that is
+    /// not open: the journal may then be appended to. After a fault it stands where it stood.
     pub fn next(&mut self) -> Result<Option<(u64, Vec<u8>)>, LoadFault>
         requires settled { self.old.doubt ≡ false }
 
@@ -84,11 +87,13 @@ impl<D: Disk> Journal<D> {
         ensures reads { OnRecord result (λ at payload. (ps : List (List ℕ))
             → Reads D.content D.images self.old ps
             → Reads D.content D.images self.new (ps ++ payload ∷ [])) }
+        ensures below { self.new.place < 2 ^ 64 }
         ensures end { OnEnd result ((self.new.place ≡ self.old.place) × (self.new.ready ≡ true)) }
         ensures opens { OnEnd result ((ps : List (List ℕ)) → Reads D.content D.images self.old ps
             → Rests D.content D.images self.new ps) }
         ensures damaged { OnDamaged result (λ at. (at ≡ self.old.place) × ((ps : List (List ℕ))
-            → Reads D.content D.images self.old ps → IfTold (D.content self.old.disk) (Breaks ps))) }
+            → Reads D.content D.images self.old ps
+            → IfTold (D.content self.old.disk) (Breaks ps))) }
         ensures cause { IsErrOf result LoadFault.Disk
             → Rose (D.faults self.old.disk) (D.faults self.new.disk) }
         ensures no_other { ¬ IsErrOf result LoadFault.NotAStore }
@@ -151,7 +156,8 @@ fn write_header<D: Disk>(disk: &mut D) -> Result<(), CreateFault>
 
 // Syncs, and gives the disk's length where the header is there.
 fn measured<D: Disk>(disk: &mut D) -> Result<Option<u64>, DiskFail>
-    ensures synced { OnOk result (IfTold (D.content disk.new) (λ l. Exactly l (D.images disk.new))) }
+    ensures synced { OnOk result
+        (IfTold (D.content disk.new) (λ l. Exactly l (D.images disk.new))) }
     ensures header { IfOk result (λ len. IfTold (D.content disk.old) (IsMeasured len)) }
     ensures failed { OnErr result (Rose (D.faults disk.old) (D.faults disk.new)) }
     ensures narrows { Narrows D.content D.images D.clock D.images_between D.faults D.bound

@@ -13,7 +13,8 @@ pub(crate) fn put<D: Disk>(disk: &mut D, at: u64, bytes: &[u8]) -> Result<(), Di
 
     ensures content { OnOk result
         (Becomes (D.content disk.old) (D.content disk.new) (written at bytes.now)) }
-    ensures synced { OnOk result (IfTold (D.content disk.new) (λ l. Exactly l (D.images disk.new))) }
+    ensures synced { OnOk result
+        (IfTold (D.content disk.new) (λ l. Exactly l (D.images disk.new))) }
     ensures failed { OnFailed result
         (Tears at (length bytes.now) (D.images disk.old) (D.images disk.new)) }
     ensures failed_content { OnFailed result

@@ -29,7 +29,8 @@ pub(crate) fn record_at<D: Disk>(
     place: u64,
 ) -> Result<Found, DiskFail>
     requires holds { Holds (D.content disk.old) window.old }
-    ensures found { IfOk result (λ found. IfTold (D.content disk.old) (λ l. IsFound found (drop place l))) }
+    ensures found { IfOk result (λ found. IfTold (D.content disk.old)
+        (λ l. IsFound found (drop place l))) }
     ensures ends { IfOk result (λ found. EndsBelow found place (2 ^ 64)) }
     ensures holds { Holds (D.content disk.new) window.new }
     ensures looks { Looks D.content D.images D.clock D.images_between D.faults D.bound

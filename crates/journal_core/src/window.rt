@@ -69,7 +69,8 @@ impl Window {
         requires inside { at < len }
         requires len { IfTold (D.content disk.old) (λ l. len ≡ length l) }
         requires holds { Holds (D.content disk.old) self.old }
-        ensures byte { IfOk result (λ b. IfTold (D.content disk.old) (λ l. take 1 (drop at l) ≡ b ∷ [])) }
+        ensures byte { IfOk result (λ b. IfTold (D.content disk.old)
+            (λ l. take 1 (drop at l) ≡ b ∷ [])) }
         ensures holds { Holds (D.content disk.new) self.new }
         ensures looks { Looks D.content D.images D.clock D.images_between D.faults D.bound
             disk.old disk.new }
@@ -89,7 +90,8 @@ impl Window {
         requires inside { at + 4 ≤ len }
         requires len { IfTold (D.content disk.old) (λ l. len ≡ length l) }
         requires holds { Holds (D.content disk.old) self.old }
-        ensures number { IfOk result (λ n. IfTold (D.content disk.old) (λ l. take 4 (drop at l) ≡ to_le_bytes w32 n)) }
+        ensures number { IfOk result (λ n. IfTold (D.content disk.old)
+            (λ l. take 4 (drop at l) ≡ to_le_bytes w32 n)) }
         ensures holds { Holds (D.content disk.new) self.new }
         ensures looks { Looks D.content D.images D.clock D.images_between D.faults D.bound
             disk.old disk.new }
@@ -113,7 +115,8 @@ impl Window {
         requires len { IfTold (D.content disk.old) (λ l. len ≡ length l) }
         requires holds { Holds (D.content disk.old) self.old }
         ensures count { IfOk result (λ v. length v.items ≡ count) }
-        ensures bytes { IfOk result (λ v. IfTold (D.content disk.old) (λ l. v.items ≡ take count (drop at l))) }
+        ensures bytes { IfOk result (λ v. IfTold (D.content disk.old)
+            (λ l. v.items ≡ take count (drop at l))) }
         ensures holds { Holds (D.content disk.new) self.new }
         ensures looks { Looks D.content D.images D.clock D.images_between D.faults D.bound
             disk.old disk.new }

@@ -1,6 +1,5 @@
-use Rattle.std.proofs.Common.{◌≡◌, ◌<◌, ℕ, List, ◌∷◌, length, sym, ◌∙◌, ap, arith}
-use Rattle.disk_edge.specs.Disk.{Exactly}
-use Rattle.journal_core.proofs.Looking.{narrows_call, looks_call, looks_twice, narrows_twice, still_exactly}
+use Rattle.std.proofs.Common.{length, sym, ◌∙◌, ap, arith}
+use Rattle.journal_core.specs.LookLaws.{narrows_call, looks_call, looks_twice, narrows_twice, still_exactly}
 use Rattle.journal_core.proofs.open.measured.Goals as goal
 
 pub returns-then-len-lt8-clause-synced : goal.returns-then-len-lt8-clause-synced

@@ -1,5 +1,4 @@
-use Rattle.std.proofs.Common.{◌≡◌, ℕ, List, [], Option, Some, sym, ◌∙◌, ap, subst, arith}
-use Rattle.disk_edge.specs.Disk.{Exactly, written}
+use Rattle.std.proofs.Common.{ℕ, List, [], Some, ◌∙◌, ap, arith}
 use Rattle.journal_core.specs.Records.{text}
 use Rattle.journal_core.proofs.Created.{nil_of, text_on_nothing, torn_moments, torn_now}
 use Rattle.journal_core.proofs.Told.{becomes_told}

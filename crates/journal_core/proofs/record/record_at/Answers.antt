@@ -1,7 +1,6 @@
-use Rattle.std.proofs.Common.{◌≡◌, ◌⊎◌, inl, inr, ◌<◌, ◌+◌, ◌^◌, ℕ, List, ◌∷◌, length, drop, Option, Some, rules, sym, ◌∙◌, ap, subst, arith}
-use Rattle.journal_core.specs.Looks.{Looks}
-use Rattle.journal_core.specs.declared.format.TheConstants.{OPEN, LONGEST_PAYLOAD}
-use Rattle.journal_core.proofs.Looking.{looks_twice}
+use Rattle.std.proofs.Common.{◌≡◌, inl, inr, ◌<◌, ◌+◌, ◌^◌, ℕ, List, ◌∷◌, length, drop, rules, ◌∙◌, ap, arith}
+use Rattle.journal_core.specs.declared.format.TheConstants.{OPEN}
+use Rattle.journal_core.specs.LookLaws.{looks_twice}
 use Rattle.journal_core.proofs.Tail.{gate_is, no_length, no_payload, whole}
 use Rattle.journal_core.proofs.record.record_at.Goals as goal
 use Rattle.journal_core.proofs.record.record_at.Goals.{then-size-gt-LONGEST_PAYLOAD-via-then-size-gt-LONGEST_PAYLOAD, then-size-gt-LONGEST_PAYLOAD-via-else-size-gt-LONGEST_PAYLOAD+then-len-place}

@@ -1,7 +1,6 @@
-use Rattle.std.proofs.Common.{◌≡◌, ℕ, List, ◌++◌, length, take, drop, Option, Some, None, refl, sym, ◌∙◌, ap, subst, arith}
+use Rattle.std.proofs.Common.{◌≡◌, ℕ, List, ◌++◌, length, take, drop, Option, Some, sym, ◌∙◌, ap, subst}
 use Rattle.journal_core.specs.Found.{IsMeasured}
-use Rattle.journal_core.specs.Records.{front}
-use Rattle.journal_core.proofs.RecordLaws.{front_nil}
+use Rattle.journal_core.specs.RecordLaws.{front_nil}
 use Rattle.journal_core.proofs.journal.Journal.load.Goals as goal
 
 same_number : (m n : ℕ) → Some m ≡ Some n → m ≡ n

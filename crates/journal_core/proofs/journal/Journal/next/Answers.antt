@@ -1,12 +1,12 @@
-use Rattle.std.proofs.Common.{◌≡◌, ℕ, List, [], ◌∷◌, ◌++◌, length, drop, Option, Some, refl, sym, ◌∙◌, ap, subst, arith, length-drop}
+use Rattle.std.proofs.Common.{◌≡◌, ℕ, List, ◌++◌, length, drop, sym, ◌∙◌, ap, subst, arith, length-drop}
 use Rattle.std.proofs.lemmas.List.{drop_at}
 use Rattle.journal_core.specs.Found.{IsFound}
 use Rattle.journal_core.specs.Journal.{Reads}
-use Rattle.journal_core.specs.Records.{IsBroken, Breaks, front}
+use Rattle.journal_core.specs.Records.{IsBroken, front}
 use Rattle.journal_core.specs.Standing.{Standing}
 use Rattle.journal_core.specs.declared.record.Found.{Found}
-use Rattle.journal_core.proofs.Looking.{still_exactly}
-use Rattle.journal_core.proofs.RecordLaws.{front_push, length-front_push, all_short}
+use Rattle.journal_core.specs.LookLaws.{still_exactly}
+use Rattle.journal_core.specs.RecordLaws.{front_push, length-front_push, all_short}
 use Rattle.journal_core.proofs.Told.{some_is}
 use Rattle.journal_core.proofs.journal.Journal.next.Goals as goal
 

@@ -1,4 +1,4 @@
-use Rattle.std.proofs.Common.{◌≡◌, ◌≤◌, ◌+◌, ◌-◌, ℕ, List, length, take, drop, refl, sym, ◌∙◌, ap, rules, arith, length-take, length-drop}
+use Rattle.std.proofs.Common.{◌≡◌, length, take, drop, sym, ◌∙◌, ap, arith, length-take, length-drop}
 use Rattle.journal_core.proofs.Shown.{shows, one_byte}
 use Rattle.journal_core.proofs.window.Window.byte_at.Goals as goal
 

@@ -1,5 +1,5 @@
-use Rattle.std.proofs.Common.{◌≡◌, ◌≤◌, ◌+◌, ◌-◌, ℕ, List, length, take, drop, refl, sym, ◌∙◌, ap, rules, arith, length-take, length-drop}
-use Rattle.journal_core.proofs.Shown.{shows, one_byte}
+use Rattle.std.proofs.Common.{◌≡◌, take, drop, sym, ◌∙◌}
+use Rattle.journal_core.proofs.Shown.{shows}
 use Rattle.journal_core.proofs.window.Window.number_at.Goals as goal
 
 pub returns-clause-number : goal.returns-clause-number

@@ -1,12 +1,12 @@
--- What bytes open to.
-use Rattle.std.proofs.Common.{◌≡◌, ◌≢◌, ◌≤◌, inl, inr, ℕ, ◌+◌, take, drop, subst, List, [], ◌∷◌, ◌++◌, length, refl, sym, ◌∙◌, ap, arith, append_assoc, length-append}
+-- Laws of what bytes open to. For callers.
+use Rattle.std.proofs.Common.{◌≡◌, ◌≢◌, ◌⊎◌, inl, inr, ⊎_elim, ℕ, ◌+◌, take, drop, List, [], ◌∷◌, ◌++◌, length, refl, sym, ◌∙◌, ap, arith, append_assoc, length-append}
 use Rattle.std.proofs.lemmas.List.{append-nil, take_at, drop_at}
 use Rattle.std.proofs.lemmas.Bool.{cases_eq}
 use Rattle.std.proofs.lemmas.Nat.{from_le_bytes-to_le_bytes_4}
 use Rattle.std.specs.Int.{to_le_bytes, from_le_bytes, w32}
 use Rattle.std.specs.List.{AllByRecursion}
 use Rattle.journal_core.specs.Records.{IsShort, header, body, records, front, text, Opens, IsBroken, Breaks, IsNoJournal, Staged, BeforeOrAfter}
-use Rattle.journal_core.specs.declared.format.TheConstants.{OPEN, CLOSED, LONGEST_PAYLOAD}
+use Rattle.journal_core.specs.declared.format.TheConstants.{OPEN, CLOSED}
 
 length-body : (payload : List ℕ) → length (body payload) ≡ 4 + length payload
 length-body payload = length-append (to_le_bytes w32 (length payload)) payload
@@ -49,7 +49,7 @@ same_length p q rest rest' fit fit' is =
     ∙ take_at (to_le_bytes w32 (length q)) (q ++ rest') 4 refl in
     sym (from_le_bytes-to_le_bytes_4 (length p) (omega (arith, fit))) ∙ ap (λ (l : List ℕ). from_le_bytes w32 l) fields ∙ from_le_bytes-to_le_bytes_4 (length q) (omega (arith, fit'))
 
-same_body : (p q rest rest' : List ℕ) → IsShort p → IsShort q → body p ++ rest ≡ body q ++ rest' → (p ≡ q) × (rest ≡ rest')
+pub same_body : (p q rest rest' : List ℕ) → IsShort p → IsShort q → body p ++ rest ≡ body q ++ rest' → (p ≡ q) × (rest ≡ rest')
 same_body p q rest rest' fit fit' is =
     let len = same_length p q rest rest' fit fit' is in
     let behind : p ++ rest ≡ q ++ rest' =
@@ -60,44 +60,84 @@ same_body p q rest rest' fit fit' is =
       sym (drop_at p rest (length p) refl) ∙ ap (λ (l : List ℕ). drop (length p) l) behind ∙ drop_at q rest' (length p) (sym len),
     )
 
--- no record stands at the front of these bytes
-NoRecord : List ℕ → Type 0
-NoRecord bytes = (payload behind : List ℕ) → IsShort payload → bytes ≡ OPEN ∷ (body payload ++ behind) → ⊥
-
 same_tail : (a b : ℕ) (xs ys : List ℕ) → a ∷ xs ≡ b ∷ ys → xs ≡ ys
 same_tail a b xs ys is = cc is
 
 same_head : (a b : ℕ) (xs ys : List ℕ) → a ∷ xs ≡ b ∷ ys → a ≡ b
 same_head a b xs ys is = cc is
 
-unique : (ps qs : List (List ℕ)) (t u : List ℕ) → AllByRecursion IsShort ps → AllByRecursion IsShort qs → NoRecord t → NoRecord u
-    → records ps ++ t ≡ records qs ++ u → (ps ≡ qs) × (t ≡ u)
-unfolding NoRecord
-unique [] [] t u fp fq nt nu is = (refl, is)
-unique [] (q ∷ qs) t u fp fq nt nu is = absurd (nt q (records qs ++ u) fq.0 (is ∙ ap (λ (l : List ℕ). OPEN ∷ l) (append_assoc (body q) (records qs) u)))
-unique (p ∷ ps) [] t u fp fq nt nu is = absurd (nu p (records ps ++ t) fp.0 (sym is ∙ ap (λ (l : List ℕ). OPEN ∷ l) (append_assoc (body p) (records ps) t)))
-unique (p ∷ ps) (q ∷ qs) t u fp fq nt nu is =
+-- Records go on: behind some of them these bytes begin with one more, and so does the longer list.
+pub record GoesOn (ps qs : List (List ℕ)) (bytes : List ℕ) : Type 0 where
+  pub payload : List ℕ
+  pub rest : List ℕ
+  pub more : List (List ℕ)
+  pub is : bytes ≡ OPEN ∷ (body payload ++ rest)
+  pub short : IsShort payload
+  pub longer : qs ≡ ps ++ payload ∷ more
+
+abbrev Compared : List (List ℕ) → List (List ℕ) → List ℕ → List ℕ → Type 0
+Compared ps qs t u = ((ps ≡ qs) × (t ≡ u)) ⊎ (GoesOn ps qs t ⊎ GoesOn qs ps u)
+
+later : (p q : List ℕ) (ps qs : List (List ℕ)) (t : List ℕ) → p ≡ q → GoesOn ps qs t → GoesOn (p ∷ ps) (q ∷ qs) t
+later p q ps qs t same on = record { payload = on.payload; rest = on.rest; more = on.more; is = on.is; short = on.short; longer = λ i. sym same i ∷ on.longer i }
+
+compare_records : (ps qs : List (List ℕ)) (t u : List ℕ) → AllByRecursion IsShort ps → AllByRecursion IsShort qs → records ps ++ t ≡ records qs ++ u → Compared ps qs t u
+compare_records [] [] t u fp fq is = inl (refl, is)
+compare_records [] (q ∷ qs) t u fp fq is = inr (inl (record {
+  payload = q;
+  rest = records qs ++ u;
+  more = qs;
+  is = is ∙ ap (λ (l : List ℕ). OPEN ∷ l) (append_assoc (body q) (records qs) u);
+  short = fq.0;
+  longer = refl;
+}))
+compare_records (p ∷ ps) [] t u fp fq is = inr (inr (record {
+  payload = p;
+  rest = records ps ++ t;
+  more = ps;
+  is = sym is ∙ ap (λ (l : List ℕ). OPEN ∷ l) (append_assoc (body p) (records ps) t);
+  short = fp.0;
+  longer = refl;
+}))
+compare_records (p ∷ ps) (q ∷ qs) t u fp fq is =
     let behind = same_tail OPEN OPEN ((body p ++ records ps) ++ t) ((body q ++ records qs) ++ u) is in
     let same = same_body p q (records ps ++ t) (records qs ++ u) fp.0 fq.0 (sym (append_assoc (body p) (records ps) t) ∙ behind ∙ append_assoc (body q) (records qs) u) in
-    let rest = unique ps qs t u fp.1 fq.1 nt nu same.1 in
-    ((λ i. same.0 i ∷ rest.0 i), rest.1)
+    elim (compare_records ps qs t u fp.1 fq.1 same.1) [
+      | inl rest ↦ inl ((λ i. same.0 i ∷ rest.0 i), rest.1)
+      | inr on ↦ inr (⊎_elim (λ x. inl (later p q ps qs t same.0 x)) (λ y. inr (later q p qs ps u (sym same.0) y)) on)
+    ]
+
+-- Two readings of the same bytes are one, or one of them goes on.
+pub compare : (ps qs : List (List ℕ)) (t u : List ℕ) → AllByRecursion IsShort ps → AllByRecursion IsShort qs → front ps ++ t ≡ front qs ++ u → Compared ps qs t u
+unfolding front
+compare ps qs t u fp fq is =
+    let behind : records ps ++ t ≡ records qs ++ u =
+    sym (drop_at header (records ps ++ t) 8 refl) ∙ ap (λ (l : List ℕ). drop 8 l) (sym (append_assoc header (records ps) t) ∙ is ∙ append_assoc header (records qs) u) ∙ drop_at header (records qs ++ u) 8 refl in
+    compare_records ps qs t u fp fq behind
+
+-- no record stands at the front of these bytes
+unfoldable pub NoRecord : List ℕ → Type 0
+NoRecord bytes = (ps qs : List (List ℕ)) → GoesOn ps qs bytes → ⊥
 
 unique_front : (ps qs : List (List ℕ)) (t u : List ℕ) → AllByRecursion IsShort ps → AllByRecursion IsShort qs → NoRecord t → NoRecord u
     → front ps ++ t ≡ front qs ++ u → (ps ≡ qs) × (t ≡ u)
-unfolding front
-unique_front ps qs t u fp fq nt nu is =
-    let behind : records ps ++ t ≡ records qs ++ u =
-    sym (drop_at header (records ps ++ t) 8 refl) ∙ ap (λ (l : List ℕ). drop 8 l) (sym (append_assoc header (records ps) t) ∙ is ∙ append_assoc header (records qs) u) ∙ drop_at header (records qs ++ u) 8 refl in
-    unique ps qs t u fp fq nt nu behind
-
-shut_none : (gate : ℕ) (rest : List ℕ) → gate ≢ OPEN → NoRecord (gate ∷ rest)
 unfolding NoRecord
-shut_none gate rest shut payload behind few is = shut (same_head gate OPEN rest (body payload ++ behind) is)
+unique_front ps qs t u fp fq nt nu is = ⊎_elim (λ same. same) (λ on. absurd (⊎_elim (nt ps qs) (nu qs ps) on)) (compare ps qs t u fp fq is)
 
-broken_none : (tail : List ℕ) → IsBroken tail → NoRecord tail
+pub shut_none : (gate : ℕ) (rest : List ℕ) → gate ≢ OPEN → NoRecord (gate ∷ rest)
 unfolding NoRecord
-broken_none [] broken payload behind few is = cc is
-broken_none (gate ∷ rest) broken payload behind few is = broken.1 payload behind few (same_tail gate OPEN rest (body payload ++ behind) is)
+shut_none gate rest shut ps qs on = shut (same_head gate OPEN rest (body on.payload ++ on.rest) on.is)
+
+pub broken_none : (tail : List ℕ) → IsBroken tail → NoRecord tail
+unfolding NoRecord
+broken_none [] broken ps qs on = cc on.is
+broken_none (gate ∷ rest) broken ps qs on = broken.1 on.payload on.rest on.short (same_tail gate OPEN rest (body on.payload ++ on.rest) on.is)
+
+-- where no record stands, the other reading goes on to there
+pub leads_to : (ps qs : List (List ℕ)) (t u : List ℕ) → AllByRecursion IsShort ps → AllByRecursion IsShort qs → NoRecord u → front ps ++ t ≡ front qs ++ u
+    → ((ps ≡ qs) × (t ≡ u)) ⊎ GoesOn ps qs t
+unfolding NoRecord
+leads_to ps qs t u fp fq nu is = ⊎_elim (λ same. inl same) (λ on. ⊎_elim (λ x. inr x) (λ y. absurd (nu qs ps y)) on) (compare ps qs t u fp fq is)
 
 pub one_list : (ps qs : List (List ℕ)) (bytes : List ℕ) → Opens ps bytes → Opens qs bytes → ps ≡ qs
 one_list ps qs bytes o r = (unique_front ps qs (o.gate ∷ o.rest) (r.gate ∷ r.rest) o.fit r.fit (shut_none o.gate o.rest o.shut) (shut_none r.gate r.rest r.shut) (sym o.is ∙ r.is)).0

@@ -1,7 +1,7 @@
--- Calls that write nothing, one after the other.
-use Rattle.std.proofs.Common.{◌≡◌, ◌≤◌, ◌⊎◌, inl, inr, ℕ, List, Option, Some, refl, sym, ◌∙◌, ap, subst, arith}
+-- Calls that write nothing, one after the other. For callers.
+use Rattle.std.proofs.Common.{◌≡◌, ◌≤◌, ◌⊎◌, inl, inr, ℕ, List, Option, refl, ◌∙◌, arith}
 use Rattle.disk_edge.specs.Disk.{Same, Exactly, Elapses, Keeps, Counts, Bounded}
-use Rattle.disk_edge.specs.Moments.{AtEachMoment, two_calls}
+use Rattle.disk_edge.specs.Moments.{two_calls}
 use Rattle.journal_core.specs.Looks.{Narrows, Looks}
 
 keeps_twice : {D : Type 0} (clock : D → ℕ) (between : D → ℕ → ℕ → List ℕ → Type 0) (a b c : D) → Keeps clock between a b → Keeps clock between b c → Keeps clock between a c
