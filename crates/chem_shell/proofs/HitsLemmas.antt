@@ -13,7 +13,8 @@ use Rattle.smarts_parse.specs.Pattern.{PatternTerm}
 use Rattle.smarts_parse.specs.Embedding.{Matches}
 use Rattle.chem_shell.specs.History.{History, Live, head}
 use Rattle.chem_shell.specs.Hits.{AreHits}
-use Rattle.mol_finish.specs.Structure.{IsStructureOf}
+use Rattle.mol_finish.specs.Structure.{HasMolecule}
+use Rattle.mol_finish.specs.declared.fault.Format.{Format}
 use Rattle.chem_shell.specs.Selects.{Selects}
 use Rattle.chem_shell.specs.Store.{IsLiveNow}
 
@@ -101,17 +102,17 @@ module _ {X : Type 0} (P : X → Type 0) where
 
 -- a text has one structure
 abbrev OneStructure : Type 0
-OneStructure = (text : List ℕ) (a b : Molecule) → IsStructureOf text a → IsStructureOf text b → a ≡ b
+OneStructure = (format : Format) (text : List ℕ) (a b : Molecule) → HasMolecule format text a → HasMolecule format text b → a ≡ b
 
 -- what is live at an identifier, and its structure
-live_at : (h : History) (id : ℕ) (found : Option Molecule) (m : Molecule) → MatchOption found (head h id ≡ None) (λ n. (l : Live) × (head h id ≡ Some l) × IsStructureOf l.text n) → found ≡ Some m → (l : Live) × (head h id ≡ Some l) × IsStructureOf l.text m
+live_at : (h : History) (id : ℕ) (found : Option Molecule) (m : Molecule) → MatchOption found (head h id ≡ None) (λ n. (l : Live) × (head h id ≡ Some l) × HasMolecule l.format l.text n) → found ≡ Some m → (l : Live) × (head h id ≡ Some l) × HasMolecule l.format l.text m
 live_at h id None m w e = absurd (none-some m e)
-live_at h id (Some n) m w e = subst (λ x. (l : Live) × (head h id ≡ Some l) × IsStructureOf l.text x) (same_Some n m e) w
+live_at h id (Some n) m w e = subst (λ x. (l : Live) × (head h id ≡ Some l) × HasMolecule l.format l.text x) (same_Some n m e) w
 
 -- the structure that is kept of a live identifier
-kept_at : OneStructure → (h : History) (id : ℕ) (l : Live) (found : Option Molecule) (m : Molecule) → MatchOption found (head h id ≡ None) (λ n. (k : Live) × (head h id ≡ Some k) × IsStructureOf k.text n) → head h id ≡ Some l → IsStructureOf l.text m → found ≡ Some m
+kept_at : OneStructure → (h : History) (id : ℕ) (l : Live) (found : Option Molecule) (m : Molecule) → MatchOption found (head h id ≡ None) (λ n. (k : Live) × (head h id ≡ Some k) × HasMolecule k.format k.text n) → head h id ≡ Some l → HasMolecule l.format l.text m → found ≡ Some m
 kept_at one h id l None m w e s = absurd (none-some l (sym w ∙ e))
-kept_at one h id l (Some n) m w e s = ap Some (one l.text n m (subst (λ (k : Live). IsStructureOf k.text n) (same_Some w.0 l (sym w.1 ∙ e)) w.2) s)
+kept_at one h id l (Some n) m w e s = ap Some (one l.format l.text n m (subst (λ (k : Live). HasMolecule k.format k.text n) (same_Some w.0 l (sym w.1 ∙ e)) w.2) s)
 
 -- the identifiers that are selected are the hits
 pub hits_from_selected : OneStructure → (h : History) (live : BTreeMap ℕ Molecule) (p : PatternTerm) (ids : List ℕ) → IsOrdered nat_cmp live → IsLiveNow h live → Selects (Matches p) live.entries ids → AreHits h (length h) p ids

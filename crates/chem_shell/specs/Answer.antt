@@ -3,6 +3,7 @@ use Rattle.std.specs.Prelude.{◌≡◌, ◌≢◌, ◌⊎◌, ℕ, ◌+◌, ◌
 use Rattle.mol_finish.specs.declared.fault.Format.{Format}
 use Rattle.mol_finish.specs.declared.fault.Format.TheVariants.{Smiles}
 use Rattle.smarts_parse.specs.Pattern.{PatternTerm}
+use Rattle.smarts_parse.specs.Chain.{IsShortText}
 use Rattle.smarts_parse.specs.declared.fault.SmartsFault.{SmartsFault}
 use Rattle.shell_lang.specs.declared.command.LineRefusal.{LineRefusal}
 use Rattle.shell_lang.specs.declared.reply.Reply.{Reply}
@@ -35,5 +36,5 @@ SearchAnswer h text replies =
 abbrev pub Answers : History → Result Command LineRefusal → List Reply → History → Type 0
 Answers h (Ok Empty) replies h' = (replies ≡ []) × (h' ≡ h)
 Answers h (Ok (Register id text)) replies h' = (reply : Reply) × (replies ≡ reply ∷ []) × RegisterAnswer h Smiles id text reply h'
-Answers h (Ok (Search text)) replies h' = SearchAnswer h text replies × (h' ≡ h)
+Answers h (Ok (Search text)) replies h' = ((IsShortText text × SearchAnswer h text replies) ⊎ (¬ IsShortText text × (replies ≡ Refused NotYet ∷ []))) × (h' ≡ h)
 Answers h _ replies h' = (replies ≡ Refused NotYet ∷ []) × (h' ≡ h)

@@ -2,6 +2,7 @@
 ghost use Rattle.std.specs.Prelude.{◌≡◌, [], ◌++◌, IfOk, OnOk, OnErr, List, map};
 ghost use Rattle.io_edge.specs.Lines.{Whole, TooLong};
 ghost use Rattle.shell_lang.specs.Command.{IsIdentifier};
+ghost use Rattle.smarts_parse.specs.Chain.{IsShortText};
 ghost use Rattle.shell_lang.specs.Reply.{text_of, reply_line};
 ghost use Rattle.shell_lang.specs.declared.reply.Reply.{Reply};
 ghost use Rattle.shell_lang.specs.declared.reply.Reply.TheVariants.{Hit};
@@ -12,7 +13,7 @@ use crate::store::{CommitFault, Store};
 use matcher::Scratch;
 use mol_finish::{Format, TextFault, structure};
 use shell_lang::{Command, Refusal, Reply, read_command, reply_text};
-use smarts_parse::{SmartsFault, parse};
+use smarts_parse::{SmartsFault, is_short, parse};
 use std::alloc::{AllocError, Global};
 
 /// What answers lines: the store, and buffers that are reused for each line.
@@ -56,7 +57,7 @@ impl Responder {
                 let format = Format::Smiles;
                 register(alloc, &mut self.store, format, id, text, &mut self.out)
             }
-            Ok(Command::Search { pattern }) => search(
+            Ok(Command::Search { pattern }) if is_short(pattern) => search(
                 alloc,
                 &self.store,
                 &mut self.scratch,
@@ -109,6 +110,7 @@ fn search(
     text: &[u8],
     out: &mut Vec<u8>,
 ) -> Result<(), AllocError>
+    requires { IsShortText text.now }
     ensures { OnOk result ((replies : List Reply) × SearchAnswer store.now text.now replies × (out.new.items ≡ out.old.items ++ text_of replies)) }
 {
     let pattern = match parse(alloc, text) {

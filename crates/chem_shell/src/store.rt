@@ -5,7 +5,7 @@ ghost use Rattle.smarts_parse.specs.Pattern.{pattern_of};
 ghost use Rattle.smarts_parse.specs.Sound.{IsSoundPattern};
 ghost use Rattle.shell_lang.specs.Command.{IsIdentifier};
 ghost use Rattle.chem_shell.specs.History.{IsHistory, Register, head};
-ghost use Rattle.chem_shell.specs.Structures.{HasStructure};
+ghost use Rattle.mol_finish.specs.Structure.{HasMolecule};
 ghost use Rattle.std.specs.Ordering.{nat_cmp};
 ghost use Rattle.std.specs.BTreeMap.{IsOrdered};
 ghost use Rattle.smarts_parse.specs.Embedding.{Matches};
@@ -91,7 +91,7 @@ impl Store {
         mol: Mol,
     ) -> Result<u32, CommitFault>
         requires id { IsIdentifier id }
-        requires structure { HasStructure format text.now mol }
+        requires structure { HasMolecule format text.now mol }
         ensures version { IfOk result (λ version. version ≡ length self.old + 1) }
         ensures commit { OnOk result (self.new ≡ self.old ++ Register id format text.now ∷ []) }
         ensures allowed { OnOk result ((head self.old id ≡ None) × (length self.old < MOST_COMMITS)) }
@@ -127,7 +127,7 @@ impl Store {
         mol: Mol,
     ) -> Result<(), AllocError>
         requires id { IsIdentifier id }
-        requires structure { HasStructure format text.now mol }
+        requires structure { HasMolecule format text.now mol }
         requires room { length self.old < MOST_COMMITS }
         ensures ok { OnOk result (self.new ≡ self.old ++ Register id format text.now ∷ []) }
         ensures err { OnErr result (self.new ≡ self.old) }

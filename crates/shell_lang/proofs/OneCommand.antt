@@ -1,12 +1,15 @@
--- A line spells one command.
-use Rattle.std.proofs.Common.{◌≡◌, ◌⊎◌, inl, inr, ℕ, List, [], ◌∷◌, ◌++◌, refl, sym, ◌∙◌, ap, subst, arith, decimal, codes, Bool, ◌==◌, if◌then◌else◌}
+-- A line is read in one way.
+use Rattle.std.proofs.Common.{◌≡◌, ◌⊎◌, inl, inr, ℕ, List, [], ◌∷◌, ◌++◌, refl, sym, ◌∙◌, ap, subst, arith, decimal, codes, Result, Ok, Err, ◌==◌, if◌then◌else◌}
 use Rattle.std.proofs.lemmas.Fmt.{decimal_injective}
 use Rattle.std.proofs.lemmas.List.{append_cancel_left}
 use Rattle.shell_lang.specs.declared.word.Word.{Word}
 use Rattle.shell_lang.specs.declared.word.Word.TheVariants as words
-use Rattle.shell_lang.specs.Command.{Command, Empty, Register, Revise, RegisterMol, ReviseMol, Withdraw, Show, Search, Start, Next, Close, Prune, Stats, IsIdentifier, IsName, HasNoSpace, Spells}
-use Rattle.shell_lang.specs.Cut.{Follows}
-use Rattle.shell_lang.proofs.Cuts.{no_space, no_space_named, one_split, one_cut, cut_of, IsCut, has_space, not_alone}
+use Rattle.shell_lang.specs.declared.command.LineRefusal.{LineRefusal}
+use Rattle.shell_lang.specs.declared.command.LineRefusal.TheVariants as refusals
+use Rattle.shell_lang.specs.Word.{word_text}
+use Rattle.shell_lang.specs.Command.{Command, Empty, Register, Revise, RegisterMol, ReviseMol, Withdraw, Show, Search, Start, Next, Close, Prune, Stats, IsIdentifier, IsNoIdentifier, IsName, HasNoSpace, Spells, HasIdentifierPart, IsLine}
+use Rattle.shell_lang.specs.Cut.{Follows, IdentifierPart}
+use Rattle.shell_lang.proofs.Cuts.{no_space, no_space_named, one_split, one_cut, one_word, word_space, cut_of, part_cut_of, spelled_after, has_space, not_alone}
 
 -- which of the thirteen it is
 abbrev kind : Command → ℕ
@@ -117,3 +120,37 @@ same_command line (Start a t) (Start b u) p q =
     let same = one_split a b t u (no_space_named a p.0) (no_space_named b q.0) (behind (codes "open") line _ _ p.1 q.1) in
     ap (λ (w : List ℕ). Start w t) same.0 ∙ ap (λ (w : List ℕ). Start b w) same.1
 same_command line c d p q = absurd (let k = same_kind line c d p q in omega arith)
+
+-- a part that is no identifier stands where none does
+no_part : (w : Word) (rest part : List ℕ) (c : Command) → Follows w rest c → IdentifierPart w rest part → IsNoIdentifier part → ⊥
+no_part words.Register rest part (Register id text) h p none =
+    none id h.0 (one_split part (decimal id) p.1 text p.0 (no_space id h.0) (sym p.2 ∙ h.1)).0
+no_part words.Revise rest part (Revise id text) h p none =
+    none id h.0 (one_split part (decimal id) p.1 text p.0 (no_space id h.0) (sym p.2 ∙ h.1)).0
+no_part words.RegisterMol rest part (RegisterMol id) h p none = none id h.0 (sym p.1 ∙ h.1)
+no_part words.ReviseMol rest part (ReviseMol id) h p none = none id h.0 (sym p.1 ∙ h.1)
+no_part words.Withdraw rest part (Withdraw id) h p none = none id h.0 (sym p.1 ∙ h.1)
+no_part words.Show rest part (Show id) h p none = none id h.0 (sym p.1 ∙ h.1)
+no_part words.Search rest part c h p none = p
+no_part words.Open rest part c h p none = p
+no_part words.Next rest part c h p none = p
+no_part words.Close rest part c h p none = p
+no_part w rest part c h p none = h
+
+-- no command has a part for an identifier that is none
+no_identifier_refused : (line part : List ℕ) (c : Command) → Spells line c → HasIdentifierPart line part → IsNoIdentifier part → ⊥
+no_identifier_refused line part c h p none =
+    let x = part_cut_of line part p in
+    let y = spelled_after line (word_text x.word) x.rest c x.is (word_space x.word) h in
+    no_part y.0 x.rest part c y.2 (subst (λ (w : Word). IdentifierPart w x.rest part) (sym (one_word y.0 x.word y.1)) x.follows) none
+
+pub same_reading : (line : List ℕ) (a b : Result Command LineRefusal) → IsLine line a → IsLine line b → a ≡ b
+same_reading line (Ok c) (Ok d) p q = ap Ok (same_command line c d p q)
+same_reading line (Ok c) (Err refusals.Id) p q = absurd (no_identifier_refused line q.0 c p q.1 q.2)
+same_reading line (Ok c) (Err refusals.Syntax) p q = absurd (q.0 c p)
+same_reading line (Err refusals.Id) (Ok d) p q = absurd (no_identifier_refused line p.0 d q p.1 p.2)
+same_reading line (Err refusals.Id) (Err refusals.Id) p q = refl
+same_reading line (Err refusals.Id) (Err refusals.Syntax) p q = absurd (q.1 p.0 p.1)
+same_reading line (Err refusals.Syntax) (Ok d) p q = absurd (p.0 d q)
+same_reading line (Err refusals.Syntax) (Err refusals.Id) p q = absurd (p.1 q.0 q.1)
+same_reading line (Err refusals.Syntax) (Err refusals.Syntax) p q = refl

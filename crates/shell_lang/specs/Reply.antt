@@ -4,6 +4,8 @@ use Rattle.std.specs.List.{flat_map}
 use Rattle.std.specs.Fmt.{decimal}
 use Rattle.mol_finish.specs.declared.fault.TextFault.{TextFault}
 use Rattle.mol_finish.specs.declared.fault.TextFault.TheVariants as texts
+use Rattle.molfile_read.specs.declared.fault.MolfileFault.{MolfileFault}
+use Rattle.molfile_read.specs.declared.fault.MolfileFault.TheVariants as molfiles
 use Rattle.smarts_parse.specs.declared.fault.SmartsFault.{SmartsFault}
 use Rattle.smarts_parse.specs.declared.fault.SmartsFault.TheVariants as patterns
 use Rattle.smiles_read.specs.declared.fault.SmilesFault.{SmilesFault}
@@ -26,9 +28,18 @@ smiles_words smiles.Limit = codes "refused smiles limit"
 smiles_words (smiles.Aromatic place) = codes "refused smiles aromatic " ++ decimal place
 smiles_words smiles.NoMemory = codes "fault memory"
 
+abbrev pub molfile_words : MolfileFault → List ℕ
+molfile_words molfiles.Header = codes "refused molfile header"
+molfile_words (molfiles.Columns line) = codes "refused molfile columns " ++ decimal line
+molfile_words (molfiles.Bond line) = codes "refused molfile bond " ++ decimal line
+molfile_words (molfiles.Query line) = codes "refused molfile query " ++ decimal line
+molfile_words molfiles.Limit = codes "refused molfile limit"
+molfile_words molfiles.Cut = codes "refused molfile cut"
+molfile_words molfiles.NoMemory = codes "fault memory"
+
 abbrev pub text_words : TextFault → List ℕ
 text_words (texts.Smiles fault) = smiles_words fault
-text_words texts.NotYet = codes "refused notyet"
+text_words (texts.Molfile fault) = molfile_words fault
 text_words texts.NoMemory = codes "fault memory"
 
 abbrev pub pattern_words : SmartsFault → List ℕ

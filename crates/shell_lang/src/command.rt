@@ -1,10 +1,11 @@
 //! Reading a line of a script: which command it spells, or why it spells none.
-ghost use Rattle.std.specs.Prelude.{◌≡◌, ◌≢◌, ◌∷◌, ◌++◌, ℕ, List, All, Contains, codes, decimal, IfSome, IfNone, IfOk, IfErr, IsErrOf, IsTrue, ◌↔◌};
+ghost use Rattle.std.specs.Prelude.{◌≡◌, ◌≢◌, ◌∷◌, ◌++◌, ℕ, List, All, Contains, codes, decimal, IfSome, IfNone, IfOk, IfErr, IsErrOf, IsTrue, Result, ◌↔◌};
 ghost use Rattle.shell_lang.specs.Command as spec;
 ghost use Rattle.shell_lang.specs.Command.{IsIdentifier, IsNoIdentifier, IsNameByte, IsName, Spells, HasNoSpace, HasIdentifierPart, IsLine};
 ghost use Rattle.shell_lang.specs.CommandView.{reading_of};
 ghost use Rattle.shell_lang.specs.Word.{word_text};
 ghost use Rattle.shell_lang.specs.Cut.{IsRest};
+ghost use Rattle.shell_lang.specs.declared.command.LineRefusal.{LineRefusal};
 ghost use Rattle.shell_lang.specs.declared.command.LineRefusal.TheVariants.{Syntax};
 
 use crate::word::{Word, are_same};
@@ -70,9 +71,9 @@ pub fn read_command(line: &[u8]) -> Result<Command<'_>, LineRefusal>
     with_rest(word, rest)
 }
 
-/// A line is read in one way.
-pub fn one_command()
-    ensures { (line : List ℕ) (c d : spec.Command) → Spells line c → Spells line d → c ≡ d }
+/// A law: a line is read in one way.
+pub fn one_reading()
+    ensures { (line : List ℕ) (a b : Result spec.Command LineRefusal) → IsLine line a → IsLine line b → a ≡ b }
 {}
 
 // A line without a space.

@@ -5,5 +5,5 @@ mod command;
 mod reply;
 mod word;
 
-pub use command::{Command, LAST_IDENTIFIER, LONGEST_NAME, LineRefusal, one_command, read_command};
+pub use command::{Command, LAST_IDENTIFIER, LONGEST_NAME, LineRefusal, one_reading, read_command};
 pub use reply::{Refusal, Reply, reply_text};

@@ -1,12 +1,13 @@
 //! Reply lines.
 ghost use Rattle.std.specs.Prelude.{◌≡◌, ◌++◌, OnOk, OnErr};
 ghost use Rattle.std.specs.Fmt.{decimal};
-ghost use Rattle.shell_lang.specs.Reply.{reply_line, text_words, smiles_words, pattern_words};
+ghost use Rattle.shell_lang.specs.Reply.{reply_line, text_words, smiles_words, molfile_words, pattern_words};
 ghost use Rattle.shell_lang.specs.Written.{Extends};
 
 use crate::command::LineRefusal;
 use chem_text::push_decimal;
 use mol_finish::TextFault;
+use molfile_read::MolfileFault;
 use smarts_parse::SmartsFault;
 use smiles_read::SmilesFault;
 use std::alloc::AllocError;
@@ -110,7 +111,7 @@ fn push_text_fault(fault: TextFault, out: &mut Vec<u8>) -> Result<(), AllocError
 {
     match fault {
         TextFault::Smiles(fault) => push_smiles_fault(fault, out),
-        TextFault::NotYet => push(out, "refused notyet"),
+        TextFault::Molfile(fault) => push_molfile_fault(fault, out),
         TextFault::NoMemory => push(out, "fault memory"),
     }
 }
@@ -127,6 +128,21 @@ fn push_smiles_fault(fault: SmilesFault, out: &mut Vec<u8>) -> Result<(), AllocE
             push_number(out, "refused smiles aromatic ", u32::from(place))
         }
         SmilesFault::NoMemory => push(out, "fault memory"),
+    }
+}
+
+fn push_molfile_fault(fault: MolfileFault, out: &mut Vec<u8>) -> Result<(), AllocError>
+    ensures ok { OnOk result (out.new.items ≡ out.old.items ++ molfile_words fault) }
+    ensures err { OnErr result (Extends out.old.items out.new.items) }
+{
+    match fault {
+        MolfileFault::Header => push(out, "refused molfile header"),
+        MolfileFault::Columns(line) => push_number(out, "refused molfile columns ", line),
+        MolfileFault::Bond(line) => push_number(out, "refused molfile bond ", line),
+        MolfileFault::Query(line) => push_number(out, "refused molfile query ", line),
+        MolfileFault::Limit => push(out, "refused molfile limit"),
+        MolfileFault::Cut => push(out, "refused molfile cut"),
+        MolfileFault::NoMemory => push(out, "fault memory"),
     }
 }
 
