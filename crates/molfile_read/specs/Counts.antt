@@ -1,11 +1,12 @@
 -- The counts line (CTfile formats, V2000, counts line): atoms in columns 1 to 3, bonds 4 to 6, atom lists 7 to 9,
 -- text blocks 16 to 18, the version 34 to 39. Other columns are not read. For callers.
-use Rattle.std.specs.Prelude.{ℕ, ◌==◌, ◌||◌, not, Bool, false, List, [], filter, Option, Some, None, Result, Ok, Err, codes, if◌then◌else◌}
+use Rattle.std.specs.Prelude.{ℕ, ◌==◌, ◌||◌, not, Bool, false, List, [], ◌∷◌, filter, Option, Some, None, Result, Ok, Err, codes, if◌then◌else◌}
 use Rattle.std.specs.Option.{ok_or}
 use Rattle.std.specs.Str.{bytes_eq}
 use Rattle.molfile_read.specs.declared.fault.MolfileFault.{MolfileFault}
-use Rattle.molfile_read.specs.declared.fault.MolfileFault.TheVariants.{Header, Query}
+use Rattle.molfile_read.specs.declared.fault.MolfileFault.TheVariants.{Header, Query, Cut}
 use Rattle.molfile_read.specs.declared.counts.Counts.{Counts}
+use Rattle.molfile_read.specs.Text.{Line}
 use Rattle.molfile_read.specs.Field.{columns, number_in}
 use Rattle.molfile_read.specs.Steps.{◌>>=◌}
 
@@ -26,3 +27,8 @@ counts_read line =
     ok_or (number_in 999 (columns 4 6 line)) Header >>= λ bonds.
     (if (atoms == 0) || (not (is_zero (number_in 999 (columns 16 18 line))) || not (is_version_read line)) then Err Header else
     (if not (is_zero (number_in 999 (columns 7 9 line))) then Err (Query 4) else Ok (record { atoms = atoms; bonds = bonds })))
+
+-- the counts line is the first of these
+abbrev pub first_counts : List Line → Result Counts MolfileFault
+first_counts [] = Err Cut
+first_counts (line ∷ lines) = counts_read line.1

@@ -1,7 +1,11 @@
 -- What the parts of the reader promise each other. For private clauses alone.
-use Rattle.std.specs.Prelude.{◌≡◌, ◌≢◌, ◌⊎◌, ℕ, ◌<◌, ◌≤◌, ◌==◌, ◌||◌, Bool, true, false, nat_lt, List, [], ◌∷◌, ◌++◌, length, Option, Some, None, Result, Ok, Err, IsOk, ℤ, pos, neg_ℤ, ◌≤ℤ◌, if◌then◌else◌}
+use Rattle.std.specs.Prelude.{◌≡◌, ◌≢◌, ◌⊎◌, ℕ, ◌<◌, ◌≤◌, ◌==◌, ◌||◌, Bool, true, false, nat_lt, List, [], ◌∷◌, ◌++◌, length, All, Option, Some, None, Result, Ok, Err, IsOk, ℤ, pos, neg_ℤ, ◌≤ℤ◌, if◌then◌else◌}
 use Rattle.std.specs.List.{AllByRecursion, list_any}
+use Rattle.chem_core.specs.declared.sketch.SketchAtom.{SketchAtom}
 use Rattle.chem_core.specs.declared.sketch.SketchBond.{SketchBond}
+use Rattle.chem_core.specs.declared.limits.TheConstants.{MOST_ATOMS}
+use Rattle.chem_core.specs.Sketch.{SketchTerm}
+use Rattle.chem_core.specs.Sound.{IsSketchAtom}
 use Rattle.molfile_read.specs.declared.fault.MolfileFault.{MolfileFault}
 use Rattle.molfile_read.specs.declared.fault.MolfileFault.TheVariants.{Cut, NoMemory}
 use Rattle.molfile_read.specs.declared.atom.AtomLine.{AtomLine}
@@ -61,3 +65,12 @@ IsValue (Isotope n) = n ≤ 999
 -- a setting of one of so many atoms
 abbrev pub IsSetting : ℕ → Setting → Type 0
 IsSetting atoms s = (s.atom < atoms) × IsValue s.value
+
+-- atoms that a sketch may have, without hydrogens
+abbrev pub AreAtoms : List SketchAtom → Type 0
+AreAtoms atoms = All IsSketchAtom atoms × All (λ a. a.hydrogens ≤ 9) atoms × (length atoms ≤ MOST_ATOMS)
+
+-- what was drawn, or why it was not
+abbrev pub IsDrawn : Result SketchTerm MolfileFault → Result SketchTerm MolfileFault → Type 0
+IsDrawn drawn (Ok s) = drawn ≡ Ok s
+IsDrawn drawn (Err fault) = (fault ≡ NoMemory) ⊎ (drawn ≡ Err fault)

@@ -1,6 +1,6 @@
 -- The sketch of a molfile, or the first fault (CTfile formats, V2000). For callers.
-use Rattle.std.specs.Prelude.{◌≡◌, ◌⊎◌, ℕ, ◌+◌, ◌<◌, ◌≤◌, ◌==◌, ◌||◌, not, Bool, true, false, List, [], ◌∷◌, length, take, drop, map, Option, Some, None, unwrap_or, Result, Ok, Err, ℤ, pos, negsuc, if◌then◌else◌}
-use Rattle.std.specs.List.{enumerate_from, position_from}
+use Rattle.std.specs.Prelude.{◌≡◌, ◌⊎◌, ℕ, ◌+◌, ◌<◌, ◌≤◌, ◌==◌, ◌||◌, not, Bool, true, false, List, [], ◌∷◌, length, take, drop, map, position, Option, Some, None, unwrap_or, Result, Ok, Err, ℤ, pos, negsuc, if◌then◌else◌}
+use Rattle.std.specs.List.{enumerate_from}
 use Rattle.std.specs.Ordering.{int_eq}
 use Rattle.chem_core.specs.declared.sketch.SketchAtom.{SketchAtom}
 use Rattle.chem_core.specs.declared.sketch.SketchBond.{SketchBond}
@@ -13,12 +13,11 @@ use Rattle.chem_core.specs.Sound.{sketch_ends}
 use Rattle.molfile_read.specs.declared.fault.MolfileFault.{MolfileFault}
 use Rattle.molfile_read.specs.declared.fault.MolfileFault.TheVariants.{Header, Columns, Bond, Query, Limit, Cut, NoMemory}
 use Rattle.molfile_read.specs.declared.read.TheConstants.{MOST_BYTES}
-use Rattle.molfile_read.specs.declared.counts.Counts.{Counts}
 use Rattle.molfile_read.specs.declared.atom.AtomLine.{AtomLine}
 use Rattle.molfile_read.specs.declared.setting.Setting.{Setting}
 use Rattle.molfile_read.specs.Text.{Line, numbered_lines}
 use Rattle.molfile_read.specs.Steps.{◌>>=◌, each}
-use Rattle.molfile_read.specs.Counts.{counts_read}
+use Rattle.molfile_read.specs.Counts.{first_counts}
 use Rattle.molfile_read.specs.Atoms.{atom_read}
 use Rattle.molfile_read.specs.Bonds.{bonds_read}
 use Rattle.molfile_read.specs.Properties.{settings_read, property_lines, is_ended, last_set, charge_of, radical_of, isotope_of, sets_charges, sets_isotopes}
@@ -67,11 +66,7 @@ mass_fault None = Ok tt
 mass_fault (Some place) = Err (Columns (5 + place))
 
 abbrev pub masses_read : List AtomLine → List Setting → Result (Unit {0}) MolfileFault
-masses_read atoms settings = if sets_isotopes settings then Ok tt else mass_fault (position_from has_mass 0 atoms)
-
-abbrev pub first_counts : List Line → Result Counts MolfileFault
-first_counts [] = Err Cut
-first_counts (line ∷ lines) = counts_read line.1
+masses_read atoms settings = if sets_isotopes settings then Ok tt else mass_fault (position has_mass atoms)
 
 -- What the lines are read as: three header lines, the counts line, so many atom lines and bond lines, and property
 -- lines up to the end. The first fault, line by line; then that the end is missing; then a mass difference.

@@ -1,5 +1,6 @@
 //! Atom lines.
-ghost use Rattle.std.specs.Prelude.{◌≡◌, ◌≤◌, length, take, drop, All, IfOk, IfErr, Ok};
+ghost use Rattle.std.specs.Prelude.{◌≡◌, ◌≤◌, length, take, drop, IfOk, IfErr, Ok};
+ghost use Rattle.std.specs.List.{AllByRecursion};
 ghost use Rattle.molfile_read.specs.Steps.{each};
 ghost use Rattle.molfile_read.specs.Parts.{Faults, IsAtomLine};
 ghost use Rattle.molfile_read.specs.Atoms.{symbol_in, is_query_atom, atom_read};
@@ -26,6 +27,7 @@ pub(crate) struct AtomLine {
 }
 
 /// What the atom line of this number says.
+#[tactic(auto, unfolding(crate::specs::Atoms::atom_read))]
 pub(crate) fn atom(at: u32, line: &[u8]) -> Result<AtomLine, MolfileFault>
     ensures value { result ≡ atom_read (at, line.now) }
     ensures range { IfOk result IsAtomLine }
@@ -58,7 +60,7 @@ pub(crate) fn read_atoms(
 ) -> Result<Vec<AtomLine>, MolfileFault>
     ensures found { IfOk result (λ atoms. (each atom_read (take count lines.old) ≡ Ok atoms.items)
         × (lines.new ≡ drop count lines.old) × (length atoms.items ≡ count)) }
-    ensures range { IfOk result (λ atoms. All IsAtomLine atoms.items) }
+    ensures range { IfOk result (λ atoms. AllByRecursion IsAtomLine atoms.items) }
     ensures fault { IfErr result (λ e. Faults (each atom_read (take count lines.old)) count lines.old e) }
 {
     let mut atoms = Vec::with_capacity(alloc, usize::from(count))?;

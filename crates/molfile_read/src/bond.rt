@@ -41,6 +41,7 @@ pub(crate) fn is_atom(atoms: u16, number: u16) -> bool
 }
 
 // What the bond line of this number says by itself, among so many atoms.
+#[tactic(auto, unfolding(crate::specs::Bonds::bond_line))]
 fn bond(at: u32, line: &[u8], atoms: u16) -> Result<SketchBond, MolfileFault>
     ensures value { result ≡ bond_line atoms (at, line.now) }
     ensures range { IfOk result (λ b. (b.a < atoms) × (b.b < atoms) × (b.a ≢ b.b)) }
@@ -83,7 +84,7 @@ pub(crate) fn read_bonds(
     counts: Counts,
 ) -> Result<Vec<SketchBond>, MolfileFault>
     ensures found { IfOk result (λ bonds. (bonds_read counts.atoms [] (take counts.bonds lines.old) ≡ Ok bonds.items)
-        × (lines.new ≡ drop counts.bonds lines.old) × (counts.bonds ≤ length lines.old)) }
+        × (lines.new ≡ drop counts.bonds lines.old) × (length bonds.items ≡ counts.bonds)) }
     ensures sound { IfOk result (λ bonds. AreBondsAmong counts.atoms bonds.items) }
     ensures fault { IfErr result (λ e. Faults (bonds_read counts.atoms [] (take counts.bonds lines.old)) counts.bonds lines.old e) }
 {

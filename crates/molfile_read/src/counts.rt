@@ -1,9 +1,14 @@
 //! The counts line.
-ghost use Rattle.std.specs.Prelude.{◌≡◌, ◌≤◌, IfOk};
-ghost use Rattle.molfile_read.specs.Counts.{is_zero, is_version_read, counts_read};
+ghost use Rattle.std.specs.Prelude.{◌≡◌, ◌≤◌, ◌==◌, filter, not, drop, IfOk, OnOk};
+ghost use Rattle.std.specs.Str.{bytes_eq};
+ghost use Rattle.molfile_read.specs.Counts.{is_zero, is_version_read, counts_read, first_counts};
 
 use crate::fault::MolfileFault;
 use crate::field::{columns, number};
+use crate::lines::Lines;
+
+/// The lines before the counts line, which may hold anything.
+const HEADER_LINES: usize = 3;
 
 /// How many atom lines and bond lines there are.
 #[derive(Clone, Copy, Debug, PartialEq, Eq)]
@@ -13,6 +18,7 @@ pub(crate) struct Counts {
 }
 
 /// What the counts line says.
+#[tactic(auto, unfolding(crate::specs::Counts::counts_read))]
 pub(crate) fn counts_line(line: &[u8]) -> Result<Counts, MolfileFault>
     ensures value { result ≡ counts_read line.now }
     ensures range { IfOk result (λ c. (c.atoms ≤ 999) × (c.bonds ≤ 999)) }
@@ -39,6 +45,35 @@ fn is_version_read(line: &[u8]) -> bool
 }
 
 // Whether the bytes that are no blanks are these.
-fn is_spelled(field: &[u8], text: &[u8]) -> bool {
-    field.iter().filter(|byte| **byte != b' ').eq(text)
+fn is_spelled(field: &[u8], text: &[u8]) -> bool
+    ensures { result ≡ bytes_eq (filter (λ byte. not (byte == 32)) field.now) text.now }
+{
+    let mut left = text;
+    for byte in field {
+        if *byte != b' ' {
+            let Some((first, after)) = left.split_first() else {
+                return false;
+            };
+            if *first != *byte {
+                return false;
+            }
+            left = after;
+        }
+    }
+    left.is_empty()
+}
+
+/// What the counts line says, which is the fourth.
+pub(crate) fn read_counts(lines: &mut Lines) -> Result<Counts, MolfileFault>
+    ensures value { result ≡ first_counts (drop 3 lines.old) }
+    ensures rest { OnOk result (lines.new ≡ drop 4 lines.old) }
+    ensures range { IfOk result (λ c. (c.atoms ≤ 999) × (c.bonds ≤ 999)) }
+{
+    for _ in 0..HEADER_LINES {
+        lines.skip();
+    }
+    match lines.next() {
+        Some((_, line)) => counts_line(line),
+        None => Err(MolfileFault::Cut),
+    }
 }

@@ -1,10 +1,9 @@
 //! The atoms of a sketch, from what atom lines and property lines say.
-ghost use Rattle.std.specs.Prelude.{◌≡◌, ◌<◌, ◌≤◌, ℕ, None, Ok, length, slice_index_or, All, IfOk, MatchOption, MatchResult};
+ghost use Rattle.std.specs.Prelude.{◌≡◌, ◌<◌, ◌≤◌, ◌||◌, is_some, ℕ, None, Ok, length, slice_index_or, position, All, IfSome, IfOk, MatchOption, MatchResult};
 ghost use Rattle.std.specs.List.{AllByRecursion};
-ghost use Rattle.chem_core.specs.Sound.{IsSketchAtom};
 ghost use Rattle.molfile_read.specs.Properties.{sets_charges, sets_isotopes, last_set, charge_of, radical_of, isotope_of};
-ghost use Rattle.molfile_read.specs.Reading.{field_charge, field_electrons, fill_of, sketch_atom, sketch_atoms, masses_read};
-ghost use Rattle.molfile_read.specs.Parts.{IsAtomLine, IsSetting};
+ghost use Rattle.molfile_read.specs.Reading.{field_charge, field_electrons, fill_of, made_atom, has_mass, sketch_atoms, masses_read};
+ghost use Rattle.molfile_read.specs.Parts.{IsAtomLine, IsSetting, AreAtoms};
 
 use crate::atom::AtomLine;
 use crate::fault::MolfileFault;
@@ -17,21 +16,53 @@ pub(crate) fn check_masses(atoms: &[AtomLine], settings: &[Setting]) -> Result<(
     requires { length atoms.now ≤ 999 }
     ensures { MatchResult result (λ _. masses_read atoms.now settings.now ≡ Ok tt) (λ e. masses_read atoms.now settings.now ≡ Err e) }
 {
-    if settings.iter().any(is_isotope) {
+    if sets_isotopes(settings) {
         return Ok(());
     }
-    match atoms.iter().position(|atom| atom.mass != 0) {
+    match first_mass(atoms) {
         Some(place) => Err(MolfileFault::Columns(5 + place as u32)),
         None => Ok(()),
     }
 }
 
-fn is_isotope(setting: &Setting) -> bool {
+// The place of the first atom with a mass difference.
+fn first_mass(atoms: &[AtomLine]) -> Option<usize>
+    ensures value { result ≡ position has_mass atoms.now }
+    ensures range { IfSome result (λ place. place < length atoms.now) }
+{
+    atoms.iter().position(has_mass)
+}
+
+fn has_mass(atom: &AtomLine) -> bool
+    ensures { result ≡ has_mass atom.now }
+{
+    atom.mass != 0
+}
+
+// Whether some line sets isotopes.
+fn sets_isotopes(settings: &[Setting]) -> bool
+    ensures { result ≡ sets_isotopes settings.now }
+{
+    settings.iter().any(is_isotope)
+}
+
+// Whether some line sets charges or radicals.
+fn sets_charges(settings: &[Setting]) -> bool
+    ensures { result ≡ sets_charges settings.now }
+{
+    settings.iter().any(is_charge)
+}
+
+fn is_isotope(setting: &Setting) -> bool
+    ensures { result ≡ is_some (isotope_of setting.now.value) }
+{
     matches!(setting.value, Value::Isotope(_))
 }
 
-fn is_charge(setting: &Setting) -> bool {
-    !is_isotope(setting)
+fn is_charge(setting: &Setting) -> bool
+    ensures { result ≡ (is_some (charge_of setting.now.value) || is_some (radical_of setting.now.value)) }
+{
+    matches!(setting.value, Value::Charge(_) | Value::Radical(_))
 }
 
 /// The atoms, by what their lines say and what is set for them.
@@ -41,14 +72,14 @@ pub(crate) fn sketch_atoms(
     settings: &[Setting],
 ) -> Result<Vec<SketchAtom>, AllocError>
     requires few { length atoms.now ≤ MOST_ATOMS }
-    requires fields { All IsAtomLine atoms.now }
+    requires fields { AllByRecursion IsAtomLine atoms.now }
     requires settings { AllByRecursion (IsSetting (length atoms.now)) settings.now }
     ensures value { IfOk result (λ v. v.items ≡ sketch_atoms settings.now atoms.now) }
-    ensures sound { IfOk result (λ v. All IsSketchAtom v.items) }
-    ensures few_hydrogens { IfOk result (λ v. All (λ a. a.hydrogens ≤ 9) v.items) }
+    ensures sound { IfOk result (λ v. AreAtoms v.items) }
+    ensures len { IfOk result (λ v. length v.items ≡ length atoms.now) }
 {
     let values = last_values(settings);
-    let charged = settings.iter().any(is_charge);
+    let charged = sets_charges(settings);
     let mut made = Vec::with_capacity(alloc, atoms.len())?;
     for (place, atom) in atoms.iter().enumerate() {
         made.push(made_atom(place as u16, atom, charged, &values))?;

@@ -1,5 +1,8 @@
 //! The lines of a text, one after another.
 
+ghost use Rattle.std.specs.Prelude.{◌≡◌, ◌<◌, ◌∷◌, [], length, IfSome, IfNone, MatchOption};
+ghost use Rattle.molfile_read.specs.Text.{lines_of};
+
 use chem_text::line_at;
 use std::marker::Model;
 
@@ -41,11 +44,27 @@ impl<'a> Lines<'a> {
     pub(crate) fn next(&mut self) -> Option<(u32, &'a [u8])>
         ensures { MatchOption result ((self.old ≡ []) × (self.new ≡ [])) (λ r. self.old ≡ (r.0, r.1.now) ∷ self.new) }
     {
-        let (end, next) = line_at(self.rest, 0)?;
+        let (line, rest) = next_line(self.rest)?;
         let number = self.number;
-        let line = &self.rest[..end];
-        self.rest = &self.rest[next..];
+        self.rest = rest;
         self.number += 1;
         Some((number, line))
     }
+
+    /// Passes over the next line, if there is one.
+    pub(crate) fn skip(&mut self)
+        ensures { self.new ≡ drop 1 self.old }
+    {
+        let _ = self.next();
+    }
+}
+
+// The first line, and the text after it.
+fn next_line(text: &[u8]) -> Option<(&[u8], &[u8])>
+    ensures lines { MatchOption result (lines_of text.now ≡ []) (λ r. lines_of text.now ≡ r.0.now ∷ lines_of r.1.now) }
+    ensures shorter { IfSome result (λ r. length r.1.now < length text.now) }
+    ensures nothing { IfNone result (text.now ≡ []) }
+{
+    let (end, next) = line_at(text, 0)?;
+    Some((&text[..end], &text[next..]))
 }

@@ -1,5 +1,5 @@
 //! Property lines.
-ghost use Rattle.std.specs.Prelude.{◌≡◌, ◌<◌, ◌≤◌, ◌∷◌, [], false, true, length, option_map, MatchOption, MatchResult, IfSome, IfOk, IfErr, OnOk, Ok, Err};
+ghost use Rattle.std.specs.Prelude.{◌≡◌, ◌≢◌, ◌<◌, ◌≤◌, ◌∷◌, [], ℕ, slice_index, false, true, length, option_map, MatchOption, MatchResult, IfSome, IfOk, IfErr, OnOk, Ok, Err};
 ghost use Rattle.std.specs.List.{AllByRecursion};
 ghost use Rattle.molfile_read.specs.Properties.{words, value_in, electrons_of, place_in, setting_at, count_at, counted_pairs, tag_of, untagged, is_query_line, is_passed_over, passes_next, is_end, property_read, property_lines, is_ended, settings_read};
 ghost use Rattle.molfile_read.specs.Parts.{IsSetting, IsValue, Appends, Adds, Stops};
@@ -29,7 +29,7 @@ pub(crate) fn read_properties(
         }
         property(at, line, atoms, &mut settings)?;
         if passes_next(line) {
-            let _ = lines.next();
+            lines.skip();
         }
     }
     Err(MolfileFault::Cut)
@@ -204,6 +204,19 @@ fn next_word(text: &[u8]) -> Option<(&[u8], &[u8])>
     if rest.is_empty() {
         return None;
     }
-    let end = rest.iter().position(|byte| *byte == b' ');
-    Some(rest.split_at(end.unwrap_or(rest.len())))
+    Some(rest.split_at(before_blank(rest)))
+}
+
+// How many bytes stand before the first blank, or before the end.
+fn before_blank(bytes: &[u8]) -> usize
+    ensures within { result ≤ length bytes.now }
+    ensures before { (k : ℕ) → k < result → slice_index bytes.now k ≢ 32 }
+    ensures blank { result < length bytes.now → slice_index bytes.now result ≡ 32 }
+{
+    for (place, byte) in bytes.iter().enumerate() {
+        if *byte == b' ' {
+            return place;
+        }
+    }
+    bytes.len()
 }

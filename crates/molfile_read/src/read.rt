@@ -1,19 +1,21 @@
 //! Molfiles, read into sketches.
-ghost use Rattle.std.specs.Prelude.{◌≡◌, ◌⊎◌, ◌≤◌, List, ℕ, All, Err, Result, IfOk};
+ghost use Rattle.std.specs.Prelude.{◌≡◌, ◌⊎◌, ◌≤◌, List, ℕ, length, All, Err, Result, IfOk};
 ghost use Rattle.chem_core.specs.Sketch.{SketchTerm};
 ghost use Rattle.chem_core.specs.Sound.{IsSound};
 ghost use Rattle.molfile_read.specs.declared.fault.MolfileFault.{MolfileFault};
-ghost use Rattle.molfile_read.specs.Reading.{IsReading};
+ghost use Rattle.molfile_read.specs.Text.{numbered_lines};
+ghost use Rattle.molfile_read.specs.Reading.{drawn, IsReading};
+ghost use Rattle.molfile_read.specs.Parts.{IsDrawn, AreAtoms, AreBondsAmong};
 
 use crate::atom::read_atoms;
 use crate::bond::read_bonds;
-use crate::counts::{Counts, counts_line};
+use crate::counts::read_counts;
 use crate::fault::MolfileFault;
 use crate::finish::{check_masses, sketch_atoms};
 use crate::limits::are_few_neighbours;
 use crate::lines::Lines;
 use crate::property::read_properties;
-use chem_core::Sketch;
+use chem_core::{MOST_BONDS, Sketch};
 use std::alloc::Global;
 
 /// The longest molfile that is looked at, in bytes.
@@ -45,7 +47,12 @@ pub fn one_reading()
 {}
 
 // What the lines say, whatever the number of an atom's neighbours.
-fn drawn(alloc: Global, text: &[u8]) -> Result<Sketch, MolfileFault> {
+fn drawn(alloc: Global, text: &[u8]) -> Result<Sketch, MolfileFault>
+    requires { length text.now ≤ MOST_BYTES }
+    ensures value { IsDrawn (drawn (numbered_lines text.now)) result }
+    ensures atoms { IfOk result (λ s. AreAtoms s.atoms) }
+    ensures bonds { IfOk result (λ s. AreBondsAmong (length s.atoms) s.bonds × (length s.bonds ≤ MOST_BONDS)) }
+{
     let mut lines = Lines::new(text);
     let counts = read_counts(&mut lines)?;
     let atoms = read_atoms(alloc, &mut lines, counts.atoms)?;
@@ -54,15 +61,4 @@ fn drawn(alloc: Global, text: &[u8]) -> Result<Sketch, MolfileFault> {
     check_masses(&atoms, &settings)?;
     let atoms = sketch_atoms(alloc, &atoms, &settings)?;
     Ok(Sketch { atoms, bonds })
-}
-
-// The counts, in the fourth line.
-fn read_counts(lines: &mut Lines) -> Result<Counts, MolfileFault> {
-    for _ in 0..3 {
-        let _ = lines.next();
-    }
-    match lines.next() {
-        Some((_, line)) => counts_line(line),
-        None => Err(MolfileFault::Cut),
-    }
 }

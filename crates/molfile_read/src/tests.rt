@@ -21,6 +21,7 @@ M  END
 ";
 
 const HEADER: MolfileFault = MolfileFault::Header;
+
 const CUT: MolfileFault = MolfileFault::Cut;
 
 /// What stands in the acetate's text for other bytes, the first time, and the fault, if that has one.
@@ -158,7 +159,11 @@ fn each_change_has_its_fault(rt: HostRuntime) -> Result<(), Fail> {
     for changes in [HEADERS, ATOMS, BONDS, PROPERTIES] {
         for (old, new, fault) in changes {
             let text = changed(rt.alloc(), old, new)?;
-            assert_eq!(rt; fault_of(rt.alloc(), &text), *fault, "{new} in place of {old}");
+            assert_eq!(rt;
+                fault_of(rt.alloc(), &text),
+                *fault,
+                "{new} in place of {old}"
+            );
         }
     }
     Ok(())
