@@ -1,12 +1,12 @@
 -- Bond lines that are read one after another.
-use Rattle.std.proofs.Common.{◌≡◌, ℕ, ◌+◌, ◌-◌, ◌<◌, ◌≤◌, Bool, true, false, cond, List, [], ◌∷◌, ◌++◌, take, Result, Ok, Err, refl, sym, ◌∙◌, ap}
+use Rattle.std.proofs.Common.{◌≡◌, ℕ, ◌+◌, ◌-◌, ◌<◌, true, false, List, [], ◌∷◌, ◌++◌, take, Result, Ok, Err, sym, ◌∙◌, ap}
 use Rattle.std.specs.Prelude.{if◌then◌else◌}
 use Rattle.chem_core.specs.declared.sketch.SketchBond.{SketchBond}
 use Rattle.molfile_read.specs.declared.fault.MolfileFault.{MolfileFault}
 use Rattle.molfile_read.specs.declared.fault.MolfileFault.TheVariants.{Bond}
 use Rattle.molfile_read.specs.Text.{Line}
 use Rattle.molfile_read.specs.Steps.{◌>>=◌}
-use Rattle.molfile_read.specs.Bonds.{bond_line, bond_read, bonds_read, are_joined}
+use Rattle.molfile_read.specs.Bonds.{bond_line, bonds_read, are_joined}
 use Rattle.molfile_read.proofs.Steps.{take_line}
 
 abbrev after : ℕ → List SketchBond → List Line → Result SketchBond MolfileFault → Result (List SketchBond) MolfileFault

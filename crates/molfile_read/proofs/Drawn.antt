@@ -1,5 +1,5 @@
 -- What the lines are read as, stage by stage.
-use Rattle.std.proofs.Common.{◌≡◌, ℕ, ◌<◌, ◌≤◌, ◌⊎◌, inl, inr, Bool, true, false, cond, List, [], ◌∷◌, drop, take, length, Result, Ok, Err, refl, sym, ap, ◌∙◌, arith}
+use Rattle.std.proofs.Common.{◌≡◌, ◌<◌, ◌⊎◌, inl, inr, Bool, true, false, List, [], drop, take, length, Result, Ok, Err, refl, sym, ap, ◌∙◌, arith}
 use Rattle.std.proofs.lemmas.List.{drop_all}
 use Rattle.std.specs.Prelude.{if◌then◌else◌, not}
 use Rattle.chem_core.specs.declared.sketch.SketchBond.{SketchBond}
@@ -107,8 +107,8 @@ atoms_refused lines on counts fault first at (inr (inr h)) =
 
 pub after_atoms : (lines on next : List Line) (counts : Counts) (atoms : List AtomLine) → first_counts (drop 3 lines) ≡ Ok counts → on ≡ drop 4 lines → each atom_read (take counts.atoms on) ≡ Ok atoms → next ≡ drop counts.atoms on
     → drawn lines ≡ bonds_of counts atoms next
-after_atoms lines on next counts atoms first at read then =
-    counts_found lines counts first ∙ ap (atoms_of counts) (sym at) ∙ atoms_found counts on atoms read ∙ ap (bonds_of counts atoms) (sym then)
+after_atoms lines on next counts atoms first at read next_is =
+    counts_found lines counts first ∙ ap (atoms_of counts) (sym at) ∙ atoms_found counts on atoms read ∙ ap (bonds_of counts atoms) (sym next_is)
 
 pub bonds_refused : (lines on : List Line) (counts : Counts) (atoms : List AtomLine) (fault : MolfileFault) → drawn lines ≡ bonds_of counts atoms on → Faults (bonds_read counts.atoms [] (take counts.bonds on)) counts.bonds on fault → Answered lines fault
 bonds_refused lines on counts atoms fault so (inl h) = inl h
@@ -117,7 +117,7 @@ bonds_refused lines on counts atoms fault so (inr (inr h)) = inr (so ∙ bonds_m
 
 pub after_bonds : (lines on next : List Line) (counts : Counts) (atoms : List AtomLine) (bonds : List SketchBond) → drawn lines ≡ bonds_of counts atoms on → bonds_read counts.atoms [] (take counts.bonds on) ≡ Ok bonds → next ≡ drop counts.bonds on
     → drawn lines ≡ end_of counts atoms bonds next
-after_bonds lines on next counts atoms bonds so read then = so ∙ bonds_found counts atoms on bonds read ∙ ap (end_of counts atoms bonds) (sym then)
+after_bonds lines on next counts atoms bonds so read next_is = so ∙ bonds_found counts atoms on bonds read ∙ ap (end_of counts atoms bonds) (sym next_is)
 
 pub settings_refused : (lines on : List Line) (counts : Counts) (atoms : List AtomLine) (bonds : List SketchBond) (fault : MolfileFault) → drawn lines ≡ end_of counts atoms bonds on
     → Stops (settings_read counts.atoms (property_lines false on)) (is_ended false on) fault → Answered lines fault

@@ -1,10 +1,10 @@
 -- The atoms that are made are sound, one more at a time.
-use Rattle.std.proofs.Common.{◌≡◌, ℕ, ◌+◌, ◌<◌, ◌≤◌, ◌==◌, Bool, true, false, cond, List, [], ◌∷◌, ◌++◌, length, get_or, map, take, Option, Some, None, refl, sym, ap, ◌∙◌, arith}
+use Rattle.std.proofs.Common.{◌≡◌, ℕ, ◌+◌, ◌<◌, ◌≤◌, ◌==◌, Bool, true, false, List, [], ◌∷◌, ◌++◌, length, get_or, map, take, Option, Some, None, sym, ap, ◌∙◌, arith}
 use Rattle.std.proofs.lemmas.Int.{ints}
 use Rattle.std.proofs.lemmas.List.{length-map, map-append, length-take-le, take_more}
 use Rattle.std.proofs.lemmas.List.FromFn.{length-enumerate_from}
 use Rattle.std.proofs.lemmas.List.Elements.{All-from_recursion}
-use Rattle.std.specs.List.{enumerate_from, All, AllByRecursion}
+use Rattle.std.specs.List.{enumerate_from, AllByRecursion}
 use Rattle.std.specs.Option.{IfSome}
 use Rattle.std.specs.Prelude.{if◌then◌else◌, unwrap_or, ℤ, pos, negsuc, neg_ℤ, ◌≤ℤ◌}
 use Rattle.chem_core.specs.declared.sketch.SketchAtom.{SketchAtom}
@@ -114,8 +114,8 @@ are_atoms n settings atoms within h few = (
   All-from_recursion IsSketchAtom (sketch_atoms settings atoms) (sound_from n 0 settings atoms within h),
   All-from_recursion (λ a. a.hydrogens ≤ 9) (sketch_atoms settings atoms) (few_from 0 settings atoms),
   let l = length-map {B = SketchAtom} (enumerate_from 0 atoms) (λ (p : ℕ × AtomLine). sketch_atom settings p.0 p.1) in
-  let m = length-enumerate_from 0 atoms in
-  omega (arith, l, m),
+      let m = length-enumerate_from 0 atoms in
+      omega (arith, l, m),
 )
 
 pub length-sketch_atoms : (settings : List Setting) (atoms : List AtomLine) → length (sketch_atoms settings atoms) ≡ length atoms

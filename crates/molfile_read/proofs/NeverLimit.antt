@@ -1,12 +1,12 @@
 -- No line is refused as above a limit.
-use Rattle.std.proofs.Common.{◌≡◌, ℕ, Bool, true, false, cond, List, [], ◌∷◌, ◌++◌, drop, take, Option, Some, None, Result, Ok, Err, refl, subst}
+use Rattle.std.proofs.Common.{◌≡◌, ℕ, Bool, true, false, List, [], ◌∷◌, ◌++◌, drop, take, Option, Some, None, Result, Ok, Err}
 use Rattle.std.specs.Option.{ok_or}
 use Rattle.std.specs.Result.{IfErr}
 use Rattle.std.proofs.lemmas.Result.{IfErr-at_err}
 use Rattle.std.specs.Prelude.{if◌then◌else◌, ◌==◌, ◌||◌, ◌&&◌, not, ◌+◌, ◌-◌, position, option_and_then}
 use Rattle.chem_core.specs.declared.sketch.SketchBond.{SketchBond}
 use Rattle.molfile_read.specs.declared.fault.MolfileFault.{MolfileFault}
-use Rattle.molfile_read.specs.declared.fault.MolfileFault.TheVariants.{Header, Columns, Bond, Query, Limit, Cut, NoMemory}
+use Rattle.molfile_read.specs.declared.fault.MolfileFault.TheVariants.{Header, Columns, Bond, Query, Limit, Cut}
 use Rattle.chem_core.specs.Sketch.{SketchTerm}
 use Rattle.molfile_read.specs.declared.counts.Counts.{Counts}
 use Rattle.molfile_read.specs.declared.atom.AtomLine.{AtomLine}

@@ -5,6 +5,7 @@ use Rattle.molfile_read.specs.declared.fault.MolfileFault.{MolfileFault}
 use Rattle.molfile_read.specs.declared.fault.MolfileFault.TheVariants.{Header, Columns, Bond, Query, Limit, Cut, NoMemory}
 use Rattle.molfile_read.specs.Text.{numbered_lines}
 use Rattle.molfile_read.specs.Reading.{drawn, HasFewNeighbours, IsReading}
+use Rattle.std.specs.Result.{IsErrAnd}
 use Rattle.molfile_read.proofs.NeverLimit.{never_limit}
 
 abbrev Answer : Type 0
@@ -53,3 +54,24 @@ one text a b h k = elim (known text a h) [
     ]
   ]
 ]
+
+-- a fault of the lines is the answer
+fault_reading : (text : List ℕ) (f : MolfileFault) → length text ≤ 262144 → (f ≡ NoMemory) ⊎ (drawn (numbered_lines text) ≡ Err f) → IsReading text (Err f)
+fault_reading text NoMemory le h = tt
+fault_reading text Limit le (inl h) = absurd (cc)
+fault_reading text Limit le (inr h) = absurd (never_limit (numbered_lines text) h)
+fault_reading text Header le (inl h) = absurd (cc)
+fault_reading text Header le (inr h) = (le, h)
+fault_reading text (Columns n) le (inl h) = absurd (cc)
+fault_reading text (Columns n) le (inr h) = (le, h)
+fault_reading text (Bond n) le (inl h) = absurd (cc)
+fault_reading text (Bond n) le (inr h) = (le, h)
+fault_reading text (Query n) le (inl h) = absurd (cc)
+fault_reading text (Query n) le (inr h) = (le, h)
+fault_reading text Cut le (inl h) = absurd (cc)
+fault_reading text Cut le (inr h) = (le, h)
+
+pub fault_handed : (text : List ℕ) (r : Answer) (e : MolfileFault) → length text ≤ 262144 → IsErrAnd r (λ f. f ≡ e) → (e ≡ NoMemory) ⊎ (drawn (numbered_lines text) ≡ Err e) → IsReading text r
+fault_handed text (Ok s) e le h k = absurd h
+fault_handed text (Err f) e le h (inl k) = fault_reading text f le (inl (h ∙ k))
+fault_handed text (Err f) e le h (inr k) = fault_reading text f le (inr (k ∙ ap (λ x. Err x) (sym h)))

@@ -1,6 +1,6 @@
 -- An atom line (CTfile formats, V2000, atom block): the symbol in columns 32 to 34, the mass difference 35 and 36,
 -- the charge 37 to 39, the hydrogen count 43 to 45, the valence 49 to 51. Other columns are not read. For callers.
-use Rattle.std.specs.Prelude.{ℕ, ◌==◌, ◌||◌, not, Bool, List, Result, Ok, Err, ℤ, pos, Option, if◌then◌else◌}
+use Rattle.std.specs.Prelude.{ℕ, ◌||◌, Bool, List, Result, Ok, Err, Option, if◌then◌else◌}
 use Rattle.std.specs.Option.{ok_or}
 use Rattle.molfile_read.specs.declared.fault.MolfileFault.{MolfileFault}
 use Rattle.molfile_read.specs.declared.fault.MolfileFault.TheVariants.{Columns, Query}

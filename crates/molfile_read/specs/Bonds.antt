@@ -6,7 +6,7 @@ use Rattle.chem_core.specs.declared.sketch.SketchBond.{SketchBond}
 use Rattle.chem_core.specs.declared.sketch.SketchKind.{SketchKind}
 use Rattle.chem_core.specs.declared.sketch.SketchKind.TheVariants.{Single, Double, Triple}
 use Rattle.molfile_read.specs.declared.fault.MolfileFault.{MolfileFault}
-use Rattle.molfile_read.specs.declared.fault.MolfileFault.TheVariants.{Columns, Query, Bond}
+use Rattle.molfile_read.specs.declared.fault.MolfileFault.TheVariants.{Query, Bond}
 use Rattle.molfile_read.specs.Text.{Line}
 use Rattle.molfile_read.specs.Field.{columns, number_in, is_other_than_zero}
 use Rattle.molfile_read.specs.Atoms.{given}

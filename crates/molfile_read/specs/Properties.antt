@@ -1,5 +1,5 @@
 -- Property lines (CTfile formats, V2000, properties block). For callers.
-use Rattle.std.specs.Prelude.{ℕ, zero, suc, ◌-◌, ◌==◌, ◌||◌, ◌&&◌, nat_eq, nat_lt, Bool, true, false, List, [], ◌∷◌, ◌++◌, length, drop, filter, Option, is_some, Some, None, option_map, option_and_then, Result, Ok, Err, ℤ, pos, codes, if◌then◌else◌}
+use Rattle.std.specs.Prelude.{ℕ, zero, suc, ◌-◌, ◌==◌, ◌||◌, nat_eq, nat_lt, Bool, true, false, List, [], ◌∷◌, ◌++◌, length, drop, filter, Option, is_some, Some, None, option_map, option_and_then, Result, Ok, Err, ℤ, codes, if◌then◌else◌}
 use Rattle.std.specs.List.{starts_with, list_any, filter_map}
 use Rattle.molfile_read.specs.declared.fault.MolfileFault.{MolfileFault}
 use Rattle.molfile_read.specs.declared.fault.MolfileFault.TheVariants.{Columns, Query}

@@ -1,9 +1,8 @@
 -- The sketch of a molfile, or the first fault (CTfile formats, V2000). For callers.
-use Rattle.std.specs.Prelude.{◌≡◌, ◌⊎◌, ℕ, ◌+◌, ◌<◌, ◌≤◌, ◌==◌, ◌||◌, not, Bool, true, false, List, [], ◌∷◌, length, take, drop, map, position, Option, Some, None, unwrap_or, Result, Ok, Err, ℤ, pos, negsuc, if◌then◌else◌}
+use Rattle.std.specs.Prelude.{◌≡◌, ◌⊎◌, ℕ, ◌+◌, ◌<◌, ◌≤◌, ◌==◌, not, Bool, false, List, [], length, take, drop, map, position, Option, Some, None, unwrap_or, Result, Ok, Err, ℤ, pos, negsuc, if◌then◌else◌}
 use Rattle.std.specs.List.{enumerate_from}
 use Rattle.std.specs.Ordering.{int_eq}
 use Rattle.chem_core.specs.declared.sketch.SketchAtom.{SketchAtom}
-use Rattle.chem_core.specs.declared.sketch.SketchBond.{SketchBond}
 use Rattle.chem_core.specs.declared.sketch.Fill.{Fill}
 use Rattle.chem_core.specs.declared.sketch.Fill.TheVariants.{Table, Fixed}
 use Rattle.chem_core.specs.declared.limits.TheConstants.{MOST_NEIGHBOURS}
@@ -11,7 +10,7 @@ use Rattle.chem_core.specs.Graph.{degree}
 use Rattle.chem_core.specs.Sketch.{SketchTerm}
 use Rattle.chem_core.specs.Sound.{sketch_ends}
 use Rattle.molfile_read.specs.declared.fault.MolfileFault.{MolfileFault}
-use Rattle.molfile_read.specs.declared.fault.MolfileFault.TheVariants.{Header, Columns, Bond, Query, Limit, Cut, NoMemory}
+use Rattle.molfile_read.specs.declared.fault.MolfileFault.TheVariants.{Columns, Limit, Cut, NoMemory}
 use Rattle.molfile_read.specs.declared.read.TheConstants.{MOST_BYTES}
 use Rattle.molfile_read.specs.declared.atom.AtomLine.{AtomLine}
 use Rattle.molfile_read.specs.declared.setting.Setting.{Setting}

@@ -1,5 +1,5 @@
 -- Reading that may find a fault. For callers.
-use Rattle.std.specs.Prelude.{◌≡◌, ℕ, List, [], ◌∷◌, Result, Ok, Err}
+use Rattle.std.specs.Prelude.{List, [], ◌∷◌, Result, Ok, Err}
 use Rattle.molfile_read.specs.declared.fault.MolfileFault.{MolfileFault}
 use Rattle.molfile_read.specs.Text.{Line}
 

@@ -1,7 +1,6 @@
-use Rattle.std.proofs.Common.{◌≡◌, ◌∷◌, length, Ok, Err, sym, ap, ◌∙◌, inl, inr, arith}
+use Rattle.std.proofs.Common.{length, Err, sym, ap, ◌∙◌, inl, inr, arith}
 use Rattle.std.proofs.lemmas.List.{length_push}
 use Rattle.std.proofs.lemmas.Result.{err_from_is_err_and}
-use Rattle.molfile_read.specs.Steps.{each}
 use Rattle.molfile_read.specs.Atoms.{atom_read}
 use Rattle.molfile_read.specs.Parts.{IsAtomLine}
 use Rattle.molfile_read.proofs.Steps.{goes_on, stops, drop_line, all_push}

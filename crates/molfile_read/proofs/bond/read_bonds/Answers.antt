@@ -1,9 +1,9 @@
-use Rattle.std.proofs.Common.{◌≡◌, ℕ, ◌-◌, ◌∷◌, ◌++◌, [], ◌<◌, ◌==◌, ◌&&◌, Bool, true, false, cond, not, length, take, drop, Ok, Err, refl, sym, ap, ◌∙◌, inl, inr, arith}
+use Rattle.std.proofs.Common.{◌≡◌, ℕ, ◌-◌, ◌==◌, ◌&&◌, Bool, true, false, cond, not, length, drop, Err, refl, sym, ap, ◌∙◌, inl, inr, arith}
 use Rattle.std.proofs.lemmas.List.{length_push}
 use Rattle.std.proofs.lemmas.Result.{err_from_is_err_and}
 use Rattle.std.proofs.lemmas.Grind.{common_steps}
 use Rattle.std.specs.List.{list_any}
-use Rattle.molfile_read.specs.Bonds.{bonds_read, are_joined}
+use Rattle.molfile_read.specs.Bonds.{are_joined}
 use Rattle.molfile_read.specs.Parts.{JoinsTwo}
 use Rattle.molfile_read.proofs.Steps.{drop_line, take_none, none_left, all_push}
 use Rattle.molfile_read.proofs.BondSteps.{bond_stops, bond_twice, bond_goes_on, bonds_end}

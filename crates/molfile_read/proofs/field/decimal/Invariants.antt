@@ -1,5 +1,4 @@
 use Rattle.std.proofs.Common.{◌≡◌, ◌≤◌, drop}
-use Rattle.molfile_read.specs.Field.{decimal_in}
 use Rattle.molfile_read.proofs.Numbers.{decimal_after}
 use Rattle.molfile_read.proofs.field.decimal.Given as goal
 

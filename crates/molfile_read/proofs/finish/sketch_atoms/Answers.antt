@@ -1,16 +1,21 @@
-use Rattle.std.proofs.Common.{◌≡◌, ◌≤◌, ◌<◌, length, get_or, take, refl, sym, ap, subst, ◌∙◌, arith, List}
+use Rattle.std.proofs.Common.{◌<◌, length, refl, sym, ap, subst, ◌∙◌, arith, List}
 use Rattle.std.proofs.lemmas.List.{take_all}
 use Rattle.chem_core.specs.declared.sketch.SketchAtom.{SketchAtom}
-use Rattle.molfile_read.specs.Reading.{sketch_atoms, made_atom}
+use Rattle.std.specs.Prelude.{pos}
+use Rattle.molfile_read.specs.declared.atom.AtomLine.{AtomLine}
+use Rattle.molfile_read.specs.Reading.{sketch_atoms}
 use Rattle.molfile_read.specs.Parts.{AreAtoms}
 use Rattle.molfile_read.proofs.Made.{are_atoms, atoms_more, length-sketch_atoms}
 use Rattle.molfile_read.proofs.finish.sketch_atoms.Goals as goal
+
+abbrev other : AtomLine
+other = record { number = 0; isotope = 0; mass = pos 0; charge = 0; valence = 0 }
 
 pub loop-place-preserved : goal.loop-place-preserved
 loop-place-preserved c =
     let within : c.loop-place.place < length c.args.atoms.now = omega arith in
     let few : c.loop-place.place < 999 = let f = c.requires.few in omega arith in
-    atoms_more c.args.settings.now c.args.atoms.now c.loop-place.place _ c.loop-place.made.items c.push.new.self.items _ within c.loop-place.invariant
+    atoms_more c.args.settings.now c.args.atoms.now c.loop-place.place other c.loop-place.made.items c.push.new.self.items c.made_atom.result within c.loop-place.invariant
     (c.made_atom.ensures ∙ rw (c.sets_charges-charged.ensures, c.last_values-values.ensures.charges c.loop-place.place few, c.last_values-values.ensures.radicals c.loop-place.place few, c.last_values-values.ensures.isotopes c.loop-place.place few) refl)
     c.in_ok-push.ensures.items
 

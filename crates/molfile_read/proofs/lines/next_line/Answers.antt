@@ -1,4 +1,4 @@
-use Rattle.std.proofs.Common.{◌≡◌, ◌∷◌, length, take, drop, sym, ap, ◌∙◌, ◌-◌}
+use Rattle.std.proofs.Common.{◌∷◌, take, sym, ap, ◌∙◌}
 use Rattle.std.proofs.lemmas.List.{take_rest}
 use Rattle.molfile_read.specs.Text.{lines_of}
 use Rattle.molfile_read.proofs.TextLines.{first_line}

@@ -1,4 +1,4 @@
-use Rattle.std.proofs.Common.{◌≡◌, ◌≢◌, ℕ, ◌<◌, get_or}
+use Rattle.std.proofs.Common.{◌≢◌, ℕ, ◌<◌, get_or}
 use Rattle.molfile_read.proofs.property.before_blank.Given as goal
 
 abbrev pub invariant-loop-place : goal.invariant-loop-place

@@ -1,5 +1,5 @@
-use Rattle.std.proofs.Common.{◌≡◌, sym, ap, ◌∙◌, arith}
-use Rattle.molfile_read.specs.Properties.{words, counted_pairs}
+use Rattle.std.proofs.Common.{sym}
+use Rattle.molfile_read.specs.Properties.{words}
 use Rattle.molfile_read.specs.Parts.{IsSetting}
 use Rattle.molfile_read.proofs.Steps.{all_push}
 use Rattle.molfile_read.proofs.Pairs.{pairs_more, pairs_stop, added_none}
