@@ -1,5 +1,5 @@
 -- Which atoms the bonds join.
-use Rattle.std.proofs.Common.{◌≡◌, ◌≢◌, ℕ, zero, suc, ◌<◌, ◌≤◌, inl, inr, Bool, true, false, cond, ◌==◌, ◌||◌, ◌&&◌, List, [], ◌∷◌, ◌++◌, length, Option, Some, refl, sym, ◌∙◌, ap, arith}
+use Rattle.std.proofs.Common.{◌≡◌, ◌≢◌, ℕ, zero, suc, ◌<◌, ◌≤◌, inl, inr, Bool, true, false, cond, ◌==◌, ◌||◌, ◌&&◌, List, [], ◌∷◌, ◌++◌, length, Option, Some, refl, sym, ◌∙◌, ap, arith, subst}
 use Rattle.std.proofs.lemmas.Bool.{cases_lt, eqb-true}
 use Rattle.std.proofs.lemmas.Bool.Decides.{nat_tests}
 use Rattle.std.proofs.lemmas.List.{length-map}
@@ -7,12 +7,13 @@ use Rattle.std.proofs.lemmas.List.Folds.{list_any-append}
 use Rattle.std.proofs.lemmas.List.Elements.{All-from_recursion}
 use Rattle.std.specs.List.{All, AllByRecursion}
 use Rattle.std.specs.Prelude.{nat_lt}
+use Rattle.chem_core.specs.declared.sketch.SketchKind.TheVariants.{Colon}
 use Rattle.chem_core.specs.declared.sketch.SketchAtom.{SketchAtom}
 use Rattle.chem_core.specs.declared.sketch.SketchBond.{SketchBond}
 use Rattle.chem_core.specs.Graph.{JoinsAt, degree}
 use Rattle.chem_core.specs.Sound.{IsSketchAtom, IsSound, ends_among}
 use Rattle.molfile_read.specs.Bonds.{are_joined}
-use Rattle.molfile_read.specs.Parts.{JoinsTwo, AreOnce, AreBondsAmong, ordered_ends}
+use Rattle.molfile_read.specs.Parts.{IsKind, JoinsTwo, AreOnce, AreBondsAmong, ordered_ends}
 
 abbrev joins : SketchBond → ℕ → ℕ → Bool
 joins x a b = ((x.a == a) && (x.b == b)) || ((x.a == b) && (x.b == a))
@@ -196,3 +197,11 @@ sound_sketch atoms bonds among each la lb few =
       };
       each = each;
     }
+
+no_colon : (n : ℕ) (xs : List SketchBond) → AllByRecursion (JoinsTwo n) xs → AllByRecursion (λ (x : SketchBond). x.kind ≢ Colon) xs
+no_colon n [] h = tt
+no_colon n (x ∷ xs) h = (λ e. subst IsKind e h.0.3, no_colon n xs h.1)
+
+-- such bonds are not `:`
+pub no_colons : (n : ℕ) (bonds : List SketchBond) → AllByRecursion (JoinsTwo n) bonds → All (λ b. b.kind ≢ Colon) bonds
+no_colons n bonds h = All-from_recursion (λ b. b.kind ≢ Colon) bonds (no_colon n bonds h)

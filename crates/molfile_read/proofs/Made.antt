@@ -1,5 +1,5 @@
 -- The atoms that are made are sound, one more at a time.
-use Rattle.std.proofs.Common.{◌≡◌, ℕ, ◌+◌, ◌<◌, ◌≤◌, ◌==◌, Bool, true, false, List, [], ◌∷◌, ◌++◌, length, get_or, map, take, Option, Some, None, sym, ap, ◌∙◌, arith}
+use Rattle.std.proofs.Common.{◌≡◌, ℕ, ◌+◌, ◌<◌, ◌≤◌, ◌==◌, Bool, true, false, List, [], ◌∷◌, ◌++◌, length, get_or, map, take, Option, Some, None, refl, sym, ap, ◌∙◌, arith}
 use Rattle.std.proofs.lemmas.Int.{ints}
 use Rattle.std.proofs.lemmas.List.{length-map, map-append, length-take-le, take_more}
 use Rattle.std.proofs.lemmas.List.FromFn.{length-enumerate_from}
@@ -109,6 +109,10 @@ few_from : (k : ℕ) (settings : List Setting) (atoms : List AtomLine) → AllBy
 few_from k settings [] = tt
 few_from k settings (a ∷ as') = (omega arith, few_from (k + 1) settings as')
 
+upper_from : (k : ℕ) (settings : List Setting) (atoms : List AtomLine) → AllByRecursion (λ (a : SketchAtom). a.lower ≡ false) (atoms_from settings k atoms)
+upper_from k settings [] = tt
+upper_from k settings (a ∷ as') = (refl, upper_from (k + 1) settings as')
+
 pub are_atoms : (n : ℕ) (settings : List Setting) (atoms : List AtomLine) → AllByRecursion (IsSetting n) settings → AllByRecursion IsAtomLine atoms → length atoms ≤ 999 → AreAtoms (sketch_atoms settings atoms)
 are_atoms n settings atoms within h few = (
   All-from_recursion IsSketchAtom (sketch_atoms settings atoms) (sound_from n 0 settings atoms within h),
@@ -116,6 +120,7 @@ are_atoms n settings atoms within h few = (
   let l = length-map {B = SketchAtom} (enumerate_from 0 atoms) (λ (p : ℕ × AtomLine). sketch_atom settings p.0 p.1) in
       let m = length-enumerate_from 0 atoms in
       omega (arith, l, m),
+  All-from_recursion (λ a. a.lower ≡ false) (sketch_atoms settings atoms) (upper_from 0 settings atoms),
 )
 
 pub length-sketch_atoms : (settings : List Setting) (atoms : List AtomLine) → length (sketch_atoms settings atoms) ≡ length atoms

@@ -3,6 +3,8 @@ use Rattle.std.specs.Prelude.{◌≡◌, ◌≢◌, ◌⊎◌, ℕ, ◌<◌, ◌
 use Rattle.std.specs.List.{AllByRecursion}
 use Rattle.chem_core.specs.declared.sketch.SketchAtom.{SketchAtom}
 use Rattle.chem_core.specs.declared.sketch.SketchBond.{SketchBond}
+use Rattle.chem_core.specs.declared.sketch.SketchKind.{SketchKind}
+use Rattle.chem_core.specs.declared.sketch.SketchKind.TheVariants.{Unwritten, Single, Double, Triple, Quad, Colon}
 use Rattle.chem_core.specs.declared.limits.TheConstants.{MOST_ATOMS}
 use Rattle.chem_core.specs.Sketch.{SketchTerm}
 use Rattle.chem_core.specs.Sound.{IsSketchAtom}
@@ -44,9 +46,18 @@ pub record IsAtomLine (atom : AtomLine) : Type 0 where
 abbrev pub ordered_ends : ℕ → ℕ → ℕ × ℕ
 ordered_ends a b = if nat_lt a b then (a, b) else (b, a)
 
--- each bond joins two of so many atoms
+-- the kinds of bonds that molfiles have
+abbrev pub IsKind : SketchKind → Type 0
+IsKind Single = Unit {0}
+IsKind Double = Unit {0}
+IsKind Triple = Unit {0}
+IsKind Unwritten = ⊥
+IsKind Quad = ⊥
+IsKind Colon = ⊥
+
+-- the bond joins two of so many atoms, and has one of these kinds
 abbrev pub JoinsTwo : ℕ → SketchBond → Type 0
-JoinsTwo atoms b = (b.a < atoms) × (b.b < atoms) × (b.a ≢ b.b)
+JoinsTwo atoms b = (b.a < atoms) × (b.b < atoms) × (b.a ≢ b.b) × IsKind b.kind
 
 -- no bond joins what a later one joins
 abbrev pub AreOnce : List SketchBond → Type 0
@@ -66,9 +77,9 @@ IsValue (Isotope n) = n ≤ 999
 abbrev pub IsSetting : ℕ → Setting → Type 0
 IsSetting atoms s = (s.atom < atoms) × IsValue s.value
 
--- atoms that a sketch may have, without hydrogens
+-- atoms that a sketch may have, in upper case and without hydrogens
 abbrev pub AreAtoms : List SketchAtom → Type 0
-AreAtoms atoms = All IsSketchAtom atoms × All (λ a. a.hydrogens ≤ 9) atoms × (length atoms ≤ MOST_ATOMS)
+AreAtoms atoms = All IsSketchAtom atoms × All (λ a. a.hydrogens ≤ 9) atoms × (length atoms ≤ MOST_ATOMS) × All (λ a. a.lower ≡ false) atoms
 
 -- what was drawn, or why it was not
 abbrev pub IsDrawn : Result SketchTerm MolfileFault → Result SketchTerm MolfileFault → Type 0

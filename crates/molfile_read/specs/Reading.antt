@@ -1,8 +1,9 @@
 -- The sketch of a molfile, or the first fault (CTfile formats, V2000). For callers.
-use Rattle.std.specs.Prelude.{◌≡◌, ◌⊎◌, ℕ, ◌+◌, ◌<◌, ◌≤◌, ◌==◌, not, Bool, false, List, [], length, take, drop, map, position, Option, Some, None, unwrap_or, Result, Ok, Err, ℤ, pos, negsuc, if◌then◌else◌}
+use Rattle.std.specs.Prelude.{◌≡◌, ◌≢◌, ◌⊎◌, ℕ, ◌+◌, ◌<◌, ◌≤◌, ◌==◌, not, Bool, false, List, [], length, take, drop, map, position, All, Option, Some, None, unwrap_or, Result, Ok, Err, ℤ, pos, negsuc, if◌then◌else◌}
 use Rattle.std.specs.List.{enumerate_from}
 use Rattle.std.specs.Ordering.{int_eq}
 use Rattle.chem_core.specs.declared.sketch.SketchAtom.{SketchAtom}
+use Rattle.chem_core.specs.declared.sketch.SketchKind.TheVariants.{Colon}
 use Rattle.chem_core.specs.declared.sketch.Fill.{Fill}
 use Rattle.chem_core.specs.declared.sketch.Fill.TheVariants.{Table, Fixed}
 use Rattle.chem_core.specs.declared.limits.TheConstants.{MOST_NEIGHBOURS}
@@ -92,3 +93,8 @@ IsReading text (Err Limit) =
     (MOST_BYTES < length text) ⊎ ((s : SketchTerm) × (drawn (numbered_lines text) ≡ Ok s) × ¬ HasFewNeighbours s)
 IsReading text (Err NoMemory) = Unit {0}
 IsReading text (Err fault) = (length text ≤ MOST_BYTES) × (drawn (numbered_lines text) ≡ Err fault)
+
+-- no atom is in lower case, and no bond is `:`
+pub record HasNoAromaticMark (s : SketchTerm) : Type 0 where
+  pub atoms : All (λ a. a.lower ≡ false) s.atoms
+  pub bonds : All (λ b. b.kind ≢ Colon) s.bonds

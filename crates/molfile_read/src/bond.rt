@@ -1,6 +1,6 @@
 //! Bond lines.
-ghost use Rattle.std.specs.Prelude.{◌≡◌, ◌≢◌, ◌⊎◌, ◌<◌, ◌≤◌, [], length, take, drop, All, IfOk, IfErr, Ok, Err, OnOk};
-ghost use Rattle.molfile_read.specs.Parts.{Faults, AreBondsAmong, ordered_ends};
+ghost use Rattle.std.specs.Prelude.{◌≡◌, ◌≢◌, ◌⊎◌, ◌<◌, ◌≤◌, [], length, take, drop, All, IfSome, IfOk, IfErr, Ok, Err, OnOk};
+ghost use Rattle.molfile_read.specs.Parts.{Faults, IsKind, JoinsTwo, AreBondsAmong, ordered_ends};
 ghost use Rattle.molfile_read.specs.Bonds.{bond_line, bonds_read, kind_of_type, is_query_type, is_atom};
 
 use crate::counts::Counts;
@@ -13,7 +13,8 @@ use std::collections::HashSet;
 
 // The kind of bond of a type.
 fn kind_of_type(kind: u16) -> Option<SketchKind>
-    ensures { result ≡ kind_of_type kind }
+    ensures value { result ≡ kind_of_type kind }
+    ensures range { IfSome result IsKind }
 {
     match kind {
         1 => Some(SketchKind::Single),
@@ -44,7 +45,7 @@ pub(crate) fn is_atom(atoms: u16, number: u16) -> bool
 #[tactic(auto, unfolding(crate::specs::Bonds::bond_line))]
 fn bond(at: u32, line: &[u8], atoms: u16) -> Result<SketchBond, MolfileFault>
     ensures value { result ≡ bond_line atoms (at, line.now) }
-    ensures range { IfOk result (λ b. (b.a < atoms) × (b.b < atoms) × (b.a ≢ b.b)) }
+    ensures range { IfOk result (JoinsTwo atoms) }
 {
     let fault = MolfileFault::Columns(at);
     let kind = number(line, 7, 9, 999);

@@ -17,7 +17,7 @@ mod setting;
 mod symbol;
 
 pub use fault::MolfileFault;
-pub use read::read_molfile;
+pub use read::{one_reading, read_molfile};
 
 #[cfg(test)]
 mod tests;

@@ -4,7 +4,7 @@ ghost use Rattle.chem_core.specs.Sketch.{SketchTerm};
 ghost use Rattle.chem_core.specs.Sound.{IsSound};
 ghost use Rattle.molfile_read.specs.declared.fault.MolfileFault.{MolfileFault};
 ghost use Rattle.molfile_read.specs.Text.{numbered_lines};
-ghost use Rattle.molfile_read.specs.Reading.{drawn, IsReading};
+ghost use Rattle.molfile_read.specs.Reading.{drawn, HasNoAromaticMark, IsReading};
 ghost use Rattle.molfile_read.specs.Parts.{IsDrawn, AreAtoms, AreBondsAmong};
 
 use crate::atom::read_atoms;
@@ -29,6 +29,7 @@ pub fn read_molfile(alloc: Global, text: &[u8]) -> Result<Sketch, MolfileFault>
     ensures reading { IsReading text.now result }
     ensures sound { IfOk result (λ s. IsSound s) }
     ensures few_hydrogens { IfOk result (λ s. All (λ a. a.hydrogens ≤ 9) s.atoms) }
+    ensures no_aromatic_mark { IfOk result HasNoAromaticMark }
 {
     if text.len() > MOST_BYTES {
         return Err(MolfileFault::Limit);

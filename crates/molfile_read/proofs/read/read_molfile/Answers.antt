@@ -3,7 +3,7 @@ use Rattle.chem_core.specs.declared.sketch.SketchBond.{SketchBond}
 use Rattle.chem_core.specs.Graph.{degree}
 use Rattle.chem_core.specs.Sketch.{SketchTerm}
 use Rattle.chem_core.specs.Sound.{ends_among}
-use Rattle.molfile_read.proofs.Joined.{sound_sketch}
+use Rattle.molfile_read.proofs.Joined.{sound_sketch, no_colons}
 use Rattle.molfile_read.proofs.Readings.{fault_handed}
 use Rattle.molfile_read.proofs.read.read_molfile.Goals as goal
 
@@ -30,3 +30,9 @@ returns-clause-sound c =
     let atoms = c.in_ok-sketch.ensures.atoms in
     let bonds = c.in_ok-sketch.ensures.bonds in
     sound_sketch c.in_ok-sketch.sketch.atoms c.in_ok-sketch.sketch.bonds bonds.0 atoms.0 atoms.2 bonds.1 (subst AreFew same (c.in_ok-are_few_neighbours.ensures.0 c.if-not-branch.false))
+
+pub returns-clause-no_aromatic_mark : goal.returns-clause-no_aromatic_mark
+returns-clause-no_aromatic_mark c = record {
+  atoms = c.in_ok-sketch.ensures.atoms.3;
+  bonds = no_colons _ c.in_ok-sketch.sketch.bonds c.in_ok-sketch.ensures.bonds.0.0;
+}
