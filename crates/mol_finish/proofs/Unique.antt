@@ -14,15 +14,15 @@ use Rattle.smiles_read.specs.declared.fault.SmilesFault.TheVariants as smiles
 use Rattle.smiles_read.specs.Reading.{IsReading}
 use Rattle.aromatic.specs.Huckel.{IsPerceived, IsFirstRefused, IsAromaticAtom, IsAromaticBond, valence_of}
 use Rattle.mol_finish.specs.declared.fault.TextFault.{TextFault}
-use Rattle.mol_finish.specs.declared.fault.TextFault.TheVariants.{Smiles, NotYet, NoMemory}
+use Rattle.mol_finish.specs.declared.fault.TextFault.TheVariants.{Smiles, Molfile, NoMemory}
 use Rattle.mol_finish.specs.Meant.{meant}
 use Rattle.mol_finish.specs.Structure.{IsMeant, IsRefusedAt, IsStructure, IsStructureOf, prepared}
 
 -- the laws of the stages
-abbrev OneReading : Type 0
+abbrev pub OneReading : Type 0
 OneReading = (text : List ℕ) (a b : Result SketchTerm SmilesFault) → IsReading text a → IsReading text b → (a ≡ b) ⊎ (a ≡ Err smiles.NoMemory) ⊎ (b ≡ Err smiles.NoMemory)
 
-abbrev OneRings : Type 0
+abbrev pub OneRings : Type 0
 OneRings = (ends : Ends) (xs ys : List Bool) → AreRingBonds ends xs → AreRingBonds ends ys → xs ≡ ys
 
 -- one sketch
@@ -58,7 +58,7 @@ same_flag x y P f g =
       ]
     ]
 
-flags-one : (P : ℕ → Type 0) (n : ℕ) (xs ys : List Bool) → length xs ≡ n → length ys ≡ n → ((a : ℕ) → a < n → (get_or xs a false ≡ true) ↔ P a) → ((a : ℕ) → a < n → (get_or ys a false ≡ true) ↔ P a) → xs ≡ ys
+pub flags-one : (P : ℕ → Type 0) (n : ℕ) (xs ys : List Bool) → length xs ≡ n → length ys ≡ n → ((a : ℕ) → a < n → (get_or xs a false ≡ true) ↔ P a) → ((a : ℕ) → a < n → (get_or ys a false ≡ true) ↔ P a) → xs ≡ ys
 flags-one P n xs ys p q f g =
     ext_get_or false xs ys (p ∙ sym q) (λ a l.
     let within : a < n = omega arith in
@@ -71,7 +71,7 @@ perceived-one s rings atoms bonds atoms' bonds' sums sums' p q =
     let same : sums ≡ sums' = p.valences ∙ ap (λ xs. map (λ p. valence_of s rings xs bonds p.0 p.1) (enumerate_from 0 s.atoms)) one ∙ ap (λ xs. map (λ p. valence_of s rings atoms' xs p.0 p.1) (enumerate_from 0 s.atoms)) two ∙ sym q.valences in
     ap (λ xs. meant s xs bonds sums) one ∙ ap (λ xs. meant s atoms' xs sums) two ∙ ap (λ xs. meant s atoms' bonds' xs) same
 
-meant-one : OneRings → (s : SketchTerm) (m n : Molecule) → IsMeant s m → IsMeant s n → m ≡ n
+pub meant-one : OneRings → (s : SketchTerm) (m n : Molecule) → IsMeant s m → IsMeant s n → m ≡ n
 meant-one lists s m n p q =
     let same = lists (sketch_ends s) p.0 q.0 p.4 q.4 in
     let again = subst (λ r. IsPerceived s r q.1 q.2 q.3) (sym same) q.5 in
@@ -122,7 +122,7 @@ way-of text (Err (Smiles smiles.Ring)) h = unread smiles.Ring (λ q. cc) refl h
 way-of text (Err (Smiles smiles.Limit)) h = unread smiles.Limit (λ q. cc) refl h
 way-of text (Err (Smiles (smiles.Aromatic w))) h = refused h.0 w refl h.1 h.2
 way-of text (Err (Smiles smiles.NoMemory)) h = absurd h
-way-of text (Err NotYet) h = absurd h
+way-of text (Err (Molfile fault)) h = absurd h
 way-of text (Err NoMemory) h = short refl
 
 ways-one : OneReading → OneRings → (text : List ℕ) (a b : Result Molecule TextFault) → Way text a → Way text b → (a ≡ b) ⊎ (a ≡ Err NoMemory) ⊎ (b ≡ Err NoMemory)
