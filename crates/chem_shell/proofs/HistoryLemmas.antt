@@ -53,7 +53,7 @@ pub IsLiveNow-push : (h : History) (old new : BTreeMap ℕ Molecule) (id : ℕ) 
 IsLiveNow-push h old new id format text m few in_range is updates grew was = record {
   history = record {
     few = omega (arith, length-append h (Register id format text ∷ []));
-    valid = All-append IsValid h (Register id format text ∷ []) was.history.valid (All-cons IsValid (Register id format text) [] (in_range, m, is) (All-nil IsValid));
+    valid = All-append IsValid h (Register id format text ∷ []) was.history.valid (All-cons IsValid (Register id format text) [] (in_range, (m, is)) (All-nil IsValid));
   };
   size = omega (arith, length-append h (Register id format text ∷ []), was.size);
   each = λ q.

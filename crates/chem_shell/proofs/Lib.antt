@@ -2,3 +2,4 @@ pub mod HistoryLemmas
 pub mod SessionLemmas
 pub mod HitsLemmas
 pub mod EndsLemmas
+pub mod Texts

@@ -5,7 +5,7 @@ ghost use Rattle.shell_lang.specs.Command.{IsIdentifier};
 ghost use Rattle.smarts_parse.specs.Chain.{IsShortText};
 ghost use Rattle.shell_lang.specs.Reply.{text_of, reply_line};
 ghost use Rattle.shell_lang.specs.declared.reply.Reply.{Reply};
-ghost use Rattle.shell_lang.specs.declared.reply.Reply.TheVariants.{Hit};
+ghost use Rattle.shell_lang.specs.declared.reply.Reply.TheVariants.{Hit, Refused};
 ghost use Rattle.chem_shell.specs.Answer.{RegisterAnswer, SearchAnswer};
 ghost use Rattle.chem_shell.specs.Answered.{AnswersLine};
 
@@ -87,18 +87,31 @@ fn register(
     let mol = match structure(alloc, format, text) {
         Ok(mol) => mol,
         Err(TextFault::NoMemory) => return Err(AllocError),
-        Err(fault) => return reply_text(Reply::Refused(Refusal::Text(fault)), out),
+        Err(TextFault::Smiles(fault)) => return refuse(Refusal::Text(TextFault::Smiles(fault)), out),
+        Err(TextFault::Molfile(fault)) => {
+            return refuse(Refusal::Text(TextFault::Molfile(fault)), out);
+        }
     };
     let len = out.len();
     let version = store.version() + 1;
     reply_text(Reply::Accepted { version }, out)?;
-    let refusal = match store.register(alloc, format, id, text, mol) {
-        Ok(_) => return Ok(()),
-        Err(CommitFault::Known) => Refusal::Known,
-        Err(CommitFault::Full) => Refusal::Full,
-        Err(CommitFault::NoMemory) => return Err(AllocError),
-    };
-    out.truncate(len);
+    match store.register(alloc, format, id, text, mol) {
+        Ok(_) => Ok(()),
+        Err(CommitFault::Known) => {
+            out.truncate(len);
+            refuse(Refusal::Known, out)
+        }
+        Err(CommitFault::Full) => {
+            out.truncate(len);
+            refuse(Refusal::Full, out)
+        }
+        Err(CommitFault::NoMemory) => Err(AllocError),
+    }
+}
+
+fn refuse(refusal: Refusal, out: &mut Vec<u8>) -> Result<(), AllocError>
+    ensures { OnOk result (out.new.items ≡ out.old.items ++ reply_line (Refused refusal)) }
+{
     reply_text(Reply::Refused(refusal), out)
 }
 
@@ -115,8 +128,9 @@ fn search(
 {
     let pattern = match parse(alloc, text) {
         Ok(pattern) => pattern,
+        Err(SmartsFault::Syntax) => return refuse(Refusal::Pattern(SmartsFault::Syntax), out),
         Err(SmartsFault::NoMemory) => return Err(AllocError),
-        Err(fault) => return reply_text(Reply::Refused(Refusal::Pattern(fault)), out),
+        Err(_) => unreachable!(),
     };
     let ids = store.hits(alloc, &pattern, scratch)?;
     push_hits(&ids, out)?;
