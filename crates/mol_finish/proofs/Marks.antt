@@ -1,6 +1,6 @@
 -- A sketch without lower-case atoms and `:` bonds stays so, and none of its atoms is refused.
-use Rattle.std.proofs.Common.{ℕ, ◌+◌, ◌<◌, ◌≡◌, ◌≢◌, inl, inr, Bool, true, false, cond, not, ◌&&◌, ◌||◌, List, [], ◌∷◌, length, get_or, slice_get, map, filter, Some, refl, sym, ap, ◌∙◌}
-use Rattle.std.specs.List.{All, AllByRecursion, enumerate_from, list_any}
+use Rattle.std.proofs.Common.{ℕ, ◌+◌, ◌≡◌, ◌≢◌, inl, inr, Bool, true, false, cond, not, ◌&&◌, ◌||◌, List, [], ◌∷◌, get_or, map, filter, refl, sym, ap, ◌∙◌}
+use Rattle.std.specs.List.{All, AllByRecursion, enumerate_from}
 use Rattle.std.proofs.lemmas.List.Elements.{All-from_recursion, recursion_from_All}
 use Rattle.std.proofs.lemmas.Option.{slice_get_within, get_or_from_slice_get}
 use Rattle.chem_core.specs.declared.sketch.SketchAtom.{SketchAtom}
@@ -10,8 +10,8 @@ use Rattle.chem_core.specs.declared.sketch.SketchKind.TheVariants.{Unwritten, Si
 use Rattle.chem_core.specs.Sketch.{SketchTerm, ends_at}
 use Rattle.valence.specs.Valence.{bond_sum}
 use Rattle.valence.specs.Filled.{filled, filled_atom}
-use Rattle.valence.specs.Suppressed.{suppressed, is_suppressed, gained, new_place, staying_atoms, staying_bonds, stays, renumbered}
-use Rattle.aromatic.specs.Huckel.{IsFirstRefused, IsRefused, has_colon, is_colon}
+use Rattle.valence.specs.Suppressed.{is_suppressed, gained, new_place, staying_bonds, stays, renumbered}
+use Rattle.aromatic.specs.Huckel.{has_colon, is_colon}
 use Rattle.molfile_read.specs.Reading.{HasNoAromaticMark}
 use Rattle.mol_finish.specs.Structure.{IsRefusedAt, prepared}
 

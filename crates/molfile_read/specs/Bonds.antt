@@ -18,10 +18,14 @@ is_query_type None = false
 is_query_type (Some n) = nat_le 4 n && nat_le n 8
 
 abbrev pub is_query_bond : List ℕ → Bool
-is_query_bond line = is_query_type (number_in 999 (columns 7 9 line)) || is_other_than_zero (number_in 999 (columns 16 18 line))
+is_query_bond line =
+    is_query_type (number_in 999 (columns 7 9 line)) || is_other_than_zero (number_in 999 (columns 16 18 line))
 
 abbrev pub kind_of_type : ℕ → Option SketchKind
-kind_of_type n = if n == 1 then Some Single else (if n == 2 then Some Double else (if n == 3 then Some Triple else None))
+kind_of_type n =
+    if n == 1 then Some Single else
+    (if n == 2 then Some Double else
+    (if n == 3 then Some Triple else None))
 
 -- one of so many atoms, which are numbered from 1
 abbrev pub is_atom : ℕ → ℕ → Bool
@@ -35,7 +39,8 @@ bond_line atoms l =
     given l.0 (number_in 999 (columns 4 6 l.1)) >>= λ second.
     given l.0 (option_and_then kind_of_type (number_in 999 (columns 7 9 l.1))) >>= λ kind.
     given l.0 (number_in 999 (columns 16 18 l.1)) >>= λ topology.
-    (if is_atom atoms first && (is_atom atoms second && not (first == second)) then Ok (record { a = first - 1; b = second - 1; kind = kind }) else Err (Bond l.0))))
+    (if is_atom atoms first && (is_atom atoms second && not (first == second))
+    then Ok (record { a = first - 1; b = second - 1; kind = kind }) else Err (Bond l.0))))
 
 -- some bond joins the two atoms
 abbrev pub are_joined : List SketchBond → ℕ → ℕ → Bool
@@ -43,9 +48,13 @@ are_joined bonds a b = list_any (λ x. ((x.a == a) && (x.b == b)) || ((x.a == b)
 
 -- a bond line behind those of these bonds: no two bonds join the same atoms
 abbrev pub bond_read : ℕ → List SketchBond → Line → Result SketchBond MolfileFault
-bond_read atoms before l = bond_line atoms l >>= λ bond. (if are_joined before bond.a bond.b then Err (Bond l.0) else Ok bond)
+bond_read atoms before l =
+    bond_line atoms l >>= λ bond.
+    (if are_joined before bond.a bond.b then Err (Bond l.0) else Ok bond)
 
 -- these bonds and those of the lines, or the first fault
 abbrev pub bonds_read : ℕ → List SketchBond → List Line → Result (List SketchBond) MolfileFault
 bonds_read atoms before [] = Ok before
-bonds_read atoms before (line ∷ lines) = bond_read atoms before line >>= λ bond. bonds_read atoms (before ++ bond ∷ []) lines
+bonds_read atoms before (line ∷ lines) =
+    bond_read atoms before line >>= λ bond.
+    bonds_read atoms (before ++ bond ∷ []) lines

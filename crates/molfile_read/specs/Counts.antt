@@ -18,15 +18,18 @@ is_zero (Some n) = n == 0
 -- the version, blanks taken out, is `V2000` or nothing
 abbrev pub is_version_read : List ℕ → Bool
 is_version_read line =
-    let version = filter (λ byte. not (byte == 32)) (columns 34 39 line) in bytes_eq version (codes "V2000") || bytes_eq version []
+    let version = filter (λ byte. not (byte == 32)) (columns 34 39 line) in
+    bytes_eq version (codes "V2000") || bytes_eq version []
 
 -- the counts, or why they are refused: the header before what is a query
 unfoldable pub counts_read : List ℕ → Result Counts MolfileFault
 counts_read line =
     ok_or (number_in 999 (columns 1 3 line)) Header >>= λ atoms.
     ok_or (number_in 999 (columns 4 6 line)) Header >>= λ bonds.
-    (if (atoms == 0) || (not (is_zero (number_in 999 (columns 16 18 line))) || not (is_version_read line)) then Err Header else
-    (if not (is_zero (number_in 999 (columns 7 9 line))) then Err (Query 4) else Ok (record { atoms = atoms; bonds = bonds })))
+    (if (atoms == 0) || (not (is_zero (number_in 999 (columns 16 18 line))) || not (is_version_read line))
+    then Err Header else
+    (if not (is_zero (number_in 999 (columns 7 9 line))) then Err (Query 4) else
+    Ok (record { atoms = atoms; bonds = bonds })))
 
 -- the counts line is the first of these
 abbrev pub first_counts : List Line → Result Counts MolfileFault

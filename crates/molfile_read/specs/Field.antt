@@ -24,13 +24,15 @@ value_after n (digit ∷ digits) = value_after (10 * n + (digit - 48)) digits
 abbrev pub decimal_in : ℕ → List ℕ → Option ℕ
 decimal_in most [] = None
 decimal_in most (byte ∷ bytes) =
-    if all_ascii_digits (byte ∷ bytes) && nat_le (value_after 0 (byte ∷ bytes)) most then Some (value_after 0 (byte ∷ bytes)) else None
+    if all_ascii_digits (byte ∷ bytes) && nat_le (value_after 0 (byte ∷ bytes)) most
+    then Some (value_after 0 (byte ∷ bytes)) else None
 
 -- the same where a `-` may stand in front
 abbrev pub signed_in : ℕ → List ℕ → Option ℤ
 signed_in most [] = None
 signed_in most (byte ∷ bytes) =
-    if byte == 45 then option_map (λ n. neg_ℤ (pos n)) (decimal_in most bytes) else option_map (λ n. pos n) (decimal_in most (byte ∷ bytes))
+    if byte == 45 then option_map (λ n. neg_ℤ (pos n)) (decimal_in most bytes)
+    else option_map (λ n. pos n) (decimal_in most (byte ∷ bytes))
 
 -- the number in a field: blanks may stand round it, and a blank field is 0
 abbrev pub number_of_trimmed : ℕ → List ℕ → Option ℕ

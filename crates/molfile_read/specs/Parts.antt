@@ -19,10 +19,12 @@ use Rattle.molfile_read.specs.Bonds.{are_joined}
 
 -- Why so many lines were not read: memory ran out, their first fault, or none of them has one, and some are missing.
 abbrev pub Faults : {A : Type 0} → Result A MolfileFault → ℕ → List Line → MolfileFault → Type 0
-Faults {A} read count lines fault = (fault ≡ NoMemory) ⊎ ((read ≡ Err fault) ⊎ ((fault ≡ Cut) × (length lines < count) × ((x : A) × (read ≡ Ok x))))
+Faults {A} read count lines fault =
+    (fault ≡ NoMemory) ⊎ ((read ≡ Err fault) ⊎ ((fault ≡ Cut) × (length lines < count) × ((x : A) × (read ≡ Ok x))))
 
 -- Adding what was read, to what was there: all of it, or memory ran out, or its fault.
-abbrev pub Appends : {A B : Type 0} → Result (List A) MolfileFault → List A → List A → Result B MolfileFault → Type 0
+abbrev pub Appends : {A B : Type 0}
+    → Result (List A) MolfileFault → List A → List A → Result B MolfileFault → Type 0
 Appends {A} read old new (Ok x) = (xs : List A) × (read ≡ Ok xs) × (new ≡ old ++ xs)
 Appends read old new (Err fault) = (fault ≡ NoMemory) ⊎ (read ≡ Err fault)
 
@@ -33,7 +35,8 @@ Adds read old new false = read ≡ None
 
 -- Why the property lines were not read: memory ran out, their first fault, or none has one, and the end is missing.
 abbrev pub Stops : {A : Type 0} → Result A MolfileFault → Bool → MolfileFault → Type 0
-Stops {A} read ended fault = (fault ≡ NoMemory) ⊎ ((read ≡ Err fault) ⊎ ((fault ≡ Cut) × (ended ≡ false) × ((x : A) × (read ≡ Ok x))))
+Stops {A} read ended fault =
+    (fault ≡ NoMemory) ⊎ ((read ≡ Err fault) ⊎ ((fault ≡ Cut) × (ended ≡ false) × ((x : A) × (read ≡ Ok x))))
 
 -- the fields of an atom line are within their limits
 pub record IsAtomLine (atom : AtomLine) : Type 0 where
@@ -79,7 +82,9 @@ IsSetting atoms s = (s.atom < atoms) × IsValue s.value
 
 -- atoms that a sketch may have, in upper case and without hydrogens
 abbrev pub AreAtoms : List SketchAtom → Type 0
-AreAtoms atoms = All IsSketchAtom atoms × All (λ a. a.hydrogens ≤ 9) atoms × (length atoms ≤ MOST_ATOMS) × All (λ a. a.lower ≡ false) atoms
+AreAtoms atoms =
+    All IsSketchAtom atoms × All (λ a. a.hydrogens ≤ 9) atoms × (length atoms ≤ MOST_ATOMS)
+    × All (λ a. a.lower ≡ false) atoms
 
 -- what was drawn, or why it was not
 abbrev pub IsDrawn : Result SketchTerm MolfileFault → Result SketchTerm MolfileFault → Type 0

@@ -60,7 +60,8 @@ nothing_in (word ∷ ws) = None
 -- so many pairs of an atom and a value, and nothing else
 abbrev pub pairs_in : Tag → ℕ → ℕ → List (List ℕ) → Option (List Setting)
 pairs_in tag atoms zero ws = nothing_in ws
-pairs_in tag atoms (suc n) ws = option_and_then (λ p. option_map (λ others. p.0 ∷ others) (pairs_in tag atoms n p.1)) (setting_at tag atoms ws)
+pairs_in tag atoms (suc n) ws =
+    option_and_then (λ p. option_map (λ others. p.0 ∷ others) (pairs_in tag atoms n p.1)) (setting_at tag atoms ws)
 
 abbrev pub not_zero : ℕ → Option ℕ
 not_zero n = if n == 0 then None else Some n
@@ -83,7 +84,8 @@ tag_of line =
 -- atom lists, ring bond counts, substitution counts, unsaturation, links, R groups and their logic
 abbrev pub is_query_line : List ℕ → Bool
 is_query_line line =
-    list_any (λ tag. begins line tag) (codes "M  ALS" ∷ codes "M  RBC" ∷ codes "M  SUB" ∷ codes "M  UNS" ∷ codes "M  LIN" ∷ codes "M  RGP" ∷ codes "M  LOG" ∷ [])
+    list_any (λ tag. begins line tag)
+    (codes "M  ALS" ∷ codes "M  RBC" ∷ codes "M  SUB" ∷ codes "M  UNS" ∷ codes "M  LIN" ∷ codes "M  RGP" ∷ codes "M  LOG" ∷ [])
 
 -- an alias or a group's text passes over the line after it
 abbrev pub passes_next : List ℕ → Bool
@@ -123,7 +125,10 @@ is_ended false (line ∷ lines) = if is_end line.1 then true else is_ended (pass
 -- what all lines set, in order, or the first fault
 abbrev pub settings_read : ℕ → List Line → Result (List Setting) MolfileFault
 settings_read atoms [] = Ok []
-settings_read atoms (line ∷ lines) = property_read atoms line >>= λ first. settings_read atoms lines >>= λ others. Ok (first ++ others)
+settings_read atoms (line ∷ lines) =
+    property_read atoms line >>= λ first.
+    settings_read atoms lines >>= λ others.
+    Ok (first ++ others)
 
 abbrev pub charge_of : Value → Option ℤ
 charge_of (Charge n) = Some n

@@ -51,7 +51,8 @@ made_atom place atom charges_set charge radical isotope = record {
 
 abbrev pub sketch_atom : List Setting → ℕ → AtomLine → SketchAtom
 sketch_atom settings place atom =
-    made_atom place atom (sets_charges settings) (last_set charge_of place settings) (last_set radical_of place settings) (last_set isotope_of place settings)
+    made_atom place atom (sets_charges settings)
+    (last_set charge_of place settings) (last_set radical_of place settings) (last_set isotope_of place settings)
 
 abbrev pub sketch_atoms : List Setting → List AtomLine → List SketchAtom
 sketch_atoms settings atoms = map (λ p. sketch_atom settings p.0 p.1) (enumerate_from 0 atoms)

@@ -26,6 +26,28 @@ pub(crate) struct AtomLine {
     pub valence: u8,
 }
 
+/// What the atom lines say that come next.
+pub(crate) fn read_atoms(
+    alloc: Global,
+    lines: &mut Lines,
+    count: u16,
+) -> Result<Vec<AtomLine>, MolfileFault>
+    ensures found { IfOk result (λ atoms.
+        (each atom_read (take count lines.old) ≡ Ok atoms.items)
+        × (lines.new ≡ drop count lines.old) × (length atoms.items ≡ count)) }
+    ensures range { IfOk result (λ atoms. AllByRecursion IsAtomLine atoms.items) }
+    ensures fault { IfErr result (Faults (each atom_read (take count lines.old)) count lines.old) }
+{
+    let mut atoms = Vec::with_capacity(alloc, usize::from(count))?;
+    for _ in 0..count {
+        let Some((at, line)) = lines.next() else {
+            return Err(MolfileFault::Cut);
+        };
+        atoms.push(atom(at, line)?)?;
+    }
+    Ok(atoms)
+}
+
 /// What the atom line of this number says.
 #[tactic(auto, unfolding(crate::specs::Atoms::atom_read))]
 pub(crate) fn atom(at: u32, line: &[u8]) -> Result<AtomLine, MolfileFault>
@@ -50,25 +72,4 @@ pub(crate) fn atom(at: u32, line: &[u8]) -> Result<AtomLine, MolfileFault>
         charge: charge as u8,
         valence: valence as u8,
     })
-}
-
-/// What the atom lines say that come next.
-pub(crate) fn read_atoms(
-    alloc: Global,
-    lines: &mut Lines,
-    count: u16,
-) -> Result<Vec<AtomLine>, MolfileFault>
-    ensures found { IfOk result (λ atoms. (each atom_read (take count lines.old) ≡ Ok atoms.items)
-        × (lines.new ≡ drop count lines.old) × (length atoms.items ≡ count)) }
-    ensures range { IfOk result (λ atoms. AllByRecursion IsAtomLine atoms.items) }
-    ensures fault { IfErr result (λ e. Faults (each atom_read (take count lines.old)) count lines.old e) }
-{
-    let mut atoms = Vec::with_capacity(alloc, usize::from(count))?;
-    for _ in 0..count {
-        let Some((at, line)) = lines.next() else {
-            return Err(MolfileFault::Cut);
-        };
-        atoms.push(atom(at, line)?)?;
-    }
-    Ok(atoms)
 }

@@ -11,34 +11,32 @@ use chem_core::{SketchBond, SketchKind};
 use std::alloc::Global;
 use std::collections::HashSet;
 
-// The kind of bond of a type.
-fn kind_of_type(kind: u16) -> Option<SketchKind>
-    ensures value { result ≡ kind_of_type kind }
-    ensures range { IfSome result IsKind }
+/// What the bond lines say that come next.
+pub(crate) fn read_bonds(
+    alloc: Global,
+    lines: &mut Lines,
+    counts: Counts,
+) -> Result<Vec<SketchBond>, MolfileFault>
+    ensures found { IfOk result (λ bonds.
+        (bonds_read counts.atoms [] (take counts.bonds lines.old) ≡ Ok bonds.items)
+        × (lines.new ≡ drop counts.bonds lines.old) × (length bonds.items ≡ counts.bonds)) }
+    ensures sound { IfOk result (λ bonds. AreBondsAmong counts.atoms bonds.items) }
+    ensures fault { IfErr result
+        (Faults (bonds_read counts.atoms [] (take counts.bonds lines.old)) counts.bonds lines.old) }
 {
-    match kind {
-        1 => Some(SketchKind::Single),
-        2 => Some(SketchKind::Double),
-        3 => Some(SketchKind::Triple),
-        _ => None,
+    let mut bonds = Vec::with_capacity(alloc, usize::from(counts.bonds))?;
+    let mut seen = HashSet::with_capacity(alloc, usize::from(counts.bonds))?;
+    for _ in 0..counts.bonds {
+        let Some((at, line)) = lines.next() else {
+            return Err(MolfileFault::Cut);
+        };
+        let bond = bond(at, line, counts.atoms)?;
+        if !seen.insert(ends_of(&bond))? {
+            return Err(MolfileFault::Bond(at));
+        }
+        bonds.push(bond)?;
     }
-}
-
-// Whether only queries use bonds of the type.
-fn is_query_type(kind: Option<u16>) -> bool
-    ensures { result ≡ is_query_type kind }
-{
-    match kind {
-        Some(kind) => 4 <= kind && kind <= 8,
-        None => false,
-    }
-}
-
-/// Whether the number is that of one of so many atoms, which count from 1.
-pub(crate) fn is_atom(atoms: u16, number: u16) -> bool
-    ensures { result ≡ is_atom atoms number }
-{
-    0 < number && number <= atoms
+    Ok(bonds)
 }
 
 // What the bond line of this number says by itself, among so many atoms.
@@ -67,6 +65,36 @@ fn bond(at: u32, line: &[u8], atoms: u16) -> Result<SketchBond, MolfileFault>
     })
 }
 
+// Whether only queries use bonds of the type.
+fn is_query_type(kind: Option<u16>) -> bool
+    ensures { result ≡ is_query_type kind }
+{
+    match kind {
+        Some(kind) => 4 <= kind && kind <= 8,
+        None => false,
+    }
+}
+
+// The kind of bond of a type.
+fn kind_of_type(kind: u16) -> Option<SketchKind>
+    ensures value { result ≡ kind_of_type kind }
+    ensures range { IfSome result IsKind }
+{
+    match kind {
+        1 => Some(SketchKind::Single),
+        2 => Some(SketchKind::Double),
+        3 => Some(SketchKind::Triple),
+        _ => None,
+    }
+}
+
+/// Whether the number is that of one of so many atoms, which count from 1.
+pub(crate) fn is_atom(atoms: u16, number: u16) -> bool
+    ensures { result ≡ is_atom atoms number }
+{
+    0 < number && number <= atoms
+}
+
 // The ends of a bond, the lower first.
 fn ends_of(bond: &SketchBond) -> (u16, u16)
     ensures { result ≡ ordered_ends bond.now.a bond.now.b }
@@ -76,30 +104,4 @@ fn ends_of(bond: &SketchBond) -> (u16, u16)
     } else {
         (bond.b, bond.a)
     }
-}
-
-/// What the bond lines say that come next.
-pub(crate) fn read_bonds(
-    alloc: Global,
-    lines: &mut Lines,
-    counts: Counts,
-) -> Result<Vec<SketchBond>, MolfileFault>
-    ensures found { IfOk result (λ bonds. (bonds_read counts.atoms [] (take counts.bonds lines.old) ≡ Ok bonds.items)
-        × (lines.new ≡ drop counts.bonds lines.old) × (length bonds.items ≡ counts.bonds)) }
-    ensures sound { IfOk result (λ bonds. AreBondsAmong counts.atoms bonds.items) }
-    ensures fault { IfErr result (λ e. Faults (bonds_read counts.atoms [] (take counts.bonds lines.old)) counts.bonds lines.old e) }
-{
-    let mut bonds = Vec::with_capacity(alloc, usize::from(counts.bonds))?;
-    let mut seen = HashSet::with_capacity(alloc, usize::from(counts.bonds))?;
-    for _ in 0..counts.bonds {
-        let Some((at, line)) = lines.next() else {
-            return Err(MolfileFault::Cut);
-        };
-        let bond = bond(at, line, counts.atoms)?;
-        if !seen.insert(ends_of(&bond))? {
-            return Err(MolfileFault::Bond(at));
-        }
-        bonds.push(bond)?;
-    }
-    Ok(bonds)
 }

@@ -11,10 +11,19 @@ use crate::setting::{Setting, Value};
 use chem_core::{Fill, MOST_ATOMS, SketchAtom};
 use std::alloc::{AllocError, Global};
 
+// What is set last for each atom, by its place.
+#[derive(Drop)]
+struct Values {
+    charges: [Option<i8>; MOST_ATOMS],
+    radicals: [Option<u8>; MOST_ATOMS],
+    isotopes: [Option<u16>; MOST_ATOMS],
+}
+
 /// Refuses the first atom with a mass difference, unless some line sets isotopes.
 pub(crate) fn check_masses(atoms: &[AtomLine], settings: &[Setting]) -> Result<(), MolfileFault>
     requires { length atoms.now ≤ 999 }
-    ensures { MatchResult result (λ _. masses_read atoms.now settings.now ≡ Ok tt) (λ e. masses_read atoms.now settings.now ≡ Err e) }
+    ensures { MatchResult result (λ _. masses_read atoms.now settings.now ≡ Ok tt)
+        (λ e. masses_read atoms.now settings.now ≡ Err e) }
 {
     if sets_isotopes(settings) {
         return Ok(());
@@ -23,46 +32,6 @@ pub(crate) fn check_masses(atoms: &[AtomLine], settings: &[Setting]) -> Result<(
         Some(place) => Err(MolfileFault::Columns(5 + place as u32)),
         None => Ok(()),
     }
-}
-
-// The place of the first atom with a mass difference.
-fn first_mass(atoms: &[AtomLine]) -> Option<usize>
-    ensures value { result ≡ position has_mass atoms.now }
-    ensures range { IfSome result (λ place. place < length atoms.now) }
-{
-    atoms.iter().position(has_mass)
-}
-
-fn has_mass(atom: &AtomLine) -> bool
-    ensures { result ≡ has_mass atom.now }
-{
-    atom.mass != 0
-}
-
-// Whether some line sets isotopes.
-fn sets_isotopes(settings: &[Setting]) -> bool
-    ensures { result ≡ sets_isotopes settings.now }
-{
-    settings.iter().any(is_isotope)
-}
-
-// Whether some line sets charges or radicals.
-fn sets_charges(settings: &[Setting]) -> bool
-    ensures { result ≡ sets_charges settings.now }
-{
-    settings.iter().any(is_charge)
-}
-
-fn is_isotope(setting: &Setting) -> bool
-    ensures { result ≡ is_some (isotope_of setting.now.value) }
-{
-    matches!(setting.value, Value::Isotope(_))
-}
-
-fn is_charge(setting: &Setting) -> bool
-    ensures { result ≡ (is_some (charge_of setting.now.value) || is_some (radical_of setting.now.value)) }
-{
-    matches!(setting.value, Value::Charge(_) | Value::Radical(_))
 }
 
 /// The atoms, by what their lines say and what is set for them.
@@ -87,12 +56,45 @@ pub(crate) fn sketch_atoms(
     Ok(made)
 }
 
-// What is set last for each atom, by its place.
-#[derive(Drop)]
-struct Values {
-    charges: [Option<i8>; MOST_ATOMS],
-    radicals: [Option<u8>; MOST_ATOMS],
-    isotopes: [Option<u16>; MOST_ATOMS],
+// The place of the first atom with a mass difference.
+fn first_mass(atoms: &[AtomLine]) -> Option<usize>
+    ensures value { result ≡ position has_mass atoms.now }
+    ensures range { IfSome result (λ place. place < length atoms.now) }
+{
+    atoms.iter().position(has_mass)
+}
+
+fn has_mass(atom: &AtomLine) -> bool
+    ensures { result ≡ has_mass atom.now }
+{
+    atom.mass != 0
+}
+
+// Whether some line sets isotopes.
+fn sets_isotopes(settings: &[Setting]) -> bool
+    ensures { result ≡ sets_isotopes settings.now }
+{
+    settings.iter().any(is_isotope)
+}
+
+fn is_isotope(setting: &Setting) -> bool
+    ensures { result ≡ is_some (isotope_of setting.now.value) }
+{
+    matches!(setting.value, Value::Isotope(_))
+}
+
+// Whether some line sets charges or radicals.
+fn sets_charges(settings: &[Setting]) -> bool
+    ensures { result ≡ sets_charges settings.now }
+{
+    settings.iter().any(is_charge)
+}
+
+fn is_charge(setting: &Setting) -> bool
+    ensures { result
+        ≡ (is_some (charge_of setting.now.value) || is_some (radical_of setting.now.value)) }
+{
+    matches!(setting.value, Value::Charge(_) | Value::Radical(_))
 }
 
 fn last_values(settings: &[Setting]) -> Values

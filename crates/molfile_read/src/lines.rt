@@ -42,7 +42,8 @@ impl<'a> Lines<'a> {
 
     /// The next line and its number; none at the end.
     pub(crate) fn next(&mut self) -> Option<(u32, &'a [u8])>
-        ensures { MatchOption result ((self.old ≡ []) × (self.new ≡ [])) (λ r. self.old ≡ (r.0, r.1.now) ∷ self.new) }
+        ensures { MatchOption result ((self.old ≡ []) × (self.new ≡ []))
+            (λ r. self.old ≡ (r.0, r.1.now) ∷ self.new) }
     {
         let (line, rest) = next_line(self.rest)?;
         let number = self.number;
@@ -61,7 +62,8 @@ impl<'a> Lines<'a> {
 
 // The first line, and the text after it.
 fn next_line(text: &[u8]) -> Option<(&[u8], &[u8])>
-    ensures lines { MatchOption result (lines_of text.now ≡ []) (λ r. lines_of text.now ≡ r.0.now ∷ lines_of r.1.now) }
+    ensures lines { MatchOption result (lines_of text.now ≡ [])
+        (λ r. lines_of text.now ≡ r.0.now ∷ lines_of r.1.now) }
     ensures shorter { IfSome result (λ r. length r.1.now < length text.now) }
     ensures nothing { IfNone result (text.now ≡ []) }
 {

@@ -17,10 +17,12 @@ pub(crate) fn read_properties(
     lines: &mut Lines,
     atoms: u16,
 ) -> Result<Vec<Setting>, MolfileFault>
-    ensures found { IfOk result (λ settings. (settings_read atoms (property_lines false lines.old) ≡ Ok settings.items)
+    ensures found { IfOk result (λ settings.
+        (settings_read atoms (property_lines false lines.old) ≡ Ok settings.items)
         × (is_ended false lines.old ≡ true)) }
     ensures range { IfOk result (λ settings. AllByRecursion (IsSetting atoms) settings.items) }
-    ensures fault { IfErr result (λ e. Stops (settings_read atoms (property_lines false lines.old)) (is_ended false lines.old) e) }
+    ensures fault { IfErr result
+        (Stops (settings_read atoms (property_lines false lines.old)) (is_ended false lines.old)) }
 {
     let mut settings = Vec::new(alloc);
     while let Some((at, line)) = lines.next() {
@@ -43,7 +45,8 @@ fn property(
     settings: &mut Vec<Setting>,
 ) -> Result<(), MolfileFault>
     requires { AllByRecursion (IsSetting atoms) settings.old.items }
-    ensures read { Appends (property_read atoms (at, line.now)) settings.old.items settings.new.items result }
+    ensures read { Appends (property_read atoms (at, line.now)) settings.old.items
+        settings.new.items result }
     ensures range { OnOk result (AllByRecursion (IsSetting atoms) settings.new.items) }
 {
     let Some(tag) = tag_of(line) else {
@@ -74,7 +77,8 @@ fn tag_of(line: &[u8]) -> Option<Tag>
 
 // Whether a line is passed over that sets no values.
 fn untagged(at: u32, line: &[u8]) -> Result<(), MolfileFault>
-    ensures { MatchResult result (λ _. untagged (at, line.now) ≡ Ok []) (λ e. untagged (at, line.now) ≡ Err e) }
+    ensures { MatchResult result (λ _. untagged (at, line.now) ≡ Ok [])
+        (λ e. untagged (at, line.now) ≡ Err e) }
 {
     if is_query_line(line) {
         Err(MolfileFault::Query(at))
@@ -118,7 +122,8 @@ fn read_pairs(
     settings: &mut Vec<Setting>,
 ) -> Result<bool, AllocError>
     requires { AllByRecursion (IsSetting atoms) settings.old.items }
-    ensures read { IfOk result (λ ok. Adds (counted_pairs tag atoms (words text.now)) settings.old.items settings.new.items ok) }
+    ensures read { IfOk result
+        (Adds (counted_pairs tag atoms (words text.now)) settings.old.items settings.new.items) }
     ensures range { OnOk result (AllByRecursion (IsSetting atoms) settings.new.items) }
 {
     let Some((count, mut rest)) = counted(text) else {
@@ -149,7 +154,8 @@ fn counted(text: &[u8]) -> Option<(u16, &[u8])>
 
 // The atom and the value that the text begins with, and the text after them.
 fn setting(text: &[u8], tag: Tag, atoms: u16) -> Option<(Setting, &[u8])>
-    ensures value { option_map (λ r. (r.0, words r.1.now)) result ≡ setting_at tag atoms (words text.now) }
+    ensures value { option_map (λ r. (r.0, words r.1.now)) result
+        ≡ setting_at tag atoms (words text.now) }
     ensures range { IfSome result (λ r. IsSetting atoms r.0) }
 {
     let (atom, rest) = next_word(text)?;
@@ -198,7 +204,8 @@ fn electrons_of(radical: u16) -> u8
 
 // The next word, and the text after it.
 fn next_word(text: &[u8]) -> Option<(&[u8], &[u8])>
-    ensures { MatchOption result (words text.now ≡ []) (λ r. words text.now ≡ r.0.now ∷ words r.1.now) }
+    ensures { MatchOption result (words text.now ≡ [])
+        (λ r. words text.now ≡ r.0.now ∷ words r.1.now) }
 {
     let rest = after_blanks(text);
     if rest.is_empty() {

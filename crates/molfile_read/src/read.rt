@@ -43,7 +43,8 @@ pub fn read_molfile(alloc: Global, text: &[u8]) -> Result<Sketch, MolfileFault>
 
 /// A law: but for want of memory a text has one reading.
 pub fn one_reading()
-    ensures { (text : List ℕ) (a b : Result SketchTerm MolfileFault) → IsReading text a → IsReading text b
+    ensures { (text : List ℕ) (a b : Result SketchTerm MolfileFault)
+        → IsReading text a → IsReading text b
         → (a ≡ b) ⊎ (a ≡ Err MolfileFault.NoMemory) ⊎ (b ≡ Err MolfileFault.NoMemory) }
 {}
 
@@ -52,7 +53,8 @@ fn drawn(alloc: Global, text: &[u8]) -> Result<Sketch, MolfileFault>
     requires { length text.now ≤ MOST_BYTES }
     ensures value { IsDrawn (drawn (numbered_lines text.now)) result }
     ensures atoms { IfOk result (λ s. AreAtoms s.atoms) }
-    ensures bonds { IfOk result (λ s. AreBondsAmong (length s.atoms) s.bonds × (length s.bonds ≤ MOST_BONDS)) }
+    ensures bonds { IfOk result
+        (λ s. AreBondsAmong (length s.atoms) s.bonds × (length s.bonds ≤ MOST_BONDS)) }
 {
     let mut lines = Lines::new(text);
     let counts = read_counts(&mut lines)?;
