@@ -1,6 +1,6 @@
 -- A change, and how it is written: a byte for its kind, the identifier in four bytes, the lowest first, and for a
 -- registration or a revision a byte for the format and the text. For callers.
-use Rattle.std.specs.Prelude.{◌≡◌, ◌≤◌, ℕ, List, [], ◌∷◌, ◌++◌, length}
+use Rattle.std.specs.Prelude.{◌≡◌, ◌≤◌, ℕ, List, ◌∷◌, ◌++◌}
 use Rattle.std.specs.Int.{to_le_bytes, w32}
 use Rattle.commit_log.specs.declared.change.Format.{Format}
 use Rattle.commit_log.specs.declared.change.Format.TheVariants.{Smiles, Molfile}

@@ -1,4 +1,4 @@
-use Rattle.std.proofs.Common.{◌≡◌, ◌+◌, inr, List, [], ◌∷◌, ◌++◌, length, ℕ, false, Option, Some, None, Ok, Vec, IfNone, sym, ◌∙◌, subst}
+use Rattle.std.proofs.Common.{◌≡◌, ◌+◌, inr, List, [], ◌∷◌, ◌++◌, length, ℕ, false, Option, Some, Ok, Vec, IfNone, sym, ◌∙◌, subst}
 use Rattle.std.specs.declared.alloc.Global.{Global}
 use Rattle.journal_core.specs.Answers.{OnRecord}
 use Rattle.journal_core.specs.Journal.{Reads}

@@ -1,4 +1,4 @@
-use Rattle.std.proofs.Common.{Vec, ◌≡◌, ◌+◌, ℕ, List, [], ◌∷◌, ◌++◌, length, Option, Some, Result, Ok, Err, sym, ◌∙◌, ap, subst}
+use Rattle.std.proofs.Common.{Vec, ◌≡◌, ◌+◌, ℕ, List, [], ◌∷◌, ◌++◌, length, Option, Err, sym, ◌∙◌, ap, subst}
 use Rattle.std.specs.declared.alloc.Global.{Global}
 use Rattle.journal_core.specs.Answers.{OnDamaged}
 use Rattle.journal_core.specs.Journal.{Reads}

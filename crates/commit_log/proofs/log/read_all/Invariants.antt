@@ -1,4 +1,4 @@
-use Rattle.std.proofs.Common.{◌≡◌, ◌-◌, ◌^◌, List, [], false}
+use Rattle.std.proofs.Common.{◌≡◌, ◌-◌, ◌^◌, [], false}
 use Rattle.journal_core.specs.Journal.{Reads}
 use Rattle.journal_core.specs.Looks.{Looks}
 use Rattle.commit_log.specs.Log.{Takes, changes_of, payloads}
