@@ -1,15 +1,14 @@
 -- A text cut at a byte, and its lines one after another.
-use Rattle.std.proofs.Common.{ℕ, zero, suc, ◌+◌, ◌-◌, ◌<◌, ◌≤◌, ◌≡◌, ◌≢◌, ◌⊎◌, inl, inr, Bool, true, false, cond, eqb, List, [], ◌∷◌, ◌++◌, length, get_or, take, drop, refl, sym, ap, ◌∙◌, subst, arith}
-use Rattle.std.specs.Prelude.{Option, None, Some, fold, filter}
-use Rattle.std.specs.List.{slice_split, position_or_len, before_first, after_first, All}
-use Rattle.std.proofs.Math.Seq.{take_all, take-length}
-use Rattle.std.proofs.lemmas.Bool.{cases_lt, cases_eq, false≢true}
-use Rattle.std.proofs.lemmas.Bool.Decides.{nat_tests}
+use Rattle.std.proofs.Common.{ℕ, zero, suc, ◌+◌, ◌≤◌, ◌≡◌, ◌⊎◌, inl, inr, Bool, true, false, cond, eqb, List, [], ◌∷◌, length, take, drop, refl, sym, ap, ◌∙◌, arith}
+use Rattle.std.specs.Prelude.{None, Some, fold}
+use Rattle.std.specs.List.{position_or_len, before_first, after_first, All}
+use Rattle.std.proofs.Math.Seq.{take_all}
+use Rattle.std.proofs.lemmas.Bool.{cases_lt}
 use Rattle.std.proofs.lemmas.List.{length-drop}
 use Rattle.std.proofs.lemmas.List.Sums.{position_or_len_is, fails_before_first}
 use Rattle.std.proofs.lemmas.List.Splits.{slice_split_none, slice_split_first}
 use Rattle.memchr.specs.Find.{IsFirstByte, is_byte}
-use Rattle.chem_gen.specs.Summary.{lines_of, last_version, is_ending, endings_in, begins}
+use Rattle.chem_gen.specs.Summary.{lines_of, is_ending, endings_in, begins}
 
 abbrev is_lf : ℕ → Bool
 is_lf = λ b. eqb b 10

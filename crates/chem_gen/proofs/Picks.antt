@@ -3,7 +3,7 @@ use Rattle.std.proofs.Common.{ℕ, zero, suc, ◌+◌, ◌%◌, ◌<◌, ◌≡�
 use Rattle.std.specs.Prelude.{codes, decimal}
 use Rattle.std.specs.List.{flat_map}
 use Rattle.std.proofs.lemmas.List.{append_assoc, append-nil}
-use Rattle.chem_gen.specs.Script.{next, later, fragments, patterns, picked, structure_text, after_structure, registrations, searches}
+use Rattle.chem_gen.specs.Script.{next, fragments, patterns, picked, structure_text, after_structure, registrations}
 use Rattle.chem_gen.specs.Summary.{outcome, outcomes}
 
 pub picked_more : (n x : ℕ) (out : List ℕ) → (out ++ get_or fragments (next x % 8) []) ++ picked n (next x) ≡ out ++ picked (suc n) x

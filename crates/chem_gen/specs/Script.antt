@@ -1,5 +1,5 @@
 -- The generated script of a seed and a count, for callers. The numbers are those of Park and Miller's generator with the multiplier 48271.
-use Rattle.std.specs.Prelude.{◌≡◌, ℕ, zero, suc, ◌+◌, ◌*◌, ◌%◌, List, [], ◌∷◌, ◌++◌, slice_index_or, codes, decimal}
+use Rattle.std.specs.Prelude.{ℕ, zero, suc, ◌+◌, ◌*◌, ◌%◌, List, [], ◌∷◌, ◌++◌, slice_index_or, codes, decimal}
 use Rattle.std.specs.List.{flat_map}
 
 -- the number after a number

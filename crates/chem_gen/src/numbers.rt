@@ -3,6 +3,7 @@ ghost use Rattle.std.specs.Prelude.{◌≡◌, ◌≢◌, ◌%◌, ◌<◌};
 ghost use Rattle.chem_gen.specs.Script.{next};
 
 const MULTIPLIER: u64 = 48271;
+
 const MODULUS: u64 = 2147483647;
 
 /// The numbers after one.

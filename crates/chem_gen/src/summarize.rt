@@ -11,7 +11,12 @@ use std::alloc::{AllocError, Global};
 
 /// The summary of a transcript of the script of that seed and count: both, the last version, and for each search how it
 /// ended. Fails only for want of memory.
-pub fn summary(alloc: Global, seed: u32, count: u32, transcript: &[u8]) -> Result<Vec<u8>, AllocError>
+pub fn summary(
+    alloc: Global,
+    seed: u32,
+    count: u32,
+    transcript: &[u8],
+) -> Result<Vec<u8>, AllocError>
     ensures { IfOk result (λ text. text.items ≡ summary_of seed count transcript.now) }
 {
     let mut out = Vec::new(alloc);

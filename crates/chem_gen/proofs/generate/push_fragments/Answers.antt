@@ -1,4 +1,4 @@
-use Rattle.std.proofs.Common.{ℕ, suc, ◌+◌, ◌%◌, ◌≡◌, ◌++◌, [], get_or, sym, ap, ◌∙◌, arith}
+use Rattle.std.proofs.Common.{suc, ◌%◌, ◌≡◌, ◌++◌, [], get_or, sym, ap, ◌∙◌, arith}
 use Rattle.chem_gen.specs.Script.{fragments, next, picked, later}
 use Rattle.chem_gen.proofs.Picks.{picked_more, picked_none}
 use Rattle.chem_gen.proofs.generate.push_fragments.Goals as goal

@@ -1,4 +1,4 @@
-use Rattle.std.proofs.Common.{ℕ, suc, ◌+◌, ◌≡◌, ◌++◌, sym, ap, ◌∙◌, arith}
+use Rattle.std.proofs.Common.{ℕ, suc, ◌+◌, ◌++◌, sym, ap, ◌∙◌, arith}
 use Rattle.chem_gen.specs.Script.{registrations, after_structure, searches}
 use Rattle.chem_gen.proofs.Picks.{registration, registrations_more, registrations_none}
 use Rattle.chem_gen.proofs.generate.script.Goals as goal

@@ -1,4 +1,4 @@
-use Rattle.std.proofs.Common.{ℕ, suc, ◌+◌, ◌≡◌, drop, sym, ap, ◌∙◌, arith}
+use Rattle.std.proofs.Common.{suc, drop, sym, ap, ◌∙◌, arith}
 use Rattle.chem_gen.specs.Summary.{lines_of, endings_in}
 use Rattle.chem_gen.proofs.Cuts.{skip-cut}
 use Rattle.chem_gen.proofs.summarize.after_lines.Goals as goal

@@ -1,4 +1,4 @@
-use Rattle.std.proofs.Common.{ℕ, ◌+◌, ◌<◌, ◌≡◌, ◌++◌, ◌∷◌, [], drop, sym, ap, ◌∙◌, arith}
+use Rattle.std.proofs.Common.{◌+◌, ◌≡◌, ◌++◌, drop, sym, ap, ◌∙◌, arith}
 use Rattle.chem_gen.specs.Script.{patterns}
 use Rattle.chem_gen.specs.Summary.{lines_of, endings_in, outcomes}
 use Rattle.chem_gen.proofs.Picks.{outcomes_more, outcomes_end, outcomes_past}

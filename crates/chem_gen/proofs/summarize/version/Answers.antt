@@ -1,4 +1,4 @@
-use Rattle.std.proofs.Common.{sym, ◌∙◌}
+use Rattle.std.proofs.Common.{◌∙◌}
 use Rattle.chem_gen.proofs.Cuts.{version_yes, version_no}
 use Rattle.chem_gen.proofs.summarize.version.Goals as goal
 
