@@ -1,13 +1,12 @@
-// A library with one function.
+//! Generated scripts: registrations of structures that follow from a seed, then searches; and summaries of their transcripts.
 #![tactic(auto)]
 
-ghost use Rattle.std.specs.Prelude.{◌≡◌};
-ghost use Rattle.chem_gen.specs.Echo.{echo_of};
+mod generate;
+mod numbers;
+mod summarize;
 
-// The `ensures` clause is the contract: what `echo` returns is `echo_of` of its argument, a definition
-// in `specs/Echo.antt`, which a caller's clause can cite too.
-pub fn echo(x: usize) -> usize
-    ensures { result ≡ echo_of x }
-{
-    x
-}
+pub use generate::script;
+pub use summarize::summary;
+
+#[cfg(test)]
+mod tests;
