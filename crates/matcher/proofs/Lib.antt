@@ -5,3 +5,5 @@ pub mod Plans
 pub mod Places
 pub mod Near
 pub mod PartsHeld
+pub mod Pigeons
+pub mod Refusals

@@ -1,7 +1,7 @@
 -- What is read of a graph at the next atom.
-use Rattle.std.proofs.Common.{◌≡◌, ◌≢◌, ℕ, ◌<◌, ◌++◌, List, length, map, take, slice_get, get_or, Some, All, sym, ap, ◌∙◌, subst}
+use Rattle.std.proofs.Common.{◌≡◌, ◌≢◌, ℕ, zero, suc, ◌+◌, ◌∷◌, [], refl, arith, set, ◌<◌, ◌++◌, List, length, map, take, slice_get, get_or, Some, All, sym, ap, ◌∙◌, subst}
 use Rattle.std.proofs.Math.Seq.{take-append_seam}
-use Rattle.std.proofs.lemmas.List.{get_or-map, length-map}
+use Rattle.std.proofs.lemmas.List.{get_or-map, length-map, take-set}
 use Rattle.std.proofs.lemmas.Option.{slice_get-get_or}
 use Rattle.smarts_parse.specs.Pattern.{BondTerm, GraphTerm}
 use Rattle.smarts_parse.specs.Sound.{pattern_ends}
@@ -18,3 +18,15 @@ all_apart g h k d l =
 -- a list that was written whole
 pub take_all : {X : Type 0} (n : ℕ) (xs ys : List X) → n ≡ length xs → take n (xs ++ ys) ≡ xs
 take_all n xs ys e = ap (λ k. take k (xs ++ ys)) e ∙ take-append_seam xs ys
+
+-- what is kept of more is kept of less
+shorter : (n : ℕ) (xs : List ℕ) → take n (take (suc n) xs) ≡ take n xs
+shorter zero xs = refl
+shorter (suc n) [] = refl
+shorter (suc n) (x ∷ xs) = ap (λ ys. x ∷ ys) (shorter n xs)
+
+pub kept_less : (k : ℕ) (new old : List ℕ) (a : ℕ) → take (k + 1) new ≡ take (k + 1) (set old k a) → take k new ≡ take k old
+kept_less k new old a e =
+    let next : k + 1 ≡ suc k = omega arith in
+    let same : take (suc k) new ≡ take (suc k) (set old k a) = subst (λ n. take n new ≡ take n (set old k a)) next e in
+    sym (shorter k new) ∙ ap (λ xs. take k xs) same ∙ shorter k (set old k a) ∙ take-set old k a

@@ -47,8 +47,8 @@ pub fn fits(task: &Task, front: &[u16], atom: u16) -> bool
     bonds_embed(others, task.mol, front, atom)
 }
 
-// Whether the atom is none of those in front.
-fn is_new(front: &[u16], atom: u16) -> bool
+/// Whether the atom is none of those in front.
+pub fn is_new(front: &[u16], atom: u16) -> bool
     ensures { IsTrue result ↔ ¬ Contains front.now atom }
 {
     !front.contains(&atom)

@@ -5,9 +5,11 @@
 #![tactic(auto)]
 
 mod answer;
+mod choices;
 mod fit;
 mod parts;
 mod plan;
+mod refusal;
 mod scratch;
 mod search;
 

@@ -55,5 +55,5 @@ fn begins_at(graph: &Graph, mol: &Mol, scratch: &mut Scratch, atom: u16) -> bool
         table: &scratch.table,
         steps: &scratch.steps,
     };
-    extend_at(&task, &mut scratch.image, 0, atom)
+    extend_at(&task, &mut scratch.image, &mut scratch.choices, 0, atom)
 }

@@ -1,6 +1,7 @@
 //! The memory that a search uses.
 ghost use Rattle.std.specs.Prelude.{◌≤◌, vec_len};
 
+use crate::choices::Choices;
 use crate::plan::{NO_STEP, Step};
 use smarts_mean::RecTable;
 use std::alloc::{AllocError, Global};
@@ -16,6 +17,7 @@ pub struct Scratch {
     pub(crate) image: Vec<u16>,
     pub(crate) steps: Vec<Step>,
     pub(crate) table: RecTable,
+    pub(crate) choices: Choices,
     ghost image_room: { 256 ≤ vec_len image },
     ghost steps_room: { 256 ≤ vec_len steps },
 }
@@ -27,6 +29,7 @@ impl Scratch {
             image: vec![in alloc; 0; MOST_PLACES]?,
             steps: vec![in alloc; NO_STEP; MOST_PLACES]?,
             table: RecTable::reserve(alloc)?,
+            choices: Choices::reserve(alloc)?,
         })
     }
 }

@@ -6,6 +6,7 @@ ghost use Rattle.smarts_parse.specs.Pattern.{BondTerm, bond_of, graph_of};
 ghost use Rattle.matcher.specs.Partial.{CanComplete, IsLeastFrom, IsPartial};
 ghost use Rattle.matcher.specs.Plan.{IsReady, step_at};
 
+use crate::choices::Choices;
 use crate::fit::{Task, fits};
 use smarts_mean::bond_true;
 
@@ -13,7 +14,7 @@ use smarts_mean::bond_true;
 ///
 /// The calls go as deep as the graph has atoms, at most 256.
 #[cycle(search)]
-pub fn extend(task: &Task, image: &mut [u16], placed: usize) -> bool
+pub fn extend(task: &Task, image: &mut [u16], choices: &mut Choices, placed: usize) -> bool
     requires ready { IsReady (graph_of task.now.graph.now) task.now.steps.now }
     requires room { length task.now.graph.now.atoms.items ≤ length image.old }
     requires few { placed ≤ length task.now.graph.now.atoms.items }
@@ -29,15 +30,15 @@ pub fn extend(task: &Task, image: &mut [u16], placed: usize) -> bool
     }
     let step = task.steps[placed];
     if step.from < step.to {
-        extend_near(task, image, placed)
+        extend_near(task, image, choices, placed)
     } else {
-        extend_anywhere(task, image, placed)
+        extend_anywhere(task, image, choices, placed)
     }
 }
 
 // The same where no bond joins the next atom to an earlier one.
 #[cycle(search)]
-fn extend_anywhere(task: &Task, image: &mut [u16], placed: usize) -> bool
+fn extend_anywhere(task: &Task, image: &mut [u16], choices: &mut Choices, placed: usize) -> bool
     requires ready { IsReady (graph_of task.now.graph.now) task.now.steps.now }
     requires room { length task.now.graph.now.atoms.items ≤ length image.old }
     requires few { placed < length task.now.graph.now.atoms.items }
@@ -50,16 +51,21 @@ fn extend_anywhere(task: &Task, image: &mut [u16], placed: usize) -> bool
         → ¬ CanComplete (HoldsIn task.now.table.now) (graph_of task.now.graph.now) task.now.mol.now (take placed image.old) }
 {
     for atom in 0..task.mol.atoms().len() as u16 {
-        if extend_at(task, image, placed, atom) {
+        let failures = choices.failures();
+        if extend_at(task, image, choices, placed, atom) {
             return true;
         }
+        if choices.failures() != failures && choices.refuse(task, &image[..placed]) {
+            return false;
+        }
     }
+    choices.fail();
     false
 }
 
 // The same where the next atom's first bond joins it to an earlier one: it stands at a neighbour of that one.
 #[cycle(search)]
-fn extend_near(task: &Task, image: &mut [u16], placed: usize) -> bool
+fn extend_near(task: &Task, image: &mut [u16], choices: &mut Choices, placed: usize) -> bool
     requires ready { IsReady (graph_of task.now.graph.now) task.now.steps.now }
     requires room { length task.now.graph.now.atoms.items ≤ length image.old }
     requires few { placed < length task.now.graph.now.atoms.items }
@@ -78,7 +84,7 @@ fn extend_near(task: &Task, image: &mut [u16], placed: usize) -> bool
         if !bond_true(&bond.expr, task.mol, *by) {
             continue;
         }
-        if extend_at(task, image, placed, *atom) {
+        if extend_at(task, image, choices, placed, *atom) {
             return true;
         }
     }
@@ -87,7 +93,13 @@ fn extend_near(task: &Task, image: &mut [u16], placed: usize) -> bool
 
 /// The same with the next atom at that one. Its first bond to an earlier atom, if it has one, is known to embed.
 #[cycle(search)]
-pub fn extend_at(task: &Task, image: &mut [u16], placed: usize, atom: u16) -> bool
+pub fn extend_at(
+    task: &Task,
+    image: &mut [u16],
+    choices: &mut Choices,
+    placed: usize,
+    atom: u16,
+) -> bool
     requires ready { IsReady (graph_of task.now.graph.now) task.now.steps.now }
     requires room { length task.now.graph.now.atoms.items ≤ length image.old }
     requires few { placed < length task.now.graph.now.atoms.items }
@@ -107,5 +119,5 @@ pub fn extend_at(task: &Task, image: &mut [u16], placed: usize, atom: u16) -> bo
         return false;
     }
     image[placed] = atom;
-    extend(task, image, placed + 1)
+    extend(task, image, choices, placed + 1)
 }

@@ -32,3 +32,11 @@ returns-clause-found c =
 
 pub returns-clause-none : goal.returns-clause-none
 returns-clause-none c = λ f. none_of (pattern_of c.args.pattern.now) c.args.mol.now c.note_parts.new.scratch.table c.requires (noted c) (c.extend.ensures.none f)
+
+pub returns-then-is_refused-clause-none : goal.returns-then-is_refused-clause-none
+returns-then-is_refused-clause-none c =
+    let recs = c.args.pattern.now.recs.items in
+    let m = c.args.mol.now in
+    let here = rw c.deref.ensures.value at c.note_parts.ensures in
+    let told = subst (λ n. AreNoted (map graph_of recs) m n c.note_parts.new.scratch.table) (sym (length-map recs graph_of)) here in
+    λ _. none_of (pattern_of c.args.pattern.now) m c.note_parts.new.scratch.table c.requires told (c.is_refused.ensures c.if-is_refused.true)

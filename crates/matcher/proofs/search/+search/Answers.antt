@@ -9,6 +9,7 @@ use Rattle.matcher.specs.Partial.{IsLeastFrom, IsPartial}
 use Rattle.matcher.specs.Plan.{step_at}
 use Rattle.matcher.proofs.Joins.{joins_in_range, neighbour_joined}
 use Rattle.matcher.proofs.Leasts.{found_next, least_whole}
+use Rattle.matcher.proofs.Places.{kept_less}
 use Rattle.matcher.proofs.Near.{near_false, near_step, none_lower, none_near}
 use Rattle.matcher.proofs.Partials.{CanComplete-none, CanComplete-same, IsPartial-from_completion, IsPartial-whole, left_over}
 use Rattle.matcher.proofs.search.+search.Goals as goal
@@ -165,3 +166,6 @@ extend_near-returns-clause-none t c =
     room (subst (λ n. c.args.placed < n) (sym (length-map task.graph.now.atoms.items term_of)) c.requires.few) c.requires.partial c.requires.bonded c.index-bond.ensures (c.from.ensures ∙ c.min.ensures)).1 in
     let left = left_over term_of task.graph.now.atoms.items c.args.image.now c.args.placed c.requires.room c.requires.few in
     λ _. none_near parts g m (take c.args.placed c.args.image.now) _ _ _ pairs near c.neighbours-neighbours.ensures.each left (λ k lt. c.loop-atom.invariant.none k (omega (arith, lt)))
+
+pub extend_at-returns-clause-kept : goal.extend_at-returns-clause-kept
+extend_at-returns-clause-kept t c = kept_less c.args.placed c.extend.new.image c.args.image.now c.args.atom c.extend.ensures.kept
