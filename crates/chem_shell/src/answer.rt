@@ -1,12 +1,12 @@
 //! What a line is answered.
-ghost use Rattle.std.specs.Prelude.{◌≡◌, [], ◌++◌, IfOk, OnOk, OnErr, List, map};
+ghost use Rattle.std.specs.Prelude.{◌≡◌, [], ◌++◌, IfOk, OnOk, OnErr, Ok, ℕ, List, map};
 ghost use Rattle.io_edge.specs.Lines.{Whole, TooLong};
-ghost use Rattle.shell_lang.specs.Command.{IsIdentifier};
-ghost use Rattle.smarts_parse.specs.Chain.{IsShortText};
+ghost use Rattle.shell_lang.specs.Command.{IsIdentifier, Spells};
+ghost use Rattle.shell_lang.specs.CommandView.{command_of, reading_of};
 ghost use Rattle.shell_lang.specs.Reply.{text_of, reply_line};
 ghost use Rattle.shell_lang.specs.declared.reply.Reply.{Reply};
 ghost use Rattle.shell_lang.specs.declared.reply.Reply.TheVariants.{Hit, Refused};
-ghost use Rattle.chem_shell.specs.Answer.{RegisterAnswer, SearchAnswer};
+ghost use Rattle.chem_shell.specs.Answer.{Answers, RegisterAnswer, SearchLineAnswer};
 ghost use Rattle.chem_shell.specs.Answered.{AnswersLine};
 
 use crate::store::{CommitFault, Store};
@@ -52,19 +52,37 @@ impl Responder {
     {
         self.out.clear();
         match read_command(line) {
-            Ok(Command::Empty) => Ok(()),
-            Ok(Command::Register { id, text }) => {
-                let format = Format::Smiles;
-                register(alloc, &mut self.store, format, id, text, &mut self.out)
+            Ok(command) => self.execute(alloc, command),
+            Err(_) => refuse(Refusal::NotYet, &mut self.out),
+        }
+    }
+
+    // Answers a command, behind what stands in `out`. An `Err` leaves the store as it was.
+    fn execute(&mut self, alloc: Global, command: Command<'_>) -> Result<(), AllocError>
+        requires { (line : List ℕ) × Spells line (command_of command) }
+        ensures ok { OnOk result ((replies : List Reply) × Answers self.old.store (reading_of (Ok command.entry)) replies self.new.store
+            × (self.new.out.items ≡ self.old.out.items ++ text_of replies)) }
+        ensures err { OnErr result (self.new.store ≡ self.old.store) }
+    {
+        let out = &mut self.out;
+        match command {
+            Command::Empty => Ok(()),
+            Command::Register { id, text } => {
+                register(alloc, &mut self.store, Format::Smiles, id, text, out)
             }
-            Ok(Command::Search { pattern }) if is_short(pattern) => search(
-                alloc,
-                &self.store,
-                &mut self.scratch,
-                pattern,
-                &mut self.out,
-            ),
-            _ => reply_text(Reply::Refused(Refusal::NotYet), &mut self.out),
+            Command::Search { pattern } => {
+                search(alloc, &self.store, &mut self.scratch, pattern, out)
+            }
+            Command::Revise { .. } => refuse(Refusal::NotYet, out),
+            Command::RegisterMol { .. } => refuse(Refusal::NotYet, out),
+            Command::ReviseMol { .. } => refuse(Refusal::NotYet, out),
+            Command::Withdraw { .. } => refuse(Refusal::NotYet, out),
+            Command::Show { .. } => refuse(Refusal::NotYet, out),
+            Command::Start { .. } => refuse(Refusal::NotYet, out),
+            Command::Next { .. } => refuse(Refusal::NotYet, out),
+            Command::Close { .. } => refuse(Refusal::NotYet, out),
+            Command::Prune => refuse(Refusal::NotYet, out),
+            Command::Stats => refuse(Refusal::NotYet, out),
         }
     }
 }
@@ -87,7 +105,10 @@ fn register(
     let mol = match structure(alloc, format, text) {
         Ok(mol) => mol,
         Err(TextFault::NoMemory) => return Err(AllocError),
-        Err(TextFault::Smiles(fault)) => return refuse(Refusal::Text(TextFault::Smiles(fault)), out),
+        Err(TextFault::Smiles(fault)) => return refuse(
+            Refusal::Text(TextFault::Smiles(fault)),
+            out,
+        ),
         Err(TextFault::Molfile(fault)) => {
             return refuse(Refusal::Text(TextFault::Molfile(fault)), out);
         }
@@ -123,9 +144,12 @@ fn search(
     text: &[u8],
     out: &mut Vec<u8>,
 ) -> Result<(), AllocError>
-    requires { IsShortText text.now }
-    ensures { OnOk result ((replies : List Reply) × SearchAnswer store.now text.now replies × (out.new.items ≡ out.old.items ++ text_of replies)) }
+    ensures { OnOk result ((replies : List Reply) × SearchLineAnswer store.now text.now replies
+        × (out.new.items ≡ out.old.items ++ text_of replies)) }
 {
+    if !is_short(text) {
+        return refuse(Refusal::NotYet, out);
+    }
     let pattern = match parse(alloc, text) {
         Ok(pattern) => pattern,
         Err(SmartsFault::Syntax) => return refuse(Refusal::Pattern(SmartsFault::Syntax), out),
