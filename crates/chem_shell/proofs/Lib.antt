@@ -3,3 +3,4 @@ pub mod SessionLemmas
 pub mod HitsLemmas
 pub mod EndsLemmas
 pub mod Texts
+pub mod OneTranscript

@@ -7,6 +7,8 @@ ghost use Rattle.io_edge.specs.Source.{Leaves};
 ghost use Rattle.chem_shell.specs.Served.{WritesPrefix, WritesAll, TakesExactly};
 ghost use Rattle.chem_shell.specs.Turn.{TurnPuts, TakesLine, TakesNone};
 ghost use Rattle.chem_shell.specs.Answered.{AnswersLine};
+ghost use Rattle.chem_shell.specs.History.{History};
+ghost use Rattle.chem_shell.specs.Transcript.{IsTranscript};
 
 use crate::answer::Responder;
 use io_edge::{Line, LineFault, Lines, PutFault, Sink, Source};
@@ -63,6 +65,15 @@ impl From<PutFault> for SessionFault {
             PutFault::NoMemory => SessionFault::NoMemory,
         }
     }
+}
+
+/// A law: from a history on, the lines of a script have one transcript.
+pub fn one_transcript()
+    ensures { (h : History) (lines : List TextLine) (s t : List ℕ) → IsTranscript h lines s → IsTranscript h lines t → s ≡ t }
+{
+    shell_lang::one_reading();
+    mol_finish::one_answer();
+    smarts_parse::one_tree();
 }
 
 /// Reads the next line and answers it into the responder's `out`; `false` where the input's end was met.
@@ -135,7 +146,7 @@ pub fn session<S: Source, K: Sink>(
     ensures all { OnOk result (WritesAll (S.left source.old) (K.written sink.old) (K.written sink.new)) }
     ensures source_fault { IsErrOf result SessionFault.Source → Rose (S.faults source.old) (S.faults source.new) }
     ensures sink_fault { IsErrOf result SessionFault.Sink → Rose (K.faults sink.old) (K.faults sink.new) }
-    ensures too_long { IsErrOf result SessionFault.InputTooLong → TakesExactly (S.left source.old) (S.left source.new) 4294967296 }
+    ensures too_long { IsErrOf result SessionFault.InputTooLong → TakesExactly (S.left source.old) (S.left source.new) INPUT_LIMIT }
 {
     let mut lines = Lines::new(alloc, INPUT_LIMIT)?;
     let mut responder = Responder::new(alloc)?;
