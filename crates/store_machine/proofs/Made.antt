@@ -8,6 +8,7 @@ use Rattle.store_machine.specs.History.{AreAllowed, IsHistory, IsId, IsValid, Sn
 use Rattle.store_machine.specs.declared.machine.Status.{Status}
 use Rattle.store_machine.specs.declared.machine.Status.TheVariants.{Live, Withdrawn}
 use Rattle.store_machine.specs.Made.{IsMade}
+use Rattle.store_machine.specs.Laws.{StatesStay}
 use Rattle.store_machine.specs.declared.machine.Change.{Change}
 use Rattle.store_machine.specs.declared.machine.Change.TheVariants.{Register, Revise, Withdraw}
 use Rattle.store_machine.proofs.Pushed.{changed}
@@ -129,3 +130,8 @@ made-valid after (c ∷ cs) states id version all (inr later) = made-valid (afte
 -- an identifier that has a state is in range
 pub state-valid : (h : List Change) (v id : ℕ) (status : Status) → IsHistory h → get (snapshot h v) id ≡ Some status → IsId id
 state-valid h v id status good e = made-valid 0 h empty id (made_at status) good (snapshot-made h v id status e).0
+
+pub states-stay : StatesStay
+states-stay h v id status good e =
+    let made = snapshot-made h v id status e in
+    (state-valid h v id status good e, let late = made-after 0 h id (made_at status) made.0 in omega (arith, late), made.1, state-then h v id status e)

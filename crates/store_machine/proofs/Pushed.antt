@@ -7,6 +7,7 @@ use Rattle.std.specs.Ordering.{eq_by_cmp}
 use Rattle.store_machine.specs.History.{AreAllowed, IsAllowed, IsHistory, IsValid, Snapshot, after_change, after_changes, head, id_of, made_at, snapshot}
 use Rattle.store_machine.specs.declared.machine.Status.{Status}
 use Rattle.store_machine.specs.declared.machine.Status.TheVariants.{Live, Withdrawn}
+use Rattle.store_machine.specs.Laws.{CommitsChange}
 use Rattle.store_machine.specs.declared.machine.Change.{Change}
 use Rattle.store_machine.specs.declared.machine.Change.TheVariants.{Register, Revise, Withdraw}
 
@@ -60,3 +61,6 @@ pub changed : (version : ℕ) (c : Change) (states : Snapshot) (id : ℕ) (statu
 changed version (Register key format text) states id status e = inserted states key (Live version format text) id status e
 changed version (Revise key format text) states id status e = inserted states key (Live version format text) id status e
 changed version (Withdraw key) states id status e = inserted states key (Withdrawn version) id status e
+
+pub commits-change : CommitsChange
+commits-change h c = snapshot-pushed h c (head h + 1) refl

@@ -1,9 +1,10 @@
 -- The laws, as statements.
 use Rattle.std.specs.List.{AllByRecursion}
-use Rattle.std.specs.Prelude.{Contains, ◌≡◌, ◌++◌, ◌≤◌, Bool, List, ◌∷◌, MatchOption, true, ℕ}
+use Rattle.std.specs.FinMap.{get}
+use Rattle.std.specs.Prelude.{Contains, ◌≡◌, ◌+◌, ◌++◌, ◌≤◌, Bool, List, [], ◌∷◌, MatchOption, Some, true, ℕ}
 use Rattle.smarts_parse.specs.Pattern.{PatternTerm}
 use Rattle.store_machine.specs.Answers.{AreFound, AreHits, AreMatched, AreTried, ids}
-use Rattle.store_machine.specs.History.{IsAllowed, IsHistory, IsValid, Snapshot, head, snapshot}
+use Rattle.store_machine.specs.History.{IsAllowed, IsHistory, IsId, IsValid, Snapshot, after_change, head, made_at, snapshot}
 use Rattle.store_machine.specs.Kept.{KeepsNeeded, PinsThePast, in_use}
 use Rattle.store_machine.specs.Made.{KeepsMade, ReadsKept}
 use Rattle.store_machine.specs.Machine.{Holds, SlotsApart, now}
@@ -15,11 +16,21 @@ use Rattle.store_machine.specs.declared.machine.Event.TheVariants.{Pin}
 use Rattle.store_machine.specs.declared.machine.Found.{Found}
 use Rattle.store_machine.specs.declared.machine.Reply.TheVariants.{Pinned}
 use Rattle.store_machine.specs.declared.machine.State.{State}
+use Rattle.store_machine.specs.declared.machine.Status.{Status}
 use Rattle.store_machine.specs.declared.machine.Step.{Step}
 
 -- later commits change no snapshot
 abbrev pub SnapshotsStay : Type 0
 SnapshotsStay = (h more : List Change) (v : ℕ) → v ≤ head h → snapshot (h ++ more) v ≡ snapshot h v
+
+-- a commit at the head makes its own change
+abbrev pub CommitsChange : Type 0
+CommitsChange = (h : List Change) (c : Change) → snapshot (h ++ c ∷ []) (head h + 1) ≡ after_change (head h + 1) c (snapshot h (head h))
+
+-- a state was the same at the version that made it, and is of an identifier in range
+abbrev pub StatesStay : Type 0
+StatesStay = (h : List Change) (v id : ℕ) (status : Status) → IsHistory h → get (snapshot h v) id ≡ Some status
+    → IsId id × (1 ≤ made_at status) × (made_at status ≤ v) × (get (snapshot h (made_at status)) id ≡ Some status)
 
 -- what is found is one list
 abbrev pub AnswersAreOne : Type 0

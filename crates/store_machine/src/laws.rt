@@ -1,10 +1,20 @@
 //! The laws of runs, each on a function that does nothing.
 ghost use Rattle.store_machine.specs.ByCalls.{CallsGivePages};
-ghost use Rattle.store_machine.specs.Laws.{AnswersAreOne, KeptIsRead, PagesAreAPrefix, PagesArePieces, PagesAreTheAnswer, PinsStay, RunsStaySound, SnapshotsStay};
+ghost use Rattle.store_machine.specs.Laws.{AnswersAreOne, CommitsChange, KeptIsRead, PagesAreAPrefix, PagesArePieces, PagesAreTheAnswer, PinsStay, RunsStaySound, SnapshotsStay, StatesStay};
 
 /// Later commits change no snapshot.
 pub fn snapshots_stay()
     ensures { SnapshotsStay }
+{}
+
+/// A commit at the head makes its own change, and no other.
+pub fn commits_change()
+    ensures { CommitsChange }
+{}
+
+/// A state was the same at the version that made it.
+pub fn states_stay()
+    ensures { StatesStay }
 {}
 
 /// Records that are found are one list, the ascending one of exactly those that are asked for.
