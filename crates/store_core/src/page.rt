@@ -52,11 +52,11 @@ impl Page {
     }
 
     // One record more.
-    pub(crate) fn push(&mut self, record: Arc<Record>)
+    pub(crate) fn push(&mut self, entry: Arc<Record>)
         requires { length self.old.records < self.old.room }
-        ensures records { self.new.records ≡ self.old.records ++ record ∷ [] }
+        ensures records { self.new.records ≡ self.old.records ++ entry ∷ [] }
         ensures room { self.new.room ≡ self.old.room }
     {
-        self.records.push_reserved(record);
+        self.records.push_reserved(entry);
     }
 }
