@@ -1,1 +1,2 @@
+mod Latest
 mod Screened

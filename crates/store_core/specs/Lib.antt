@@ -1,3 +1,4 @@
 pub mod Calls
+pub mod Chains
 pub mod Records
 pub mod Replies

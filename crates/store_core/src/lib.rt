@@ -4,6 +4,7 @@
 //! may have steps too. A session over any service is then proved once.
 #![tactic(auto)]
 
+mod chain;
 mod page;
 mod record;
 mod service;
