@@ -1,5 +1,5 @@
 -- What one call tells its caller.
-use Rattle.std.specs.Prelude.{◌≡◌, ◌↔◌, ◌≤◌, Bool, Err, false, IfSome, IsSomeAnd, List, MatchOption, None, Ok, Option, Result, Some, true, ℕ}
+use Rattle.std.specs.Prelude.{◌≡◌, ◌↔◌, ◌≤◌, Bool, Err, false, IfSome, IsSomeAnd, List, None, Ok, Option, Result, Some, true, ℕ}
 use Rattle.snap_registry.specs.declared.Pin.{Pin}
 use Rattle.store_machine.specs.Runs.{calls_of}
 use Rattle.store_machine.specs.declared.machine.Event.{Event}

@@ -1,8 +1,9 @@
 -- The kept states of an identifier: which of them a reader at a version sees, and which are needed.
-use Rattle.std.specs.Prelude.{◌≡◌, ◌&&◌, ◌<◌, ◌≤◌, All, Bool, IfSome, if◌then◌else◌, List, [], ◌∷◌, nat_le, nat_lt, None, Option, option_map, Some, ℕ}
+use Rattle.std.specs.Prelude.{◌≡◌, ◌&&◌, Bool, if◌then◌else◌, List, [], ◌∷◌, nat_le, nat_lt, None, Option, option_map, Some, ℕ}
 use Rattle.std.specs.Arc.{arc_value}
-use Rattle.std.specs.BTreeMap.{BTreeMap, get}
+use Rattle.std.specs.BTreeMap.{is_at}
 use Rattle.std.specs.List.{list_any}
+use Rattle.std.specs.Map.{lookup}
 use Rattle.std.specs.Ordering.{nat_cmp}
 use Rattle.store_machine.specs.declared.machine.Status.{Status}
 use Rattle.store_machine.specs.declared.machine.Status.TheVariants.{Live, Withdrawn}
@@ -16,6 +17,11 @@ status_in version (Some r) = Live version (arc_value r).format (arc_value r).tex
 
 abbrev pub status_of : Kept → Status
 status_of k = status_in k.version k.entry
+
+-- its record is one of this identifier
+abbrev pub IsEntryOf : ℕ → Option Shared → Type 0
+IsEntryOf id None = Unit {0}
+IsEntryOf id (Some r) = IsRecord (arc_value r) × ((arc_value r).id ≡ id)
 
 -- the latest that is not after a version
 abbrev pub or_else : Option Kept → Option Kept → Option Kept
@@ -43,5 +49,5 @@ abbrev pub states_in : Option (List Kept) → List Kept
 states_in None = []
 states_in (Some ks) = ks
 
-abbrev pub chain_of : BTreeMap ℕ (List Kept) → ℕ → List Kept
-chain_of chains id = states_in (get nat_cmp chains id)
+abbrev pub chain_of : List (ℕ × List Kept) → ℕ → List Kept
+chain_of chains id = states_in (lookup (is_at (nat_cmp id)) chains)

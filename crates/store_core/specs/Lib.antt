@@ -2,3 +2,4 @@ pub mod Calls
 pub mod Chains
 pub mod Records
 pub mod Replies
+pub mod Stored

@@ -1,7 +1,8 @@
 -- Answers of calls as events and replies of the machine: none at Worn.
-use Rattle.std.specs.Prelude.{◌≡◌, Bool, Err, List, [], ◌∷◌, None, Ok, Option, Result, Some, ℕ}
+use Rattle.std.specs.Prelude.{◌≡◌, ◌+◌, ◌≤◌, Bool, Err, List, [], ◌∷◌, None, Ok, Option, Result, Some, ℕ}
 use Rattle.std.specs.Arc.{arc_value}
 use Rattle.snap_registry.specs.declared.Pin.{Pin}
+use Rattle.store_machine.specs.History.{unless_live, unless_none}
 use Rattle.store_machine.specs.declared.machine.Change.{Change}
 use Rattle.store_machine.specs.declared.machine.Change.TheVariants as change
 use Rattle.store_machine.specs.declared.machine.Event.{Event}
@@ -10,7 +11,7 @@ use Rattle.store_machine.specs.declared.machine.Reply.{Reply}
 use Rattle.store_machine.specs.declared.machine.Reply.TheVariants as reply
 use Rattle.store_machine.specs.declared.machine.Status.{Status}
 use Rattle.store_machine.specs.declared.machine.Status.TheVariants as status
-use Rattle.store_core.specs.Records.{RecordTerm, Shared, founds}
+use Rattle.store_core.specs.Records.{IsRecord, Shared, founds}
 use Rattle.store_core.specs.declared.words.CallFault.{CallFault}
 use Rattle.store_core.specs.declared.words.CallFault.TheVariants as call
 use Rattle.store_core.specs.declared.words.Change.{Change as Asked}
@@ -36,6 +37,45 @@ commit_calls c (Err commit.Full) = (event.Commit (change_of c), reply.Full) ∷ 
 commit_calls c (Err (commit.DiskFault doubt)) = (event.Commit (change_of c), reply.DiskFault doubt) ∷ []
 commit_calls c (Err commit.Worn) = []
 commit_calls c (Err commit.NoMemory) = (event.Commit (change_of c), reply.NoMemory) ∷ []
+
+-- its record is one
+abbrev pub IsSoundChange : Asked → Type 0
+IsSoundChange (asked.Register r) = IsRecord (arc_value r)
+IsSoundChange (asked.Revise r) = IsRecord (arc_value r)
+IsSoundChange (asked.Withdraw id) = Unit {0}
+
+-- the record that it leaves
+abbrev pub IsShared : Shared → Option Shared → Type 0
+IsShared r None = ⊥
+IsShared r (Some q) = arc_value q ≡ arc_value r
+
+abbrev pub IsLeft : Asked → Option Shared → Type 0
+IsLeft (asked.Register r) left = IsShared r left
+IsLeft (asked.Revise r) left = IsShared r left
+IsLeft (asked.Withdraw id) left = left ≡ None
+
+-- why it is refused, by what its identifier is
+abbrev pub refusal_by : Option Status → Asked → Option Reply
+refusal_by now (asked.Register r) = unless_none now
+refusal_by now (asked.Revise r) = unless_live now
+refusal_by now (asked.Withdraw id) = unless_live now
+
+abbrev pub IsRefusal : CommitFault → Option Reply → Type 0
+IsRefusal commit.Known refusal = refusal ≡ Some reply.Known
+IsRefusal commit.Absent refusal = refusal ≡ Some reply.Absent
+IsRefusal commit.Withdrawn refusal = refusal ≡ Some reply.Withdrawn
+IsRefusal _ refusal = ⊥
+
+-- live and withdrawn identifiers before it and after it
+abbrev pub Counts : Asked → ℕ → ℕ → ℕ → ℕ → Type 0
+Counts (asked.Register r) live withdrawn live' withdrawn' = (live' ≡ live + 1) × (withdrawn' ≡ withdrawn)
+Counts (asked.Revise r) live withdrawn live' withdrawn' = (live' ≡ live) × (withdrawn' ≡ withdrawn)
+Counts (asked.Withdraw id) live withdrawn live' withdrawn' = (live' + 1 ≡ live) × (withdrawn' ≡ withdrawn + 1)
+
+abbrev pub MayCount : Asked → ℕ → Type 0
+MayCount (asked.Register r) live = Unit {0}
+MayCount (asked.Revise r) live = Unit {0}
+MayCount (asked.Withdraw id) live = 1 ≤ live
 
 -- of every other call, by its reply where it has an answer
 abbrev pub calls : {X : Type 0} → Event → (X → Reply) → Result X CallFault → List (Event × Reply)

@@ -1,9 +1,11 @@
 //! The kept states of one identifier, oldest first.
-ghost use Rattle.std.specs.Prelude.{◌≡◌, ◌++◌, [], ◌∷◌, IfOk, OnErr, OnOk, length, option_copied};
-ghost use Rattle.store_core.specs.Chains.{is_between, latest, needed};
+ghost use Rattle.std.specs.Prelude.{◌≡◌, ◌++◌, [], ◌∷◌, IfErr, IfOk, OnErr, OnOk, Some, length, option_copied, ℕ};
+ghost use Rattle.store_core.specs.Chains.{IsEntryOf, is_between, latest, needed, status_of};
+ghost use Rattle.store_core.specs.Replies.{IsLookOf, looked};
 ghost use Rattle.std.specs.List.{list_any};
 
 use crate::record::Record;
+use crate::words::{CallFault, Look};
 use std::alloc::{AllocError, Global};
 use std::marker::Model;
 use std::sync::Arc;
@@ -13,6 +15,25 @@ use std::sync::Arc;
 pub struct Kept {
     pub version: u32,
     pub entry: Option<Arc<Record>>,
+}
+
+impl Kept {
+    /// The state as it is looked at. The record is shared once more.
+    pub fn look(&self) -> Result<Look, CallFault>
+        ensures look { IfOk result (λ l. looked l ≡ Some (status_of self.now)) }
+        ensures entry { (id : ℕ) → IsEntryOf id self.now.entry → IfOk result (λ l. IsLookOf id l) }
+        ensures err { IfErr result (λ e. e ≡ CallFault.NoMemory) }
+    {
+        match &self.entry {
+            None => Ok(Look::Withdrawn {
+                version: self.version,
+            }),
+            Some(entry) => Ok(Look::Live {
+                version: self.version,
+                entry: Arc::try_clone(entry)?,
+            }),
+        }
+    }
 }
 
 /// Contracts see a chain as the list of its states.

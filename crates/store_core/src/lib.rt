@@ -1,4 +1,4 @@
-//! A store of structures: what a caller may ask of a service, and the store in memory that answers.
+//! What a caller may ask of a store of structures, and what it is told: records, changes, pages, and the trait of a service.
 //!
 //! A service is the machine of `store_machine` as one caller sees it: each call is a step of one run, in which others
 //! may have steps too. A session over any service is then proved once.

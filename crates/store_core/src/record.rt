@@ -4,6 +4,7 @@ ghost use Rattle.std.specs.Arc.{arc_value};
 ghost use Rattle.mol_finish.specs.Structure.{IsStructure};
 ghost use Rattle.store_machine.specs.History.{IsId};
 ghost use Rattle.store_machine.specs.Structures.{HasStructure, IsPrintOf, IsScreened};
+ghost use Rattle.store_core.specs.Records.{IsRecord};
 
 use chem_core::{Mol, Print};
 use mol_finish::{Format, TextFault, one_structure, structure};
@@ -64,6 +65,7 @@ impl Record {
     pub fn id(&self) -> u32
         ensures id { result ≡ self.now.id }
         ensures in_range { IsId result }
+        ensures sound { IsRecord self.now }
     {
         self.id
     }
