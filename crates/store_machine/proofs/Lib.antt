@@ -1,0 +1,13 @@
+mod Ascending
+mod ByCalls
+mod Finds
+mod Kept
+mod KeptRead
+mod Made
+mod Members
+mod PagesRead
+mod Paging
+mod Pins
+mod Pushed
+mod Slots
+mod Sound

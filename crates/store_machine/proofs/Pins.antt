@@ -1,0 +1,180 @@
+-- What each step keeps: the history grows, and a pin that its owner does not give back is held.
+use Rattle.std.proofs.Common.{◌≡◌, ◌++◌, ◌==◌, ◌∙◌, ap, append-nil, Bool, cond, eqb-true, false, filter, inl, inr, List, [], ◌∷◌, None, not, Option, refl, Some, sym, true, ℕ, subst}
+use Rattle.std.proofs.lemmas.Bool.{cond-false, true≢false}
+use Rattle.store_machine.specs.Machine.{Becomes, CommitGives, CrashGives, DoubtAfter, EndsDoubt, FetchGives, Gives, Holds, LookGives, OpenGives, PinGives, PruneGives, Recovers, StatsGives, UnpinGives, pin_in, pinned, unpinned}
+use Rattle.store_machine.specs.Runs.{is_call}
+use Rattle.store_machine.specs.Searches.{unpins}
+use Rattle.store_machine.specs.declared.machine.Change.{Change}
+use Rattle.store_machine.specs.declared.machine.Event.{Event}
+use Rattle.store_machine.specs.declared.machine.Event.TheVariants.{Commit, Crash, Fetch, Look, Open, Pin, Prune, Stats, Unpin}
+use Rattle.store_machine.specs.declared.machine.Held.{Held}
+use Rattle.store_machine.specs.declared.machine.Reply.{Reply}
+use Rattle.store_machine.specs.declared.machine.Reply.TheVariants.{Absent, Committed, Counted, Crashed, DiskFault, Full, Known, Looked, NoMemory, NoPin, Opened, Page, Pinned, Pruned, Unpinned, Withdrawn}
+use Rattle.store_machine.specs.declared.machine.State.{State}
+
+-- a state's history is that of another with more behind it
+abbrev pub Grows : State → State → Type 0
+Grows s s' = (more : List Change) × (s'.history ≡ s.history ++ more)
+
+same_grows : (s s' : State) → s'.history ≡ s.history → Grows s s'
+same_grows s s' e = ([], e ∙ sym (append-nil s.history))
+
+becomes-grows : (s t s' : State) → t.history ≡ s.history → Becomes t s' → Grows s s'
+becomes-grows s t s' e b = same_grows s s' (ap (λ x. x.history) b ∙ e)
+
+doubt-grows : (s s' : State) → EndsDoubt s s' → Grows s s'
+doubt-grows s s' (inl b) = becomes-grows s s s' refl b
+doubt-grows s s' (inr b) = becomes-grows s (record s { doubt = None }) s' refl b
+
+after-grows : (s : State) (c : Change) (doubt : Bool) (s' : State) → DoubtAfter s c doubt s' → Grows s s'
+after-grows s c true s' b = becomes-grows s (record s { doubt = Some c }) s' refl b
+after-grows s c false s' b = doubt-grows s s' b
+
+commit-grows : (s : State) (c : Change) (r : Reply) (s' : State) → CommitGives s c r s' → Grows s s'
+commit-grows s c Known s' g = becomes-grows s s s' refl g.1
+commit-grows s c Absent s' g = becomes-grows s s s' refl g.1
+commit-grows s c Withdrawn s' g = becomes-grows s s s' refl g.1
+commit-grows s c Full s' g = becomes-grows s s s' refl g.2
+commit-grows s c (DiskFault doubt) s' g = after-grows s c doubt s' g.2
+commit-grows s c NoMemory s' g = doubt-grows s s' g
+commit-grows s c (Committed version) s' g = (c ∷ [], ap (λ x. x.history) g.2)
+commit-grows s c _ s' g = absurd g
+
+pin-grows : (s : State) (owner : ℕ) (r : Reply) (s' : State) → PinGives s owner r s' → Grows s s'
+pin-grows s owner NoPin s' g = becomes-grows s s s' refl g.1
+pin-grows s owner (Pinned slot version) s' g = becomes-grows s (pinned s slot owner) s' refl g.4
+pin-grows s owner _ s' g = absurd g
+
+pub fetch-same : (s : State) (owner slot : ℕ) (want : List Bool) (from limit : ℕ) (r : Reply) (s' : State) → FetchGives s owner slot want from limit r s' → Becomes s s'
+fetch-same s owner slot want from limit (Page records last) s' g = g.3
+fetch-same s owner slot want from limit NoMemory s' g = g.2
+fetch-same s owner slot want from limit _ s' g = absurd g
+
+pub look-same : (s : State) (id : ℕ) (r : Reply) (s' : State) → LookGives s id r s' → Becomes s s'
+look-same s id (Looked status) s' g = g.1
+look-same s id NoMemory s' g = g
+look-same s id _ s' g = absurd g
+
+pub stats-same : (s : State) (r : Reply) (s' : State) → StatsGives s r s' → Becomes s s'
+stats-same s (Counted version live withdrawn kept pins) s' g = g.5
+stats-same s _ s' g = absurd g
+
+unpin-grows : (s : State) (owner slot : ℕ) (r : Reply) (s' : State) → UnpinGives s owner slot r s' → Grows s s'
+unpin-grows s owner slot Unpinned s' g = becomes-grows s (unpinned s slot) s' refl g.2
+unpin-grows s owner slot _ s' g = absurd g
+
+prune-grows : (s : State) (r : Reply) (s' : State) → PruneGives s r s' → Grows s s'
+prune-grows s (Pruned dropped) s' g = same_grows s s' (ap (λ x. x.history) g.2)
+prune-grows s _ s' g = absurd g
+
+recovers-grows : (s s' : State) → Recovers s s'.history → Grows s s'
+recovers-grows s s' (inl e) = same_grows s s' e
+recovers-grows s s' (inr d) = (d.0 ∷ [], d.2)
+
+crash-grows : (s : State) (r : Reply) (s' : State) → CrashGives s r s' → Grows s s'
+crash-grows s Crashed s' g = recovers-grows s s' g.0
+crash-grows s _ s' g = absurd g
+
+open-grows : (s : State) (r : Reply) (s' : State) → OpenGives s r s' → Grows s s'
+open-grows s (Opened commits) s' g = same_grows s s' (ap (λ x. x.history) g.5)
+open-grows s _ s' g = absurd g
+
+pub grows : (s : State) (owner : ℕ) (e : Event) (r : Reply) (s' : State) → Gives s owner e r s' → Grows s s'
+grows s owner (Commit c) r s' g = commit-grows s c r s' g.1
+grows s owner Pin r s' g = pin-grows s owner r s' g.1
+grows s owner (Fetch slot want from limit) r s' g = becomes-grows s s s' refl (fetch-same s owner slot want from limit r s' g.1)
+grows s owner (Unpin slot) r s' g = unpin-grows s owner slot r s' g.1
+grows s owner Prune r s' g = prune-grows s r s' g.1
+grows s owner (Look id) r s' g = becomes-grows s s s' refl (look-same s id r s' g.1)
+grows s owner Stats r s' g = becomes-grows s s s' refl (stats-same s r s' g.1)
+grows s owner Crash r s' g = crash-grows s r s' g
+grows s owner Open r s' g = open-grows s r s' g
+
+-- one slot has one owner and one version
+owner_in : Option Held → ℕ
+owner_in None = 0
+owner_in (Some p) = p.owner
+
+version_in : Option Held → ℕ
+version_in None = 0
+version_in (Some p) = p.version
+
+pub one-owner : (s : State) (slot owner version owner' version' : ℕ) → Holds s slot owner version → Holds s slot owner' version' → owner' ≡ owner
+unfolding owner_in
+one-owner s slot owner version owner' version' h g = ap owner_in (sym g ∙ h)
+
+pub one-version : (s : State) (slot owner version owner' version' : ℕ) → Holds s slot owner version → Holds s slot owner' version' → version' ≡ version
+unfolding version_in
+one-version s slot owner version owner' version' h g = ap version_in (sym g ∙ h)
+
+pin_in-pushed : (slot : ℕ) (p q : Held) (ps : List Held) → pin_in slot ps ≡ Some p → pin_in slot (ps ++ q ∷ []) ≡ Some p
+pin_in-pushed slot p q [] h = cc
+pin_in-pushed slot p q (x ∷ xs) h =
+    elim (x.slot == slot) as (λ b. cond b (Some x) (pin_in slot xs) ≡ Some p → cond b (Some x) (pin_in slot (xs ++ q ∷ [])) ≡ Some p) [
+      | true ↦ λ e. e
+      | false ↦ λ e. pin_in-pushed slot p q xs e
+    ] h
+
+apart-from : (a b c : ℕ) → (a == b) ≡ true → (b == c) ≡ false → (a == c) ≡ false
+apart-from a b c e f = ap (λ x. x == c) (eqb-true a b e) ∙ f
+
+pin_in-others : (slot other : ℕ) (ps : List Held) → (other == slot) ≡ false → pin_in slot (filter (λ p. not (p.slot == other)) ps) ≡ pin_in slot ps
+pin_in-others slot other [] apart = refl
+pin_in-others slot other (x ∷ xs) apart =
+    let rest = filter (λ p. not (p.slot == other)) xs in
+    let same : pin_in slot rest ≡ pin_in slot xs = pin_in-others slot other xs apart in
+    elim (x.slot == other) as (λ b. (x.slot == other) ≡ b → pin_in slot (cond (not b) (x ∷ rest) rest) ≡ pin_in slot (x ∷ xs)) [
+      | true ↦ λ e. same ∙ sym (cond-false (x.slot == slot) (Some x) (pin_in slot xs) (apart-from x.slot other slot e apart))
+      | false ↦ λ e. ap (λ l. cond (x.slot == slot) (Some x) l) same
+    ] refl
+
+doubt-pins : (s s' : State) → EndsDoubt s s' → s'.pins ≡ s.pins
+doubt-pins s s' (inl b) = ap (λ x. x.pins) b
+doubt-pins s s' (inr b) = ap (λ x. x.pins) b
+
+after-pins : (s : State) (c : Change) (doubt : Bool) (s' : State) → DoubtAfter s c doubt s' → s'.pins ≡ s.pins
+after-pins s c true s' b = ap (λ x. x.pins) b
+after-pins s c false s' b = doubt-pins s s' b
+
+commit-pins : (s : State) (c : Change) (r : Reply) (s' : State) → CommitGives s c r s' → s'.pins ≡ s.pins
+commit-pins s c Known s' g = ap (λ x. x.pins) g.1
+commit-pins s c Absent s' g = ap (λ x. x.pins) g.1
+commit-pins s c Withdrawn s' g = ap (λ x. x.pins) g.1
+commit-pins s c Full s' g = ap (λ x. x.pins) g.2
+commit-pins s c (DiskFault doubt) s' g = after-pins s c doubt s' g.2
+commit-pins s c NoMemory s' g = doubt-pins s s' g
+commit-pins s c (Committed version) s' g = ap (λ x. x.pins) g.2
+commit-pins s c _ s' g = absurd g
+
+pin-holds : (s : State) (owner : ℕ) (r : Reply) (s' : State) (slot : ℕ) (p : Held) → PinGives s owner r s' → pin_in slot s.pins ≡ Some p → pin_in slot s'.pins ≡ Some p
+pin-holds s owner NoPin s' slot p g h = ap (λ x. pin_in slot x.pins) g.1 ∙ h
+pin-holds s owner (Pinned other version) s' slot p g h = ap (λ x. pin_in slot x.pins) g.4 ∙ pin_in-pushed slot p _ s.pins h
+pin-holds s owner _ s' slot p g h = absurd g
+
+-- the slot of another pin, or an Unpin of the owner's own
+unpin-holds : (s : State) (by other : ℕ) (r : Reply) (s' : State) (slot owner version : ℕ) → UnpinGives s by other r s' → (by ≡ owner → (other == slot) ≡ false) → Holds s slot owner version → Holds s' slot owner version
+unpin-holds s by other Unpinned s' slot owner version g keeps h =
+    elim (other == slot) as (λ b. (other == slot) ≡ b → Holds s' slot owner version) [
+      | true ↦ λ e. absurd (true≢false (sym e ∙ keeps (one-owner s slot owner version by g.0 h (subst (λ k. Holds s k by g.0) (eqb-true other slot e) g.1))))
+      | false ↦ λ e. ap (λ x. pin_in slot x.pins) g.2 ∙ (pin_in-others slot other s.pins e ∙ h)
+    ] refl
+unpin-holds s by other _ s' slot owner version g keeps h = absurd g
+
+prune-pins : (s : State) (r : Reply) (s' : State) → PruneGives s r s' → s'.pins ≡ s.pins
+prune-pins s (Pruned dropped) s' g = ap (λ x. x.pins) g.2
+prune-pins s _ s' g = absurd g
+
+same-pins : (slot : ℕ) (s s' : State) → Becomes s s' → pin_in slot s'.pins ≡ pin_in slot s.pins
+same-pins slot s s' b = ap (λ x. pin_in slot x.pins) b
+
+pub holds-step : (s : State) (by : ℕ) (e : Event) (r : Reply) (s' : State) (slot owner version : ℕ)
+    → Gives s by e r s' → is_call e ≡ true → (by ≡ owner → unpins slot e ≡ false) → Holds s slot owner version → Holds s' slot owner version
+holds-step s by (Commit c) r s' slot owner version g calm keeps h = ap (pin_in slot) (commit-pins s c r s' g.1) ∙ h
+holds-step s by Pin r s' slot owner version g calm keeps h = pin-holds s by r s' slot _ g.1 h
+holds-step s by (Fetch other want from limit) r s' slot owner version g calm keeps h = same-pins slot s s' (fetch-same s by other want from limit r s' g.1) ∙ h
+holds-step s by (Unpin other) r s' slot owner version g calm keeps h = unpin-holds s by other r s' slot owner version g.1 keeps h
+holds-step s by Prune r s' slot owner version g calm keeps h = ap (pin_in slot) (prune-pins s r s' g.1) ∙ h
+holds-step s by (Look id) r s' slot owner version g calm keeps h = same-pins slot s s' (look-same s id r s' g.1) ∙ h
+holds-step s by Stats r s' slot owner version g calm keeps h = same-pins slot s s' (stats-same s r s' g.1) ∙ h
+holds-step s by Crash r s' slot owner version g calm keeps h = absurd (true≢false (sym calm))
+holds-step s by Open r s' slot owner version g calm keeps h = absurd (true≢false (sym calm))

@@ -1,0 +1,56 @@
+-- What a search asks of a snapshot: the live records of whose texts something holds, ascending, and those from an identifier on.
+use Rattle.std.specs.Prelude.{◌≡◌, ◌⊎◌, Bool, Contains, List, [], ◌∷◌, filter, map, nat_le, Some, ℕ}
+use Rattle.std.specs.FinMap.{get}
+use Rattle.std.specs.List.Sorted.{IsStrictlyIncreasing}
+use Rattle.mol_finish.specs.declared.fault.Format.{Format}
+use Rattle.smarts_parse.specs.Pattern.{PatternTerm}
+use Rattle.store_machine.specs.History.{Snapshot, snapshot}
+use Rattle.store_machine.specs.Structures.{IsMatched, IsScreened}
+use Rattle.store_machine.specs.declared.machine.Change.{Change}
+use Rattle.store_machine.specs.declared.machine.Found.{Found}
+use Rattle.store_machine.specs.declared.machine.Status.TheVariants.{Live}
+
+abbrev pub ids : List Found → List ℕ
+ids records = map (λ r. r.id) records
+
+abbrev pub from_on : ℕ → List Found → List Found
+from_on from records = filter (λ r. nat_le from r.id) records
+
+-- the record is live in the snapshot
+abbrev pub IsLive : Snapshot → Found → Type 0
+IsLive states r = (version : ℕ) × (get states r.id ≡ Some (Live version r.format r.text))
+
+-- the live records of whose texts this holds, each once, ascending
+pub record AreFound (Asked : Format → List ℕ → Type 0) (states : Snapshot) (records : List Found) : Type 0 where
+  pub ascending : IsStrictlyIncreasing (ids records)
+  pub only : (r : Found) → Contains records r → IsLive states r × Asked r.format r.text
+  pub all : (r : Found) → IsLive states r → Asked r.format r.text → Contains records r
+
+-- the identifier is live at the version, with a text of which this holds
+pub record IsAnswer (Asked : Format → List ℕ → Type 0) (h : List Change) (v id : ℕ) : Type 0 where
+  pub version : ℕ
+  pub format : Format
+  pub text : List ℕ
+  pub state : get (snapshot h v) id ≡ Some (Live version format text)
+  pub asked : Asked format text
+
+-- the identifiers that are answers at the version, each once, ascending
+pub record AreAnswers (Asked : Format → List ℕ → Type 0) (h : List Change) (v : ℕ) (ids : List ℕ) : Type 0 where
+  pub ascending : IsStrictlyIncreasing ids
+  pub only : (id : ℕ) → Contains ids id → IsAnswer Asked h v id
+  pub all : (id : ℕ) → IsAnswer Asked h v id → Contains ids id
+
+-- the hits of a pattern at a version. They know no print
+abbrev pub AreHits : List Change → ℕ → PatternTerm → List ℕ → Type 0
+AreHits h v pattern ids = AreAnswers (IsMatched pattern) h v ids
+
+-- those whose print contains what is wanted
+abbrev pub AreTried : List Change → ℕ → List Bool → List ℕ → Type 0
+AreTried h v want ids = AreAnswers (IsScreened want) h v ids
+
+-- of these records the identifiers of those that the pattern matches, in order
+abbrev pub AreMatched : PatternTerm → List Found → List ℕ → Type 0
+AreMatched pattern [] hits = hits ≡ []
+AreMatched pattern (r ∷ rs) hits =
+    (IsMatched pattern r.format r.text × (rest : List ℕ) × (hits ≡ r.id ∷ rest) × AreMatched pattern rs rest)
+    ⊎ (¬ IsMatched pattern r.format r.text × AreMatched pattern rs hits)

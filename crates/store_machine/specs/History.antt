@@ -1,0 +1,78 @@
+-- What was committed, what each identifier is at each version, and which change is allowed. Version k is the state after the k-th commit.
+use Rattle.std.specs.Prelude.{◌≡◌, ◌+◌, ◌≤◌, List, [], ◌∷◌, None, Option, Some, length, take, ℕ}
+use Rattle.std.specs.FinMap.{FinMap, empty, get, insert}
+use Rattle.std.specs.Ordering.{nat_cmp}
+use Rattle.store_machine.specs.Structures.{IsText}
+use Rattle.store_machine.specs.declared.machine.Change.{Change}
+use Rattle.store_machine.specs.declared.machine.Change.TheVariants.{Register, Revise, Withdraw}
+use Rattle.store_machine.specs.declared.machine.Reply.{Reply}
+use Rattle.store_machine.specs.declared.machine.Reply.TheVariants as reply
+use Rattle.store_machine.specs.declared.machine.Status.{Status}
+use Rattle.store_machine.specs.declared.machine.Status.TheVariants.{Live, Withdrawn}
+
+-- the version of the commit that made a state
+abbrev pub made_at : Status → ℕ
+made_at (Live version format text) = version
+made_at (Withdrawn version) = version
+
+-- the states of all identifiers that have one
+abbrev pub Snapshot : Type 0
+Snapshot = FinMap nat_cmp Status
+
+-- after the change whose commit is this version
+abbrev pub after_change : ℕ → Change → Snapshot → Snapshot
+after_change version (Register id format text) states = insert states id (Live version format text)
+after_change version (Revise id format text) states = insert states id (Live version format text)
+after_change version (Withdraw id) states = insert states id (Withdrawn version)
+
+-- after these changes, the first of which makes the version after this one
+abbrev pub after_changes : ℕ → List Change → Snapshot → Snapshot
+after_changes version [] states = states
+after_changes version (c ∷ cs) states = after_changes (version + 1) cs (after_change (version + 1) c states)
+
+abbrev pub snapshot : List Change → ℕ → Snapshot
+snapshot h v = after_changes 0 (take v h) empty
+
+abbrev pub head : List Change → ℕ
+head h = length h
+
+-- why a change is refused, if it is: a register needs an identifier without a state, every other change a live one
+abbrev pub unless_none : Option Status → Option Reply
+unless_none None = None
+unless_none (Some status) = Some reply.Known
+
+abbrev pub unless_live : Option Status → Option Reply
+unless_live None = Some reply.Absent
+unless_live (Some (Live version format text)) = None
+unless_live (Some (Withdrawn version)) = Some reply.Withdrawn
+
+abbrev pub refusal : Snapshot → Change → Option Reply
+refusal states (Register id format text) = unless_none (get states id)
+refusal states (Revise id format text) = unless_live (get states id)
+refusal states (Withdraw id) = unless_live (get states id)
+
+abbrev pub IsAllowed : Snapshot → Change → Type 0
+IsAllowed states c = refusal states c ≡ None
+
+abbrev pub id_of : Change → ℕ
+id_of (Register id format text) = id
+id_of (Revise id format text) = id
+id_of (Withdraw id) = id
+
+-- an identifier in range
+abbrev pub IsId : ℕ → Type 0
+IsId id = (1 ≤ id) × (id ≤ 999999999)
+
+-- the identifier is in range, and the text has a structure
+abbrev pub IsValid : Change → Type 0
+IsValid (Register id format text) = IsId id × IsText format text
+IsValid (Revise id format text) = IsId id × IsText format text
+IsValid (Withdraw id) = IsId id
+
+-- each commit is valid, and allowed after those before it
+abbrev pub AreAllowed : ℕ → List Change → Snapshot → Type 0
+AreAllowed version [] states = Unit {0}
+AreAllowed version (c ∷ cs) states = IsValid c × IsAllowed states c × AreAllowed (version + 1) cs (after_change (version + 1) c states)
+
+abbrev pub IsHistory : List Change → Type 0
+IsHistory h = AreAllowed 0 h empty

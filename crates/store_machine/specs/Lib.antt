@@ -1,0 +1,10 @@
+pub mod Answers
+pub mod ByCalls
+pub mod History
+pub mod Kept
+pub mod Laws
+pub mod Machine
+pub mod Made
+pub mod Runs
+pub mod Searches
+pub mod Structures

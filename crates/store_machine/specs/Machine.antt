@@ -1,0 +1,164 @@
+-- The machine: from a state, an owner's call may be answered so, and leave this state. One definition for each row of the table;
+-- what a row does not name is never answered.
+use Rattle.std.specs.Prelude.{◌≡◌, ◌+◌, ◌++◌, ◌<◌, ◌≤◌, ◌==◌, ◌^◌, ◌⊎◌, ◌↔◌, AllPairs, Bool, Contains, List, [], ◌∷◌, count_by, false, filter, if◌then◌else◌, length, nat_le, None, not, Option, Some, take, true, ℕ, ◌≢◌}
+use Rattle.std.specs.FinMap.{entries, get}
+use Rattle.store_machine.specs.Answers.{AreFound, from_on}
+use Rattle.store_machine.specs.History.{IsAllowed, IsValid, Snapshot, head, id_of, refusal, snapshot}
+use Rattle.store_machine.specs.Kept.{IsNeeded, in_use}
+use Rattle.store_machine.specs.Structures.{IsScreened}
+use Rattle.store_machine.specs.declared.machine.Change.{Change}
+use Rattle.store_machine.specs.declared.machine.Entry.{Entry}
+use Rattle.store_machine.specs.declared.machine.Event.{Event}
+use Rattle.store_machine.specs.declared.machine.Event.TheVariants.{Commit, Crash, Fetch, Look, Open, Pin, Prune, Stats, Unpin}
+use Rattle.store_machine.specs.declared.machine.Faults.{Faults}
+use Rattle.store_machine.specs.declared.machine.Found.{Found}
+use Rattle.store_machine.specs.declared.machine.Held.{Held}
+use Rattle.store_machine.specs.declared.machine.Reply.{Reply}
+use Rattle.store_machine.specs.declared.machine.Reply.TheVariants.{Absent, Committed, Counted, Crashed, DiskFault, Full, Known, Looked, NoMemory, NoPin, Opened, Page, Pinned, Pruned, Unpinned, Withdrawn}
+use Rattle.store_machine.specs.declared.machine.State.{State}
+use Rattle.store_machine.specs.declared.machine.Status.{Status}
+use Rattle.store_machine.specs.declared.machine.Status.TheVariants as status
+
+abbrev pub now : State → Snapshot
+now s = snapshot s.history (head s.history)
+
+-- Counts of faults. One rose where it is greater afterwards, or as great as it can be
+abbrev pub Rose : ℕ → ℕ → Type 0
+Rose old new = (old < new) ⊎ (new + 1 ≡ 2 ^ 64)
+
+abbrev pub SomeRose : Faults → Faults → Type 0
+SomeRose old new = Rose old.a new.a ⊎ Rose old.b new.b
+
+abbrev pub NoneFell : Faults → Faults → Type 0
+NoneFell old new = (old.a ≤ new.a) × (old.b ≤ new.b)
+
+-- the state is this one, but for the counts of faults, of which no row speaks
+abbrev pub Becomes : State → State → Type 0
+Becomes s s' = s' ≡ record s { faults = s'.faults }
+
+-- an older doubt stays or is ended, and the rest stays
+abbrev pub EndsDoubt : State → State → Type 0
+EndsDoubt s s' = Becomes s s' ⊎ Becomes (record s { doubt = None }) s'
+
+-- Commit. It is allowed, and the history has fewer commits than the limit
+abbrev pub MayAdd : State → Change → Type 0
+MayAdd s c = IsValid c × IsAllowed (now s) c × (length s.history < s.limit)
+
+abbrev pub committed : State → Change → State
+committed s c = record s { history = s.history ++ c ∷ []; kept = s.kept ++ record { id = id_of c; version = head s.history + 1 } ∷ []; doubt = None }
+
+abbrev pub DoubtAfter : State → Change → Bool → State → Type 0
+DoubtAfter s c true s' = Becomes (record s { doubt = Some c }) s'
+DoubtAfter s c false s' = EndsDoubt s s'
+
+abbrev pub CommitGives : State → Change → Reply → State → Type 0
+CommitGives s c Known s' = (refusal (now s) c ≡ Some Known) × Becomes s s'
+CommitGives s c Absent s' = (refusal (now s) c ≡ Some Absent) × Becomes s s'
+CommitGives s c Withdrawn s' = (refusal (now s) c ≡ Some Withdrawn) × Becomes s s'
+CommitGives s c Full s' = IsAllowed (now s) c × (s.limit ≤ length s.history) × Becomes s s'
+CommitGives s c (DiskFault doubt) s' = MayAdd s c × SomeRose s.faults s'.faults × DoubtAfter s c doubt s'
+CommitGives s c NoMemory s' = EndsDoubt s s'
+CommitGives s c (Committed version) s' = MayAdd s c × (version ≡ head s.history + 1) × Becomes (committed s c) s'
+CommitGives s c _ s' = ⊥
+
+-- the pin in a slot
+abbrev pub pin_in : ℕ → List Held → Option Held
+pin_in slot [] = None
+pin_in slot (p ∷ ps) = if p.slot == slot then Some p else pin_in slot ps
+
+-- distinct slots, below 64
+abbrev pub SlotsApart : List Held → Type 0
+SlotsApart [] = Unit {0}
+SlotsApart (p ∷ ps) = (p.slot < 64) × (pin_in p.slot ps ≡ None) × SlotsApart ps
+
+abbrev pub Holds : State → ℕ → ℕ → ℕ → Type 0
+Holds s slot owner version = pin_in slot s.pins ≡ Some (record { slot = slot; owner = owner; version = version })
+
+-- Pin: any free slot, at the head
+abbrev pub pinned : State → ℕ → ℕ → State
+pinned s slot owner = record s { pins = s.pins ++ record { slot = slot; owner = owner; version = head s.history } ∷ [] }
+
+abbrev pub PinGives : State → ℕ → Reply → State → Type 0
+PinGives s owner NoPin s' = (length s.pins ≡ 64) × Becomes s s'
+PinGives s owner (Pinned slot version) s' =
+    (length s.pins < 64) × (slot < 64) × (pin_in slot s.pins ≡ None) × (version ≡ head s.history) × Becomes (pinned s slot owner) s'
+PinGives s owner _ s' = ⊥
+
+-- Fetch: the first `limit` of those from `from` on whose print contains what is wanted, and whether no other follows
+pub record IsPage (states : Snapshot) (want : List Bool) (from limit : ℕ) (records : List Found) (last : Bool) : Type 0 where
+  pub all : List Found
+  pub found : AreFound (IsScreened want) states all
+  pub first : records ≡ take limit (from_on from all)
+  pub end : last ≡ nat_le (length (from_on from all)) limit
+
+abbrev pub FetchGives : State → ℕ → ℕ → List Bool → ℕ → ℕ → Reply → State → Type 0
+FetchGives s owner slot want from limit (Page records last) s' =
+    (version : ℕ) × Holds s slot owner version × IsPage (snapshot s.history version) want from limit records last × Becomes s s'
+FetchGives s owner slot want from limit NoMemory s' = (version : ℕ) × Holds s slot owner version × Becomes s s'
+FetchGives s owner slot want from limit _ s' = ⊥
+
+-- Unpin
+abbrev pub unpinned : State → ℕ → State
+unpinned s slot = record s { pins = filter (λ p. not (p.slot == slot)) s.pins }
+
+abbrev pub UnpinGives : State → ℕ → ℕ → Reply → State → Type 0
+UnpinGives s owner slot Unpinned s' = (version : ℕ) × Holds s slot owner version × Becomes (unpinned s slot) s'
+UnpinGives s owner slot _ s' = ⊥
+
+-- Prune: each entry once, and exactly those that are needed
+pub record AreNeeded (s : State) (kept : List Entry) : Type 0 where
+  pub exactly : (entry : Entry) → Contains kept entry ↔ IsNeeded s.history (in_use s) entry
+  pub distinct : AllPairs (λ x y. x ≢ y) kept
+
+abbrev pub PruneGives : State → Reply → State → Type 0
+PruneGives s (Pruned dropped) s' = AreNeeded s s'.kept × (dropped + length s'.kept ≡ length s.kept) × Becomes (record s { kept = s'.kept }) s'
+PruneGives s _ s' = ⊥
+
+-- Look
+abbrev pub LookGives : State → ℕ → Reply → State → Type 0
+LookGives s id (Looked status) s' = (status ≡ get (now s) id) × Becomes s s'
+LookGives s id NoMemory s' = Becomes s s'
+LookGives s id _ s' = ⊥
+
+-- Stats
+abbrev pub is_live : Status → Bool
+is_live (status.Live version format text) = true
+is_live (status.Withdrawn version) = false
+
+abbrev pub StatsGives : State → Reply → State → Type 0
+StatsGives s (Counted version live withdrawn kept pins) s' =
+    (version ≡ head s.history)
+    × (live ≡ count_by (λ e. is_live e.1) (entries (now s))) × (withdrawn ≡ count_by (λ e. not (is_live e.1)) (entries (now s)))
+    × (kept ≡ length s.kept) × (pins ≡ length s.pins) × Becomes s s'
+StatsGives s _ s' = ⊥
+
+-- Crash: the history, or this and the commit in doubt
+abbrev pub Recovers : State → List Change → Type 0
+Recovers s h = (h ≡ s.history) ⊎ ((c : Change) × (s.doubt ≡ Some c) × (h ≡ s.history ++ c ∷ []))
+
+abbrev pub CrashGives : State → Reply → State → Type 0
+CrashGives s Crashed s' =
+    Recovers s s'.history × (s' ≡ record s { history = s'.history; pins = []; doubt = None; faults = record { a = 0; b = 0 }; serves = false })
+CrashGives s _ s' = ⊥
+
+-- Open
+abbrev pub OpenGives : State → Reply → State → Type 0
+OpenGives s (Opened commits) s' =
+    (s.pins ≡ []) × (s.doubt ≡ None) × AreNeeded s s'.kept × (commits ≡ length s.history)
+    × NoneFell s.faults s'.faults × Becomes (record s { kept = s'.kept; serves = true }) s'
+OpenGives s _ s' = ⊥
+
+-- calls are served where the machine was opened
+abbrev pub Serves : State → State → Type 0
+Serves s s' = (s.serves ≡ true) × NoneFell s.faults s'.faults
+
+abbrev pub Gives : State → ℕ → Event → Reply → State → Type 0
+Gives s owner (Commit change) reply s' = Serves s s' × CommitGives s change reply s'
+Gives s owner Pin reply s' = Serves s s' × PinGives s owner reply s'
+Gives s owner (Fetch slot want from limit) reply s' = Serves s s' × FetchGives s owner slot want from limit reply s'
+Gives s owner (Unpin slot) reply s' = Serves s s' × UnpinGives s owner slot reply s'
+Gives s owner Prune reply s' = Serves s s' × PruneGives s reply s'
+Gives s owner (Look id) reply s' = Serves s s' × LookGives s id reply s'
+Gives s owner Stats reply s' = Serves s s' × StatsGives s reply s'
+Gives s owner Crash reply s' = CrashGives s reply s'
+Gives s owner Open reply s' = OpenGives s reply s'

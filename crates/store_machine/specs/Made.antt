@@ -1,0 +1,24 @@
+-- Which entries a history has made, and how a store that keeps some of them reads a snapshot.
+use Rattle.std.specs.Prelude.{◌≡◌, ◌+◌, ◌<◌, ◌≤◌, ◌⊎◌, Contains, List, [], ◌∷◌, MatchOption, ℕ}
+use Rattle.std.specs.FinMap.{get}
+use Rattle.store_machine.specs.History.{id_of, made_at, snapshot}
+use Rattle.store_machine.specs.declared.machine.Change.{Change}
+use Rattle.store_machine.specs.declared.machine.Entry.{Entry}
+use Rattle.store_machine.specs.declared.machine.State.{State}
+
+-- the commit of this version is of this identifier. The changes begin after a version
+abbrev pub IsMade : ℕ → List Change → ℕ → ℕ → Type 0
+IsMade after [] id version = ⊥
+IsMade after (c ∷ cs) id version = ((id_of c ≡ id) × (after + 1 ≡ version)) ⊎ IsMade (after + 1) cs id version
+
+abbrev pub KeepsMade : State → Type 0
+KeepsMade s = (entry : Entry) → Contains s.kept entry → IsMade 0 s.history entry.id entry.version
+
+abbrev pub IsKept : State → ℕ → ℕ → Type 0
+IsKept s id version = Contains s.kept (record { id = id; version = version })
+
+-- of the entries that are kept of an identifier, the latest at or before the version is that of its state there; where it has none, there is none
+abbrev pub ReadsKept : State → ℕ → ℕ → Type 0
+ReadsKept s v id = MatchOption (get (snapshot s.history v) id)
+    ((version : ℕ) → IsKept s id version → v < version)
+    (λ status. IsKept s id (made_at status) × (made_at status ≤ v) × ((version : ℕ) → IsKept s id version → version ≤ v → version ≤ made_at status))

@@ -1,0 +1,16 @@
+//! The store as a machine: what it is asked, what it answers and what it then is, row by row, and laws of its runs.
+//!
+//! The law of pages is the heart: the pages of a pin are together the answer in the snapshot at which it was taken,
+//! whatever commits and prunings stand between them. Nothing here runs: the types stand in contracts alone, and each
+//! law is the clause of a function that does nothing.
+#![tactic(auto)]
+
+mod laws;
+mod machine;
+
+pub use laws::{
+    answers_are_one, calls_give_pages, commits_change, kept_is_read, pages_are_a_prefix,
+    pages_are_pieces, pages_are_the_answer, pins_stay, runs_stay_sound, snapshots_stay,
+    states_stay,
+};
+pub use machine::{Change, Entry, Event, Faults, Found, Held, Reply, State, Status, Step, Times};

@@ -1,0 +1,153 @@
+//! The machine's words. No value of these types is made: they stand in contracts alone.
+use mol_finish::Format;
+use std::collections::LinkedList;
+
+/// A commit's change: a text is registered under an identifier or replaces the one there, or it is withdrawn.
+pub enum Change {
+    Register {
+        id: u32,
+        format: Format,
+        text: LinkedList<u8>,
+    },
+    Revise {
+        id: u32,
+        format: Format,
+        text: LinkedList<u8>,
+    },
+    Withdraw {
+        id: u32,
+    },
+}
+
+/// What an identifier is, with the version of the commit that made it so.
+pub enum Status {
+    Live {
+        version: u32,
+        format: Format,
+        text: LinkedList<u8>,
+    },
+    Withdrawn {
+        version: u32,
+    },
+}
+
+/// A live record, as a page gives it.
+pub struct Found {
+    pub id: u32,
+    pub format: Format,
+    pub text: LinkedList<u8>,
+}
+
+/// A pin that is held.
+pub struct Held {
+    pub slot: u32,
+    pub owner: u64,
+    pub version: u32,
+}
+
+/// A kept entry: the state of an identifier that the commit of a version made.
+pub struct Entry {
+    pub id: u32,
+    pub version: u32,
+}
+
+/// How many faults the two disks counted.
+pub struct Faults {
+    pub a: u64,
+    pub b: u64,
+}
+
+/// A state of the machine. Between a Crash and the next Open nothing is served.
+pub struct State {
+    pub history: LinkedList<Change>,
+    pub limit: u32,
+    pub pins: LinkedList<Held>,
+    pub kept: LinkedList<Entry>,
+    pub doubt: Option<Change>,
+    pub faults: Faults,
+    pub serves: bool,
+}
+
+/// What is asked. `Crash` and `Open` are no calls, and nobody's.
+pub enum Event {
+    Commit {
+        change: Change,
+    },
+    Pin,
+    Fetch {
+        slot: u32,
+        want: LinkedList<bool>,
+        from: u32,
+        limit: u32,
+    },
+    Unpin {
+        slot: u32,
+    },
+    Prune,
+    Look {
+        id: u32,
+    },
+    Stats,
+    Crash,
+    Open,
+}
+
+/// What is answered.
+pub enum Reply {
+    Committed {
+        version: u32,
+    },
+    Known,
+    Absent,
+    Withdrawn,
+    Full,
+    DiskFault {
+        doubt: bool,
+    },
+    Pinned {
+        slot: u32,
+        version: u32,
+    },
+    NoPin,
+    Page {
+        records: LinkedList<Found>,
+        last: bool,
+    },
+    Unpinned,
+    Pruned {
+        dropped: u32,
+    },
+    Looked {
+        status: Option<Status>,
+    },
+    Counted {
+        version: u32,
+        live: u32,
+        withdrawn: u32,
+        kept: u32,
+        pins: u32,
+    },
+    Crashed,
+    Opened {
+        commits: u32,
+    },
+    NoMemory,
+}
+
+/// Times of the two disks' clocks.
+pub struct Times {
+    pub a: u64,
+    pub b: u64,
+}
+
+/// A step of a run: who asked what, the reply, the states before and after it, and the times at which its call began
+/// and ended. The owner of a Crash or an Open says nothing.
+pub struct Step {
+    pub owner: u64,
+    pub event: Event,
+    pub reply: Reply,
+    pub before: State,
+    pub after: State,
+    pub begin: Times,
+    pub end: Times,
+}
