@@ -1,10 +1,6 @@
 //! Why the atoms of a graph that are left cannot be placed: some of them can stand only at fewer atoms than they are.
 ghost use Rattle.std.specs.Prelude.{◌≡◌, ◌<◌, ◌≤◌, ◌++◌, [], ℕ, List, false, true, count_by, length, slice_index, slice_index_or, IsTrue};
-ghost use Rattle.smarts_mean.specs.Table.{HoldsIn};
-ghost use Rattle.smarts_parse.specs.Embedding.{IsEmbedding};
-ghost use Rattle.smarts_parse.specs.Pattern.{graph_of};
-ghost use Rattle.matcher.specs.Partial.{CanComplete};
-ghost use Rattle.matcher.specs.Plan.{IsReady};
+ghost use Rattle.matcher.specs.Task.{Completes, Embeds, IsReadyTask};
 
 use crate::fit::{Task, is_new};
 use smarts_mean::atom_true;
@@ -12,11 +8,10 @@ use smarts_mean::atom_true;
 /// Whether the places of a graph that are marked are more than the atoms that are marked, and can stand, where the
 /// atoms in front are taken, at these alone. Then the graph cannot be completed.
 pub fn excludes(task: &Task, front: &[u16], places: &[bool], atoms: &[bool]) -> bool
-    requires ready { IsReady (graph_of task.now.graph.now) task.now.steps.now }
+    requires ready { IsReadyTask task.now }
     requires places { length places.now ≤ length task.now.graph.now.atoms.items }
     requires atoms { length atoms.now ≡ length task.now.mol.now.atoms }
-    ensures { IsTrue result
-        → ¬ CanComplete (HoldsIn task.now.table.now) (graph_of task.now.graph.now) task.now.mol.now front.now }
+    ensures { IsTrue result → ¬ Completes task.now front.now }
 {
     if marked(places) <= marked(atoms) {
         return false;
@@ -41,11 +36,11 @@ fn marked(marks: &[bool]) -> usize
 
 // Whether the place, which is not in front, can stand only at marked atoms or where those in front stand.
 fn stays_within(task: &Task, front: &[u16], atoms: &[bool], place: usize) -> bool
-    requires ready { IsReady (graph_of task.now.graph.now) task.now.steps.now }
+    requires ready { IsReadyTask task.now }
     requires place { place < length task.now.graph.now.atoms.items }
     requires atoms { length atoms.now ≡ length task.now.mol.now.atoms }
     ensures { IsTrue result → (rest : List ℕ)
-        → IsEmbedding (HoldsIn task.now.table.now) (graph_of task.now.graph.now) task.now.mol.now (front.now ++ rest)
+        → Embeds task.now (front.now ++ rest)
         → slice_index_or atoms.now (slice_index (front.now ++ rest) place) false ≡ true }
 {
     if place < front.len() {
@@ -64,10 +59,9 @@ fn stays_within(task: &Task, front: &[u16], atoms: &[bool], place: usize) -> boo
 
 /// Whether a place may stand at some atom. If not, the graph has no embedding.
 pub fn has_candidate(task: &Task, place: usize) -> bool
-    requires ready { IsReady (graph_of task.now.graph.now) task.now.steps.now }
+    requires ready { IsReadyTask task.now }
     requires place { place < length task.now.graph.now.atoms.items }
-    ensures { result ≡ false
-        → ¬ CanComplete (HoldsIn task.now.table.now) (graph_of task.now.graph.now) task.now.mol.now [] }
+    ensures { result ≡ false → ¬ Completes task.now [] }
 {
     for atom in 0..task.mol.atoms().len() as u16 {
         if may_stand(task, &[], place, atom) {
@@ -80,11 +74,11 @@ pub fn has_candidate(task: &Task, place: usize) -> bool
 /// Whether a place that is not in front may stand at an atom, where the atoms in front are taken, as far as is seen from
 /// the atom alone.
 pub fn may_stand(task: &Task, front: &[u16], place: usize, atom: u16) -> bool
-    requires ready { IsReady (graph_of task.now.graph.now) task.now.steps.now }
+    requires ready { IsReadyTask task.now }
     requires place { place < length task.now.graph.now.atoms.items }
     requires atom { atom < length task.now.mol.now.atoms }
     ensures { result ≡ false → length front.now ≤ place → (rest : List ℕ)
-        → IsEmbedding (HoldsIn task.now.table.now) (graph_of task.now.graph.now) task.now.mol.now (front.now ++ rest)
+        → Embeds task.now (front.now ++ rest)
         → slice_index (front.now ++ rest) place ≡ atom → ⊥ }
 {
     is_new(front, atom) && atom_true(&task.graph.atoms[place], task.mol, atom, task.table)
