@@ -10,7 +10,7 @@ use crate::choices::Choices;
 use crate::fit::Task;
 use crate::parts::note_parts;
 use crate::plan::plan;
-use crate::refusal::has_candidate;
+use crate::refusal::{has_bond, has_candidate};
 use crate::scratch::Scratch;
 use crate::search::extend;
 use chem_core::Mol;
@@ -78,12 +78,12 @@ fn is_refused(task: &Task, choices: &mut Choices) -> bool
     if is_loose(task) {
         return choices.refuse(task, &[]);
     }
-    for place in 0..task.graph.atoms.len() {
-        if !has_candidate(task, place) {
+    for place in 0..task.graph.bonds.len() {
+        if !has_bond(task, place) {
             return true;
         }
     }
-    false
+    task.graph.atoms.len() == 1 && !has_candidate(task, 0)
 }
 
 // Whether an atom other than the first has no bond to an earlier one.
