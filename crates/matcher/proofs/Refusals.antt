@@ -1,5 +1,5 @@
 -- Where a place of a graph cannot stand, and a graph whose places are more than their atoms.
-use Rattle.std.proofs.Common.{◌≡◌, ℕ, ◌<◌, ◌≤◌, ◌++◌, ◌⊎◌, [], inl, inr, Bool, true, false, List, length, take, slice_get, slice_index, get_or, Some, Contains, sym, ap, ◌∙◌, subst, arith, length-append}
+use Rattle.std.proofs.Common.{◌≡◌, ℕ, ◌<◌, ◌≤◌, ◌++◌, ◌⊎◌, [], inl, inr, Bool, true, false, List, length, take, slice_get, slice_index, get_or, Some, Contains, sym, ap, ◌∙◌, subst, arith}
 use Rattle.std.proofs.Math.Seq.{take-length}
 use Rattle.std.proofs.lemmas.List.{get_or_default, get_or-map, length-map}
 use Rattle.std.proofs.lemmas.Option.{get_or_from_slice_get}

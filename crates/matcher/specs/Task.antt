@@ -1,5 +1,5 @@
 -- For private clauses alone: what is known of a graph that is placed in a molecule.
-use Rattle.std.specs.Prelude.{ℕ, ◌<◌, List, [], ◌∷◌, ◌++◌, length, slice_index_or}
+use Rattle.std.specs.Prelude.{ℕ, ◌<◌, List, [], ◌∷◌, ◌++◌, slice_index_or}
 use Rattle.smarts_mean.specs.Table.{HoldsIn}
 use Rattle.smarts_parse.specs.Embedding.{BondEmbeds, IsEmbedding}
 use Rattle.smarts_parse.specs.Pattern.{BondTerm, graph_of}

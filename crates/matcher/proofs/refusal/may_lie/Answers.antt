@@ -1,4 +1,4 @@
-use Rattle.std.proofs.Common.{get_or, inl, inr, slice_index}
+use Rattle.std.proofs.Common.{inl, inr, slice_index}
 use Rattle.std.proofs.lemmas.Bool.{iff_false}
 use Rattle.matcher.proofs.Refusals.{ends_in_range, ends_read, no_bond}
 use Rattle.matcher.proofs.refusal.may_lie.Goals as goal
