@@ -1,6 +1,6 @@
 -- The next atom of a graph, where its first bond joins it to an earlier one: it stands at a neighbour of that one.
-use Rattle.std.proofs.Common.{◌≡◌, ◌≢◌, ◌↔◌, ℕ, ◌+◌, ◌<◌, ◌≤◌, List, [], ◌∷◌, ◌++◌, length, map, max, min, take, slice_index, get_or, refl, sym, ap, ◌∙◌, subst, arith}
-use Rattle.std.proofs.lemmas.List.{get_or-take, length-map, length-take-le, length_push}
+use Rattle.std.proofs.Common.{◌≡◌, ◌≢◌, ℕ, ◌<◌, ◌≤◌, List, [], ◌∷◌, ◌++◌, length, map, max, min, take, slice_index, get_or, sym, ap, ◌∙◌, subst, arith}
+use Rattle.std.proofs.lemmas.List.{get_or-take, length-take-le, length_push}
 use Rattle.chem_core.specs.Graph.{AreNeighbours, JoinsAt}
 use Rattle.chem_core.specs.Molecule.{Molecule, ends_of}
 use Rattle.smarts_parse.specs.declared.pattern.PatBond.{PatBond}

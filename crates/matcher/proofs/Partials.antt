@@ -1,13 +1,13 @@
 -- Atoms of a graph placed in turn: one more, and all.
-use Rattle.std.proofs.Common.{◌≡◌, ◌≢◌, ℕ, ◌+◌, ◌<◌, ◌≤◌, List, [], ◌∷◌, ◌++◌, length, map, max, min, take, slice_get, slice_index, get_or, Some, All, Contains, refl, sym, ap, ◌∙◌, subst, ⊎_elim, append_assoc, arith, length-append, inl, inr, ◌↔◌}
+use Rattle.std.proofs.Common.{◌≡◌, ◌≢◌, ℕ, ◌<◌, ◌≤◌, List, [], ◌∷◌, ◌++◌, length, map, max, min, take, slice_get, slice_index, get_or, Some, All, Contains, refl, sym, ap, ◌∙◌, subst, ⊎_elim, append_assoc, arith, length-append, ◌↔◌}
 use Rattle.std.proofs.lemmas.Bool.{cases_lt}
 use Rattle.std.proofs.Math.ListN.{get_or-append}
 use Rattle.std.proofs.Math.Seq.{get_or-append_seam}
 use Rattle.std.proofs.lemmas.List.{append-nil, get_or-map, get_or_default, get_or_push, length-map, length-take-le, length_push}
 use Rattle.std.proofs.lemmas.List.Elements.{All-push}
 use Rattle.std.proofs.lemmas.List.Quantifiers.{all_pairs_push}
-use Rattle.std.proofs.lemmas.Option.{slice_get-get_or, slice_get_within}
-use Rattle.chem_core.specs.Graph.{Ends, JoinsAt}
+use Rattle.std.proofs.lemmas.Option.{slice_get_within}
+use Rattle.chem_core.specs.Graph.{JoinsAt}
 use Rattle.chem_core.specs.Molecule.{Molecule, ends_of}
 use Rattle.smarts_parse.specs.declared.pattern.AtomPrim.{AtomPrim}
 use Rattle.smarts_parse.specs.Pattern.{Term, BondTerm, GraphTerm}

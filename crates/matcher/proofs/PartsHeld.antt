@@ -1,5 +1,5 @@
 -- Where recursive parts hold, by their numbers; an embedding asks about those alone that its graph names.
-use Rattle.std.proofs.Common.{◌≡◌, ◌↔◌, ◌⊎◌, ◌&&◌, ◌==◌, ◌+◌, ◌<◌, ◌≤◌, Bool, true, false, ℕ, suc, List, [], ◌∷◌, ◌++◌, length, get_or, slice_get, slice_index, slice_index_or, Some, None, All, MatchBool, sum_by, if◌then◌else◌, refl, sym, ap, ◌∙◌, subst, inl, inr, ⊎_elim, arith}
+use Rattle.std.proofs.Common.{◌≡◌, ◌↔◌, ◌&&◌, ◌==◌, ◌+◌, ◌<◌, ◌≤◌, Bool, true, false, ℕ, suc, List, [], ◌∷◌, length, get_or, slice_get, slice_index, slice_index_or, Some, None, All, MatchBool, sum_by, if◌then◌else◌, refl, sym, ap, ◌∙◌, subst, inl, inr, ⊎_elim, arith}
 use Rattle.std.proofs.lemmas.Bool.{cases_eq, eq-eqb, ne_eqb, and_from, and_left, and_right}
 use Rattle.std.proofs.lemmas.List.Sums.{get_or-le-sum_by}
 use Rattle.std.proofs.lemmas.Option.{get_or_from_slice_get, none-some, same_Some, slice_get_within}
@@ -9,7 +9,7 @@ use Rattle.smarts_mean.specs.Table.{HoldsIn, Table, holds_at}
 use Rattle.smarts_parse.specs.declared.pattern.AtomPrim.{AtomPrim}
 use Rattle.smarts_parse.specs.declared.pattern.AtomPrim.TheVariants as atoms
 use Rattle.smarts_parse.specs.Pattern.{Term, Prim, Not, And, Or, GraphTerm, PatternTerm}
-use Rattle.smarts_parse.specs.Sound.{IsSoundGraph, IsSoundPattern, NamesBelow, PrimNamesBelow}
+use Rattle.smarts_parse.specs.Sound.{IsSoundPattern, NamesBelow, PrimNamesBelow}
 use Rattle.smarts_parse.specs.Truth.{AtomTrue, AtomPrimTrue}
 use Rattle.smarts_parse.specs.Embedding.{IsEmbedding, Matches, PartsHold}
 use Rattle.matcher.specs.Partial.{CanComplete, IsLeastFrom, IsSearchable, Parts}

@@ -2,3 +2,4 @@ pub mod Least
 pub mod Partial
 pub mod Plan
 pub mod Parts
+pub mod Task

@@ -1,18 +1,16 @@
 //! The calls of the crate: the least embedding of a pattern, and whether there is one.
 ghost use Rattle.std.specs.Prelude.{◌≡◌, ◌↔◌, [], false, length, take, IfNone, IfSome, IsTrue};
-ghost use Rattle.smarts_mean.specs.Table.{HoldsIn};
 ghost use Rattle.smarts_parse.specs.Embedding.{Matches};
-ghost use Rattle.smarts_parse.specs.Pattern.{graph_of, pattern_of};
+ghost use Rattle.smarts_parse.specs.Pattern.{pattern_of};
 ghost use Rattle.smarts_parse.specs.Sound.{IsSoundPattern};
 ghost use Rattle.matcher.specs.Least.{IsLeast};
-ghost use Rattle.matcher.specs.Partial.{CanComplete};
-ghost use Rattle.matcher.specs.Plan.{IsReady};
+ghost use Rattle.matcher.specs.Task.{Completes, IsReadyTask};
 
 use crate::choices::Choices;
 use crate::fit::Task;
 use crate::parts::note_parts;
 use crate::plan::plan;
-use crate::refusal::has_candidate;
+use crate::refusal::{has_bond, has_candidate};
 use crate::scratch::Scratch;
 use crate::search::extend;
 use chem_core::Mol;
@@ -74,19 +72,18 @@ fn find(pattern: &Pattern, mol: &Mol, scratch: &mut Scratch) -> bool
 
 // Whether it is found before any search that the graph has no embedding.
 fn is_refused(task: &Task, choices: &mut Choices) -> bool
-    requires { IsReady (graph_of task.now.graph.now) task.now.steps.now }
-    ensures { IsTrue result
-        → ¬ CanComplete (HoldsIn task.now.table.now) (graph_of task.now.graph.now) task.now.mol.now [] }
+    requires { IsReadyTask task.now }
+    ensures { IsTrue result → ¬ Completes task.now [] }
 {
     if is_loose(task) {
         return choices.refuse(task, &[]);
     }
-    for place in 0..task.graph.atoms.len() {
-        if !has_candidate(task, place) {
+    for place in 0..task.graph.bonds.len() {
+        if !has_bond(task, place) {
             return true;
         }
     }
-    false
+    task.graph.atoms.len() == 1 && !has_candidate(task, 0)
 }
 
 // Whether an atom other than the first has no bond to an earlier one.

@@ -3,10 +3,7 @@
 //!
 //! Nothing is promised of a choice. Where none is found, the places and atoms that the last try reached show why.
 ghost use Rattle.std.specs.Prelude.{◌≡◌, ◌<◌, false, length, IsTrue};
-ghost use Rattle.smarts_mean.specs.Table.{HoldsIn};
-ghost use Rattle.smarts_parse.specs.Pattern.{graph_of};
-ghost use Rattle.matcher.specs.Partial.{CanComplete};
-ghost use Rattle.matcher.specs.Plan.{IsReady};
+ghost use Rattle.matcher.specs.Task.{Completes, IsReadyTask};
 
 use crate::fit::Task;
 use crate::refusal::{excludes, may_stand};
@@ -61,9 +58,8 @@ impl Choices {
 
     /// Whether it is found that the graph cannot be completed after the atoms in front.
     pub fn refuse(&mut self, task: &Task, front: &[u16]) -> bool
-        requires { IsReady (graph_of task.now.graph.now) task.now.steps.now }
-        ensures { IsTrue result
-            → ¬ CanComplete (HoldsIn task.now.table.now) (graph_of task.now.graph.now) task.now.mol.now front.now }
+        requires { IsReadyTask task.now }
+        ensures { IsTrue result → ¬ Completes task.now front.now }
     {
         let places = task.graph.atoms.len();
         let atoms = task.mol.atoms().len();
@@ -83,9 +79,8 @@ impl Choices {
 
     // Whether the places and atoms that the last try reached show that the graph cannot be completed.
     fn shows_why(&self, task: &Task, front: &[u16]) -> bool
-        requires { IsReady (graph_of task.now.graph.now) task.now.steps.now }
-        ensures { IsTrue result
-            → ¬ CanComplete (HoldsIn task.now.table.now) (graph_of task.now.graph.now) task.now.mol.now front.now }
+        requires { IsReadyTask task.now }
+        ensures { IsTrue result → ¬ Completes task.now front.now }
     {
         let places = task.graph.atoms.len();
         let atoms = task.mol.atoms().len();
@@ -97,7 +92,7 @@ impl Choices {
 
     // Gives the place an atom, if it can have one.
     fn choose(&mut self, task: &Task, front: &[u16], place: usize) -> bool
-        requires ready { IsReady (graph_of task.now.graph.now) task.now.steps.now }
+        requires ready { IsReadyTask task.now }
         requires place { place < length task.now.graph.now.atoms.items }
     {
         let places = task.graph.atoms.len();
@@ -125,7 +120,7 @@ impl Choices {
     // Reaches the atoms where the place may stand, and from each the place that holds it. `None` where one was free,
     // so that it was chosen.
     fn step(&mut self, task: &Task, front: &[u16], place: u16, queued: usize) -> Option<usize>
-        requires ready { IsReady (graph_of task.now.graph.now) task.now.steps.now }
+        requires ready { IsReadyTask task.now }
         requires place { place < length task.now.graph.now.atoms.items }
     {
         let mut last = queued;

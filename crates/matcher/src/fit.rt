@@ -1,14 +1,11 @@
 //! Whether the next atom of a graph may stand at an atom, where those before it are placed.
-ghost use Rattle.std.specs.Prelude.{◌≡◌, ◌<◌, ◌≤◌, ◌≢◌, ◌+◌, ◌++◌, ◌∷◌, [], ◌↔◌, ℕ, length, map, max, min, All, Contains, IfNone, IfSome, IsTrue, slice_index_or};
-ghost use Rattle.smarts_parse.specs.Pattern.{BondTerm};
+ghost use Rattle.std.specs.Prelude.{◌≡◌, ◌<◌, ◌≤◌, ◌≢◌, ◌+◌, ◌++◌, ◌∷◌, [], ◌↔◌, ℕ, length, map, max, min, All, Contains, IfNone, IfSome, IsTrue};
 ghost use Rattle.chem_core.specs.Graph.{JoinsAt};
 ghost use Rattle.chem_core.specs.Molecule.{ends_of};
-ghost use Rattle.smarts_mean.specs.Table.{HoldsIn};
 ghost use Rattle.smarts_parse.specs.Embedding.{BondEmbeds};
-ghost use Rattle.smarts_parse.specs.Pattern.{bond_of, graph_of, term_of};
+ghost use Rattle.smarts_parse.specs.Pattern.{bond_of, term_of};
 ghost use Rattle.smarts_parse.specs.Truth.{BondTrue};
-ghost use Rattle.matcher.specs.Partial.{IsPartial};
-ghost use Rattle.matcher.specs.Plan.{IsReady, step_at};
+ghost use Rattle.matcher.specs.Task.{FirstEmbeds, IsPlaced, IsReadyTask};
 
 use crate::plan::Step;
 use chem_core::Mol;
@@ -27,15 +24,12 @@ pub struct Task<'a> {
 /// Whether the next atom may stand at that one after the atoms in front. Its first bond to an earlier atom is known to
 /// embed, and is not looked at again.
 pub fn fits(task: &Task, front: &[u16], atom: u16) -> bool
-    requires ready { IsReady (graph_of task.now.graph.now) task.now.steps.now }
+    requires ready { IsReadyTask task.now }
     requires few { length front.now < length task.now.graph.now.atoms.items }
     requires in_range { atom < length task.now.mol.now.atoms }
-    requires partial { IsPartial (HoldsIn task.now.table.now) (graph_of task.now.graph.now) task.now.mol.now front.now }
-    requires first { (d : BondTerm) → (step_at task.now.steps.now (length front.now)).from < (step_at task.now.steps.now (length front.now)).to
-        → BondEmbeds task.now.mol.now (front.now ++ atom ∷ [])
-        (slice_index_or (map bond_of task.now.graph.now.bonds.items) (step_at task.now.steps.now (length front.now)).from d) }
-    ensures { IsTrue result
-        ↔ IsPartial (HoldsIn task.now.table.now) (graph_of task.now.graph.now) task.now.mol.now (front.now ++ atom ∷ []) }
+    requires partial { IsPlaced task.now front.now }
+    requires first { FirstEmbeds task.now (length front.now) front.now atom }
+    ensures { IsTrue result ↔ IsPlaced task.now (front.now ++ atom ∷ []) }
 {
     let others = task.steps[front.len()].others(&task.graph.bonds);
     if !is_new(front, atom) {

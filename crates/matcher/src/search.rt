@@ -1,10 +1,6 @@
 //! The atoms of a graph are placed in turn, lowest places first, so that the first embedding found is the least.
-ghost use Rattle.std.specs.Prelude.{◌≡◌, ◌<◌, ◌≤◌, ◌+◌, ◌++◌, ◌∷◌, [], ℕ, false, length, map, slice_index_or, take, IsTrue};
-ghost use Rattle.smarts_mean.specs.Table.{HoldsIn};
-ghost use Rattle.smarts_parse.specs.Embedding.{BondEmbeds};
-ghost use Rattle.smarts_parse.specs.Pattern.{BondTerm, bond_of, graph_of};
-ghost use Rattle.matcher.specs.Partial.{CanComplete, IsLeastFrom, IsPartial};
-ghost use Rattle.matcher.specs.Plan.{IsReady, step_at};
+ghost use Rattle.std.specs.Prelude.{◌≡◌, ◌<◌, ◌≤◌, ◌+◌, ◌++◌, ◌∷◌, [], false, length, take, IsTrue};
+ghost use Rattle.matcher.specs.Task.{Completes, FirstEmbeds, IsBonded, IsLeastPlaced, IsPlaced, IsReadyTask};
 
 use crate::choices::Choices;
 use crate::fit::{Task, fits};
@@ -15,15 +11,14 @@ use smarts_mean::bond_true;
 /// The calls go as deep as the graph has atoms, at most 256.
 #[cycle(search)]
 pub fn extend(task: &Task, image: &mut [u16], choices: &mut Choices, placed: usize) -> bool
-    requires ready { IsReady (graph_of task.now.graph.now) task.now.steps.now }
+    requires ready { IsReadyTask task.now }
     requires room { length task.now.graph.now.atoms.items ≤ length image.old }
     requires few { placed ≤ length task.now.graph.now.atoms.items }
-    requires partial { IsPartial (HoldsIn task.now.table.now) (graph_of task.now.graph.now) task.now.mol.now (take placed image.old) }
+    requires partial { IsPlaced task.now (take placed image.old) }
     ensures kept { take placed image.new ≡ take placed image.old }
-    ensures found { IsTrue result → IsLeastFrom (HoldsIn task.now.table.now) (graph_of task.now.graph.now) task.now.mol.now
+    ensures found { IsTrue result → IsLeastPlaced task.now
         (take placed image.old) (take (length task.now.graph.now.atoms.items) image.new) }
-    ensures none { result ≡ false
-        → ¬ CanComplete (HoldsIn task.now.table.now) (graph_of task.now.graph.now) task.now.mol.now (take placed image.old) }
+    ensures none { result ≡ false → ¬ Completes task.now (take placed image.old) }
 {
     if placed == task.graph.atoms.len() {
         return true;
@@ -39,16 +34,15 @@ pub fn extend(task: &Task, image: &mut [u16], choices: &mut Choices, placed: usi
 // The same where no bond joins the next atom to an earlier one.
 #[cycle(search)]
 fn extend_anywhere(task: &Task, image: &mut [u16], choices: &mut Choices, placed: usize) -> bool
-    requires ready { IsReady (graph_of task.now.graph.now) task.now.steps.now }
+    requires ready { IsReadyTask task.now }
     requires room { length task.now.graph.now.atoms.items ≤ length image.old }
     requires few { placed < length task.now.graph.now.atoms.items }
-    requires partial { IsPartial (HoldsIn task.now.table.now) (graph_of task.now.graph.now) task.now.mol.now (take placed image.old) }
-    requires free { (step_at task.now.steps.now placed).to ≤ (step_at task.now.steps.now placed).from }
+    requires partial { IsPlaced task.now (take placed image.old) }
+    requires free { ¬ IsBonded task.now placed }
     ensures kept { take placed image.new ≡ take placed image.old }
-    ensures found { IsTrue result → IsLeastFrom (HoldsIn task.now.table.now) (graph_of task.now.graph.now) task.now.mol.now
+    ensures found { IsTrue result → IsLeastPlaced task.now
         (take placed image.old) (take (length task.now.graph.now.atoms.items) image.new) }
-    ensures none { result ≡ false
-        → ¬ CanComplete (HoldsIn task.now.table.now) (graph_of task.now.graph.now) task.now.mol.now (take placed image.old) }
+    ensures none { result ≡ false → ¬ Completes task.now (take placed image.old) }
 {
     for atom in 0..task.mol.atoms().len() as u16 {
         let failures = choices.failures();
@@ -66,16 +60,15 @@ fn extend_anywhere(task: &Task, image: &mut [u16], choices: &mut Choices, placed
 // The same where the next atom's first bond joins it to an earlier one: it stands at a neighbour of that one.
 #[cycle(search)]
 fn extend_near(task: &Task, image: &mut [u16], choices: &mut Choices, placed: usize) -> bool
-    requires ready { IsReady (graph_of task.now.graph.now) task.now.steps.now }
+    requires ready { IsReadyTask task.now }
     requires room { length task.now.graph.now.atoms.items ≤ length image.old }
     requires few { placed < length task.now.graph.now.atoms.items }
-    requires partial { IsPartial (HoldsIn task.now.table.now) (graph_of task.now.graph.now) task.now.mol.now (take placed image.old) }
-    requires bonded { (step_at task.now.steps.now placed).from < (step_at task.now.steps.now placed).to }
+    requires partial { IsPlaced task.now (take placed image.old) }
+    requires bonded { IsBonded task.now placed }
     ensures kept { take placed image.new ≡ take placed image.old }
-    ensures found { IsTrue result → IsLeastFrom (HoldsIn task.now.table.now) (graph_of task.now.graph.now) task.now.mol.now
+    ensures found { IsTrue result → IsLeastPlaced task.now
         (take placed image.old) (take (length task.now.graph.now.atoms.items) image.new) }
-    ensures none { result ≡ false
-        → ¬ CanComplete (HoldsIn task.now.table.now) (graph_of task.now.graph.now) task.now.mol.now (take placed image.old) }
+    ensures none { result ≡ false → ¬ Completes task.now (take placed image.old) }
 {
     let bond = &task.graph.bonds[task.steps[placed].from];
     let earlier = image[usize::from(bond.a.min(bond.b))];
@@ -100,20 +93,16 @@ pub fn extend_at(
     placed: usize,
     atom: u16,
 ) -> bool
-    requires ready { IsReady (graph_of task.now.graph.now) task.now.steps.now }
+    requires ready { IsReadyTask task.now }
     requires room { length task.now.graph.now.atoms.items ≤ length image.old }
     requires few { placed < length task.now.graph.now.atoms.items }
     requires in_range { atom < length task.now.mol.now.atoms }
-    requires partial { IsPartial (HoldsIn task.now.table.now) (graph_of task.now.graph.now) task.now.mol.now (take placed image.old) }
-    requires first { (d : BondTerm) → (step_at task.now.steps.now placed).from < (step_at task.now.steps.now placed).to
-        → BondEmbeds task.now.mol.now (take placed image.old ++ atom ∷ [])
-        (slice_index_or (map bond_of task.now.graph.now.bonds.items) (step_at task.now.steps.now placed).from d) }
+    requires partial { IsPlaced task.now (take placed image.old) }
+    requires first { FirstEmbeds task.now placed (take placed image.old) atom }
     ensures kept { take placed image.new ≡ take placed image.old }
-    ensures found { IsTrue result → IsLeastFrom (HoldsIn task.now.table.now) (graph_of task.now.graph.now) task.now.mol.now
+    ensures found { IsTrue result → IsLeastPlaced task.now
         (take placed image.old ++ atom ∷ []) (take (length task.now.graph.now.atoms.items) image.new) }
-    ensures none { result ≡ false
-        → ¬ CanComplete (HoldsIn task.now.table.now) (graph_of task.now.graph.now) task.now.mol.now
-        (take placed image.old ++ atom ∷ []) }
+    ensures none { result ≡ false → ¬ Completes task.now (take placed image.old ++ atom ∷ []) }
 {
     if !fits(task, &image[..placed], atom) {
         return false;

@@ -1,5 +1,5 @@
 -- Lists of numbers that ascend: one more number at its place, and that the elements pin the length.
-use Rattle.std.proofs.Common.{refl, zero, suc, [], ◌∷◌, ◌⊎◌, ℕ, ◌+◌, ◌<◌, ◌≡◌, inl, inr, List, length, get_or, Contains, sym, ap, ◌∙◌, arith, subst}
+use Rattle.std.proofs.Common.{refl, zero, suc, [], ◌∷◌, ◌⊎◌, ℕ, ◌+◌, ◌<◌, ◌≡◌, inl, inr, List, length, get_or, Contains, sym, ap, arith, subst}
 use Rattle.std.specs.List.Sorted.{IsStrictlyIncreasing}
 use Rattle.std.proofs.lemmas.Bool.{cases_lt, cases_eq}
 use Rattle.std.proofs.lemmas.List.Elements.{Contains-get_or}

@@ -1,5 +1,5 @@
 -- One bit of a table written: that entry, and no other.
-use Rattle.std.proofs.Common.{eqb, cond, ◌&&◌, Bool, true, false, w64, replicate, ℕ, ◌+◌, ◌*◌, ◌/◌, ◌%◌, ◌^◌, ◌<◌, ◌≡◌, ◌≢◌, inl, inr, List, length, get_or, set, bit_and, bit_or, refl, sym, ap, ◌∙◌, arith}
+use Rattle.std.proofs.Common.{eqb, cond, ◌&&◌, Bool, false, replicate, ℕ, ◌+◌, ◌*◌, ◌/◌, ◌%◌, ◌^◌, ◌<◌, ◌≡◌, ◌≢◌, inl, inr, List, length, get_or, set, bit_and, ap, ◌∙◌, arith}
 use Rattle.std.specs.Int.{bit_at}
 use Rattle.std.proofs.lemmas.Bool.{cases_eq, cases_lt, and_from, and_left, and_right, eq-eqb, ne_eqb}
 use Rattle.std.proofs.lemmas.List.{get_or-set_same, get_or-set_other, get_or_default, get_or-replicate, get_or_past, length-replicate}

@@ -1,5 +1,5 @@
 -- The bonds to some of an atom's neighbours, each once: as the neighbours are passed in turn, and when all are.
-use Rattle.std.proofs.Common.{refl, zero, suc, [], ◌∷◌, ◌⊎◌, ◌||◌, ◌&&◌, ◌≢◌, eqb, Bool, true, false, ℕ, ◌+◌, ◌<◌, ◌≤◌, ◌≡◌, ◌↔◌, inl, inr, Some, List, length, map, slice_get, get_or, take, Contains, count_by, sym, ap, subst, ◌∙◌, arith, option_map, unwrap_or, pos}
+use Rattle.std.proofs.Common.{refl, zero, suc, [], ◌⊎◌, ◌||◌, ◌&&◌, eqb, Bool, true, false, ℕ, ◌+◌, ◌<◌, ◌≤◌, ◌≡◌, inl, inr, Some, List, length, map, slice_get, get_or, take, Contains, count_by, sym, ap, subst, ◌∙◌, arith, option_map, unwrap_or, pos}
 use Rattle.std.proofs.Math.Seq.{take-length}
 use Rattle.std.proofs.lemmas.Bool.{cases_eq, cases_Bool, false≢true, eq-eqb, eqb-true, and_from, and_parts, or_cases, or_left, or_right}
 use Rattle.std.proofs.lemmas.List.{get_or-map, get_or_default, length-map}

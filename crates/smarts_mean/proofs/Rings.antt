@@ -1,9 +1,9 @@
 -- A ring atom lies on a cycle, and the length of an atom's smallest ring is one number.
-use Rattle.std.proofs.Common.{◌⊎◌, eqb, not, Bool, true, false, ℕ, zero, suc, ◌+◌, ◌%◌, ◌<◌, ◌≤◌, ◌≡◌, ◌≢◌, ◌↔◌, inl, inr, List, length, get_or, Contains, refl, sym, ap, subst, ◌∙◌, arith}
-use Rattle.std.proofs.lemmas.Bool.{cases_eq, false≢true, eq-eqb, ne_eqb}
+use Rattle.std.proofs.Common.{eqb, not, true, ℕ, ◌<◌, ◌≡◌, ◌↔◌, inl, inr, List, length, get_or, Contains, sym, ap, subst, ◌∙◌, arith}
+use Rattle.std.proofs.lemmas.Bool.{false≢true, eq-eqb, ne_eqb}
 use Rattle.std.proofs.lemmas.List.{get_or_default}
 use Rattle.std.proofs.lemmas.List.Elements.{Contains-get_or}
-use Rattle.chem_core.specs.Graph.{Ends, IsRingAtom, IsRingBond, IsSimpleCycle, IsSmallestRing, JoinsAt, LiesOn, next_place}
+use Rattle.chem_core.specs.Graph.{Ends, IsRingAtom, IsSimpleCycle, IsSmallestRing, JoinsAt, next_place}
 use Rattle.smarts_mean.proofs.Chosen.{shares_end}
 
 -- an atom of a cycle is a ring atom

@@ -1,9 +1,9 @@
 -- What the table says of recursive parts is so.
-use Rattle.std.proofs.Common.{◌≡◌, ap, arith, length, map, subst, sym, take}
+use Rattle.std.proofs.Common.{◌≡◌, arith, length, map, subst, sym, take}
 use Rattle.std.proofs.lemmas.List.{length-map}
 use Rattle.smarts_parse.specs.Pattern.{graph_of, pattern_of}
 use Rattle.matcher.specs.Least.{IsLeast}
-use Rattle.matcher.specs.Parts.{AreNoted, AreSoundParts}
+use Rattle.matcher.specs.Parts.{AreNoted}
 use Rattle.matcher.proofs.PartsHeld.{least_of, none_of, searchable_top, sound_parts}
 use Rattle.matcher.proofs.Places.{take_all}
 use Rattle.matcher.proofs.answer.find.Goals as goal

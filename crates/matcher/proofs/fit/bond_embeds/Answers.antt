@@ -1,4 +1,4 @@
-use Rattle.std.proofs.Common.{◌≡◌, ◌∙◌, subst, sym, min, max, ◌<◌, length, get_or, slice_index, ap, ℕ, ◌↔◌, IsTrue}
+use Rattle.std.proofs.Common.{◌≡◌, ◌∙◌, subst, min, get_or, ℕ, ◌↔◌, IsTrue}
 use Rattle.chem_core.specs.Graph.{JoinsAt}
 use Rattle.chem_core.specs.Molecule.{ends_of}
 use Rattle.smarts_parse.specs.Pattern.{bond_of, term_of}

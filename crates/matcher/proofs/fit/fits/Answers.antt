@@ -1,10 +1,9 @@
 -- A new atom, its expression true, its bonds embedded.
-use Rattle.std.proofs.Common.{◌≡◌, ◌≢◌, ◌++◌, ◌∷◌, ◌+◌, ◌-◌, [], All, Some, arith, drop, length, map, max, refl, slice_get, subst, sym, take}
+use Rattle.std.proofs.Common.{◌≡◌, ◌≢◌, ◌++◌, ◌∷◌, [], Some, length, max, refl, slice_get}
 use Rattle.smarts_mean.specs.Table.{HoldsIn}
 use Rattle.smarts_parse.specs.Embedding.{BondEmbeds}
-use Rattle.smarts_parse.specs.Pattern.{bond_of, graph_of, term_of}
+use Rattle.smarts_parse.specs.Pattern.{graph_of, term_of}
 use Rattle.smarts_parse.specs.Sound.{NamesBelow}
-use Rattle.matcher.specs.Plan.{step_at}
 use Rattle.matcher.proofs.Joins.{All-image}
 use Rattle.matcher.proofs.Partials.{IsPartial-last, IsPartial-push}
 use Rattle.matcher.proofs.Plans.{all_of_step, step_of_all}

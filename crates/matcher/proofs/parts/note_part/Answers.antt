@@ -1,5 +1,5 @@
 -- A part is searched for from each atom in turn.
-use Rattle.std.proofs.Common.{◌≡◌, ◌<◌, ◌≤◌, Global, Some, Vec, ap, arith, length, map, slice_get, subst, sym, vec_len}
+use Rattle.std.proofs.Common.{◌≡◌, ◌<◌, ◌≤◌, Global, Vec, ap, arith, length, map, subst, sym, vec_len}
 use Rattle.std.proofs.lemmas.List.{length-map}
 use Rattle.smarts_parse.specs.Pattern.{graph_of, term_of}
 use Rattle.matcher.specs.declared.plan.Step.{Step}

@@ -1,7 +1,6 @@
 -- Each bond goes into the step of its higher end.
-use Rattle.std.proofs.Common.{◌≡◌, ◌<◌, ◌≤◌, ◌∙◌, ap, arith, get_or, length, max, refl, sym, subst}
-use Rattle.std.proofs.lemmas.List.{get_or-map, length-map}
-use Rattle.smarts_parse.specs.Pattern.{BondTerm, bond_of, graph_of, term_of}
+use Rattle.std.proofs.Common.{◌<◌, ◌∙◌, arith, length, max, refl, sym, subst}
+use Rattle.smarts_parse.specs.Pattern.{graph_of}
 use Rattle.matcher.proofs.Plans.{high_below, planned_next}
 use Rattle.matcher.proofs.plan.plan.Goals as goal
 

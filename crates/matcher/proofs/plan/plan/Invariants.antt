@@ -1,6 +1,5 @@
 use Rattle.std.proofs.Common.{◌≡◌, ℕ, ◌<◌, ◌≤◌, length}
 use Rattle.smarts_parse.specs.Pattern.{graph_of}
-use Rattle.matcher.specs.declared.plan.Step.{Step}
 use Rattle.matcher.specs.Plan.{ArePlanned, step_at}
 use Rattle.matcher.proofs.Plans.{empty}
 use Rattle.matcher.proofs.plan.plan.Given as goal

@@ -1,5 +1,5 @@
 -- Each atom is tried in turn.
-use Rattle.std.proofs.Common.{◌≡◌, ◌++◌, ◌∷◌, ◌∙◌, ◌+◌, ◌<◌, ◌≤◌, ℕ, [], ap, arith, below_more, get_or, length, length-append, map, refl, rules, slice_index_or, subst, sym, take}
+use Rattle.std.proofs.Common.{◌≡◌, ◌++◌, ◌∷◌, ◌∙◌, ◌<◌, ◌≤◌, [], ap, arith, below_more, get_or, length, map, refl, rules, slice_index_or, subst, sym, take}
 use Rattle.std.proofs.lemmas.Bool.{iff_false}
 use Rattle.std.proofs.lemmas.List.{length-map, length-take-le}
 use Rattle.smarts_mean.specs.Table.{HoldsIn}

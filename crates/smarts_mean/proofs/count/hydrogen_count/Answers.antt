@@ -1,5 +1,5 @@
 -- The neighbours are looked at in turn.
-use Rattle.std.proofs.Common.{◌≡◌, arith, ap, length, get_or, eqb, sym, subst, true, ◌∙◌, ◌+◌}
+use Rattle.std.proofs.Common.{◌≡◌, arith, length, get_or, eqb, sym, subst, true, ◌∙◌, ◌+◌}
 use Rattle.std.proofs.lemmas.Bool.{eq-eqb, eqb-true}
 use Rattle.chem_core.specs.Molecule.{ends_of}
 use Rattle.smarts_parse.specs.Truth.{is_hydrogen}

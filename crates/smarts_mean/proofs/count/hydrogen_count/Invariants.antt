@@ -1,4 +1,4 @@
-use Rattle.std.proofs.Common.{◌≡◌, ℕ, true}
+use Rattle.std.proofs.Common.{◌≡◌, true}
 use Rattle.smarts_parse.specs.Truth.{is_hydrogen}
 use Rattle.smarts_mean.proofs.Chosen.{Chosen}
 use Rattle.smarts_mean.proofs.count.hydrogen_count.Given as goal

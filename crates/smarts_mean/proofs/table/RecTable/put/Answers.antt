@@ -1,4 +1,4 @@
-use Rattle.std.proofs.Common.{◌≡◌, ◌+◌, ◌*◌, ◌/◌, ◌%◌, ◌<◌, length, get_or, arith}
+use Rattle.std.proofs.Common.{◌≡◌, ◌+◌, ◌*◌, ◌/◌, ◌<◌, length, get_or, arith}
 use Rattle.smarts_mean.proofs.Bits.{entry_put}
 use Rattle.smarts_mean.proofs.table.RecTable.put.Goals as goal
 
