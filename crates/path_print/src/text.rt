@@ -22,9 +22,9 @@ pub struct Text {
     // The strings as numbers, the first byte highest.
     there: u128,
     back: u128,
-    length: u8,
     // The hash of the first.
     hash: u64,
+    length: u64,
 }
 
 impl Model for Text {
@@ -46,8 +46,8 @@ impl Text {
         Text {
             there: number,
             back: number,
-            length: 2,
             hash: (SEED * FACTOR * FACTOR + sum_of(0, label.0, label.1)) % PRIME,
+            length: 2,
         }
     }
 
@@ -61,8 +61,8 @@ impl Text {
         Text {
             there: (self.there << 24) + number_of(byte, label.0, label.1),
             back: (number_of(label.0, label.1, byte) << (8 * self.length)) + self.back,
-            length: self.length + 3,
             hash: (self.hash * FACTOR * FACTOR * FACTOR + tail) % PRIME,
+            length: self.length + 3,
         }
     }
 
