@@ -6,14 +6,15 @@ use Rattle.std.specs.Ordering.{nat_cmp, ordering_then, is_lt}
 use Rattle.std.specs.Cmp.{nat_cmp_is}
 use Rattle.std.specs.Cmp.Lexicographic.{slice_cmp}
 use Rattle.std.proofs.Math.Nat.{pow-succ', mul-le-mul_right, mod-add-mod, add-mod-mod}
+use Rattle.std.proofs.Math.Pow.{pow_mono}
 use Rattle.std.proofs.lemmas.Nat.{mul-mod_first, mul-mod_second, shl_whole, mul-mod}
 use Rattle.std.proofs.lemmas.Bool.{cases_lt, cases_eq}
 use Rattle.std.proofs.lemmas.Bool.Decides.{nat_tests}
 use Rattle.std.proofs.lemmas.List.{length-append, append-nil}
 use Rattle.std.proofs.lemmas.List.Sums.{fold-append}
-use Rattle.path_print.specs.declared.text.TheConstants.{POWERS}
-use Rattle.path_print.specs.Path.{hash_of, lesser, bit_of}
-use Rattle.path_print.specs.Texts.{digits, sum_of_bytes, IsTextInside}
+use Rattle.std.specs.Prelude.{None, Some}
+use Rattle.path_print.specs.Path.{hash_of}
+use Rattle.path_print.specs.Texts.{digits, own_bit, IsTextInside}
 
 -- ---- bytes at the end
 
@@ -114,6 +115,10 @@ slice_cmp-digits (suc k) m n hm hn =
 
 -- ---- hashes
 
+-- what bytes add to a hash
+sum_of_bytes : List ℕ → ℕ
+sum_of_bytes bytes = fold (λ h byte. 131 * h + byte) 0 bytes
+
 sum_from : (h : ℕ) (xs : List ℕ) → fold (λ s b. 131 * s + b) h xs ≡ h * 131 ^ length xs + sum_of_bytes xs
 unfolding sum_of_bytes
 sum_from h [] = omega arith
@@ -123,39 +128,6 @@ sum_from h (x ∷ xs) =
     let one = sum_from (131 * h + x) xs in
     let two = sum_from (131 * 0 + x) xs in
     one ∙ rw p (sym (ap (λ s. h * (131 * 131 ^ length xs) + s) two ∙ grind arith))
-
-sum-push_three : (xs : List ℕ) (a b c : ℕ) → sum_of_bytes (xs ++ a ∷ b ∷ c ∷ []) ≡ sum_of_bytes xs * 131 * 131 * 131 + (17161 * a + 131 * b + c)
-unfolding sum_of_bytes
-sum-push_three xs a b c = fold-append (λ s b. 131 * s + b) 0 xs (a ∷ b ∷ c ∷ []) ∙ omega arith
-
-sum-front_three : (a b c : ℕ) (xs : List ℕ) → sum_of_bytes (a ∷ b ∷ c ∷ xs) ≡ (17161 * a + 131 * b + c) * 131 ^ length xs + sum_of_bytes xs
-unfolding sum_of_bytes
-sum-front_three a b c xs =
-    let start : 131 * (131 * (0 + a) + b) + c ≡ 17161 * a + 131 * b + c = omega arith in
-    sum_from (131 * (131 * (0 + a) + b) + c) xs ∙ ap (λ u. u * 131 ^ length xs + sum_of_bytes xs) start
-
--- what is kept of a sum, after three more bytes at the end
-pub adds-push_three : (s : ℕ) (xs : List ℕ) (a b c : ℕ) → s ≡ sum_of_bytes xs % 65521 → (s * 131 * 131 * 131 + (17161 * a + 131 * b + c)) % 65521 ≡ sum_of_bytes (xs ++ a ∷ b ∷ c ∷ []) % 65521
-adds-push_three s xs a b c h =
-    rw (sum-push_three, h)
-    (sym (mod-add-mod (sum_of_bytes xs % 65521 * 131 * 131 * 131) 65521 (17161 * a + 131 * b + c))
-    ∙ ap (λ m. (m + (17161 * a + 131 * b + c)) % 65521) (three (sum_of_bytes xs))
-    ∙ mod-add-mod (sum_of_bytes xs * 131 * 131 * 131) 65521 (17161 * a + 131 * b + c))
-  where
-    one : (x y : ℕ) → x % 65521 ≡ y % 65521 → (x * 131) % 65521 ≡ (y * 131) % 65521
-    one x y e = sym (mul-mod_first x 131 65521) ∙ ap (λ m. (m * 131) % 65521) e ∙ mul-mod_first y 131 65521
-    three : (n : ℕ) → (n % 65521 * 131 * 131 * 131) % 65521 ≡ (n * 131 * 131 * 131) % 65521
-    three n = one _ _ (one _ _ (mul-mod_first n 131 65521))
-
--- the same in front
-pub adds-front_three : (s p : ℕ) (a b c : ℕ) (xs : List ℕ) → s ≡ sum_of_bytes xs % 65521 → p ≡ 131 ^ length xs % 65521 → ((17161 * a + 131 * b + c) * p + s) % 65521 ≡ sum_of_bytes (a ∷ b ∷ c ∷ xs) % 65521
-adds-front_three s p a b c xs h e =
-    let u : ℕ = 17161 * a + 131 * b + c in
-    rw (sum-front_three, h, e)
-    (add-mod-mod (u * (131 ^ length xs % 65521)) (sum_of_bytes xs) 65521
-    ∙ sym (mod-add-mod (u * (131 ^ length xs % 65521)) 65521 (sum_of_bytes xs))
-    ∙ ap (λ m. (m + sum_of_bytes xs) % 65521) (mul-mod_second u (131 ^ length xs) 65521)
-    ∙ mod-add-mod (u * 131 ^ length xs) 65521 (sum_of_bytes xs))
 
 hash_from : (h : ℕ) (xs : List ℕ) → h < 65521 → fold (λ s b. (131 * s + b) % 65521) h xs ≡ (h * 131 ^ length xs + sum_of_bytes xs) % 65521
 unfolding sum_of_bytes
@@ -170,48 +142,36 @@ hash_from h (x ∷ xs) low =
     ∙ mod-add-mod (k * 131 ^ length xs) 65521 (sum_of_bytes xs)
     ∙ ap (λ m. m % 65521) (sym (sum_from k xs) ∙ sum_from h (x ∷ xs))
 
--- the hash from what is kept
-pub hash-kept : (s p : ℕ) (xs : List ℕ) → s ≡ sum_of_bytes xs % 65521 → p ≡ 131 ^ length xs % 65521 → (7 * p + s) % 65521 ≡ hash_of xs
-hash-kept s p xs h e =
-    rw (h, e)
-    (add-mod-mod (7 * (131 ^ length xs % 65521)) (sum_of_bytes xs) 65521
-    ∙ sym (mod-add-mod (7 * (131 ^ length xs % 65521)) 65521 (sum_of_bytes xs))
-    ∙ ap (λ m. (m + sum_of_bytes xs) % 65521) (mul-mod_second 7 (131 ^ length xs) 65521)
-    ∙ mod-add-mod (7 * 131 ^ length xs) 65521 (sum_of_bytes xs)
-    ∙ sym (hash_from 7 xs (omega arith)))
+hash_small : (xs : List ℕ) → hash_of xs < 65521
+hash_small xs = rw (hash_from 7 xs (omega arith)) (omega arith)
 
-pub powers-at : (k : ℕ) → k < 15 → get_or POWERS k 0 ≡ 131 ^ k % 65521
-powers-at zero h = refl
-powers-at (suc zero) h = refl
-powers-at (suc (suc zero)) h = refl
-powers-at (suc (suc (suc zero))) h = refl
-powers-at (suc (suc (suc (suc zero)))) h = refl
-powers-at (suc (suc (suc (suc (suc zero))))) h = refl
-powers-at (suc (suc (suc (suc (suc (suc zero)))))) h = refl
-powers-at (suc (suc (suc (suc (suc (suc (suc zero))))))) h = refl
-powers-at (suc (suc (suc (suc (suc (suc (suc (suc zero)))))))) h = refl
-powers-at (suc (suc (suc (suc (suc (suc (suc (suc (suc zero))))))))) h = refl
-powers-at (suc (suc (suc (suc (suc (suc (suc (suc (suc (suc zero)))))))))) h = refl
-powers-at (suc (suc (suc (suc (suc (suc (suc (suc (suc (suc (suc zero))))))))))) h = refl
-powers-at (suc (suc (suc (suc (suc (suc (suc (suc (suc (suc (suc (suc zero)))))))))))) h = refl
-powers-at (suc (suc (suc (suc (suc (suc (suc (suc (suc (suc (suc (suc (suc zero))))))))))))) h = refl
-powers-at (suc (suc (suc (suc (suc (suc (suc (suc (suc (suc (suc (suc (suc (suc zero)))))))))))))) h = refl
-powers-at (suc (suc (suc (suc (suc (suc (suc (suc (suc (suc (suc (suc (suc (suc (suc k))))))))))))))) h = absurd (omega arith)
+-- the hash after three more bytes
+hash-push_three : (h a b c : ℕ) (xs : List ℕ) → h ≡ hash_of xs → (h * 131 * 131 * 131 + (17161 * a + 131 * b + c)) % 65521 ≡ hash_of (xs ++ a ∷ b ∷ c ∷ [])
+unfolding sum_of_bytes
+hash-push_three h a b c xs is =
+    let same : h * 131 * 131 * 131 + (17161 * a + 131 * b + c) ≡ h * 2248091 + (131 * (131 * (131 * 0 + a) + b) + c) = omega arith in
+    ap (λ n. n % 65521) same
+    ∙ ap (λ k. (k * 2248091 + (131 * (131 * (131 * 0 + a) + b) + c)) % 65521) is
+    ∙ sym (hash_from (hash_of xs) (a ∷ b ∷ c ∷ []) (hash_small xs))
+    ∙ sym (fold-append (λ s b. (131 * s + b) % 65521) 7 xs (a ∷ b ∷ c ∷ []))
 
--- the bit of the lesser string, from what is kept
-pub bit-kept : (k m n s t sum p : ℕ) → m < 256 ^ k → n < 256 ^ k → s ≡ sum_of_bytes (digits k m) % 65521 → t ≡ sum_of_bytes (digits k n) % 65521
-    → p ≡ 131 ^ k % 65521 → ((n < m) × (sum ≡ t)) ⊎ ((m ≤ n) × (sum ≡ s)) → (7 * p + sum) % 65521 % 1024 ≡ bit_of (digits k m) (digits k n)
-bit-kept k m n s t sum p hm hn hs ht hp cases =
+hash_two : (a b : ℕ) → (7 * 131 * 131 + (17161 * 0 + 131 * a + b)) % 65521 ≡ hash_of (a ∷ b ∷ [])
+unfolding sum_of_bytes
+hash_two a b =
+    let same : 7 * 131 * 131 + (17161 * 0 + 131 * a + b) ≡ 7 * 17161 + (131 * (131 * 0 + a) + b) = omega arith in
+    ap (λ n. n % 65521) same ∙ sym (hash_from 7 (a ∷ b ∷ []) (omega arith))
+
+-- the bit from what is kept
+pub own_bit-yes : (k m n h : ℕ) → m < 256 ^ k → n < 256 ^ k → h ≡ hash_of (digits k m) → m ≤ n → Some (h % 1024) ≡ own_bit (record { there = digits k m; back = digits k n })
+own_bit-yes k m n h hm hn is le =
     let order = slice_cmp-digits k n m hn hm in
-    elim cases [
-      | inl q ↦ rw (order, less n m q.0) (ap (λ h. h % 1024) (hash-kept sum p (digits k n) (q.1 ∙ ht) (hp ∙ ap (λ j. 131 ^ j % 65521) (sym (length-digits k n)))))
-      | inr q ↦
-          let here = ap (λ h. h % 1024) (hash-kept sum p (digits k m) (q.1 ∙ hs) (hp ∙ ap (λ j. 131 ^ j % 65521) (sym (length-digits k m)))) in
-          elim (cases_eq n m) [
-            | inl e ↦ rw (order, equal n m e) here
-            | inr d ↦ rw (order, greater n m (omega (arith, q.0))) here
-          ]
+    elim (cases_eq n m) [
+      | inl e ↦ rw (order, equal n m e) (ap (λ g. Some (g % 1024)) is)
+      | inr d ↦ rw (order, greater n m (omega arith)) (ap (λ g. Some (g % 1024)) is)
     ]
+
+pub own_bit-no : (k m n : ℕ) → m < 256 ^ k → n < 256 ^ k → n < m → None ≡ own_bit (record { there = digits k m; back = digits k n })
+own_bit-no k m n hm hn lt = rw (slice_cmp-digits k n m hn hm, less n m lt)
 
 -- ---- texts
 
@@ -222,15 +182,11 @@ digits-two n a b ha hb is =
     let high : n / 256 % 256 ≡ a = omega arith in
     rw (low, high)
 
-sum-two : (a b : ℕ) → sum_of_bytes (a ∷ b ∷ []) ≡ 17161 * 0 + 131 * a + b
-unfolding sum_of_bytes
-sum-two a b = omega arith
-
-pub two_inside : (n s a b : ℕ) → a < 256 → b < 256 → n ≡ 65536 * 0 + 256 * a + b → s ≡ 17161 * 0 + 131 * a + b → IsTextInside 2 n n (s % 65521) (s % 65521) × (digits 2 n ≡ a ∷ b ∷ [])
+pub two_inside : (n s a b : ℕ) → a < 256 → b < 256 → n ≡ 65536 * 0 + 256 * a + b → s ≡ 17161 * 0 + 131 * a + b → IsTextInside 2 n n ((7 * 131 * 131 + s) % 65521) × (digits 2 n ≡ a ∷ b ∷ [])
 two_inside n s a b ha hb is adds =
     let two = digits-two n a b ha hb is in
-    let sum : s % 65521 ≡ sum_of_bytes (digits 2 n) % 65521 = rw two (ap (λ m. m % 65521) (adds ∙ sym (sum-two a b))) in
-    (record { few = lit≤ tt; there_fits = omega arith; back_fits = omega arith; there_adds = sum; back_adds = sum }, two)
+    let hash : (7 * 131 * 131 + s) % 65521 ≡ hash_of (digits 2 n) = rw two (ap (λ t. (7 * 131 * 131 + t) % 65521) adds ∙ hash_two a b) in
+    (record { few = lit≤ tt; there_fits = omega arith; back_fits = omega arith; hashes = hash; small = omega arith }, two)
 
 digits-three : (n a b c : ℕ) → a < 256 → b < 256 → c < 256 → n ≡ 65536 * a + 256 * b + c → digits 3 n ≡ a ∷ b ∷ c ∷ []
 unfolding digits
@@ -264,7 +220,7 @@ pow_three k =
     let p3 = pow-succ' 256 (suc (suc k)) in
     rw e (omega arith)
 
-module _ (k there back s t p byte l r tail tail_sum head head_sum : ℕ) (room : k ≤ 11) (inside : IsTextInside k there back s t) (hb : byte < 256) (hl : l < 256) (hr : r < 256) (power : p ≡ 131 ^ k % 65521) (is_tail : tail ≡ 65536 * byte + 256 * l + r) (is_tail_sum : tail_sum ≡ 17161 * byte + 131 * l + r) (is_head : head ≡ 65536 * l + 256 * r + byte) (is_head_sum : head_sum ≡ 17161 * l + 131 * r + byte) where
+module _ (k there back hash byte l r tail tail_sum head : ℕ) (room : k ≤ 11) (inside : IsTextInside k there back hash) (hb : byte < 256) (hl : l < 256) (hr : r < 256) (is_tail : tail ≡ 65536 * byte + 256 * l + r) (is_tail_sum : tail_sum ≡ 17161 * byte + 131 * l + r) (is_head : head ≡ 65536 * l + 256 * r + byte) where
   there_whole : there * 16777216 % 2 ^ 128 ≡ there * 16777216
   there_whole =
       let fits : there < 2 ^ (8 * k) = rw pow_bits at inside.there_fits in
@@ -283,7 +239,7 @@ module _ (k there back s t p byte l r tail tail_sum head head_sum : ℕ) (room :
       let e : k + 3 ≡ 3 + k = omega arith in
       rw (back_whole, e) (digits-join 3 k head back inside.back_fits ∙ ap (λ xs. xs ++ digits k back) (digits-three head l r byte hl hr hb is_head))
 
-  pub longer_inside : IsTextInside (k + 3) (there * 16777216 % 2 ^ 128 + tail) (head * 2 ^ (8 * k) % 2 ^ 128 + back) ((s * 131 * 131 * 131 + tail_sum) % 65521) ((head_sum * p + t) % 65521)
+  pub longer_inside : IsTextInside (k + 3) (there * 16777216 % 2 ^ 128 + tail) (head * 2 ^ (8 * k) % 2 ^ 128 + back) ((hash * 131 * 131 * 131 + tail_sum) % 65521)
   longer_inside =
       let pw = pow_three k in
       let lo = inside.there_fits in
@@ -294,6 +250,14 @@ module _ (k there back s t p byte l r tail tail_sum head head_sum : ℕ) (room :
         few = omega arith;
         there_fits = rw there_whole (omega arith);
         back_fits = rw back_whole (omega arith);
-        there_adds = rw (longer_there, is_tail_sum) (adds-push_three s (digits k there) byte l r inside.there_adds);
-        back_adds = rw (longer_back, is_head_sum) (adds-front_three t p l r byte (digits k back) inside.back_adds (power ∙ ap (λ j. 131 ^ j % 65521) (sym (length-digits k back))));
+        hashes = rw (longer_there, is_tail_sum) (hash-push_three hash byte l r (digits k there) inside.hashes);
+        small = omega arith;
       }
+
+  pub longer_fits : head * 2 ^ (8 * k) % 2 ^ 128 + back < 2 ^ 128
+  longer_fits =
+      let low = longer_inside.back_fits in
+      let bits = pow_bits (k + 3) in
+      let few : 8 * (k + 3) ≤ 112 = omega arith in
+      let most : 2 ^ (8 * (k + 3)) ≤ 2 ^ 112 = pow_mono few in
+      omega (arith, low, bits, most)

@@ -119,13 +119,13 @@ square_step bs b old new square size ha hb fresh cases x y hx hy =
                 let i : ℕ = 256 * b.a + b.b in
                 let j : ℕ = 256 * b.b + b.a in
                 let ni : 256 * x + y ≢ i = λ e.
-                    let ea : x ≡ b.a = omega arith in
-                    let eb : y ≡ b.b = omega arith in
-                    false≢true (sym apart ∙ rw (ea, eb) (ends_there b.a b.b)) in
+                let ea : x ≡ b.a = omega arith in
+                let eb : y ≡ b.b = omega arith in
+                false≢true (sym apart ∙ rw (ea, eb) (ends_there b.a b.b)) in
                 let nj : 256 * x + y ≢ j = λ e.
-                    let ea : x ≡ b.b = omega arith in
-                    let eb : y ≡ b.a = omega arith in
-                    false≢true (sym apart ∙ rw (ea, eb) (ends_back b.b b.a)) in
+                let ea : x ≡ b.b = omega arith in
+                let eb : y ≡ b.a = omega arith in
+                false≢true (sym apart ∙ rw (ea, eb) (ends_back b.b b.a)) in
                 ap (λ zs. get_or zs (256 * x + y) 0) q.2 ∙ get_or-set_other (set old i n) j (256 * x + y) n 0 nj ∙ get_or-set_other old i (256 * x + y) n 0 ni
           ] in
           kept ∙ square x y hx hy ∙ sym is

@@ -1,14 +1,19 @@
 -- Walks that set the bits of all paths that begin with a path.
-use Rattle.std.proofs.Common.{ℕ, zero, suc, ◌+◌, ◌-◌, ◌<◌, ◌≤◌, ◌≡◌, ◌≢◌, ◌⊎◌, ◌↔◌, inl, inr, Bool, List, [], ◌∷◌, ◌++◌, length, get_or, take, reverse, AllPairs, Contains, refl, sym, ap, ◌∙◌, subst, ⊎_elim, lit≤, arith}
+use Rattle.std.proofs.Common.{ℕ, zero, suc, ◌+◌, ◌-◌, ◌%◌, ◌<◌, ◌≤◌, ◌≡◌, ◌≢◌, ◌⊎◌, ◌↔◌, inl, inr, Bool, true, false, cond, List, [], ◌∷◌, ◌++◌, length, get_or, take, reverse, AllPairs, Contains, refl, sym, ap, ◌∙◌, subst, ⊎_elim, lit≤, arith}
 use Rattle.std.specs.Prelude.{Option, None, Some, IfSome, IfNone, option_map, option_and_then}
 use Rattle.std.proofs.lemmas.Bool.{cases_lt, cases_eq}
-use Rattle.std.proofs.lemmas.List.{append_assoc, append-nil, length-append, get_or_append_left, get_or_default}
+use Rattle.std.specs.declared.cmp.Ordering.{Ordering}
+use Rattle.std.specs.declared.cmp.Ordering.TheVariants.{Less, Equal, Greater}
+use Rattle.std.specs.Ordering.{nat_cmp, is_lt, ordering_reverse}
+use Rattle.std.specs.Cmp.Lexicographic.{slice_cmp}
+use Rattle.std.proofs.lemmas.Cmp.{nat_list_cmp_total}
+use Rattle.std.proofs.lemmas.List.{length-reverse, reverse-reverse, get_or-reverse, append_assoc, append-nil, length-append, get_or_append_left, get_or_default}
 use Rattle.std.proofs.lemmas.List.Quantifiers.{all_pairs_push}
 use Rattle.std.proofs.lemmas.Option.{none-some, same_Some}
 use Rattle.chem_core.specs.Bits.{HasBit}
 use Rattle.path_print.specs.declared.known.Known.{Known}
-use Rattle.path_print.specs.Path.{Family, exact, plain, label_of, View, string_of, bit_of, IsPath}
-use Rattle.path_print.specs.Texts.{TextTerm, PathTerm, text_in, longer_if, of_label, path_start, path_longer, IsOn, IsOneLonger, NoneFrom, IsBitHere, IsBitFrom, SetsBits, last_of}
+use Rattle.path_print.specs.Path.{Family, exact, plain, label_of, View, string_of, hash_of, bit_of, IsPath}
+use Rattle.path_print.specs.Texts.{TextTerm, PathTerm, text_in, longer_if, of_label, path_start, path_longer, IsOn, IsOneLonger, NoneFrom, IsBitHere, IsBitFrom, SetsBits, last_of, own_bit}
 use Rattle.path_print.specs.Prints.{HasPathBits}
 use Rattle.path_print.proofs.Options.{and_then_some, map_some}
 use Rattle.path_print.proofs.Carries.{labels_in}
@@ -21,7 +26,9 @@ IsBitVia views atoms to i bit = (k : ℕ) × (k < i) × IsBitFrom views (atoms +
 -- ---- bits that are set
 
 pub sets_more : (H : ℕ → Type 0) (F : ℕ → ℕ → Type 0) (i : ℕ) (a b c : List Bool) → SetsBits (λ bit. H bit ⊎ ((k : ℕ) × (k < i) × F k bit)) a b → SetsBits (F i) b c → SetsBits (λ bit. H bit ⊎ ((k : ℕ) × (k < i + 1) × F k bit)) a c
-sets_more H F i a b c first second = record { size = second.size ∙ first.size; bits = λ bit. (
+sets_more H F i a b c first second = record {
+  size = second.size ∙ first.size;
+  bits = λ bit. (
     λ h. elim ((second.bits bit).0 h) [
       | inl g ↦ elim ((first.bits bit).0 g) [
         | inl old ↦ inl old
@@ -39,16 +46,20 @@ sets_more H F i a b c first second = record { size = second.size ∙ first.size;
         ]
       ]
     ],
-  ) }
+  );
+}
 
 pub sets_none : (F : ℕ → Type 0) (a : List Bool) → ((bit : ℕ) → F bit → ⊥) → SetsBits F a a
 sets_none F a none = record { size = refl; bits = λ bit. (λ h. inl h, λ h. ⊎_elim (λ g. g) (λ f. absurd (none bit f)) h) }
 
 pub sets_same : (F G : ℕ → Type 0) (a b : List Bool) → ((bit : ℕ) → F bit → G bit) → ((bit : ℕ) → G bit → F bit) → SetsBits F a b → SetsBits G a b
-sets_same F G a b there back sets = record { size = sets.size; bits = λ bit. (
+sets_same F G a b there back sets = record {
+  size = sets.size;
+  bits = λ bit. (
     λ h. elim ((sets.bits bit).0 h) [ inl old ↦ inl old | inr f ↦ inr (there bit f) ],
     λ h. elim h [ inl old ↦ (sets.bits bit).1 (inl old) | inr g ↦ (sets.bits bit).1 (inr (back bit g)) ],
-  ) }
+  );
+}
 
 -- ---- one step
 
@@ -126,6 +137,7 @@ module _ (views : Family → View) (symmetric : (family : Family) (x y : ℕ) �
       get_or-push : (xs : List ℕ) (y : ℕ) → get_or (xs ++ y ∷ []) (length xs) y ≡ y
       get_or-push [] y = refl
       get_or-push (x ∷ xs) y = get_or-push xs y
+
       no_text : (family : Family) → ((path_longer p y b known).exact ≡ None) × ((path_longer p y b known).plain ≡ None) → (r : List ℕ) → string_of (views family) (p.atoms ++ y ∷ []) ≡ Some r → ⊥
       no_text exact none r is = none-some r (sym (ap (option_map (λ t. t.there)) none.0) ∙ longer_there exact ∙ is)
       no_text plain none r is = none-some r (sym (ap (option_map (λ t. t.there)) none.1) ∙ longer_there plain ∙ is)
@@ -141,16 +153,20 @@ module _ (views : Family → View) (symmetric : (family : Family) (x y : ℕ) �
 
 -- ---- all steps
 
+-- a text is its two strings
+parts_of : (t : TextTerm) (there back : List ℕ) → t.there ≡ there → t.back ≡ back → ◌≡◌ {A = TextTerm} t (record { there = there; back = back })
+parts_of t there back e f = rw (sym e, sym f)
+
 -- what goes on from a path: nothing, or a step to an atom by a bond with a byte
 pub from_cases : (views : Family → View) (p : PathTerm) → IsOn views p → (bit : ℕ) → IsBitFrom views p.atoms bit → IsBitHere p bit ⊎ ((y : ℕ) × ((family : Family) × (b : ℕ) × ((views family).byte (last_of p.atoms) y ≡ Some b)) × IsBitFrom views (p.atoms ++ y ∷ []) bit)
 from_cases views p on bit from = at from.0 from.1 from.2 from.3 from.4 from.5
   where
-    at : (family : Family) (more there back : List ℕ) → IsPath (views family) (p.atoms ++ more) there back → bit ≡ bit_of there back → IsBitHere p bit ⊎ ((y : ℕ) × ((family : Family) × (b : ℕ) × ((views family).byte (last_of p.atoms) y ≡ Some b)) × IsBitFrom views (p.atoms ++ y ∷ []) bit)
+    at : (family : Family) (more there back : List ℕ) → IsPath (views family) (p.atoms ++ more) there back → own_bit (record { there = there; back = back }) ≡ Some bit → IsBitHere p bit ⊎ ((y : ℕ) × ((family : Family) × (b : ℕ) × ((views family).byte (last_of p.atoms) y ≡ Some b)) × IsBitFrom views (p.atoms ++ y ∷ []) bit)
     at family [] there back path is =
         let t = map_some (λ t. t.there) (text_in p family) there (on.there family ∙ sym (ap (string_of (views family)) (append-nil p.atoms)) ∙ path.reads) in
         let u = map_some (λ t. t.back) (text_in p family) back (on.back family ∙ sym (ap (λ xs. string_of (views family) (reverse xs)) (append-nil p.atoms)) ∙ path.reads_back) in
         let one : u.0 ≡ t.0 = same_Some u.0 t.0 (sym u.1 ∙ t.1) in
-        inl (family, t.0, t.1, is ∙ ap (λ s. bit_of s back) (sym t.2) ∙ ap (bit_of t.0.there) (sym u.2 ∙ ap (λ t. t.back) one))
+        inl (family, t.0, t.1, ap own_bit (parts_of t.0 there back t.2 (ap (λ t. t.back) (sym one) ∙ u.2)) ∙ is)
     at family (y ∷ ys) there back path is =
         let whole = split_last p.atoms on.some in
         let same : p.atoms ++ y ∷ ys ≡ (p.atoms ++ y ∷ []) ++ ys = sym (append_assoc p.atoms (y ∷ []) ys) in
@@ -219,12 +235,15 @@ start_on views atom known label = record {
     two : (o : Option (ℕ × ℕ)) → option_map (λ t. t.there) (option_map of_label o) ≡ option_map (λ l. l.0 ∷ l.1 ∷ []) o
     two None = refl
     two (Some l) = refl
+
     two_back : (o : Option (ℕ × ℕ)) → option_map (λ t. t.back) (option_map of_label o) ≡ option_map (λ l. l.0 ∷ l.1 ∷ []) o
     two_back None = refl
     two_back (Some l) = refl
+
     there : (family : Family) → option_map (λ t. t.there) (text_in (path_start atom known) family) ≡ string_of (views family) (atom ∷ [])
     there exact = two (label_of exact known) ∙ ap (option_map (λ l. l.0 ∷ l.1 ∷ [])) (sym (label exact))
     there plain = two (label_of plain known) ∙ ap (option_map (λ l. l.0 ∷ l.1 ∷ [])) (sym (label plain))
+
     back : (family : Family) → option_map (λ t. t.back) (text_in (path_start atom known) family) ≡ string_of (views family) (atom ∷ [])
     back exact = two_back (label_of exact known) ∙ ap (option_map (λ l. l.0 ∷ l.1 ∷ [])) (sym (label exact))
     back plain = two_back (label_of plain known) ∙ ap (option_map (λ l. l.0 ∷ l.1 ∷ [])) (sym (label plain))
@@ -254,6 +273,37 @@ below_more views i a b c first second = record {
   );
 }
 
+-- ---- the two ends of a path
+
+own_is_bit : (there back : List ℕ) (bit : ℕ) → own_bit (record { there = there; back = back }) ≡ Some bit → bit ≡ bit_of there back
+own_is_bit there back bit h = at (is_lt (slice_cmp nat_cmp back there)) h
+  where
+    at : (b : Bool) → cond b None (Some (hash_of there % 1024)) ≡ Some bit → bit ≡ hash_of (cond b back there) % 1024
+    at true e = absurd (none-some bit e)
+    at false e = sym (same_Some (hash_of there % 1024) bit e)
+
+-- the bit is told from one end or the other
+own_or_other : (there back : List ℕ) → (own_bit (record { there = there; back = back }) ≡ Some (bit_of there back)) ⊎ (own_bit (record { there = back; back = there }) ≡ Some (bit_of there back))
+own_or_other there back = at (slice_cmp nat_cmp back there) (slice_cmp nat_cmp there back) (nat_list_cmp_total.antisymm there back)
+  where
+    at : (o p : Ordering) → p ≡ ordering_reverse o → (cond (is_lt o) None (Some (hash_of there % 1024)) ≡ Some (hash_of (cond (is_lt o) back there) % 1024)) ⊎ (cond (is_lt p) None (Some (hash_of back % 1024)) ≡ Some (hash_of (cond (is_lt o) back there) % 1024))
+    at Less p e = inr (ap (λ q. cond (is_lt q) None (Some (hash_of back % 1024))) e)
+    at Equal p e = inl refl
+    at Greater p e = inl refl
+
+-- a path walked from its other end
+path_back : (v : View) (atoms there back : List ℕ) → IsPath v atoms there back → IsPath v (reverse atoms) back there
+path_back v atoms there back path = record {
+  short = rw length-reverse path.short;
+  distinct = λ i j d lo hi same.
+      let hj : j < length atoms = rw length-reverse at hi in
+      let ti : get_or (reverse atoms) i d ≡ get_or atoms (length atoms - 1 - i) d = get_or-reverse atoms i d (omega arith) in
+      let tj : get_or (reverse atoms) j d ≡ get_or atoms (length atoms - 1 - j) d = get_or-reverse atoms j d hj in
+      path.distinct (length atoms - 1 - j) (length atoms - 1 - i) d (omega arith) (omega arith) (sym tj ∙ sym same ∙ ti);
+  reads = path.reads_back;
+  reads_back = ap (string_of v) (reverse-reverse atoms) ∙ path.reads;
+}
+
 -- all atoms: the bits of all paths
 pub below_all : (views : Family → View) (n : ℕ) (empty print : List Bool) → ((family : Family) (x : ℕ) (l : ℕ × ℕ) → (views family).label x ≡ Some l → x < n) → length empty ≡ 1024 → ((bit : ℕ) → HasBit empty bit → ⊥) → SetsBits (IsBitBelow views n) empty print → HasPathBits views print
 below_all views n empty print within size none sets = record {
@@ -261,17 +311,23 @@ below_all views n empty print within size none sets = record {
   bits = λ bit. (
     λ h. elim ((sets.bits bit).0 h) [
       | inl old ↦ absurd (none bit old)
-      | inr new ↦ let from = new.2 in (from.0, (new.0 ∷ from.1, from.2, from.3, from.4, from.5))
+      | inr new ↦ let from = new.2 in (from.0, (new.0 ∷ from.1, from.2, from.3, from.4, own_is_bit from.2 from.3 bit from.5))
     ],
-    λ h. (sets.bits bit).1 (inr (first h.0 bit h.1.0 h.1.1 h.1.2 h.1.3 h.1.4)),
+    λ h. (sets.bits bit).1 (inr (either_end h.0 bit h.1.0 h.1.1 h.1.2 h.1.3 h.1.4)),
   );
 }
   where
-    first : (family : Family) (bit : ℕ) (atoms there back : List ℕ) → IsPath (views family) atoms there back → bit ≡ bit_of there back → IsBitBelow views n bit
+    first : (family : Family) (bit : ℕ) (atoms there back : List ℕ) → IsPath (views family) atoms there back → own_bit (record { there = there; back = back }) ≡ Some bit → IsBitBelow views n bit
     first family bit [] there back path is = absurd (none-some there path.reads)
     first family bit (x ∷ xs) there back path is =
         let l = labels_in (views family) (x ∷ xs) there path.reads 0 0 (omega arith) in
         (x, within family x l.0 l.1, (family, xs, there, back, path, is))
+
+    either_end : (family : Family) (bit : ℕ) (atoms there back : List ℕ) → IsPath (views family) atoms there back → bit ≡ bit_of there back → IsBitBelow views n bit
+    either_end family bit atoms there back path is = elim (own_or_other there back) [
+      | inl here ↦ first family bit atoms there back path (here ∙ ap Some (sym is))
+      | inr other ↦ first family bit (reverse atoms) back there (path_back (views family) atoms there back path) (other ∙ ap Some (sym is))
+    ]
 
 -- without a bond that has a byte no path goes on
 pub none_without_byte : (views : Family → View) (p : PathTerm) → IsOn views p → (y : ℕ) → ((family : Family) (b : ℕ) → (views family).byte (last_of p.atoms) y ≡ Some b → ⊥) → NoneFrom views (p.atoms ++ y ∷ [])

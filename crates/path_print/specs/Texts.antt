@@ -1,8 +1,10 @@
 -- Strings of paths in both directions, and paths under way, for private clauses alone.
-use Rattle.std.specs.Prelude.{◌≡◌, ◌≢◌, ◌⊎◌, ◌↔◌, ℕ, zero, suc, ◌+◌, ◌-◌, ◌*◌, ◌/◌, ◌%◌, ◌^◌, ◌<◌, ◌≤◌, Bool, List, [], ◌∷◌, ◌++◌, length, slice_index, reverse, fold, AllPairs, Option, None, Some, IfSome, option_map, option_and_then}
+use Rattle.std.specs.Prelude.{◌≡◌, ◌≢◌, ◌⊎◌, ◌↔◌, ℕ, zero, suc, ◌+◌, ◌-◌, ◌*◌, ◌/◌, ◌%◌, ◌^◌, ◌<◌, ◌≤◌, Bool, List, [], ◌∷◌, ◌++◌, length, slice_index, reverse, AllPairs, Option, None, Some, IfSome, option_map, option_and_then, if◌then◌else◌}
+use Rattle.std.specs.Ordering.{nat_cmp, is_lt}
+use Rattle.std.specs.Cmp.Lexicographic.{slice_cmp}
 use Rattle.chem_core.specs.Bits.{HasBit}
 use Rattle.path_print.specs.declared.known.Known.{Known}
-use Rattle.path_print.specs.Path.{◌>>=◌, Family, exact, plain, label_of, View, string_of, bit_of, IsPath}
+use Rattle.path_print.specs.Path.{◌>>=◌, Family, exact, plain, label_of, View, string_of, hash_of, IsPath}
 
 -- a string in both directions
 pub record TextTerm : Type 0 where
@@ -17,22 +19,22 @@ of_label l = record { there = l.0 ∷ l.1 ∷ []; back = l.0 ∷ l.1 ∷ [] }
 abbrev pub longer_text : TextTerm → ℕ → ℕ × ℕ → TextTerm
 longer_text t byte l = record { there = t.there ++ byte ∷ l.0 ∷ l.1 ∷ []; back = l.0 ∷ l.1 ∷ byte ∷ t.back }
 
+-- the bit, unless the string comes first in the other direction
+abbrev pub own_bit : TextTerm → Option ℕ
+own_bit t = if is_lt (slice_cmp nat_cmp t.back t.there) then None else Some (hash_of t.there % 1024)
+
 -- so many bytes of a number, the highest first
 unfoldable pub digits : ℕ → ℕ → List ℕ
 digits zero n = []
 digits (suc k) n = digits k (n / 256) ++ (n % 256) ∷ []
 
--- what bytes add to a hash
-unfoldable pub sum_of_bytes : List ℕ → ℕ
-sum_of_bytes bytes = fold (λ h byte. 131 * h + byte) 0 bytes
-
 -- what a text keeps about its fields
-pub record IsTextInside (count there back there_sum back_sum : ℕ) : Type 0 where
+pub record IsTextInside (count there back hash : ℕ) : Type 0 where
   pub few : count ≤ 14
   pub there_fits : there < 256 ^ count
   pub back_fits : back < 256 ^ count
-  pub there_adds : there_sum ≡ sum_of_bytes (digits count there) % 65521
-  pub back_adds : back_sum ≡ sum_of_bytes (digits count back) % 65521
+  pub hashes : hash ≡ hash_of (digits count there)
+  pub small : hash < 65521
 
 -- a path under way: its atoms, and its text in each family
 pub record PathTerm : Type 0 where
@@ -87,13 +89,13 @@ pub record IsOn (views : Family → View) (p : PathTerm) : Type 0 where
   pub there : (family : Family) → option_map (λ t. t.there) (text_in p family) ≡ string_of (views family) p.atoms
   pub back : (family : Family) → option_map (λ t. t.back) (text_in p family) ≡ string_of (views family) (reverse p.atoms)
 
--- the bit of the path as far as it goes, in one of the families
+-- the bit of the path as far as it goes, in one of the families, if its string there comes first
 abbrev pub IsBitHere : PathTerm → ℕ → Type 0
-IsBitHere p bit = (family : Family) × (t : TextTerm) × (text_in p family ≡ Some t) × (bit ≡ bit_of t.there t.back)
+IsBitHere p bit = (family : Family) × (t : TextTerm) × (text_in p family ≡ Some t) × (own_bit t ≡ Some bit)
 
--- the bit of some path that begins so
+-- the bit of some path that begins so, if its string there comes first
 abbrev pub IsBitFrom : (Family → View) → List ℕ → ℕ → Type 0
-IsBitFrom views atoms bit = (family : Family) × (more there back : List ℕ) × IsPath (views family) (atoms ++ more) there back × (bit ≡ bit_of there back)
+IsBitFrom views atoms bit = (family : Family) × (more there back : List ℕ) × IsPath (views family) (atoms ++ more) there back × (own_bit (record { there = there; back = back }) ≡ Some bit)
 
 -- the bits are set, and those that were
 pub record SetsBits (IsBit : ℕ → Type 0) (old new : List Bool) : Type 0 where
@@ -102,7 +104,7 @@ pub record SetsBits (IsBit : ℕ → Type 0) (old new : List Bool) : Type 0 wher
 
 -- the bit of a text, if there is one
 abbrev pub IsBitOf : Option TextTerm → ℕ → Type 0
-IsBitOf text bit = (t : TextTerm) × (text ≡ Some t) × (bit ≡ bit_of t.there t.back)
+IsBitOf text bit = (t : TextTerm) × (text ≡ Some t) × (own_bit t ≡ Some bit)
 
 -- the path that goes on to one more atom
 pub record IsOneLonger (views : Family → View) (p : PathTerm) (y : ℕ) (q : PathTerm) : Type 0 where

@@ -31,7 +31,11 @@ pub fn implied_byte(expr: &Expr<BondPrim>) -> Option<u8>
         Expr::And(left, right) => implied_byte(left).or(implied_byte(right)),
         Expr::Or(left, right) => {
             let byte = implied_byte(left);
-            if byte == implied_byte(right) { byte } else { None }
+            if byte == implied_byte(right) {
+                byte
+            } else {
+                None
+            }
         }
     }
 }
@@ -49,8 +53,16 @@ fn common(left: Known, right: Known) -> Known
     ensures { result ≡ common left right }
 {
     Known {
-        number: if left.number == right.number { left.number } else { None },
-        aromatic: if left.aromatic == right.aromatic { left.aromatic } else { None },
+        number: if left.number == right.number {
+            left.number
+        } else {
+            None
+        },
+        aromatic: if left.aromatic == right.aromatic {
+            left.aromatic
+        } else {
+            None
+        },
     }
 }
 
@@ -63,7 +75,11 @@ fn implied_by_prim(prim: AtomPrim) -> Known
             aromatic: Some(lower),
         },
         AtomPrim::Number(number) => Known {
-            number: if number <= HIGHEST { Some(number as u8) } else { None },
+            number: if number <= HIGHEST {
+                Some(number as u8)
+            } else {
+                None
+            },
             aromatic: None,
         },
         AtomPrim::Aromatic => Known {

@@ -18,6 +18,7 @@ impl Known {
     };
 
     /// The label by number and whether aromatic, if both are known.
+    #[inline(always)]
     pub fn exact(&self) -> Option<(u8, u8)>
         ensures { result ≡ label_of exact self.now }
     {
@@ -28,6 +29,7 @@ impl Known {
     }
 
     /// The label by number alone, if it is known.
+    #[inline(always)]
     pub fn plain(&self) -> Option<(u8, u8)>
         ensures { result ≡ label_of plain self.now }
     {

@@ -39,6 +39,7 @@ fn walk(mol: &Mol, path: &Path, print: &mut Print)
 }
 
 // The path that goes on to a neighbour by the bond between. `None` where no path does.
+#[inline(always)]
 fn step(mol: &Mol, path: &Path, to: u16, bond: u16) -> Option<Path>
     requires path { IsOn (molecule_view mol.now) path.now }
     requires joined { JoinsAt (ends_of mol.now) bond (last_of path.now.atoms) to }
@@ -49,6 +50,7 @@ fn step(mol: &Mol, path: &Path, to: u16, bond: u16) -> Option<Path>
     path.longer(to, byte, known(&mol.atoms()[usize::from(to)]))
 }
 
+#[inline(always)]
 fn known(atom: &Atom) -> Known
     ensures { result ≡ known_of atom.now }
 {
@@ -58,6 +60,7 @@ fn known(atom: &Atom) -> Known
     }
 }
 
+#[inline(always)]
 fn byte_of(kind: BondKind) -> u8
     ensures { result ≡ kind_byte kind }
 {

@@ -1,7 +1,7 @@
 //! Paths under way: the atoms so far, and the text in each family of labels.
-ghost use Rattle.std.specs.Prelude.{◌≡◌, ◌<◌, ◌≤◌, ◌+◌, ◌⊎◌, ◌↔◌, length, Contains, None, IsTrue, IfSome, IfNone};
+ghost use Rattle.std.specs.Prelude.{◌≡◌, ◌<◌, ◌≤◌, ◌+◌, ◌⊎◌, ◌↔◌, length, Contains, None, IsTrue, IfSome, IfNone, option_and_then};
 ghost use Rattle.chem_core.specs.Bits.{HasBit};
-ghost use Rattle.path_print.specs.Texts.{longer_if, path_start, path_longer, IsBitHere, IsBitOf, SetsBits, last_of};
+ghost use Rattle.path_print.specs.Texts.{longer_if, path_start, path_longer, IsBitHere, IsBitOf, SetsBits, last_of, own_bit};
 
 use crate::known::Known;
 use crate::text::Text;
@@ -45,6 +45,7 @@ impl Path {
     }
 
     /// Whether it has five atoms.
+    #[inline(always)]
     pub fn is_full(&self) -> bool
         ensures { IsTrue result ↔ (length self.now.atoms ≡ MOST) }
     {
@@ -52,6 +53,7 @@ impl Path {
     }
 
     /// The atom that it has come to.
+    #[inline(always)]
     pub fn last(&self) -> u16
         ensures { result ≡ last_of self.now.atoms }
     {
@@ -60,6 +62,7 @@ impl Path {
 
     /// The path that goes on to an atom by a bond with this byte. `None` where it is full, where the atom is in it, and
     /// where it has no text.
+    #[inline(always)]
     pub fn longer(&self, atom: u16, byte: u8, known: Known) -> Option<Path>
         ensures value { IfSome result (λ p. p ≡ path_longer self.now atom byte known) }
         ensures new { IfSome result (λ _. Contains self.now.atoms atom → ⊥) }
@@ -86,6 +89,7 @@ impl Path {
     }
 
     /// Sets the bit of each of its texts.
+    #[inline(always)]
     pub fn mark(&self, print: &mut Print)
         ensures bits { SetsBits (IsBitHere self.now) print.old print.new }
     {
@@ -94,6 +98,7 @@ impl Path {
     }
 }
 
+#[inline(always)]
 fn longer_text(text: &Option<Text>, byte: u8, label: Option<(u8, u8)>) -> Option<Text>
     requires { IfSome text.now (λ t. length t.there ≤ 11) }
     ensures { result ≡ longer_if text.now byte label }
@@ -104,11 +109,23 @@ fn longer_text(text: &Option<Text>, byte: u8, label: Option<(u8, u8)>) -> Option
     }
 }
 
+#[inline(always)]
+fn bit_of(text: &Option<Text>) -> Option<u16>
+    ensures value { result ≡ option_and_then own_bit text.now }
+    ensures small { IfSome result (λ bit. bit < 1024) }
+{
+    match text {
+        Some(text) => text.bit(),
+        None => None,
+    }
+}
+
 // Sets the bit of a text, if there is one.
+#[inline(always)]
 fn mark_text(text: &Option<Text>, print: &mut Print)
     ensures bits { SetsBits (IsBitOf text.now) print.old print.new }
 {
-    if let Some(text) = text {
-        print.set(text.bit());
+    if let Some(bit) = bit_of(text) {
+        print.set(bit);
     }
 }

@@ -100,6 +100,7 @@ fn walk(graph: &Graph, known: &[Known], square: &[u8], path: &Path, print: &mut 
 }
 
 // The path that goes on to an atom. `None` where no path does.
+#[inline(always)]
 fn step(graph: &Graph, known: &[Known], square: &[u8], path: &Path, atom: u16) -> Option<Path>
     requires sheet { IsSheet (graph_of graph.now) known.now square.now }
     requires path { IsOn (graph_view (graph_of graph.now)) path.now }

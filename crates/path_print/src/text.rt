@@ -1,7 +1,9 @@
-//! The string of a path in its two directions, kept as two numbers, with the hash of each as far as it goes.
-ghost use Rattle.std.specs.Prelude.{◌≡◌, ◌<◌, ◌≤◌, ◌+◌, ◌*◌, ◌%◌, ◌^◌, length};
-ghost use Rattle.path_print.specs.Path.{bit_of};
-ghost use Rattle.path_print.specs.Texts.{of_label, longer_text};
+//! The string of a path in its two directions, kept as two numbers, and the hash of the one as far as it goes.
+//!
+//! Each path is walked from both of its ends. So the bit is told from the end from which the string comes first, and the
+//! hash grows at its end alone.
+ghost use Rattle.std.specs.Prelude.{◌≡◌, ◌<◌, ◌≤◌, ◌+◌, ◌*◌, length, IfSome};
+ghost use Rattle.path_print.specs.Texts.{of_label, longer_text, own_bit};
 
 use std::marker::Model;
 
@@ -14,21 +16,15 @@ const SEED: u64 = 7;
 /// What the bytes so far are multiplied by, before the next byte is added.
 const FACTOR: u64 = 131;
 
-/// The remainders of the powers of `FACTOR`.
-const POWERS: [u64; 15] = [
-    1, 131, 17161, 20377, 48547, 4120, 15552, 6161, 20839, 43548, 4461, 60223, 26693, 24170, 21262,
-];
-
 /// The string of a path in its two directions. Contracts see it as two lists of bytes.
 #[derive(Drop)]
 pub struct Text {
     // The strings as numbers, the first byte highest.
     there: u128,
     back: u128,
-    length: u8,
-    // What the bytes of each add to its hash.
-    there_sum: u64,
-    back_sum: u64,
+    // The hash of the first.
+    hash: u64,
+    length: u64,
 }
 
 impl Model for Text {
@@ -38,7 +34,7 @@ impl Model for Text {
 
     ghost view = { λ t. record { there = digits t.length t.there; back = digits t.length t.back } };
 
-    ghost invariant = { λ t. IsTextInside t.length t.there t.back t.there_sum t.back_sum };
+    ghost invariant = { λ t. IsTextInside t.length t.there t.back t.hash };
 }
 
 impl Text {
@@ -47,49 +43,45 @@ impl Text {
         ensures { result ≡ of_label label }
     {
         let number = number_of(0, label.0, label.1);
-        let sum = sum_of(0, label.0, label.1) % PRIME;
         Text {
             there: number,
             back: number,
+            hash: (SEED * FACTOR * FACTOR + sum_of(0, label.0, label.1)) % PRIME,
             length: 2,
-            there_sum: sum,
-            back_sum: sum,
         }
     }
 
     /// The text of a path that goes on to one more atom.
+    #[inline(always)]
     pub fn longer(&self, byte: u8, label: (u8, u8)) -> Text
         requires { length self.now.there ≤ 11 }
         ensures { result ≡ longer_text self.now byte label }
     {
-        let power = POWERS[usize::from(self.length)];
         let tail = sum_of(byte, label.0, label.1);
-        let head = sum_of(label.0, label.1, byte);
         Text {
             there: (self.there << 24) + number_of(byte, label.0, label.1),
             back: (number_of(label.0, label.1, byte) << (8 * self.length)) + self.back,
+            hash: (self.hash * FACTOR * FACTOR * FACTOR + tail) % PRIME,
             length: self.length + 3,
-            there_sum: (self.there_sum * FACTOR * FACTOR * FACTOR + tail) % PRIME,
-            back_sum: (head * power + self.back_sum) % PRIME,
         }
     }
 
-    /// The bit of the path.
-    pub fn bit(&self) -> u16
-        ensures value { result ≡ bit_of self.now.there self.now.back }
-        ensures small { result < 1024 }
+    /// The bit of the path, unless its string comes first in the other direction.
+    #[inline(always)]
+    pub fn bit(&self) -> Option<u16>
+        ensures value { result ≡ own_bit self.now }
+        ensures small { IfSome result (λ bit. bit < 1024) }
     {
-        let sum = if self.back < self.there {
-            self.back_sum
+        if self.back < self.there {
+            None
         } else {
-            self.there_sum
-        };
-        let power = POWERS[usize::from(self.length)];
-        ((SEED * power + sum) % PRIME % 1024) as u16
+            Some((self.hash % 1024) as u16)
+        }
     }
 }
 
 // Three bytes as a number.
+#[inline(always)]
 fn number_of(first: u8, second: u8, third: u8) -> u128
     ensures { result ≡ 65536 * first + 256 * second + third }
 {
@@ -97,6 +89,7 @@ fn number_of(first: u8, second: u8, third: u8) -> u128
 }
 
 // What three bytes add to a hash, where they come last.
+#[inline(always)]
 fn sum_of(first: u8, second: u8, third: u8) -> u64
     ensures { result ≡ 17161 * first + 131 * second + third }
 {

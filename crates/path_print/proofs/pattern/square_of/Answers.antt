@@ -46,7 +46,7 @@ loop-bond-preserved c =
             bonds = square_more (graph_of c.args.graph.now).bonds c.loop-bond.bond-index (bond_of bond) old new c.requires at c.loop-bond.invariant.bonds size (inr (n, sym c.implied_byte.ensures ∙ w.in-Some.is, is));
           }
       | in_default w ↦ record {
-          size = ap length w.square-is ∙ size;
-          bonds = square_more (graph_of c.args.graph.now).bonds c.loop-bond.bond-index (bond_of bond) old new c.requires at c.loop-bond.invariant.bonds size (inl (sym c.implied_byte.ensures ∙ w.in_default.is, w.square-is));
-        }
+        size = ap length w.square-is ∙ size;
+        bonds = square_more (graph_of c.args.graph.now).bonds c.loop-bond.bond-index (bond_of bond) old new c.requires at c.loop-bond.invariant.bonds size (inl (sym c.implied_byte.ensures ∙ w.in_default.is, w.square-is));
+      }
     ]
