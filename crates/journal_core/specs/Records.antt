@@ -50,10 +50,6 @@ pub record Breaks (payloads : List (List ℕ)) (bytes : List ℕ) : Type 0 where
   pub broken : IsBroken tail
   pub fit : AllByRecursion IsShort payloads
 
--- The bytes are damaged at a place: open records lead up to it, and what is there is broken.
-abbrev pub Damages : ℕ → List ℕ → Type 0
-Damages at bytes = (payloads : List (List ℕ)) × (at ≡ length (front payloads)) × Breaks payloads bytes
-
 -- the header is not there
 abbrev pub IsNoJournal : List ℕ → Type 0
 IsNoJournal bytes = (rest : List ℕ) → bytes ≡ header ++ rest → ⊥
