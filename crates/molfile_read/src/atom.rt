@@ -1,9 +1,9 @@
 //! Atom lines.
-ghost use Rattle.std.specs.Prelude.{◌≡◌, ◌≤◌, length, take, drop, IfOk, IfErr, Ok};
+ghost use Rattle.std.specs.Prelude.{◌≡◌, length, take, drop, IfOk, IfErr, Ok};
 ghost use Rattle.std.specs.List.{AllByRecursion};
 ghost use Rattle.molfile_read.specs.Steps.{each};
 ghost use Rattle.molfile_read.specs.Parts.{Faults, IsAtomLine};
-ghost use Rattle.molfile_read.specs.Atoms.{symbol_in, is_query_atom, atom_read};
+ghost use Rattle.molfile_read.specs.Atoms.{atom_read};
 
 use crate::fault::MolfileFault;
 use crate::field::{columns, is_other_than_zero, number, signed_number, trimmed};

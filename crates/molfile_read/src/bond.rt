@@ -1,5 +1,5 @@
 //! Bond lines.
-ghost use Rattle.std.specs.Prelude.{◌≡◌, ◌≢◌, ◌⊎◌, ◌<◌, ◌≤◌, [], length, take, drop, All, IfSome, IfOk, IfErr, Ok, Err, OnOk};
+ghost use Rattle.std.specs.Prelude.{◌≡◌, [], length, take, drop, IfSome, IfOk, IfErr, Ok};
 ghost use Rattle.molfile_read.specs.Parts.{Faults, IsKind, JoinsTwo, AreBondsAmong, ordered_ends};
 ghost use Rattle.molfile_read.specs.Bonds.{bond_line, bonds_read, kind_of_type, is_query_type, is_atom};
 

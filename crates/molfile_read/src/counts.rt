@@ -1,7 +1,7 @@
 //! The counts line.
 ghost use Rattle.std.specs.Prelude.{◌≡◌, ◌≤◌, ◌==◌, filter, not, drop, IfOk, OnOk};
 ghost use Rattle.std.specs.Str.{bytes_eq};
-ghost use Rattle.molfile_read.specs.Counts.{is_zero, is_version_read, counts_read, first_counts};
+ghost use Rattle.molfile_read.specs.Counts.{is_version_read, counts_read, first_counts};
 
 use crate::fault::MolfileFault;
 use crate::field::{columns, number};

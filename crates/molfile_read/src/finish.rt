@@ -1,5 +1,5 @@
 //! The atoms of a sketch, from what atom lines and property lines say.
-ghost use Rattle.std.specs.Prelude.{◌≡◌, ◌<◌, ◌≤◌, ◌||◌, is_some, ℕ, None, Ok, length, slice_index_or, position, All, IfSome, IfOk, MatchOption, MatchResult};
+ghost use Rattle.std.specs.Prelude.{◌≡◌, ◌<◌, ◌≤◌, ◌||◌, is_some, ℕ, None, Ok, length, slice_index_or, position, IfSome, IfOk, MatchResult};
 ghost use Rattle.std.specs.List.{AllByRecursion};
 ghost use Rattle.molfile_read.specs.Properties.{sets_charges, sets_isotopes, last_set, charge_of, radical_of, isotope_of};
 ghost use Rattle.molfile_read.specs.Reading.{field_charge, field_electrons, fill_of, made_atom, has_mass, sketch_atoms, masses_read};

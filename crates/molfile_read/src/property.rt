@@ -1,7 +1,7 @@
 //! Property lines.
 ghost use Rattle.std.specs.Prelude.{◌≡◌, ◌≢◌, ◌<◌, ◌≤◌, ◌∷◌, [], ℕ, slice_index, false, true, length, option_map, MatchOption, MatchResult, IfSome, IfOk, IfErr, OnOk, Ok, Err};
 ghost use Rattle.std.specs.List.{AllByRecursion};
-ghost use Rattle.molfile_read.specs.Properties.{words, value_in, electrons_of, place_in, setting_at, count_at, counted_pairs, tag_of, untagged, is_query_line, is_passed_over, passes_next, is_end, property_read, property_lines, is_ended, settings_read};
+ghost use Rattle.molfile_read.specs.Properties.{words, value_in, electrons_of, place_in, setting_at, count_at, counted_pairs, tag_of, untagged, is_query_line, is_passed_over, passes_next, property_read, property_lines, is_ended, settings_read};
 ghost use Rattle.molfile_read.specs.Parts.{IsSetting, IsValue, Appends, Adds, Stops};
 
 use crate::bond::is_atom;
