@@ -7,8 +7,7 @@ use Rattle.chem_core.specs.Molecule.{Molecule}
 use Rattle.mol_finish.specs.declared.fault.Format.{Format}
 use Rattle.chem_shell.specs.declared.store.TheConstants.{MOST_COMMITS}
 use Rattle.shell_lang.specs.Command.{IsIdentifier}
-use Rattle.chem_shell.specs.Structures.{IsText}
-use Rattle.chem_shell.specs.History.{History, IsHistory, IsValid, Change, Register, Live, States, after, fold_from, head}
+use Rattle.chem_shell.specs.History.{History, IsValid, Change, Register, Live, States, after, fold_from, head}
 use Rattle.mol_finish.specs.Structure.{HasMolecule}
 use Rattle.std.proofs.lemmas.List.Elements.{All-append, All-cons, All-nil}
 use Rattle.chem_shell.specs.Store.{IsLiveNow}

@@ -1,19 +1,18 @@
 -- A script has one transcript from a history on.
 use Rattle.std.proofs.Common.{◌≡◌, ◌≢◌, ◌⊎◌, inl, inr, ℕ, ◌+◌, ◌<◌, ◌≤◌, List, [], ◌∷◌, ◌++◌, length, map, None, Result, Ok, Err, refl, sym, ap, ◌∙◌, subst, arith}
 use Rattle.chem_core.specs.Molecule.{Molecule}
-use Rattle.io_edge.specs.Lines.{TextLine, Whole, TooLong}
+use Rattle.io_edge.specs.Lines.{TextLine, Whole}
 use Rattle.mol_finish.specs.Structure.{HasMolecule, IsAnswer}
 use Rattle.mol_finish.specs.declared.fault.Format.{Format}
 use Rattle.mol_finish.specs.declared.fault.Format.TheVariants.{Smiles}
 use Rattle.mol_finish.specs.declared.fault.Format.TheVariants as formats
 use Rattle.mol_finish.specs.declared.fault.TextFault.{TextFault}
 use Rattle.mol_finish.specs.declared.fault.TextFault.TheVariants as faults
-use Rattle.shell_lang.specs.Command.{Command, Empty, Register, Search, IsLine}
+use Rattle.shell_lang.specs.Command.{Command, Register, RegisterMol, Search, IsLine}
 use Rattle.shell_lang.specs.Reply.{text_of}
 use Rattle.shell_lang.specs.declared.command.LineRefusal.{LineRefusal}
 use Rattle.shell_lang.specs.declared.reply.Reply.{Reply}
 use Rattle.shell_lang.specs.declared.reply.Reply.TheVariants.{Accepted, Hit, End, Refused}
-use Rattle.shell_lang.specs.declared.reply.Refusal.{Refusal}
 use Rattle.shell_lang.specs.declared.reply.Refusal.TheVariants.{Long, NotYet, Line, Text, Pattern, Known, Full}
 use Rattle.smarts_parse.specs.Chain as smarts
 use Rattle.smarts_parse.specs.Pattern.{PatternTerm}
@@ -23,10 +22,10 @@ use Rattle.chem_shell.specs.declared.store.TheConstants.{MOST_COMMITS}
 use Rattle.chem_shell.specs.History as history
 use Rattle.chem_shell.specs.History.{History, head}
 use Rattle.chem_shell.specs.Hits.{AreHits}
-use Rattle.chem_shell.specs.Structures.{IsText, IsTextFault, IsPatternOf, IsPatternFault}
-use Rattle.chem_shell.specs.Answer.{RegisterAnswer, SearchAnswer, SearchLineAnswer, Answers}
-use Rattle.chem_shell.specs.Transcript.{LineAnswer, IsTranscript}
-use Rattle.chem_shell.proofs.Texts.{structure_of_answer}
+use Rattle.chem_shell.specs.Structures.{IsText, IsPatternOf, IsPatternFault}
+use Rattle.chem_shell.specs.Requests.{Request, TakesMolfile, BeginWithMolfile, BeginWith, BeginWithAll, molfile_text}
+use Rattle.chem_shell.specs.Answer.{RegisterAnswer, SearchAnswer, SearchLineAnswer, Answers, MolfileAnswer, LineAnswer, RequestAnswer}
+use Rattle.chem_shell.specs.Transcript.{AreReplies, IsTranscript}
 use Rattle.chem_shell.proofs.HitsLemmas.{same_hits}
 
 -- the laws that it stands on
@@ -130,14 +129,86 @@ same_answer one chain h (Ok (Register id text)) r s i j a b =
 same_answer one chain h (Ok (Search text)) r s i j a b = (same_search_line chain h text r s a.0 b.0, a.1 ∙ sym b.1)
 same_answer one chain h read r s i j a b = (a.0 ∙ sym b.0, a.1 ∙ sym b.1)
 
-same_line : OneReading → OneAnswer → OneChain → (h : History) (line : TextLine) (r s : List Reply) (i j : History) → LineAnswer h line r i → LineAnswer h line s j → (r ≡ s) × (i ≡ j)
-same_line reading one chain h TooLong r s i j a b = (a.0 ∙ sym b.0, a.1 ∙ sym b.1)
-same_line reading one chain h (Whole line) r s i j a b =
-    same_answer one chain h b.0 r s i j (subst (λ (x : Result Command LineRefusal). Answers h x r i) (reading line a.0 b.0 a.1 b.1) a.2) b.2
+-- the ways of a line that takes a molfile
+same_molfile : OneAnswer → (h : History) (read : Result Command LineRefusal) (text : List ℕ) (r s : Reply) (i j : History) → MolfileAnswer h read text r i → MolfileAnswer h read text s j → (r ≡ s) × (i ≡ j)
+same_molfile one h (Ok (RegisterMol id)) text r s i j a b =
+    same_way one h formats.Molfile id text r s i j (way h formats.Molfile id text r i a) (way h formats.Molfile id text s j b)
+same_molfile one h (Err refusal) text r s i j a b = (a.0 ∙ sym b.0, a.1 ∙ sym b.1)
+same_molfile one h (Ok _) text r s i j a b = absurd a
+
+same_line : OneReading → OneAnswer → OneChain → (h : History) (line : List ℕ) (request : Request) (r s : List Reply) (i j : History) → LineAnswer h line request r i → LineAnswer h line request s j → (r ≡ s) × (i ≡ j)
+same_line reading one chain h line request r s i j (a, is, inl x) (b, is', inl y) =
+    same_answer one chain h b r s i j (subst (λ (x : Result Command LineRefusal). Answers h x r i) (reading line a b is is') x.1) y.1
+same_line reading one chain h line request r s i j (a, is, inl x) (b, is', inr y) = absurd (x.0 y.0)
+same_line reading one chain h line request r s i j (a, is, inr x) (b, is', inl y) = absurd (y.0 x.0)
+same_line reading one chain h line request r s i j (a, is, inr x) (b, is', inr y) =
+    let w = same_molfile one h b (molfile_text request.molfile) x.1 y.1 i j (subst (λ (z : Result Command LineRefusal). MolfileAnswer h z (molfile_text request.molfile) x.1 i) (reading line a b is is') x.3) y.3 in
+    (x.2 ∙ (ap (λ z. z ∷ []) w.0 ∙ sym y.2), w.1)
+
+whole_injective : {x y : List ℕ} → Whole x ≡ Whole y → x ≡ y
+whole_injective e = cc
+
+same_request : OneReading → OneAnswer → OneChain → (h : History) (request : Request) (r s : List Reply) (i j : History) → RequestAnswer h request r i → RequestAnswer h request s j → (r ≡ s) × (i ≡ j)
+same_request reading one chain h request r s i j (inl a) (inl b) = (a.1 ∙ sym b.1, a.2 ∙ sym b.2)
+same_request reading one chain h request r s i j (inl a) (inr b) = absurd (b.0 a.0)
+same_request reading one chain h request r s i j (inr a) (inl b) = absurd (a.0 b.0)
+same_request reading one chain h request r s i j (inr a) (inr b) =
+    same_line reading one chain h b.1 request r s i j (subst (λ (l : List ℕ). LineAnswer h l request r i) (whole_injective (sym a.2 ∙ b.2)) a.3) b.3
+
+same_replies : OneReading → OneAnswer → OneChain → (h : History) (requests : List Request) (s t : List ℕ) → AreReplies h requests s → AreReplies h requests t → s ≡ t
+same_replies reading one chain h [] s t a b = a ∙ sym b
+same_replies reading one chain h (request ∷ requests) s t a b =
+    let first = same_request reading one chain h request a.0 b.0 a.1 b.1 a.3 b.3 in
+    let rest = same_replies reading one chain b.1 requests a.2 b.2 (subst (λ (i : History). AreReplies i requests a.2) first.1 a.5) b.5 in
+    a.4 ∙ (ap (λ r. text_of r ++ a.2) first.0 ∙ (ap (λ x. text_of b.0 ++ x) rest ∙ sym b.4))
+
+-- lines begin with one molfile
+one_molfile : (lines xs ys rest rest' : List TextLine) → BeginWithMolfile lines xs rest → BeginWithMolfile lines ys rest' → (xs ≡ ys) × (rest ≡ rest')
+one_molfile [] xs ys rest rest' a b = (a.0 ∙ sym b.0, a.1 ∙ sym b.1)
+one_molfile (line ∷ lines) xs ys rest rest' (inl a) (inl b) = (a.1 ∙ sym b.1, a.2 ∙ sym b.2)
+one_molfile (line ∷ lines) xs ys rest rest' (inl a) (inr b) = absurd (b.0 a.0)
+one_molfile (line ∷ lines) xs ys rest rest' (inr a) (inl b) = absurd (a.0 b.0)
+one_molfile (line ∷ lines) xs ys rest rest' (inr a) (inr b) =
+    let more = one_molfile lines a.1 b.1 rest rest' a.3 b.3 in
+    (a.2 ∙ (ap (λ z. line ∷ z) more.0 ∙ sym b.2), more.1)
+
+cons_injective : {x y : TextLine} {xs ys : List TextLine} → x ∷ xs ≡ y ∷ ys → (x ≡ y) × (xs ≡ ys)
+cons_injective e = (cc, cc)
+
+-- and with one request
+one_request : (lines rest rest' : List TextLine) (line line' : TextLine) (molfile molfile' : List TextLine) → BeginWith lines (record { line = line; molfile = molfile }) rest → BeginWith lines (record { line = line'; molfile = molfile' }) rest'
+    → (line ≡ line') × (molfile ≡ molfile') × (rest ≡ rest')
+one_request lines rest rest' line line' molfile molfile' (more, e, x) (more', e', y) =
+    let same = cons_injective (sym e ∙ e') in
+    let z = ways more more' line line' molfile molfile' rest rest' same.0 same.1 x y in
+    (same.0, z.0, z.1) where
+      ways : (more more' : List TextLine) (line line' : TextLine) (molfile molfile' rest rest' : List TextLine) → line ≡ line' → more ≡ more'
+          → (¬ TakesMolfile line × (molfile ≡ []) × (rest ≡ more)) ⊎ (TakesMolfile line × BeginWithMolfile more molfile rest)
+          → (¬ TakesMolfile line' × (molfile' ≡ []) × (rest' ≡ more')) ⊎ (TakesMolfile line' × BeginWithMolfile more' molfile' rest') → (molfile ≡ molfile') × (rest ≡ rest')
+      ways more more' line line' molfile molfile' rest rest' e f (inl a) (inl b) = (a.1 ∙ sym b.1, a.2 ∙ (f ∙ sym b.2))
+      ways more more' line line' molfile molfile' rest rest' e f (inl a) (inr b) = absurd (a.0 (subst TakesMolfile (sym e) b.0))
+      ways more more' line line' molfile molfile' rest rest' e f (inr a) (inl b) = absurd (b.0 (subst TakesMolfile e a.0))
+      ways more more' line line' molfile molfile' rest rest' e f (inr a) (inr b) =
+          one_molfile more' molfile molfile' rest rest' (subst (λ (z : List TextLine). BeginWithMolfile z molfile rest) f a.1) b.1
+
+same_requests : (x y : Request) (xs ys : List Request) → x.line ≡ y.line → x.molfile ≡ y.molfile → xs ≡ ys → x ∷ xs ≡ y ∷ ys
+same_requests x y xs ys e f g =
+    let same : x ≡ y = ap (λ (l : TextLine). record { line = l; molfile = x.molfile }) e ∙ ap (λ (m : List TextLine). record { line = y.line; molfile = m }) f in
+    ap (λ (z : Request). z ∷ xs) same ∙ ap (λ (zs : List Request). y ∷ zs) g
+
+none_left : {x : TextLine} {xs : List TextLine} → [] ≡ x ∷ xs → ⊥
+none_left e = cc
+
+-- and are one list of requests
+one_split : (lines : List TextLine) (xs ys : List Request) → BeginWithAll lines xs [] → BeginWithAll lines ys [] → xs ≡ ys
+one_split lines [] [] a b = refl
+one_split lines [] (y ∷ ys) a (more, takes, b) = absurd (none_left (sym a ∙ takes.1))
+one_split lines (x ∷ xs) [] (more, takes, a) b = absurd (none_left (sym b ∙ takes.1))
+one_split lines (x ∷ xs) (y ∷ ys) (more, takes, a) (more', takes', b) =
+    let first = one_request lines more more' x.line y.line x.molfile y.molfile takes takes' in
+    let rest = one_split more' xs ys (subst (λ (l : List TextLine). BeginWithAll l xs []) first.2 a) b in
+    same_requests x y xs ys first.0 first.1 rest
 
 pub same_transcript : OneReading → OneAnswer → OneChain → (h : History) (lines : List TextLine) (s t : List ℕ) → IsTranscript h lines s → IsTranscript h lines t → s ≡ t
-same_transcript reading one chain h [] s t a b = a ∙ sym b
-same_transcript reading one chain h (line ∷ lines) s t a b =
-    let first = same_line reading one chain h line a.0 b.0 a.1 b.1 a.3 b.3 in
-    let rest = same_transcript reading one chain b.1 lines a.2 b.2 (subst (λ (i : History). IsTranscript i lines a.2) first.1 a.5) b.5 in
-    a.4 ∙ (ap (λ r. text_of r ++ a.2) first.0 ∙ (ap (λ x. text_of b.0 ++ x) rest ∙ sym b.4))
+same_transcript reading one chain h lines s t a b =
+    same_replies reading one chain h b.0 s t (subst (λ (requests : List Request). AreReplies h requests s) (one_split lines a.0 b.0 a.1 b.1) a.2) b.2

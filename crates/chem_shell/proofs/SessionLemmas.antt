@@ -8,10 +8,11 @@ use Rattle.io_edge.specs.NextLine.{Counts}
 use Rattle.chem_shell.specs.declared.session.SessionFault.{SessionFault}
 use Rattle.chem_shell.specs.declared.session.SessionFault.TheVariants.{Source, Sink, NoMemory, InputTooLong}
 use Rattle.chem_shell.specs.History.{History}
-use Rattle.chem_shell.specs.Answered.{AnswersLine}
+use Rattle.chem_shell.specs.Answered.{AnswersRequest}
+use Rattle.chem_shell.specs.Requests.{Request, BeginWith}
 use Rattle.chem_shell.specs.Transcript.{IsTranscript, IsTranscriptPrefix}
 use Rattle.chem_shell.specs.Served.{WritesPrefix, WritesAll, TakesExactly}
-use Rattle.chem_shell.specs.Turn.{TurnPuts, TakesLine, TakesNone}
+use Rattle.chem_shell.specs.Turn.{TurnPuts, TakesRequest, TakesNone}
 
 -- what a transcript of the lines that are left makes of the whole, behind the text so far
 pub record GoesOn (all : List TextLine) (done : List ℕ) (h : History) (left : List TextLine) : Type 0 where
@@ -23,19 +24,19 @@ GoesOn-start all = record { prefix = λ t p. p; whole = λ t p. p }
 
 -- nothing is a prefix of every transcript
 pub prefix_nothing : (h : History) (lines : List TextLine) → IsTranscriptPrefix h lines []
-prefix_nothing h [] = refl
-prefix_nothing h (line ∷ lines) = inl refl
+prefix_nothing h lines = ([], lines, refl, refl)
 
--- one line more
-pub GoesOn-line : (all : List TextLine) (done : List ℕ) (h h' : History) (line : TextLine) (left : List TextLine) (text : List ℕ) → AnswersLine h line text h' → GoesOn all done h (line ∷ left) → GoesOn all (done ++ text) h' left
-GoesOn-line all done h h' line left text a g = record {
-  prefix = λ t p. rw append_assoc (g.prefix (text ++ t) (inr (a.0, h', a.1, inr (t, ap (λ s. s ++ t) a.2, p))));
-  whole = λ t p. rw append_assoc (g.whole (text ++ t) (a.0, h', t, a.1, ap (λ s. s ++ t) a.2, p));
+-- one request more
+pub GoesOn-request : (all : List TextLine) (done : List ℕ) (h h' : History) (request : Request) (lines left : List TextLine) (text : List ℕ) → BeginWith lines request left → AnswersRequest h request text h' → GoesOn all done h lines → GoesOn all (done ++ text) h' left
+GoesOn-request all done h h' request lines left text takes a g = record {
+  prefix = λ t p. rw append_assoc (g.prefix (text ++ t) (request ∷ p.0, p.1, (left, takes, p.2), inr (a.0, h', a.1, inr (t, ap (λ s. s ++ t) a.2, p.3))));
+  whole = λ t p. rw append_assoc (g.whole (text ++ t) (request ∷ p.0, (left, takes, p.1), (a.0, h', t, a.1, ap (λ s. s ++ t) a.2, p.2)));
 }
 
--- a part of the answer to the next line
-pub GoesOn-part : (all : List TextLine) (done : List ℕ) (h h' : History) (line : TextLine) (left : List TextLine) (text part rest : List ℕ) → AnswersLine h line text h' → text ≡ part ++ rest → GoesOn all done h (line ∷ left) → IsTranscriptPrefix [] all (done ++ part)
-GoesOn-part all done h h' line left text part rest a e g = g.prefix part (inr (a.0, h', a.1, inl (rest, sym e ∙ a.2)))
+-- a part of the answer to the next request
+pub GoesOn-part : (all : List TextLine) (done : List ℕ) (h h' : History) (request : Request) (lines left : List TextLine) (text part rest : List ℕ) → BeginWith lines request left → AnswersRequest h request text h' → text ≡ part ++ rest → GoesOn all done h lines → IsTranscriptPrefix [] all (done ++ part)
+GoesOn-part all done h h' request lines left text part rest takes a e g =
+    g.prefix part (request ∷ [], left, (left, takes, refl), inr (a.0, h', a.1, inl (rest, sym e ∙ a.2)))
 
 -- A session under way: what was left and put at its start and is now, how far its source was read, and its history.
 pub record IsUnderWay (before now put0 put : Option (List ℕ)) (reading : Reading) (h : History) : Type 0 where
@@ -57,7 +58,7 @@ IsUnderWay-start before put reading e = subst (λ r. IsUnderWay before before pu
   false_is_not_true h = cc
 
 -- what is left after these bytes were taken, where it is told
-leaves : (l got : List ℕ) (now next : Option (List ℕ)) → now ≡ Some l → Consumes now next got → (l' : List ℕ) × (next ≡ Some l') × (l ≡ got ++ l')
+pub leaves : (l got : List ℕ) (now next : Option (List ℕ)) → now ≡ Some l → Consumes now next got → (l' : List ℕ) × (next ≡ Some l') × (l ≡ got ++ l')
 leaves l got None next p h = cc
 leaves l got (Some m) None p h = absurd h
 leaves l got (Some m) (Some l') p h = (l', refl, rw (sym (some_injective p)) h) where
@@ -70,15 +71,14 @@ appended old text None next p h = cc
 appended old text (Some m) None p h = absurd h
 appended old text (Some m) (Some n) p h = let e : m ≡ old = cc in rw (h, e) refl
 
--- a turn that answered a line
-pub IsUnderWay-line : (before now now' put0 put put' : Option (List ℕ)) (r r' : Reading) (h h' : History) (got : List ℕ) (line : TextLine) (text : List ℕ) → Consumes now now' got → Counts r got r' → ((l l' : List ℕ) → now ≡ Some l → now' ≡ Some l' → (IsTrue r.ended → l ≡ []) → IsTrue r'.ended → l' ≡ []) → TakesLine r r' now now' line → AnswersLine h line text h' → Appends put put' text → IsUnderWay before now put0 put r h → IsUnderWay before now' put0 put' r' h'
-IsUnderWay-line before now now' put0 put put' r r' h h' got line text took counts met takes answers appends u = record {
+-- a turn that answered a request
+pub IsUnderWay-request : (before now now' put0 put put' : Option (List ℕ)) (r r' : Reading) (h h' : History) (got : List ℕ) (request : Request) (text : List ℕ) → Consumes now now' got → Counts r got r' → ((l l' : List ℕ) → now ≡ Some l → now' ≡ Some l' → (IsTrue r.ended → l ≡ []) → IsTrue r'.ended → l' ≡ []) → TakesRequest r r' now now' request → AnswersRequest h request text h' → Appends put put' text → IsUnderWay before now put0 put r h → IsUnderWay before now' put0 put' r' h'
+IsUnderWay-request before now now' put0 put put' r r' h h' got request text took counts met takes answers appends u = record {
   told = λ input old p q.
       let t = u.told input old p q in
       let k = leaves t.0 got now now' t.2 took in
-      let e : lines_left r t.0 ≡ line ∷ lines_left r' k.0 = takes t.0 k.0 t.2 k.1 t.5 in
       let a : put' ≡ Some ((old ++ t.1) ++ text) = appended (old ++ t.1) text put put' t.3 appends in
-      (k.0, t.1 ++ text, k.1, a ∙ ap Some (append_assoc old t.1 text), GoesOn-line (lines_of input) t.1 h h' line (lines_left r' k.0) text answers (subst (GoesOn (lines_of input) t.1 h) e t.4), met t.0 k.0 t.2 k.1 t.5);
+      (k.0, t.1 ++ text, k.1, a ∙ ap Some (append_assoc old t.1 text), GoesOn-request (lines_of input) t.1 h h' request (lines_left r t.0) (lines_left r' k.0) text (takes t.0 k.0 t.2 k.1 t.5) answers t.4, met t.0 k.0 t.2 k.1 t.5);
   taken = λ input p.
       let t = u.taken input p in
       let k = leaves t.1 got now now' t.3 took in
@@ -110,7 +110,7 @@ whole_at_end before now now' put0 put put' r r' h none appends u =
     let t = u.told input old p q in
     let e : lines_left r t.0 ≡ [] = none t.0 t.2 t.5 in
     let a : put' ≡ Some ((old ++ t.1) ++ []) = appended (old ++ t.1) [] put put' t.3 appends in
-    (t.1, a ∙ ap Some (append-nil (old ++ t.1)), subst (IsTranscript [] (lines_of input)) (append-nil t.1) (t.4.whole [] (subst (λ ls. IsTranscript h ls []) (sym e) refl))))
+    (t.1, a ∙ ap Some (append-nil (old ++ t.1)), subst (IsTranscript [] (lines_of input)) (append-nil t.1) (t.4.whole [] ([], e, refl))))
 
 -- a turn put nothing more
 pub prefix_after_nothing : (before now put0 put put' : Option (List ℕ)) (r : Reading) (h : History) → Appends put put' [] → IsUnderWay before now put0 put r h → WritesPrefix before put0 put'
@@ -121,14 +121,13 @@ prefix_after_nothing before now put0 put put' r h appends u =
     (t.1, a ∙ ap Some (append-nil (old ++ t.1)), subst (IsTranscriptPrefix [] (lines_of input)) (append-nil t.1) (t.4.prefix [] (prefix_nothing h (lines_left r t.0)))))
 
 -- a turn put a part of the answer to the next line
-pub prefix_after_part : (before now now' put0 put put' : Option (List ℕ)) (r r' : Reading) (h h' : History) (got : List ℕ) (line : TextLine) (text : List ℕ) → Consumes now now' got → TakesLine r r' now now' line → AnswersLine h line text h' → AppendsPrefix put put' text → IsUnderWay before now put0 put r h → WritesPrefix before put0 put'
-prefix_after_part before now now' put0 put put' r r' h h' got line text took takes answers part u =
+pub prefix_after_part : (before now now' put0 put put' : Option (List ℕ)) (r r' : Reading) (h h' : History) (got : List ℕ) (request : Request) (text : List ℕ) → Consumes now now' got → TakesRequest r r' now now' request → AnswersRequest h request text h' → AppendsPrefix put put' text → IsUnderWay before now put0 put r h → WritesPrefix before put0 put'
+prefix_after_part before now now' put0 put put' r r' h h' got request text took takes answers part u =
     prefix_told before put0 put' (λ input old p q.
     let t = u.told input old p q in
     let k = leaves t.0 got now now' t.2 took in
-    let e : lines_left r t.0 ≡ line ∷ lines_left r' k.0 = takes t.0 k.0 t.2 k.1 t.5 in
     let a : put' ≡ Some ((old ++ t.1) ++ part.0) = appended (old ++ t.1) part.0 put put' t.3 part.3 in
-    (t.1 ++ part.0, a ∙ ap Some (append_assoc old t.1 part.0), GoesOn-part (lines_of input) t.1 h h' line (lines_left r' k.0) text part.0 part.1 answers part.2 (subst (GoesOn (lines_of input) t.1 h) e t.4)))
+    (t.1 ++ part.0, a ∙ ap Some (append_assoc old t.1 part.0), GoesOn-part (lines_of input) t.1 h h' request (lines_left r t.0) (lines_left r' k.0) text part.0 part.1 (takes t.0 k.0 t.2 k.1 t.5) answers part.2 t.4))
 
 -- what was put where a turn ended in a fault
 pub prefix_after_fault : (before now now' put0 put put' : Option (List ℕ)) (r r' : Reading) (h h' : History) (got : List ℕ) (fault : SessionFault) → Consumes now now' got → TurnPuts (Err fault) h h' r r' now now' put put' → IsUnderWay before now put0 put r h → WritesPrefix before put0 put'

@@ -1,5 +1,5 @@
 -- Answers to a text, in the words of a session.
-use Rattle.std.proofs.Common.{◌≡◌, ℕ, List, ◌++◌, length, take, Ok, Err, sym, ◌∙◌, ap, subst}
+use Rattle.std.proofs.Common.{◌≡◌, ℕ, List, ◌++◌, length, take, Ok, ◌∙◌, ap}
 use Rattle.std.proofs.Math.Seq.{take-append_seam}
 use Rattle.chem_core.specs.Molecule.{Molecule}
 use Rattle.mol_finish.specs.Structure.{HasMolecule, IsAnswer}

@@ -1,19 +1,21 @@
--- For callers: what a line is answered at a history, and the history after it. No other reply is given.
+-- For callers: what a request is answered at a history, and the history after it. No other reply is given.
 use Rattle.std.specs.Prelude.{◌≡◌, ◌≢◌, ◌⊎◌, ℕ, ◌+◌, ◌<◌, ◌≤◌, List, [], ◌∷◌, ◌++◌, length, map, None, Result, Ok, Err}
+use Rattle.io_edge.specs.Lines.{Whole}
 use Rattle.mol_finish.specs.declared.fault.Format.{Format}
-use Rattle.mol_finish.specs.declared.fault.Format.TheVariants.{Smiles}
+use Rattle.mol_finish.specs.declared.fault.Format.TheVariants.{Smiles, Molfile}
 use Rattle.smarts_parse.specs.Pattern.{PatternTerm}
 use Rattle.smarts_parse.specs.Chain.{IsShortText}
 use Rattle.smarts_parse.specs.declared.fault.SmartsFault.{SmartsFault}
 use Rattle.shell_lang.specs.declared.command.LineRefusal.{LineRefusal}
 use Rattle.shell_lang.specs.declared.reply.Reply.{Reply}
 use Rattle.shell_lang.specs.declared.reply.Reply.TheVariants.{Accepted, Hit, End, Refused}
-use Rattle.shell_lang.specs.declared.reply.Refusal.TheVariants.{NotYet, Text, Pattern, Known, Full}
-use Rattle.shell_lang.specs.Command.{Command, Empty, Register, Search}
+use Rattle.shell_lang.specs.declared.reply.Refusal.TheVariants.{Long, NotYet, Line, Text, Pattern, Known, Full}
+use Rattle.shell_lang.specs.Command.{Command, Empty, Register, RegisterMol, Search, StartsMolfile, IsLine}
 use Rattle.chem_shell.specs.declared.store.TheConstants.{MOST_COMMITS}
 use Rattle.chem_shell.specs.History as history
 use Rattle.chem_shell.specs.History.{History, head}
 use Rattle.chem_shell.specs.Hits.{AreHits}
+use Rattle.chem_shell.specs.Requests.{Request, IsLong, molfile_text}
 use Rattle.chem_shell.specs.Structures.{IsText, IsTextFault, IsPatternOf, IsPatternFault}
 
 -- a registration: the structure is looked at first, then the identifier, then the number of commits
@@ -37,9 +39,27 @@ abbrev pub SearchLineAnswer : History → List ℕ → List Reply → Type 0
 SearchLineAnswer h text replies =
     (IsShortText text × SearchAnswer h text replies) ⊎ (¬ IsShortText text × (replies ≡ Refused NotYet ∷ []))
 
--- by what the line is read as; only a registration changes the history. Other lines are not answered yet
+-- a line that takes no molfile, by what it is read as; only a registration changes the history. Other lines are not answered yet
 abbrev pub Answers : History → Result Command LineRefusal → List Reply → History → Type 0
 Answers h (Ok Empty) replies h' = (replies ≡ []) × (h' ≡ h)
 Answers h (Ok (Register id text)) replies h' = (reply : Reply) × (replies ≡ reply ∷ []) × RegisterAnswer h Smiles id text reply h'
 Answers h (Ok (Search text)) replies h' = SearchLineAnswer h text replies × (h' ≡ h)
 Answers h _ replies h' = (replies ≡ Refused NotYet ∷ []) × (h' ≡ h)
+
+-- a line and its molfile, by what the line is read as
+abbrev pub MolfileAnswer : History → Result Command LineRefusal → List ℕ → Reply → History → Type 0
+MolfileAnswer h (Ok (RegisterMol id)) text reply h' = RegisterAnswer h Molfile id text reply h'
+MolfileAnswer h (Ok _) text reply h' = ⊥
+MolfileAnswer h (Err refusal) text reply h' = (reply ≡ Refused (Line refusal)) × (h' ≡ h)
+
+-- a request that has no long line, with this line
+abbrev pub LineAnswer : History → List ℕ → Request → List Reply → History → Type 0
+LineAnswer h line request replies h' = (read : Result Command LineRefusal) × IsLine line read
+    × ((¬ StartsMolfile line × Answers h read replies h')
+    ⊎ (StartsMolfile line × (reply : Reply) × (replies ≡ reply ∷ []) × MolfileAnswer h read (molfile_text request.molfile) reply h'))
+
+-- a line that is too long, among those of its molfile too, is refused before all else
+abbrev pub RequestAnswer : History → Request → List Reply → History → Type 0
+RequestAnswer h request replies h' =
+    (IsLong request × (replies ≡ Refused Long ∷ []) × (h' ≡ h))
+    ⊎ (¬ IsLong request × (line : List ℕ) × (request.line ≡ Whole line) × LineAnswer h line request replies h')

@@ -1,5 +1,6 @@
 pub mod Structures
 pub mod History
+pub mod Requests
 pub mod Hits
 pub mod Store
 pub mod Selects

@@ -1,18 +1,19 @@
 //! What a line is answered.
-ghost use Rattle.std.specs.Prelude.{◌≡◌, [], ◌++◌, IfOk, OnOk, OnErr, Ok, ℕ, List, map};
-ghost use Rattle.io_edge.specs.Lines.{Whole, TooLong};
-ghost use Rattle.shell_lang.specs.Command.{IsIdentifier, Spells};
+ghost use Rattle.std.specs.Prelude.{◌≡◌, ◌↔◌, [], ◌++◌, IfOk, OnOk, OnErr, Ok, IsTrue, Contains, ℕ, List, map};
+ghost use Rattle.io_edge.specs.Lines.{TextLine, Whole, TooLong};
+ghost use Rattle.shell_lang.specs.Command.{IsIdentifier, Spells, StartsMolfile, IsLine, registration_of};
 ghost use Rattle.shell_lang.specs.CommandView.{command_of, reading_of};
 ghost use Rattle.shell_lang.specs.Reply.{text_of, reply_line};
 ghost use Rattle.shell_lang.specs.declared.reply.Reply.{Reply};
 ghost use Rattle.shell_lang.specs.declared.reply.Reply.TheVariants.{Hit, Refused};
 ghost use Rattle.chem_shell.specs.Answer.{Answers, RegisterAnswer, SearchLineAnswer};
-ghost use Rattle.chem_shell.specs.Answered.{AnswersLine};
+ghost use Rattle.chem_shell.specs.Answered.{AnswersRequest};
+ghost use Rattle.chem_shell.specs.Requests.{molfile_text};
 
 use crate::store::{CommitFault, Store};
 use matcher::Scratch;
 use mol_finish::{Format, TextFault, structure};
-use shell_lang::{Command, Refusal, Reply, read_command, reply_text};
+use shell_lang::{Command, LineRefusal, Refusal, Reply, read_command, reply_text};
 use smarts_parse::{SmartsFault, is_short, parse};
 use std::alloc::{AllocError, Global};
 
@@ -21,6 +22,8 @@ use std::alloc::{AllocError, Global};
 pub struct Responder {
     pub store: Store,
     scratch: Scratch,
+    /// The text of the molfile that the request under way has.
+    pub molfile: Vec<u8>,
     pub out: Vec<u8>,
 }
 
@@ -32,28 +35,62 @@ impl Responder {
         Ok(Responder {
             store: Store::new(alloc),
             scratch: Scratch::reserve(alloc)?,
+            molfile: Vec::new(alloc),
             out: Vec::new(alloc),
         })
     }
 
     /// Answers a line that is too long; the answer is then in `out`. An `Err` leaves the store as it was.
     pub fn refuse_long(&mut self) -> Result<(), AllocError>
-        ensures ok { OnOk result (AnswersLine self.old.store TooLong self.new.out.items self.new.store) }
+        ensures ok { OnOk result (AnswersRequest self.old.store (record { line = TooLong; molfile = [] }) self.new.out.items self.new.store) }
         ensures err { OnErr result (self.new.store ≡ self.old.store) }
     {
         self.out.clear();
         reply_text(Reply::Refused(Refusal::Long), &mut self.out)
     }
 
-    /// Answers a line; the answer is then in `out`. An `Err` leaves the store as it was.
+    /// Answers a line that takes no molfile; the answer is then in `out`. An `Err` leaves the store as it was.
     pub fn answer(&mut self, alloc: Global, line: &[u8]) -> Result<(), AllocError>
+        requires { ¬ StartsMolfile line.now }
         ensures err { OnErr result (self.new.store ≡ self.old.store) }
-        ensures ok { OnOk result (AnswersLine self.old.store (Whole line.now) self.new.out.items self.new.store) }
+        ensures ok { OnOk result (AnswersRequest self.old.store (record { line = Whole line.now; molfile = [] }) self.new.out.items self.new.store) }
     {
         self.out.clear();
         match read_command(line) {
             Ok(command) => self.execute(alloc, command),
             Err(_) => refuse(Refusal::NotYet, &mut self.out),
+        }
+    }
+
+    /// Answers a line that takes a molfile: what the line is read as, whether a line of the molfile is too long, and the
+    /// molfile's text. The answer is then in `out`. An `Err` leaves the store as it was.
+    pub fn answer_molfile(
+        &mut self,
+        alloc: Global,
+        read: Result<u32, LineRefusal>,
+        is_long: bool,
+    ) -> Result<(), AllocError>
+        requires { (line : List ℕ) × StartsMolfile line × IsLine line (registration_of read) }
+        ensures err { OnErr result (self.new.store ≡ self.old.store) }
+        ensures ok { OnOk result ((line : List ℕ) (molfile : List TextLine) → StartsMolfile line → IsLine line (registration_of read)
+            → self.old.molfile.items ≡ molfile_text molfile → (IsTrue is_long ↔ Contains molfile TooLong)
+            → AnswersRequest self.old.store (record { line = Whole line; molfile = molfile }) self.new.out.items self.new.store) }
+    {
+        let out = &mut self.out;
+        out.clear();
+        if is_long {
+            return refuse(Refusal::Long, out);
+        }
+        match read {
+            Ok(id) => register(
+                alloc,
+                &mut self.store,
+                Format::Molfile,
+                id,
+                &self.molfile,
+                out,
+            ),
+            Err(refusal) => refuse(Refusal::Line(refusal), out),
         }
     }
 

@@ -1,17 +1,19 @@
-//! A session: the lines of a source are answered into a sink, from an empty store on.
-ghost use Rattle.std.specs.Prelude.{◌≡◌, ◌<◌, ◌≤◌, ◌∷◌, [], ◌++◌, ℕ, IfSome, IfOk, OnOk, IsErrOf, IsTrue, List, Some, Ok, Err, true, false, length};
+//! A session: the requests that a source's lines are, answered into a sink, from an empty store on.
+ghost use Rattle.std.specs.Prelude.{◌≡◌, ◌<◌, ◌≤◌, ◌∷◌, ◌↔◌, [], ◌++◌, ℕ, IfSome, IfOk, OnOk, IsErrOf, IsTrue, Contains, List, Some, Ok, Err, true, false, length};
 ghost use Rattle.io_edge.specs.Faults.{Rose};
-ghost use Rattle.io_edge.specs.Lines.{TextLine, done_bytes};
+ghost use Rattle.io_edge.specs.Lines.{TextLine, TooLong, lines_left, done_bytes};
 ghost use Rattle.io_edge.specs.NextLine.{Counts};
 ghost use Rattle.io_edge.specs.Source.{Leaves};
 ghost use Rattle.chem_shell.specs.Served.{WritesPrefix, WritesAll, TakesExactly};
-ghost use Rattle.chem_shell.specs.Turn.{TurnPuts, TakesLine, TakesNone};
-ghost use Rattle.chem_shell.specs.Answered.{AnswersLine};
+ghost use Rattle.chem_shell.specs.Turn.{TurnPuts, TakesRequest, TakesNone, ReadsOn};
+ghost use Rattle.chem_shell.specs.Answered.{AnswersRequest};
+ghost use Rattle.chem_shell.specs.Requests.{Request, BeginWithMolfile, molfile_text};
 ghost use Rattle.chem_shell.specs.History.{History};
 ghost use Rattle.chem_shell.specs.Transcript.{IsTranscript};
 
 use crate::answer::Responder;
 use io_edge::{Line, LineFault, Lines, PutFault, Sink, Source};
+use shell_lang::{ends_molfile, molfile_registration};
 use std::alloc::{AllocError, Global};
 
 /// The most bytes that are taken of an input.
@@ -76,15 +78,48 @@ pub fn one_transcript()
     smarts_parse::one_tree();
 }
 
-/// Reads the next line and answers it into the responder's `out`; `false` where the input's end was met.
+/// Takes the lines of a molfile, up to and with the first that ends one or to the input's end; whether a line is too long,
+/// which the text then lacks.
+fn take_molfile<S: Source>(
+    lines: &mut Lines,
+    text: &mut Vec<u8>,
+    source: &mut S,
+) -> Result<bool, SessionFault>
+    requires within { lines.old.taken ≤ lines.old.limit }
+    ensures taken { IfOk result (λ is_long. (molfile : List TextLine) × (text.new.items ≡ molfile_text molfile) × (IsTrue is_long ↔ Contains molfile TooLong)
+        × ((l l' : List ℕ) → S.left source.old ≡ Some l → S.left source.new ≡ Some l' → (IsTrue lines.old.ended → l ≡ [])
+        → BeginWithMolfile (lines_left lines.old l) molfile (lines_left lines.new l'))) }
+    ensures reads { ReadsOn (S.left source.old) (S.left source.new) (S.faults source.old) (S.faults source.new) lines.old lines.new }
+    ensures source_fault { IsErrOf result SessionFault.Source → Rose (S.faults source.old) (S.faults source.new) }
+    ensures no_sink_fault { IsErrOf result SessionFault.Sink → ⊥ }
+    ensures too_long { IsErrOf result SessionFault.InputTooLong → lines.new.taken ≡ lines.new.limit }
+{
+    text.clear();
+    let mut is_long = false;
+    loop {
+        match lines.next_line(source)? {
+            Line::End => return Ok(is_long),
+            Line::Long => is_long = true,
+            Line::Text => {
+                text.extend_from_slice(lines.text())?;
+                text.extend_from_slice(b"\n")?;
+                if ends_molfile(lines.text()) {
+                    return Ok(is_long);
+                }
+            }
+        }
+    }
+}
+
+/// Reads the next request and answers it into the responder's `out`; `false` where the input's end was met.
 fn answer_next<S: Source>(
     alloc: Global,
     lines: &mut Lines,
     responder: &mut Responder,
     source: &mut S,
 ) -> Result<bool, SessionFault>
-    ensures some { result ≡ Ok true → (line : TextLine) × TakesLine lines.old lines.new (S.left source.old) (S.left source.new) line
-        × AnswersLine responder.old.store line responder.new.out.items responder.new.store }
+    ensures some { result ≡ Ok true → (request : Request) × TakesRequest lines.old lines.new (S.left source.old) (S.left source.new) request
+        × AnswersRequest responder.old.store request responder.new.out.items responder.new.store }
     ensures none { result ≡ Ok false → TakesNone lines.old (S.left source.old) }
     ensures bytes { (got : List ℕ) × Leaves (S.left source.old) got (S.left source.new) × Counts lines.old got lines.new }
     ensures met { (l l' : List ℕ) → S.left source.old ≡ Some l → S.left source.new ≡ Some l'
@@ -101,14 +136,21 @@ fn answer_next<S: Source>(
             responder.refuse_long()?;
             Ok(true)
         }
-        Line::Text => {
-            responder.answer(alloc, lines.text())?;
-            Ok(true)
-        }
+        Line::Text => match molfile_registration(lines.text()) {
+            None => {
+                responder.answer(alloc, lines.text())?;
+                Ok(true)
+            }
+            Some(read) => {
+                let is_long = take_molfile(lines, &mut responder.molfile, source)?;
+                responder.answer_molfile(alloc, read, is_long)?;
+                Ok(true)
+            }
+        },
     }
 }
 
-/// Reads the next line and puts its answer; `false` where the input's end was met.
+/// Reads the next request and puts its answer; `false` where the input's end was met.
 fn turn<S: Source, K: Sink>(
     alloc: Global,
     lines: &mut Lines,
@@ -135,8 +177,8 @@ fn turn<S: Source, K: Sink>(
     }
 }
 
-/// Answers the lines of a source into a sink, each before more is read, over a store that begins empty. `Ok` where the input's end was
-/// met and every line was answered.
+/// Answers the requests of a source into a sink, each before more is read, over a store that begins empty. `Ok` where the
+/// input's end was met and every request was answered.
 pub fn session<S: Source, K: Sink>(
     alloc: Global,
     source: &mut S,

@@ -1,8 +1,8 @@
 -- A line is cut in one way: the first part has no space, and the first words differ.
-use Rattle.std.proofs.Common.{◌≡◌, ◌≢◌, ◌⊎◌, inl, inr, ℕ, zero, suc, ◌+◌, ◌*◌, List, [], ◌∷◌, ◌++◌, Ok, Err, Result, length, refl, sym, ◌∙◌, ap, subst, arith, decimal, codes, slice_index}
+use Rattle.std.proofs.Common.{◌≡◌, ◌≢◌, ◌⊎◌, inl, inr, ℕ, zero, suc, ◌+◌, ◌*◌, List, [], ◌∷◌, ◌++◌, Ok, Err, Result, IfOk, length, refl, sym, ◌∙◌, ap, subst, arith, decimal, codes, slice_index}
 use Rattle.std.specs.List.{All, Contains}
 use Rattle.std.specs.Str.Parse.{AllDigits, digits_value}
-use Rattle.std.proofs.lemmas.Fmt.{digits_decimal, decimal_injective}
+use Rattle.std.proofs.lemmas.Fmt.{digits_decimal}
 use Rattle.std.proofs.lemmas.Str.Parse.{IsNumeralModel, numerals_by_value, tells_digits, not_in_digits}
 use Rattle.std.proofs.lemmas.List.Elements.{All-from_get_or, All-contains, Contains-append_right}
 use Rattle.shell_lang.specs.declared.word.Word.{Word}
@@ -10,7 +10,7 @@ use Rattle.shell_lang.specs.declared.word.Word.TheVariants as words
 use Rattle.shell_lang.specs.declared.command.LineRefusal.{LineRefusal}
 use Rattle.shell_lang.specs.declared.command.LineRefusal.TheVariants as refusals
 use Rattle.shell_lang.specs.Word.{word_text}
-use Rattle.shell_lang.specs.Command.{Command, Empty, Register, Revise, RegisterMol, ReviseMol, Withdraw, Show, Search, Start, Next, Close, Prune, Stats, IsIdentifier, IsNoIdentifier, IsNameByte, IsName, Spells, HasNoSpace, HasIdentifierPart, IsLine}
+use Rattle.shell_lang.specs.Command.{Command, Empty, Register, Revise, RegisterMol, ReviseMol, Withdraw, Show, Search, Start, Next, Close, Prune, Stats, IsIdentifier, IsNoIdentifier, IsNameByte, IsName, Spells, HasNoSpace, HasIdentifierPart, IsLine, StartsMolfile, registration_of}
 use Rattle.shell_lang.specs.Cut.{Follows, IdentifierPart, IsRest}
 
 own : IsNumeralModel (AllDigits 10) (digits_value 10)
@@ -257,3 +257,28 @@ no_name rest n name text is e = n (has_space rest name text e)
 
 pub other_name : (rest first text : List ℕ) → rest ≡ first ++ 32 ∷ text → HasNoSpace first → ¬ IsName first → (name more : List ℕ) → IsName name → rest ≢ name ++ 32 ∷ more
 other_name rest first text cut n none name more is e = none (subst IsName (one_split name first more text (no_space_named name is) n (sym e ∙ cut)).0 is)
+
+-- a line that is `register-mol` alone
+pub mol_alone : (line : List ℕ) → line ≡ codes "register-mol" → HasNoSpace line → IsLine line (Err refusals.Syntax)
+unfolding key
+mol_alone line e n = no_line line n (λ f. let k = ap key (sym e ∙ f) in omega arith) (λ f. let k = ap key (sym e ∙ f) in omega arith) (λ f. let k = ap key (sym e ∙ f) in omega arith)
+
+-- a line without a space that is another word
+pub no_mol_alone : (line : List ℕ) → line ≢ codes "register-mol" → HasNoSpace line → ¬ StartsMolfile line
+no_mol_alone line other n (inl e) = other e
+no_mol_alone line other n (inr h) = n (has_space line (codes "register-mol") h.0 h.1)
+
+-- a line whose first word is another
+pub no_mol : (line first rest : List ℕ) → line ≡ first ++ 32 ∷ rest → HasNoSpace first → first ≢ codes "register-mol" → ¬ StartsMolfile line
+no_mol line first rest cut n other (inl e) = word_space words.RegisterMol (has_space (codes "register-mol") first rest (sym e ∙ cut))
+no_mol line first rest cut n other (inr h) = other (one_split first (codes "register-mol") rest h.0 n (word_space words.RegisterMol) (sym cut ∙ h.1)).0
+
+-- a line of that word, by how its rest is read
+pub mol_line : (line first rest : List ℕ) (read : Result ℕ LineRefusal) → line ≡ first ++ 32 ∷ rest → HasNoSpace first → first ≡ codes "register-mol" → IsRest words.RegisterMol rest (registration_of read) → StartsMolfile line × IsLine line (registration_of read)
+mol_line line first rest read cut n is h =
+    (inr (rest, cut ∙ ap (λ (f : List ℕ). f ++ 32 ∷ rest) is), line_of_rest line first rest words.RegisterMol (registration_of read) cut n (sym is) h)
+
+-- how a rest is read as an identifier alone
+pub mol_rest : (rest : List ℕ) (read : Result ℕ LineRefusal) → IfOk read (λ id. IsIdentifier id × (rest ≡ decimal id)) → (read ≡ Err refusals.Id → HasNoSpace rest × IsNoIdentifier rest) → (read ≡ Err refusals.Syntax → Contains rest 32) → IsRest words.RegisterMol rest (registration_of read)
+mol_rest rest (Ok id) ok none syntax = ok
+mol_rest rest (Err e) ok none syntax = register_mol_refused rest e (λ f. none (ap Err f)) (λ f. syntax (ap Err f))

@@ -69,3 +69,16 @@ abbrev pub IsLine : List ℕ → Result Command LineRefusal → Type 0
 IsLine line (Ok command) = Spells line command
 IsLine line (Err refusals.Id) = (part : List ℕ) × HasIdentifierPart line part × IsNoIdentifier part
 IsLine line (Err refusals.Syntax) = ((command : Command) → ¬ Spells line command) × ((part : List ℕ) → ¬ HasIdentifierPart line part)
+
+-- the line's first part is `register-mol`, so that the lines of a molfile belong to it
+abbrev pub StartsMolfile : List ℕ → Type 0
+StartsMolfile line = (line ≡ codes "register-mol") ⊎ ((rest : List ℕ) × (line ≡ codes "register-mol" ++ 32 ∷ rest))
+
+-- the line begins `M  END`, which ends a molfile
+abbrev pub EndsMolfile : List ℕ → Type 0
+EndsMolfile line = (rest : List ℕ) × (line ≡ codes "M  END" ++ rest)
+
+-- what a line that starts a molfile is read as, by its identifier
+abbrev pub registration_of : Result ℕ LineRefusal → Result Command LineRefusal
+registration_of (Ok id) = Ok (RegisterMol id)
+registration_of (Err refusal) = Err refusal

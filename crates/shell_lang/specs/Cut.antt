@@ -1,5 +1,5 @@
 -- For private clauses alone: a line by its first word and what follows it.
-use Rattle.std.specs.Prelude.{◌≡◌, ◌≢◌, ◌⊎◌, ℕ, Result, Ok, Err, List, [], ◌∷◌, ◌++◌}
+use Rattle.std.specs.Prelude.{◌≡◌, ℕ, Result, Ok, Err, List, ◌∷◌, ◌++◌}
 use Rattle.std.specs.Fmt.{decimal}
 use Rattle.shell_lang.specs.declared.word.Word.{Word}
 use Rattle.shell_lang.specs.declared.word.Word.TheVariants as words

@@ -1,7 +1,7 @@
 //! Reading a line of a script: which command it spells, or why it spells none.
 ghost use Rattle.std.specs.Prelude.{◌≡◌, ◌≢◌, ◌∷◌, ◌++◌, ℕ, List, All, Contains, codes, decimal, IfSome, IfNone, IfOk, IfErr, IsErrOf, IsTrue, Result, ◌↔◌};
 ghost use Rattle.shell_lang.specs.Command as spec;
-ghost use Rattle.shell_lang.specs.Command.{IsIdentifier, IsNoIdentifier, IsNameByte, IsName, Spells, HasNoSpace, HasIdentifierPart, IsLine};
+ghost use Rattle.shell_lang.specs.Command.{IsIdentifier, IsNoIdentifier, IsNameByte, IsName, Spells, HasNoSpace, HasIdentifierPart, IsLine, StartsMolfile, EndsMolfile, registration_of};
 ghost use Rattle.shell_lang.specs.CommandView.{reading_of};
 ghost use Rattle.shell_lang.specs.Word.{word_text};
 ghost use Rattle.shell_lang.specs.Cut.{IsRest};
@@ -16,6 +16,8 @@ pub const LAST_IDENTIFIER: u64 = 999_999_999;
 
 /// The most bytes of a cursor's name.
 pub const LONGEST_NAME: usize = 32;
+
+const REGISTER_MOL: &[u8] = b"register-mol";
 
 /// A line of a script. An identifier is 1 to 999,999,999; a name has 1 to 32 letters of ASCII, digits or `_`.
 #[derive(Clone, Copy, Debug)]
@@ -69,6 +71,33 @@ pub fn read_command(line: &[u8]) -> Result<Command<'_>, LineRefusal>
         return Err(LineRefusal::Syntax);
     };
     with_rest(word, rest)
+}
+
+/// The identifier of a line whose first part is `register-mol`, or why the line is no command; `None` for any other
+/// line. The lines of a molfile follow such a line, whatever it is read as.
+pub fn molfile_registration(line: &[u8]) -> Option<Result<u32, LineRefusal>>
+    ensures some { IfSome result (λ read. StartsMolfile line.now × IsLine line.now (registration_of read)) }
+    ensures none { IfNone result (¬ StartsMolfile line.now) }
+{
+    let Some((first, rest)) = split_at_space(line) else {
+        return if are_same(line, REGISTER_MOL) {
+            Some(Err(LineRefusal::Syntax))
+        } else {
+            None
+        };
+    };
+    if are_same(first, REGISTER_MOL) {
+        Some(identifier_alone(rest))
+    } else {
+        None
+    }
+}
+
+/// Whether a line ends a molfile: it begins `M  END`.
+pub fn ends_molfile(line: &[u8]) -> bool
+    ensures { IsTrue result ↔ EndsMolfile line.now }
+{
+    line.starts_with(b"M  END")
 }
 
 /// A law: a line is read in one way.

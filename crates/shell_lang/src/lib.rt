@@ -5,5 +5,8 @@ mod command;
 mod reply;
 mod word;
 
-pub use command::{Command, LAST_IDENTIFIER, LONGEST_NAME, LineRefusal, one_reading, read_command};
+pub use command::{
+    Command, LAST_IDENTIFIER, LONGEST_NAME, LineRefusal, ends_molfile, molfile_registration,
+    one_reading, read_command,
+};
 pub use reply::{Refusal, Reply, reply_text};

@@ -1,4 +1,4 @@
-use Rattle.std.proofs.Common.{◌≡◌, ℕ, ◌+◌, List, ◌++◌, Err, refl, sym, ap, ◌∙◌, subst}
+use Rattle.std.proofs.Common.{◌+◌, ◌++◌, Err, refl, ap, ◌∙◌, subst}
 use Rattle.std.proofs.lemmas.Result.{on_ok_weaker}
 use Rattle.mol_finish.specs.declared.fault.TextFault.TheVariants.{Smiles, Molfile}
 use Rattle.shell_lang.specs.declared.reply.Reply.TheVariants.{Accepted, Refused}

@@ -1,4 +1,4 @@
-use Rattle.std.proofs.Common.{◌≡◌, ℕ, length, List, [], ◌∷◌, ◌++◌, map, refl, sym, ap, ◌∙◌, subst, inl, inr, Err, append_assoc, append-nil}
+use Rattle.std.proofs.Common.{◌≡◌, ℕ, length, List, [], ◌∷◌, ◌++◌, map, refl, sym, ap, ◌∙◌, inl, inr, Err, append_assoc, append-nil}
 use Rattle.std.proofs.lemmas.Result.{on_ok_weaker}
 use Rattle.std.proofs.lemmas.Grind.{flat_map-append}
 use Rattle.smarts_parse.specs.Pattern.{pattern_of}

@@ -1,6 +1,6 @@
 use Rattle.std.proofs.Common.{◌≡◌, Result, ap, Err, arith}
 use Rattle.std.proofs.lemmas.Result.{err_from_is_err_and}
-use Rattle.chem_shell.proofs.SessionLemmas.{IsUnderWay-start, IsUnderWay-line, prefix_unmoved, prefix_after_fault, prefix_after_nothing, whole_at_end, takes_all, Rose-since}
+use Rattle.chem_shell.proofs.SessionLemmas.{IsUnderWay-start, IsUnderWay-request, prefix_unmoved, prefix_after_fault, prefix_after_nothing, whole_at_end, takes_all, Rose-since}
 use Rattle.chem_shell.specs.declared.session.SessionFault.{SessionFault}
 use Rattle.chem_shell.proofs.session.session.Goals as goal
 
@@ -47,7 +47,7 @@ loop-responder-preserved g c =
     let t = rw c.if-branch.true at c.in_ok-turn.ensures.puts in
     let b = c.in_ok-turn.ensures.bytes in
     record {
-      under_way = IsUnderWay-line _ _ _ _ _ _ c.loop-responder.lines c.turn.new.lines c.loop-responder.responder.store c.turn.new.responder.store b.0 t.0 t.1 b.1 b.2 c.in_ok-turn.ensures.met t.2 t.3 t.4 c.loop-responder.invariant.under_way;
+      under_way = IsUnderWay-request _ _ _ _ _ _ c.loop-responder.lines c.turn.new.lines c.loop-responder.responder.store c.turn.new.responder.store b.0 t.0 t.1 b.1 b.2 c.in_ok-turn.ensures.met t.2 t.3 t.4 c.loop-responder.invariant.under_way;
       source_count = omega (arith, c.loop-responder.invariant.source_count, c.in_ok-turn.ensures.source_count);
       sink_count = omega (arith, c.loop-responder.invariant.sink_count, c.in_ok-turn.ensures.sink_count);
     }

@@ -1,20 +1,21 @@
 use Rattle.std.proofs.Common.{◌≡◌, ℕ, Bool, List, [], Option, Result, Ok, Err, ap, sym}
 use Rattle.std.proofs.lemmas.Result.{err_from_is_err_and}
 use Rattle.std.specs.Io.KnownBytes.{Appends}
-use Rattle.io_edge.specs.Lines.{TextLine, Reading}
+use Rattle.io_edge.specs.Lines.{Reading}
 use Rattle.io_edge.specs.Sink.{AppendsPrefix, OnFailed, OnNoMemory}
 use Rattle.io_edge.specs.declared.sinks.PutFault.{PutFault}
 use Rattle.io_edge.specs.declared.sinks.PutFault.TheVariants.{Failed, NoMemory}
 use Rattle.chem_shell.specs.declared.session.SessionFault.{SessionFault}
 use Rattle.chem_shell.specs.History.{History}
-use Rattle.chem_shell.specs.Answered.{AnswersLine}
-use Rattle.chem_shell.specs.Turn.{TurnPuts, TakesLine, put_fault}
+use Rattle.chem_shell.specs.Answered.{AnswersRequest}
+use Rattle.chem_shell.specs.Requests.{Request}
+use Rattle.chem_shell.specs.Turn.{TurnPuts, TakesRequest, put_fault}
 use Rattle.chem_shell.proofs.session.turn.Goals as goal
 
 -- what a turn put whose sink refused the text
-TurnPuts-refused : (result : Result Bool SessionFault) (fault : PutFault) (y : SessionFault) (h h' : History) (old new : Reading) (before after put put' : Option (List ℕ)) (line : TextLine) (text : List ℕ) → result ≡ Err y → y ≡ put_fault fault → TakesLine old new before after line → AnswersLine h line text h' → OnFailed (Err fault) (AppendsPrefix put put' text) → OnNoMemory (Err fault) (Appends put put' []) → TurnPuts result h h' old new before after put put'
-TurnPuts-refused result Failed y h h' old new before after put put' line text p q takes answers part none = rw (p, q) (line, text, takes, answers, part)
-TurnPuts-refused result NoMemory y h h' old new before after put put' line text p q takes answers part none = rw (p, q) none
+TurnPuts-refused : (result : Result Bool SessionFault) (fault : PutFault) (y : SessionFault) (h h' : History) (old new : Reading) (before after put put' : Option (List ℕ)) (request : Request) (text : List ℕ) → result ≡ Err y → y ≡ put_fault fault → TakesRequest old new before after request → AnswersRequest h request text h' → OnFailed (Err fault) (AppendsPrefix put put' text) → OnNoMemory (Err fault) (Appends put put' []) → TurnPuts result h h' old new before after put put'
+TurnPuts-refused result Failed y h h' old new before after put put' request text p q takes answers part none = rw (p, q) (request, text, takes, answers, part)
+TurnPuts-refused result NoMemory y h h' old new before after put put' request text p q takes answers part none = rw (p, q) none
 
 pub returns-in_ok-put-clause-puts : goal.returns-in_ok-put-clause-puts
 returns-in_ok-put-clause-puts g c =

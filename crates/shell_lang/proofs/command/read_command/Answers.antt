@@ -1,6 +1,3 @@
-use Rattle.std.proofs.Common.{◌≡◌, ◌≢◌, ap, sym, ◌∙◌, subst, rules}
-use Rattle.shell_lang.specs.declared.word.Word.{Word}
-use Rattle.shell_lang.specs.Word.{word_text}
 use Rattle.shell_lang.proofs.Cuts.{no_word, line_of_rest}
 use Rattle.shell_lang.proofs.command.read_command.Goals as goal
 
