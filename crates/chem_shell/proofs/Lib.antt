@@ -4,3 +4,5 @@ pub mod HitsLemmas
 pub mod EndsLemmas
 pub mod Texts
 pub mod OneTranscript
+pub mod WordsLemmas
+pub mod WordsExamples
