@@ -257,15 +257,42 @@ fn faults_of_the_ends(rt: HostRuntime) -> Result<(), Fail> {
     Ok(())
 }
 
+// The status of the words, and what was put, where the script registers one structure.
 #[test]
-fn words_that_ask_for_nothing(rt: HostRuntime) -> Result<(), Fail> {
+fn words_and_statuses(rt: HostRuntime) -> Result<(), Fail> {
     let alloc = rt.alloc();
-    let rows: [&[&str]; 5] = [&[], &["mem", "x"], &["Mem"], &["init", "f"], &[""]];
-    for words in rows {
+    let rows: [(&[&str], u8); 24] = [
+        (&["mem"], 0),
+        (&["mem", "--page", "3"], 0),
+        (&["mem", "--page=256"], 0),
+        (&["--page", "3", "mem"], 0),
+        (&["mem", "--workers", "16", "--page=1"], 0),
+        (&["mem", "--"], 0),
+        (&[], 2),
+        (&[""], 2),
+        (&["Mem"], 2),
+        (&["mem", "x"], 2),
+        (&["mem", "--", "x"], 2),
+        (&["mem", "mem"], 2),
+        (&["init", "f"], 2),
+        (&["bulk", "0", "1"], 2),
+        (&["mem", "--workers", "17"], 2),
+        (&["mem", "--workers=0"], 2),
+        (&["mem", "--page", "257"], 2),
+        (&["mem", "--page", "0"], 2),
+        (&["mem", "--page", "01"], 2),
+        (&["mem", "--page="], 2),
+        (&["mem", "--page"], 2),
+        (&["mem", "--page", "3", "--page", "3"], 2),
+        (&["mem", "--commits", "5"], 2),
+        (&["mem", "--help"], 2),
+    ];
+    for (words, status) in rows {
         let ends = ends_over(alloc, b"register 1 C\n", 1000, &[], &[])?;
         let outcome = chemdb(&rt, alloc, words, (), (), ends);
-        assert_eq!(rt; outcome.status, 2, "at {words:?}");
-        assert_eq!(rt; put_by(&outcome), b"".as_slice(), "at {words:?}");
+        assert_eq!(rt; outcome.status, status, "at {words:?}");
+        let put = if status == 0 { "ok 1\n" } else { "" };
+        assert_eq!(rt; put_by(&outcome), put.as_bytes(), "at {words:?}");
     }
     Ok(())
 }

@@ -6,3 +6,5 @@ pub mod HitsLemmas
 pub mod EndsLemmas
 pub mod Texts
 pub mod OneTranscript
+pub mod WordsLemmas
+pub mod WordsExamples

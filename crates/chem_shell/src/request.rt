@@ -1,5 +1,6 @@
 //! A request: what the words of the command line ask for.
 
+use std::alloc::AllocError;
 use thiserror::Error;
 
 /// A command.
@@ -38,4 +39,15 @@ pub enum PlanFault {
     Usage,
     #[error("out of memory")]
     NoMemory,
+}
+
+impl From<AllocError> for PlanFault {
+    ghost use Rattle.std.specs.Prelude.{◌≡◌};
+    ghost use Rattle.chem_shell.specs.declared.request.PlanFault.TheVariants.{NoMemory};
+
+    ghost from_gives = { λ _ fault. fault ≡ NoMemory };
+
+    fn from(_fault: AllocError) -> PlanFault {
+        PlanFault::NoMemory
+    }
 }

@@ -1,8 +1,8 @@
 //! The top call: the words, the ends and the disks in, and what became of them out.
-ghost use Rattle.std.specs.Prelude.{◌≡◌, ◌↔◌, All, length, map};
+ghost use Rattle.std.specs.Prelude.{◌≡◌, ◌⊎◌, All, length, map};
 ghost use Rattle.std.specs.List.{AllZip};
 ghost use Rattle.io_edge.specs.Faults.{Rose};
-ghost use Rattle.chem_shell.specs.Words.{AsksMem};
+ghost use Rattle.chem_shell.specs.Words.{Asks};
 ghost use Rattle.chem_shell.specs.Served.{WritesPrefix, WritesAll, TakesExactly};
 ghost use Rattle.chem_shell.specs.Ends.{with_status, IsServed};
 ghost use Rattle.chem_shell.specs.Status.{IsEndStatus, first_fault};
@@ -130,18 +130,19 @@ pub fn chemdb<
     S: Source + Send + Drop,
     K: Sink + Send + Drop,
 >(_rt: &R, alloc: Global, words: &[&str], a: D, b: D, mut ends: Vec<End<S, K>>) -> Outcome<D, S, K>
-    requires one_end { AsksMem (map (λ w. w.now) words.now) → length ends.items ≡ 1 }
+    requires one_end { Asks (map (λ w. w.now) words.now) → length ends.items ≡ 1 }
 
     // The words that ask for nothing, and then nothing is taken or put.
-    ensures usage { (result.status ≡ USAGE) ↔ (¬ AsksMem (map (λ w. w.now) words.now)) }
-    ensures usage_takes_nothing { ¬ AsksMem (map (λ w. w.now) words.now) → result.ends.items ≡ map (with_status USAGE) ends.items }
+    ensures usage { result.status ≡ USAGE → ¬ Asks (map (λ w. w.now) words.now) }
+    ensures no_plan { ¬ Asks (map (λ w. w.now) words.now) → (result.status ≡ USAGE) ⊎ (result.status ≡ NO_MEMORY) }
+    ensures no_plan_takes_nothing { ¬ Asks (map (λ w. w.now) words.now) → result.ends.items ≡ map (with_status result.status) ends.items }
 
     ensures disk_a { result.a ≡ a }
     ensures disk_b { result.b ≡ b }
     ensures place { result.place ≡ 0 }
 
-    ensures statuses { AsksMem (map (λ w. w.now) words.now) → All (λ end. IsEndStatus end.status) result.ends.items }
-    ensures overall { AsksMem (map (λ w. w.now) words.now) → result.status ≡ first_fault (map (λ end. end.status) result.ends.items) }
+    ensures statuses { Asks (map (λ w. w.now) words.now) → All (λ end. IsEndStatus end.status) result.ends.items }
+    ensures overall { Asks (map (λ w. w.now) words.now) → result.status ≡ first_fault (map (λ end. end.status) result.ends.items) }
 
     // A fault comes only where the end's object failed in this call, and only an input of the limit's length is too long.
     ensures source_fault { AllZip (λ old new. new.status ≡ SOURCE_FAULT → Rose (S.faults old.source) (S.faults new.source)) ends.items result.ends.items }
@@ -149,9 +150,9 @@ pub fn chemdb<
     ensures input_too_long { AllZip (λ old new. new.status ≡ INPUT_TOO_LONG → TakesExactly (S.left old.source) (S.left new.source) INPUT_LIMIT) ends.items result.ends.items }
 
     // `mem`: what was written is a prefix of the transcript of the source's bytes, and all of it where the status is 0.
-    ensures mem_prefix { AsksMem (map (λ w. w.now) words.now)
+    ensures mem_prefix { Asks (map (λ w. w.now) words.now)
         → AllZip (λ old new. WritesPrefix (S.left old.source) (K.written old.sink) (K.written new.sink)) ends.items result.ends.items }
-    ensures mem_all { AsksMem (map (λ w. w.now) words.now)
+    ensures mem_all { Asks (map (λ w. w.now) words.now)
         → AllZip (λ old new. new.status ≡ DONE → WritesAll (S.left old.source) (K.written old.sink) (K.written new.sink)) ends.items result.ends.items }
 {
     match plan(alloc, words) {

@@ -14,7 +14,19 @@ use std::sync::Wait;
 use std::thread::Threads;
 
 /// What is printed where the words ask for nothing that is known.
-const USAGE: &str = "usage: chemdb mem < SCRIPT";
+const USAGE: &str = "\
+usage: chemdb COMMAND [OPTIONS]
+
+commands
+  mem  serve the script of standard input over a store in memory
+
+options of mem
+  --workers N  threads for matching, 1 to 16; 1 if left out
+  --page N     records in a page, 1 to 256; 256 if left out
+
+Options stand before or behind the command, as --page 3 or --page=3.
+Today they are read and have no effect.
+example: printf 'register 1 CCO\\nsearch CO\\n' | chemdb mem --page=64";
 
 fn main(rt: HostRuntime) -> ExitCode {
     let status = run(&rt);

@@ -37,9 +37,17 @@ pub returns-in-Err-NoMemory-clause-overall : goal.returns-in-Err-NoMemory-clause
 returns-in-Err-NoMemory-clause-overall g c = λ asks.
     c.unserved-in-Err-NoMemory.ensures.status ∙ fault_of_all_alike c.args.ends.items c.unserved-in-Err-NoMemory.result.ends.items 8 (c.requires.one_end asks) c.unserved-in-Err-NoMemory.ensures.ends
 
+pub serve_one-status-requires : goal.serve_one-status-requires
+serve_one-status-requires g c = c.requires.one_end (c.in-Ok.field-0, c.in-Ok.ensures.ok)
+
 pub returns-clause-usage : goal.returns-clause-usage
-returns-clause-usage g c =
-    (λ two asks. never_usage c.serve_one-status.result c.serve_one-status.ensures.status two, λ none. absurd (none c.in-Ok.ensures.mem.0))
+returns-clause-usage g c = λ two asks. never_usage c.serve_one-status.result c.serve_one-status.ensures.status two
+
+pub returns-clause-no_plan : goal.returns-clause-no_plan
+returns-clause-no_plan g c = λ none. absurd (none (c.in-Ok.field-0, c.in-Ok.ensures.ok))
+
+pub returns-clause-no_plan_takes_nothing : goal.returns-clause-no_plan_takes_nothing
+returns-clause-no_plan_takes_nothing g c = λ none. absurd (none (c.in-Ok.field-0, c.in-Ok.ensures.ok))
 
 pub returns-clause-source_fault : goal.returns-clause-source_fault
 returns-clause-source_fault g c =
