@@ -97,6 +97,16 @@ fn scripts_and_replies(rt: HostRuntime) -> Result<(), Fail> {
             "register 1 [13CH3][C@@H](O)C(=O)[O-].[Na+]\nregister 2 [H]C([H])([H])[H]\nregister 3 C/C=C\\C\nsearch C\nsearch C=C\nsearch C=O\nsearch CCCCCCCCCCCCCCCCCCCCCCCCCCCCCCCC\nsearch CCCCCCCCCCCCCCCCCCCCCCCCCCCCCCCCC\n",
             "ok 1\nok 2\nok 3\nhit 1\nhit 2\nhit 3\nend at 3 hits 3\nhit 3\nend at 3 hits 1\nhit 1\nend at 3 hits 1\nend at 3 hits 0\nrefused notyet\n",
         ),
+        // A molfile belongs to its line, whatever that is answered, up to `M  END` or the end. The charge of a CHG line stands
+        // in place of those of the atom lines.
+        (
+            "register-mol 1\nacetate\n\n\n  4  3  0  0  0  0  0  0  0  0999 V2000\n    0.0000    0.0000    0.0000 C   0  0  0  0  0  0\n    1.5000    0.0000    0.0000 C   0  0  0  0  0  0\n    2.2000    1.2000    0.0000 O   0  5  0  0  0  0\n    2.2000   -1.2000    0.0000 O   0  0  0  0  0  0\n  1  2  1  0\n  2  3  2  0\n  2  4  1  0\nM  CHG  1   4  -1\nM  END\nsearch C=O\nregister 1 C\n",
+            "ok 1\nhit 1\nend at 1 hits 1\nrefused known\n",
+        ),
+        (
+            "register-mol\nregister 1 C\nM  END\nregister-mol 01\nM  END of it\nregister-mols 1\nrevise-mol 1\nregister 1 C\nregister-mol 2\n\n\n\n",
+            "refused syntax\nrefused id\nrefused notyet\nrefused notyet\nok 1\nrefused molfile cut\n",
+        ),
         // a NUL, and symbols of no element
         (
             "register 1 C\0\nregister 3 Cr\nregister 4 l\nregister 1 C\n",

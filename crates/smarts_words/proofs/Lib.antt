@@ -1,0 +1,4 @@
+pub mod Taken
+pub mod Stereos
+pub mod Balance
+pub mod AtomRead

@@ -1,0 +1,9 @@
+pub mod Prims
+pub mod Expression
+pub mod Bracket
+pub mod Bonds
+pub mod Words
+pub mod Follow
+pub mod Apart
+pub mod State
+pub mod Owed

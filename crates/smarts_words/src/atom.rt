@@ -1,0 +1,100 @@
+//! Atoms.
+
+ghost use Rattle.std.specs.Prelude.{◌≡◌, ◌≢◌, ℕ, [], ◌∷◌, ◌++◌, List, IfOk, IfSome, IsSomeAnd, MatchOption, option_map};
+ghost use Rattle.chem_core.specs.Organic.{Organic, symbol_bytes, atomic_number};
+ghost use Rattle.line_walk.specs.Follow.{Reads, AfterAtom};
+ghost use Rattle.smarts_words.specs.Bracket.{Atom, atom_text, IsAtom, value_of_atom};
+ghost use Rattle.smarts_words.specs.Bracket as bracket;
+ghost use Rattle.smarts_words.specs.Words.{smarts_words};
+ghost use Rattle.smarts_words.specs.Follow.{IsBareAtom, IsBareRead};
+
+use crate::bracket::bracket_at;
+use crate::symbol::{small_number, symbol};
+use crate::value::PatternAtom;
+use crate::word::{AtomWord, Step};
+use std::alloc::{AllocError, Global};
+
+/// The atom that the bytes begin with, and the bytes after it.
+pub fn atom_at(alloc: Global, bytes: &[u8]) -> Result<Option<(PatternAtom, &[u8])>, AllocError>
+    ensures { IfOk result (λ o. Reads atom_text IsAtom value_of_atom (AfterAtom smarts_words) bytes.now
+        (option_map (λ r. (r.0, r.1.now)) o)) }
+{
+    if let [b'[', rest @ ..] = bytes {
+        return bracket_at(alloc, rest);
+    }
+    match bare_at(bytes) {
+        Some((word, rest)) => Ok(Some((single(alloc, word)?, rest))),
+        None => Ok(None),
+    }
+}
+
+// The primitive without brackets that the bytes begin with, and the bytes after it.
+fn bare_at(bytes: &[u8]) -> Option<(AtomWord, &[u8])>
+    ensures found { IfSome result (λ r. (x : Atom) × IsAtom x × IsBareAtom x × (bytes.now ≡ atom_text x ++ r.1.now)
+        × (bracket.single r.0 ≡ value_of_atom x)) }
+    ensures only { (x : Atom) (rest : List ℕ) → IsAtom x → IsBareAtom x → AfterAtom smarts_words rest
+        → bytes.now ≡ atom_text x ++ rest → IsSomeAnd result (λ r. r.1.now ≡ rest) }
+{
+    match bytes {
+        [b'C', b'l', rest @ ..] => Some((symbol(17, false), rest)),
+        [b'B', b'r', rest @ ..] => Some((symbol(35, false), rest)),
+        [first, rest @ ..] => match bare_word(*first) {
+            Some(word) => Some((word, rest)),
+            None => None,
+        },
+        [] => None,
+    }
+}
+
+// The primitive of one byte that stands without brackets.
+fn bare_word(byte: u8) -> Option<AtomWord>
+    ensures { MatchOption result ((x : Atom) → IsAtom x → IsBareAtom x → atom_text x ≢ byte ∷ []) (IsBareRead byte) }
+{
+    match byte {
+        b'*' => Some(AtomWord::Any),
+        b'a' => Some(AtomWord::Aromatic),
+        b'A' => Some(AtomWord::Aliphatic),
+        _ => organic_word(byte),
+    }
+}
+
+// The symbol of one byte that stands without brackets.
+fn organic_word(byte: u8) -> Option<AtomWord>
+    requires other { (byte ≢ 42) × (byte ≢ 97) × (byte ≢ 65) }
+    ensures { MatchOption result ((x : Atom) → IsAtom x → IsBareAtom x → atom_text x ≢ byte ∷ []) (IsBareRead byte) }
+{
+    match organic_number(byte) {
+        Some(number) => Some(symbol(number, false)),
+        None => match small_number(byte) {
+            Some(number) => Some(symbol(number, true)),
+            None => None,
+        },
+    }
+}
+
+// The number of the element of the organic subset whose symbol is the one letter.
+fn organic_number(byte: u8) -> Option<u8>
+    ensures { MatchOption result ((x : Organic) → symbol_bytes x ≢ byte ∷ [])
+        (λ number. (x : Organic) × (symbol_bytes x ≡ byte ∷ []) × (number ≡ atomic_number x)) }
+{
+    match byte {
+        b'C' => Some(6),
+        b'N' => Some(7),
+        b'O' => Some(8),
+        b'S' => Some(16),
+        b'F' => Some(9),
+        b'P' => Some(15),
+        b'I' => Some(53),
+        b'B' => Some(5),
+        _ => None,
+    }
+}
+
+// The atom of one primitive.
+fn single(alloc: Global, word: AtomWord) -> Result<PatternAtom, AllocError>
+    ensures { IfOk result (λ atom. atom ≡ bracket.single word) }
+{
+    let mut steps = Vec::new(alloc);
+    steps.push(Step::Prim(word))?;
+    Ok(PatternAtom::new(steps, Vec::new(alloc)))
+}

@@ -1,0 +1,143 @@
+//! Numbers and signs.
+
+ghost use Rattle.std.specs.Prelude.{◌≡◌, ◌≢◌, ◌⊎◌, ℕ, ◌<◌, ◌≤◌, ◌∷◌, ◌++◌, ◌↔◌, List, IsTrue, IfSome, IsSomeAnd, length, replicate, option_map};
+ghost use Rattle.std.specs.List.{AllByRecursion};
+ghost use Rattle.smiles_read.specs.Atom.{IsDigit, value_of, Sign, sign_byte, signed};
+ghost use Rattle.smarts_words.specs.Prims.{IsNumber, NoDigit, number_of, Signs, signs_text, AreSigns, FollowsSigns, sign_of, charge_of, most_signs};
+ghost use Rattle.smarts_words.specs.Follow.{Takes};
+
+/// The most signs that a charge has; no text that is read has more.
+const MOST_SIGNS: usize = 4096;
+
+/// The number that the bytes begin with, if they begin with one, and the bytes after it; none where more than three
+/// digits stand there.
+pub fn number_at(bytes: &[u8]) -> Option<(Option<u16>, &[u8])>
+    ensures reads { Takes (λ (digits : List ℕ). digits) (λ digits. (length digits ≤ 3) × AllByRecursion IsDigit digits)
+        (λ digits rest. NoDigit rest) number_of bytes.now (option_map (λ r. (r.0, r.1.now)) result) }
+    ensures bound { IfSome result (λ r. IfSome r.0 (λ n. n ≤ 999)) }
+{
+    let (digits, rest) = digits_at(bytes);
+    if digits.len() > 3 {
+        return None;
+    }
+    if digits.is_empty() {
+        return Some((None, rest));
+    }
+    Some((Some(value(digits)), rest))
+}
+
+/// The number that the bytes begin with, and the bytes after it.
+pub fn written_at(bytes: &[u8]) -> Option<(u16, &[u8])>
+    ensures { Takes (λ (digits : List ℕ). digits) IsNumber (λ digits rest. NoDigit rest) value_of bytes.now
+        (option_map (λ r. (r.0, r.1.now)) result) }
+{
+    match number_at(bytes) {
+        Some((Some(number), rest)) => Some((number, rest)),
+        _ => None,
+    }
+}
+
+/// The charge that the bytes begin with, and the bytes after it; none where they begin with no sign, or a digit stands
+/// after several.
+pub fn charge_at(bytes: &[u8]) -> Option<(i16, &[u8])>
+    ensures { Takes signs_text AreSigns FollowsSigns charge_of bytes.now (option_map (λ r. (r.0, r.1.now)) result) }
+{
+    match bytes {
+        [b'+', ..] => {
+            let (amount, rest) = amount_at(bytes, b'+')?;
+            Some((amount as i16, rest))
+        }
+        [b'-', ..] => {
+            let (amount, rest) = amount_at(bytes, b'-')?;
+            Some((-(amount as i16), rest))
+        }
+        _ => None,
+    }
+}
+
+/// The bytes after the digits that the bytes begin with, of which there is at least one.
+pub fn after_digits(bytes: &[u8]) -> Option<&[u8]>
+    ensures found { IfSome result (λ rest. (digits : List ℕ) × (1 ≤ length digits) × AllByRecursion IsDigit digits
+        × (bytes.now ≡ digits ++ rest.now)) }
+    ensures only { (digits rest : List ℕ) → 1 ≤ length digits → AllByRecursion IsDigit digits → NoDigit rest
+        → bytes.now ≡ digits ++ rest → IsSomeAnd result (λ r. r.now ≡ rest) }
+{
+    let (digits, rest) = digits_at(bytes);
+    if digits.is_empty() {
+        return None;
+    }
+    Some(rest)
+}
+
+// How many signs the bytes begin with, or the number after one.
+fn amount_at(bytes: &[u8], sign: u8) -> Option<(u16, &[u8])>
+    ensures found { IfSome result (λ r. (s : Sign) → sign_byte s ≡ sign → (rest : List ℕ) → bytes.now ≡ sign ∷ rest
+        → (x : Signs) × AreSigns x × (bytes.now ≡ signs_text x ++ r.1.now) × FollowsSigns x r.1.now
+        × (signed s r.0 ≡ charge_of x)) }
+    ensures few { IfSome result (λ r. r.0 ≤ most_signs) }
+    ensures only { (x : Signs) (rest : List ℕ) → AreSigns x → FollowsSigns x rest → sign_of x ≡ sign
+        → bytes.now ≡ signs_text x ++ rest → IsSomeAnd result (λ r. r.1.now ≡ rest) }
+{
+    let (count, after) = run_at(bytes, sign);
+    let (number, rest) = number_at(after)?;
+    match number {
+        None if count <= MOST_SIGNS => Some((count as u16, rest)),
+        Some(number) if count == 1 => Some((number, rest)),
+        _ => None,
+    }
+}
+
+/// How many of the bytes at the front are the sign, and the bytes after these.
+pub fn run_at(bytes: &[u8], sign: u8) -> (usize, &[u8])
+    ensures found { bytes.now ≡ replicate result.0 sign ++ result.1.now }
+    ensures all { (rest : List ℕ) → result.1.now ≢ sign ∷ rest }
+{
+    let mut count = 0;
+    let mut rest = bytes;
+    while let [first, after @ ..] = rest
+        && *first == sign
+    {
+        count += 1;
+        rest = after;
+    }
+    (count, rest)
+}
+
+/// Whether the byte is a digit.
+pub fn is_digit(byte: u8) -> bool
+    ensures { IsTrue result ↔ IsDigit byte }
+{
+    byte >= b'0' && byte <= b'9'
+}
+
+// All digits that the bytes begin with, and the bytes after these.
+fn digits_at(bytes: &[u8]) -> (&[u8], &[u8])
+    ensures split { bytes.now ≡ result.0.now ++ result.1.now }
+    ensures digits { AllByRecursion IsDigit result.0.now }
+    ensures all { NoDigit result.1.now }
+{
+    for (count, byte) in bytes.iter().enumerate() {
+        if !is_digit(*byte) {
+            return bytes.split_at(count);
+        }
+    }
+    (bytes, &[])
+}
+
+// The value of at most three digits.
+fn value(digits: &[u8]) -> u16
+    requires few { length digits.now ≤ 3 }
+    requires digits { AllByRecursion IsDigit digits.now }
+    ensures value { result ≡ value_of digits.now }
+    ensures bound { result ≤ 999 }
+{
+    match digits {
+        [] => 0,
+        [a] => u16::from(*a - b'0'),
+        [a, b] => 10 * u16::from(*a - b'0') + u16::from(*b - b'0'),
+        [a, b, c] => {
+            100 * u16::from(*a - b'0') + 10 * u16::from(*b - b'0') + u16::from(*c - b'0')
+        }
+        _ => unreachable!(),
+    }
+}
