@@ -1,5 +1,5 @@
 -- Options, and settings, in other words.
-use Rattle.std.proofs.Common.{◌≡◌, ◌<◌, ◌^◌, ◌∙◌, ℕ, List, Option, Some, None, is_some, false, refl, sym, ap, arith, decimal, option_map, Result, Ok, Err}
+use Rattle.std.proofs.Common.{◌≡◌, ◌<◌, ◌^◌, ◌∙◌, ℕ, List, Option, Some, None, is_some, false, refl, sym, ap, arith, decimal, option_map, Result}
 use Rattle.std.specs.Prelude.{IfOk, IfSome, IfNone, ok_or, unwrap_or}
 use Rattle.std.proofs.lemmas.Fmt.{decimal_injective}
 use Rattle.chem_shell.specs.Words.{IsSetting}
