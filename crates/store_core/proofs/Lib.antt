@@ -1,2 +1,13 @@
+mod Commits
+mod Counts
+mod Fresh
+mod Heads
 mod Latest
+mod Listed
+mod Members
+mod OneCall
+mod PruneRow
+mod Prunes
+mod Rows
 mod Screened
+mod Sees
