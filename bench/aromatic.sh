@@ -1,13 +1,15 @@
 #!/usr/bin/env bash
-# Reads drug-like structures, fullerene C60, and the worst graphs that the limits allow: 666 boron atoms of three ring bonds each, none
-# of whose cycles is Hückel, as a sheet closed to a tube and that to a ring, and as a tangle. Prints the time for each register line, more
-# than perception alone takes. All lines name one identifier: the structure of each is worked out, and all but the first are `refused known`.
+# Reads drug-like structures, fullerene C60, a ring of 999 atoms, and graphs of boron atoms of three ring bonds each, none of
+# whose cycles is Hückel, so that no search ends early: a sheet closed to a tube and that to a ring, copies of a generalized
+# Petersen graph, and copies of the worst graph that an annealing search over cubic graphs and orders of their atoms found.
+# Worse ones may exist. Prints the time for each register line, more than perception alone takes, and how many
+# times that of the ring it is. All lines name one identifier: the structure of each is worked out, and all but the first are
+# `refused known`.
 # Usage: bench/aromatic.sh [LINES]
 set -euo pipefail
 cd "$(dirname "${BASH_SOURCE[0]}")/.."
 ./chemdb mem </dev/null   # builds it
 python3 - "${1:-20000}" <<'PY'
-import random
 import subprocess
 import sys
 import time
@@ -26,25 +28,28 @@ C60 = (
 )
 
 
+# 46 atoms; each of its 69 searches takes some 2,400 steps.
+WORST = (
+    "B123.B456.B789.B%10%11%12.B%13%14%15.B%16%17%18.B%19%20%21.B%22%23%24.B%25%26%27.B%10%221.B1%10%22.B%28%29%30."
+    "B%31%32%33.B%34%35%36.B%37%38%39.B%40%41%42.B%23%40%19.B%19%23%40.B7%201.B17%20.B%43%44%45.B%24%34%31."
+    "B%21%11%11.B%16%11%37.B%28%12%43.B4%381.B14%11.B%39%25%12.B%12%41%12.B%12%195.B1%13%42.B615.B12%14.B%325%10."
+    "B%2948.B%3512.B%17%264.B%44%155.B171.B%20%236.B%30%367.B%11%334.B2%275.B391.B7%40%18.B%456%22"
+)
+
+
 def spelled(count, bonds):
-    """The SMILES of a graph whose atoms are a chain, 0 to count - 1, with these further bonds."""
-    joined = [[] for _ in range(count)]
-    for a, b in bonds:
-        joined[min(a, b)].append(max(a, b))
-        joined[max(a, b)].append(min(a, b))
-    free, held, text = list(range(1, 100)), {}, []
+    """The SMILES of a graph, its atoms in order and no bond written but by ring numbers."""
+    free, held, atoms = list(range(1, 100)), {}, []
     for a in range(count):
-        numbers = []
-        for b in sorted(joined[a]):
-            key = (min(a, b), max(a, b))
-            if b < a:
-                numbers.append(held.pop(key))
-                free.append(numbers[-1])
-            else:
-                held[key] = free.pop(0)
-                numbers.append(held[key])
-        text.append("B" + "".join(str(n) if n < 10 else f"%{n}" for n in numbers))
-    return "".join(text)
+        ends = sorted(bond for bond in bonds if a in bond)
+        numbers = [held.pop(bond) for bond in ends if bond[1] == a]
+        free = sorted(free + numbers)
+        for bond in ends:
+            if bond[0] == a:
+                held[bond] = free.pop(0)
+                numbers.append(held[bond])
+        atoms.append("B" + "".join(str(n) if n < 10 else f"%{n}" for n in numbers))
+    return ".".join(atoms)
 
 
 def sheet(around=18, rows=37):
@@ -60,22 +65,16 @@ def sheet(around=18, rows=37):
         if (row + column) % 2 == 0:
             near.append(place[row + 1, column] if row + 1 < rows else place[0, (column + 1) % around])
         bonds.update((min(a, b), max(a, b)) for b in near)
-    return spelled(around * rows, [(a, b) for a, b in bonds if b != a + 1])
+    return spelled(around * rows, bonds)
 
 
-def tangle(count=666, reach=60):
-    """A chain closed to a ring, each atom joined to one more within reach, at random."""
-    chance = random.Random(1)
-    left, bonds = list(range(1, count - 1)), [(0, count - 1)]
-    while left:
-        a = left.pop(0)
-        near = [b for b in left if 2 < b - a < reach] or [b for b in left if b > a + 1]
-        if not near:
-            break
-        b = chance.choice(near)
-        left.remove(b)
-        bonds.append((a, b))
-    return spelled(count, bonds)
+def petersen(half=24, step=9):
+    """The generalized Petersen graph: a ring, a star of the given step, and a bond from each atom of the one to the other."""
+    bonds = set()
+    for i in range(half):
+        for a, b in ((i, (i + 1) % half), (i, half + i), (half + i, half + (i + step) % half)):
+            bonds.add((min(a, b), max(a, b)))
+    return spelled(2 * half, bonds)
 
 
 def seconds(texts):
@@ -89,12 +88,17 @@ def seconds(texts):
 
 
 lines = int(sys.argv[1])
+few = max(2, lines // 1000)
+measured = {}
 for name, texts, count in (
     ("drug-like", DRUGS, lines),
     ("C60", [C60], max(1, lines // 100)),
-    ("worst sheet", [sheet()], 1),
-    ("tangle", [tangle()], 1),
+    ("ring of 999", ["C1" + "C" * 997 + "C1"], few),
+    ("sheet of 666", [sheet()], few),
+    ("GP(24,9) x 13", [".".join([petersen()] * 13)], few),
+    ("worst x 14", [".".join([WORST] * 14)], few),
 ):
-    taken = seconds([texts[i % len(texts)] for i in range(count)])
-    print(f"{name:12} {taken / count * 1e6:12.2f} us a line")
+    measured[name] = seconds([texts[i % len(texts)] for i in range(count)]) / count
+for name, taken in measured.items():
+    print(f"{name:14} {taken * 1e6:12.2f} us a line {taken / measured['ring of 999']:9.3f} rings")
 PY

@@ -112,7 +112,7 @@ opened ends rings gives links atoms i net h within =
           let b = rotated-at m atoms (k + 1) hm hk in
           let next : next_place atoms a.0 ≡ b.0 = next_is n a.0 b.0 a.1 b.1 (step_of n m k a.0 b.0 a.1 b.1 hk a.3 b.3) in
           let j = h.cycle.joined a.0 a.1 in
-          let ring = (net.flags.each j.0 (joins_within ends j.0 _ _ j.1)).1 (atoms, h.cycle, (a.0, a.1, j.1)) in
+          let ring = net.whole j.0 (atoms, h, (a.0, a.1, j.1)) in
           (j.0, rw (a.2, b.2, ← next) j.1, ring);
     }
 
@@ -205,7 +205,7 @@ reach_from ends rings gives links path x y net h first last =
 -- a bond on a Hückel cycle is a ring bond, and a route leads from its one end to its other end
 pub reach-from_cycle : (ends : Ends) (rings : List Bool) (gives : List (Option ℕ)) (links : List (List Link)) (b x y : ℕ) → IsNet ends rings gives links → slice_get ends b ≡ Some (x, y) → IsAromaticBy ends gives b → (get_or rings b false ≡ true) × CanReach links gives y (x ∷ [])
 reach-from_cycle ends rings gives links b x y net here (atoms, cycle, (i, within, joins)) =
-    let ring = (net.flags.each b (slice_get_within ends b _ here)).1 (atoms, cycle.cycle, (i, within, joins)) in
+    let ring = net.whole b (atoms, cycle, (i, within, joins)) in
     let path : List ℕ = rotated (i + 1) atoms in
     let path_open : IsOpen ends rings gives path = opened ends rings gives links atoms i net cycle within in
     let three : 3 ≤ length path = path_open.three in
@@ -444,7 +444,8 @@ net-found s rings rows gives links sound flags h is linked =
     let each : length s.atoms ≡ length gives = sym (ap length is ∙ length-map rows (λ row. option_map (λ (r : Row). r.electrons) row) ∙ h.count) in
     record {
       graph = subst (λ n. IsSimpleGraph n (sketch_ends s)) each sound.graph;
-      flags = flags;
+      count = flags.one_each;
+      whole = λ b on. (flags.each b (joins_within (sketch_ends s) b _ _ on.2.2)).1 (on.0, on.1.cycle, on.2);
       linked = subst (λ k. AreLinks (sketch_ends s) rings gives k links) many linked;
     }
 

@@ -3,7 +3,9 @@ mod Finds
 mod LinkLists
 mod MarkSteps
 mod Routes
+mod Rows
 mod Sketches
 mod Spreads
 mod Tallies
+mod Unlinks
 mod Valences

@@ -1,12 +1,13 @@
 -- Trails and routes: one more atom, and when a trail can be completed.
-use Rattle.std.proofs.Common.{zero, suc, ℕ, ◌+◌, ◌-◌, ◌<◌, ◌≤◌, ◌≡◌, ◌≢◌, inl, inr, List, [], ◌∷◌, ◌++◌, length, get_or, Contains, AllPairs, Any, Option, sum_by, refl, sym, ap, subst, ◌∙◌, arith, append_assoc}
-use Rattle.std.proofs.lemmas.List.{append-nil, length-append, get_or_append_left, get_or_at, get_or_default, length_push, get_or_push, get_or-map, length-map, map-append}
+use Rattle.std.proofs.Common.{zero, suc, ℕ, ◌+◌, ◌-◌, ◌<◌, ◌≤◌, ◌≡◌, ◌≢◌, inl, inr, Bool, true, false, List, [], ◌∷◌, ◌++◌, length, get_or, set, Contains, AllPairs, Option, sum_by, refl, sym, ap, subst, ◌∙◌, arith, append_assoc}
+use Rattle.std.proofs.lemmas.List.{append-nil, length-append, get_or_append_left, get_or_at, get_or_default, length_push, get_or_push, get_or-map, get_or-set_same, get_or-set_other, length-map, map-append, set-get_or, set-set}
+use Rattle.std.proofs.lemmas.List.Elements.{Contains-append_left, Contains-push, Contains-push_cases}
 use Rattle.std.proofs.lemmas.List.Sums.{sum_by-cons}
-use Rattle.std.proofs.lemmas.Bool.{cases_lt}
+use Rattle.std.proofs.lemmas.Bool.{cases_eq, cases_lt}
 use Rattle.aromatic.specs.declared.links.Link.{Link}
 use Rattle.aromatic.specs.Links.{AreClosed, IsLinked, links_at, links_in}
 use Rattle.aromatic.specs.Distances.{AreDistances}
-use Rattle.aromatic.specs.Route.{AreSteps, CanReach, Completes, IsRoute, IsTrail, atoms_of, last_of}
+use Rattle.aromatic.specs.Route.{AreFlags, AreSteps, CanReach, Completes, IsRoute, IsTrail, atoms_of, last_of}
 use Rattle.smallvec.specs.SmallVec.{SmallVec}
 
 -- a later atom of a path with distinct atoms is none of the earlier ones
@@ -137,16 +138,24 @@ length-atoms_of path = length-map path (λ l. l.to)
 pub atom_at : (path : List Link) (i : ℕ) (d : Link) → i < length path → get_or (atoms_of path) i 0 ≡ (get_or path i d).to
 atom_at path i d within = get_or-map (λ l. l.to) path i d 0 within
 
-pub contains-from_any : (path : List Link) (a : ℕ) → Any (λ l. l.to ≡ a) path → Contains (atoms_of path) a
-contains-from_any path a (k, l, within, at, is) =
-    let within' : k < length (atoms_of path) = omega (arith, length-atoms_of path) in
-    (k, within', get_or-map (λ m. m.to) path k l a within ∙ ap (λ m. m.to) at ∙ is)
+-- a link more, and its atom is flagged
+pub flags-push : (flags : List Bool) (path : List Link) (l : Link)
+    → l.to < length flags → AreFlags flags path → AreFlags (set flags l.to true) (path ++ l ∷ [])
+flags-push flags path l within h a = elim (cases_eq a l.to) [
+  | inl e ↦ (
+    λ _. rw (atoms_of-push, e) (Contains-push (atoms_of path) l.to),
+    λ _. rw e (get_or-set_same flags l.to true false within),
+  )
+  | inr other ↦
+      let same : get_or (set flags l.to true) a false ≡ get_or flags a false = get_or-set_other flags l.to a true false other in (
+        λ q. rw atoms_of-push (Contains-append_left (atoms_of path) (l.to ∷ []) a ((h a).0 (sym same ∙ q))),
+        λ q. elim (Contains-push_cases (atoms_of path) l.to a (rw atoms_of-push at q)) [ inl old ↦ same ∙ (h a).1 old | inr is ↦ absurd (other (sym is)) ],
+      )
+]
 
-pub any-from_contains : (path : List Link) (a : ℕ) → Contains (atoms_of path) a → Any (λ l. l.to ≡ a) path
-any-from_contains path a (k, within, is) =
-    let l : Link = record { to = 0; bond = 0 } in
-    let within' : k < length path = omega (arith, length-atoms_of path) in
-    (k, get_or path k l, within', get_or_default path k (get_or path k l) l within', sym (get_or-map (λ m. m.to) path k l a within') ∙ is)
+-- the flag of an atom that had none is taken back
+pub flags-back : (flags : List Bool) (a : ℕ) → get_or flags a false ≡ false → set (set flags a true) a false ≡ flags
+flags-back flags a off = set-set flags a true false ∙ ap (λ b. set flags a b) (sym off) ∙ set-get_or flags a false
 
 pub sum_by-atoms_of : (f : ℕ → ℕ) (path : List Link) → sum_by f (atoms_of path) ≡ sum_by (λ l. f l.to) path
 sum_by-atoms_of f [] = refl

@@ -8,19 +8,20 @@ use Rattle.chem_core.specs.declared.sketch.SketchKind.TheVariants.{Colon}
 use Rattle.chem_core.specs.Sketch.{SketchTerm, ends_at, order_of}
 use Rattle.chem_core.specs.Sound.{sketch_ends}
 use Rattle.chem_core.specs.Graph.{Ends, IsSimpleCycle, LiesOn}
+use Rattle.aromatic.specs.declared.limits.TheConstants.{LONGEST}
 use Rattle.aromatic.specs.declared.perception.AromFault.{AromFault}
 use Rattle.aromatic.specs.declared.perception.AromFault.TheVariants.{Aromatic, NoMemory}
 use Rattle.aromatic.specs.declared.table.Row.{Row}
 use Rattle.aromatic.specs.Electrons.{row_at, electrons, is_double, by_ring_double}
 
--- a simple cycle of 3 to 18 atoms, each of which gives electrons, that sum to 2 modulo 4
+-- a simple cycle of at most LONGEST atoms, each of which gives electrons, that sum to 2 modulo 4
 pub record IsHuckelBy (ends : Ends) (gives : ℕ → Option ℕ) (atoms : List ℕ) : Type 0 where
   pub cycle : IsSimpleCycle ends atoms
-  pub most : length atoms ≤ 18
+  pub most : length atoms ≤ LONGEST
   pub candidates : All (λ a. IsSome (gives a)) atoms
   pub count : sum_by (λ a. unwrap_or (gives a) 0) atoms % 4 ≡ 2
 
--- a simple cycle of 3 to 18 candidates whose electrons sum to 2 modulo 4
+-- the same of candidates: a simple cycle of 3 to 18 candidates whose electrons sum to 2 modulo 4
 abbrev pub IsHuckelCycle : SketchTerm → List Bool → List ℕ → Type 0
 IsHuckelCycle s rings atoms = IsHuckelBy (sketch_ends s) (electrons s rings) atoms
 

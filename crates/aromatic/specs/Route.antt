@@ -1,11 +1,12 @@
 -- Paths of links, from one end of a bond on the way to its other end.
-use Rattle.std.specs.Prelude.{◌≡◌, ◌≢◌, ℕ, ◌+◌, ◌-◌, ◌%◌, ◌<◌, ◌≤◌, List, ◌++◌, length, map, sum_by, slice_index, slice_index_or, AllPairs, Contains, Option, None, unwrap_or, Bool, true, false, ◌↔◌}
+use Rattle.std.specs.Prelude.{◌≡◌, ◌≢◌, ℕ, ◌+◌, ◌-◌, ◌%◌, ◌<◌, ◌≤◌, List, ◌++◌, length, map, replicate, sum_by, slice_index, slice_index_or, AllPairs, Contains, Option, None, unwrap_or, Bool, true, false, ◌↔◌}
 use Rattle.chem_core.specs.Sketch.{SketchTerm}
-use Rattle.chem_core.specs.RingFacts.{AreRingBonds}
 use Rattle.chem_core.specs.Graph.{Ends, IsSimpleGraph, JoinsAt, LiesOn}
 use Rattle.aromatic.specs.Electrons.{row_at}
 use Rattle.aromatic.specs.Huckel.{IsAromaticAtom, IsAromaticBond, IsHuckelBy}
 use Rattle.aromatic.specs.Links.{AreLinks, IsLinked, links_at}
+use Rattle.aromatic.specs.declared.cycle.Scratch.{Scratch}
+use Rattle.aromatic.specs.declared.limits.TheConstants.{LONGEST, SHORTEST}
 use Rattle.aromatic.specs.declared.links.Link.{Link}
 use Rattle.aromatic.specs.declared.table.Row.{Row}
 
@@ -19,18 +20,26 @@ last_of path = slice_index path (length path - 1)
 abbrev pub given_at : List (Option ℕ) → ℕ → ℕ
 given_at gives a = unwrap_or (slice_index_or gives a None) 0
 
--- 1 to 18 distinct atoms, each linked to the one before it
+-- 1 to LONGEST distinct atoms, each linked to the one before it
 pub record IsTrail (links : List (List Link)) (path : List ℕ) : Type 0 where
   pub some : 1 ≤ length path
-  pub most : length path ≤ 18
+  pub most : length path ≤ LONGEST
   pub in_range : (k : ℕ) → k < length path → slice_index path k < length links
   pub distinct : AllPairs ◌≢◌ path
   pub linked : (i : ℕ) → i + 1 < length path → IsLinked links (slice_index path i) (slice_index path (i + 1))
 
+-- a truth value for each atom: it is on the path
+abbrev pub AreFlags : List Bool → List Link → Type 0
+AreFlags flags path = (a : ℕ) → (slice_index_or flags a false ≡ true) ↔ Contains (atoms_of path) a
+
+-- between two searches: no atom has a distance, or is on a path
+abbrev pub IsBlank : ℕ → Scratch → Type 0
+IsBlank atoms scratch = (scratch.distances.items ≡ replicate atoms LONGEST) × (scratch.path.flags.items ≡ replicate atoms false)
+
 -- such a path of at least three atoms that ends at the target, and whose electrons sum to 2 modulo 4
 pub record IsRoute (links : List (List Link)) (gives : List (Option ℕ)) (target : ℕ) (path : List ℕ) : Type 0 where
   pub trail : IsTrail links path
-  pub three : 3 ≤ length path
+  pub three : SHORTEST ≤ length path
   pub ends : last_of path ≡ target
   pub count : sum_by (λ a. given_at gives a) path % 4 ≡ 2
 
@@ -54,11 +63,13 @@ pub record Completes (links : List (List Link)) (gives : List (Option ℕ)) (tar
 abbrev pub IsAromaticBy : Ends → List (Option ℕ) → ℕ → Type 0
 IsAromaticBy ends gives b = (atoms : List ℕ) × IsHuckelBy ends (λ a. slice_index_or gives a None) atoms × LiesOn ends b atoms
 
--- the ring bonds, and the links between the candidates that they join
-pub record IsNet (ends : Ends) (rings : List Bool) (gives : List (Option ℕ)) (links : List (List Link)) : Type 0 where
+-- The bonds that searches may go over, each bond on a Hückel cycle among them, and the links between the candidates that
+-- these bonds join.
+pub record IsNet (ends : Ends) (possible : List Bool) (gives : List (Option ℕ)) (links : List (List Link)) : Type 0 where
   pub graph : IsSimpleGraph (length gives) ends
-  pub flags : AreRingBonds ends rings
-  pub linked : AreLinks ends rings gives (length ends) links
+  pub count : length possible ≡ length ends
+  pub whole : (b : ℕ) → IsAromaticBy ends gives b → slice_index_or possible b false ≡ true
+  pub linked : AreLinks ends possible gives (length ends) links
 
 -- each marked bond lies on a Hückel cycle, and of the bonds below place k each that lies on one is marked
 pub record AreMarksBelow (ends : Ends) (gives : List (Option ℕ)) (k : ℕ) (marks : List Bool) : Type 0 where

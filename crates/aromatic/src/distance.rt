@@ -2,12 +2,15 @@
 ghost use Rattle.std.specs.Prelude.{◌≡◌, ◌<◌, ◌+◌, length, replicate, All, OnOk};
 ghost use Rattle.aromatic.specs.Links.{AreClosed, AreMutual, links_in};
 ghost use Rattle.aromatic.specs.Distances.{AreDistances, IsQueue, IsSpread};
+ghost use Rattle.aromatic.specs.declared.limits.TheConstants.{LONGEST};
 
+use crate::limits::LONGEST;
 use crate::links::{Links, links_of};
 use std::alloc::AllocError;
 
-/// The distance of an atom that is not nearer. A Hückel cycle has at most as many atoms, so none goes over such an atom.
-pub const FAR: u8 = 18;
+/// Stands for a distance of `LONGEST` links or more. A Hückel cycle has at most that many atoms, so no cycle through the
+/// target passes such an atom.
+pub const FAR: u8 = LONGEST as u8;
 
 /// Writes the distance of each atom that is nearer than `FAR`, and puts these atoms into the queue. Only these and
 /// their links are looked at.
@@ -20,7 +23,7 @@ pub fn spread(
     requires closed { AreClosed (links_in links.now) }
     requires both_ways { AreMutual (links_in links.now) }
     requires target { target < length links.now }
-    requires blank { distances.old ≡ replicate (length links.now) 18 }
+    requires blank { distances.old ≡ replicate (length links.now) LONGEST }
     ensures distances { OnOk result (AreDistances (links_in links.now) target distances.new) }
     ensures queue { OnOk result (IsQueue distances.new queue.new.items) }
     ensures in_range { OnOk result (All (λ a. a < length links.now) queue.new.items) }
@@ -63,11 +66,11 @@ fn visit(
     Ok(())
 }
 
-/// Takes the distances back from the atoms of the queue, which has each that has one.
+/// Resets the distances. The queue holds exactly the atoms that have one.
 pub fn forget(distances: &mut [u8], queue: &[u16])
     requires queue { IsQueue distances.old queue.now }
     requires in_range { All (λ a. a < length distances.old) queue.now }
-    ensures { distances.new ≡ replicate (length distances.old) 18 }
+    ensures { distances.new ≡ replicate (length distances.old) LONGEST }
 {
     for atom in queue {
         distances[usize::from(*atom)] = FAR;

@@ -120,3 +120,25 @@ pub fn links_of(links: &[Links], atom: u16) -> &[Link]
 {
     links[usize::from(atom)].as_slice()
 }
+
+/// Takes a bond's links from its two ends.
+pub fn unlink(links: &mut [Links], bond: SketchBond, place: u16)
+    requires a_in_range { bond.a < length links.old }
+    requires b_in_range { bond.b < length links.old }
+    ensures { (a n b : ℕ) → Contains (links_at (links_in links.new) a) (record { to = n; bond = b })
+        ↔ (Contains (links_at (links_in links.old) a) (record { to = n; bond = b })
+        × (b ≡ place → (a ≡ bond.a) ⊎ (a ≡ bond.b) → ⊥)) }
+{
+    take(links, bond.a, place);
+    take(links, bond.b, place);
+}
+
+// Takes the links by a bond from an atom.
+fn take(links: &mut [Links], from: u16, place: u16)
+    requires { from < length links.old }
+    ensures { (a n b : ℕ) → Contains (links_at (links_in links.new) a) (record { to = n; bond = b })
+        ↔ (Contains (links_at (links_in links.old) a) (record { to = n; bond = b })
+        × (b ≡ place → a ≡ from → ⊥)) }
+{
+    links[usize::from(from)].retain(|link| link.bond != place);
+}

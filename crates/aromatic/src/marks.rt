@@ -1,16 +1,29 @@
 //! Which bonds and atoms of a sketch lie on Hückel cycles.
-ghost use Rattle.std.specs.Prelude.{◌≡◌, ◌<◌, ◌+◌, ◌↔◌, ◌⊎◌, length, map, replicate, option_map, slice_index_or, All, Contains, IfOk, OnOk, ℕ, true, false};
+//!
+//! Each bond is searched in turn. If a Hückel cycle goes through it, all bonds of the cycle are marked; if none does, the
+//! bond is ruled out, so that no later search goes over it.
+ghost use Rattle.std.specs.Prelude.{◌≡◌, ◌<◌, ◌+◌, ◌↔◌, ◌⊎◌, List, Option, length, map, replicate, option_map, slice_index_or, slice_set, All, Contains, IfOk, OnOk, ℕ, true, false};
 ghost use Rattle.chem_core.specs.Graph.{IsSimpleGraph};
 ghost use Rattle.chem_core.specs.RingFacts.{AreRingBonds};
 ghost use Rattle.chem_core.specs.Sound.{IsSound, ends_among};
 ghost use Rattle.aromatic.specs.Links.{links_in};
-ghost use Rattle.aromatic.specs.Route.{AreAromaticAtoms, AreAromaticBonds, AreMarksBelow, AreRows, IsMarkedEnd, IsNet};
+ghost use Rattle.aromatic.specs.Route.{AreAromaticAtoms, AreAromaticBonds, AreMarksBelow, AreRows, IsAromaticBy, IsBlank, IsMarkedEnd, IsNet};
 
 use crate::cycle::{Scratch, closes};
-use crate::links::{Link, Links, are_candidates, links_between};
+use crate::links::{Link, Links, are_candidates, links_between, unlink};
 use crate::table::Row;
 use chem_core::{SketchAtom, SketchBond};
 use std::alloc::{AllocError, Global};
+
+// What the searches share.
+#[derive(Drop)]
+struct Search {
+    // For each bond whether a search may go over it. Each bond on a Hückel cycle is possible.
+    possible: Vec<bool>,
+    // The links by possible bonds.
+    links: Vec<Links>,
+    scratch: Scratch,
+}
 
 /// Which bonds lie on a Hückel cycle.
 pub fn find_bonds(
@@ -28,7 +41,7 @@ pub fn find_bonds(
 {
     let gives = electrons_of(alloc, rows)?;
     let links = links_between(alloc, bonds, bond_in_ring, &gives)?;
-    let marks = aromatic_bonds(alloc, bonds, bond_in_ring, &gives, &links)?;
+    let marks = aromatic_bonds(alloc, bonds, bond_in_ring, &gives, links)?;
     Ok(marks)
 }
 
@@ -48,56 +61,69 @@ fn aromatic_bonds(
     bonds: &[SketchBond],
     bond_in_ring: &[bool],
     gives: &[Option<u8>],
-    links: &[Links],
+    links: Vec<Links>,
 ) -> Result<Vec<bool>, AllocError>
-    requires net { IsNet (ends_among bonds.now) bond_in_ring.now gives.now (links_in links.now) }
+    requires net { IsNet (ends_among bonds.now) bond_in_ring.now gives.now (links_in links.items) }
     ensures { IfOk result (λ marks. AreMarksBelow (ends_among bonds.now) gives.now (length bonds.now) marks.items) }
 {
-    let mut scratch = Scratch::new(alloc, gives.len())?;
+    let mut search = Search {
+        possible: bond_in_ring.to_vec(alloc)?,
+        links,
+        scratch: Scratch::new(alloc, gives.len())?,
+    };
     let mut marks = vec![in alloc; false; bonds.len()]?;
     for place in 0..bonds.len() {
-        mark_through(
-            bonds,
-            bond_in_ring,
-            gives,
-            links,
-            place,
-            &mut scratch,
-            &mut marks,
-        )?;
+        mark_through(bonds, gives, place, &mut search, &mut marks)?;
     }
     Ok(marks)
 }
 
-// Marks the bonds of a Hückel cycle through a bond, if there is one and the bond is not marked yet.
+// Marks the bonds of a Hückel cycle through a bond, if there is one and the bond is not marked yet. If there is none,
+// the bond is ruled out: no later search goes over it.
 fn mark_through(
     bonds: &[SketchBond],
-    bond_in_ring: &[bool],
     gives: &[Option<u8>],
-    links: &[Links],
     place: usize,
-    scratch: &mut Scratch,
+    search: &mut Search,
     marks: &mut [bool],
 ) -> Result<(), AllocError>
-    requires net { IsNet (ends_among bonds.now) bond_in_ring.now gives.now (links_in links.now) }
+    requires net { IsNet (ends_among bonds.now) search.old.possible.items gives.now (links_in search.old.links.items) }
     requires place { place < length bonds.now }
-    requires blank { scratch.old.distances.items ≡ replicate (length links.now) 18 }
+    requires blank { IsBlank (length gives.now) search.old.scratch }
     requires marks { AreMarksBelow (ends_among bonds.now) gives.now place marks.old }
+    ensures net { OnOk result (IsNet (ends_among bonds.now) search.new.possible.items gives.now
+        (links_in search.new.links.items)) }
     ensures marks { OnOk result (AreMarksBelow (ends_among bonds.now) gives.now (place + 1) marks.new) }
-    ensures blank { OnOk result (scratch.new.distances.items ≡ replicate (length links.now) 18) }
+    ensures blank { OnOk result (IsBlank (length gives.now) search.new.scratch) }
 {
     let bond = bonds[place];
-    if !bond_in_ring[place] || !are_candidates(gives, bond) || marks[place] {
+    if !search.possible[place] || !are_candidates(gives, bond) || marks[place] {
         return Ok(());
     }
     let first = Link {
         to: bond.a,
         bond: place as u16,
     };
-    if closes(links, gives, first, bond.b, scratch)? {
-        mark_path(marks, &scratch.path);
+    if closes(&search.links, gives, first, bond.b, &mut search.scratch)? {
+        mark_path(marks, &search.scratch.path.links);
+    } else {
+        rule_out(bonds, place, &mut search.possible, &mut search.links);
     }
     Ok(())
+}
+
+// Rules out a bond that lies on no Hückel cycle.
+fn rule_out(bonds: &[SketchBond], place: usize, possible: &mut [bool], links: &mut [Links])
+    requires place { place < length bonds.now }
+    requires each { length possible.old ≡ length bonds.now }
+    requires graph { IsSimpleGraph (length links.old) (ends_among bonds.now) }
+    ensures ruled_out { possible.new ≡ slice_set possible.old place false }
+    ensures net { (gives : List (Option ℕ)) → IsNet (ends_among bonds.now) possible.old gives (links_in links.old)
+        → (IsAromaticBy (ends_among bonds.now) gives place → ⊥)
+        → IsNet (ends_among bonds.now) possible.new gives (links_in links.new) }
+{
+    possible[place] = false;
+    unlink(links, bonds[place], place as u16);
 }
 
 // Marks the bonds of a path.

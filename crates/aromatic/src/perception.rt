@@ -20,8 +20,8 @@ use std::alloc::{AllocError, Global};
 pub struct Arom {
     pub atoms: Vec<bool>,
     pub bonds: Vec<bool>,
-    /// The sum of the orders of an atom's bonds, aromatic ones as 1, and its hydrogens; one more where the double bond
-    /// or the electron that it gives has become aromatic.
+    /// The sum of an atom's bond orders, aromatic bonds as 1, and its hydrogens. It is 1 more for an aromatic atom that
+    /// gives one electron, unless the electron is that of a double bond in a ring that is not aromatic.
     pub valences: Vec<u8>,
 }
 
@@ -43,6 +43,54 @@ impl From<AllocError> for AromFault {
     fn from(_: AllocError) -> AromFault {
         AromFault::NoMemory
     }
+}
+
+/// The aromatic atoms and bonds of a sketch, and the valence of each atom, by the rows of this project's table. An atom
+/// or bond is aromatic where it lies on a simple cycle of 3 to 18 candidates whose electrons sum to 2 modulo 4.
+///
+/// Fails at the first atom that is written in lower case and is not aromatic, or is not in lower case and has a bond
+/// `:`; or for want of memory.
+///
+/// Most structures take time linear in their atoms and bonds. A search for each ring bond between candidates follows
+/// paths of at most 18 atoms, with at most two ways on from each, so one search takes at most 2^17 paths; a bond that
+/// lies on no such cycle is left out of all later searches. The worst structure that was found, by a search for bad
+/// ones, takes some two million steps in all, where drug-like structures take some hundred. `bench/aromatic.sh` has it.
+pub fn perceive(alloc: Global, sketch: &Sketch, bond_in_ring: &[bool]) -> Result<Arom, AromFault>
+    requires sound { IsSound sketch.now }
+    requires rings { AreRingBonds (sketch_ends sketch.now) bond_in_ring.now }
+    ensures perceived { IfOk result (λ r. IsPerceived sketch.now bond_in_ring.now
+        r.atoms.items r.bonds.items r.valences.items) }
+    ensures refused { IfErr result (λ e. IsFaultOf sketch.now bond_in_ring.now e) }
+{
+    perceive_lists(alloc, &sketch.atoms, &sketch.bonds, bond_in_ring)
+}
+
+fn perceive_lists(
+    alloc: Global,
+    atoms: &[SketchAtom],
+    bonds: &[SketchBond],
+    bond_in_ring: &[bool],
+) -> Result<Arom, AromFault>
+    requires sound { IsSound (record { atoms = atoms.now; bonds = bonds.now }) }
+    requires rings { AreRingBonds (ends_among bonds.now) bond_in_ring.now }
+    ensures perceived { IfOk result (λ r. IsPerceived (record { atoms = atoms.now; bonds = bonds.now })
+        bond_in_ring.now r.atoms.items r.bonds.items r.valences.items) }
+    ensures refused { IfErr result (λ e. IsFaultOf (record { atoms = atoms.now; bonds = bonds.now })
+        bond_in_ring.now e) }
+{
+    let rows = rows_of(alloc, atoms, bonds, bond_in_ring)?;
+    let marks = find_bonds(alloc, atoms, bonds, bond_in_ring, &rows)?;
+    let flags = find_atoms(alloc, atoms, bonds, bond_in_ring, &marks)?;
+    let tallies = tallies(alloc, atoms.len(), bonds, &marks)?;
+    if let Some(written) = first_refused(atoms, &tallies, &flags) {
+        return Err(AromFault::Aromatic(written));
+    }
+    let values = valences(alloc, atoms, &tallies, &rows, &flags)?;
+    Ok(Arom {
+        atoms: flags,
+        bonds: marks,
+        valences: values,
+    })
 }
 
 // The row of each atom; none where it is no candidate.
@@ -67,7 +115,7 @@ fn rows_by(alloc: Global, sites: &[Site]) -> Result<Vec<Option<Row>>, AllocError
     sites.iter().map(Site::row).collect(alloc)
 }
 
-// The valence of an atom: what its bonds come to, its hydrogens, and one more where its row adds one.
+// The valence of an atom: its bond orders, its hydrogens, and 1 more where it is aromatic and its row adds one.
 fn valence(atom: &SketchAtom, tally: Tally, row: Option<Row>, aromatic: bool) -> u8
     requires few { tally.bonded ≤ 48 }
     requires hydrogens { atom.now.hydrogens ≤ 27 }
@@ -77,7 +125,7 @@ fn valence(atom: &SketchAtom, tally: Tally, row: Option<Row>, aromatic: bool) ->
     tally.bonded + atom.hydrogens + u8::from(more)
 }
 
-// Whether the row gives one electron, by no double bond in a ring or by one that has become aromatic.
+// Whether the row gives one electron and either names no double bond in a ring or that bond has become aromatic.
 fn adds_one(row: Option<Row>, aromatic_double: bool) -> bool
     ensures { result ≡ adds_by aromatic_double row }
 {
@@ -96,7 +144,7 @@ fn by_ring_double(row: Row) -> bool
     }
 }
 
-// Where the first atom that is refused is written, if one is.
+// The written place of the first refused atom, if there is one.
 fn first_refused(atoms: &[SketchAtom], tallies: &[Tally], flags: &[bool]) -> Option<u16>
     requires tallies_each { length tallies.now ≡ length atoms.now }
     requires flags_each { length flags.now ≡ length atoms.now }
@@ -139,47 +187,4 @@ fn valences(
         values.push(valence(atom, tallies[place], rows[place], flags[place]))?;
     }
     Ok(values)
-}
-
-fn perceive_lists(
-    alloc: Global,
-    atoms: &[SketchAtom],
-    bonds: &[SketchBond],
-    bond_in_ring: &[bool],
-) -> Result<Arom, AromFault>
-    requires sound { IsSound (record { atoms = atoms.now; bonds = bonds.now }) }
-    requires rings { AreRingBonds (ends_among bonds.now) bond_in_ring.now }
-    ensures perceived { IfOk result (λ r. IsPerceived (record { atoms = atoms.now; bonds = bonds.now })
-        bond_in_ring.now r.atoms.items r.bonds.items r.valences.items) }
-    ensures refused { IfErr result (λ e. IsFaultOf (record { atoms = atoms.now; bonds = bonds.now })
-        bond_in_ring.now e) }
-{
-    let rows = rows_of(alloc, atoms, bonds, bond_in_ring)?;
-    let marks = find_bonds(alloc, atoms, bonds, bond_in_ring, &rows)?;
-    let flags = find_atoms(alloc, atoms, bonds, bond_in_ring, &marks)?;
-    let tallies = tallies(alloc, atoms.len(), bonds, &marks)?;
-    if let Some(written) = first_refused(atoms, &tallies, &flags) {
-        return Err(AromFault::Aromatic(written));
-    }
-    let values = valences(alloc, atoms, &tallies, &rows, &flags)?;
-    Ok(Arom {
-        atoms: flags,
-        bonds: marks,
-        valences: values,
-    })
-}
-
-/// The aromatic atoms and bonds of a sketch, and the valence of each atom, by the rows of this project's table. An atom
-/// or bond is aromatic where it lies on a simple cycle of 3 to 18 candidates whose electrons sum to 2 modulo 4.
-///
-/// Fails at the first atom that is written in lower case and is not aromatic, or is not in lower case and has a bond
-/// `:`; or for want of memory.
-pub fn perceive(alloc: Global, sketch: &Sketch, bond_in_ring: &[bool]) -> Result<Arom, AromFault>
-    requires sound { IsSound sketch.now }
-    requires rings { AreRingBonds (sketch_ends sketch.now) bond_in_ring.now }
-    ensures perceived { IfOk result (λ r. IsPerceived sketch.now bond_in_ring.now
-        r.atoms.items r.bonds.items r.valences.items) }
-    ensures refused { IfErr result (λ e. IsFaultOf sketch.now bond_in_ring.now e) }
-{
-    perceive_lists(alloc, &sketch.atoms, &sketch.bonds, bond_in_ring)
 }

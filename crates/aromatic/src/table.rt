@@ -1,6 +1,8 @@
-//! The table of what an atom gives to an aromatic ring, this project's own profile. The first row that fits counts.
-ghost use Rattle.std.specs.Prelude.{◌≡◌};
+//! The table of what an atom gives to an aromatic ring, this project's own profile. At most one row fits an atom.
+ghost use Rattle.std.specs.Prelude.{◌≡◌, ◌<◌, ℕ, length, slice_index_or, true};
 ghost use Rattle.std.specs.List.{find};
+ghost use Rattle.aromatic.specs.declared.site.Site.{Site};
+ghost use Rattle.aromatic.specs.declared.table.Row.{Row};
 ghost use Rattle.aromatic.specs.Electrons.{fits, has_connected, has_doubles, has_number, row_of, rows};
 
 use crate::site::Site;
@@ -22,13 +24,13 @@ pub enum Family {
 #[derive(Clone, Copy, Debug, PartialEq, Eq)]
 pub enum Doubles {
     Absent,
-    /// One, a ring bond.
+    /// One, in a ring.
     Ring,
-    /// One that is a ring bond, and one that is none, to O.
+    /// Two: one in a ring, and one outside rings, to O.
     RingAndOxygen,
-    /// One, no ring bond, to O.
+    /// One, outside rings, to O.
     Oxygen,
-    /// One, no ring bond, to O, N or S.
+    /// One, outside rings, to O, N or S.
     Hetero,
 }
 
@@ -100,7 +102,13 @@ fn has_connected(connected: Option<u8>, site: &Site) -> bool
     }
 }
 
-/// The first row that fits an atom.
+/// A law: at most one row fits an atom, so the order of the rows does not count.
+pub fn one_row()
+    ensures { (site : Site) (i j : ℕ) (d : Row) → i < length rows → j < length rows
+        → fits (slice_index_or rows i d) site ≡ true → fits (slice_index_or rows j d) site ≡ true → i ≡ j }
+{}
+
+/// The row that fits an atom, if one does.
 pub fn row_of(site: &Site) -> Option<Row>
     ensures { result ≡ row_of site.now }
 {

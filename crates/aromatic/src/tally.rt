@@ -1,4 +1,4 @@
-//! What the bonds of each atom come to.
+//! For each atom: its bond orders summed, and whether it has an aromatic double bond or a `:`.
 ghost use Rattle.std.specs.Prelude.{◌≡◌, ◌≢◌, ◌<◌, ◌≤◌, ℕ, length, replicate, All, IfOk, if◌then◌else◌};
 ghost use Rattle.chem_core.specs.Sketch.{ends_at};
 ghost use Rattle.chem_core.specs.Graph.{IsSimpleGraph};
@@ -8,7 +8,7 @@ ghost use Rattle.aromatic.specs.Tallies.{AreTallies, no_bonds, tally_at, with_bo
 use chem_core::{SketchBond, SketchKind};
 use std::alloc::{AllocError, Global};
 
-/// What the bonds of an atom come to.
+/// What is read of an atom's bonds.
 #[derive(Clone, Copy, Debug, PartialEq, Eq)]
 pub struct Tally {
     /// The sum of their orders, aromatic ones as 1.
@@ -19,7 +19,7 @@ pub struct Tally {
     pub colon: bool,
 }
 
-/// What the bonds of each atom come to, by the atom's place, in one pass over the bonds.
+/// The tally of each atom, by its place, in one pass over the bonds.
 pub fn tallies(
     alloc: Global,
     count: usize,

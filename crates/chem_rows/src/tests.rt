@@ -1,3 +1,4 @@
+//! Worked scripts with their replies.
 ghost use Rattle.std.specs.Prelude.{◌≡◌, ◌<◌, length, IfOk};
 
 use chem_shell::top::{End, Outcome, chemdb};
@@ -6,6 +7,8 @@ use std::alloc::{AllocError, Global};
 use std::sync::Wait;
 use std::test::Fail;
 use std::thread::Threads;
+
+mod turns;
 
 // One end over a script, which is given in pieces; the takes and puts of these numbers fail.
 fn ends_over(
@@ -68,7 +71,7 @@ fn scripts_and_replies(rt: HostRuntime) -> Result<(), Fail> {
         // identifiers, blanks, an empty line, ends with CR LF, a last line without LF
         (
             "register 0 C\nregister 1000000000 C\nregister 01 C\nregister 1  C\nregister 1 \nregister 1\nsearch\nsearch \n",
-            "refused notyet\nrefused notyet\nrefused notyet\nrefused smiles syntax\nrefused smiles syntax\nrefused notyet\nrefused notyet\nrefused notyet\n",
+            "refused notyet\nrefused notyet\nrefused notyet\nrefused smiles syntax\nrefused smiles syntax\nrefused notyet\nrefused notyet\nrefused smarts syntax\n",
         ),
         (
             "\r\n\nregister 999999999 ClCBr\r\nregister 3 ClCBr\nregister 3 C\nsearch BrC",
@@ -89,10 +92,10 @@ fn scripts_and_replies(rt: HostRuntime) -> Result<(), Fail> {
             "register 1 c1ccccc1C\nregister 2 CC1=CC=CC=C1\nregister 3 C1CCCCC1\nsearch C\nsearch CC\nsearch C=C\n",
             "ok 1\nok 2\nok 3\nhit 1\nhit 2\nhit 3\nend at 3 hits 3\nhit 3\nend at 3 hits 1\nend at 3 hits 0\n",
         ),
-        // brackets, charges, parts, hydrogen atoms, marks that are dropped; a pattern has at most 32 bytes
+        // brackets, charges, parts, hydrogen atoms, marks that are dropped
         (
             "register 1 [13CH3][C@@H](O)C(=O)[O-].[Na+]\nregister 2 [H]C([H])([H])[H]\nregister 3 C/C=C\\C\nsearch C\nsearch C=C\nsearch C=O\nsearch CCCCCCCCCCCCCCCCCCCCCCCCCCCCCCCC\nsearch CCCCCCCCCCCCCCCCCCCCCCCCCCCCCCCCC\n",
-            "ok 1\nok 2\nok 3\nhit 1\nhit 2\nhit 3\nend at 3 hits 3\nhit 3\nend at 3 hits 1\nhit 1\nend at 3 hits 1\nend at 3 hits 0\nrefused notyet\n",
+            "ok 1\nok 2\nok 3\nhit 1\nhit 2\nhit 3\nend at 3 hits 3\nhit 3\nend at 3 hits 1\nhit 1\nend at 3 hits 1\nend at 3 hits 0\nend at 3 hits 0\n",
         ),
         // a NUL, and symbols of no element
         (

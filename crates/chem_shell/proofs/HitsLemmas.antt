@@ -1,5 +1,5 @@
 -- What is selected from the entries of a map, as the hits of a search.
-use Rattle.std.proofs.Common.{◌≡◌, ◌⊎◌, inl, inr, ℕ, zero, suc, ◌+◌, ◌<◌, ◌≤◌, List, [], ◌∷◌, length, map, Option, None, Some, MatchOption, sym, ap, ◌∙◌, subst, ⊎_elim, arith, slice_index, Contains}
+use Rattle.std.proofs.Common.{◌≡◌, ◌⊎◌, inl, inr, ℕ, zero, suc, ◌+◌, ◌<◌, ◌≤◌, List, [], ◌∷◌, length, map, Option, None, Some, MatchOption, refl, sym, ap, ◌∙◌, subst, ⊎_elim, arith, slice_index, Contains}
 use Rattle.std.specs.List.Sorted.{IsStrictlyIncreasing}
 use Rattle.std.specs.Ordering.{nat_cmp}
 use Rattle.std.specs.BTreeMap.{BTreeMap, get, IsOrdered}
@@ -13,7 +13,8 @@ use Rattle.smarts_parse.specs.Pattern.{PatternTerm}
 use Rattle.smarts_parse.specs.Embedding.{Matches}
 use Rattle.chem_shell.specs.History.{History, Live, head}
 use Rattle.chem_shell.specs.Hits.{AreHits}
-use Rattle.mol_finish.specs.Structure.{IsStructureOf}
+use Rattle.mol_finish.specs.Structure.{HasMolecule}
+use Rattle.mol_finish.specs.declared.fault.Format.{Format}
 use Rattle.chem_shell.specs.Selects.{Selects}
 use Rattle.chem_shell.specs.Store.{IsLiveNow}
 
@@ -99,19 +100,42 @@ module _ {X : Type 0} (P : X → Type 0) where
   Selects-all (e ∷ es) ids id x (inr s) c p =
       ⊎_elim (λ q. absurd (s.0 (subst P (sym (ap (λ y. y.1) q)) p))) (λ q. Selects-all es ids id x s.1 q p) (contains_cons e es (id, x) c)
 
+-- a number of a list is above what the list is above
+above_at : (x : ℕ) (xs : List ℕ) (z : ℕ) → Above x xs → Contains xs z → x < z
+above_at x [] z h c = absurd (omega (arith, c.1))
+above_at x (y ∷ ys) z h c = ⊎_elim (λ e. subst (λ n. x < n) e h.0) (λ q. above_at x ys z h.1 q) (contains_cons y ys z c)
+
+-- lists that ascend and have the same numbers are the same
+same_numbers : (xs ys : List ℕ) → Ascends xs → Ascends ys → ((z : ℕ) → Contains xs z → Contains ys z) → ((z : ℕ) → Contains ys z → Contains xs z) → xs ≡ ys
+same_numbers [] [] a b f g = refl
+same_numbers [] (y ∷ ys) a b f g = absurd (omega (arith, (g y (here y ys y refl)).1))
+same_numbers (x ∷ xs) [] a b f g = absurd (omega (arith, (f x (here x xs x refl)).1))
+same_numbers (x ∷ xs) (y ∷ ys) a b f g =
+    let up : y ≤ x = ⊎_elim (λ e. omega (arith, e)) (λ q. omega (arith, above_at y ys x b.0 q)) (contains_cons y ys x (f x (here x xs x refl))) in
+    let down : x ≤ y = ⊎_elim (λ e. omega (arith, e)) (λ q. omega (arith, above_at x xs y a.0 q)) (contains_cons x xs y (g y (here y ys y refl))) in
+    let first : x ≡ y = omega (arith, up, down) in
+    let rest = same_numbers xs ys a.1 b.1
+    (λ z c. ⊎_elim (λ e. absurd (omega (arith, e, first, above_at x xs z a.0 c))) (λ q. q) (contains_cons y ys z (f z (there x xs z c))))
+    (λ z c. ⊎_elim (λ e. absurd (omega (arith, e, first, above_at y ys z b.0 c))) (λ q. q) (contains_cons x xs z (g z (there y ys z c)))) in
+    ap (λ n. n ∷ xs) first ∙ ap (λ l. y ∷ l) rest
+
+-- the hits of a pattern at a version are one list
+pub same_hits : (h : History) (v : ℕ) (p : PatternTerm) (xs ys : List ℕ) → AreHits h v p xs → AreHits h v p ys → xs ≡ ys
+same_hits h v p xs ys a b = same_numbers xs ys (ascends xs a.ascending) (ascends ys b.ascending) (λ z c. b.all z (a.only z c)) (λ z c. a.all z (b.only z c))
+
 -- a text has one structure
 abbrev OneStructure : Type 0
-OneStructure = (text : List ℕ) (a b : Molecule) → IsStructureOf text a → IsStructureOf text b → a ≡ b
+OneStructure = (format : Format) (text : List ℕ) (a b : Molecule) → HasMolecule format text a → HasMolecule format text b → a ≡ b
 
 -- what is live at an identifier, and its structure
-live_at : (h : History) (id : ℕ) (found : Option Molecule) (m : Molecule) → MatchOption found (head h id ≡ None) (λ n. (l : Live) × (head h id ≡ Some l) × IsStructureOf l.text n) → found ≡ Some m → (l : Live) × (head h id ≡ Some l) × IsStructureOf l.text m
+live_at : (h : History) (id : ℕ) (found : Option Molecule) (m : Molecule) → MatchOption found (head h id ≡ None) (λ n. (l : Live) × (head h id ≡ Some l) × HasMolecule l.format l.text n) → found ≡ Some m → (l : Live) × (head h id ≡ Some l) × HasMolecule l.format l.text m
 live_at h id None m w e = absurd (none-some m e)
-live_at h id (Some n) m w e = subst (λ x. (l : Live) × (head h id ≡ Some l) × IsStructureOf l.text x) (same_Some n m e) w
+live_at h id (Some n) m w e = subst (λ x. (l : Live) × (head h id ≡ Some l) × HasMolecule l.format l.text x) (same_Some n m e) w
 
 -- the structure that is kept of a live identifier
-kept_at : OneStructure → (h : History) (id : ℕ) (l : Live) (found : Option Molecule) (m : Molecule) → MatchOption found (head h id ≡ None) (λ n. (k : Live) × (head h id ≡ Some k) × IsStructureOf k.text n) → head h id ≡ Some l → IsStructureOf l.text m → found ≡ Some m
+kept_at : OneStructure → (h : History) (id : ℕ) (l : Live) (found : Option Molecule) (m : Molecule) → MatchOption found (head h id ≡ None) (λ n. (k : Live) × (head h id ≡ Some k) × HasMolecule k.format k.text n) → head h id ≡ Some l → HasMolecule l.format l.text m → found ≡ Some m
 kept_at one h id l None m w e s = absurd (none-some l (sym w ∙ e))
-kept_at one h id l (Some n) m w e s = ap Some (one l.text n m (subst (λ (k : Live). IsStructureOf k.text n) (same_Some w.0 l (sym w.1 ∙ e)) w.2) s)
+kept_at one h id l (Some n) m w e s = ap Some (one l.format l.text n m (subst (λ (k : Live). HasMolecule k.format k.text n) (same_Some w.0 l (sym w.1 ∙ e)) w.2) s)
 
 -- the identifiers that are selected are the hits
 pub hits_from_selected : OneStructure → (h : History) (live : BTreeMap ℕ Molecule) (p : PatternTerm) (ids : List ℕ) → IsOrdered nat_cmp live → IsLiveNow h live → Selects (Matches p) live.entries ids → AreHits h (length h) p ids

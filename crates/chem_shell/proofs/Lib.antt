@@ -1,9 +1,6 @@
 pub mod HistoryLemmas
 pub mod SessionLemmas
-pub mod TruthLemmas
-pub mod PartialLemmas
-pub mod FlatLemmas
 pub mod HitsLemmas
-pub mod CommandLemmas
-pub mod ChainFlat
 pub mod EndsLemmas
+pub mod Texts
+pub mod OneTranscript

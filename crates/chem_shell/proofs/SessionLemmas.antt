@@ -9,33 +9,33 @@ use Rattle.chem_shell.specs.declared.session.SessionFault.{SessionFault}
 use Rattle.chem_shell.specs.declared.session.SessionFault.TheVariants.{Source, Sink, NoMemory, InputTooLong}
 use Rattle.chem_shell.specs.History.{History}
 use Rattle.chem_shell.specs.Answered.{AnswersLine}
-use Rattle.chem_shell.specs.Transcript.{IsTranscript, IsTranscriptFront}
-use Rattle.chem_shell.specs.Served.{WritesFront, WritesAll, TakesExactly}
+use Rattle.chem_shell.specs.Transcript.{IsTranscript, IsTranscriptPrefix}
+use Rattle.chem_shell.specs.Served.{WritesPrefix, WritesAll, TakesExactly}
 use Rattle.chem_shell.specs.Turn.{TurnPuts, TakesLine, TakesNone}
 
 -- what a transcript of the lines that are left makes of the whole, behind the text so far
 pub record GoesOn (all : List TextLine) (done : List ℕ) (h : History) (left : List TextLine) : Type 0 where
-  pub front : (t : List ℕ) → IsTranscriptFront h left t → IsTranscriptFront [] all (done ++ t)
+  pub prefix : (t : List ℕ) → IsTranscriptPrefix h left t → IsTranscriptPrefix [] all (done ++ t)
   pub whole : (t : List ℕ) → IsTranscript h left t → IsTranscript [] all (done ++ t)
 
 pub GoesOn-start : (all : List TextLine) → GoesOn all [] [] all
-GoesOn-start all = record { front = λ t p. p; whole = λ t p. p }
+GoesOn-start all = record { prefix = λ t p. p; whole = λ t p. p }
 
--- nothing is a front of every transcript
-pub front_nothing : (h : History) (lines : List TextLine) → IsTranscriptFront h lines []
-front_nothing h [] = refl
-front_nothing h (line ∷ lines) = inl refl
+-- nothing is a prefix of every transcript
+pub prefix_nothing : (h : History) (lines : List TextLine) → IsTranscriptPrefix h lines []
+prefix_nothing h [] = refl
+prefix_nothing h (line ∷ lines) = inl refl
 
 -- one line more
 pub GoesOn-line : (all : List TextLine) (done : List ℕ) (h h' : History) (line : TextLine) (left : List TextLine) (text : List ℕ) → AnswersLine h line text h' → GoesOn all done h (line ∷ left) → GoesOn all (done ++ text) h' left
 GoesOn-line all done h h' line left text a g = record {
-  front = λ t p. rw append_assoc (g.front (text ++ t) (inr (a.0, h', a.1, inr (t, ap (λ s. s ++ t) a.2, p))));
+  prefix = λ t p. rw append_assoc (g.prefix (text ++ t) (inr (a.0, h', a.1, inr (t, ap (λ s. s ++ t) a.2, p))));
   whole = λ t p. rw append_assoc (g.whole (text ++ t) (a.0, h', t, a.1, ap (λ s. s ++ t) a.2, p));
 }
 
 -- a part of the answer to the next line
-pub GoesOn-part : (all : List TextLine) (done : List ℕ) (h h' : History) (line : TextLine) (left : List TextLine) (text part rest : List ℕ) → AnswersLine h line text h' → text ≡ part ++ rest → GoesOn all done h (line ∷ left) → IsTranscriptFront [] all (done ++ part)
-GoesOn-part all done h h' line left text part rest a e g = g.front part (inr (a.0, h', a.1, inl (rest, sym e ∙ a.2)))
+pub GoesOn-part : (all : List TextLine) (done : List ℕ) (h h' : History) (line : TextLine) (left : List TextLine) (text part rest : List ℕ) → AnswersLine h line text h' → text ≡ part ++ rest → GoesOn all done h (line ∷ left) → IsTranscriptPrefix [] all (done ++ part)
+GoesOn-part all done h h' line left text part rest a e g = g.prefix part (inr (a.0, h', a.1, inl (rest, sym e ∙ a.2)))
 
 -- A session under way: what was left and put at its start and is now, how far its source was read, and its history.
 pub record IsUnderWay (before now put0 put : Option (List ℕ)) (reading : Reading) (h : History) : Type 0 where
@@ -87,11 +87,11 @@ IsUnderWay-line before now now' put0 put put' r r' h h' got line text took count
   within = counts.within;
 }
 
--- what is put is a front of the transcript
-pub front_told : (before put0 put : Option (List ℕ)) → ((input old : List ℕ) → before ≡ Some input → put0 ≡ Some old → (t : List ℕ) × (put ≡ Some (old ++ t)) × IsTranscriptFront [] (lines_of input) t) → WritesFront before put0 put
-front_told None put0 put f = tt
-front_told (Some input) None put f = tt
-front_told (Some input) (Some old) put f = f input old refl refl
+-- what is put is a prefix of the transcript
+pub prefix_told : (before put0 put : Option (List ℕ)) → ((input old : List ℕ) → before ≡ Some input → put0 ≡ Some old → (t : List ℕ) × (put ≡ Some (old ++ t)) × IsTranscriptPrefix [] (lines_of input) t) → WritesPrefix before put0 put
+prefix_told None put0 put f = tt
+prefix_told (Some input) None put f = tt
+prefix_told (Some input) (Some old) put f = f input old refl refl
 
 pub whole_told : (before put0 put : Option (List ℕ)) → ((input old : List ℕ) → before ≡ Some input → put0 ≡ Some old → (t : List ℕ) × (put ≡ Some (old ++ t)) × IsTranscript [] (lines_of input) t) → WritesAll before put0 put
 whole_told None put0 put f = tt
@@ -99,9 +99,9 @@ whole_told (Some input) None put f = tt
 whole_told (Some input) (Some old) put f = f input old refl refl
 
 -- nothing was put
-pub front_unmoved : (before put0 : Option (List ℕ)) → WritesFront before put0 put0
-front_unmoved before put0 =
-    front_told before put0 put0 (λ input old p q. ([], q ∙ ap Some (sym (append-nil old)), front_nothing [] (lines_of input)))
+pub prefix_unmoved : (before put0 : Option (List ℕ)) → WritesPrefix before put0 put0
+prefix_unmoved before put0 =
+    prefix_told before put0 put0 (λ input old p q. ([], q ∙ ap Some (sym (append-nil old)), prefix_nothing [] (lines_of input)))
 
 -- the input was answered to its end
 pub whole_at_end : (before now now' put0 put put' : Option (List ℕ)) (r r' : Reading) (h : History) → TakesNone r now → Appends put put' [] → IsUnderWay before now put0 put r h → WritesAll before put0 put'
@@ -113,17 +113,17 @@ whole_at_end before now now' put0 put put' r r' h none appends u =
     (t.1, a ∙ ap Some (append-nil (old ++ t.1)), subst (IsTranscript [] (lines_of input)) (append-nil t.1) (t.4.whole [] (subst (λ ls. IsTranscript h ls []) (sym e) refl))))
 
 -- a turn put nothing more
-pub front_after_nothing : (before now put0 put put' : Option (List ℕ)) (r : Reading) (h : History) → Appends put put' [] → IsUnderWay before now put0 put r h → WritesFront before put0 put'
-front_after_nothing before now put0 put put' r h appends u =
-    front_told before put0 put' (λ input old p q.
+pub prefix_after_nothing : (before now put0 put put' : Option (List ℕ)) (r : Reading) (h : History) → Appends put put' [] → IsUnderWay before now put0 put r h → WritesPrefix before put0 put'
+prefix_after_nothing before now put0 put put' r h appends u =
+    prefix_told before put0 put' (λ input old p q.
     let t = u.told input old p q in
     let a : put' ≡ Some ((old ++ t.1) ++ []) = appended (old ++ t.1) [] put put' t.3 appends in
-    (t.1, a ∙ ap Some (append-nil (old ++ t.1)), subst (IsTranscriptFront [] (lines_of input)) (append-nil t.1) (t.4.front [] (front_nothing h (lines_left r t.0)))))
+    (t.1, a ∙ ap Some (append-nil (old ++ t.1)), subst (IsTranscriptPrefix [] (lines_of input)) (append-nil t.1) (t.4.prefix [] (prefix_nothing h (lines_left r t.0)))))
 
 -- a turn put a part of the answer to the next line
-pub front_after_part : (before now now' put0 put put' : Option (List ℕ)) (r r' : Reading) (h h' : History) (got : List ℕ) (line : TextLine) (text : List ℕ) → Consumes now now' got → TakesLine r r' now now' line → AnswersLine h line text h' → AppendsPrefix put put' text → IsUnderWay before now put0 put r h → WritesFront before put0 put'
-front_after_part before now now' put0 put put' r r' h h' got line text took takes answers part u =
-    front_told before put0 put' (λ input old p q.
+pub prefix_after_part : (before now now' put0 put put' : Option (List ℕ)) (r r' : Reading) (h h' : History) (got : List ℕ) (line : TextLine) (text : List ℕ) → Consumes now now' got → TakesLine r r' now now' line → AnswersLine h line text h' → AppendsPrefix put put' text → IsUnderWay before now put0 put r h → WritesPrefix before put0 put'
+prefix_after_part before now now' put0 put put' r r' h h' got line text took takes answers part u =
+    prefix_told before put0 put' (λ input old p q.
     let t = u.told input old p q in
     let k = leaves t.0 got now now' t.2 took in
     let e : lines_left r t.0 ≡ line ∷ lines_left r' k.0 = takes t.0 k.0 t.2 k.1 t.5 in
@@ -131,11 +131,11 @@ front_after_part before now now' put0 put put' r r' h h' got line text took take
     (t.1 ++ part.0, a ∙ ap Some (append_assoc old t.1 part.0), GoesOn-part (lines_of input) t.1 h h' line (lines_left r' k.0) text part.0 part.1 answers part.2 (subst (GoesOn (lines_of input) t.1 h) e t.4)))
 
 -- what was put where a turn ended in a fault
-pub front_after_fault : (before now now' put0 put put' : Option (List ℕ)) (r r' : Reading) (h h' : History) (got : List ℕ) (fault : SessionFault) → Consumes now now' got → TurnPuts (Err fault) h h' r r' now now' put put' → IsUnderWay before now put0 put r h → WritesFront before put0 put'
-front_after_fault before now now' put0 put put' r r' h h' got Source took puts u = front_after_nothing before now put0 put put' r h puts u
-front_after_fault before now now' put0 put put' r r' h h' got Sink took puts u = front_after_part before now now' put0 put put' r r' h h' got puts.0 puts.1 took puts.2 puts.3 puts.4 u
-front_after_fault before now now' put0 put put' r r' h h' got NoMemory took puts u = front_after_nothing before now put0 put put' r h puts u
-front_after_fault before now now' put0 put put' r r' h h' got InputTooLong took puts u = front_after_nothing before now put0 put put' r h puts u
+pub prefix_after_fault : (before now now' put0 put put' : Option (List ℕ)) (r r' : Reading) (h h' : History) (got : List ℕ) (fault : SessionFault) → Consumes now now' got → TurnPuts (Err fault) h h' r r' now now' put put' → IsUnderWay before now put0 put r h → WritesPrefix before put0 put'
+prefix_after_fault before now now' put0 put put' r r' h h' got Source took puts u = prefix_after_nothing before now put0 put put' r h puts u
+prefix_after_fault before now now' put0 put put' r r' h h' got Sink took puts u = prefix_after_part before now now' put0 put put' r r' h h' got puts.0 puts.1 took puts.2 puts.3 puts.4 u
+prefix_after_fault before now now' put0 put put' r r' h h' got NoMemory took puts u = prefix_after_nothing before now put0 put put' r h puts u
+prefix_after_fault before now now' put0 put put' r r' h h' got InputTooLong took puts u = prefix_after_nothing before now put0 put put' r h puts u
 
 -- as many bytes were taken as may be
 pub takes_all : (before now now' put0 put : Option (List ℕ)) (r r' : Reading) (h : History) (got : List ℕ) → Consumes now now' got → Counts r got r' → r'.taken ≡ r'.limit → IsUnderWay before now put0 put r h → TakesExactly before now' 4294967296

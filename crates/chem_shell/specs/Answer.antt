@@ -1,48 +1,45 @@
--- What a command is answered at a history, and the history after it. No other reply is given.
-use Rattle.std.specs.Prelude.{◌≡◌, ◌≢◌, ◌⊎◌, ℕ, ◌+◌, ◌<◌, ◌≤◌, List, [], ◌∷◌, ◌++◌, length, map, None, Err}
-use Rattle.chem_core.specs.Molecule.{Molecule}
+-- For callers: what a line is answered at a history, and the history after it. No other reply is given.
+use Rattle.std.specs.Prelude.{◌≡◌, ◌≢◌, ◌⊎◌, ℕ, ◌+◌, ◌<◌, ◌≤◌, List, [], ◌∷◌, ◌++◌, length, map, None, Result, Ok, Err}
+use Rattle.mol_finish.specs.declared.fault.Format.{Format}
+use Rattle.mol_finish.specs.declared.fault.Format.TheVariants.{Smiles}
 use Rattle.smarts_parse.specs.Pattern.{PatternTerm}
-use Rattle.smarts_parse.specs.Chain as smarts
-use Rattle.chem_shell.specs.declared.reply.Reply.{Reply}
-use Rattle.chem_shell.specs.declared.reply.Reply.TheVariants.{Accepted, Hit, End, Refused}
-use Rattle.chem_shell.specs.declared.reply.Refusal.TheVariants.{SmilesSyntax, SmilesRing, SmilesLimit, SmilesAromatic, SmartsSyntax, Known, Full}
+use Rattle.smarts_parse.specs.Chain.{IsShortText}
+use Rattle.smarts_parse.specs.declared.fault.SmartsFault.{SmartsFault}
+use Rattle.shell_lang.specs.declared.command.LineRefusal.{LineRefusal}
+use Rattle.shell_lang.specs.declared.reply.Reply.{Reply}
+use Rattle.shell_lang.specs.declared.reply.Reply.TheVariants.{Accepted, Hit, End, Refused}
+use Rattle.shell_lang.specs.declared.reply.Refusal.TheVariants.{NotYet, Text, Pattern, Known, Full}
+use Rattle.shell_lang.specs.Command.{Command, Empty, Register, Search}
+use Rattle.chem_shell.specs.declared.store.TheConstants.{MOST_COMMITS}
 use Rattle.chem_shell.specs.History as history
-use Rattle.chem_shell.specs.History.{History, head, most_commits}
+use Rattle.chem_shell.specs.History.{History, head}
 use Rattle.chem_shell.specs.Hits.{AreHits}
-use Rattle.smiles_read.specs.declared.fault.SmilesFault.TheVariants as smiles
-use Rattle.mol_finish.specs.declared.fault.TextFault.TheVariants.{Smiles}
-use Rattle.mol_finish.specs.Structure.{IsStructureOf, IsStructure}
-use Rattle.chem_shell.specs.Command.{Command, Empty, Register, Search}
+use Rattle.chem_shell.specs.Structures.{IsText, IsTextFault, IsPatternOf, IsPatternFault}
 
--- the text is a SMILES of some molecule
-abbrev pub HasStructure : List ℕ → Type 0
-HasStructure text = (m : Molecule) × IsStructureOf text m
+-- a registration: the structure is looked at first, then the identifier, then the number of commits
+abbrev pub RegisterAnswer : History → Format → ℕ → List ℕ → Reply → History → Type 0
+RegisterAnswer h format id text (Refused (Text fault)) h' = IsTextFault format text fault × (h' ≡ h)
+RegisterAnswer h format id text (Refused Known) h' = IsText format text × (head h id ≢ None) × (h' ≡ h)
+RegisterAnswer h format id text (Refused Full) h' = IsText format text × (head h id ≡ None) × (MOST_COMMITS ≤ length h) × (h' ≡ h)
+RegisterAnswer h format id text (Accepted version) h' =
+    IsText format text × (head h id ≡ None) × (length h < MOST_COMMITS) × (version ≡ length h + 1) × (h' ≡ h ++ history.Register id format text ∷ [])
+RegisterAnswer h format id text _ h' = ⊥
 
--- the text is a SMARTS of this pattern
-abbrev pub IsPatternOf : List ℕ → PatternTerm → Type 0
-IsPatternOf text p = (chain : smarts.Chain) × (text ≡ smarts.spelling chain) × (p ≡ smarts.chain_pattern chain)
-
--- the reply to `register`: the structure is looked at first, and has the fault that comes first; then the identifier, then the number of commits
-abbrev pub RegisterAnswer : History → ℕ → List ℕ → Reply → History → Type 0
-RegisterAnswer h id text (Refused SmilesSyntax) h' = IsStructure text (Err (Smiles smiles.Syntax)) × (h' ≡ h)
-RegisterAnswer h id text (Refused SmilesRing) h' = IsStructure text (Err (Smiles smiles.Ring)) × (h' ≡ h)
-RegisterAnswer h id text (Refused SmilesLimit) h' = IsStructure text (Err (Smiles smiles.Limit)) × (h' ≡ h)
-RegisterAnswer h id text (Refused (SmilesAromatic place)) h' = IsStructure text (Err (Smiles (smiles.Aromatic place))) × (h' ≡ h)
-RegisterAnswer h id text (Refused Known) h' = HasStructure text × (head h id ≢ None) × (h' ≡ h)
-RegisterAnswer h id text (Refused Full) h' = HasStructure text × (head h id ≡ None) × (most_commits ≤ length h) × (h' ≡ h)
-RegisterAnswer h id text (Accepted version) h' =
-    HasStructure text × (head h id ≡ None) × (length h < most_commits) × (version ≡ length h + 1) × (h' ≡ h ++ history.Register id text ∷ [])
-RegisterAnswer h id text _ h' = ⊥
-
--- the hits now, each on a line of its own, and the version and their number
+-- a search: the hits now, each on a line of its own, then the version and how many they are; or why the text is no pattern
 abbrev pub SearchAnswer : History → List ℕ → List Reply → Type 0
 SearchAnswer h text replies =
-    ((replies ≡ Refused SmartsSyntax ∷ []) × ((p : PatternTerm) → IsPatternOf text p → ⊥))
+    ((fault : SmartsFault) × IsPatternFault text fault × (replies ≡ Refused (Pattern fault) ∷ []))
     ⊎ ((p : PatternTerm) × (ids : List ℕ) × IsPatternOf text p × AreHits h (length h) p ids
     × (replies ≡ map Hit ids ++ End (length h) (length ids) ∷ []))
 
--- what a command is answered; only `register` changes the history
-abbrev pub CommandAnswer : History → Command → List Reply → History → Type 0
-CommandAnswer h Empty replies h' = (replies ≡ []) × (h' ≡ h)
-CommandAnswer h (Register id text) replies h' = (reply : Reply) × (replies ≡ reply ∷ []) × RegisterAnswer h id text reply h'
-CommandAnswer h (Search text) replies h' = SearchAnswer h text replies × (h' ≡ h)
+-- patterns of other texts are not read yet
+abbrev pub SearchLineAnswer : History → List ℕ → List Reply → Type 0
+SearchLineAnswer h text replies =
+    (IsShortText text × SearchAnswer h text replies) ⊎ (¬ IsShortText text × (replies ≡ Refused NotYet ∷ []))
+
+-- by what the line is read as; only a registration changes the history. Other lines are not answered yet
+abbrev pub Answers : History → Result Command LineRefusal → List Reply → History → Type 0
+Answers h (Ok Empty) replies h' = (replies ≡ []) × (h' ≡ h)
+Answers h (Ok (Register id text)) replies h' = (reply : Reply) × (replies ≡ reply ∷ []) × RegisterAnswer h Smiles id text reply h'
+Answers h (Ok (Search text)) replies h' = SearchLineAnswer h text replies × (h' ≡ h)
+Answers h _ replies h' = (replies ≡ Refused NotYet ∷ []) × (h' ≡ h)

@@ -3,9 +3,9 @@ use Rattle.std.specs.Prelude.{◌≡◌, ℕ, List}
 use Rattle.io_edge.specs.Lines.{TextLine, Whole, TooLong}
 use Rattle.io_edge.specs.declared.lines.Line.{Line}
 use Rattle.io_edge.specs.declared.lines.Line.TheVariants.{Text, Long, End}
-use Rattle.chem_shell.specs.declared.reply.Reply.{Reply}
+use Rattle.shell_lang.specs.declared.reply.Reply.{Reply}
 use Rattle.chem_shell.specs.History.{History}
-use Rattle.chem_shell.specs.Reply.{text_of}
+use Rattle.shell_lang.specs.Reply.{text_of}
 use Rattle.chem_shell.specs.Transcript.{LineAnswer}
 
 -- the line was answered with this text

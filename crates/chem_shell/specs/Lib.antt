@@ -1,9 +1,6 @@
-pub mod Flat
+pub mod Structures
 pub mod History
 pub mod Hits
-pub mod Command
-pub mod CommandView
-pub mod Reply
 pub mod Store
 pub mod Selects
 pub mod Answer
@@ -14,4 +11,3 @@ pub mod Served
 pub mod Status
 pub mod Ends
 pub mod Words
-pub mod Partial

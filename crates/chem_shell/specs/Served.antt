@@ -1,15 +1,15 @@
 -- What a call wrote for a script, where the source tells its bytes and the sink what was put.
 use Rattle.std.specs.Prelude.{◌≡◌, ℕ, List, [], ◌++◌, length, Option, Some, IfSome}
 use Rattle.io_edge.specs.Lines.{lines_of}
-use Rattle.chem_shell.specs.Transcript.{IsTranscript, IsTranscriptFront}
+use Rattle.chem_shell.specs.Transcript.{IsTranscript, IsTranscriptPrefix}
 
 -- some text with P was put behind what was put before
 abbrev pub Writes : Option (List ℕ) → Option (List ℕ) → (List ℕ → Type 0) → Type 0
 Writes before after P = IfSome before (λ old. (text : List ℕ) × (after ≡ Some (old ++ text)) × P text)
 
--- a front of the transcript of the input, from the empty history on
-abbrev pub WritesFront : Option (List ℕ) → Option (List ℕ) → Option (List ℕ) → Type 0
-WritesFront input before after = IfSome input (λ bytes. Writes before after (IsTranscriptFront [] (lines_of bytes)))
+-- a prefix of the transcript of the input, from the empty history on
+abbrev pub WritesPrefix : Option (List ℕ) → Option (List ℕ) → Option (List ℕ) → Type 0
+WritesPrefix input before after = IfSome input (λ bytes. Writes before after (IsTranscriptPrefix [] (lines_of bytes)))
 
 -- the whole transcript of the input, from the empty history on
 abbrev pub WritesAll : Option (List ℕ) → Option (List ℕ) → Option (List ℕ) → Type 0

@@ -29,7 +29,7 @@ TakesLine old new before after line =
 abbrev pub TakesNone : Reading → Option (List ℕ) → Type 0
 TakesNone old before = (l : List ℕ) → before ≡ Some l → (IsTrue old.ended → l ≡ []) → lines_left old l ≡ []
 
--- What a turn put, by its answer: the reply to the next line, or a front of it, or nothing.
+-- What a turn put, by its answer: the reply to the next line, or a prefix of it, or nothing.
 abbrev pub TurnPuts : Result Bool SessionFault → History → History → Reading → Reading → Option (List ℕ) → Option (List ℕ) → Option (List ℕ) → Option (List ℕ) → Type 0
 TurnPuts (Ok true) h h' old new before after put put' =
     (line : TextLine) × (text : List ℕ) × TakesLine old new before after line × AnswersLine h line text h' × Appends put put' text

@@ -1,53 +1,142 @@
-//! What a command is answered.
-ghost use Rattle.std.specs.Prelude.{◌≡◌, [], ◌++◌, IfOk, OnOk, List, map};
+//! What a line is answered.
+ghost use Rattle.std.specs.Prelude.{◌≡◌, [], ◌++◌, IfOk, OnOk, OnErr, Ok, ℕ, List, map};
 ghost use Rattle.io_edge.specs.Lines.{Whole, TooLong};
-ghost use Rattle.chem_shell.specs.declared.reply.Reply.{Reply};
-ghost use Rattle.chem_shell.specs.declared.reply.Reply.TheVariants.{Hit};
-ghost use Rattle.chem_shell.specs.Reply.{text_of};
-ghost use Rattle.chem_shell.specs.Transcript.{LineAnswer};
-ghost use Rattle.smarts_parse.specs.Chain.{IsShortText};
-ghost use Rattle.chem_shell.specs.Answer.{RegisterAnswer, SearchAnswer};
+ghost use Rattle.shell_lang.specs.Command.{IsIdentifier, Spells};
+ghost use Rattle.shell_lang.specs.CommandView.{command_of, reading_of};
+ghost use Rattle.shell_lang.specs.Reply.{text_of, reply_line};
+ghost use Rattle.shell_lang.specs.declared.reply.Reply.{Reply};
+ghost use Rattle.shell_lang.specs.declared.reply.Reply.TheVariants.{Hit, Refused};
+ghost use Rattle.chem_shell.specs.Answer.{Answers, RegisterAnswer, SearchLineAnswer};
 ghost use Rattle.chem_shell.specs.Answered.{AnswersLine};
 
-use crate::command::{Command, read_command};
-use crate::matching::Scratch;
-use crate::reply::{Refusal, Reply};
 use crate::store::{CommitFault, Store};
+use matcher::Scratch;
 use mol_finish::{Format, TextFault, structure};
-use smarts_parse::SmartsFault;
-use smiles_read::SmilesFault;
+use shell_lang::{Command, Refusal, Reply, read_command, reply_text};
+use smarts_parse::{SmartsFault, is_short, parse};
 use std::alloc::{AllocError, Global};
 
-/// Registers the structure of a text under an identifier, or says why not.
-pub fn register(alloc: Global, store: &mut Store, id: u32, text: &[u8]) -> Result<Reply, AllocError>
-    ensures { IfOk result (λ reply. RegisterAnswer store.old id text.now reply store.new) }
+/// What answers lines: the store, and buffers that are reused for each line.
+#[derive(Drop)]
+pub struct Responder {
+    pub store: Store,
+    scratch: Scratch,
+    pub out: Vec<u8>,
+}
+
+impl Responder {
+    /// An empty store. Takes the memory for matching.
+    pub fn new(alloc: Global) -> Result<Responder, AllocError>
+        ensures { IfOk result (λ responder. responder.store ≡ []) }
+    {
+        Ok(Responder {
+            store: Store::new(alloc),
+            scratch: Scratch::reserve(alloc)?,
+            out: Vec::new(alloc),
+        })
+    }
+
+    /// Answers a line that is too long; the answer is then in `out`. An `Err` leaves the store as it was.
+    pub fn refuse_long(&mut self) -> Result<(), AllocError>
+        ensures ok { OnOk result (AnswersLine self.old.store TooLong self.new.out.items self.new.store) }
+        ensures err { OnErr result (self.new.store ≡ self.old.store) }
+    {
+        self.out.clear();
+        reply_text(Reply::Refused(Refusal::Long), &mut self.out)
+    }
+
+    /// Answers a line; the answer is then in `out`. An `Err` leaves the store as it was.
+    pub fn answer(&mut self, alloc: Global, line: &[u8]) -> Result<(), AllocError>
+        ensures err { OnErr result (self.new.store ≡ self.old.store) }
+        ensures ok { OnOk result (AnswersLine self.old.store (Whole line.now) self.new.out.items self.new.store) }
+    {
+        self.out.clear();
+        match read_command(line) {
+            Ok(command) => self.execute(alloc, command),
+            Err(_) => refuse(Refusal::NotYet, &mut self.out),
+        }
+    }
+
+    // Answers a command, behind what stands in `out`. An `Err` leaves the store as it was.
+    fn execute(&mut self, alloc: Global, command: Command<'_>) -> Result<(), AllocError>
+        requires { (line : List ℕ) × Spells line (command_of command) }
+        ensures ok { OnOk result ((replies : List Reply) × Answers self.old.store (reading_of (Ok command.entry)) replies self.new.store
+            × (self.new.out.items ≡ self.old.out.items ++ text_of replies)) }
+        ensures err { OnErr result (self.new.store ≡ self.old.store) }
+    {
+        let out = &mut self.out;
+        match command {
+            Command::Empty => Ok(()),
+            Command::Register { id, text } => {
+                register(alloc, &mut self.store, Format::Smiles, id, text, out)
+            }
+            Command::Search { pattern } => {
+                search(alloc, &self.store, &mut self.scratch, pattern, out)
+            }
+            Command::Revise { .. } => refuse(Refusal::NotYet, out),
+            Command::RegisterMol { .. } => refuse(Refusal::NotYet, out),
+            Command::ReviseMol { .. } => refuse(Refusal::NotYet, out),
+            Command::Withdraw { .. } => refuse(Refusal::NotYet, out),
+            Command::Show { .. } => refuse(Refusal::NotYet, out),
+            Command::Start { .. } => refuse(Refusal::NotYet, out),
+            Command::Next { .. } => refuse(Refusal::NotYet, out),
+            Command::Close { .. } => refuse(Refusal::NotYet, out),
+            Command::Prune => refuse(Refusal::NotYet, out),
+            Command::Stats => refuse(Refusal::NotYet, out),
+        }
+    }
+}
+
+/// Registers the structure of a text under an identifier, or says why not. The reply's room is taken before the commit,
+/// so an `Err` leaves the store as it was.
+fn register(
+    alloc: Global,
+    store: &mut Store,
+    format: Format,
+    id: u32,
+    text: &[u8],
+    out: &mut Vec<u8>,
+) -> Result<(), AllocError>
+    requires { IsIdentifier id }
+    ensures ok { OnOk result ((reply : Reply) × RegisterAnswer store.old format id text.now reply store.new
+        × (out.new.items ≡ out.old.items ++ reply_line reply)) }
+    ensures err { OnErr result (store.new ≡ store.old) }
 {
-    let mol = match structure(alloc, Format::Smiles, text) {
+    let mol = match structure(alloc, format, text) {
         Ok(mol) => mol,
-        Err(TextFault::Smiles(SmilesFault::Syntax)) => {
-            return Ok(Reply::Refused(Refusal::SmilesSyntax));
-        }
-        Err(TextFault::Smiles(SmilesFault::Ring)) => {
-            return Ok(Reply::Refused(Refusal::SmilesRing));
-        }
-        Err(TextFault::Smiles(SmilesFault::Limit)) => {
-            return Ok(Reply::Refused(Refusal::SmilesLimit));
-        }
-        Err(TextFault::Smiles(SmilesFault::Aromatic(place))) => {
-            return Ok(Reply::Refused(Refusal::SmilesAromatic { place }));
-        }
-        Err(TextFault::Smiles(SmilesFault::NoMemory) | TextFault::NotYet) => unreachable!(),
         Err(TextFault::NoMemory) => return Err(AllocError),
+        Err(TextFault::Smiles(fault)) => return refuse(
+            Refusal::Text(TextFault::Smiles(fault)),
+            out,
+        ),
+        Err(TextFault::Molfile(fault)) => {
+            return refuse(Refusal::Text(TextFault::Molfile(fault)), out);
+        }
     };
-    match store.register(alloc, id, text, mol) {
-        Ok(version) => Ok(Reply::Accepted { version }),
-        Err(CommitFault::Known) => Ok(Reply::Refused(Refusal::Known)),
-        Err(CommitFault::Full) => Ok(Reply::Refused(Refusal::Full)),
+    let len = out.len();
+    let version = store.version() + 1;
+    reply_text(Reply::Accepted { version }, out)?;
+    match store.register(alloc, format, id, text, mol) {
+        Ok(_) => Ok(()),
+        Err(CommitFault::Known) => {
+            out.truncate(len);
+            refuse(Refusal::Known, out)
+        }
+        Err(CommitFault::Full) => {
+            out.truncate(len);
+            refuse(Refusal::Full, out)
+        }
         Err(CommitFault::NoMemory) => Err(AllocError),
     }
 }
 
-/// Lists the hits of a text's pattern, each on a line, and the end; or says that the text is no pattern.
+fn refuse(refusal: Refusal, out: &mut Vec<u8>) -> Result<(), AllocError>
+    ensures { OnOk result (out.new.items ≡ out.old.items ++ reply_line (Refused refusal)) }
+{
+    reply_text(Reply::Refused(refusal), out)
+}
+
+/// Lists the hits of a text's pattern, each on a line, and the end; or says why the text is no pattern.
 fn search(
     alloc: Global,
     store: &Store,
@@ -55,12 +144,15 @@ fn search(
     text: &[u8],
     out: &mut Vec<u8>,
 ) -> Result<(), AllocError>
-    requires { IsShortText text.now }
-    ensures { OnOk result ((replies : List Reply) × SearchAnswer store.now text.now replies × (out.new.items ≡ out.old.items ++ text_of replies)) }
+    ensures { OnOk result ((replies : List Reply) × SearchLineAnswer store.now text.now replies
+        × (out.new.items ≡ out.old.items ++ text_of replies)) }
 {
-    let pattern = match smarts_parse::parse(alloc, text) {
+    if !is_short(text) {
+        return refuse(Refusal::NotYet, out);
+    }
+    let pattern = match parse(alloc, text) {
         Ok(pattern) => pattern,
-        Err(SmartsFault::Syntax) => return Reply::Refused(Refusal::SmartsSyntax).push_line(out),
+        Err(SmartsFault::Syntax) => return refuse(Refusal::Pattern(SmartsFault::Syntax), out),
         Err(SmartsFault::NoMemory) => return Err(AllocError),
         Err(_) => unreachable!(),
     };
@@ -70,7 +162,7 @@ fn search(
         version: store.version(),
         hits: ids.len() as u32,
     };
-    end.push_line(out)
+    reply_text(end, out)
 }
 
 /// Appends a line for each hit.
@@ -78,57 +170,7 @@ fn push_hits(ids: &[u32], out: &mut Vec<u8>) -> Result<(), AllocError>
     ensures { OnOk result (out.new.items ≡ out.old.items ++ text_of (map Hit ids.now)) }
 {
     for id in ids {
-        Reply::Hit { id: *id }.push_line(out)?;
+        reply_text(Reply::Hit { id: *id }, out)?;
     }
     Ok(())
-}
-
-/// What answers lines: the store, and memory that is used for each line again.
-#[derive(Drop)]
-pub struct Desk {
-    pub store: Store,
-    scratch: Scratch,
-    pub out: Vec<u8>,
-}
-
-impl Desk {
-    /// An empty store. Takes the memory for matching.
-    pub fn new(alloc: Global) -> Result<Desk, AllocError>
-        ensures { IfOk result (λ desk. desk.store ≡ []) }
-    {
-        Ok(Desk {
-            store: Store::new(alloc),
-            scratch: Scratch::reserve(alloc)?,
-            out: Vec::new(alloc),
-        })
-    }
-
-    /// Answers a line that is too long; the answer is then in `out`.
-    pub fn refuse_long(&mut self) -> Result<(), AllocError>
-        ensures { OnOk result (AnswersLine self.old.store TooLong self.new.out.items self.new.store) }
-    {
-        self.out.clear();
-        Reply::Refused(Refusal::Long).push_line(&mut self.out)
-    }
-
-    /// Answers a line; the answer is then in `out`.
-    pub fn answer(&mut self, alloc: Global, line: &[u8]) -> Result<(), AllocError>
-        ensures { OnOk result (AnswersLine self.old.store (Whole line.now) self.new.out.items self.new.store) }
-    {
-        self.out.clear();
-        match read_command(line) {
-            None => Reply::Refused(Refusal::NotYet).push_line(&mut self.out),
-            Some(Command::Empty) => Ok(()),
-            Some(Command::Register { id, text }) => {
-                register(alloc, &mut self.store, id, text)?.push_line(&mut self.out)
-            }
-            Some(Command::Search { text }) => search(
-                alloc,
-                &self.store,
-                &mut self.scratch,
-                text,
-                &mut self.out,
-            ),
-        }
-    }
 }

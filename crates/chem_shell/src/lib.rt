@@ -1,12 +1,9 @@
-//! The top call of chemdb, and what it still matches by itself.
+//! What chemdb answers: the store, sessions over it, and the top call `chemdb`.
 #![tactic(auto)]
 
-pub mod answer;
-pub mod command;
-pub mod matching;
-pub mod reply;
-pub mod request;
-pub mod session;
-pub mod store;
+mod answer;
+mod request;
+mod session;
+mod store;
 pub mod top;
-pub mod words;
+mod words;

@@ -4,11 +4,13 @@ ghost use Rattle.io_edge.specs.Faults.{Rose};
 ghost use Rattle.io_edge.specs.Lines.{TextLine, done_bytes};
 ghost use Rattle.io_edge.specs.NextLine.{Counts};
 ghost use Rattle.io_edge.specs.Source.{Leaves};
-ghost use Rattle.chem_shell.specs.Served.{WritesFront, WritesAll, TakesExactly};
+ghost use Rattle.chem_shell.specs.Served.{WritesPrefix, WritesAll, TakesExactly};
 ghost use Rattle.chem_shell.specs.Turn.{TurnPuts, TakesLine, TakesNone};
 ghost use Rattle.chem_shell.specs.Answered.{AnswersLine};
+ghost use Rattle.chem_shell.specs.History.{History};
+ghost use Rattle.chem_shell.specs.Transcript.{IsTranscript};
 
-use crate::answer::Desk;
+use crate::answer::Responder;
 use io_edge::{Line, LineFault, Lines, PutFault, Sink, Source};
 use std::alloc::{AllocError, Global};
 
@@ -65,15 +67,24 @@ impl From<PutFault> for SessionFault {
     }
 }
 
-/// Reads the next line and answers it into the desk's `out`; `false` where the input's end was met.
+/// A law: from a history on, the lines of a script have one transcript.
+pub fn one_transcript()
+    ensures { (h : History) (lines : List TextLine) (s t : List ℕ) → IsTranscript h lines s → IsTranscript h lines t → s ≡ t }
+{
+    shell_lang::one_reading();
+    mol_finish::one_answer();
+    smarts_parse::one_tree();
+}
+
+/// Reads the next line and answers it into the responder's `out`; `false` where the input's end was met.
 fn answer_next<S: Source>(
     alloc: Global,
     lines: &mut Lines,
-    desk: &mut Desk,
+    responder: &mut Responder,
     source: &mut S,
 ) -> Result<bool, SessionFault>
     ensures some { result ≡ Ok true → (line : TextLine) × TakesLine lines.old lines.new (S.left source.old) (S.left source.new) line
-        × AnswersLine desk.old.store line desk.new.out.items desk.new.store }
+        × AnswersLine responder.old.store line responder.new.out.items responder.new.store }
     ensures none { result ≡ Ok false → TakesNone lines.old (S.left source.old) }
     ensures bytes { (got : List ℕ) × Leaves (S.left source.old) got (S.left source.new) × Counts lines.old got lines.new }
     ensures met { (l l' : List ℕ) → S.left source.old ≡ Some l → S.left source.new ≡ Some l'
@@ -87,11 +98,11 @@ fn answer_next<S: Source>(
     match lines.next_line(source)? {
         Line::End => Ok(false),
         Line::Long => {
-            desk.refuse_long()?;
+            responder.refuse_long()?;
             Ok(true)
         }
         Line::Text => {
-            desk.answer(alloc, lines.text())?;
+            responder.answer(alloc, lines.text())?;
             Ok(true)
         }
     }
@@ -101,11 +112,11 @@ fn answer_next<S: Source>(
 fn turn<S: Source, K: Sink>(
     alloc: Global,
     lines: &mut Lines,
-    desk: &mut Desk,
+    responder: &mut Responder,
     source: &mut S,
     sink: &mut K,
 ) -> Result<bool, SessionFault>
-    ensures puts { TurnPuts result desk.old.store desk.new.store lines.old lines.new (S.left source.old) (S.left source.new) (K.written sink.old) (K.written sink.new) }
+    ensures puts { TurnPuts result responder.old.store responder.new.store lines.old lines.new (S.left source.old) (S.left source.new) (K.written sink.old) (K.written sink.new) }
     ensures bytes { (got : List ℕ) × Leaves (S.left source.old) got (S.left source.new) × Counts lines.old got lines.new }
     ensures met { (l l' : List ℕ) → S.left source.old ≡ Some l → S.left source.new ≡ Some l'
         → (IsTrue lines.old.ended → l ≡ []) → IsTrue lines.new.ended → l' ≡ [] }
@@ -116,8 +127,8 @@ fn turn<S: Source, K: Sink>(
     ensures sink_count { K.faults sink.old ≤ K.faults sink.new }
     ensures too_long { IsErrOf result SessionFault.InputTooLong → lines.new.taken ≡ lines.new.limit }
 {
-    if answer_next(alloc, lines, desk, source)? {
-        sink.put(&desk.out)?;
+    if answer_next(alloc, lines, responder, source)? {
+        sink.put(&responder.out)?;
         Ok(true)
     } else {
         Ok(false)
@@ -131,14 +142,14 @@ pub fn session<S: Source, K: Sink>(
     source: &mut S,
     sink: &mut K,
 ) -> Result<(), SessionFault>
-    ensures front { WritesFront (S.left source.old) (K.written sink.old) (K.written sink.new) }
+    ensures prefix { WritesPrefix (S.left source.old) (K.written sink.old) (K.written sink.new) }
     ensures all { OnOk result (WritesAll (S.left source.old) (K.written sink.old) (K.written sink.new)) }
     ensures source_fault { IsErrOf result SessionFault.Source → Rose (S.faults source.old) (S.faults source.new) }
     ensures sink_fault { IsErrOf result SessionFault.Sink → Rose (K.faults sink.old) (K.faults sink.new) }
-    ensures too_long { IsErrOf result SessionFault.InputTooLong → TakesExactly (S.left source.old) (S.left source.new) 4294967296 }
+    ensures too_long { IsErrOf result SessionFault.InputTooLong → TakesExactly (S.left source.old) (S.left source.new) INPUT_LIMIT }
 {
     let mut lines = Lines::new(alloc, INPUT_LIMIT)?;
-    let mut desk = Desk::new(alloc)?;
-    while turn(alloc, &mut lines, &mut desk, source, sink)? {}
+    let mut responder = Responder::new(alloc)?;
+    while turn(alloc, &mut lines, &mut responder, source, sink)? {}
     Ok(())
 }

@@ -3,18 +3,18 @@ ghost use Rattle.std.specs.Prelude.{◌≡◌, ◌≢◌, ◌+◌, ◌<◌, ◌�
 ghost use Rattle.std.specs.Bool.{OnFalse};
 ghost use Rattle.smarts_parse.specs.Pattern.{pattern_of};
 ghost use Rattle.smarts_parse.specs.Sound.{IsSoundPattern};
-ghost use Rattle.chem_shell.specs.History.{Register, head, most_commits};
+ghost use Rattle.shell_lang.specs.Command.{IsIdentifier};
+ghost use Rattle.chem_shell.specs.History.{IsHistory, Register, head};
+ghost use Rattle.mol_finish.specs.Structure.{HasMolecule};
 ghost use Rattle.std.specs.Ordering.{nat_cmp};
 ghost use Rattle.std.specs.BTreeMap.{IsOrdered};
 ghost use Rattle.smarts_parse.specs.Embedding.{Matches};
-ghost use Rattle.chem_shell.specs.Flat.{IsFlat};
 ghost use Rattle.chem_shell.specs.Hits.{AreHits};
-ghost use Rattle.mol_finish.specs.Structure.{IsStructureOf};
 ghost use Rattle.chem_shell.specs.Selects.{Selects};
 
-use crate::matching::{Scratch, has};
 use chem_core::Mol;
-use mol_finish::one_structure;
+use matcher::{Scratch, has};
+use mol_finish::{Format, one_structure};
 use smarts_parse::Pattern;
 use std::alloc::{AllocError, Global};
 use std::collections::BTreeMap;
@@ -27,6 +27,7 @@ pub const MOST_COMMITS: usize = 16_777_215;
 #[derive(Debug, Drop)]
 pub struct Commit {
     id: u32,
+    format: Format,
     text: Vec<u8>,
 }
 
@@ -74,7 +75,7 @@ impl Store {
     /// How many commits there are.
     pub fn version(&self) -> u32
         ensures version { result ≡ length self.now }
-        ensures few { length self.now ≤ most_commits }
+        ensures valid { IsHistory self.now }
     {
         self.commits.len() as u32
     }
@@ -84,16 +85,18 @@ impl Store {
     pub fn register(
         &mut self,
         alloc: Global,
+        format: Format,
         id: u32,
         text: &[u8],
         mol: Mol,
     ) -> Result<u32, CommitFault>
-        requires { IsStructureOf text.now mol }
+        requires id { IsIdentifier id }
+        requires structure { HasMolecule format text.now mol }
         ensures version { IfOk result (λ version. version ≡ length self.old + 1) }
-        ensures commit { OnOk result (self.new ≡ self.old ++ Register id text.now ∷ []) }
-        ensures allowed { OnOk result ((head self.old id ≡ None) × (length self.old < most_commits)) }
+        ensures commit { OnOk result (self.new ≡ self.old ++ Register id format text.now ∷ []) }
+        ensures allowed { OnOk result ((head self.old id ≡ None) × (length self.old < MOST_COMMITS)) }
         ensures known { IsErrOf result CommitFault.Known ↔ (head self.old id ≢ None) }
-        ensures full { IsErrOf result CommitFault.Full ↔ ((head self.old id ≡ None) × (most_commits ≤ length self.old)) }
+        ensures full { IsErrOf result CommitFault.Full ↔ ((head self.old id ≡ None) × (MOST_COMMITS ≤ length self.old)) }
         ensures err { OnErr result (self.new ≡ self.old) }
     {
         if self.is_known(id) {
@@ -102,7 +105,7 @@ impl Store {
         if self.version() as usize >= MOST_COMMITS {
             return Err(CommitFault::Full);
         }
-        self.commit(alloc, id, text, mol)?;
+        self.commit(alloc, format, id, text, mol)?;
         Ok(self.version())
     }
 
@@ -115,16 +118,24 @@ impl Store {
     }
 
     // Appends a commit and keeps its structure, where there is room for one more. An `Err` changes nothing.
-    fn commit(&mut self, alloc: Global, id: u32, text: &[u8], mol: Mol) -> Result<(), AllocError>
-        requires structure { IsStructureOf text.now mol }
-        requires room { length self.old < most_commits }
-        ensures ok { OnOk result (self.new ≡ self.old ++ Register id text.now ∷ []) }
+    fn commit(
+        &mut self,
+        alloc: Global,
+        format: Format,
+        id: u32,
+        text: &[u8],
+        mol: Mol,
+    ) -> Result<(), AllocError>
+        requires id { IsIdentifier id }
+        requires structure { HasMolecule format text.now mol }
+        requires room { length self.old < MOST_COMMITS }
+        ensures ok { OnOk result (self.new ≡ self.old ++ Register id format text.now ∷ []) }
         ensures err { OnErr result (self.new ≡ self.old) }
     {
         let text = Vec::from_slice(alloc, text)?;
         self.commits.reserve(1)?;
         self.live.insert(id, mol)?;
-        self.commits.push_reserved(Commit { id, text });
+        self.commits.push_reserved(Commit { id, format, text });
         Ok(())
     }
 
@@ -135,10 +146,9 @@ impl Store {
         pattern: &Pattern,
         scratch: &mut Scratch,
     ) -> Result<Vec<u32>, AllocError>
-        requires sound { IsSoundPattern (pattern_of pattern.now) }
-        requires flat { IsFlat (pattern_of pattern.now) }
+        requires { IsSoundPattern (pattern_of pattern.now) }
         ensures hits { IfOk result (λ ids. AreHits self.now (length self.now) (pattern_of pattern.now) ids.items) }
-        ensures few { IfOk result (λ ids. length ids.items ≤ most_commits) }
+        ensures few { IfOk result (λ ids. length ids.items ≤ MOST_COMMITS) }
     {
         one_structure();
         let ids = matching_identifiers(alloc, &self.live, pattern, scratch)?;
@@ -153,8 +163,7 @@ fn matching_identifiers(
     pattern: &Pattern,
     scratch: &mut Scratch,
 ) -> Result<Vec<u32>, AllocError>
-    requires sound { IsSoundPattern (pattern_of pattern.now) }
-    requires flat { IsFlat (pattern_of pattern.now) }
+    requires { IsSoundPattern (pattern_of pattern.now) }
     ensures selects { IfOk result (λ ids. Selects (Matches (pattern_of pattern.now)) live.now.entries ids.items) }
     ensures ordered { IfOk result (λ _. IsOrdered nat_cmp live.now) }
 {

@@ -3,12 +3,12 @@ ghost use Rattle.std.specs.Prelude.{◌≡◌, ◌↔◌, All, length, map};
 ghost use Rattle.std.specs.List.{AllZip};
 ghost use Rattle.io_edge.specs.Faults.{Rose};
 ghost use Rattle.chem_shell.specs.Words.{AsksMem};
-ghost use Rattle.chem_shell.specs.Served.{WritesFront, WritesAll, TakesExactly};
+ghost use Rattle.chem_shell.specs.Served.{WritesPrefix, WritesAll, TakesExactly};
 ghost use Rattle.chem_shell.specs.Ends.{with_status, IsServed};
 ghost use Rattle.chem_shell.specs.Status.{IsEndStatus, first_fault};
 
 use crate::request::PlanFault;
-use crate::session::{SessionFault, session};
+use crate::session::{INPUT_LIMIT, SessionFault, session};
 use crate::words::plan;
 use io_edge::{Sink, Source};
 use std::alloc::Global;
@@ -133,8 +133,8 @@ pub fn chemdb<
     requires one_end { AsksMem (map (λ w. w.now) words.now) → length ends.items ≡ 1 }
 
     // The words that ask for nothing, and then nothing is taken or put.
-    ensures usage { (result.status ≡ 2) ↔ (¬ AsksMem (map (λ w. w.now) words.now)) }
-    ensures usage_takes_nothing { ¬ AsksMem (map (λ w. w.now) words.now) → result.ends.items ≡ map (with_status 2) ends.items }
+    ensures usage { (result.status ≡ USAGE) ↔ (¬ AsksMem (map (λ w. w.now) words.now)) }
+    ensures usage_takes_nothing { ¬ AsksMem (map (λ w. w.now) words.now) → result.ends.items ≡ map (with_status USAGE) ends.items }
 
     ensures disk_a { result.a ≡ a }
     ensures disk_b { result.b ≡ b }
@@ -144,15 +144,15 @@ pub fn chemdb<
     ensures overall { AsksMem (map (λ w. w.now) words.now) → result.status ≡ first_fault (map (λ end. end.status) result.ends.items) }
 
     // A fault comes only where the end's object failed in this call, and only an input of the limit's length is too long.
-    ensures source_fault { AllZip (λ old new. new.status ≡ 3 → Rose (S.faults old.source) (S.faults new.source)) ends.items result.ends.items }
-    ensures sink_fault { AllZip (λ old new. new.status ≡ 4 → Rose (K.faults old.sink) (K.faults new.sink)) ends.items result.ends.items }
-    ensures input_too_long { AllZip (λ old new. new.status ≡ 9 → TakesExactly (S.left old.source) (S.left new.source) 4294967296) ends.items result.ends.items }
+    ensures source_fault { AllZip (λ old new. new.status ≡ SOURCE_FAULT → Rose (S.faults old.source) (S.faults new.source)) ends.items result.ends.items }
+    ensures sink_fault { AllZip (λ old new. new.status ≡ SINK_FAULT → Rose (K.faults old.sink) (K.faults new.sink)) ends.items result.ends.items }
+    ensures input_too_long { AllZip (λ old new. new.status ≡ INPUT_TOO_LONG → TakesExactly (S.left old.source) (S.left new.source) INPUT_LIMIT) ends.items result.ends.items }
 
-    // `mem`: what was written is a front of the transcript of the source's bytes, and all of it where the status is 0.
-    ensures mem_front { AsksMem (map (λ w. w.now) words.now)
-        → AllZip (λ old new. WritesFront (S.left old.source) (K.written old.sink) (K.written new.sink)) ends.items result.ends.items }
+    // `mem`: what was written is a prefix of the transcript of the source's bytes, and all of it where the status is 0.
+    ensures mem_prefix { AsksMem (map (λ w. w.now) words.now)
+        → AllZip (λ old new. WritesPrefix (S.left old.source) (K.written old.sink) (K.written new.sink)) ends.items result.ends.items }
     ensures mem_all { AsksMem (map (λ w. w.now) words.now)
-        → AllZip (λ old new. new.status ≡ 0 → WritesAll (S.left old.source) (K.written old.sink) (K.written new.sink)) ends.items result.ends.items }
+        → AllZip (λ old new. new.status ≡ DONE → WritesAll (S.left old.source) (K.written old.sink) (K.written new.sink)) ends.items result.ends.items }
 {
     match plan(alloc, words) {
         Err(PlanFault::Usage) => return unserved(USAGE, a, b, ends),

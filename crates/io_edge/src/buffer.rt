@@ -1,6 +1,6 @@
-// The bytes that were taken from a source and not answered, in one block of fixed length.
-// They stand between two places of the block. They are moved to its front only where no room is behind them,
-// so a byte is moved at most twice, where no more than half of the block is ever held back.
+//! The bytes that were taken from a source and not answered, in one block of fixed length.
+//! They stand between two places of the block. They are moved to its front only where no room is behind them,
+//! so a byte is moved at most twice, where no more than half of the block is ever held back.
 ghost use Rattle.std.specs.Prelude.{◌≡◌, ◌<◌, ◌≤◌, ◌+◌, ◌-◌, [], length, take, drop, IfOk, vec_len};
 ghost use Rattle.std.specs.Io.KnownBytes.{IsAtEnd};
 ghost use Rattle.io_edge.specs.Faults.{Rose};
@@ -140,7 +140,7 @@ fn take_at<S: Source>(source: &mut S, block: &mut [u8], at: usize, most: usize) 
     source.take(&mut block[at..at + most])
 }
 
-/// So many zeros.
+/// `len` zeros.
 fn zeros(alloc: Global, len: usize) -> Result<Vec<u8>, AllocError>
     ensures { IfOk result (λ v. vec_len v ≡ len) }
 {

@@ -1,7 +1,7 @@
-// The lines of a source, in whatever pieces its bytes come.
-// `next_line` promises that the lines that are answered are those of the text, in order, that a fault loses
-// none, and that no more is taken than a call needs or the limit allows.
-// It stands on the line buffer, which holds what was taken and not answered.
+//! The lines of a source, in whatever pieces its bytes come.
+//! `next_line` promises that the lines that are answered are those of the text, in order, that a fault loses
+//! none, and that no more is taken than a call needs or the limit allows.
+//! It stands on the line buffer, which holds what was taken and not answered.
 ghost use Rattle.std.specs.Prelude.{◌≡◌, ◌≤◌, ◌<◌, ◌+◌, ◌⊎◌, ℕ, Some, Ok, Err, IsTrue, false, List, [], length, take, IfSome, IfNone, IfOk, IfErr, OnOk, OnErr, position, ◌==◌};
 ghost use Rattle.io_edge.specs.Faults.{Rose};
 ghost use Rattle.io_edge.specs.Source.{Leaves};
@@ -38,7 +38,8 @@ pub enum Line {
 /// Why a call for the next line answers none.
 #[derive(Clone, Copy, Debug, PartialEq, Eq)]
 pub enum LineFault {
-    /// The source failed, and no whole line is left to answer. Nothing is lost: the call can be made again.
+    /// The source failed before the limit was reached, and no whole line is left to answer. Nothing is lost: the call
+    /// can be made again.
     Source,
     /// As many bytes were taken as the limit allows, the end was not met, and no whole line is left to answer.
     TooLong,
@@ -62,7 +63,7 @@ impl Error for LineFault {}
 #[derive(Drop)]
 pub struct Lines {
     buffer: Buffer,
-    // So many of the bytes in the buffer are known to have no LF.
+    // The first `scanned` bytes of the buffer hold no LF.
     scanned: usize,
     long: bool,
     taken: u64,
@@ -131,6 +132,7 @@ impl Lines {
         ensures no_text { OnNoText result (self.new.text ≡ []) }
 
         ensures source_fault { result ≡ Err LineFault.Source → Rose (S.faults source.old) (S.faults source.new) × ¬ HasWholeLine self.new }
+        ensures below_limit { result ≡ Err LineFault.Source → self.new.taken < self.new.limit }
         ensures too_long { result ≡ Err LineFault.TooLong → IsAtLimit self.new }
         ensures at_limit { IsAtLimit self.old → result ≡ Err LineFault.TooLong }
         ensures end { result ≡ Ok Line.End → IsFinished self.new }
@@ -168,7 +170,7 @@ impl Lines {
         }
     }
 
-    /// Answers the first `len` pending bytes, a line whose text are their first `text_len`.
+    /// Answers the first `len` pending bytes, a line whose text is the first `text_len` of them.
     fn answer(&mut self, text_len: usize, len: usize) -> Line
         requires text { text_len ≤ len }
         requires within { len ≤ length self.old.pending }
@@ -256,6 +258,7 @@ impl Lines {
 
         ensures fault { IfErr result (λ fault. fault ≡ LineFault.Source) }
         ensures rose { OnErr result (Rose (S.faults source.old) (S.faults source.new)) }
+        ensures below { OnErr result (self.new.taken < self.new.limit) }
         ensures not_ended { OnErr result (self.new.ended ≡ false) }
         ensures none { OnErr result (HasNoLf self.new.pending) }
         ensures text { self.new.text ≡ [] }

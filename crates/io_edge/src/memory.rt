@@ -1,4 +1,4 @@
-// A source and a sink in memory, which fail where they are told to.
+//! A source and a sink in memory, which fail where they are told to.
 ghost use Rattle.std.specs.Prelude.{◌≡◌, ◌<◌, ◌≤◌, ◌++◌, ◌^◌, Some, [], OnOk, length, min, take, drop};
 ghost use Rattle.std.specs.Io.KnownBytes.{IsAtEnd, Appends};
 ghost use Rattle.io_edge.specs.Faults.{Rose};
@@ -34,7 +34,7 @@ impl Model for MemSource {
 
 impl MemSource {
     /// A source of these bytes that gives at most `piece` of them per take. The takes whose numbers, counted
-    /// from 0, stand in `fails` fail. (The numbers end at 2^64 - 1, which all later takes have.)
+    /// from 0, stand in `fails` fail. (All takes from number 2^64 - 1 on share that number.)
     pub fn new(bytes: Vec<u8>, piece: usize, fails: Vec<u64>) -> MemSource
         requires { 1 ≤ piece }
         ensures { result ≡ record { left = bytes.items; piece = piece; fails = fails.items; takes = 0; faults = 0 } }

@@ -1,4 +1,4 @@
-// The edge to the system: std's readers and writers.
+//! The edge to the system: std's readers and writers.
 ghost use Rattle.std.specs.Prelude.{◌≡◌, ◌<◌, ◌^◌};
 ghost use Rattle.std.specs.Bool.{OnTrue, OnFalse};
 ghost use Rattle.std.specs.Io.KnownBytes.{Appends};
@@ -35,7 +35,7 @@ impl<R: Read + Drop> Source for StdSource<R> {
 
     ghost faults = { λ s. s.faults };
 
-    /// Reads once. An error is a fault, and so answered.
+    /// Reads once. An error counts as a fault, and the answer is `Failed`.
     fn take(&mut self, room: &mut [u8]) -> Take {
         let mut piece = [0u8; PIECE];
         let most = room.len().min(PIECE);

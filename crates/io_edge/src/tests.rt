@@ -1,4 +1,4 @@
-// Worked cases of lines, sources and sinks.
+//! Worked cases of lines, sources and sinks.
 use crate::{
     Line, LineFault, Lines, MemSink, MemSource, PutFault, Sink, Source, StdSink, StdSource, Take,
 };

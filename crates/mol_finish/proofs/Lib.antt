@@ -1,3 +1,5 @@
+mod Marks
 mod Meaning
 mod Stages
 mod Unique
+mod UniqueMol

@@ -1,5 +1,5 @@
 -- A text has one answer, but for want of memory: the stages have one answer each.
-use Rattle.std.proofs.Common.{ℕ, ◌<◌, ◌≡◌, ◌≢◌, ◌↔◌, ◌⊎◌, inl, inr, Bool, true, false, List, length, get_or, slice_get, map, refl, sym, ap, subst, ◌∙◌, arith, Result, Ok, Err, Some, None}
+use Rattle.std.proofs.Common.{ℕ, ◌<◌, ◌≡◌, ◌≢◌, ◌↔◌, ◌⊎◌, inl, inr, Bool, true, false, List, length, get_or, slice_get, map, refl, sym, ap, subst, ◌∙◌, arith, Result, Ok, Err, Some}
 use Rattle.std.specs.List.{enumerate_from}
 use Rattle.std.proofs.lemmas.Bool.{cases_Bool, cases_lt, cases_eq}
 use Rattle.std.proofs.lemmas.List.{ext_get_or}
@@ -11,62 +11,42 @@ use Rattle.chem_core.specs.RingFacts.{AreRingBonds}
 use Rattle.chem_core.specs.Sound.{sketch_ends}
 use Rattle.smiles_read.specs.declared.fault.SmilesFault.{SmilesFault}
 use Rattle.smiles_read.specs.declared.fault.SmilesFault.TheVariants as smiles
-use Rattle.smiles_read.specs.Tree.{Tree, IsTreeOf}
-use Rattle.smiles_read.specs.Sketch.{sketch_of}
 use Rattle.smiles_read.specs.Reading.{IsReading}
 use Rattle.aromatic.specs.Huckel.{IsPerceived, IsFirstRefused, IsAromaticAtom, IsAromaticBond, valence_of}
 use Rattle.mol_finish.specs.declared.fault.TextFault.{TextFault}
-use Rattle.mol_finish.specs.declared.fault.TextFault.TheVariants.{Smiles, NotYet, NoMemory}
+use Rattle.mol_finish.specs.declared.fault.TextFault.TheVariants.{Smiles, Molfile, NoMemory}
 use Rattle.mol_finish.specs.Meant.{meant}
 use Rattle.mol_finish.specs.Structure.{IsMeant, IsRefusedAt, IsStructure, IsStructureOf, prepared}
 
 -- the laws of the stages
-abbrev OneTree : Type 0
-OneTree = (text : List ℕ) (s t : Tree) → IsTreeOf text s → IsTreeOf text t → s ≡ t
+abbrev pub OneReading : Type 0
+OneReading = (text : List ℕ) (a b : Result SketchTerm SmilesFault) → IsReading text a → IsReading text b → (a ≡ b) ⊎ (a ≡ Err smiles.NoMemory) ⊎ (b ≡ Err smiles.NoMemory)
 
-abbrev OneRings : Type 0
+abbrev pub OneRings : Type 0
 OneRings = (ends : Ends) (xs ys : List Bool) → AreRingBonds ends xs → AreRingBonds ends ys → xs ≡ ys
 
 -- one sketch
-sketch-same : (s t : Tree) (a b : SketchTerm) → s ≡ t → sketch_of s ≡ Some a → sketch_of t ≡ Some b → a ≡ b
-sketch-same s t a b is p q = cc
-
-sketch-not : (s t : Tree) (a : SketchTerm) → s ≡ t → sketch_of s ≡ Some a → sketch_of t ≡ None → ⊥
-sketch-not s t a is p q = cc
-
-reading-one : OneTree → (text : List ℕ) (s t : SketchTerm) → IsReading text (Ok s) → IsReading text (Ok t) → s ≡ t
-reading-one trees text s t p q = sketch-same _ _ _ _ (trees text _ _ p.2 q.2) p.3 q.3
+reading-one : OneReading → (text : List ℕ) (s t : SketchTerm) → IsReading text (Ok s) → IsReading text (Ok t) → s ≡ t
+reading-one readings text s t p q = elim (readings text (Ok s) (Ok t) p q) [
+  | inl e ↦ cc
+  | inr (inl e) ↦ absurd (cc)
+  | inr (inr e) ↦ absurd (cc)
+]
 
 -- a text that is read has no fault
-reading-not : OneTree → (text : List ℕ) (s : SketchTerm) (e : SmilesFault) → IsReading text (Ok s) → IsReading text (Err e) → e ≡ smiles.NoMemory
-reading-not trees text s smiles.Syntax p q = absurd (q.1 p.1 p.2)
-reading-not trees text s smiles.Ring p q = absurd (sketch-not _ _ _ (trees text _ _ p.2 q.2) p.3 q.3)
-reading-not trees text s smiles.Limit p (inl long) = absurd (omega (arith, p.0))
-reading-not trees text s smiles.Limit p (inr q) =
-    let same = trees text _ _ q.2 p.2 in
-    let one = sketch-same _ _ _ _ same q.3 p.3 in
-    absurd (q.4 (rw (same, one) p.4))
-reading-not trees text s (smiles.Aromatic w) p q = absurd q
-reading-not trees text s smiles.NoMemory p q = refl
+reading-not : OneReading → (text : List ℕ) (s : SketchTerm) (e : SmilesFault) → IsReading text (Ok s) → IsReading text (Err e) → e ≡ smiles.NoMemory
+reading-not readings text s e p q = elim (readings text (Ok s) (Err e) p q) [
+  | inl h ↦ absurd (cc)
+  | inr (inl h) ↦ absurd (cc)
+  | inr (inr h) ↦ cc
+]
 
-faults-one : OneTree → (text : List ℕ) (e f : SmilesFault) → e ≢ smiles.NoMemory → f ≢ smiles.NoMemory → IsReading text (Err e) → IsReading text (Err f) → e ≡ f
-faults-one trees text smiles.NoMemory f ne nf p q = absurd (ne refl)
-faults-one trees text e smiles.NoMemory ne nf p q = absurd (nf refl)
-faults-one trees text (smiles.Aromatic w) f ne nf p q = absurd p
-faults-one trees text e (smiles.Aromatic w) ne nf p q = absurd q
-faults-one trees text smiles.Syntax smiles.Syntax ne nf p q = refl
-faults-one trees text smiles.Ring smiles.Ring ne nf p q = refl
-faults-one trees text smiles.Limit smiles.Limit ne nf p q = refl
-faults-one trees text smiles.Syntax smiles.Ring ne nf p q = absurd (p.1 q.1 q.2)
-faults-one trees text smiles.Ring smiles.Syntax ne nf p q = absurd (q.1 p.1 p.2)
-faults-one trees text smiles.Syntax smiles.Limit ne nf p (inl long) = absurd (omega (arith, p.0))
-faults-one trees text smiles.Syntax smiles.Limit ne nf p (inr q) = absurd (p.1 q.0 q.2)
-faults-one trees text smiles.Limit smiles.Syntax ne nf (inl long) q = absurd (omega (arith, q.0))
-faults-one trees text smiles.Limit smiles.Syntax ne nf (inr p) q = absurd (q.1 p.0 p.2)
-faults-one trees text smiles.Ring smiles.Limit ne nf p (inl long) = absurd (omega (arith, p.0))
-faults-one trees text smiles.Ring smiles.Limit ne nf p (inr q) = absurd (sketch-not _ _ _ (trees text _ _ q.2 p.2) q.3 p.3)
-faults-one trees text smiles.Limit smiles.Ring ne nf (inl long) q = absurd (omega (arith, q.0))
-faults-one trees text smiles.Limit smiles.Ring ne nf (inr p) q = absurd (sketch-not _ _ _ (trees text _ _ p.2 q.2) p.3 q.3)
+faults-one : OneReading → (text : List ℕ) (e f : SmilesFault) → e ≢ smiles.NoMemory → f ≢ smiles.NoMemory → IsReading text (Err e) → IsReading text (Err f) → e ≡ f
+faults-one readings text e f ne nf p q = elim (readings text (Err e) (Err f) p q) [
+  | inl h ↦ cc
+  | inr (inl h) ↦ absurd (ne (cc))
+  | inr (inr h) ↦ absurd (nf (cc))
+]
 
 same_flag : (x y : Bool) (P : Type 0) → (x ≡ true) ↔ P → (y ≡ true) ↔ P → x ≡ y
 same_flag x y P f g =
@@ -78,7 +58,7 @@ same_flag x y P f g =
       ]
     ]
 
-flags-one : (P : ℕ → Type 0) (n : ℕ) (xs ys : List Bool) → length xs ≡ n → length ys ≡ n → ((a : ℕ) → a < n → (get_or xs a false ≡ true) ↔ P a) → ((a : ℕ) → a < n → (get_or ys a false ≡ true) ↔ P a) → xs ≡ ys
+pub flags-one : (P : ℕ → Type 0) (n : ℕ) (xs ys : List Bool) → length xs ≡ n → length ys ≡ n → ((a : ℕ) → a < n → (get_or xs a false ≡ true) ↔ P a) → ((a : ℕ) → a < n → (get_or ys a false ≡ true) ↔ P a) → xs ≡ ys
 flags-one P n xs ys p q f g =
     ext_get_or false xs ys (p ∙ sym q) (λ a l.
     let within : a < n = omega arith in
@@ -91,7 +71,7 @@ perceived-one s rings atoms bonds atoms' bonds' sums sums' p q =
     let same : sums ≡ sums' = p.valences ∙ ap (λ xs. map (λ p. valence_of s rings xs bonds p.0 p.1) (enumerate_from 0 s.atoms)) one ∙ ap (λ xs. map (λ p. valence_of s rings atoms' xs p.0 p.1) (enumerate_from 0 s.atoms)) two ∙ sym q.valences in
     ap (λ xs. meant s xs bonds sums) one ∙ ap (λ xs. meant s atoms' xs sums) two ∙ ap (λ xs. meant s atoms' bonds' xs) same
 
-meant-one : OneRings → (s : SketchTerm) (m n : Molecule) → IsMeant s m → IsMeant s n → m ≡ n
+pub meant-one : OneRings → (s : SketchTerm) (m n : Molecule) → IsMeant s m → IsMeant s n → m ≡ n
 meant-one lists s m n p q =
     let same = lists (sketch_ends s) p.0 q.0 p.4 q.4 in
     let again = subst (λ r. IsPerceived s r q.1 q.2 q.3) (sym same) q.5 in
@@ -123,9 +103,9 @@ refused-one lists s v w p q =
     let same = lists (sketch_ends s) p.0 q.0 p.1 q.1 in
     first-one s p.0 v w p.2 (subst (λ r. IsFirstRefused s r w) (sym same) q.2)
 
-pub structure-one : OneTree → OneRings → (text : List ℕ) (m n : Molecule) → IsStructureOf text m → IsStructureOf text n → m ≡ n
-structure-one trees lists text m n p q =
-    let one : p.0 ≡ q.0 = reading-one trees text p.0 q.0 p.1 q.1 in
+pub structure-one : OneReading → OneRings → (text : List ℕ) (m n : Molecule) → IsStructureOf text m → IsStructureOf text n → m ≡ n
+structure-one readings lists text m n p q =
+    let one : p.0 ≡ q.0 = reading-one readings text p.0 q.0 p.1 q.1 in
     meant-one lists (prepared q.0) m n (subst (λ s. IsMeant (prepared s) m) one p.2) q.2
 
 -- the ways of an answer
@@ -142,28 +122,28 @@ way-of text (Err (Smiles smiles.Ring)) h = unread smiles.Ring (λ q. cc) refl h
 way-of text (Err (Smiles smiles.Limit)) h = unread smiles.Limit (λ q. cc) refl h
 way-of text (Err (Smiles (smiles.Aromatic w))) h = refused h.0 w refl h.1 h.2
 way-of text (Err (Smiles smiles.NoMemory)) h = absurd h
-way-of text (Err NotYet) h = absurd h
+way-of text (Err (Molfile fault)) h = absurd h
 way-of text (Err NoMemory) h = short refl
 
-ways-one : OneTree → OneRings → (text : List ℕ) (a b : Result Molecule TextFault) → Way text a → Way text b → (a ≡ b) ⊎ (a ≡ Err NoMemory) ⊎ (b ≡ Err NoMemory)
-ways-one trees lists text a b (short p) h = inr (inl p)
-ways-one trees lists text a b h (short p) = inr (inr p)
-ways-one trees lists text a b (unread e ne p r) (unread f nf q t) = inl (p ∙ ap (λ x. Err (Smiles x)) (faults-one trees text e f ne nf r t) ∙ sym q)
-ways-one trees lists text a b (unread e ne p r) (made s m q t k) = absurd (ne (reading-not trees text s e t r))
-ways-one trees lists text a b (unread e ne p r) (refused s w q t k) = absurd (ne (reading-not trees text s e t r))
-ways-one trees lists text a b (made s m q t k) (unread e ne p r) = absurd (ne (reading-not trees text s e t r))
-ways-one trees lists text a b (refused s w q t k) (unread e ne p r) = absurd (ne (reading-not trees text s e t r))
-ways-one trees lists text a b (made s m q t k) (made s' m' q' t' k') = inl (q ∙ ap Ok (structure-one trees lists text m m' (s, t, k) (s', t', k')) ∙ sym q')
-ways-one trees lists text a b (made s m q t k) (refused s' w q' t' k') =
-    let one : s ≡ s' = reading-one trees text s s' t t' in
+ways-one : OneReading → OneRings → (text : List ℕ) (a b : Result Molecule TextFault) → Way text a → Way text b → (a ≡ b) ⊎ (a ≡ Err NoMemory) ⊎ (b ≡ Err NoMemory)
+ways-one readings lists text a b (short p) h = inr (inl p)
+ways-one readings lists text a b h (short p) = inr (inr p)
+ways-one readings lists text a b (unread e ne p r) (unread f nf q t) = inl (p ∙ ap (λ x. Err (Smiles x)) (faults-one readings text e f ne nf r t) ∙ sym q)
+ways-one readings lists text a b (unread e ne p r) (made s m q t k) = absurd (ne (reading-not readings text s e t r))
+ways-one readings lists text a b (unread e ne p r) (refused s w q t k) = absurd (ne (reading-not readings text s e t r))
+ways-one readings lists text a b (made s m q t k) (unread e ne p r) = absurd (ne (reading-not readings text s e t r))
+ways-one readings lists text a b (refused s w q t k) (unread e ne p r) = absurd (ne (reading-not readings text s e t r))
+ways-one readings lists text a b (made s m q t k) (made s' m' q' t' k') = inl (q ∙ ap Ok (structure-one readings lists text m m' (s, t, k) (s', t', k')) ∙ sym q')
+ways-one readings lists text a b (made s m q t k) (refused s' w q' t' k') =
+    let one : s ≡ s' = reading-one readings text s s' t t' in
     absurd (meant-not lists (prepared s') m w (subst (λ x. IsMeant (prepared x) m) one k) k')
-ways-one trees lists text a b (refused s' w q' t' k') (made s m q t k) =
-    let one : s ≡ s' = reading-one trees text s s' t t' in
+ways-one readings lists text a b (refused s' w q' t' k') (made s m q t k) =
+    let one : s ≡ s' = reading-one readings text s s' t t' in
     absurd (meant-not lists (prepared s') m w (subst (λ x. IsMeant (prepared x) m) one k) k')
-ways-one trees lists text a b (refused s v q t k) (refused s' w q' t' k') =
-    let one : s ≡ s' = reading-one trees text s s' t t' in
+ways-one readings lists text a b (refused s v q t k) (refused s' w q' t' k') =
+    let one : s ≡ s' = reading-one readings text s s' t t' in
     let same : v ≡ w = refused-one lists (prepared s') v w (subst (λ x. IsRefusedAt (prepared x) v) one k) k' in
     inl (q ∙ ap (λ x. Err (Smiles (smiles.Aromatic x))) same ∙ sym q')
 
-pub answer-one : OneTree → OneRings → (text : List ℕ) (a b : Result Molecule TextFault) → IsStructure text a → IsStructure text b → (a ≡ b) ⊎ (a ≡ Err NoMemory) ⊎ (b ≡ Err NoMemory)
-answer-one trees lists text a b p q = ways-one trees lists text a b (way-of text a p) (way-of text b q)
+pub answer-one : OneReading → OneRings → (text : List ℕ) (a b : Result Molecule TextFault) → IsStructure text a → IsStructure text b → (a ≡ b) ⊎ (a ≡ Err NoMemory) ⊎ (b ≡ Err NoMemory)
+answer-one readings lists text a b p q = ways-one readings lists text a b (way-of text a p) (way-of text b q)

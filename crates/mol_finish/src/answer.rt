@@ -1,39 +1,57 @@
 //! The structure of a text, stage by stage.
-ghost use Rattle.std.specs.Prelude.{◌≡◌, ◌⊎◌, ℕ, List, Err, Result};
+ghost use Rattle.std.specs.Prelude.{◌≡◌, ◌⊎◌, ◌≤◌, ℕ, List, All, Err, Result};
 ghost use Rattle.chem_core.specs.Molecule.{Molecule};
-ghost use Rattle.mol_finish.specs.Structure.{IsStructure, IsStructureOf};
+ghost use Rattle.chem_core.specs.Sound.{IsSound};
+ghost use Rattle.mol_finish.specs.Structure.{IsAnswer, IsStructure, IsMolfileStructure, IsFinished, HasMolecule};
 ghost use Rattle.mol_finish.specs.declared.fault.TextFault.{TextFault};
+ghost use Rattle.mol_finish.specs.declared.fault.Format.{Format};
 
 use crate::fault::{Format, TextFault};
 use crate::meant::molecule;
-use aromatic::perceive;
-use chem_core::Mol;
+use aromatic::{AromFault, perceive};
+use chem_core::{Mol, Sketch};
+use molfile_read::read_molfile;
 use ring_find::rings;
-use smiles_read::{one_tree, read_smiles};
+use smiles_read::read_smiles;
 use std::alloc::Global;
 use valence::{fill_hydrogens, suppress};
 
 /// The structure of a text. Of several faults that of the first stage that fails is answered: reading, then
 /// aromaticity, by the place of the atom as written.
 ///
-/// A SMILES has at most 65,536 bytes, 999 atoms, 999 bonds, 12 neighbours of an atom, and 256 branches open at once
-/// (OpenSMILES 1.0). Hydrogens that are not written are counted; hydrogen atoms without isotope and charge become
-/// counts at their neighbours; then aromatic atoms and bonds are found by electron counts on rings, also where double
-/// bonds are written. A molfile is `NotYet`. `NoMemory` may come at any SMILES.
+/// A SMILES has at most 65,536 bytes and 256 branches open at once (OpenSMILES 1.0), a molfile 262,144 bytes (CTfile
+/// formats, version V2000), and both 999 atoms, 999 bonds and 12 neighbours of an atom. Hydrogens that are not written
+/// are counted; hydrogen atoms without isotope and charge become counts at their neighbours; then aromatic atoms and
+/// bonds are found by electron counts on rings, also where double bonds are written. `NoMemory` may come at any text.
 pub fn structure(alloc: Global, format: Format, text: &[u8]) -> Result<Mol, TextFault>
-    ensures molfile { format ≡ Format.Molfile → result ≡ Err TextFault.NotYet }
-    ensures smiles { format ≡ Format.Smiles → IsStructure text.now result }
+    ensures { IsAnswer format text.now result }
 {
     match format {
         Format::Smiles => of_smiles(alloc, text),
-        Format::Molfile => Err(TextFault::NotYet),
+        Format::Molfile => of_molfile(alloc, text),
     }
 }
 
 fn of_smiles(alloc: Global, text: &[u8]) -> Result<Mol, TextFault>
     ensures { IsStructure text.now result }
 {
-    let mut sketch = read_smiles(alloc, text)?;
+    let sketch = read_smiles(alloc, text)?;
+    Ok(of_sketch(alloc, sketch)?)
+}
+
+fn of_molfile(alloc: Global, text: &[u8]) -> Result<Mol, TextFault>
+    ensures { IsMolfileStructure text.now result }
+{
+    let sketch = read_molfile(alloc, text)?;
+    Ok(of_sketch(alloc, sketch)?)
+}
+
+// What a sketch means once its hydrogens are counted.
+fn of_sketch(alloc: Global, mut sketch: Sketch) -> Result<Mol, AromFault>
+    requires sound { IsSound sketch }
+    requires few { All (λ a. a.hydrogens ≤ 9) sketch.atoms }
+    ensures { IsFinished sketch result }
+{
     fill_hydrogens(&mut sketch);
     suppress(&mut sketch);
     let rings = rings(alloc, &sketch)?;
@@ -41,20 +59,23 @@ fn of_smiles(alloc: Global, text: &[u8]) -> Result<Mol, TextFault>
     Ok(molecule(alloc, &sketch, &found, rings)?)
 }
 
-/// A law: a text has one structure.
+/// A law: a text has one structure in a format.
 pub fn one_structure()
-    ensures { (text : List ℕ) (m n : Molecule)
-        → IsStructureOf text m → IsStructureOf text n → m ≡ n }
+    ensures { (format : Format) (text : List ℕ) (m n : Molecule)
+        → HasMolecule format text m → HasMolecule format text n → m ≡ n }
 {
-    one_tree();
+    smiles_read::one_reading();
+    molfile_read::one_reading();
     ring_find::one_answer();
 }
 
-/// A law: but for want of memory a text has one answer.
+/// A law: but for want of memory a text has one answer in a format.
 pub fn one_answer()
-    ensures { (text : List ℕ) (a b : Result Molecule TextFault) → IsStructure text a → IsStructure text b
+    ensures { (format : Format) (text : List ℕ) (a b : Result Molecule TextFault)
+        → IsAnswer format text a → IsAnswer format text b
         → (a ≡ b) ⊎ (a ≡ Err TextFault.NoMemory) ⊎ (b ≡ Err TextFault.NoMemory) }
 {
-    one_tree();
+    smiles_read::one_reading();
+    molfile_read::one_reading();
     ring_find::one_answer();
 }

@@ -2,6 +2,7 @@
 ghost use Rattle.std.specs.Prelude.{◌≡◌};
 
 use aromatic::AromFault;
+use molfile_read::MolfileFault;
 use smiles_read::SmilesFault;
 use std::alloc::AllocError;
 use thiserror::Error;
@@ -21,9 +22,9 @@ pub enum TextFault {
     /// The SMILES is refused. `NoMemory` never stands here.
     #[error("{0}")]
     Smiles(SmilesFault),
-    /// The format is not read yet.
-    #[error("not read yet")]
-    NotYet,
+    /// The molfile is refused. `NoMemory` never stands here.
+    #[error("{0}")]
+    Molfile(MolfileFault),
     /// Memory ran out in some stage.
     #[error("out of memory")]
     NoMemory,
@@ -38,6 +39,19 @@ impl From<SmilesFault> for TextFault {
         match fault {
             SmilesFault::NoMemory => TextFault::NoMemory,
             fault => TextFault::Smiles(fault),
+        }
+    }
+}
+
+impl From<MolfileFault> for TextFault {
+    ghost use Rattle.mol_finish.specs.Faults.{molfile_fault};
+
+    ghost from_gives = { λ fault e. e ≡ molfile_fault fault };
+
+    fn from(fault: MolfileFault) -> TextFault {
+        match fault {
+            MolfileFault::NoMemory => TextFault::NoMemory,
+            fault => TextFault::Molfile(fault),
         }
     }
 }

@@ -1,6 +1,7 @@
 -- The graph of a sketch: its bonds as steps from each atom to its neighbours.
 use Rattle.std.specs.Prelude.{◌≡◌, ◌≢◌, ◌<◌, ◌+◌, ◌*◌, ℕ, List, length, take, slice_index, slice_index_or, Contains, AllPairs}
 use Rattle.chem_core.specs.Graph.{Ends, JoinsAt, IsSimpleGraph, degree}
+use Rattle.chem_core.specs.declared.limits.TheConstants.{MOST_NEIGHBOURS}
 use Rattle.ring_find.specs.declared.graph.Step.{Step}
 
 pub record Network : Type 0 where
@@ -16,13 +17,13 @@ pub record AreStepsFrom (ends : Ends) (atom : ℕ) (steps : List Step) : Type 0 
 -- The first bonds, as many as bonds, that end at an atom: as many as count, in the room for the atom's steps.
 pub record IsFilled (ends : Ends) (bonds atom : ℕ) (steps : List Step) (count : ℕ) : Type 0 where
   pub number : count ≡ degree (take bonds ends) atom
-  pub joins : (k : ℕ) (d : Step) → k < count → ((slice_index_or steps (12 * atom + k) d).bond < bonds) × JoinsAt ends (slice_index_or steps (12 * atom + k) d).bond atom (slice_index_or steps (12 * atom + k) d).to
-  pub once : (j k : ℕ) (d : Step) → j < k → k < count → (slice_index_or steps (12 * atom + j) d).bond ≢ (slice_index_or steps (12 * atom + k) d).bond
-  pub each : (b y : ℕ) → b < bonds → JoinsAt ends b atom y → (k : ℕ) × (k < count) × ((d : Step) → slice_index_or steps (12 * atom + k) d ≡ record { to = y; bond = b })
+  pub joins : (k : ℕ) (d : Step) → k < count → ((slice_index_or steps (MOST_NEIGHBOURS * atom + k) d).bond < bonds) × JoinsAt ends (slice_index_or steps (MOST_NEIGHBOURS * atom + k) d).bond atom (slice_index_or steps (MOST_NEIGHBOURS * atom + k) d).to
+  pub once : (j k : ℕ) (d : Step) → j < k → k < count → (slice_index_or steps (MOST_NEIGHBOURS * atom + j) d).bond ≢ (slice_index_or steps (MOST_NEIGHBOURS * atom + k) d).bond
+  pub each : (b y : ℕ) → b < bonds → JoinsAt ends b atom y → (k : ℕ) × (k < count) × ((d : Step) → slice_index_or steps (MOST_NEIGHBOURS * atom + k) d ≡ record { to = y; bond = b })
 
 -- the same at each atom
 pub record AreFilled (ends : Ends) (bonds atoms : ℕ) (steps : List Step) (degrees : List ℕ) : Type 0 where
-  pub size : length steps ≡ 12 * atoms
+  pub size : length steps ≡ MOST_NEIGHBOURS * atoms
   pub one_each : length degrees ≡ atoms
   pub each : (a : ℕ) → a < atoms → IsFilled ends bonds a steps (slice_index degrees a)
 

@@ -11,7 +11,7 @@ ghost use Rattle.ring_find.specs.Bridges.{AreForest, AreTaken};
 use crate::graph::Graph;
 use std::alloc::{AllocError, Global};
 
-/// No atom, no bond, no number.
+/// Stands for a missing atom, bond or visit number.
 const NONE: u16 = u16::MAX;
 
 /// How a depth-first walk comes to an atom: from which atom, and by which bond.
@@ -63,7 +63,7 @@ fn drop_between(kept: &mut [bool], ends: &[(u16, u16)], labels: &[u16])
     }
 }
 
-// Whether from each label at most one bond leads to a lower one. It may say no where that is so.
+// Whether from each label at most one bond leads to a lower one. It may answer `false` even if this holds.
 fn is_forest(alloc: Global, ends: &[(u16, u16)], labels: &[u16]) -> Result<bool, AllocError>
     requires { IsSimpleGraph (length labels.now) ends.now }
     ensures { result ≡ Ok true → AreForest ends.now labels.now }
@@ -203,7 +203,7 @@ fn find_lows(graph: &Graph, order: &[u16], visits: &mut [Seen])
     }
 }
 
-// The low of an atom, where those of the atoms reached from it are found.
+// An atom's low number. Those of the atoms reached from it must be known.
 fn low_of(graph: &Graph, atom: u16, visits: &[Seen]) -> u16
     requires { length visits.now ≡ graph.now.atoms }
 {

@@ -1,15 +1,13 @@
 //! The graph of a sketch: the ends of its bonds, and for each atom the steps to its neighbours.
 ghost use Rattle.std.specs.Prelude.{◌≡◌, ◌<◌, ◌+◌, ◌*◌, length, slice_index, slice_set, IfOk};
 ghost use Rattle.chem_core.specs.Graph.{IsSimpleGraph};
+ghost use Rattle.chem_core.specs.declared.limits.TheConstants.{MOST_NEIGHBOURS};
 ghost use Rattle.chem_core.specs.Sound.{IsSound, ends_among, sketch_ends};
 ghost use Rattle.ring_find.specs.Network.{AreFilled, AreStepsFrom};
 
-use chem_core::{Sketch, SketchBond};
+use chem_core::{MOST_NEIGHBOURS, Sketch, SketchBond};
 use std::alloc::{AllocError, Global};
 use std::marker::Model;
-
-/// The most neighbours that an atom of a sketch has.
-const MOST: usize = 12;
 
 /// A step from an atom: where it goes, and by which bond.
 #[derive(Clone, Copy, Debug)]
@@ -23,7 +21,7 @@ pub struct Step {
 pub struct Graph {
     atoms: usize,
     ends: Vec<(u16, u16)>,
-    // Room for the steps from each atom, MOST for each.
+    // Room for the steps from each atom, `MOST_NEIGHBOURS` for each.
     steps: Vec<Step>,
     // For each atom how many steps there are.
     degrees: Vec<u16>,
@@ -47,7 +45,7 @@ impl Graph {
     {
         let atoms = sketch.atoms.len();
         let ends = ends_of(alloc, &sketch.bonds)?;
-        let mut steps = vec![in alloc; Step { to: 0, bond: 0 }; MOST * atoms]?;
+        let mut steps = vec![in alloc; Step { to: 0, bond: 0 }; MOST_NEIGHBOURS * atoms]?;
         let mut degrees = vec![in alloc; 0u16; atoms]?;
         fill(&mut steps, &mut degrees, &ends);
         Ok(Graph {
@@ -80,7 +78,7 @@ impl Graph {
         ensures steps { AreStepsFrom self.now.ends atom result.now }
         ensures valid { IsSimpleGraph self.now.atoms self.now.ends }
     {
-        let start = MOST * usize::from(atom);
+        let start = MOST_NEIGHBOURS * usize::from(atom);
         let degree = usize::from(self.degrees[usize::from(atom)]);
         &self.steps[start..start + degree]
     }
@@ -108,12 +106,13 @@ fn fill(steps: &mut [Step], degrees: &mut [u16], ends: &[(u16, u16)])
 // Puts one more step from an atom behind those that it has.
 fn put(steps: &mut [Step], degrees: &mut [u16], atom: u16, step: Step)
     requires atom { atom < length degrees.old }
-    requires room { slice_index degrees.old atom < 12 }
-    requires size { length steps.old ≡ 12 * length degrees.old }
-    ensures steps { steps.new ≡ slice_set steps.old (12 * atom + slice_index degrees.old atom) step }
+    requires room { slice_index degrees.old atom < MOST_NEIGHBOURS }
+    requires size { length steps.old ≡ MOST_NEIGHBOURS * length degrees.old }
+    ensures steps { steps.new
+        ≡ slice_set steps.old (MOST_NEIGHBOURS * atom + slice_index degrees.old atom) step }
     ensures degrees { degrees.new ≡ slice_set degrees.old atom (slice_index degrees.old atom + 1) }
 {
     let degree = degrees[usize::from(atom)];
-    steps[MOST * usize::from(atom) + usize::from(degree)] = step;
+    steps[MOST_NEIGHBOURS * usize::from(atom) + usize::from(degree)] = step;
     degrees[usize::from(atom)] = degree + 1;
 }

@@ -48,7 +48,7 @@ pub fn rings(alloc: Global, sketch: &Sketch) -> Result<Rings, AllocError>
     })
 }
 
-// For each length whether it is one; 0 is none.
+// For each bond, whether its ring length is not 0.
 fn nonzero(alloc: Global, lengths: &[u16]) -> Result<Vec<bool>, AllocError>
     ensures { IfOk result (λ flags. flags.items ≡ map (λ n. not (n == 0)) lengths.now) }
 {

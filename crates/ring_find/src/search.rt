@@ -1,5 +1,6 @@
 //! The smallest ring through each bond, by a breadth-first search from one of its ends to the other.
 ghost use Rattle.std.specs.Prelude.{◌≡◌, ◌≢◌, ◌≤◌, ◌<◌, ◌+◌, ℕ, length, replicate, slice_index, All, Contains, IfOk, OnOk};
+ghost use Rattle.chem_core.specs.declared.limits.TheConstants.{MOST_ATOMS};
 ghost use Rattle.ring_find.specs.BondRings.{KeepsRings, AreBondRings, IsSmallestThrough};
 ghost use Rattle.ring_find.specs.Search.{IsRingSearch};
 
@@ -62,7 +63,7 @@ fn visit(
     marks: &mut [u16],
     queue: &mut Vec<u16>,
 ) -> Result<(), AllocError>
-    requires few { graph.now.atoms ≤ 999 }
+    requires few { graph.now.atoms ≤ MOST_ATOMS }
     requires kept { length kept.now ≡ length graph.now.ends }
     requires next { next < length queue.old.items }
     requires search { IsRingSearch graph.now.ends kept.now bond graph.now.atoms marks.old queue.old.items next }
@@ -81,7 +82,7 @@ fn visit(
     Ok(())
 }
 
-// Takes the marks off the atoms of the queue, which has each atom that is marked.
+// Clears the marks. The queue holds every marked atom.
 fn unmark(marks: &mut [u16], queue: &[u16])
     requires each { (v : ℕ) → slice_index marks.old v ≢ 0 → Contains queue.now v }
     requires in_range { All (λ v. v < length marks.old) queue.now }

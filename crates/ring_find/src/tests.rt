@@ -3,9 +3,10 @@ ghost use Rattle.std.specs.Prelude.{◌≤◌, ℕ, IfOk, OnOk};
 ghost use Rattle.std.specs.Bool.{OnFalse};
 ghost use Rattle.chem_core.specs.Graph.{JoinsAt, IsSimpleGraph};
 ghost use Rattle.chem_core.specs.Sound.{IsSound, ends_among};
+ghost use Rattle.chem_core.specs.declared.limits.TheConstants.{MOST_ATOMS};
 
 use crate::rings;
-use chem_core::{Fill, Sketch, SketchAtom, SketchBond, SketchKind};
+use chem_core::{Fill, MOST_ATOMS, MOST_NEIGHBOURS, Sketch, SketchAtom, SketchBond, SketchKind};
 use std::alloc::{AllocError, Global};
 
 const CARBON: SketchAtom = SketchAtom {
@@ -149,7 +150,7 @@ const EXAMPLES: &[Example] = &[
 
 // A sketch of carbons with these bonds, which leaves out a bond that a simple graph cannot have.
 fn sketch_of(alloc: Global, atoms: usize, bonds: &[(u16, u16)]) -> Result<Sketch, AllocError>
-    requires { atoms ≤ 999 }
+    requires { atoms ≤ MOST_ATOMS }
     ensures { IfOk result (λ sketch. IsSound sketch) }
 {
     let mut put = Vec::new(alloc);
@@ -169,7 +170,7 @@ fn add(bonds: &mut Vec<SketchBond>, atoms: usize, a: u16, b: u16) -> Result<(), 
     if usize::from(a) >= atoms
         || usize::from(b) >= atoms
         || a == b
-        || bonds.len() >= 12
+        || bonds.len() >= MOST_NEIGHBOURS
         || is_joined(bonds, a, b)
     {
         return Ok(());
@@ -197,7 +198,7 @@ fn is_joined(bonds: &[SketchBond], a: u16, b: u16) -> bool
 fn examples(rt: HostRuntime) -> Result<(), AllocError> {
     for example in EXAMPLES {
         let atoms = example.small.len();
-        assert!(&rt; atoms < 999);
+        assert!(&rt; atoms <= MOST_ATOMS);
         let sketch = sketch_of(rt.alloc(), atoms, example.bonds)?;
         let found = rings(rt.alloc(), &sketch)?;
         let mut in_ring = String::new(rt.alloc());

@@ -4,25 +4,26 @@ use Rattle.std.proofs.lemmas.Bool.{cases_eq, cases_lt}
 use Rattle.std.proofs.lemmas.List.{take_more, take_all, get_or-set_same, get_or-set_other, length-set, get_or_read}
 use Rattle.std.proofs.lemmas.List.Sums.{sum_by-append}
 use Rattle.std.specs.List.{AllByRecursion}
-use Rattle.chem_core.specs.declared.sketch.SketchBond.{SketchBond}
+use Rattle.chem_core.specs.declared.sketch.SketchKind.{SketchKind}
 use Rattle.chem_core.specs.Graph.{degree}
-use Rattle.smiles_read.specs.State.{bond_ends}
-use Rattle.smiles_read.proofs.Pairing.{differ, agree}
+use Rattle.line_walk.specs.declared.pairs.Link.{Link}
+use Rattle.smiles_read.specs.Small.{link_ends}
+use Rattle.smiles_read.specs.Owed.Bytes.{differ, agree}
 
-abbrev deg : List SketchBond → ℕ → ℕ
-deg xs a = degree (bond_ends xs) a
+abbrev deg : List (Link SketchKind) → ℕ → ℕ
+deg xs a = degree (link_ends xs) a
 
 abbrev hit : ℕ → ℕ → ℕ → ℕ
 hit p q a = cond ((p == a) || (q == a)) 1 0
 
-deg_cons : (x : SketchBond) (xs : List SketchBond) (a : ℕ) → deg (x ∷ xs) a ≡ hit x.a x.b a + deg xs a
+deg_cons : (x : Link SketchKind) (xs : List (Link SketchKind)) (a : ℕ) → deg (x ∷ xs) a ≡ hit x.a x.b a + deg xs a
 deg_cons x xs a =
-    sum_by-append (λ e. cond ((e.0 == a) || (e.1 == a)) 1 0) ((x.a, x.b) ∷ []) (bond_ends xs) ∙ ap (λ n. n + deg xs a) (let e : 0 + hit x.a x.b a ≡ hit x.a x.b a = omega arith in e)
+    sum_by-append (λ e. cond ((e.0 == a) || (e.1 == a)) 1 0) ((x.a, x.b) ∷ []) (link_ends xs) ∙ ap (λ n. n + deg xs a) (let e : 0 + hit x.a x.b a ≡ hit x.a x.b a = omega arith in e)
 
 deg_nil : (a : ℕ) → deg [] a ≡ 0
 deg_nil a = refl
 
-deg_push : (xs : List SketchBond) (z : SketchBond) (a : ℕ) → deg (xs ++ z ∷ []) a ≡ deg xs a + hit z.a z.b a
+deg_push : (xs : List (Link SketchKind)) (z : Link SketchKind) (a : ℕ) → deg (xs ++ z ∷ []) a ≡ deg xs a + hit z.a z.b a
 deg_push [] z a = deg_cons z [] a ∙ ap (λ n. hit z.a z.b a + n) (deg_nil a) ∙ (let e : hit z.a z.b a + 0 ≡ 0 + hit z.a z.b a = omega arith in e) ∙ ap (λ n. n + hit z.a z.b a) (sym (deg_nil a))
 deg_push (x ∷ xs) z a =
     let e = deg_push xs z a in
@@ -30,10 +31,10 @@ deg_push (x ∷ xs) z a =
     let r = deg_cons x xs a in
     omega (arith, e, l, r)
 
-deg_more : (bonds : List SketchBond) (i a : ℕ) (d : SketchBond) → i < length bonds → deg (take (i + 1) bonds) a ≡ deg (take i bonds) a + hit (get_or bonds i d).a (get_or bonds i d).b a
+deg_more : (bonds : List (Link SketchKind)) (i a : ℕ) (d : Link SketchKind) → i < length bonds → deg (take (i + 1) bonds) a ≡ deg (take i bonds) a + hit (get_or bonds i d).a (get_or bonds i d).b a
 deg_more bonds i a d lt = ap (λ w. deg w a) (take_more bonds i d lt) ∙ deg_push (take i bonds) (get_or bonds i d) a
 
-pub deg_take : (k : ℕ) (xs : List SketchBond) (a : ℕ) → deg (take k xs) a ≤ deg xs a
+pub deg_take : (k : ℕ) (xs : List (Link SketchKind)) (a : ℕ) → deg (take k xs) a ≤ deg xs a
 deg_take zero xs a = let e = deg_nil a in omega (arith, e)
 deg_take (suc k) [] a = let e = deg_nil a in omega (arith, e)
 deg_take (suc k) (x ∷ xs) a =
@@ -96,13 +97,13 @@ few_step cs p q u v a fp fq fa =
       ]
     ]
 
-ends_at : (n : ℕ) (xs : List SketchBond) (i : ℕ) (d : SketchBond) → AllByRecursion (λ x. (x.a < x.b) × (x.b < n)) xs → i < length xs → ((get_or xs i d).a < (get_or xs i d).b) × ((get_or xs i d).b < n)
+ends_at : (n : ℕ) (xs : List (Link SketchKind)) (i : ℕ) (d : Link SketchKind) → AllByRecursion (λ x. (x.a < x.b) × (x.b < n)) xs → i < length xs → ((get_or xs i d).a < (get_or xs i d).b) × ((get_or xs i d).b < n)
 ends_at n [] i d h lt = absurd (omega arith)
 ends_at n (x ∷ xs) zero d h lt = h.0
 ends_at n (x ∷ xs) (suc i) d h lt = ends_at n xs i d h.1 (omega arith)
 
 -- the counts of the bonds so far, and one bond more
-pub counted_more : (n : ℕ) (bonds : List SketchBond) (cs : List ℕ) (i : ℕ) (d : SketchBond) (p q x y : ℕ) → AllByRecursion (λ z. (z.a < z.b) × (z.b < n)) bonds → i < length bonds
+pub counted_more : (n : ℕ) (bonds : List (Link SketchKind)) (cs : List ℕ) (i : ℕ) (d : Link SketchKind) (p q x y : ℕ) → AllByRecursion (λ z. (z.a < z.b) × (z.b < n)) bonds → i < length bonds
     → length cs ≡ n → ((a : ℕ) → a < n → get_or cs a 0 ≡ deg (take i bonds) a) → p ≡ (get_or bonds i d).a → q ≡ (get_or bonds i d).b
     → x ≡ get_or cs p x → y ≡ get_or (set cs p (x + 1)) q y
     → (a : ℕ) → a < n → get_or (set (set cs p (x + 1)) q (y + 1)) a 0 ≡ deg (take (i + 1) bonds) a
@@ -148,7 +149,7 @@ few_more cs n p q u v w z l lp lq ew fw ez fz h a la =
     few_step cs p q u v a (omega arith) (omega arith) (h a la)
 
 -- an atom that is counted too often
-pub too_many : (n : ℕ) (bonds : List SketchBond) (cs : List ℕ) (k r w : ℕ) → length cs ≡ n → ((a : ℕ) → a < n → get_or cs a 0 ≡ deg (take k bonds) a) → r < n → w ≡ get_or cs r w → 12 < w
+pub too_many : (n : ℕ) (bonds : List (Link SketchKind)) (cs : List ℕ) (k r w : ℕ) → length cs ≡ n → ((a : ℕ) → a < n → get_or cs a 0 ≡ deg (take k bonds) a) → r < n → w ≡ get_or cs r w → 12 < w
     → ((a : ℕ) → deg bonds a ≤ 12) → ⊥
 too_many n bonds cs k r w l h lr ew gt all =
     let g = get_or_read cs r w (omega arith) ew 0 in
@@ -157,7 +158,7 @@ too_many n bonds cs k r w l h lr ew gt all =
     let f = all r in
     omega (arith, g, e, t, f)
 
-pub ends_within : (n : ℕ) (bonds : List SketchBond) (i : ℕ) (d : SketchBond) (p q : ℕ) → AllByRecursion (λ z. (z.a < z.b) × (z.b < n)) bonds → i < length bonds → p ≡ (get_or bonds i d).a → q ≡ (get_or bonds i d).b
+pub ends_within : (n : ℕ) (bonds : List (Link SketchKind)) (i : ℕ) (d : Link SketchKind) (p q : ℕ) → AllByRecursion (λ z. (z.a < z.b) × (z.b < n)) bonds → i < length bonds → p ≡ (get_or bonds i d).a → q ≡ (get_or bonds i d).b
     → (p < n) × (q < n)
 ends_within n bonds i d p q ends lt ep eq =
     let e = ends_at n bonds i d ends lt in
@@ -165,7 +166,7 @@ ends_within n bonds i d p q ends lt ep eq =
     let e1 = e.1 in
     (omega arith, omega arith)
 
-pub no_degree : (n a : ℕ) (xs : List SketchBond) → AllByRecursion (λ x. (x.a < x.b) × (x.b < n)) xs → n ≤ a → deg xs a ≡ 0
+pub no_degree : (n a : ℕ) (xs : List (Link SketchKind)) → AllByRecursion (λ x. (x.a < x.b) × (x.b < n)) xs → n ≤ a → deg xs a ≡ 0
 no_degree n a [] h le = deg_nil a
 no_degree n a (x ∷ xs) h le =
     let e0 = h.0.0 in
@@ -176,7 +177,7 @@ no_degree n a (x ∷ xs) h le =
     omega (arith, l, m, r)
 
 -- all bonds are counted
-pub few_all : (n : ℕ) (bonds : List SketchBond) (cs : List ℕ) (i : ℕ) → AllByRecursion (λ x. (x.a < x.b) × (x.b < n)) bonds → length bonds ≤ i
+pub few_all : (n : ℕ) (bonds : List (Link SketchKind)) (cs : List ℕ) (i : ℕ) → AllByRecursion (λ x. (x.a < x.b) × (x.b < n)) bonds → length bonds ≤ i
     → ((a : ℕ) → a < n → get_or cs a 0 ≡ deg (take i bonds) a) → ((a : ℕ) → a < n → get_or cs a 0 ≤ 12) → (a : ℕ) → deg bonds a ≤ 12
 few_all n bonds cs i ends le h few a =
     elim (cases_lt a n) [

@@ -1,14 +1,7 @@
 pub mod Answer
 pub mod AtomSound
-pub mod Follow
-pub mod Pairing
-pub mod Pieces
 pub mod Counts
+pub mod Enumerated
+pub mod Exclusion
 pub mod Fronts
-pub mod Digits
-pub mod Reading
 pub mod Results
-pub mod Shape
-pub mod Symbols
-pub mod Tokens
-pub mod Unique

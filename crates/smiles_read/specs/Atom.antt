@@ -1,8 +1,10 @@
--- An atom as it is written (OpenSMILES 1.0, section 3.1). A text is an atom exactly where some AtomText that is one is spelled so.
+-- An atom as it is written (OpenSMILES 1.0, section 3.1), and what it is read as. A text is an atom exactly where some
+-- AtomText that is one is spelled so. For callers.
 use Rattle.std.specs.Prelude.{◌≢◌, ℕ, ◌+◌, ◌*◌, ◌-◌, ◌≤◌, Bool, true, false, List, [], ◌∷◌, ◌++◌, length, replicate, fold, slice_index_or, ℤ, pos, neg_ℤ, Option, None, Some, codes}
 use Rattle.std.specs.List.{AllByRecursion}
 use Rattle.std.specs.Fmt.{decimal}
 use Rattle.chem_core.specs.declared.sketch.SketchAtom.{SketchAtom}
+use Rattle.chem_core.specs.declared.sketch.Fill.{Fill}
 use Rattle.chem_core.specs.declared.sketch.Fill.TheVariants as fills
 use Rattle.chem_core.specs.Element.{symbols}
 use Rattle.chem_core.specs.Organic.{Organic, symbol_bytes, atomic_number}
@@ -167,7 +169,8 @@ charge_value (amount sign digits) = signed sign (value_of digits)
 abbrev pub IsCharge : Charge → Type 0
 IsCharge neutral = Unit {0}
 IsCharge (run sign count) = (1 ≤ count) × (count ≤ 15)
-IsCharge (amount sign digits) = (1 ≤ length digits) × (length digits ≤ 2) × AllByRecursion IsDigit digits × (value_of digits ≤ 15)
+IsCharge (amount sign digits) =
+    (1 ≤ length digits) × (length digits ≤ 2) × AllByRecursion IsDigit digits × (value_of digits ≤ 15)
 
 -- what stands in brackets
 pub record Bracket : Type 0 where
@@ -189,7 +192,8 @@ IsClass (Some digits) = (1 ≤ length digits) × AllByRecursion IsDigit digits
 
 abbrev pub bracket_text : Bracket → List ℕ
 bracket_text x =
-    91 ∷ (x.isotope ++ (symbol_text x.symbol ++ (chiral_text x.chiral ++ (hydrogens_text x.hydrogens ++ (charge_text x.charge ++ (class_text x.class ++ 93 ∷ []))))))
+    91 ∷ (x.isotope ++ (symbol_text x.symbol ++ (chiral_text x.chiral
+    ++ (hydrogens_text x.hydrogens ++ (charge_text x.charge ++ (class_text x.class ++ 93 ∷ []))))))
 
 -- an isotope has at most three digits
 pub record IsBracket (x : Bracket) : Type 0 where
@@ -200,6 +204,18 @@ pub record IsBracket (x : Bracket) : Type 0 where
   pub hydrogens : AreHydrogens x.symbol x.hydrogens
   pub charge : IsCharge x.charge
   pub class : IsClass x.class
+
+-- the atom in brackets; its place comes with the sketch
+abbrev pub bracket_atom : Bracket → SketchAtom
+bracket_atom x = record {
+  number = symbol_number x.symbol;
+  isotope = value_of x.isotope;
+  charge = charge_value x.charge;
+  lower = is_lower x.symbol;
+  fill = fills.Given;
+  hydrogens = hydrogen_count x.hydrogens;
+  written = 0;
+}
 
 pub data AtomText : Type 0 where
   star : AtomText
@@ -219,17 +235,14 @@ IsAtomText (organic x) = Unit {0}
 IsAtomText (aromatic x) = IsOrganicLower x
 IsAtomText (bracket x) = IsBracket x
 
--- the atom that is written as the i-th
-abbrev pub atom_of : ℕ → AtomText → SketchAtom
-atom_of i star = record { number = 0; isotope = 0; charge = pos 0; lower = false; fill = fills.Given; hydrogens = 0; written = i }
-atom_of i (organic x) = record { number = atomic_number x; isotope = 0; charge = pos 0; lower = false; fill = fills.Organic; hydrogens = 0; written = i }
-atom_of i (aromatic x) = record { number = lower_number x; isotope = 0; charge = pos 0; lower = true; fill = fills.Organic; hydrogens = 0; written = i }
-atom_of i (bracket x) = record {
-  number = symbol_number x.symbol;
-  isotope = value_of x.isotope;
-  charge = charge_value x.charge;
-  lower = is_lower x.symbol;
-  fill = fills.Given;
-  hydrogens = hydrogen_count x.hydrogens;
-  written = i;
-}
+-- an atom without brackets
+abbrev pub bare_atom : ℕ → Bool → Fill → SketchAtom
+bare_atom number small fill =
+    record { number = number; isotope = 0; charge = pos 0; lower = small; fill = fill; hydrogens = 0; written = 0 }
+
+-- what an atom is read as; its place comes with the sketch
+abbrev pub atom_of : AtomText → SketchAtom
+atom_of star = bare_atom 0 false fills.Given
+atom_of (organic x) = bare_atom (atomic_number x) false fills.Organic
+atom_of (aromatic x) = bare_atom (lower_number x) true fills.Organic
+atom_of (bracket x) = bracket_atom x

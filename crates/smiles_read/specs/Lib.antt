@@ -1,6 +1,9 @@
 pub mod Atom
 pub mod Follow
-pub mod Tree
+pub mod Words
 pub mod Sketch
-pub mod State
+pub mod Faults
 pub mod Reading
+pub mod Small
+pub mod Parts
+pub mod Owed

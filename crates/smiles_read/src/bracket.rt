@@ -1,50 +1,80 @@
 //! What stands in brackets (OpenSMILES 1.0, section 3.1).
 
-ghost use Rattle.std.specs.Prelude.{◌≡◌, ◌≢◌, ℕ, ◌+◌, ◌<◌, ◌≤◌, List, [], ◌∷◌, ◌++◌, length, replicate, Option, IfSome, MatchOption, IsSomeAnd};
-ghost use Rattle.std.specs.List.{AllByRecursion};
+ghost use Rattle.std.specs.Prelude.{◌≡◌, ◌≢◌, ℕ, ◌<◌, ◌≤◌, List, ◌∷◌, ◌++◌, replicate, IfSome, Some, MatchOption, option_map};
 ghost use Rattle.std.specs.Fmt.{decimal};
-ghost use Rattle.smiles_read.specs.Atom.{ChiralClass, class_bytes, most_of, Chiral, chiral_text, IsChiral, Hydrogens, hydrogens_text, hydrogen_count, Sign, sign_byte, signed, Charge, charge_text, charge_value, IsCharge, class_text, IsClass, IsDigit, value_of, Symbol, symbol_text, IsSymbol, symbol_number, is_lower, Bracket, bracket_text, IsBracket, bracket, atom_of};
+ghost use Rattle.line_walk.specs.Follow.{Reads, Anything};
+ghost use Rattle.smiles_read.specs.Atom.{ChiralClass, class_bytes, most_of, chiral_text, IsChiral, hydrogens_text, Sign, sign_byte, signed, charge_text, charge_value, IsCharge, class_text, IsClass, bracket_text, IsBracket, bracket_atom};
+ghost use Rattle.smiles_read.specs.Parts.{dropped, IsUpTo, written_hydrogens, AreFew, front_text, IsFront, front_of, end_text, IsEnd, end_of};
 ghost use Rattle.smiles_read.specs.Follow.{NoDigitFirst, AfterChiral, AfterHydrogens, AfterCharge, AfterClass};
-ghost use Rattle.smiles_read.specs.State.{written_hydrogens};
 
 use crate::digit::{digits_at, short_number, value};
 use crate::symbol::symbol_at;
 use chem_core::{Fill, SketchAtom};
 
-/// The greatest number of the class of chirality that the bytes begin with, and the bytes after the class.
-fn chiral_class_at(bytes: &[u8]) -> Option<(u8, &[u8])>
-    ensures { MatchOption result ((kind : ChiralClass) (rest : List ℕ) → bytes.now ≢ class_bytes kind ++ rest)
-        (λ r. (kind : ChiralClass) × (bytes.now ≡ class_bytes kind ++ r.1.now) × (r.0 ≡ most_of kind)) }
-{
-    match bytes {
-        [b'T', b'H', rest @ ..] | [b'A', b'L', rest @ ..] => Some((2, rest)),
-        [b'S', b'P', rest @ ..] => Some((3, rest)),
-        [b'T', b'B', rest @ ..] => Some((20, rest)),
-        [b'O', b'H', rest @ ..] => Some((30, rest)),
-        _ => None,
-    }
+// What stands in front in a bracket.
+#[derive(Clone, Copy)]
+struct Front {
+    // 0 where none is written.
+    isotope: u16,
+    number: u8,
+    // Whether the symbol is written in lower case.
+    lower: bool,
 }
 
-/// The bytes after the number that they begin with, where that is 1 to `most`, with no 0 in front.
-fn after_number(bytes: &[u8], most: u8) -> Option<&[u8]>
-    requires { most ≤ 99 }
-    ensures found { IfSome result (λ rest. (n : ℕ) × (1 ≤ n) × (n ≤ most) × (bytes.now ≡ decimal n ++ rest.now)) }
-    ensures only { (n : ℕ) (rest : List ℕ) → 1 ≤ n → n ≤ most → NoDigitFirst rest → bytes.now ≡ decimal n ++ rest
-        → IsSomeAnd result (λ r. r.now ≡ rest) }
+// What stands at the end of a bracket.
+#[derive(Clone, Copy)]
+struct End {
+    // Where a count is written.
+    hydrogens: Option<u8>,
+    charge: i8,
+}
+
+/// The atom whose bracket, after `[`, the bytes begin with, and the bytes after it.
+pub fn bracket_at(bytes: &[u8]) -> Option<(SketchAtom, &[u8])>
+    ensures { Reads bracket_text IsBracket bracket_atom Anything (91 ∷ bytes.now)
+        (option_map (λ r. (r.0, r.1.now)) result) }
 {
-    let (digits, rest) = digits_at(bytes);
-    let number = short_number(digits);
-    if number == 0 || number > most {
+    let (front, rest) = front_at(bytes)?;
+    let (end, rest) = end_at(rest)?;
+    if front.number == 1 && end.hydrogens.is_some() {
         return None;
     }
-    Some(rest)
+    let atom = SketchAtom {
+        number: front.number,
+        isotope: front.isotope,
+        charge: end.charge,
+        lower: front.lower,
+        fill: Fill::Given,
+        hydrogens: end.hydrogens.unwrap_or(0),
+        written: 0,
+    };
+    Some((atom, rest))
 }
 
-/// The bytes after the chirality mark that the bytes begin with, if they begin with one; none where its number is out of range.
+// The front of a bracket after `[`: isotope, symbol and chirality mark. Then the bytes after it.
+fn front_at(bytes: &[u8]) -> Option<(Front, &[u8])>
+    ensures { Reads front_text IsFront front_of AfterChiral bytes.now
+        (option_map (λ r. (r.0, r.1.now)) result) }
+{
+    let (digits, rest) = digits_at(bytes);
+    if digits.len() > 3 {
+        return None;
+    }
+    let ((number, lower), rest) = symbol_at(rest)?;
+    let rest = after_chiral(rest)?;
+    let front = Front {
+        isotope: value(digits),
+        number,
+        lower,
+    };
+    Some((front, rest))
+}
+
+// The bytes after the chirality mark that the bytes begin with, if they begin with one. Returns nothing where its number
+// is out of range.
 fn after_chiral(bytes: &[u8]) -> Option<&[u8]>
-    ensures found { IfSome result (λ rest. (x : Chiral) × IsChiral x × (bytes.now ≡ chiral_text x ++ rest.now)) }
-    ensures only { (x : Chiral) (rest : List ℕ) → IsChiral x → AfterChiral rest → bytes.now ≡ chiral_text x ++ rest
-        → IsSomeAnd result (λ r. r.now ≡ rest) }
+    ensures { Reads chiral_text IsChiral dropped AfterChiral bytes.now
+        (option_map (λ r. (tt, r.now)) result) }
 {
     let [b'@', rest @ ..] = bytes else {
         return Some(bytes);
@@ -58,11 +88,51 @@ fn after_chiral(bytes: &[u8]) -> Option<&[u8]>
     }
 }
 
-/// The count of hydrogens that the bytes begin with, if they begin with one, and the bytes after it.
+// The greatest number of the class of chirality that the bytes begin with, and the bytes after the class.
+fn chiral_class_at(bytes: &[u8]) -> Option<(u8, &[u8])>
+    ensures { MatchOption result ((kind : ChiralClass) (rest : List ℕ) → bytes.now ≢ class_bytes kind ++ rest)
+        (λ r. (kind : ChiralClass) × (bytes.now ≡ class_bytes kind ++ r.1.now) × (r.0 ≡ most_of kind)) }
+{
+    match bytes {
+        [b'T', b'H', rest @ ..] | [b'A', b'L', rest @ ..] => Some((2, rest)),
+        [b'S', b'P', rest @ ..] => Some((3, rest)),
+        [b'T', b'B', rest @ ..] => Some((20, rest)),
+        [b'O', b'H', rest @ ..] => Some((30, rest)),
+        _ => None,
+    }
+}
+
+// The bytes after the number that they begin with, where that is 1 to `most`, with no 0 in front.
+fn after_number(bytes: &[u8], most: u8) -> Option<&[u8]>
+    requires { most ≤ 99 }
+    ensures { Reads decimal (IsUpTo most) dropped NoDigitFirst bytes.now
+        (option_map (λ r. (tt, r.now)) result) }
+{
+    let (digits, rest) = digits_at(bytes);
+    let number = short_number(digits);
+    if number == 0 || number > most {
+        return None;
+    }
+    Some(rest)
+}
+
+// The end of a bracket, with `]`, and the bytes after it.
+fn end_at(bytes: &[u8]) -> Option<(End, &[u8])>
+    ensures { Reads end_text IsEnd end_of Anything bytes.now
+        (option_map (λ r. (r.0, r.1.now)) result) }
+{
+    let (hydrogens, rest) = hydrogens_at(bytes);
+    let (charge, rest) = charge_at(rest)?;
+    let [b']', rest @ ..] = after_class(rest)? else {
+        return None;
+    };
+    Some((End { hydrogens, charge }, rest))
+}
+
+// The count of hydrogens that the bytes begin with, if they begin with one, and the bytes after it.
 fn hydrogens_at(bytes: &[u8]) -> (Option<u8>, &[u8])
-    ensures found { (x : Hydrogens) × (bytes.now ≡ hydrogens_text x ++ result.1.now) × (result.0 ≡ written_hydrogens x) × (hydrogen_count x ≤ 9) }
-    ensures only { (x : Hydrogens) (rest : List ℕ) → hydrogen_count x ≤ 9 → AfterHydrogens rest → bytes.now ≡ hydrogens_text x ++ rest
-        → (result.1.now ≡ rest) × (result.0 ≡ written_hydrogens x) }
+    ensures { Reads hydrogens_text AreFew written_hydrogens AfterHydrogens bytes.now
+        (Some (result.0, result.1.now)) }
 {
     match bytes {
         [b'H', count, rest @ ..] if *count >= b'0' && *count <= b'9' => {
@@ -73,31 +143,31 @@ fn hydrogens_at(bytes: &[u8]) -> (Option<u8>, &[u8])
     }
 }
 
-/// How many of the bytes at the front are the sign, at most 15, and the bytes after these.
-fn run_at(bytes: &[u8], sign: u8) -> (u8, &[u8])
-    ensures found { bytes.now ≡ replicate result.0 sign ++ result.1.now }
-    ensures few { result.0 ≤ 15 }
-    ensures all { result.0 < 15 → (rest : List ℕ) → result.1.now ≢ sign ∷ rest }
+// The charge that the bytes begin with, 0 if they begin with none, and the bytes after it. Returns nothing where it is
+// out of range.
+fn charge_at(bytes: &[u8]) -> Option<(i8, &[u8])>
+    ensures { Reads charge_text IsCharge charge_value AfterCharge bytes.now
+        (option_map (λ r. (r.0, r.1.now)) result) }
 {
-    let mut count = 0;
-    let mut rest = bytes;
-    while count < 15
-        && let [first, after @ ..] = rest
-        && *first == sign
-    {
-        count += 1;
-        rest = after;
+    match bytes {
+        [b'+', rest @ ..] => {
+            let (amount, rest) = amount_at(rest, b'+')?;
+            Some((amount as i8, rest))
+        }
+        [b'-', rest @ ..] => {
+            let (amount, rest) = amount_at(rest, b'-')?;
+            Some((-(amount as i8), rest))
+        }
+        _ => Some((0, bytes)),
     }
-    (count, rest)
 }
 
-/// The amount of a charge whose first sign stands before the bytes: digits, or more of that sign. Then the bytes after it.
+// The amount of a charge whose first sign stands before the bytes: digits, or more of that sign. Then the bytes after
+// it.
 fn amount_at(bytes: &[u8], sign: u8) -> Option<(u8, &[u8])>
-    ensures found { IfSome result (λ r. (s : Sign) → sign_byte s ≡ sign → (x : Charge) × IsCharge x
-        × (sign ∷ bytes.now ≡ charge_text x ++ r.1.now) × (signed s r.0 ≡ charge_value x)) }
+    ensures reads { (s : Sign) → sign_byte s ≡ sign → Reads charge_text IsCharge charge_value AfterCharge
+        (sign ∷ bytes.now) (option_map (λ r. (signed s r.0, r.1.now)) result) }
     ensures few { IfSome result (λ r. r.0 ≤ 15) }
-    ensures only { (s : Sign) (x : Charge) (rest : List ℕ) → sign_byte s ≡ sign → IsCharge x → AfterCharge rest
-        → sign ∷ bytes.now ≡ charge_text x ++ rest → IsSomeAnd result (λ r. (r.1.now ≡ rest) × (signed s r.0 ≡ charge_value x)) }
 {
     let (digits, rest) = digits_at(bytes);
     if digits.is_empty() {
@@ -117,30 +187,28 @@ fn amount_at(bytes: &[u8], sign: u8) -> Option<(u8, &[u8])>
     Some((amount as u8, rest))
 }
 
-/// The charge that the bytes begin with, 0 where they begin with none, and the bytes after it; none where it is out of range.
-fn charge_at(bytes: &[u8]) -> Option<(i8, &[u8])>
-    ensures found { IfSome result (λ r. (x : Charge) × IsCharge x × (bytes.now ≡ charge_text x ++ r.1.now) × (r.0 ≡ charge_value x)) }
-    ensures only { (x : Charge) (rest : List ℕ) → IsCharge x → AfterCharge rest → bytes.now ≡ charge_text x ++ rest
-        → IsSomeAnd result (λ r. (r.1.now ≡ rest) × (r.0 ≡ charge_value x)) }
+// The length of the run of `sign` at the front, at most 15, and the bytes after it.
+fn run_at(bytes: &[u8], sign: u8) -> (u8, &[u8])
+    ensures found { bytes.now ≡ replicate result.0 sign ++ result.1.now }
+    ensures few { result.0 ≤ 15 }
+    ensures all { result.0 < 15 → (rest : List ℕ) → result.1.now ≢ sign ∷ rest }
 {
-    match bytes {
-        [b'+', rest @ ..] => {
-            let (amount, rest) = amount_at(rest, b'+')?;
-            Some((amount as i8, rest))
-        }
-        [b'-', rest @ ..] => {
-            let (amount, rest) = amount_at(rest, b'-')?;
-            Some((-(amount as i8), rest))
-        }
-        _ => Some((0, bytes)),
+    let mut count = 0;
+    let mut rest = bytes;
+    while count < 15
+        && let [first, after @ ..] = rest
+        && *first == sign
+    {
+        count += 1;
+        rest = after;
     }
+    (count, rest)
 }
 
-/// The bytes after the class that the bytes begin with, if they begin with one; none where it has no digit.
+// The bytes after the class that the bytes begin with, if they begin with one. Returns nothing where it has no digit.
 fn after_class(bytes: &[u8]) -> Option<&[u8]>
-    ensures found { IfSome result (λ rest. (x : Option (List ℕ)) × IsClass x × (bytes.now ≡ class_text x ++ rest.now)) }
-    ensures only { (x : Option (List ℕ)) (rest : List ℕ) → IsClass x → AfterClass rest → bytes.now ≡ class_text x ++ rest
-        → IsSomeAnd result (λ r. r.now ≡ rest) }
+    ensures { Reads class_text IsClass dropped AfterClass bytes.now
+        (option_map (λ r. (tt, r.now)) result) }
 {
     let [b':', rest @ ..] = bytes else {
         return Some(bytes);
@@ -150,61 +218,4 @@ fn after_class(bytes: &[u8]) -> Option<&[u8]>
         return None;
     }
     Some(rest)
-}
-
-/// The end of a bracket: the count of hydrogens, where one is written, the charge, and the bytes after the bracket.
-fn end_at(bytes: &[u8]) -> Option<(Option<u8>, i8, &[u8])>
-    ensures found { IfSome result (λ r. (h : Hydrogens) × (x : Charge) × (k : Option (List ℕ)) × (hydrogen_count h ≤ 9) × IsCharge x × IsClass k
-        × (bytes.now ≡ hydrogens_text h ++ (charge_text x ++ (class_text k ++ 93 ∷ r.2.now))) × (r.0 ≡ written_hydrogens h) × (r.1 ≡ charge_value x)) }
-    ensures only { (h : Hydrogens) (x : Charge) (k : Option (List ℕ)) (rest : List ℕ) → hydrogen_count h ≤ 9 → IsCharge x → IsClass k
-        → bytes.now ≡ hydrogens_text h ++ (charge_text x ++ (class_text k ++ 93 ∷ rest))
-        → IsSomeAnd result (λ r. (r.2.now ≡ rest) × (r.0 ≡ written_hydrogens h) × (r.1 ≡ charge_value x)) }
-{
-    let (hydrogens, rest) = hydrogens_at(bytes);
-    let (charge, rest) = charge_at(rest)?;
-    let [b']', rest @ ..] = after_class(rest)? else {
-        return None;
-    };
-    Some((hydrogens, charge, rest))
-}
-
-/// The front of a bracket after `[`: the isotope, the number of the symbol, and whether that is in lower case. Then the bytes after the chirality mark.
-fn front_at(bytes: &[u8]) -> Option<(u16, u8, bool, &[u8])>
-    ensures found { IfSome result (λ r. (ds : List ℕ) × (s : Symbol) × (m : Chiral) × (length ds ≤ 3) × AllByRecursion IsDigit ds × IsSymbol s × IsChiral m
-        × (bytes.now ≡ ds ++ (symbol_text s ++ (chiral_text m ++ r.3.now))) × (r.0 ≡ value_of ds) × (r.1 ≡ symbol_number s) × (r.2 ≡ is_lower s)) }
-    ensures isotope { IfSome result (λ r. r.0 ≤ 999) }
-    ensures only { (ds : List ℕ) (s : Symbol) (m : Chiral) (rest : List ℕ) → length ds ≤ 3 → AllByRecursion IsDigit ds → IsSymbol s → IsChiral m → AfterChiral rest
-        → bytes.now ≡ ds ++ (symbol_text s ++ (chiral_text m ++ rest))
-        → IsSomeAnd result (λ r. (r.3.now ≡ rest) × (r.0 ≡ value_of ds) × (r.1 ≡ symbol_number s) × (r.2 ≡ is_lower s)) }
-{
-    let (digits, rest) = digits_at(bytes);
-    if digits.len() > 3 {
-        return None;
-    }
-    let (number, lower, rest) = symbol_at(rest)?;
-    let rest = after_chiral(rest)?;
-    Some((value(digits), number, lower, rest))
-}
-
-/// The atom whose bracket, after `[`, the bytes begin with, and the bytes after it.
-pub fn bracket_at(bytes: &[u8], written: u16) -> Option<(SketchAtom, &[u8])>
-    ensures found { IfSome result (λ r. (x : Bracket) × IsBracket x × (91 ∷ bytes.now ≡ bracket_text x ++ r.1.now) × (r.0 ≡ atom_of written (bracket x))) }
-    ensures only { (x : Bracket) (rest : List ℕ) → IsBracket x → 91 ∷ bytes.now ≡ bracket_text x ++ rest
-        → IsSomeAnd result (λ r. (r.1.now ≡ rest) × (r.0 ≡ atom_of written (bracket x))) }
-{
-    let (isotope, number, lower, rest) = front_at(bytes)?;
-    let (hydrogens, charge, rest) = end_at(rest)?;
-    if number == 1 && hydrogens.is_some() {
-        return None;
-    }
-    let atom = SketchAtom {
-        number,
-        isotope,
-        charge,
-        lower,
-        fill: Fill::Given,
-        hydrogens: hydrogens.unwrap_or(0),
-        written,
-    };
-    Some((atom, rest))
 }

@@ -44,7 +44,7 @@ pub fn value(digits: &[u8]) -> u16
     }
 }
 
-/// The number of one or two digits with no 0 in front; 0 for other digits.
+/// The number that the digits spell, if it is 1 to 99 and begins with no 0; 0 for other digits.
 pub fn short_number(digits: &[u8]) -> u8
     requires { AllByRecursion IsDigit digits.now }
     ensures few { result ≤ 99 }

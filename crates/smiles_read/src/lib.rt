@@ -1,16 +1,19 @@
 //! SMILES, read into sketches (OpenSMILES 1.0; Daylight Theory Manual, chapter SMILES).
+//!
+//! Runs, branches, dots and ring numbers are read by `line_walk`; here stand what an atom is, what a bond symbol is,
+//! and when two bonds of one ring number agree. The tree of a text is in the contracts alone: code reads a text from
+//! left to right, and keeps atoms and bonds.
 #![tactic(auto)]
 
 mod atom;
-mod bond;
 mod bracket;
 mod digit;
 mod fault;
 mod limits;
-mod pairs;
+mod notation;
 mod read;
-mod reader;
+mod sketch;
 mod symbol;
 
 pub use fault::SmilesFault;
-pub use read::{one_tree, read_smiles};
+pub use read::{one_reading, one_tree, read_smiles};

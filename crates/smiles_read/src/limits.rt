@@ -3,37 +3,52 @@
 ghost use Rattle.std.specs.Prelude.{◌≡◌, ℕ, ◌<◌, ◌≤◌, length, IfOk, IsTrue, ◌↔◌};
 ghost use Rattle.std.specs.List.{AllByRecursion};
 ghost use Rattle.chem_core.specs.Graph.{degree};
-ghost use Rattle.smiles_read.specs.State.{bond_ends, IsSmall};
+ghost use Rattle.smiles_read.specs.Small.{link_ends, IsSmall};
 
-use crate::reader::Reader;
-use chem_core::SketchBond;
+use chem_core::{MOST_ATOMS, MOST_BONDS, MOST_NEIGHBOURS, SketchAtom, SketchKind};
+use line_walk::{Graph, Link};
 use std::alloc::{AllocError, Global};
 
-/// Whether no atom of so many has more than 12 bonds.
-fn are_few_neighbours(alloc: Global, atoms: usize, bonds: &[SketchBond]) -> Result<bool, AllocError>
-    requires { AllByRecursion (λ x. (x.a < x.b) × (x.b < atoms)) bonds.now }
-    ensures { IfOk result (λ r. IsTrue r ↔ ((a : ℕ) → degree (bond_ends bonds.now) a ≤ 12)) }
+/// The longest text that is looked at, in bytes.
+pub const MOST_BYTES: usize = 65_536;
+
+/// The most branches that may be open at once.
+pub const MOST_BRANCHES: usize = 256;
+
+// The most neighbours, as they are counted.
+const MOST: u8 = MOST_NEIGHBOURS as u8;
+
+/// Whether the graph is within the limits.
+pub fn is_small(alloc: Global, graph: &Graph<SketchAtom, SketchKind>) -> Result<bool, AllocError>
+    requires { AllByRecursion (λ x. (x.a < x.b) × (x.b < length graph.now.atoms.items))
+        graph.now.links.items }
+    ensures { IfOk result (λ r. IsTrue r ↔ IsSmall graph.now) }
+{
+    if graph.depth > MOST_BRANCHES
+        || graph.atoms.len() > MOST_ATOMS
+        || graph.links.len() > MOST_BONDS
+    {
+        return Ok(false);
+    }
+    are_few_neighbours(alloc, graph.atoms.len(), &graph.links)
+}
+
+// Whether none of the atoms has more than `MOST_NEIGHBOURS` bonds.
+fn are_few_neighbours(
+    alloc: Global,
+    atoms: usize,
+    links: &[Link<SketchKind>],
+) -> Result<bool, AllocError>
+    requires { AllByRecursion (λ x. (x.a < x.b) × (x.b < atoms)) links.now }
+    ensures { IfOk result (λ r. IsTrue r ↔ ((a : ℕ) → degree (link_ends links.now) a ≤ MOST_NEIGHBOURS)) }
 {
     let mut counts = vec![in alloc; 0u8; atoms]?;
-    for bond in bonds {
-        let first = usize::from(bond.a);
-        let second = usize::from(bond.b);
-        counts[first] += 1;
-        counts[second] += 1;
-        if counts[first] > 12 || counts[second] > 12 {
+    for link in links {
+        counts[link.a] += 1;
+        counts[link.b] += 1;
+        if counts[link.a] > MOST || counts[link.b] > MOST {
             return Ok(false);
         }
     }
     Ok(true)
-}
-
-/// Whether what is read is within the limits.
-pub fn is_small(alloc: Global, reader: &Reader) -> Result<bool, AllocError>
-    requires { AllByRecursion (λ x. (x.a < x.b) × (x.b < length reader.now.atoms.items)) reader.now.pairs.bonds.items }
-    ensures { IfOk result (λ r. IsTrue r ↔ IsSmall reader.now) }
-{
-    if reader.depth > 256 || reader.atoms.len() > 999 || reader.pairs.bonds.len() > 999 {
-        return Ok(false);
-    }
-    are_few_neighbours(alloc, reader.atoms.len(), &reader.pairs.bonds)
 }

@@ -1,13 +1,54 @@
-//! Symbols in brackets.
+//! Symbols in brackets, and those in lower case that stand without.
 
-ghost use Rattle.std.specs.Prelude.{◌≡◌, ◌≢◌, ℕ, List, ◌∷◌, ◌++◌, [], ◌≤◌, IfSome, IfNone, Some, MatchOption, IsSomeAnd, slice_get};
+ghost use Rattle.std.specs.Prelude.{◌≡◌, ◌≢◌, ℕ, List, ◌∷◌, [], ◌≤◌, IfSome, IfNone, Some, MatchOption, slice_get, option_map};
 ghost use Rattle.chem_core.specs.Element.{symbols};
-ghost use Rattle.smiles_read.specs.Atom.{Lower, lower_bytes, lower_number, IsOrganicLower, Symbol, element, symbol_text, IsSymbol, symbol_number, is_lower};
+ghost use Rattle.line_walk.specs.Follow.{Reads, Anything};
+ghost use Rattle.smiles_read.specs.Atom.{Lower, lower_bytes, lower_number, IsOrganicLower, symbol_text, IsSymbol};
+ghost use Rattle.smiles_read.specs.Parts.{IsAny, element_text, IsElement, element_number, symbol_value};
 ghost use Rattle.smiles_read.specs.Follow.{AfterSymbol};
 
 use chem_core::number_of;
 
-/// The number of the symbol of one letter in lower case that the byte is.
+/// The number of the symbol that the bytes begin with, the longest, and whether it is in lower case. Then the bytes
+/// after it.
+pub fn symbol_at(bytes: &[u8]) -> Option<((u8, bool), &[u8])>
+    ensures { Reads symbol_text IsSymbol symbol_value AfterSymbol bytes.now
+        (option_map (λ r. (r.0, r.1.now)) result) }
+{
+    match lower_at(bytes) {
+        Some((number, rest)) => Some(((number, true), rest)),
+        None => {
+            let (number, rest) = element_at(bytes)?;
+            Some(((number, false), rest))
+        }
+    }
+}
+
+/// The number of the symbol of one letter in lower case that the bytes begin with, and the bytes after it.
+pub fn small_at(bytes: &[u8]) -> Option<(u8, &[u8])>
+    ensures { Reads lower_bytes IsOrganicLower lower_number Anything bytes.now
+        (option_map (λ r. (r.0, r.1.now)) result) }
+{
+    let [first, rest @ ..] = bytes else {
+        return None;
+    };
+    let number = small_number(*first)?;
+    Some((number, rest))
+}
+
+// The number of a symbol in lower case that the bytes begin with, the longest, and the bytes after it.
+fn lower_at(bytes: &[u8]) -> Option<(u8, &[u8])>
+    ensures { Reads lower_bytes IsAny lower_number AfterSymbol bytes.now
+        (option_map (λ r. (r.0, r.1.now)) result) }
+{
+    match bytes {
+        [b's', b'e', rest @ ..] => Some((34, rest)),
+        [b'a', b's', rest @ ..] => Some((33, rest)),
+        _ => small_at(bytes),
+    }
+}
+
+// The number of the symbol of one letter in lower case that the byte is.
 fn small_number(byte: u8) -> Option<u8>
     ensures { MatchOption result ((l : Lower) → IsOrganicLower l → lower_bytes l ≢ byte ∷ [])
         (λ number. (l : Lower) × IsOrganicLower l × (lower_bytes l ≡ byte ∷ []) × (number ≡ lower_number l)) }
@@ -23,37 +64,27 @@ fn small_number(byte: u8) -> Option<u8>
     }
 }
 
-/// The number of the symbol of one letter in lower case that the bytes begin with, and the bytes after it.
-pub fn small_at(bytes: &[u8]) -> Option<(u8, &[u8])>
-    ensures found { IfSome result (λ r. (l : Lower) × IsOrganicLower l × (bytes.now ≡ lower_bytes l ++ r.1.now) × (r.0 ≡ lower_number l)) }
-    ensures only { (l : Lower) (rest : List ℕ) → IsOrganicLower l → bytes.now ≡ lower_bytes l ++ rest
-        → IsSomeAnd result (λ r. (r.1.now ≡ rest) × (r.0 ≡ lower_number l)) }
+// The element whose symbol the bytes begin with, the longest, or 0 for `*`, and the bytes after it.
+fn element_at(bytes: &[u8]) -> Option<(u8, &[u8])>
+    ensures { Reads element_text IsElement element_number AfterSymbol bytes.now
+        (option_map (λ r. (r.0, r.1.now)) result) }
 {
-    let [first, rest @ ..] = bytes else {
-        return None;
-    };
-    let number = small_number(*first)?;
-    Some((number, rest))
-}
-
-/// The number of a symbol in lower case that the bytes begin with, the longest, and the bytes after it.
-fn lower_at(bytes: &[u8]) -> Option<(u8, &[u8])>
-    ensures found { IfSome result (λ r. (l : Lower) × (bytes.now ≡ lower_bytes l ++ r.1.now) × (r.0 ≡ lower_number l)) }
-    ensures only { (l : Lower) (rest : List ℕ) → bytes.now ≡ lower_bytes l ++ rest → AfterSymbol rest
-        → IsSomeAnd result (λ r. (r.1.now ≡ rest) × (r.0 ≡ lower_number l)) }
-{
-    match bytes {
-        [b's', b'e', rest @ ..] => Some((34, rest)),
-        [b'a', b's', rest @ ..] => Some((33, rest)),
-        _ => small_at(bytes),
+    match two_letters_at(bytes) {
+        Some((number, rest)) => Some((number, rest)),
+        None => {
+            let (number, rest) = one_letter_at(bytes)?;
+            Some((number, rest))
+        }
     }
 }
 
-/// The element whose symbol of two letters the bytes begin with, and the bytes after it.
+// The element whose symbol of two letters the bytes begin with, and the bytes after it.
 fn two_letters_at(bytes: &[u8]) -> Option<(u8, &[u8])>
-    ensures found { IfSome result (λ r. (a b : ℕ) × (slice_get symbols r.0 ≡ Some (a ∷ b ∷ [])) × (bytes.now ≡ a ∷ b ∷ r.1.now)) }
+    ensures found { IfSome result (λ r. (a b : ℕ) × (slice_get symbols r.0 ≡ Some (a ∷ b ∷ []))
+        × (bytes.now ≡ a ∷ b ∷ r.1.now)) }
     ensures range { IfSome result (λ r. r.0 ≤ 103) }
-    ensures none { IfNone result ((a b n : ℕ) (rest : List ℕ) → bytes.now ≡ a ∷ b ∷ rest → slice_get symbols n ≢ Some (a ∷ b ∷ [])) }
+    ensures none { IfNone result ((a b n : ℕ) (rest : List ℕ) → bytes.now ≡ a ∷ b ∷ rest
+        → slice_get symbols n ≢ Some (a ∷ b ∷ [])) }
 {
     let [first, second, rest @ ..] = bytes else {
         return None;
@@ -68,11 +99,12 @@ fn two_letters_at(bytes: &[u8]) -> Option<(u8, &[u8])>
     }
 }
 
-/// The element whose symbol of one letter the bytes begin with, or 0 for `*`, and the bytes after it.
+// The element whose symbol of one letter the bytes begin with, or 0 for `*`, and the bytes after it.
 fn one_letter_at(bytes: &[u8]) -> Option<(u8, &[u8])>
     ensures found { IfSome result (λ r. (a : ℕ) × (slice_get symbols r.0 ≡ Some (a ∷ [])) × (bytes.now ≡ a ∷ r.1.now)) }
     ensures range { IfSome result (λ r. r.0 ≤ 103) }
-    ensures none { IfNone result ((a n : ℕ) (rest : List ℕ) → bytes.now ≡ a ∷ rest → slice_get symbols n ≢ Some (a ∷ [])) }
+    ensures none { IfNone result ((a n : ℕ) (rest : List ℕ) → bytes.now ≡ a ∷ rest
+        → slice_get symbols n ≢ Some (a ∷ [])) }
 {
     let [first, rest @ ..] = bytes else {
         return None;
@@ -80,35 +112,5 @@ fn one_letter_at(bytes: &[u8]) -> Option<(u8, &[u8])>
     match number_of(&[*first]) {
         Some(number) => Some((number, rest)),
         None => None,
-    }
-}
-
-/// The element whose symbol the bytes begin with, the longest, or 0 for `*`, and the bytes after it.
-fn element_at(bytes: &[u8]) -> Option<(u8, &[u8])>
-    ensures found { IfSome result (λ r. IsSymbol (element r.0) × (bytes.now ≡ symbol_text (element r.0) ++ r.1.now)) }
-    ensures only { (n : ℕ) (rest : List ℕ) → IsSymbol (element n) → bytes.now ≡ symbol_text (element n) ++ rest → AfterSymbol rest
-        → IsSomeAnd result (λ r. (r.1.now ≡ rest) × (r.0 ≡ n)) }
-{
-    match two_letters_at(bytes) {
-        Some((number, rest)) => Some((number, rest)),
-        None => {
-            let (number, rest) = one_letter_at(bytes)?;
-            Some((number, rest))
-        }
-    }
-}
-
-/// The number of the symbol that the bytes begin with, the longest, and whether it is in lower case. Then the bytes after it.
-pub fn symbol_at(bytes: &[u8]) -> Option<(u8, bool, &[u8])>
-    ensures found { IfSome result (λ r. (s : Symbol) × IsSymbol s × (bytes.now ≡ symbol_text s ++ r.2.now) × (r.0 ≡ symbol_number s) × (r.1 ≡ is_lower s)) }
-    ensures only { (s : Symbol) (rest : List ℕ) → IsSymbol s → bytes.now ≡ symbol_text s ++ rest → AfterSymbol rest
-        → IsSomeAnd result (λ r. (r.2.now ≡ rest) × (r.0 ≡ symbol_number s) × (r.1 ≡ is_lower s)) }
-{
-    match lower_at(bytes) {
-        Some((number, rest)) => Some((number, true, rest)),
-        None => {
-            let (number, rest) = element_at(bytes)?;
-            Some((number, false, rest))
-        }
     }
 }

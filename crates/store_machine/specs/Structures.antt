@@ -2,19 +2,13 @@
 use Rattle.std.specs.Prelude.{◌↔◌, Bool, List, ℕ}
 use Rattle.chem_core.specs.Bits.{HasBit}
 use Rattle.chem_core.specs.Molecule.{Molecule}
-use Rattle.mol_finish.specs.Structure.{IsStructureOf}
+use Rattle.mol_finish.specs.Structure.{HasMolecule}
 use Rattle.mol_finish.specs.declared.fault.Format.{Format}
-use Rattle.mol_finish.specs.declared.fault.Format.TheVariants.{Molfile, Smiles}
 use Rattle.smarts_parse.specs.Embedding.{Matches}
 use Rattle.smarts_parse.specs.Pattern.{PatternTerm}
 
--- in this format the text is of this structure. Molfiles are not read yet
-abbrev pub HasStructure : Format → List ℕ → Molecule → Type 0
-HasStructure Smiles text m = IsStructureOf text m
-HasStructure Molfile text m = ⊥
-
 abbrev pub IsText : Format → List ℕ → Type 0
-IsText format text = (m : Molecule) × HasStructure format text m
+IsText format text = (m : Molecule) × HasMolecule format text m
 
 -- a bit of the structure's print. There are no prints yet
 abbrev pub HasPrintBit : Molecule → ℕ → Type 0
@@ -29,11 +23,11 @@ HasAll m want = (bit : ℕ) → HasBit want bit → HasPrintBit m bit
 
 -- what a search asks of a text by its print
 abbrev pub IsScreened : List Bool → Format → List ℕ → Type 0
-IsScreened want format text = (m : Molecule) × HasStructure format text m × HasAll m want
+IsScreened want format text = (m : Molecule) × HasMolecule format text m × HasAll m want
 
 -- what it asks by its pattern
 abbrev pub IsMatched : PatternTerm → Format → List ℕ → Type 0
-IsMatched pattern format text = (m : Molecule) × HasStructure format text m × Matches pattern m
+IsMatched pattern format text = (m : Molecule) × HasMolecule format text m × Matches pattern m
 
 -- whatever the pattern matches has what is wanted
 abbrev pub Screens : PatternTerm → List Bool → Type 0

@@ -1,6 +1,7 @@
 -- Soundness of a sketch of few bonds, as a test that computes: for examples.
 use Rattle.std.specs.Prelude.{ℕ, ◌==◌, ◌&&◌, ◌||◌, not, nat_le, nat_lt, Bool, true, List, [], ◌∷◌, length, ℤ, pos, negsuc}
 use Rattle.std.specs.List.{list_all}
+use Rattle.chem_core.specs.declared.limits.TheConstants.{MOST_ATOMS, MOST_NEIGHBOURS}
 use Rattle.chem_core.specs.declared.sketch.SketchAtom.{SketchAtom}
 use Rattle.chem_core.specs.declared.sketch.SketchBond.{SketchBond}
 use Rattle.chem_core.specs.declared.sketch.Fill.{Fill}
@@ -31,6 +32,6 @@ abbrev pub are_small_bonds : ℕ → List SketchBond → Bool
 are_small_bonds atoms [] = true
 are_small_bonds atoms (b ∷ bs) = nat_lt b.a atoms && (nat_lt b.b atoms && (not (b.a == b.b) && (list_all (λ c. not (joins_same b c)) bs && are_small_bonds atoms bs)))
 
--- at most 999 atoms and 12 bonds
+-- no more atoms than a structure may have, and no more bonds than an atom may have
 abbrev pub is_small : List SketchAtom → List SketchBond → Bool
-is_small atoms bonds = nat_le (length atoms) 999 && (nat_le (length bonds) 12 && (list_all is_small_atom atoms && are_small_bonds (length atoms) bonds))
+is_small atoms bonds = nat_le (length atoms) MOST_ATOMS && (nat_le (length bonds) MOST_NEIGHBOURS && (list_all is_small_atom atoms && are_small_bonds (length atoms) bonds))

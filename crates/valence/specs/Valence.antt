@@ -13,8 +13,8 @@ organic_valences number =
     (if number == 16 then 2 ∷ 4 ∷ 6 ∷ [] else
     (if (number == 9) || ((number == 17) || ((number == 35) || (number == 53))) then 1 ∷ [] else [])))))
 
--- the valences of molfile atoms without a charge: those of the organic subset
--- with the charge -1
+-- The valences of molfile atoms: without a charge those of the organic subset, and else by two tables of this program,
+-- since the CTfile formats name none. With the charge -1:
 abbrev pub anion_valences : ℕ → List ℕ
 anion_valences number =
     if number == 5 then 4 ∷ [] else

@@ -6,7 +6,7 @@ ghost use Rattle.valence.specs.Valence.{adds};
 ghost use Rattle.valence.specs.Filled.{missing, missing_aromatic, hydrogens_of, filled_atom, filled};
 
 use crate::table::{charged, organic};
-use chem_core::{Fill, Sketch, SketchAtom, SketchBond};
+use chem_core::{Fill, MOST_ATOMS, Sketch, SketchAtom, SketchBond};
 
 /// Counts the hydrogens that are not written: by the valences of the organic subset (OpenSMILES 1.0, section 3.1.5, and
 /// at aromatic atoms 3.5), by those of molfiles (CTfile formats), or by a written valence, as each atom says. Takes no
@@ -23,13 +23,13 @@ pub fn fill_hydrogens(sketch: &mut Sketch)
 }
 
 // For each atom, by its place, what its bonds sum to.
-fn bond_sums(bonds: &[SketchBond]) -> [u8; 999]
-    requires in_range { All (λ b. (b.a < 999) × (b.b < 999)) bonds.now }
+fn bond_sums(bonds: &[SketchBond]) -> [u8; MOST_ATOMS]
+    requires in_range { All (λ b. (b.a < MOST_ATOMS) × (b.b < MOST_ATOMS)) bonds.now }
     requires distinct { All (λ b. b.a ≢ b.b) bonds.now }
     requires few { (a : ℕ) → sum_by (adds a) bonds.now ≤ 48 }
     ensures { (a : ℕ) → slice_index result a ≡ sum_by (adds a) bonds.now }
 {
-    let mut sums = [0; 999];
+    let mut sums = [0; MOST_ATOMS];
     for bond in bonds {
         let order = bond.kind.order();
         sums[usize::from(bond.a)] += order;

@@ -4,7 +4,7 @@ ghost use Rattle.std.specs.List.{list_any};
 ghost use Rattle.chem_core.specs.Sketch.{ends_at};
 ghost use Rattle.valence.specs.Suppressed.{is_plain_kind, is_bare_hydrogen, leads_to_heavy, is_suppressed, new_place, brings};
 
-use chem_core::{SketchAtom, SketchBond, SketchKind};
+use chem_core::{MOST_ATOMS, MOST_NEIGHBOURS, SketchAtom, SketchBond, SketchKind};
 
 /// Whether some atom is hydrogen without isotope and charge: no other becomes a count.
 pub(crate) fn has_bare_hydrogen(atoms: &[SketchAtom]) -> bool
@@ -20,17 +20,17 @@ fn is_bare(atom: &SketchAtom) -> bool
 }
 
 /// Whether each atom becomes a count at its neighbour.
-pub(crate) fn suppressed_atoms(atoms: &[SketchAtom], bonds: &[SketchBond]) -> [bool; 999]
-    requires few { length atoms.now ≤ 999 }
+pub(crate) fn suppressed_atoms(atoms: &[SketchAtom], bonds: &[SketchBond]) -> [bool; MOST_ATOMS]
+    requires few { length atoms.now ≤ MOST_ATOMS }
     requires in_range { All (λ b. (b.a < length atoms.now) × (b.b < length atoms.now)) bonds.now }
     requires distinct { All (λ b. b.a ≢ b.b) bonds.now }
-    requires few_neighbours { (a : ℕ) → count_by (ends_at a) bonds.now ≤ 12 }
+    requires few_neighbours { (a : ℕ) → count_by (ends_at a) bonds.now ≤ MOST_NEIGHBOURS }
     ensures { (a : ℕ) → slice_index_or result a false
         ≡ is_suppressed (record { atoms = atoms.now; bonds = bonds.now }) a }
 {
     let degrees = degrees(bonds);
     let leads = heavy_neighbours(atoms, bonds);
-    let mut goes = [false; 999];
+    let mut goes = [false; MOST_ATOMS];
     for (place, atom) in atoms.iter().enumerate() {
         goes[place] = is_taken(atom, degrees[place], leads[place]);
     }
@@ -45,13 +45,13 @@ fn is_taken(atom: &SketchAtom, degree: u8, leads: bool) -> bool
 }
 
 // How many neighbours each atom has.
-fn degrees(bonds: &[SketchBond]) -> [u8; 999]
-    requires in_range { All (λ b. (b.a < 999) × (b.b < 999)) bonds.now }
+fn degrees(bonds: &[SketchBond]) -> [u8; MOST_ATOMS]
+    requires in_range { All (λ b. (b.a < MOST_ATOMS) × (b.b < MOST_ATOMS)) bonds.now }
     requires distinct { All (λ b. b.a ≢ b.b) bonds.now }
-    requires few { (a : ℕ) → count_by (ends_at a) bonds.now ≤ 12 }
+    requires few { (a : ℕ) → count_by (ends_at a) bonds.now ≤ MOST_NEIGHBOURS }
     ensures { (a : ℕ) → slice_index result a ≡ count_by (ends_at a) bonds.now }
 {
-    let mut degrees = [0; 999];
+    let mut degrees = [0; MOST_ATOMS];
     for bond in bonds {
         degrees[usize::from(bond.a)] += 1;
         degrees[usize::from(bond.b)] += 1;
@@ -60,13 +60,13 @@ fn degrees(bonds: &[SketchBond]) -> [u8; 999]
 }
 
 // Whether each atom has a plain bond to an atom that is no hydrogen.
-fn heavy_neighbours(atoms: &[SketchAtom], bonds: &[SketchBond]) -> [bool; 999]
-    requires few { length atoms.now ≤ 999 }
+fn heavy_neighbours(atoms: &[SketchAtom], bonds: &[SketchBond]) -> [bool; MOST_ATOMS]
+    requires few { length atoms.now ≤ MOST_ATOMS }
     requires in_range { All (λ b. (b.a < length atoms.now) × (b.b < length atoms.now)) bonds.now }
     requires distinct { All (λ b. b.a ≢ b.b) bonds.now }
     ensures { (a : ℕ) → slice_index_or result a false ≡ list_any (leads_to_heavy atoms.now a) bonds.now }
 {
-    let mut leads = [false; 999];
+    let mut leads = [false; MOST_ATOMS];
     for bond in bonds {
         let (a, b) = (usize::from(bond.a), usize::from(bond.b));
         leads[a] |= is_plain_to(bond.kind, &atoms[b]);
@@ -83,14 +83,14 @@ fn is_plain_to(kind: SketchKind, atom: &SketchAtom) -> bool
 }
 
 /// How many neighbours each atom has that go.
-pub(crate) fn gains(bonds: &[SketchBond], goes: &[bool]) -> [u8; 999]
-    requires long { length goes.now ≡ 999 }
-    requires in_range { All (λ b. (b.a < 999) × (b.b < 999)) bonds.now }
+pub(crate) fn gains(bonds: &[SketchBond], goes: &[bool]) -> [u8; MOST_ATOMS]
+    requires long { length goes.now ≡ MOST_ATOMS }
+    requires in_range { All (λ b. (b.a < MOST_ATOMS) × (b.b < MOST_ATOMS)) bonds.now }
     requires distinct { All (λ b. b.a ≢ b.b) bonds.now }
-    requires few { (a : ℕ) → count_by (ends_at a) bonds.now ≤ 12 }
+    requires few { (a : ℕ) → count_by (ends_at a) bonds.now ≤ MOST_NEIGHBOURS }
     ensures { (a : ℕ) → slice_index result a ≡ count_by (brings (λ k. slice_index_or goes.now k false) a) bonds.now }
 {
-    let mut gains = [0; 999];
+    let mut gains = [0; MOST_ATOMS];
     for bond in bonds {
         let (a, b) = (usize::from(bond.a), usize::from(bond.b));
         gains[a] += u8::from(goes[b]);
@@ -100,11 +100,11 @@ pub(crate) fn gains(bonds: &[SketchBond], goes: &[bool]) -> [u8; 999]
 }
 
 /// For each atom, how many atoms before it stay.
-pub(crate) fn new_places(goes: &[bool]) -> [u16; 999]
-    requires { length goes.now ≤ 999 }
+pub(crate) fn new_places(goes: &[bool]) -> [u16; MOST_ATOMS]
+    requires { length goes.now ≤ MOST_ATOMS }
     ensures { (a : ℕ) → a < length goes.now → slice_index result a ≡ new_place (λ k. slice_index_or goes.now k false) a }
 {
-    let mut places = [0; 999];
+    let mut places = [0; MOST_ATOMS];
     let mut kept = 0;
     for (place, gone) in goes.iter().enumerate() {
         places[place] = kept;

@@ -4,7 +4,7 @@ ghost use Rattle.chem_core.specs.Sound.{IsSound};
 ghost use Rattle.valence.specs.Suppressed.{staying_atoms, staying_bonds, stays, renumbered, suppressed};
 
 use crate::places::{gains, has_bare_hydrogen, new_places, suppressed_atoms};
-use chem_core::{Sketch, SketchAtom, SketchBond};
+use chem_core::{MOST_NEIGHBOURS, Sketch, SketchAtom, SketchBond};
 
 /// Turns plain hydrogen atoms into counts at their neighbours, all at once: those without isotope and charge whose only
 /// bond has no symbol or `-`, and leads to an atom that is no hydrogen. The others stay, as the Daylight Theory Manual,
@@ -40,7 +40,7 @@ fn keep_atoms(atoms: &mut Vec<SketchAtom>, goes: &[bool], gains: &[u8])
     requires goes { length atoms.old.items ≤ length goes.now }
     requires gains { length atoms.old.items ≤ length gains.now }
     requires few { All (λ a. a.hydrogens ≤ 15) atoms.old.items }
-    requires few_more { (a : ℕ) → slice_index gains.now a ≤ 12 }
+    requires few_more { (a : ℕ) → slice_index gains.now a ≤ MOST_NEIGHBOURS }
     ensures { atoms.new.items
         ≡ staying_atoms (λ k. slice_index_or goes.now k false) (λ k. slice_index gains.now k) atoms.old.items }
 {
@@ -53,7 +53,7 @@ fn to_front(atoms: &mut [SketchAtom], goes: &[bool], gains: &[u8]) -> usize
     requires goes { length atoms.old ≤ length goes.now }
     requires gains { length atoms.old ≤ length gains.now }
     requires few { All (λ a. a.hydrogens ≤ 15) atoms.old }
-    requires few_more { (a : ℕ) → slice_index gains.now a ≤ 12 }
+    requires few_more { (a : ℕ) → slice_index gains.now a ≤ MOST_NEIGHBOURS }
     ensures { take result atoms.new
         ≡ staying_atoms (λ k. slice_index_or goes.now k false) (λ k. slice_index gains.now k) atoms.old }
 {

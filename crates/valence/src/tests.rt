@@ -1,3 +1,5 @@
+//! Worked examples, by hand.
+
 ghost use Rattle.std.specs.Prelude.{◌≤◌, IsTrue, IfOk, All};
 ghost use Rattle.chem_core.specs.Sound.{IsSound};
 ghost use Rattle.valence.specs.Small.{is_small};

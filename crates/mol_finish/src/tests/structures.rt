@@ -2,6 +2,7 @@
 
 use crate::{Format, TextFault, structure};
 use chem_core::{BondKind, Mol};
+use molfile_read::MolfileFault;
 use smiles_read::SmilesFault;
 use std::test::Fail;
 
@@ -151,10 +152,33 @@ fn refusals(rt: HostRuntime) -> Result<(), Fail> {
             TextFault::Smiles(SmilesFault::Aromatic(1)),
         ),
         (Format::Smiles, "C(", TextFault::Smiles(SmilesFault::Syntax)),
-        (Format::Molfile, "C", TextFault::NotYet),
+        (Format::Molfile, "C", TextFault::Molfile(MolfileFault::Cut)),
     ] {
         let got = structure(rt.alloc(), format, text.as_bytes()).map(|_| ());
         assert_eq!(rt; got, Err(want), "at {text}");
     }
+    Ok(())
+}
+
+const ACETATE: &str = "acetate
+
+
+  4  3  0  0  0  0  0  0  0  0999 V2000
+    0.0000    0.0000    0.0000 C   0  0  0  0  0  0
+    1.5000    0.0000    0.0000 C   0  0  0  0  0  0
+    2.2000    1.2000    0.0000 O   0  0  0  0  0  0
+    2.2000   -1.2000    0.0000 O   0  5  0  0  0  0
+  1  2  1  0
+  2  3  2  0
+  2  4  1  0
+M  END
+";
+
+#[test]
+fn a_molfile_has_the_structure_of_its_smiles(rt: HostRuntime) -> Result<(), Fail> {
+    let molfile = structure(rt.alloc(), Format::Molfile, ACETATE.as_bytes())?;
+    let smiles = structure(rt.alloc(), Format::Smiles, b"CC(=O)[O-]")?;
+    assert_eq!(rt; molfile.atoms(), smiles.atoms());
+    assert_eq!(rt; molfile.bonds(), smiles.bonds());
     Ok(())
 }

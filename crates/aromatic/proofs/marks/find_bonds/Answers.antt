@@ -6,7 +6,7 @@ pub aromatic_bonds-requires : goal.aromatic_bonds-requires
 aromatic_bonds-requires c =
     let linked = rw c.deref.ensures.value at c.in_ok-links.ensures in
     let net = net-found _ _ c.args.rows.now c.in_ok-gives.gives.items (links_in c.in_ok-links.links.items) c.requires.sound c.requires.rings c.requires.rows c.in_ok-gives.ensures linked in
-    record { net = rw (c.deref-2.ensures.value, c.deref-3.ensures.value) net }
+    record { net = rw c.deref-2.ensures.value net }
 
 pub returns : goal.returns
 returns c =

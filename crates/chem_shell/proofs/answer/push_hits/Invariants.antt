@@ -1,6 +1,6 @@
 use Rattle.std.proofs.Common.{◌≡◌, ◌++◌, map, take}
-use Rattle.chem_shell.specs.declared.reply.Reply.TheVariants.{Hit}
-use Rattle.chem_shell.specs.Reply.{text_of}
+use Rattle.shell_lang.specs.declared.reply.Reply.TheVariants.{Hit}
+use Rattle.shell_lang.specs.Reply.{text_of}
 use Rattle.chem_shell.proofs.answer.push_hits.Given as goal
 
 abbrev pub invariant-loop-id : goal.invariant-loop-id

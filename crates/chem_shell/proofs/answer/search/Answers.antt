@@ -2,20 +2,16 @@ use Rattle.std.proofs.Common.{◌≡◌, ℕ, length, List, [], ◌∷◌, ◌++
 use Rattle.std.proofs.lemmas.Result.{on_ok_weaker}
 use Rattle.std.proofs.lemmas.Grind.{flat_map-append}
 use Rattle.smarts_parse.specs.Pattern.{pattern_of}
-use Rattle.chem_shell.specs.declared.reply.Reply.{Reply}
-use Rattle.chem_shell.specs.declared.reply.Reply.TheVariants.{Hit, End, Refused}
-use Rattle.chem_shell.specs.declared.reply.Refusal.TheVariants.{SmartsSyntax}
-use Rattle.chem_shell.specs.Reply.{text_of, reply_line}
-use Rattle.chem_shell.specs.Flat.{IsFlat}
-use Rattle.chem_shell.proofs.ChainFlat.{chain_flat}
+use Rattle.shell_lang.specs.declared.reply.Reply.{Reply}
+use Rattle.shell_lang.specs.declared.reply.Reply.TheVariants.{Hit, End, Refused}
+use Rattle.shell_lang.specs.declared.reply.Refusal.TheVariants.{NotYet, Pattern}
+use Rattle.smarts_parse.specs.declared.fault.SmartsFault.TheVariants.{Syntax}
+use Rattle.shell_lang.specs.Reply.{text_of, reply_line}
 use Rattle.chem_shell.proofs.answer.search.Goals as goal
 
 pub returns-in-Err-Syntax : goal.returns-in-Err-Syntax
 returns-in-Err-Syntax c =
-    on_ok_weaker c.push_line.result (λ e. (Refused SmartsSyntax ∷ [], inl (refl, λ p h. c.in-Err-Syntax.ensures.syntax (ap Err c.in-Err-Syntax.field-0-is) h.0 h.1), e)) c.push_line.ensures
-
-pub hits-requires-clause-flat : goal.hits-requires-clause-flat
-hits-requires-clause-flat c = let p = c.in-Ok.ensures.ok in subst IsFlat (sym p.2) (chain_flat p.0)
+    on_ok_weaker c.refuse-in-Err-Syntax.result (λ e. (Refused (Pattern Syntax) ∷ [], inl (c.if-not-is_short.ensures.0 refl, inl (Syntax, (λ p h. c.in-Err-Syntax.ensures.syntax (ap Err c.in-Err-Syntax.field-0-is) h.0 h.1), refl)), rw append-nil e)) c.refuse-in-Err-Syntax.ensures
 
 -- the lines of the hits, and one behind them
 hits_and_end : (out new last : List ℕ) (hits : List Reply) (end : Reply) → new ≡ out ++ text_of hits → last ≡ new ++ reply_line end → last ≡ out ++ text_of (hits ++ end ∷ [])
@@ -30,6 +26,10 @@ returns c =
     let count : c.len.result ≡ length ids = c.len.ensures ∙ c.in_ok-ids.ids.ok.0 in
     let ends : map Hit ids ++ End c.version.result c.len.result ∷ [] ≡ map Hit ids ++ End (length c.args.store.now) (length ids) ∷ [] = rw (c.version.ensures.version, count) refl in
     let hits : c.push_hits.new.out.items ≡ c.args.out.now.items ++ text_of (map Hit ids) = rw c.deref.ensures.value at c.in_ok-push_hits.ensures in
-    on_ok_weaker c.push_line-2.result (λ e.
-    (map Hit c.in_ok-ids.ids.items ++ End c.version.result c.len.result ∷ [], inr (pattern_of c.in-Ok.pattern, c.in_ok-ids.ids.items, (p.0, p.1, p.2), c.in_ok-ids.ensures.hits, ends), hits_and_end _ _ _ (map Hit c.in_ok-ids.ids.items) (End c.version.result c.len.result) hits e))
-    c.push_line-2.ensures
+    on_ok_weaker c.reply_text.result (λ e.
+    (map Hit c.in_ok-ids.ids.items ++ End c.version.result c.len.result ∷ [], inl (c.if-not-is_short.ensures.0 refl, inr (pattern_of c.in-Ok.pattern, c.in_ok-ids.ids.items, (p.0, p.1, p.2), c.in_ok-ids.ensures.hits, ends)), hits_and_end _ _ _ (map Hit c.in_ok-ids.ids.items) (End c.version.result c.len.result) hits e))
+    c.reply_text.ensures.ok
+
+pub returns-then-not-is_short : goal.returns-then-not-is_short
+returns-then-not-is_short c =
+    on_ok_weaker c.refuse.result (λ e. (Refused NotYet ∷ [], inr (λ is. let t = c.if-not-is_short.ensures.1 is in cc, refl), rw append-nil e)) c.refuse.ensures

@@ -1,6 +1,6 @@
 use Rattle.std.proofs.Common.{◌≡◌, Result, ap, Err, arith}
 use Rattle.std.proofs.lemmas.Result.{err_from_is_err_and}
-use Rattle.chem_shell.proofs.SessionLemmas.{IsUnderWay-start, IsUnderWay-line, front_unmoved, front_after_fault, front_after_nothing, whole_at_end, takes_all, Rose-since}
+use Rattle.chem_shell.proofs.SessionLemmas.{IsUnderWay-start, IsUnderWay-line, prefix_unmoved, prefix_after_fault, prefix_after_nothing, whole_at_end, takes_all, Rose-since}
 use Rattle.chem_shell.specs.declared.session.SessionFault.{SessionFault}
 use Rattle.chem_shell.proofs.session.session.Goals as goal
 
@@ -8,56 +8,56 @@ use Rattle.chem_shell.proofs.session.session.Goals as goal
 fault_is : (r : Result (Unit {0}) SessionFault) (x y z : SessionFault) → r ≡ Err y → y ≡ x → r ≡ Err z → x ≡ z
 fault_is r x y z p q e = cc
 
-pub returns-in_err-lines-clause-front : goal.returns-in_err-lines-clause-front
-returns-in_err-lines-clause-front g c = front_unmoved _ _
+pub returns-in_err-lines-clause-prefix : goal.returns-in_err-lines-clause-prefix
+returns-in_err-lines-clause-prefix g c = prefix_unmoved _ _
 
-pub returns-in_err-desk-clause-front : goal.returns-in_err-desk-clause-front
-returns-in_err-desk-clause-front g c = front_unmoved _ _
+pub returns-in_err-responder-clause-prefix : goal.returns-in_err-responder-clause-prefix
+returns-in_err-responder-clause-prefix g c = prefix_unmoved _ _
 
-pub loop-desk-init : goal.loop-desk-init
-loop-desk-init g c = record {
-  under_way = rw c.in_ok-desk.ensures (IsUnderWay-start _ _ c.in_ok-lines.lines c.in_ok-lines.ensures);
+pub loop-responder-init : goal.loop-responder-init
+loop-responder-init g c = record {
+  under_way = rw c.in_ok-responder.ensures (IsUnderWay-start _ _ c.in_ok-lines.lines c.in_ok-lines.ensures);
   source_count = omega arith;
   sink_count = omega arith;
 }
 
-pub returns-in_err-turn-clause-front : goal.returns-in_err-turn-clause-front
-returns-in_err-turn-clause-front g c =
+pub returns-in_err-turn-clause-prefix : goal.returns-in_err-turn-clause-prefix
+returns-in_err-turn-clause-prefix g c =
     let b = c.in_err-turn.ensures.bytes in
-    front_after_fault _ _ _ _ _ _ c.loop-desk.lines c.turn.new.lines c.loop-desk.desk.store c.turn.new.desk.store b.0 c.in_err-turn.field-0.0 b.1 c.in_err-turn.ensures.puts c.loop-desk.invariant.under_way
+    prefix_after_fault _ _ _ _ _ _ c.loop-responder.lines c.turn.new.lines c.loop-responder.responder.store c.turn.new.responder.store b.0 c.in_err-turn.field-0.0 b.1 c.in_err-turn.ensures.puts c.loop-responder.invariant.under_way
 
 pub returns-in_err-turn-clause-source_fault : goal.returns-in_err-turn-clause-source_fault
 returns-in_err-turn-clause-source_fault g c = λ e.
     let p = err_from_is_err_and c.from_residual-in_err-turn.result c.from_residual-in_err-turn.ensures.1 in
-    Rose-since _ _ _ c.loop-desk.invariant.source_count (c.in_err-turn.ensures.source_fault (ap Err (fault_is _ _ _ _ p.1 p.2 e)))
+    Rose-since _ _ _ c.loop-responder.invariant.source_count (c.in_err-turn.ensures.source_fault (ap Err (fault_is _ _ _ _ p.1 p.2 e)))
 
 pub returns-in_err-turn-clause-sink_fault : goal.returns-in_err-turn-clause-sink_fault
 returns-in_err-turn-clause-sink_fault g c = λ e.
     let p = err_from_is_err_and c.from_residual-in_err-turn.result c.from_residual-in_err-turn.ensures.1 in
-    Rose-since _ _ _ c.loop-desk.invariant.sink_count (c.in_err-turn.ensures.sink_fault (ap Err (fault_is _ _ _ _ p.1 p.2 e)))
+    Rose-since _ _ _ c.loop-responder.invariant.sink_count (c.in_err-turn.ensures.sink_fault (ap Err (fault_is _ _ _ _ p.1 p.2 e)))
 
 pub returns-in_err-turn-clause-too_long : goal.returns-in_err-turn-clause-too_long
 returns-in_err-turn-clause-too_long g c = λ e.
     let p = err_from_is_err_and c.from_residual-in_err-turn.result c.from_residual-in_err-turn.ensures.1 in
     let b = c.in_err-turn.ensures.bytes in
-    takes_all _ _ _ _ _ c.loop-desk.lines c.turn.new.lines c.loop-desk.desk.store b.0 b.1 b.2 (c.in_err-turn.ensures.too_long (ap Err (fault_is _ _ _ _ p.1 p.2 e))) c.loop-desk.invariant.under_way
+    takes_all _ _ _ _ _ c.loop-responder.lines c.turn.new.lines c.loop-responder.responder.store b.0 b.1 b.2 (c.in_err-turn.ensures.too_long (ap Err (fault_is _ _ _ _ p.1 p.2 e))) c.loop-responder.invariant.under_way
 
-pub loop-desk-preserved : goal.loop-desk-preserved
-loop-desk-preserved g c =
+pub loop-responder-preserved : goal.loop-responder-preserved
+loop-responder-preserved g c =
     let t = rw c.if-branch.true at c.in_ok-turn.ensures.puts in
     let b = c.in_ok-turn.ensures.bytes in
     record {
-      under_way = IsUnderWay-line _ _ _ _ _ _ c.loop-desk.lines c.turn.new.lines c.loop-desk.desk.store c.turn.new.desk.store b.0 t.0 t.1 b.1 b.2 c.in_ok-turn.ensures.met t.2 t.3 t.4 c.loop-desk.invariant.under_way;
-      source_count = omega (arith, c.loop-desk.invariant.source_count, c.in_ok-turn.ensures.source_count);
-      sink_count = omega (arith, c.loop-desk.invariant.sink_count, c.in_ok-turn.ensures.sink_count);
+      under_way = IsUnderWay-line _ _ _ _ _ _ c.loop-responder.lines c.turn.new.lines c.loop-responder.responder.store c.turn.new.responder.store b.0 t.0 t.1 b.1 b.2 c.in_ok-turn.ensures.met t.2 t.3 t.4 c.loop-responder.invariant.under_way;
+      source_count = omega (arith, c.loop-responder.invariant.source_count, c.in_ok-turn.ensures.source_count);
+      sink_count = omega (arith, c.loop-responder.invariant.sink_count, c.in_ok-turn.ensures.sink_count);
     }
 
-pub returns-clause-front : goal.returns-clause-front
-returns-clause-front g c =
+pub returns-clause-prefix : goal.returns-clause-prefix
+returns-clause-prefix g c =
     let t = rw c.if-branch.false at c.in_ok-turn.ensures.puts in
-    front_after_nothing _ _ _ _ _ c.loop-desk.lines c.loop-desk.desk.store t.1 c.loop-desk.invariant.under_way
+    prefix_after_nothing _ _ _ _ _ c.loop-responder.lines c.loop-responder.responder.store t.1 c.loop-responder.invariant.under_way
 
 pub returns-clause-all : goal.returns-clause-all
 returns-clause-all g c =
     let t = rw c.if-branch.false at c.in_ok-turn.ensures.puts in
-    whole_at_end _ _ (g.S.Source.left c.turn.new.source) _ _ _ c.loop-desk.lines c.turn.new.lines c.loop-desk.desk.store t.0 t.1 c.loop-desk.invariant.under_way
+    whole_at_end _ _ (g.S.Source.left c.turn.new.source) _ _ _ c.loop-responder.lines c.turn.new.lines c.loop-responder.responder.store t.0 t.1 c.loop-responder.invariant.under_way

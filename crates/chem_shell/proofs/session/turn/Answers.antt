@@ -19,10 +19,10 @@ TurnPuts-refused result NoMemory y h h' old new before after put put' line text 
 pub returns-in_ok-put-clause-puts : goal.returns-in_ok-put-clause-puts
 returns-in_ok-put-clause-puts g c =
     let s = c.in_ok-answer_next.ensures.some (ap Ok c.if-branch.true) in
-    (s.0, c.answer_next.new.desk.out.items, s.1, s.2, rw (sym c.deref.ensures.value) c.in_ok-put.ensures.ok)
+    (s.0, c.answer_next.new.responder.out.items, s.1, s.2, rw (sym c.deref.ensures.value) c.in_ok-put.ensures.ok)
 
 pub returns-in_err-put-clause-puts : goal.returns-in_err-put-clause-puts
 returns-in_err-put-clause-puts g c =
     let s = c.in_ok-answer_next.ensures.some (ap Ok c.if-branch.true) in
     let p = err_from_is_err_and c.from_residual-in_err-put.result c.from_residual-in_err-put.ensures.1 in
-    TurnPuts-refused _ c.in_err-put.field-0.0 p.0 _ _ _ _ _ _ _ _ s.0 c.answer_next.new.desk.out.items p.1 p.2 s.1 s.2 (rw (sym c.deref.ensures.value) c.in_err-put.ensures.part) c.in_err-put.ensures.no_memory
+    TurnPuts-refused _ c.in_err-put.field-0.0 p.0 _ _ _ _ _ _ _ _ s.0 c.answer_next.new.responder.out.items p.1 p.2 s.1 s.2 (rw (sym c.deref.ensures.value) c.in_err-put.ensures.part) c.in_err-put.ensures.no_memory

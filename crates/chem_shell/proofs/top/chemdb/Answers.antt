@@ -3,7 +3,7 @@ use Rattle.std.proofs.lemmas.Bool.{eqb-false}
 use Rattle.chem_shell.specs.Ends.{with_status, IsServed}
 use Rattle.chem_shell.specs.Status.{IsEndStatus}
 use Rattle.chem_shell.proofs.EndsLemmas.{zip_weaker, zip_right, zip_mapped, all_mapped, fault_of_all_alike, never_usage}
-use Rattle.chem_shell.proofs.SessionLemmas.{front_unmoved}
+use Rattle.chem_shell.proofs.SessionLemmas.{prefix_unmoved}
 use Rattle.chem_shell.proofs.top.chemdb.Goals as goal
 
 pub returns-in-Err-Usage-clause-source_fault : goal.returns-in-Err-Usage-clause-source_fault
@@ -27,8 +27,8 @@ returns-in-Err-NoMemory-clause-sink_fault g c = zip_mapped _ (with_status 8) (λ
 pub returns-in-Err-NoMemory-clause-input_too_long : goal.returns-in-Err-NoMemory-clause-input_too_long
 returns-in-Err-NoMemory-clause-input_too_long g c = zip_mapped _ (with_status 8) (λ e q. absurd (eqb-false 8 9 refl q)) _ _ c.unserved-in-Err-NoMemory.ensures.ends
 
-pub returns-in-Err-NoMemory-clause-mem_front : goal.returns-in-Err-NoMemory-clause-mem_front
-returns-in-Err-NoMemory-clause-mem_front g c = λ asks. zip_mapped _ (with_status 8) (λ e. front_unmoved _ _) _ _ c.unserved-in-Err-NoMemory.ensures.ends
+pub returns-in-Err-NoMemory-clause-mem_prefix : goal.returns-in-Err-NoMemory-clause-mem_prefix
+returns-in-Err-NoMemory-clause-mem_prefix g c = λ asks. zip_mapped _ (with_status 8) (λ e. prefix_unmoved _ _) _ _ c.unserved-in-Err-NoMemory.ensures.ends
 
 pub returns-in-Err-NoMemory-clause-mem_all : goal.returns-in-Err-NoMemory-clause-mem_all
 returns-in-Err-NoMemory-clause-mem_all g c = λ asks. zip_mapped _ (with_status 8) (λ e q. absurd (eqb-false 8 0 refl q)) _ _ c.unserved-in-Err-NoMemory.ensures.ends
@@ -53,9 +53,9 @@ pub returns-clause-input_too_long : goal.returns-clause-input_too_long
 returns-clause-input_too_long g c =
     zip_weaker (IsServed g.S.Source.left g.S.Source.faults g.K.Sink.written g.K.Sink.faults) _ (λ old new served. served.input_too_long) c.args.ends.items c.serve_one-status.new.ends.items c.serve_one-status.ensures.served
 
-pub returns-clause-mem_front : goal.returns-clause-mem_front
-returns-clause-mem_front g c = λ asks.
-    zip_weaker (IsServed g.S.Source.left g.S.Source.faults g.K.Sink.written g.K.Sink.faults) _ (λ old new served. served.front) c.args.ends.items c.serve_one-status.new.ends.items c.serve_one-status.ensures.served
+pub returns-clause-mem_prefix : goal.returns-clause-mem_prefix
+returns-clause-mem_prefix g c = λ asks.
+    zip_weaker (IsServed g.S.Source.left g.S.Source.faults g.K.Sink.written g.K.Sink.faults) _ (λ old new served. served.prefix) c.args.ends.items c.serve_one-status.new.ends.items c.serve_one-status.ensures.served
 
 pub returns-clause-mem_all : goal.returns-clause-mem_all
 returns-clause-mem_all g c = λ asks.

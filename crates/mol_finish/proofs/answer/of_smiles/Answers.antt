@@ -1,20 +1,11 @@
-use Rattle.std.proofs.Common.{ap, ◌∙◌}
 use Rattle.std.proofs.lemmas.Result.{err_from_is_err_and}
-use Rattle.valence.specs.Suppressed.{suppressed}
-use Rattle.mol_finish.proofs.Stages.{structure-made, structure-refused, length-valences}
+use Rattle.mol_finish.proofs.Stages.{smiles-refused}
 use Rattle.mol_finish.proofs.answer.of_smiles.Goals as goal
 
-pub returns-in_err-found : goal.returns-in_err-found
-returns-in_err-found c =
-    let p = err_from_is_err_and c.from_residual-in_err-found.result c.from_residual-in_err-found.ensures.1 in
-    rw (p.1, p.2)
-    (structure-refused _ _ _ _ _ _ c.in_ok-sketch.ensures.reading (c.suppress.ensures.suppressed ∙ ap suppressed c.fill_hydrogens.ensures.filled) c.in_ok-rings.ensures.bonds
-    c.deref.ensures.value c.in_err-found.ensures.refused)
-
-pub molecule-requires-clause-sums : goal.molecule-requires-clause-sums
-molecule-requires-clause-sums c = length-valences _ _ _ _ _ c.in_ok-found.ensures.perceived
+pub returns-in_err-of_sketch : goal.returns-in_err-of_sketch
+returns-in_err-of_sketch c =
+    let p = err_from_is_err_and c.from_residual-in_err-of_sketch.result c.from_residual-in_err-of_sketch.ensures.1 in
+    rw (p.1, p.2) (smiles-refused c.args.text.now c.in_ok-sketch.sketch c.in_err-of_sketch.field-0.0 c.in_ok-sketch.ensures.reading c.in_err-of_sketch.ensures)
 
 pub returns : goal.returns
-returns c =
-    structure-made _ _ _ _ _ _ _ _ _ c.in_ok-sketch.ensures.reading (c.suppress.ensures.suppressed ∙ ap suppressed c.fill_hydrogens.ensures.filled) c.in_ok-rings.ensures.bonds
-    c.deref.ensures.value c.in_ok-found.ensures.perceived c.in_ok-molecule.ensures
+returns c = (c.in_ok-sketch.sketch, c.in_ok-sketch.ensures.reading, c.in_ok-of_sketch.ensures)

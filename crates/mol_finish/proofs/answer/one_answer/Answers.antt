@@ -1,5 +1,5 @@
-use Rattle.mol_finish.proofs.Unique.{answer-one}
+use Rattle.mol_finish.proofs.UniqueMol.{answers-one}
 use Rattle.mol_finish.proofs.answer.one_answer.Goals as goal
 
 pub returns : goal.returns
-returns c = answer-one c.one_tree.ensures c.one_answer.ensures.bonds
+returns c = answers-one c.one_reading.ensures c.one_reading-2.ensures c.one_answer.ensures.bonds

@@ -1,5 +1,5 @@
-use Rattle.mol_finish.proofs.Unique.{structure-one}
+use Rattle.mol_finish.proofs.UniqueMol.{structures-one}
 use Rattle.mol_finish.proofs.answer.one_structure.Goals as goal
 
 pub returns : goal.returns
-returns c = structure-one c.one_tree.ensures c.one_answer.ensures.bonds
+returns c = structures-one c.one_reading.ensures c.one_reading-2.ensures c.one_answer.ensures.bonds

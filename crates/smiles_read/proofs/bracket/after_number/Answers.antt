@@ -1,32 +1,37 @@
-use Rattle.std.proofs.Common.{◌∙◌, sym, ◌++◌, inl, inr, arith, ap}
+use Rattle.std.proofs.Common.{◌∙◌, sym, ◌++◌, inl, inr, refl, arith, ap}
 use Rattle.std.specs.Fmt.{decimal}
-use Rattle.smiles_read.proofs.Digits.{same_digits, decimal_digits}
+use Rattle.smiles_read.specs.Owed.Digits.{same_digits, decimal_digits}
 use Rattle.smiles_read.proofs.bracket.after_number.Goals as goal
 use Rattle.smiles_read.proofs.bracket.after_number.Goals.{then-number-eq0-via-then-number-eq0, then-number-eq0-via-else-number-eq0+then-number-most}
 
-pub returns-then-number-eq0-clause-only : goal.returns-then-number-eq0-clause-only
-returns-then-number-eq0-clause-only c n rest some few after h =
-    let most = c.requires in
-    let same = same_digits c.digits_at.result.0.now (decimal n) c.digits_at.result.1.now rest c.digits_at.ensures.digits (decimal_digits n (omega arith)) c.digits_at.ensures.all after (sym c.digits_at.ensures.split ∙ h) in
-    let number = c.short_number-number.ensures.only n (omega arith) same.0 in
-    elim c.then-number-eq0.branch [
-      | then-number-eq0-via-then-number-eq0 w ↦ omega arith
-      | then-number-eq0-via-else-number-eq0+then-number-most w ↦ omega arith
-    ]
+pub returns-then-number-eq0 : goal.returns-then-number-eq0
+returns-then-number-eq0 c = record {
+  found = tt;
+  only = λ n rest is after h.
+      let most = c.requires in
+      let some = is.0 in
+      let few = is.1 in
+      let same = same_digits c.digits_at.result.0.now (decimal n) c.digits_at.result.1.now rest c.digits_at.ensures.digits (decimal_digits n (omega arith)) c.digits_at.ensures.all after (sym c.digits_at.ensures.split ∙ h) in
+      let number = c.short_number-number.ensures.only n (omega arith) same.0 in
+      elim c.then-number-eq0.branch [
+        | then-number-eq0-via-then-number-eq0 w ↦ omega arith
+        | then-number-eq0-via-else-number-eq0+then-number-most w ↦ omega arith
+      ];
+}
 
-pub returns-clause-found : goal.returns-clause-found
-returns-clause-found c =
-    let n = c.short_number-number.result in (
-      n,
-      omega arith,
-      omega arith,
-      elim c.short_number-number.ensures.found [
-        | inl zero ↦ absurd (omega arith)
-        | inr is ↦ c.digits_at.ensures.split ∙ ap (λ w. w ++ c.digits_at.result.1.now) is
-      ],
-    )
-
-pub returns-clause-only : goal.returns-clause-only
-returns-clause-only c n rest some few after h =
-    let most = c.requires in
-    (same_digits c.digits_at.result.0.now (decimal n) c.digits_at.result.1.now rest c.digits_at.ensures.digits (decimal_digits n (omega arith)) c.digits_at.ensures.all after (sym c.digits_at.ensures.split ∙ h)).1
+pub returns : goal.returns
+returns c = record {
+  found = (
+    c.short_number-number.result,
+    (omega arith, omega arith),
+    elim c.short_number-number.ensures.found [
+      | inl zero ↦ absurd (omega arith)
+      | inr is ↦ c.digits_at.ensures.split ∙ ap (λ w. w ++ c.digits_at.result.1.now) is
+    ],
+    refl,
+  );
+  only = λ n rest is after h.
+      let most = c.requires in
+      let few = is.1 in
+      (same_digits c.digits_at.result.0.now (decimal n) c.digits_at.result.1.now rest c.digits_at.ensures.digits (decimal_digits n (omega arith)) c.digits_at.ensures.all after (sym c.digits_at.ensures.split ∙ h)).1;
+}

@@ -1,5 +1,5 @@
 use Rattle.std.proofs.Common.{inl, inr, refl, arith}
-use Rattle.smiles_read.proofs.Digits.{one_value, both_digits, one_found, one_only, two_found, two_only, other_only}
+use Rattle.smiles_read.specs.Owed.Digits.{one_value, both_digits, one_found, one_only, two_found, two_only, other_only}
 use Rattle.smiles_read.proofs.digit.short_number.Goals as goal
 
 pub returns-then-tens-eq48-clause-only : goal.returns-then-tens-eq48-clause-only

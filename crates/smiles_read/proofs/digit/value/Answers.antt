@@ -1,5 +1,5 @@
 use Rattle.std.proofs.Common.{arith}
-use Rattle.smiles_read.proofs.Digits.{one_value, both_digits, three_digits}
+use Rattle.smiles_read.specs.Owed.Digits.{one_value, both_digits, three_digits}
 use Rattle.smiles_read.proofs.digit.value.Goals as goal
 
 pub returns-in-len1-clause-value : goal.returns-in-len1-clause-value

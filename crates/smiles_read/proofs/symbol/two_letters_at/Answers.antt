@@ -1,5 +1,5 @@
 use Rattle.std.proofs.Common.{get_or, ap, arith}
-use Rattle.smiles_read.proofs.Symbols.{two_is_lower}
+use Rattle.smiles_read.specs.Owed.Symbols.{two_is_lower}
 use Rattle.smiles_read.proofs.symbol.two_letters_at.Goals as goal
 
 pub returns-then-second-lt97-clause-none : goal.returns-then-second-lt97-clause-none

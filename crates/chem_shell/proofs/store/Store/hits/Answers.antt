@@ -12,4 +12,4 @@ returns-clause-hits c =
 
 pub returns-clause-few : goal.returns-clause-few
 returns-clause-few c =
-    omega (arith, Selects-length (Matches (pattern_of c.args.pattern.now)) c.self.inside.live.entries c.in_ok-ids.ids.items c.in_ok-ids.ensures.selects, c.self.invariant.size, c.self.invariant.few)
+    omega (arith, Selects-length (Matches (pattern_of c.args.pattern.now)) c.self.inside.live.entries c.in_ok-ids.ids.items c.in_ok-ids.ensures.selects, c.self.invariant.size, c.self.invariant.history.few)

@@ -1,0 +1,79 @@
+//! A session puts the replies to a line before it takes more bytes for the next.
+ghost use Rattle.std.specs.Prelude.{◌<◌, ◌^◌, None};
+
+use chem_shell::top::{End, chemdb};
+use io_edge::{PutFault, Sink, Source, Take};
+use std::alloc::Global;
+use std::sync::Arc;
+use std::sync::atomic::{AtomicU64, Ordering};
+use std::test::Fail;
+
+// Gives one line at each take. From the second on, it fails where the other end has not got a reply to each line before.
+#[derive(Drop)]
+struct Asker {
+    taken: u64,
+    puts: Arc<AtomicU64, Global>,
+    faults: u64,
+    ghost held: { faults < 2 ^ 64 },
+}
+
+impl Source for Asker {
+    ghost left = { λ _. None };
+
+    ghost faults = { λ s. s.faults };
+
+    fn take(&mut self, room: &mut [u8]) -> Take {
+        let line = b"stats\n";
+        if self.puts.load(Ordering::SeqCst) != self.taken {
+            self.faults = self.faults.saturating_add(1);
+            return Take::Failed;
+        }
+        if self.taken == 3 || room.len() < line.len() {
+            return Take::End;
+        }
+        self.taken += 1;
+        room[..line.len()].copy_from_slice(line);
+        Take::Bytes(line.len())
+    }
+}
+
+// Counts its puts.
+#[derive(Drop)]
+struct Teller {
+    puts: Arc<AtomicU64, Global>,
+}
+
+impl Sink for Teller {
+    ghost written = { λ _. None };
+
+    ghost faults = { λ _. 0 };
+
+    fn put(&mut self, _bytes: &[u8]) -> Result<(), PutFault> {
+        self.puts.fetch_add(1, Ordering::SeqCst);
+        Ok(())
+    }
+}
+
+#[test]
+fn replies_are_put_before_more_is_taken(rt: HostRuntime) -> Result<(), Fail> {
+    let alloc = rt.alloc();
+    let puts = Arc::new(alloc, AtomicU64::new(0))?;
+    let source = Asker {
+        taken: 0,
+        puts: Arc::try_clone(&puts)?,
+        faults: 0,
+    };
+    let sink = Teller {
+        puts: Arc::try_clone(&puts)?,
+    };
+    let mut ends = Vec::new(alloc);
+    ends.push(End {
+        source,
+        sink,
+        status: 0,
+    })?;
+    let outcome = chemdb(&rt, alloc, &["mem"], (), (), ends);
+    assert_eq!(rt; outcome.status, 0);
+    assert_eq!(rt; puts.load(Ordering::SeqCst), 3);
+    Ok(())
+}

@@ -1,0 +1,29 @@
+-- For callers: what the texts of a script mean.
+use Rattle.std.specs.Prelude.{◌≡◌, ℕ, List, Err}
+use Rattle.chem_core.specs.Molecule.{Molecule}
+use Rattle.mol_finish.specs.Structure.{HasMolecule, IsAnswer}
+use Rattle.mol_finish.specs.declared.fault.Format.{Format}
+use Rattle.mol_finish.specs.declared.fault.TextFault.{TextFault}
+use Rattle.mol_finish.specs.declared.fault.TextFault.TheVariants as faults
+use Rattle.smarts_parse.specs.Pattern.{PatternTerm}
+use Rattle.smarts_parse.specs.Chain as smarts
+use Rattle.smarts_parse.specs.declared.fault.SmartsFault.{SmartsFault}
+use Rattle.smarts_parse.specs.declared.fault.SmartsFault.TheVariants as patterns
+
+-- the text has a structure
+abbrev pub IsText : Format → List ℕ → Type 0
+IsText format text = (m : Molecule) × HasMolecule format text m
+
+-- the text has none, for this cause. Want of memory is no cause
+abbrev pub IsTextFault : Format → List ℕ → TextFault → Type 0
+IsTextFault format text faults.NoMemory = ⊥
+IsTextFault format text fault = IsAnswer format text (Err fault)
+
+-- the text is of this pattern
+abbrev pub IsPatternOf : List ℕ → PatternTerm → Type 0
+IsPatternOf text p = (chain : smarts.Chain) × (text ≡ smarts.spelling chain) × (p ≡ smarts.chain_pattern chain)
+
+-- the text is no pattern, for this cause
+abbrev pub IsPatternFault : List ℕ → SmartsFault → Type 0
+IsPatternFault text patterns.Syntax = (p : PatternTerm) → IsPatternOf text p → ⊥
+IsPatternFault text fault = ⊥

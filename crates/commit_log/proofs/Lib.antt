@@ -1,0 +1,2 @@
+mod OneLog
+mod Taken

@@ -1,0 +1,18 @@
+use Rattle.std.proofs.Common.{◌≡◌, ◌-◌, ◌^◌, [], false}
+use Rattle.journal_core.specs.Journal.{Reads}
+use Rattle.journal_core.specs.Looks.{Looks}
+use Rattle.commit_log.specs.Log.{Takes, changes_of, payloads}
+use Rattle.commit_log.proofs.log.read_all.Given as goal
+
+abbrev pub invariant-loop-commit : goal.invariant-loop-commit
+invariant-loop-commit g l =
+    let d = g.D.Disk in
+    record {
+      settled : l.journal.doubt ≡ false;
+      takes : Takes l.fn.journal.place l.commits.items l.journal.place;
+      reads : Reads d.content d.images l.fn.journal [] → Reads d.content d.images l.journal (payloads (changes_of l.commits.items));
+      looks : Looks d.content d.images d.clock d.images_between d.faults d.bound l.fn.journal.disk l.journal.disk;
+    }
+
+abbrev pub decreases-loop-commit : goal.decreases-loop-commit
+decreases-loop-commit g l = 2 ^ 64 - l.journal.place

@@ -1,0 +1,55 @@
+//! A change is written.
+
+ghost use Rattle.std.specs.Prelude.{◌≡◌, ◌∷◌, ◌++◌, IfOk};
+ghost use Rattle.std.specs.Int.{to_le_bytes, w32};
+ghost use Rattle.commit_log.specs.Change.{change_of, format_byte, written};
+
+use crate::change::{Format, REGISTER, REVISE, WITHDRAW, Wire};
+use std::alloc::{AllocError, Global};
+
+/// The payload of a change.
+pub fn encode(alloc: Global, change: &Wire) -> Result<Vec<u8>, AllocError>
+    ensures { IfOk result (λ payload. payload.items ≡ written (change_of change.now)) }
+{
+    match change {
+        Wire::Register { id, format, text } => with_text(alloc, REGISTER, *id, *format, text),
+        Wire::Revise { id, format, text } => with_text(alloc, REVISE, *id, *format, text),
+        Wire::Withdraw { id } => with_id(alloc, WITHDRAW, *id, 0),
+    }
+}
+
+// A kind, an identifier, a format and a text.
+fn with_text(
+    alloc: Global,
+    kind: u8,
+    id: u32,
+    format: Format,
+    text: &[u8],
+) -> Result<Vec<u8>, AllocError>
+    ensures { IfOk result
+        (λ v. v.items ≡ kind ∷ (to_le_bytes w32 id ++ format_byte format ∷ text.now)) }
+{
+    let mut payload = with_id(alloc, kind, id, text.len())?;
+    payload.push(byte_of(format))?;
+    payload.extend_from_slice(text)?;
+    Ok(payload)
+}
+
+// A kind and an identifier, with room for a text.
+fn with_id(alloc: Global, kind: u8, id: u32, room: usize) -> Result<Vec<u8>, AllocError>
+    ensures { IfOk result (λ v. v.items ≡ kind ∷ to_le_bytes w32 id) }
+{
+    let mut payload = Vec::with_capacity(alloc, room.saturating_add(6))?;
+    payload.push(kind)?;
+    payload.extend_from_slice(&id.to_le_bytes())?;
+    Ok(payload)
+}
+
+fn byte_of(format: Format) -> u8
+    ensures { result ≡ format_byte format }
+{
+    match format {
+        Format::Smiles => 1,
+        Format::Molfile => 2,
+    }
+}

@@ -1,0 +1,11 @@
+pub mod Disk
+pub mod Entries
+pub mod Failures
+pub mod File
+pub mod Fresh
+pub mod Image
+pub mod MayRemain
+pub mod Medium
+pub mod MediumLaws
+pub mod Moments
+pub mod TornLaws

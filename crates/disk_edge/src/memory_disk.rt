@@ -1,0 +1,59 @@
+//! A disk in memory is a disk: its images at each moment follow from its record.
+
+ghost use Rattle.std.specs.Prelude.{Some, length};
+ghost use Rattle.disk_edge.specs.Failures.{bound_of};
+ghost use Rattle.disk_edge.specs.Medium as medium;
+ghost use Rattle.disk_edge.specs.MediumLaws as laws;
+
+use crate::disk::{Disk, DiskFail};
+use crate::memory::MemDisk;
+
+impl Disk for MemDisk {
+    ghost content = { λ d. Some (medium.replay d.first d.calls) };
+
+    ghost images = { λ d. medium.Images d.first d.calls };
+
+    ghost clock = { λ d. length d.calls };
+
+    ghost images_between = { λ d. medium.Between d.first d.calls };
+
+    ghost faults = { λ d. d.failures.count };
+
+    ghost bound = { λ d. bound_of d.failures };
+
+    fn len(&mut self) -> Result<u64, DiskFail> {
+        if self.call() {
+            return Err(DiskFail::Failed);
+        }
+        Ok(self.bytes().len() as u64)
+    }
+
+    fn read_at(&mut self, at: u64, room: &mut [u8]) -> Result<(), DiskFail> {
+        if self.call() {
+            return Err(DiskFail::Failed);
+        }
+        let at = at as usize;
+        room.copy_from_slice(&self.bytes()[at..at + room.len()]);
+        Ok(())
+    }
+
+    fn write_at(&mut self, at: u64, bytes: &[u8]) -> Result<(), DiskFail> {
+        self.write(at as usize, bytes)
+    }
+
+    fn sync(&mut self) -> Result<(), DiskFail> {
+        self.sync_all()
+    }
+
+    ghost content_is_image = { laws.content_is_image };
+
+    ghost counts_now = { λ d. laws.counts d.first d.calls };
+
+    ghost only_now = { λ d. laws.only_since d.first d.calls (length d.calls) };
+
+    ghost parts = { λ d. laws.in_parts d.first d.calls };
+
+    ghost whole = { λ d. laws.in_whole d.first d.calls };
+
+    ghost within = { laws.within };
+}

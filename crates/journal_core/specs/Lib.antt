@@ -1,0 +1,9 @@
+pub mod Answers
+pub mod Found
+pub mod Inside
+pub mod Journal
+pub mod LookLaws
+pub mod Looks
+pub mod RecordLaws
+pub mod Records
+pub mod Standing

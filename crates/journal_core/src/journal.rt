@@ -1,0 +1,205 @@
+//! A journal that is appended to. `append` reads in the order of an atomic commit: the record is written behind a gate
+//! that is not open, with a closed gate behind it, and synced; then the gate is opened, and synced.
+
+ghost use Rattle.std.specs.Prelude.{◌≡◌, ◌<◌, ◌≤◌, ◌+◌, ◌^◌, [], ◌∷◌, ◌++◌, ℕ, List, Some, true, false, length, OnOk, OnErr, IfOk};
+ghost use Rattle.disk_edge.specs.Disk.{Keeps, Rose, Counts, OnFailed, OnNoMemory};
+ghost use Rattle.disk_edge.specs.Moments.{AtEachMoment};
+ghost use Rattle.journal_core.specs.Answers.{OnSure, OnDoubt, OnWant, is_doubt};
+ghost use Rattle.journal_core.specs.Journal.{Rests, Doubts};
+ghost use Rattle.journal_core.specs.Records.{Opens, IsShort, body, BeforeOrAfter};
+ghost use Rattle.journal_core.specs.declared.format.TheConstants.{CLOSED};
+
+use crate::faults::AppendFault;
+use crate::format::{CLOSED, OPEN};
+use crate::put::put;
+use crate::window::Window;
+use disk_edge::{Disk, DiskFail, MemDisk};
+use std::alloc::{AllocError, Global};
+use std::marker::Model;
+
+/// A journal on a disk. It stands at a gate: of the next record to read, or of the next to append.
+#[derive(Drop)]
+pub struct Journal<D: Disk> {
+    pub(crate) alloc: Global,
+    pub(crate) disk: D,
+    pub(crate) window: Window,
+    pub(crate) place: u64,
+    pub(crate) ready: bool,
+    pub(crate) doubt: bool,
+}
+
+impl<D: Disk> Model for Journal<D> {
+    ghost use Rattle.journal_core.specs.Standing.{Standing};
+
+    ghost Value = { Standing D };
+
+    ghost use Rattle.journal_core.specs.Inside.{IsSound};
+
+    ghost view = { λ j. record {
+      disk = j.disk;
+      place = j.place;
+      ready = j.ready;
+      doubt = j.doubt;
+    } };
+
+    ghost invariant = { λ j. IsSound (D.content j.disk) j.window j.place j.ready j.doubt };
+}
+
+impl<D: Disk> Journal<D> {
+    /// Adds a payload of 1 to 1,048,576 bytes at the gate at which the journal stands. At `Ok` it is acknowledged: each
+    /// crash from then on leaves it.
+    pub fn append(&mut self, payload: &[u8]) -> Result<(), AppendFault>
+        requires ready { self.old.ready ≡ true }
+        requires sure { self.old.doubt ≡ false }
+        requires some { 1 ≤ length payload.now }
+        requires few { IsShort payload.now }
+        requires room { self.old.place < 2 ^ 62 }
+
+        ensures ok { OnOk result ((ps : List (List ℕ)) → Rests D.content D.images self.old ps
+            → Rests D.content D.images self.new (ps ++ payload.now ∷ [])) }
+        ensures sure { OnSure result ((ps : List (List ℕ)) → Rests D.content D.images self.old ps
+            → Rests D.content D.images self.new ps) }
+        ensures no_image { OnSure result ((ps : List (List ℕ))
+            → Rests D.content D.images self.old ps
+            → (c : List ℕ) → D.images self.new.disk c → ¬ Opens (ps ++ payload.now ∷ []) c) }
+        ensures doubt { OnDoubt result ((ps : List (List ℕ)) → Rests D.content D.images self.old ps
+            → Doubts D.content D.images self.new ps payload.now) }
+        ensures no_memory { OnWant result ((ps : List (List ℕ))
+            → Rests D.content D.images self.old ps
+            → Rests D.content D.images self.new ps) }
+        ensures in_doubt { self.new.doubt ≡ is_doubt result }
+        ensures ready { self.new.ready ≡ true }
+        ensures moved { OnOk result (self.new.place ≡ self.old.place + 5 + length payload.now) }
+        ensures stays { OnErr result (self.new.place ≡ self.old.place) }
+
+        // A crash at any moment of the call leaves the payloads from before it, with the new one or without.
+        ensures moments { (ps : List (List ℕ)) → Rests D.content D.images self.old ps
+            → AtEachMoment D.clock D.images_between self.old.disk self.new.disk
+            (BeforeOrAfter ps payload.now) }
+        ensures past { Keeps D.clock D.images_between self.old.disk self.new.disk }
+
+        ensures sure_cause { OnSure result
+            (Rose (D.faults self.old.disk) (D.faults self.new.disk)) }
+        ensures doubt_cause { OnDoubt result
+            (Rose (D.faults self.old.disk) (D.faults self.new.disk)) }
+        ensures count { Counts (D.faults self.old.disk) (D.faults self.new.disk)
+            (D.bound self.old.disk) (D.bound self.new.disk) }
+    {
+        let Ok(staged) = staged_bytes(self.alloc, payload) else {
+            return Err(AppendFault::NoMemory);
+        };
+        self.window.forget();
+        match put(&mut self.disk, self.place + 1, &staged) {
+            Ok(()) => {}
+            Err(DiskFail::Failed) => return Err(AppendFault::Sure),
+            Err(DiskFail::NoMemory) => return Err(AppendFault::NoMemory),
+        }
+        match put(&mut self.disk, self.place, &[OPEN]) {
+            Ok(()) => {}
+            Err(DiskFail::Failed) => {
+                self.doubt = true;
+                return Err(AppendFault::Doubt);
+            }
+            Err(DiskFail::NoMemory) => return Err(AppendFault::NoMemory),
+        }
+        self.place += 5 + payload.len() as u64;
+        Ok(())
+    }
+
+    /// Ends a doubt. At `Ok` the payload in doubt will not appear.
+    pub fn settle(&mut self) -> Result<(), DiskFail>
+        requires doubt { self.old.doubt ≡ true }
+
+        ensures ok { OnOk result ((ps : List (List ℕ)) (p : List ℕ)
+            → Doubts D.content D.images self.old ps p → Rests D.content D.images self.new ps) }
+        ensures gone { OnOk result ((ps : List (List ℕ)) (p : List ℕ)
+            → Doubts D.content D.images self.old ps p
+            → (c : List ℕ) → D.images self.new.disk c → ¬ Opens (ps ++ p ∷ []) c) }
+        ensures failed { OnFailed result ((ps : List (List ℕ)) (p : List ℕ)
+            → Doubts D.content D.images self.old ps p → Doubts D.content D.images self.new ps p) }
+        ensures no_memory { OnNoMemory result ((ps : List (List ℕ)) (p : List ℕ)
+            → Doubts D.content D.images self.old ps p → Doubts D.content D.images self.new ps p) }
+        ensures settled { OnOk result (self.new.doubt ≡ false) }
+        ensures in_doubt { OnErr result (self.new.doubt ≡ true) }
+        ensures ready { self.new.ready ≡ true }
+        ensures place { self.new.place ≡ self.old.place }
+
+        // A crash at any moment of the call leaves the payloads without the one in doubt or with it.
+        ensures moments { (ps : List (List ℕ)) (p : List ℕ)
+            → Doubts D.content D.images self.old ps p
+            → AtEachMoment D.clock D.images_between self.old.disk self.new.disk
+            (BeforeOrAfter ps p) }
+        ensures past { Keeps D.clock D.images_between self.old.disk self.new.disk }
+
+        ensures cause { OnFailed result (Rose (D.faults self.old.disk) (D.faults self.new.disk)) }
+        ensures count { Counts (D.faults self.old.disk) (D.faults self.new.disk)
+            (D.bound self.old.disk) (D.bound self.new.disk) }
+    {
+        self.window.forget();
+        match put(&mut self.disk, self.place, &[CLOSED]) {
+            Ok(()) => {
+                self.doubt = false;
+                Ok(())
+            }
+            Err(DiskFail::Failed) => Err(DiskFail::Failed),
+            Err(DiskFail::NoMemory) => Err(DiskFail::NoMemory),
+        }
+    }
+
+    /// Whether a payload is in doubt: some crash leaves it, though it was not acknowledged. Takes no memory.
+    pub fn doubt(&self) -> bool
+        ensures { result ≡ self.now.doubt }
+    {
+        self.doubt
+    }
+
+    /// The place of the gate at which the journal stands. Takes no memory.
+    pub fn place(&self) -> u64
+        ensures { result ≡ self.now.place }
+    {
+        self.place
+    }
+
+    /// The disk. Takes no memory.
+    pub fn into_disk(self) -> D
+        ensures { result ≡ self.disk }
+    {
+        self.disk
+    }
+}
+
+impl Journal<MemDisk> {
+    /// So many calls of the disk pass, and then each fails. Takes no memory.
+    pub fn stop_after(&mut self, calls: u64)
+        ensures { self.new ≡ record self.old {
+          disk = record self.old.disk {
+            failures = record self.old.disk.failures { passes = Some calls };
+          };
+        } }
+    {
+        self.disk.stop_after(calls);
+    }
+
+    /// The call of the disk of this number from now, counted from 1, fails. Takes no memory.
+    pub fn fail_once(&mut self, call: u64)
+        ensures { self.new ≡ record self.old {
+          disk = record self.old.disk {
+            failures = record self.old.disk.failures { once = Some call };
+          };
+        } }
+    {
+        self.disk.fail_once(call);
+    }
+}
+
+// A payload behind its length, and a closed gate.
+fn staged_bytes(alloc: Global, payload: &[u8]) -> Result<Vec<u8>, AllocError>
+    requires { IsShort payload.now }
+    ensures { IfOk result (λ bytes. bytes.items ≡ body payload.now ++ CLOSED ∷ []) }
+{
+    let mut bytes = Vec::with_capacity(alloc, payload.len() + 5)?;
+    bytes.extend_from_slice(&(payload.len() as u32).to_le_bytes())?;
+    bytes.extend_from_slice(payload)?;
+    bytes.push(CLOSED)?;
+    Ok(bytes)
+}

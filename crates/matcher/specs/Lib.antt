@@ -1,0 +1,5 @@
+pub mod Least
+pub mod Partial
+pub mod Plan
+pub mod Parts
+pub mod Task

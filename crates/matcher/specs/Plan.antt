@@ -1,0 +1,22 @@
+-- For private clauses alone: where each atom's bonds to earlier atoms stand among the bonds of a graph.
+use Rattle.std.specs.Prelude.{◌≡◌, ◌⊎◌, ℕ, ◌<◌, ◌≤◌, List, length, max, slice_index_or}
+use Rattle.smarts_parse.specs.Pattern.{BondTerm, GraphTerm}
+use Rattle.matcher.specs.declared.plan.Step.{Step}
+use Rattle.matcher.specs.Partial.{IsSearchable}
+
+-- the step at a place; past the list's end an empty one
+abbrev pub step_at : List Step → ℕ → Step
+step_at steps k = slice_index_or steps k (record { from = 0; to = 0 })
+
+-- Each of the first n bonds stands in the step of its higher end, and a step that is not empty begins with a bond whose higher end is its atom.
+pub record ArePlanned (bonds : List BondTerm) (n atoms : ℕ) (steps : List Step) : Type 0 where
+  pub room : atoms ≤ length steps
+  pub within : (k : ℕ) (d : BondTerm) → k < n → let bond = slice_index_or bonds k d in ((step_at steps (max bond.a bond.b)).from ≤ k) × (k < (step_at steps (max bond.a bond.b)).to)
+  pub ends : (k : ℕ) → k < atoms → (step_at steps k).to ≤ n
+  pub proper : (k : ℕ) → k < atoms → ((step_at steps k).to ≡ 0) ⊎ ((step_at steps k).from < (step_at steps k).to)
+  pub first : (k : ℕ) (d : BondTerm) → k < atoms → (step_at steps k).from < (step_at steps k).to → let bond = slice_index_or bonds (step_at steps k).from d in max bond.a bond.b ≡ k
+
+-- a graph that can be searched for, and its steps
+pub record IsReady (g : GraphTerm) (steps : List Step) : Type 0 where
+  pub searchable : IsSearchable g
+  pub planned : ArePlanned g.bonds (length g.bonds) (length g.atoms) steps

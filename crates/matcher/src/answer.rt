@@ -1,0 +1,98 @@
+//! The calls of the crate: the least embedding of a pattern, and whether there is one.
+ghost use Rattle.std.specs.Prelude.{◌≡◌, ◌↔◌, [], false, length, take, IfNone, IfSome, IsTrue};
+ghost use Rattle.smarts_parse.specs.Embedding.{Matches};
+ghost use Rattle.smarts_parse.specs.Pattern.{pattern_of};
+ghost use Rattle.smarts_parse.specs.Sound.{IsSoundPattern};
+ghost use Rattle.matcher.specs.Least.{IsLeast};
+ghost use Rattle.matcher.specs.Task.{Completes, IsReadyTask};
+
+use crate::choices::Choices;
+use crate::fit::Task;
+use crate::parts::note_parts;
+use crate::plan::plan;
+use crate::refusal::{has_bond, has_candidate};
+use crate::scratch::Scratch;
+use crate::search::extend;
+use chem_core::Mol;
+use smarts_parse::Pattern;
+
+/// An embedding of a pattern: for each atom of its top graph the atom of the molecule where it stands.
+#[derive(Debug, Drop)]
+pub struct Embedding<'s> {
+    pub atoms: &'s [u16],
+}
+
+/// The least embedding of the pattern in the molecule, in the order of dictionaries; `None` if there is none.
+///
+/// Takes no memory. The worst case takes exponential time.
+pub fn first<'s>(pattern: &Pattern, mol: &Mol, scratch: &'s mut Scratch) -> Option<Embedding<'s>>
+    requires { IsSoundPattern (pattern_of pattern.now) }
+    ensures some { IfSome result (λ embedding. IsLeast (pattern_of pattern.now) mol.now embedding.atoms.now) }
+    ensures none { IfNone result (¬ Matches (pattern_of pattern.now) mol.now) }
+{
+    if find(pattern, mol, scratch) {
+        Some(Embedding {
+            atoms: &scratch.image[..pattern.top.atoms.len()],
+        })
+    } else {
+        None
+    }
+}
+
+/// Whether the pattern has an embedding in the molecule.
+///
+/// Takes no memory. The worst case takes exponential time.
+pub fn has(pattern: &Pattern, mol: &Mol, scratch: &mut Scratch) -> bool
+    requires { IsSoundPattern (pattern_of pattern.now) }
+    ensures { IsTrue result ↔ Matches (pattern_of pattern.now) mol.now }
+{
+    find(pattern, mol, scratch)
+}
+
+// Leaves the least embedding at the front of the scratch's image, if there is one.
+fn find(pattern: &Pattern, mol: &Mol, scratch: &mut Scratch) -> bool
+    requires { IsSoundPattern (pattern_of pattern.now) }
+    ensures found { IsTrue result → IsLeast (pattern_of pattern.now) mol.now
+        (take (length pattern.now.top.atoms.items) scratch.new.image.items) }
+    ensures none { result ≡ false → ¬ Matches (pattern_of pattern.now) mol.now }
+{
+    note_parts(&pattern.recs, mol, scratch);
+    plan(&pattern.top, &mut scratch.steps);
+    let task = Task {
+        graph: &pattern.top,
+        mol,
+        table: &scratch.table,
+        steps: &scratch.steps,
+    };
+    if is_refused(&task, &mut scratch.choices) {
+        return false;
+    }
+    extend(&task, &mut scratch.image, &mut scratch.choices, 0)
+}
+
+// Whether it is found before any search that the graph has no embedding.
+fn is_refused(task: &Task, choices: &mut Choices) -> bool
+    requires { IsReadyTask task.now }
+    ensures { IsTrue result → ¬ Completes task.now [] }
+{
+    if is_loose(task) {
+        return choices.refuse(task, &[]);
+    }
+    for place in 0..task.graph.bonds.len() {
+        if !has_bond(task, place) {
+            return true;
+        }
+    }
+    task.graph.atoms.len() == 1 && !has_candidate(task, 0)
+}
+
+// Whether an atom other than the first has no bond to an earlier one.
+fn is_loose(task: &Task) -> bool {
+    let others = task.steps.iter().take(task.graph.atoms.len()).skip(1);
+    for step in others {
+        if step.from >= step.to {
+            return true;
+        }
+    }
+    false
+}

@@ -1,0 +1,191 @@
+//! A choice of different atoms for the places of a graph that are left, each where its place may stand: places choose
+//! in turn, and one that finds all its atoms chosen lets earlier places choose anew, along a shortest chain.
+//!
+//! Nothing is promised of a choice. Where none is found, the places and atoms that the last try reached show why.
+ghost use Rattle.std.specs.Prelude.{◌≡◌, ◌<◌, false, length, IsTrue};
+ghost use Rattle.matcher.specs.Task.{Completes, IsReadyTask};
+
+use crate::fit::Task;
+use crate::refusal::{excludes, may_stand};
+use chem_core::MOST_ATOMS;
+use std::alloc::{AllocError, Global};
+
+/// No place, no atom.
+const NONE: u16 = u16::MAX;
+
+/// The most places of a graph.
+const MOST_PLACES: usize = 256;
+
+/// Memory for choices.
+#[derive(Debug, Drop)]
+pub struct Choices {
+    // for each place the atom that it chose, and whether the last try reached it
+    chosen: Vec<u16>,
+    reached: Vec<bool>,
+    // for each atom the place that chose it, whether the last try reached it, and from which place
+    holder: Vec<u16>,
+    seen: Vec<bool>,
+    from: Vec<u16>,
+    // the places that the last try reached, in turn
+    queue: Vec<u16>,
+    // how many searches found no place for an atom that no bond joins to an earlier one
+    failures: u64,
+}
+
+impl Choices {
+    /// Takes the memory.
+    pub fn reserve(alloc: Global) -> Result<Choices, AllocError> {
+        Ok(Choices {
+            chosen: vec![in alloc; NONE; MOST_PLACES]?,
+            reached: vec![in alloc; false; MOST_PLACES]?,
+            holder: vec![in alloc; NONE; MOST_ATOMS]?,
+            seen: vec![in alloc; false; MOST_ATOMS]?,
+            from: vec![in alloc; NONE; MOST_ATOMS]?,
+            queue: vec![in alloc; NONE; MOST_PLACES]?,
+            failures: 0,
+        })
+    }
+
+    /// How many failures were counted, modulo 2^64.
+    pub fn failures(&self) -> u64 {
+        self.failures
+    }
+
+    /// Counts a failure.
+    pub fn fail(&mut self) {
+        self.failures = self.failures.wrapping_add(1);
+    }
+
+    /// Whether it is found that the graph cannot be completed after the atoms in front.
+    pub fn refuse(&mut self, task: &Task, front: &[u16]) -> bool
+        requires { IsReadyTask task.now }
+        ensures { IsTrue result → ¬ Completes task.now front.now }
+    {
+        let places = task.graph.atoms.len();
+        let atoms = task.mol.atoms().len();
+        for chosen in self.chosen.iter_mut().take(places) {
+            *chosen = NONE;
+        }
+        for holder in self.holder.iter_mut().take(atoms) {
+            *holder = NONE;
+        }
+        for place in front.len()..places {
+            if !self.choose(task, front, place) {
+                return self.shows_why(task, front);
+            }
+        }
+        false
+    }
+
+    // Whether the places and atoms that the last try reached show that the graph cannot be completed.
+    fn shows_why(&self, task: &Task, front: &[u16]) -> bool
+        requires { IsReadyTask task.now }
+        ensures { IsTrue result → ¬ Completes task.now front.now }
+    {
+        let places = task.graph.atoms.len();
+        let atoms = task.mol.atoms().len();
+        if self.reached.len() < places || self.seen.len() < atoms {
+            return false;
+        }
+        excludes(task, front, &self.reached[..places], &self.seen[..atoms])
+    }
+
+    // Gives the place an atom, if it can have one.
+    fn choose(&mut self, task: &Task, front: &[u16], place: usize) -> bool
+        requires ready { IsReadyTask task.now }
+        requires place { place < length task.now.graph.now.atoms.items }
+    {
+        let places = task.graph.atoms.len();
+        let atoms = task.mol.atoms().len();
+        for reached in self.reached.iter_mut().take(places) {
+            *reached = false;
+        }
+        for seen in self.seen.iter_mut().take(atoms) {
+            *seen = false;
+        }
+        let mut last = self.reach(place as u16, 0);
+        for next in 0..places {
+            let from = self.queue.get(next).copied().unwrap_or(NONE);
+            if next >= last || usize::from(from) >= places {
+                return false;
+            }
+            match self.step(task, front, from, last) {
+                Some(more) => last = more,
+                None => return true,
+            }
+        }
+        false
+    }
+
+    // Reaches the atoms where the place may stand, and from each the place that holds it. `None` where one was free,
+    // so that it was chosen.
+    fn step(&mut self, task: &Task, front: &[u16], place: u16, queued: usize) -> Option<usize>
+        requires ready { IsReadyTask task.now }
+        requires place { place < length task.now.graph.now.atoms.items }
+    {
+        let mut last = queued;
+        for atom in 0..task.mol.atoms().len() as u16 {
+            if self.is_seen(atom) || !may_stand(task, front, usize::from(place), atom) {
+                continue;
+            }
+            let holder = self.see(atom, place);
+            if holder == NONE {
+                self.exchange(atom);
+                return None;
+            }
+            last = self.reach(holder, last);
+        }
+        Some(last)
+    }
+
+    fn is_seen(&self, atom: u16) -> bool {
+        self.seen.get(usize::from(atom)).copied().unwrap_or(true)
+    }
+
+    // Marks an atom as seen from a place. Its holder, if there is one.
+    fn see(&mut self, atom: u16, place: u16) -> u16 {
+        if let Some(seen) = self.seen.get_mut(usize::from(atom)) {
+            *seen = true;
+        }
+        if let Some(from) = self.from.get_mut(usize::from(atom)) {
+            *from = place;
+        }
+        self.holder.get(usize::from(atom)).copied().unwrap_or(NONE)
+    }
+
+    // Puts a place at the end of the queue, unless it was there before. The new end.
+    fn reach(&mut self, place: u16, last: usize) -> usize {
+        match self.reached.get_mut(usize::from(place)) {
+            Some(reached) if !*reached => *reached = true,
+            _ => return last,
+        }
+        match self.queue.get_mut(last) {
+            Some(slot) => *slot = place,
+            None => return last,
+        }
+        last.saturating_add(1)
+    }
+
+    // Gives a free atom to the place that reached it, and the atom of that place to the one that reached it, back to
+    // the place that had none.
+    fn exchange(&mut self, free: u16) {
+        let mut atom = free;
+        for _ in 0..MOST_PLACES {
+            let place = self.from.get(usize::from(atom)).copied().unwrap_or(NONE);
+            if let Some(holder) = self.holder.get_mut(usize::from(atom)) {
+                *holder = place;
+            }
+            match self.chosen.get_mut(usize::from(place)) {
+                Some(chosen) => {
+                    let before = *chosen;
+                    *chosen = atom;
+                    atom = before;
+                }
+                None => return,
+            }
+            if atom == NONE {
+                return;
+            }
+        }
+    }
+}

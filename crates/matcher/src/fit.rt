@@ -1,0 +1,110 @@
+//! Whether the next atom of a graph may stand at an atom, where those before it are placed.
+ghost use Rattle.std.specs.Prelude.{◌≡◌, ◌<◌, ◌≤◌, ◌≢◌, ◌+◌, ◌++◌, ◌∷◌, [], ◌↔◌, ℕ, length, map, max, min, All, Contains, IfNone, IfSome, IsTrue};
+ghost use Rattle.chem_core.specs.Graph.{JoinsAt};
+ghost use Rattle.chem_core.specs.Molecule.{ends_of};
+ghost use Rattle.smarts_parse.specs.Embedding.{BondEmbeds};
+ghost use Rattle.smarts_parse.specs.Pattern.{bond_of, term_of};
+ghost use Rattle.smarts_parse.specs.Truth.{BondTrue};
+ghost use Rattle.matcher.specs.Task.{FirstEmbeds, IsPlaced, IsReadyTask};
+
+use crate::plan::Step;
+use chem_core::Mol;
+use smarts_mean::{RecTable, atom_true, bond_true};
+use smarts_parse::{BondPrim, Expr, Graph, PatBond};
+
+/// A graph to be placed in a molecule, where recursive parts hold as the table says.
+#[derive(Clone, Copy)]
+pub struct Task<'a> {
+    pub graph: &'a Graph,
+    pub mol: &'a Mol,
+    pub table: &'a RecTable,
+    pub steps: &'a [Step],
+}
+
+/// Whether the next atom may stand at that one after the atoms in front. Its first bond to an earlier atom is known to
+/// embed, and is not looked at again.
+pub fn fits(task: &Task, front: &[u16], atom: u16) -> bool
+    requires ready { IsReadyTask task.now }
+    requires few { length front.now < length task.now.graph.now.atoms.items }
+    requires in_range { atom < length task.now.mol.now.atoms }
+    requires partial { IsPlaced task.now front.now }
+    requires first { FirstEmbeds task.now (length front.now) front.now atom }
+    ensures { IsTrue result ↔ IsPlaced task.now (front.now ++ atom ∷ []) }
+{
+    let others = task.steps[front.len()].others(&task.graph.bonds);
+    if !is_new(front, atom) {
+        return false;
+    }
+    if !atom_true(&task.graph.atoms[front.len()], task.mol, atom, task.table) {
+        return false;
+    }
+    bonds_embed(others, task.mol, front, atom)
+}
+
+/// Whether the atom is none of those in front.
+pub fn is_new(front: &[u16], atom: u16) -> bool
+    ensures { IsTrue result ↔ ¬ Contains front.now atom }
+{
+    !front.contains(&atom)
+}
+
+// Whether each bond of the next atom embeds with it there.
+fn bonds_embed(bonds: &[PatBond], mol: &Mol, front: &[u16], atom: u16) -> bool
+    requires apart { All (λ bond. bond.a ≢ bond.b) (map bond_of bonds.now) }
+    requires in_range { All (λ a. a < length mol.now.atoms) front.now }
+    ensures { IsTrue result ↔ All
+        (λ bond. max bond.a bond.b ≡ length front.now → BondEmbeds mol.now (front.now ++ atom ∷ []) bond)
+        (map bond_of bonds.now) }
+{
+    for bond in bonds {
+        if usize::from(bond.a.max(bond.b)) == front.len() && !bond_embeds(bond, mol, front, atom) {
+            return false;
+        }
+    }
+    true
+}
+
+// Whether a bond from an earlier atom to the next embeds with it there.
+fn bond_embeds(bond: &PatBond, mol: &Mol, front: &[u16], atom: u16) -> bool
+    requires high { max bond.now.a bond.now.b ≡ length front.now }
+    requires apart { bond.now.a ≢ bond.now.b }
+    requires in_range { All (λ a. a < length mol.now.atoms) front.now }
+    ensures { IsTrue result ↔ BondEmbeds mol.now (front.now ++ atom ∷ []) (bond_of bond.now) }
+{
+    are_joined_by(
+        &bond.expr,
+        mol,
+        front[usize::from(bond.a.min(bond.b))],
+        atom,
+    )
+}
+
+// Whether a bond joins the two atoms at which the expression is true.
+fn are_joined_by(expr: &Expr<BondPrim>, mol: &Mol, from: u16, to: u16) -> bool
+    requires { from < length mol.now.atoms }
+    ensures { IsTrue result
+        ↔ ((b : ℕ) × JoinsAt (ends_of mol.now) b from to × BondTrue (term_of expr.now) mol.now b) }
+{
+    match bond_between(mol, from, to) {
+        Some(place) => bond_true(expr, mol, place),
+        None => false,
+    }
+}
+
+// The bond between two atoms, if there is one.
+fn bond_between(mol: &Mol, from: u16, to: u16) -> Option<u16>
+    requires { from < length mol.now.atoms }
+    ensures found { IfSome result (λ b. JoinsAt (ends_of mol.now) b from to) }
+    ensures bond { IfSome result (λ b. b < length mol.now.bonds) }
+    ensures only { IfSome result
+        (λ b. (other : ℕ) → JoinsAt (ends_of mol.now) other from to → other ≡ b) }
+    ensures none { IfNone result ((b : ℕ) → ¬ JoinsAt (ends_of mol.now) b from to) }
+{
+    let neighbours = mol.neighbours(from);
+    for (neighbour, bond) in neighbours {
+        if *neighbour == to {
+            return Some(*bond);
+        }
+    }
+    None
+}

@@ -1,0 +1,17 @@
+//! Where a SMARTS pattern embeds in a molecule (Daylight Theory Manual, chapter SMARTS): the least of its embeddings.
+//!
+//! The pattern's atoms are placed in turn. One that a bond joins to an earlier one goes along the bonds of the molecule
+//! from there; any other goes anywhere. The number of tries is not bounded.
+#![tactic(auto)]
+
+mod answer;
+mod choices;
+mod fit;
+mod parts;
+mod plan;
+mod refusal;
+mod scratch;
+mod search;
+
+pub use answer::{Embedding, first, has};
+pub use scratch::Scratch;

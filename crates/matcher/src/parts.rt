@@ -1,0 +1,59 @@
+//! At which atoms the recursive parts of a pattern hold. A part names parts of smaller numbers alone, so they are
+//! searched for in the order of their numbers.
+ghost use Rattle.std.specs.Prelude.{◌≡◌, ◌<◌, ◌≤◌, ◌+◌, ◌∷◌, ◌↔◌, [], ℕ, length, map, IsTrue};
+ghost use Rattle.smarts_mean.specs.Table.{HoldsIn};
+ghost use Rattle.smarts_parse.specs.Pattern.{graph_of};
+ghost use Rattle.matcher.specs.Partial.{CanComplete};
+ghost use Rattle.matcher.specs.Parts.{AreNoted, AreSoundParts};
+ghost use Rattle.matcher.specs.Plan.{IsReady};
+
+use crate::fit::Task;
+use crate::plan::plan;
+use crate::scratch::Scratch;
+use crate::search::extend_at;
+use chem_core::Mol;
+use smarts_parse::Graph;
+
+/// Notes in the table at which atoms each part holds.
+pub fn note_parts(parts: &[Graph], mol: &Mol, scratch: &mut Scratch)
+    requires { AreSoundParts (map graph_of parts.now) }
+    ensures { AreNoted (map graph_of parts.now) mol.now (length parts.now) scratch.new.table }
+{
+    for part in 0..parts.len() {
+        note_part(parts, mol, scratch, part);
+    }
+}
+
+// The same for one part, where those of smaller numbers are noted.
+fn note_part(parts: &[Graph], mol: &Mol, scratch: &mut Scratch, part: usize)
+    requires sound { AreSoundParts (map graph_of parts.now) }
+    requires part { part < length parts.now }
+    requires noted { AreNoted (map graph_of parts.now) mol.now part scratch.old.table }
+    ensures { AreNoted (map graph_of parts.now) mol.now (part + 1) scratch.new.table }
+{
+    let graph = &parts[part];
+    plan(graph, &mut scratch.steps);
+    for atom in 0..mol.atoms().len() as u16 {
+        let holds = begins_at(graph, mol, scratch, atom);
+        scratch.table.put(part as u16, atom, holds);
+    }
+}
+
+// Whether some embedding of the graph has that atom as its first.
+fn begins_at(graph: &Graph, mol: &Mol, scratch: &mut Scratch, atom: u16) -> bool
+    requires ready { IsReady (graph_of graph.now) scratch.old.steps.items }
+    requires some { 0 < length graph.now.atoms.items }
+    requires in_range { atom < length mol.now.atoms }
+    ensures found { IsTrue result
+        ↔ CanComplete (HoldsIn scratch.old.table) (graph_of graph.now) mol.now (atom ∷ []) }
+    ensures table { scratch.new.table ≡ scratch.old.table }
+    ensures steps { scratch.new.steps ≡ scratch.old.steps }
+{
+    let task = Task {
+        graph,
+        mol,
+        table: &scratch.table,
+        steps: &scratch.steps,
+    };
+    extend_at(&task, &mut scratch.image, &mut scratch.choices, 0, atom)
+}

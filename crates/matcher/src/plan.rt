@@ -1,0 +1,60 @@
+//! Steps: for each atom of a graph where its bonds to earlier atoms stand, so that they are found at once.
+ghost use Rattle.std.specs.Prelude.{◌≡◌, ◌≢◌, ◌+◌, ◌-◌, ◌<◌, ◌≤◌, drop, length, take};
+ghost use Rattle.smarts_parse.specs.Pattern.{graph_of};
+ghost use Rattle.matcher.specs.Partial.{IsSearchable};
+ghost use Rattle.matcher.specs.Plan.{IsReady};
+
+use smarts_parse::{Graph, PatBond};
+
+/// Where an atom's bonds to earlier atoms stand among the bonds of a graph: none before `from`, none from `to` on.
+/// Bonds of other atoms may stand between them. It is empty where the atom has none.
+#[derive(Clone, Copy, Debug)]
+pub struct Step {
+    pub from: usize,
+    pub to: usize,
+}
+
+/// The step of an atom that has no bond to an earlier one.
+pub const NO_STEP: Step = Step { from: 0, to: 0 };
+
+impl Step {
+    /// The step with one more bond of its atom, at a place after those before.
+    fn with(self, place: usize) -> Step
+        requires { place < usize.MAX }
+        ensures fresh { self.to ≡ 0 → result.from ≡ place }
+        ensures again { self.to ≢ 0 → result.from ≡ self.from }
+        ensures to { result.to ≡ place + 1 }
+    {
+        Step {
+            from: if self.to == 0 { place } else { self.from },
+            to: place + 1,
+        }
+    }
+
+    /// The bonds of a graph in the step, without the first.
+    pub fn others<'a>(self, bonds: &'a [PatBond]) -> &'a [PatBond]
+        requires { self.to ≤ length bonds.now }
+        ensures { result.now ≡ take (self.to - (self.from + 1)) (drop (self.from + 1) bonds.now) }
+    {
+        if self.from < self.to {
+            &bonds[self.from + 1..self.to]
+        } else {
+            &bonds[..0]
+        }
+    }
+}
+
+/// Finds the step of each atom in one pass over the bonds.
+pub fn plan(graph: &Graph, steps: &mut [Step])
+    requires searchable { IsSearchable (graph_of graph.now) }
+    requires room { length graph.now.atoms.items ≤ length steps.old }
+    ensures { IsReady (graph_of graph.now) steps.new }
+{
+    for atom in 0..graph.atoms.len() {
+        steps[atom] = NO_STEP;
+    }
+    for (place, bond) in graph.bonds.iter().enumerate() {
+        let high = usize::from(bond.a.max(bond.b));
+        steps[high] = steps[high].with(place);
+    }
+}

@@ -1,0 +1,139 @@
+//! Why the atoms of a graph that are left cannot be placed: some of them can stand only at fewer atoms than they are.
+ghost use Rattle.std.specs.Prelude.{◌≡◌, ◌<◌, ◌≤◌, ◌++◌, [], ℕ, List, false, true, count_by, length, max, slice_index, slice_index_or, IsTrue};
+ghost use Rattle.chem_core.specs.Graph.{JoinsAt};
+ghost use Rattle.chem_core.specs.Molecule.{ends_of};
+ghost use Rattle.smarts_parse.specs.Pattern.{term_of};
+ghost use Rattle.smarts_parse.specs.Truth.{BondTrue};
+ghost use Rattle.matcher.specs.Task.{Completes, Embeds, IsReadyTask};
+
+use crate::fit::{Task, is_new};
+use smarts_mean::{atom_true, bond_true};
+use smarts_parse::PatBond;
+
+/// Whether the places of a graph that are marked are more than the atoms that are marked, and can stand, where the
+/// atoms in front are taken, at these alone. Then the graph cannot be completed.
+pub fn excludes(task: &Task, front: &[u16], places: &[bool], atoms: &[bool]) -> bool
+    requires ready { IsReadyTask task.now }
+    requires places { length places.now ≤ length task.now.graph.now.atoms.items }
+    requires atoms { length atoms.now ≡ length task.now.mol.now.atoms }
+    ensures { IsTrue result → ¬ Completes task.now front.now }
+{
+    if marked(places) <= marked(atoms) {
+        return false;
+    }
+    for place in 0..places.len() {
+        if !places[place] {
+            continue;
+        }
+        if !stays_within(task, front, atoms, place) {
+            return false;
+        }
+    }
+    true
+}
+
+// How many are marked.
+fn marked(marks: &[bool]) -> usize
+    ensures { result ≡ count_by (λ mark. mark) marks.now }
+{
+    marks.iter().filter(|mark| **mark).count()
+}
+
+// Whether the place, which is not in front, can stand only at marked atoms or where those in front stand.
+fn stays_within(task: &Task, front: &[u16], atoms: &[bool], place: usize) -> bool
+    requires ready { IsReadyTask task.now }
+    requires place { place < length task.now.graph.now.atoms.items }
+    requires atoms { length atoms.now ≡ length task.now.mol.now.atoms }
+    ensures { IsTrue result → (rest : List ℕ)
+        → Embeds task.now (front.now ++ rest)
+        → slice_index_or atoms.now (slice_index (front.now ++ rest) place) false ≡ true }
+{
+    if place < front.len() {
+        return false;
+    }
+    for atom in 0..task.mol.atoms().len() as u16 {
+        if atoms[usize::from(atom)] {
+            continue;
+        }
+        if may_stand(task, front, place, atom) {
+            return false;
+        }
+    }
+    true
+}
+
+/// Whether a place may stand at some atom. If not, the graph has no embedding.
+pub fn has_candidate(task: &Task, place: usize) -> bool
+    requires ready { IsReadyTask task.now }
+    requires place { place < length task.now.graph.now.atoms.items }
+    ensures { result ≡ false → ¬ Completes task.now [] }
+{
+    for atom in 0..task.mol.atoms().len() as u16 {
+        if may_stand(task, &[], place, atom) {
+            return true;
+        }
+    }
+    false
+}
+
+/// Whether a bond of the graph may lie at some bond with both its ends. If not, the graph has no embedding.
+pub fn has_bond(task: &Task, place: usize) -> bool
+    requires ready { IsReadyTask task.now }
+    requires place { place < length task.now.graph.now.bonds.items }
+    ensures { result ≡ false → ¬ Completes task.now [] }
+{
+    let bond = &task.graph.bonds[place];
+    for other in 0..task.mol.bonds().len() as u16 {
+        if may_lie(task, bond, other) {
+            return true;
+        }
+    }
+    false
+}
+
+// Whether a bond of the graph may lie at a bond with both its ends.
+fn may_lie(task: &Task, bond: &PatBond, other: u16) -> bool
+    requires ready { IsReadyTask task.now }
+    requires ends { max bond.now.a bond.now.b < length task.now.graph.now.atoms.items }
+    requires other { other < length task.now.mol.now.bonds }
+    ensures { result ≡ false → (image : List ℕ) → Embeds task.now image
+        → JoinsAt (ends_of task.now.mol.now) other (slice_index image bond.now.a) (slice_index image bond.now.b)
+        → BondTrue (term_of bond.now.expr) task.now.mol.now other → ⊥ }
+{
+    if !bond_true(&bond.expr, task.mol, other) {
+        return false;
+    }
+    let found = task.mol.bonds()[usize::from(other)];
+    if may_join(task, bond, found.a, found.b) {
+        return true;
+    }
+    may_join(task, bond, found.b, found.a)
+}
+
+// Whether the ends of a bond of the graph may stand at two atoms.
+fn may_join(task: &Task, bond: &PatBond, one: u16, two: u16) -> bool
+    requires ready { IsReadyTask task.now }
+    requires ends { max bond.now.a bond.now.b < length task.now.graph.now.atoms.items }
+    requires one { one < length task.now.mol.now.atoms }
+    requires two { two < length task.now.mol.now.atoms }
+    ensures { result ≡ false → (image : List ℕ) → Embeds task.now image
+        → slice_index image bond.now.a ≡ one → slice_index image bond.now.b ≡ two → ⊥ }
+{
+    if !may_stand(task, &[], usize::from(bond.a), one) {
+        return false;
+    }
+    may_stand(task, &[], usize::from(bond.b), two)
+}
+
+/// Whether a place that is not in front may stand at an atom, where the atoms in front are taken, as far as is seen from
+/// the atom alone.
+pub fn may_stand(task: &Task, front: &[u16], place: usize, atom: u16) -> bool
+    requires ready { IsReadyTask task.now }
+    requires place { place < length task.now.graph.now.atoms.items }
+    requires atom { atom < length task.now.mol.now.atoms }
+    ensures { result ≡ false → length front.now ≤ place → (rest : List ℕ)
+        → Embeds task.now (front.now ++ rest)
+        → slice_index (front.now ++ rest) place ≡ atom → ⊥ }
+{
+    is_new(front, atom) && atom_true(&task.graph.atoms[place], task.mol, atom, task.table)
+}

@@ -1,0 +1,112 @@
+//! The atoms of a graph are placed in turn, lowest places first, so that the first embedding found is the least.
+ghost use Rattle.std.specs.Prelude.{◌≡◌, ◌<◌, ◌≤◌, ◌+◌, ◌++◌, ◌∷◌, [], false, length, take, IsTrue};
+ghost use Rattle.matcher.specs.Task.{Completes, FirstEmbeds, IsBonded, IsLeastPlaced, IsPlaced, IsReadyTask};
+
+use crate::choices::Choices;
+use crate::fit::{Task, fits};
+use smarts_mean::bond_true;
+
+/// Places the graph's other atoms after those that are placed, if they can be, as the least embedding that begins so.
+///
+/// The calls go as deep as the graph has atoms, at most 256.
+#[cycle(search)]
+pub fn extend(task: &Task, image: &mut [u16], choices: &mut Choices, placed: usize) -> bool
+    requires ready { IsReadyTask task.now }
+    requires room { length task.now.graph.now.atoms.items ≤ length image.old }
+    requires few { placed ≤ length task.now.graph.now.atoms.items }
+    requires partial { IsPlaced task.now (take placed image.old) }
+    ensures kept { take placed image.new ≡ take placed image.old }
+    ensures found { IsTrue result → IsLeastPlaced task.now
+        (take placed image.old) (take (length task.now.graph.now.atoms.items) image.new) }
+    ensures none { result ≡ false → ¬ Completes task.now (take placed image.old) }
+{
+    if placed == task.graph.atoms.len() {
+        return true;
+    }
+    let step = task.steps[placed];
+    if step.from < step.to {
+        extend_near(task, image, choices, placed)
+    } else {
+        extend_anywhere(task, image, choices, placed)
+    }
+}
+
+// The same where no bond joins the next atom to an earlier one.
+#[cycle(search)]
+fn extend_anywhere(task: &Task, image: &mut [u16], choices: &mut Choices, placed: usize) -> bool
+    requires ready { IsReadyTask task.now }
+    requires room { length task.now.graph.now.atoms.items ≤ length image.old }
+    requires few { placed < length task.now.graph.now.atoms.items }
+    requires partial { IsPlaced task.now (take placed image.old) }
+    requires free { ¬ IsBonded task.now placed }
+    ensures kept { take placed image.new ≡ take placed image.old }
+    ensures found { IsTrue result → IsLeastPlaced task.now
+        (take placed image.old) (take (length task.now.graph.now.atoms.items) image.new) }
+    ensures none { result ≡ false → ¬ Completes task.now (take placed image.old) }
+{
+    for atom in 0..task.mol.atoms().len() as u16 {
+        let failures = choices.failures();
+        if extend_at(task, image, choices, placed, atom) {
+            return true;
+        }
+        if choices.failures() != failures && choices.refuse(task, &image[..placed]) {
+            return false;
+        }
+    }
+    choices.fail();
+    false
+}
+
+// The same where the next atom's first bond joins it to an earlier one: it stands at a neighbour of that one.
+#[cycle(search)]
+fn extend_near(task: &Task, image: &mut [u16], choices: &mut Choices, placed: usize) -> bool
+    requires ready { IsReadyTask task.now }
+    requires room { length task.now.graph.now.atoms.items ≤ length image.old }
+    requires few { placed < length task.now.graph.now.atoms.items }
+    requires partial { IsPlaced task.now (take placed image.old) }
+    requires bonded { IsBonded task.now placed }
+    ensures kept { take placed image.new ≡ take placed image.old }
+    ensures found { IsTrue result → IsLeastPlaced task.now
+        (take placed image.old) (take (length task.now.graph.now.atoms.items) image.new) }
+    ensures none { result ≡ false → ¬ Completes task.now (take placed image.old) }
+{
+    let bond = &task.graph.bonds[task.steps[placed].from];
+    let earlier = image[usize::from(bond.a.min(bond.b))];
+    let neighbours = task.mol.neighbours(earlier);
+    for (atom, by) in neighbours {
+        if !bond_true(&bond.expr, task.mol, *by) {
+            continue;
+        }
+        if extend_at(task, image, choices, placed, *atom) {
+            return true;
+        }
+    }
+    false
+}
+
+/// The same with the next atom at that one. Its first bond to an earlier atom, if it has one, is known to embed.
+#[cycle(search)]
+pub fn extend_at(
+    task: &Task,
+    image: &mut [u16],
+    choices: &mut Choices,
+    placed: usize,
+    atom: u16,
+) -> bool
+    requires ready { IsReadyTask task.now }
+    requires room { length task.now.graph.now.atoms.items ≤ length image.old }
+    requires few { placed < length task.now.graph.now.atoms.items }
+    requires in_range { atom < length task.now.mol.now.atoms }
+    requires partial { IsPlaced task.now (take placed image.old) }
+    requires first { FirstEmbeds task.now placed (take placed image.old) atom }
+    ensures kept { take placed image.new ≡ take placed image.old }
+    ensures found { IsTrue result → IsLeastPlaced task.now
+        (take placed image.old ++ atom ∷ []) (take (length task.now.graph.now.atoms.items) image.new) }
+    ensures none { result ≡ false → ¬ Completes task.now (take placed image.old ++ atom ∷ []) }
+{
+    if !fits(task, &image[..placed], atom) {
+        return false;
+    }
+    image[placed] = atom;
+    extend(task, image, choices, placed + 1)
+}

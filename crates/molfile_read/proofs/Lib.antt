@@ -1,0 +1,15 @@
+mod BondSteps
+mod Degrees
+mod Drawn
+mod Joined
+mod LastSet
+mod Made
+mod NeverLimit
+mod Numbers
+mod Pairs
+mod PropertyLines
+mod Readings
+mod Steps
+mod Symbols
+mod TextLines
+mod Words

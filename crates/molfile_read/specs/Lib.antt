@@ -1,0 +1,10 @@
+pub mod Text
+pub mod Field
+pub mod Symbol
+pub mod Steps
+pub mod Counts
+pub mod Atoms
+pub mod Bonds
+pub mod Properties
+pub mod Parts
+pub mod Reading

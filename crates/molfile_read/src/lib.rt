@@ -1,0 +1,23 @@
+//! Molfiles, read into sketches (CTfile formats, version V2000).
+//!
+//! Each field is what stands in its columns. The lines are read once, in order, and the first fault is answered.
+#![tactic(auto)]
+
+mod atom;
+mod bond;
+mod counts;
+mod fault;
+mod field;
+mod finish;
+mod limits;
+mod lines;
+mod property;
+mod read;
+mod setting;
+mod symbol;
+
+pub use fault::MolfileFault;
+pub use read::{one_reading, read_molfile};
+
+#[cfg(test)]
+mod tests;

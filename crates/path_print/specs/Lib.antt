@@ -1,0 +1,5 @@
+pub mod Path
+pub mod Implied
+pub mod Prints
+pub mod Texts
+pub mod Squares

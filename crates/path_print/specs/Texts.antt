@@ -1,0 +1,117 @@
+-- Strings of paths in both directions, and paths under way, for private clauses alone.
+use Rattle.std.specs.Prelude.{◌≡◌, ◌≢◌, ◌⊎◌, ◌↔◌, ℕ, zero, suc, ◌+◌, ◌-◌, ◌*◌, ◌/◌, ◌%◌, ◌^◌, ◌<◌, ◌≤◌, Bool, List, [], ◌∷◌, ◌++◌, length, slice_index, reverse, AllPairs, Option, None, Some, IfSome, option_map, option_and_then, if◌then◌else◌}
+use Rattle.std.specs.Ordering.{nat_cmp, is_lt}
+use Rattle.std.specs.Cmp.Lexicographic.{slice_cmp}
+use Rattle.chem_core.specs.Bits.{HasBit}
+use Rattle.path_print.specs.declared.known.Known.{Known}
+use Rattle.path_print.specs.Path.{◌>>=◌, Family, exact, plain, label_of, View, string_of, hash_of, IsPath}
+
+-- a string in both directions
+pub record TextTerm : Type 0 where
+  pub there : List ℕ
+  pub back : List ℕ
+
+-- the text of one atom
+abbrev pub of_label : ℕ × ℕ → TextTerm
+of_label l = record { there = l.0 ∷ l.1 ∷ []; back = l.0 ∷ l.1 ∷ [] }
+
+-- the text of a path that goes on to one more atom
+abbrev pub longer_text : TextTerm → ℕ → ℕ × ℕ → TextTerm
+longer_text t byte l = record { there = t.there ++ byte ∷ l.0 ∷ l.1 ∷ []; back = l.0 ∷ l.1 ∷ byte ∷ t.back }
+
+-- the bit, unless the string comes first in the other direction
+abbrev pub own_bit : TextTerm → Option ℕ
+own_bit t = if is_lt (slice_cmp nat_cmp t.back t.there) then None else Some (hash_of t.there % 1024)
+
+-- so many bytes of a number, the highest first
+unfoldable pub digits : ℕ → ℕ → List ℕ
+digits zero n = []
+digits (suc k) n = digits k (n / 256) ++ (n % 256) ∷ []
+
+-- what a text keeps about its fields
+pub record IsTextInside (count there back hash : ℕ) : Type 0 where
+  pub few : count ≤ 14
+  pub there_fits : there < 256 ^ count
+  pub back_fits : back < 256 ^ count
+  pub hashes : hash ≡ hash_of (digits count there)
+  pub small : hash < 65521
+
+-- a path under way: its atoms, and its text in each family
+pub record PathTerm : Type 0 where
+  pub atoms : List ℕ
+  pub exact : Option TextTerm
+  pub plain : Option TextTerm
+
+abbrev pub text_in : PathTerm → Family → Option TextTerm
+text_in p exact = p.exact
+text_in p plain = p.plain
+
+-- the text that goes on to one more atom, where the label is known
+abbrev pub longer_if : Option TextTerm → ℕ → Option (ℕ × ℕ) → Option TextTerm
+longer_if text byte label = do
+  t ← text
+  l ← label
+  Some (longer_text t byte l)
+
+-- the path of one atom
+abbrev pub path_start : ℕ → Known → PathTerm
+path_start atom known = record { atoms = atom ∷ []; exact = option_map of_label (label_of exact known); plain = option_map of_label (label_of plain known) }
+
+-- the path that goes on to one more atom
+abbrev pub path_longer : PathTerm → ℕ → ℕ → Known → PathTerm
+path_longer p atom byte known = record {
+  atoms = p.atoms ++ atom ∷ [];
+  exact = longer_if p.exact byte (label_of exact known);
+  plain = longer_if p.plain byte (label_of plain known);
+}
+
+-- a text of that many atoms
+abbrev pub IsLong : ℕ → Option TextTerm → Type 0
+IsLong atoms text = IfSome text (λ t. length t.there + 1 ≡ 3 * atoms)
+
+-- what a path keeps about its fields
+pub record IsPathInside (atoms : List ℕ) (count : ℕ) (exact_text plain_text : Option TextTerm) : Type 0 where
+  pub some : 1 ≤ count
+  pub short : count ≤ 5
+  pub room : length atoms ≡ 5
+  pub exact_long : IsLong count exact_text
+  pub plain_long : IsLong count plain_text
+
+-- the atom that a path has come to
+abbrev pub last_of : List ℕ → ℕ
+last_of atoms = slice_index atoms (length atoms - 1)
+
+-- the path under way is one of these views
+pub record IsOn (views : Family → View) (p : PathTerm) : Type 0 where
+  pub some : 1 ≤ length p.atoms
+  pub short : length p.atoms ≤ 5
+  pub distinct : AllPairs ◌≢◌ p.atoms
+  pub there : (family : Family) → option_map (λ t. t.there) (text_in p family) ≡ string_of (views family) p.atoms
+  pub back : (family : Family) → option_map (λ t. t.back) (text_in p family) ≡ string_of (views family) (reverse p.atoms)
+
+-- the bit of the path as far as it goes, in one of the families, if its string there comes first
+abbrev pub IsBitHere : PathTerm → ℕ → Type 0
+IsBitHere p bit = (family : Family) × (t : TextTerm) × (text_in p family ≡ Some t) × (own_bit t ≡ Some bit)
+
+-- the bit of some path that begins so, if its string there comes first
+abbrev pub IsBitFrom : (Family → View) → List ℕ → ℕ → Type 0
+IsBitFrom views atoms bit = (family : Family) × (more there back : List ℕ) × IsPath (views family) (atoms ++ more) there back × (own_bit (record { there = there; back = back }) ≡ Some bit)
+
+-- the bits are set, and those that were
+pub record SetsBits (IsBit : ℕ → Type 0) (old new : List Bool) : Type 0 where
+  pub size : length new ≡ length old
+  pub bits : (bit : ℕ) → HasBit new bit ↔ (HasBit old bit ⊎ IsBit bit)
+
+-- the bit of a text, if there is one
+abbrev pub IsBitOf : Option TextTerm → ℕ → Type 0
+IsBitOf text bit = (t : TextTerm) × (text ≡ Some t) × (own_bit t ≡ Some bit)
+
+-- the path that goes on to one more atom
+pub record IsOneLonger (views : Family → View) (p : PathTerm) (y : ℕ) (q : PathTerm) : Type 0 where
+  pub on : IsOn views q
+  pub atoms : q.atoms ≡ p.atoms ++ y ∷ []
+  pub last : last_of q.atoms ≡ y
+
+-- no path begins so
+abbrev pub NoneFrom : (Family → View) → List ℕ → Type 0
+NoneFrom views atoms = (bit : ℕ) → IsBitFrom views atoms bit → ⊥

@@ -1,0 +1,131 @@
+//! Paths under way: the atoms so far, and the text in each family of labels.
+ghost use Rattle.std.specs.Prelude.{◌≡◌, ◌<◌, ◌≤◌, ◌+◌, ◌⊎◌, ◌↔◌, length, Contains, None, IsTrue, IfSome, IfNone, option_and_then};
+ghost use Rattle.chem_core.specs.Bits.{HasBit};
+ghost use Rattle.path_print.specs.Texts.{longer_if, path_start, path_longer, IsBitHere, IsBitOf, SetsBits, last_of, own_bit};
+
+use crate::known::Known;
+use crate::text::Text;
+use chem_core::Print;
+use std::marker::Model;
+
+/// The most atoms of a path.
+pub const MOST: usize = 5;
+
+/// A path under way. Contracts see its atoms and its texts.
+#[derive(Drop)]
+pub struct Path {
+    atoms: [u16; 5],
+    count: usize,
+    exact: Option<Text>,
+    plain: Option<Text>,
+}
+
+impl Model for Path {
+    ghost use Rattle.std.specs.Prelude.{take};
+    ghost use Rattle.path_print.specs.Texts.{PathTerm, IsPathInside};
+
+    ghost Value = { PathTerm };
+
+    ghost view = { λ p. record { atoms = take p.count p.atoms; exact = p.exact; plain = p.plain } };
+
+    ghost invariant = { λ p. IsPathInside p.atoms p.count p.exact p.plain };
+}
+
+impl Path {
+    /// The path of one atom.
+    pub fn start(atom: u16, known: Known) -> Path
+        ensures { result ≡ path_start atom known }
+    {
+        Path {
+            atoms: [atom, 0, 0, 0, 0],
+            count: 1,
+            exact: known.exact().map(|label| Text::of(label)),
+            plain: known.plain().map(|label| Text::of(label)),
+        }
+    }
+
+    /// Whether it has five atoms.
+    #[inline(always)]
+    pub fn is_full(&self) -> bool
+        ensures { IsTrue result ↔ (length self.now.atoms ≡ MOST) }
+    {
+        self.count == MOST
+    }
+
+    /// The atom that it has come to.
+    #[inline(always)]
+    pub fn last(&self) -> u16
+        ensures { result ≡ last_of self.now.atoms }
+    {
+        self.atoms[self.count - 1]
+    }
+
+    /// The path that goes on to an atom by a bond with this byte. `None` where it is full, where the atom is in it, and
+    /// where it has no text.
+    #[inline(always)]
+    pub fn longer(&self, atom: u16, byte: u8, known: Known) -> Option<Path>
+        ensures value { IfSome result (λ p. p ≡ path_longer self.now atom byte known) }
+        ensures new { IfSome result (λ _. Contains self.now.atoms atom → ⊥) }
+        ensures room { IfSome result (λ _. length self.now.atoms < MOST) }
+        ensures none { IfNone result ((length self.now.atoms ≡ MOST) ⊎ Contains self.now.atoms atom
+            ⊎ ((path_longer self.now atom byte known).exact ≡ None) × ((path_longer self.now atom byte known).plain ≡ None)) }
+    {
+        if self.is_full() || self.atoms[..self.count].contains(&atom) {
+            return None;
+        }
+        let exact = longer_text(&self.exact, byte, known.exact());
+        let plain = longer_text(&self.plain, byte, known.plain());
+        if exact.is_none() && plain.is_none() {
+            return None;
+        }
+        let mut atoms = self.atoms;
+        atoms[self.count] = atom;
+        Some(Path {
+            atoms,
+            count: self.count + 1,
+            exact,
+            plain,
+        })
+    }
+
+    /// Sets the bit of each of its texts.
+    #[inline(always)]
+    pub fn mark(&self, print: &mut Print)
+        ensures bits { SetsBits (IsBitHere self.now) print.old print.new }
+    {
+        mark_text(&self.exact, print);
+        mark_text(&self.plain, print);
+    }
+}
+
+#[inline(always)]
+fn longer_text(text: &Option<Text>, byte: u8, label: Option<(u8, u8)>) -> Option<Text>
+    requires { IfSome text.now (λ t. length t.there ≤ 11) }
+    ensures { result ≡ longer_if text.now byte label }
+{
+    match (text, label) {
+        (Some(text), Some(label)) => Some(text.longer(byte, label)),
+        _ => None,
+    }
+}
+
+#[inline(always)]
+fn bit_of(text: &Option<Text>) -> Option<u16>
+    ensures value { result ≡ option_and_then own_bit text.now }
+    ensures small { IfSome result (λ bit. bit < 1024) }
+{
+    match text {
+        Some(text) => text.bit(),
+        None => None,
+    }
+}
+
+// Sets the bit of a text, if there is one.
+#[inline(always)]
+fn mark_text(text: &Option<Text>, print: &mut Print)
+    ensures bits { SetsBits (IsBitOf text.now) print.old print.new }
+{
+    if let Some(bit) = bit_of(text) {
+        print.set(bit);
+    }
+}

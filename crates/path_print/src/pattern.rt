@@ -1,0 +1,117 @@
+//! The need of a pattern: the bits that every molecule has in which it embeds.
+//!
+//! What the expressions imply is worked out once: for each atom, and in a square for each two atoms.
+ghost use Rattle.std.specs.Prelude.{◌≡◌, ◌+◌, ◌*◌, ◌<◌, ◌≤◌, ℕ, [], ◌∷◌, ◌++◌, length, slice_index, slice_set, IfSome, IfNone};
+ghost use Rattle.smarts_parse.specs.Pattern.{pattern_of, graph_of};
+ghost use Rattle.smarts_parse.specs.Sound.{IsSoundPattern};
+ghost use Rattle.path_print.specs.Prints.{graph_view, IsNeed};
+ghost use Rattle.path_print.specs.Texts.{IsOn, IsOneLonger, IsBitFrom, NoneFrom, SetsBits, last_of};
+ghost use Rattle.path_print.specs.Squares.{AreKnown, IsSimplePattern, IsSquare, IsSheet};
+
+use crate::implied::{implied, implied_byte};
+use crate::known::Known;
+use crate::path::Path;
+use chem_core::Print;
+use smarts_parse::{Graph, Pattern};
+
+/// The most atoms of a pattern, and the side of the square.
+const SIDE: usize = 256;
+
+/// The places of the square.
+const PLACES: usize = SIDE * SIDE;
+
+/// The bits of the paths whose atoms and bonds all imply their labels and bytes.
+pub fn need(pattern: &Pattern) -> Print
+    requires { IsSoundPattern (pattern_of pattern.now) }
+    ensures { IsNeed (pattern_of pattern.now) result }
+{
+    let graph = &pattern.top;
+    let known = known_atoms(graph);
+    let square = square_of(graph);
+    let mut print = Print::empty();
+    for atom in 0..graph.atoms.len() {
+        let path = Path::start(atom as u16, known[atom]);
+        walk(graph, &known, &square, &path, &mut print);
+    }
+    print
+}
+
+// What each atom implies.
+fn known_atoms(graph: &Graph) -> [Known; SIDE]
+    requires { length (graph_of graph.now).atoms ≤ SIDE }
+    ensures known { AreKnown (graph_of graph.now) result }
+    ensures size { length result ≡ SIDE }
+{
+    let mut known = [Known::NOTHING; SIDE];
+    for (place, expr) in graph.atoms.iter().enumerate() {
+        known[place] = implied(expr);
+    }
+    known
+}
+
+// The byte that each bond implies, at its ends either way round; 0 where none does.
+fn square_of(graph: &Graph) -> [u8; PLACES]
+    requires { IsSimplePattern SIDE (graph_of graph.now).bonds }
+    ensures square { IsSquare (graph_of graph.now).bonds result }
+    ensures size { length result ≡ PLACES }
+{
+    let mut square = blank_square();
+    for bond in &graph.bonds {
+        if let Some(byte) = implied_byte(&bond.expr) {
+            write(&mut square, usize::from(bond.a), usize::from(bond.b), byte);
+        }
+    }
+    square
+}
+
+fn blank_square() -> [u8; PLACES]
+    ensures zero { (i : ℕ) → slice_index result i ≡ 0 }
+    ensures size { length result ≡ PLACES }
+{
+    [0; PLACES]
+}
+
+fn write(square: &mut [u8], a: usize, b: usize, byte: u8)
+    requires size { length square.old ≡ PLACES }
+    requires a { a < SIDE }
+    requires b { b < SIDE }
+    ensures { square.new ≡ slice_set (slice_set square.old (SIDE * a + b) byte) (SIDE * b + a) byte }
+{
+    square[SIDE * a + b] = byte;
+    square[SIDE * b + a] = byte;
+}
+
+// Sets the bits of all paths that begin with this one.
+fn walk(graph: &Graph, known: &[Known], square: &[u8], path: &Path, print: &mut Print)
+    requires sheet { IsSheet (graph_of graph.now) known.now square.now }
+    requires path { IsOn (graph_view (graph_of graph.now)) path.now }
+    requires atom { last_of path.now.atoms < length (graph_of graph.now).atoms }
+    ensures { SetsBits (IsBitFrom (graph_view (graph_of graph.now)) path.now.atoms) print.old print.new }
+{
+    path.mark(print);
+    if path.is_full() {
+        return;
+    }
+    for atom in 0..graph.atoms.len() {
+        if let Some(longer) = step(graph, known, square, path, atom as u16) {
+            walk(graph, known, square, &longer, print);
+        }
+    }
+}
+
+// The path that goes on to an atom. `None` where no path does.
+#[inline(always)]
+fn step(graph: &Graph, known: &[Known], square: &[u8], path: &Path, atom: u16) -> Option<Path>
+    requires sheet { IsSheet (graph_of graph.now) known.now square.now }
+    requires path { IsOn (graph_view (graph_of graph.now)) path.now }
+    requires last { last_of path.now.atoms < length (graph_of graph.now).atoms }
+    requires atom { atom < length (graph_of graph.now).atoms }
+    ensures some { IfSome result (IsOneLonger (graph_view (graph_of graph.now)) path.now atom) }
+    ensures none { IfNone result (NoneFrom (graph_view (graph_of graph.now)) (path.now.atoms ++ atom ∷ [])) }
+{
+    let byte = square[SIDE * usize::from(path.last()) + usize::from(atom)];
+    if byte == 0 {
+        return None;
+    }
+    path.longer(atom, byte, known[usize::from(atom)])
+}

@@ -1,0 +1,156 @@
+-- A line is read in one way.
+use Rattle.std.proofs.Common.{◌≡◌, ◌⊎◌, inl, inr, ℕ, List, [], ◌∷◌, ◌++◌, refl, sym, ◌∙◌, ap, subst, arith, decimal, codes, Result, Ok, Err, ◌==◌, if◌then◌else◌}
+use Rattle.std.proofs.lemmas.Fmt.{decimal_injective}
+use Rattle.std.proofs.lemmas.List.{append_cancel_left}
+use Rattle.shell_lang.specs.declared.word.Word.{Word}
+use Rattle.shell_lang.specs.declared.word.Word.TheVariants as words
+use Rattle.shell_lang.specs.declared.command.LineRefusal.{LineRefusal}
+use Rattle.shell_lang.specs.declared.command.LineRefusal.TheVariants as refusals
+use Rattle.shell_lang.specs.Word.{word_text}
+use Rattle.shell_lang.specs.Command.{Command, Empty, Register, Revise, RegisterMol, ReviseMol, Withdraw, Show, Search, Start, Next, Close, Prune, Stats, IsIdentifier, IsNoIdentifier, IsName, HasNoSpace, Spells, HasIdentifierPart, IsLine}
+use Rattle.shell_lang.specs.Cut.{Follows, IdentifierPart}
+use Rattle.shell_lang.proofs.Cuts.{no_space, no_space_named, one_split, one_cut, one_word, word_space, cut_of, part_cut_of, spelled_after, has_space, not_alone}
+
+-- which of the thirteen it is
+abbrev kind : Command → ℕ
+kind Empty = 0
+kind (Register id text) = 1
+kind (Revise id text) = 2
+kind (RegisterMol id) = 3
+kind (ReviseMol id) = 4
+kind (Withdraw id) = 5
+kind (Show id) = 6
+kind (Search pattern) = 7
+kind (Start name pattern) = 8
+kind (Next name) = 9
+kind (Close name) = 10
+kind Prune = 11
+kind Stats = 12
+
+abbrev kind_after : Word → ℕ
+kind_after words.Register = 1
+kind_after words.Revise = 2
+kind_after words.RegisterMol = 3
+kind_after words.ReviseMol = 4
+kind_after words.Withdraw = 5
+kind_after words.Show = 6
+kind_after words.Search = 7
+kind_after words.Open = 8
+kind_after words.Next = 9
+kind_after words.Close = 10
+
+follow_kind : (w : Word) (rest : List ℕ) (c : Command) → Follows w rest c → kind c ≡ kind_after w
+follow_kind words.Register rest (Register id text) h = refl
+follow_kind words.Revise rest (Revise id text) h = refl
+follow_kind words.RegisterMol rest (RegisterMol id) h = refl
+follow_kind words.ReviseMol rest (ReviseMol id) h = refl
+follow_kind words.Withdraw rest (Withdraw id) h = refl
+follow_kind words.Show rest (Show id) h = refl
+follow_kind words.Search rest (Search pattern) h = refl
+follow_kind words.Open rest (Start name pattern) h = refl
+follow_kind words.Next rest (Next name) h = refl
+follow_kind words.Close rest (Close name) h = refl
+follow_kind w rest c h = absurd h
+
+-- which of the lines without a space it is
+abbrev kind_alone : List ℕ → ℕ
+kind_alone [] = 0
+kind_alone (b ∷ bs) = if b == 112 then 11 else 12
+
+kind_without_space : (line : List ℕ) (c : Command) → HasNoSpace line → Spells line c → kind c ≡ kind_alone line
+kind_without_space line Empty n h = ap kind_alone (sym h)
+kind_without_space line Prune n h = ap kind_alone (sym h)
+kind_without_space line Stats n h = ap kind_alone (sym h)
+kind_without_space line (Register id text) n h = absurd (n (has_space line (codes "register") (decimal id ++ 32 ∷ text) h.1))
+kind_without_space line (Revise id text) n h = absurd (n (has_space line (codes "revise") (decimal id ++ 32 ∷ text) h.1))
+kind_without_space line (RegisterMol id) n h = absurd (n (has_space line (codes "register-mol") (decimal id) h.1))
+kind_without_space line (ReviseMol id) n h = absurd (n (has_space line (codes "revise-mol") (decimal id) h.1))
+kind_without_space line (Withdraw id) n h = absurd (n (has_space line (codes "withdraw") (decimal id) h.1))
+kind_without_space line (Show id) n h = absurd (n (has_space line (codes "show") (decimal id) h.1))
+kind_without_space line (Search pattern) n h = absurd (n (has_space line (codes "search") pattern h))
+kind_without_space line (Start name pattern) n h = absurd (n (has_space line (codes "open") (name ++ 32 ∷ pattern) h.1))
+kind_without_space line (Next name) n h = absurd (n (has_space line (codes "next") name h.1))
+kind_without_space line (Close name) n h = absurd (n (has_space line (codes "close") name h.1))
+
+same_kind : (line : List ℕ) (c d : Command) → Spells line c → Spells line d → kind c ≡ kind d
+same_kind line c d p q =
+    let alone : ((line ≡ []) ⊎ ((line ≡ codes "prune") ⊎ (line ≡ codes "stats"))) → kind c ≡ kind d =
+    λ a. kind_without_space line c (λ held. not_alone line held a) p ∙ sym (kind_without_space line d (λ held. not_alone line held a) q) in
+    elim (cut_of line c p) [
+      | inl a ↦ alone a
+      | inr x ↦ elim (cut_of line d q) [
+        | inl b ↦ alone b
+        | inr y ↦
+            let s = one_cut line x.rest y.rest x.word y.word x.is y.is in
+            follow_kind x.word x.rest c x.follows ∙ (ap kind_after s.0 ∙ sym (follow_kind y.word y.rest d y.follows))
+      ]
+    ]
+
+-- an identifier and a text behind the same word
+same_registration : (m n : ℕ) (t u : List ℕ) → IsIdentifier m → IsIdentifier n → decimal m ++ 32 ∷ t ≡ decimal n ++ 32 ∷ u → (m ≡ n) × (t ≡ u)
+same_registration m n t u p q e =
+    let same = one_split (decimal m) (decimal n) t u (no_space m p) (no_space n q) e in
+    (decimal_injective m n (omega arith) (omega arith) same.0, same.1)
+
+same_identifier : (m n : ℕ) → IsIdentifier m → IsIdentifier n → decimal m ≡ decimal n → m ≡ n
+same_identifier m n p q e = decimal_injective m n (omega arith) (omega arith) e
+
+-- what stands behind the same word and a space
+behind : (word : List ℕ) (line r s : List ℕ) → line ≡ word ++ 32 ∷ r → line ≡ word ++ 32 ∷ s → r ≡ s
+behind word line r s e f = let h : 32 ∷ r ≡ 32 ∷ s = append_cancel_left word (32 ∷ r) (32 ∷ s) (sym e ∙ f) in cc
+
+pub same_command : (line : List ℕ) (c d : Command) → Spells line c → Spells line d → c ≡ d
+same_command line Empty Empty p q = refl
+same_command line Prune Prune p q = refl
+same_command line Stats Stats p q = refl
+same_command line (Register m t) (Register n u) p q =
+    let same = same_registration m n t u p.0 q.0 (behind (codes "register") line _ _ p.1 q.1) in
+    ap (λ i. Register i t) same.0 ∙ ap (λ (w : List ℕ). Register n w) same.1
+same_command line (Revise m t) (Revise n u) p q =
+    let same = same_registration m n t u p.0 q.0 (behind (codes "revise") line _ _ p.1 q.1) in
+    ap (λ i. Revise i t) same.0 ∙ ap (λ (w : List ℕ). Revise n w) same.1
+same_command line (RegisterMol m) (RegisterMol n) p q = ap RegisterMol (same_identifier m n p.0 q.0 (behind (codes "register-mol") line _ _ p.1 q.1))
+same_command line (ReviseMol m) (ReviseMol n) p q = ap ReviseMol (same_identifier m n p.0 q.0 (behind (codes "revise-mol") line _ _ p.1 q.1))
+same_command line (Withdraw m) (Withdraw n) p q = ap Withdraw (same_identifier m n p.0 q.0 (behind (codes "withdraw") line _ _ p.1 q.1))
+same_command line (Show m) (Show n) p q = ap Show (same_identifier m n p.0 q.0 (behind (codes "show") line _ _ p.1 q.1))
+same_command line (Search t) (Search u) p q = ap Search (behind (codes "search") line _ _ p q)
+same_command line (Next t) (Next u) p q = ap Next (behind (codes "next") line _ _ p.1 q.1)
+same_command line (Close t) (Close u) p q = ap Close (behind (codes "close") line _ _ p.1 q.1)
+same_command line (Start a t) (Start b u) p q =
+    let same = one_split a b t u (no_space_named a p.0) (no_space_named b q.0) (behind (codes "open") line _ _ p.1 q.1) in
+    ap (λ (w : List ℕ). Start w t) same.0 ∙ ap (λ (w : List ℕ). Start b w) same.1
+same_command line c d p q = absurd (let k = same_kind line c d p q in omega arith)
+
+-- a part that is no identifier stands where none does
+no_part : (w : Word) (rest part : List ℕ) (c : Command) → Follows w rest c → IdentifierPart w rest part → IsNoIdentifier part → ⊥
+no_part words.Register rest part (Register id text) h p none =
+    none id h.0 (one_split part (decimal id) p.1 text p.0 (no_space id h.0) (sym p.2 ∙ h.1)).0
+no_part words.Revise rest part (Revise id text) h p none =
+    none id h.0 (one_split part (decimal id) p.1 text p.0 (no_space id h.0) (sym p.2 ∙ h.1)).0
+no_part words.RegisterMol rest part (RegisterMol id) h p none = none id h.0 (sym p.1 ∙ h.1)
+no_part words.ReviseMol rest part (ReviseMol id) h p none = none id h.0 (sym p.1 ∙ h.1)
+no_part words.Withdraw rest part (Withdraw id) h p none = none id h.0 (sym p.1 ∙ h.1)
+no_part words.Show rest part (Show id) h p none = none id h.0 (sym p.1 ∙ h.1)
+no_part words.Search rest part c h p none = p
+no_part words.Open rest part c h p none = p
+no_part words.Next rest part c h p none = p
+no_part words.Close rest part c h p none = p
+no_part w rest part c h p none = h
+
+-- no command has a part for an identifier that is none
+no_identifier_refused : (line part : List ℕ) (c : Command) → Spells line c → HasIdentifierPart line part → IsNoIdentifier part → ⊥
+no_identifier_refused line part c h p none =
+    let x = part_cut_of line part p in
+    let y = spelled_after line (word_text x.word) x.rest c x.is (word_space x.word) h in
+    no_part y.0 x.rest part c y.2 (subst (λ (w : Word). IdentifierPart w x.rest part) (sym (one_word y.0 x.word y.1)) x.follows) none
+
+pub same_reading : (line : List ℕ) (a b : Result Command LineRefusal) → IsLine line a → IsLine line b → a ≡ b
+same_reading line (Ok c) (Ok d) p q = ap Ok (same_command line c d p q)
+same_reading line (Ok c) (Err refusals.Id) p q = absurd (no_identifier_refused line q.0 c p q.1 q.2)
+same_reading line (Ok c) (Err refusals.Syntax) p q = absurd (q.0 c p)
+same_reading line (Err refusals.Id) (Ok d) p q = absurd (no_identifier_refused line p.0 d q p.1 p.2)
+same_reading line (Err refusals.Id) (Err refusals.Id) p q = refl
+same_reading line (Err refusals.Id) (Err refusals.Syntax) p q = absurd (q.1 p.0 p.1)
+same_reading line (Err refusals.Syntax) (Ok d) p q = absurd (p.0 d q)
+same_reading line (Err refusals.Syntax) (Err refusals.Id) p q = absurd (p.1 q.0 q.1)
+same_reading line (Err refusals.Syntax) (Err refusals.Syntax) p q = refl

@@ -1,0 +1,18 @@
+use Rattle.std.proofs.Common.{◌≡◌, arith}
+use Rattle.shell_lang.specs.declared.word.Word.TheVariants as words
+use Rattle.shell_lang.specs.Word.{word_text}
+use Rattle.shell_lang.proofs.word.Word.of_bytes.Goals as goal
+
+pub returns : goal.returns
+returns c w = elim w as (λ v. word_text v ≡ c.args.bytes.now → ⊥) [
+  | words.Register ↦ c.loop-word.invariant 0 words.Register (omega arith)
+  | words.Revise ↦ c.loop-word.invariant 1 words.Revise (omega arith)
+  | words.RegisterMol ↦ c.loop-word.invariant 2 words.RegisterMol (omega arith)
+  | words.ReviseMol ↦ c.loop-word.invariant 3 words.ReviseMol (omega arith)
+  | words.Withdraw ↦ c.loop-word.invariant 4 words.Withdraw (omega arith)
+  | words.Show ↦ c.loop-word.invariant 5 words.Show (omega arith)
+  | words.Search ↦ c.loop-word.invariant 6 words.Search (omega arith)
+  | words.Open ↦ c.loop-word.invariant 7 words.Open (omega arith)
+  | words.Next ↦ c.loop-word.invariant 8 words.Next (omega arith)
+  | words.Close ↦ c.loop-word.invariant 9 words.Close (omega arith)
+]

@@ -1,0 +1,71 @@
+-- For callers: the lines of a script. Parts of a line are separated by exactly one space; a SMILES and a SMARTS are the rest of their line, any bytes.
+use Rattle.std.specs.Prelude.{◌≡◌, ◌≢◌, ◌⊎◌, ℕ, ◌≤◌, Result, Ok, Err, List, [], ◌∷◌, ◌++◌, length, All, Contains, codes}
+use Rattle.std.specs.Fmt.{decimal}
+use Rattle.shell_lang.specs.declared.command.TheConstants.{LONGEST_NAME, LAST_IDENTIFIER}
+use Rattle.shell_lang.specs.declared.command.LineRefusal.{LineRefusal}
+use Rattle.shell_lang.specs.declared.command.LineRefusal.TheVariants as refusals
+
+pub data Command : Type 0 where
+  Empty : Command
+  Register : (id : ℕ) (text : List ℕ) → Command
+  Revise : (id : ℕ) (text : List ℕ) → Command
+  RegisterMol : (id : ℕ) → Command
+  ReviseMol : (id : ℕ) → Command
+  Withdraw : (id : ℕ) → Command
+  Show : (id : ℕ) → Command
+  Search : (pattern : List ℕ) → Command
+  Start : (name pattern : List ℕ) → Command
+  Next : (name : List ℕ) → Command
+  Close : (name : List ℕ) → Command
+  Prune : Command
+  Stats : Command
+
+abbrev pub IsIdentifier : ℕ → Type 0
+IsIdentifier id = (1 ≤ id) × (id ≤ LAST_IDENTIFIER)
+
+abbrev pub IsNoIdentifier : List ℕ → Type 0
+IsNoIdentifier part = (id : ℕ) → IsIdentifier id → part ≢ decimal id
+
+-- a letter, a digit or `_`
+abbrev pub IsNameByte : ℕ → Type 0
+IsNameByte b = ((48 ≤ b) × (b ≤ 57)) ⊎ (((65 ≤ b) × (b ≤ 90)) ⊎ (((97 ≤ b) × (b ≤ 122)) ⊎ (b ≡ 95)))
+
+-- the name of a cursor
+pub record IsName (name : List ℕ) : Type 0 where
+  pub some : 1 ≤ length name
+  pub short : length name ≤ LONGEST_NAME
+  pub bytes : All IsNameByte name
+
+-- the line is this command, written out
+abbrev pub Spells : List ℕ → Command → Type 0
+Spells line Empty = line ≡ []
+Spells line (Register id text) = IsIdentifier id × (line ≡ codes "register" ++ 32 ∷ (decimal id ++ 32 ∷ text))
+Spells line (Revise id text) = IsIdentifier id × (line ≡ codes "revise" ++ 32 ∷ (decimal id ++ 32 ∷ text))
+Spells line (RegisterMol id) = IsIdentifier id × (line ≡ codes "register-mol" ++ 32 ∷ decimal id)
+Spells line (ReviseMol id) = IsIdentifier id × (line ≡ codes "revise-mol" ++ 32 ∷ decimal id)
+Spells line (Withdraw id) = IsIdentifier id × (line ≡ codes "withdraw" ++ 32 ∷ decimal id)
+Spells line (Show id) = IsIdentifier id × (line ≡ codes "show" ++ 32 ∷ decimal id)
+Spells line (Search pattern) = line ≡ codes "search" ++ 32 ∷ pattern
+Spells line (Start name pattern) = IsName name × (line ≡ codes "open" ++ 32 ∷ (name ++ 32 ∷ pattern))
+Spells line (Next name) = IsName name × (line ≡ codes "next" ++ 32 ∷ name)
+Spells line (Close name) = IsName name × (line ≡ codes "close" ++ 32 ∷ name)
+Spells line Prune = line ≡ codes "prune"
+Spells line Stats = line ≡ codes "stats"
+
+abbrev pub HasNoSpace : List ℕ → Type 0
+HasNoSpace bytes = Contains bytes 32 → ⊥
+
+-- the part stands in the line where an identifier is to stand, and the number of parts is right
+abbrev pub HasIdentifierPart : List ℕ → List ℕ → Type 0
+HasIdentifierPart line part =
+    HasNoSpace part ×
+    (((text : List ℕ) × (line ≡ codes "register" ++ 32 ∷ (part ++ 32 ∷ text)))
+    ⊎ (((text : List ℕ) × (line ≡ codes "revise" ++ 32 ∷ (part ++ 32 ∷ text)))
+    ⊎ ((line ≡ codes "register-mol" ++ 32 ∷ part) ⊎ ((line ≡ codes "revise-mol" ++ 32 ∷ part)
+    ⊎ ((line ≡ codes "withdraw" ++ 32 ∷ part) ⊎ (line ≡ codes "show" ++ 32 ∷ part))))))
+
+-- What a line is: a command; or `Id`, where the part for an identifier is none; or `Syntax`, where it is neither a command nor has such a part.
+abbrev pub IsLine : List ℕ → Result Command LineRefusal → Type 0
+IsLine line (Ok command) = Spells line command
+IsLine line (Err refusals.Id) = (part : List ℕ) × HasIdentifierPart line part × IsNoIdentifier part
+IsLine line (Err refusals.Syntax) = ((command : Command) → ¬ Spells line command) × ((part : List ℕ) → ¬ HasIdentifierPart line part)

@@ -1,0 +1,37 @@
+-- For private clauses alone: a line by its first word and what follows it.
+use Rattle.std.specs.Prelude.{◌≡◌, ◌≢◌, ◌⊎◌, ℕ, Result, Ok, Err, List, [], ◌∷◌, ◌++◌}
+use Rattle.std.specs.Fmt.{decimal}
+use Rattle.shell_lang.specs.declared.word.Word.{Word}
+use Rattle.shell_lang.specs.declared.word.Word.TheVariants as words
+use Rattle.shell_lang.specs.declared.command.LineRefusal.{LineRefusal}
+use Rattle.shell_lang.specs.declared.command.LineRefusal.TheVariants as refusals
+use Rattle.shell_lang.specs.Command.{Command, Register, Revise, RegisterMol, ReviseMol, Withdraw, Show, Search, Start, Next, Close, IsIdentifier, IsNoIdentifier, IsName, HasNoSpace}
+
+-- a line with this first word and this rest is the command
+abbrev pub Follows : Word → List ℕ → Command → Type 0
+Follows words.Register rest (Register id text) = IsIdentifier id × (rest ≡ decimal id ++ 32 ∷ text)
+Follows words.Revise rest (Revise id text) = IsIdentifier id × (rest ≡ decimal id ++ 32 ∷ text)
+Follows words.RegisterMol rest (RegisterMol id) = IsIdentifier id × (rest ≡ decimal id)
+Follows words.ReviseMol rest (ReviseMol id) = IsIdentifier id × (rest ≡ decimal id)
+Follows words.Withdraw rest (Withdraw id) = IsIdentifier id × (rest ≡ decimal id)
+Follows words.Show rest (Show id) = IsIdentifier id × (rest ≡ decimal id)
+Follows words.Search rest (Search pattern) = rest ≡ pattern
+Follows words.Open rest (Start name pattern) = IsName name × (rest ≡ name ++ 32 ∷ pattern)
+Follows words.Next rest (Next name) = IsName name × (rest ≡ name)
+Follows words.Close rest (Close name) = IsName name × (rest ≡ name)
+Follows word rest command = ⊥
+
+-- the rest is a part for an identifier, and a text behind it where the word has one
+abbrev pub IdentifierPart : Word → List ℕ → List ℕ → Type 0
+IdentifierPart words.Register rest part = HasNoSpace part × (text : List ℕ) × (rest ≡ part ++ 32 ∷ text)
+IdentifierPart words.Revise rest part = HasNoSpace part × (text : List ℕ) × (rest ≡ part ++ 32 ∷ text)
+IdentifierPart words.RegisterMol rest part = HasNoSpace part × (rest ≡ part)
+IdentifierPart words.ReviseMol rest part = HasNoSpace part × (rest ≡ part)
+IdentifierPart words.Withdraw rest part = HasNoSpace part × (rest ≡ part)
+IdentifierPart words.Show rest part = HasNoSpace part × (rest ≡ part)
+IdentifierPart word rest part = ⊥
+
+abbrev pub IsRest : Word → List ℕ → Result Command LineRefusal → Type 0
+IsRest word rest (Ok command) = Follows word rest command
+IsRest word rest (Err refusals.Id) = (part : List ℕ) × IdentifierPart word rest part × IsNoIdentifier part
+IsRest word rest (Err refusals.Syntax) = ((command : Command) → ¬ Follows word rest command) × ((part : List ℕ) → ¬ IdentifierPart word rest part)

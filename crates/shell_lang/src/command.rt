@@ -1,0 +1,227 @@
+//! Reading a line of a script: which command it spells, or why it spells none.
+ghost use Rattle.std.specs.Prelude.{◌≡◌, ◌≢◌, ◌∷◌, ◌++◌, ℕ, List, All, Contains, codes, decimal, IfSome, IfNone, IfOk, IfErr, IsErrOf, IsTrue, Result, ◌↔◌};
+ghost use Rattle.shell_lang.specs.Command as spec;
+ghost use Rattle.shell_lang.specs.Command.{IsIdentifier, IsNoIdentifier, IsNameByte, IsName, Spells, HasNoSpace, HasIdentifierPart, IsLine};
+ghost use Rattle.shell_lang.specs.CommandView.{reading_of};
+ghost use Rattle.shell_lang.specs.Word.{word_text};
+ghost use Rattle.shell_lang.specs.Cut.{IsRest};
+ghost use Rattle.shell_lang.specs.declared.command.LineRefusal.{LineRefusal};
+ghost use Rattle.shell_lang.specs.declared.command.LineRefusal.TheVariants.{Syntax};
+
+use crate::word::{Word, are_same};
+use chem_text::decimal;
+
+/// The greatest identifier.
+pub const LAST_IDENTIFIER: u64 = 999_999_999;
+
+/// The most bytes of a cursor's name.
+pub const LONGEST_NAME: usize = 32;
+
+/// A line of a script. An identifier is 1 to 999,999,999; a name has 1 to 32 letters of ASCII, digits or `_`.
+#[derive(Clone, Copy, Debug)]
+pub enum Command<'a> {
+    /// An empty line, which has no reply.
+    Empty,
+    /// `register ID SMILES`
+    Register { id: u32, text: &'a [u8] },
+    /// `revise ID SMILES`
+    Revise { id: u32, text: &'a [u8] },
+    /// `register-mol ID`; the lines of a molfile follow.
+    RegisterMol { id: u32 },
+    /// `revise-mol ID`; the lines of a molfile follow.
+    ReviseMol { id: u32 },
+    /// `withdraw ID`
+    Withdraw { id: u32 },
+    /// `show ID`
+    Show { id: u32 },
+    /// `search SMARTS`
+    Search { pattern: &'a [u8] },
+    /// `open NAME SMARTS`
+    Start { name: &'a [u8], pattern: &'a [u8] },
+    /// `next NAME`
+    Next { name: &'a [u8] },
+    /// `close NAME`
+    Close { name: &'a [u8] },
+    /// `prune`
+    Prune,
+    /// `stats`
+    Stats,
+}
+
+/// Why a line spells no command.
+#[derive(Clone, Copy, Debug, PartialEq, Eq)]
+pub enum LineRefusal {
+    /// It is no line of the language: an unknown word, another number of parts, or a name that is none.
+    Syntax,
+    /// The part where an identifier stands is none.
+    Id,
+}
+
+/// Reads a line, without its end. Parts are separated by exactly one space; a SMILES and a SMARTS are the rest of their
+/// line and may be any bytes, none included.
+pub fn read_command(line: &[u8]) -> Result<Command<'_>, LineRefusal>
+    ensures { IsLine line.now (reading_of result) }
+{
+    let Some((first, rest)) = split_at_space(line) else {
+        return alone(line);
+    };
+    let Some(word) = Word::of_bytes(first) else {
+        return Err(LineRefusal::Syntax);
+    };
+    with_rest(word, rest)
+}
+
+/// A law: a line is read in one way.
+pub fn one_reading()
+    ensures { (line : List ℕ) (a b : Result spec.Command LineRefusal) → IsLine line a → IsLine line b → a ≡ b }
+{}
+
+// A line without a space.
+fn alone(line: &[u8]) -> Result<Command<'_>, LineRefusal>
+    requires { HasNoSpace line.now }
+    ensures { IsLine line.now (reading_of result) }
+{
+    if line.is_empty() {
+        return Ok(Command::Empty);
+    }
+    if are_same(line, b"prune") {
+        return Ok(Command::Prune);
+    }
+    if are_same(line, b"stats") {
+        return Ok(Command::Stats);
+    }
+    Err(LineRefusal::Syntax)
+}
+
+// A line with this first word and this rest.
+fn with_rest(word: Word, rest: &[u8]) -> Result<Command<'_>, LineRefusal>
+    ensures { IsRest word rest.now (reading_of result) }
+{
+    match word {
+        Word::Register => {
+            let (id, text) = identifier_and_text(rest)?;
+            Ok(Command::Register { id, text })
+        }
+        Word::Revise => {
+            let (id, text) = identifier_and_text(rest)?;
+            Ok(Command::Revise { id, text })
+        }
+        Word::RegisterMol => Ok(Command::RegisterMol {
+            id: identifier_alone(rest)?,
+        }),
+        Word::ReviseMol => Ok(Command::ReviseMol {
+            id: identifier_alone(rest)?,
+        }),
+        Word::Withdraw => Ok(Command::Withdraw {
+            id: identifier_alone(rest)?,
+        }),
+        Word::Show => Ok(Command::Show {
+            id: identifier_alone(rest)?,
+        }),
+        Word::Search => Ok(Command::Search { pattern: rest }),
+        Word::Open => {
+            let (name, pattern) = name_and_text(rest)?;
+            Ok(Command::Start { name, pattern })
+        }
+        Word::Next => Ok(Command::Next {
+            name: name_alone(rest)?,
+        }),
+        Word::Close => Ok(Command::Close {
+            name: name_alone(rest)?,
+        }),
+    }
+}
+
+// An identifier, a space, and a text.
+fn identifier_and_text(rest: &[u8]) -> Result<(u32, &[u8]), LineRefusal>
+    ensures ok { IfOk result (λ r. IsIdentifier r.0 × (rest.now ≡ decimal r.0 ++ 32 ∷ r.1.now)) }
+    ensures id { IsErrOf result LineRefusal.Id → (part : List ℕ) × HasNoSpace part
+        × ((text : List ℕ) × (rest.now ≡ part ++ 32 ∷ text)) × IsNoIdentifier part }
+    ensures syntax { IsErrOf result LineRefusal.Syntax → HasNoSpace rest.now }
+{
+    let (digits, text) = split_at_space(rest).ok_or(LineRefusal::Syntax)?;
+    let id = identifier(digits).ok_or(LineRefusal::Id)?;
+    Ok((id, text))
+}
+
+// An identifier and nothing more.
+fn identifier_alone(rest: &[u8]) -> Result<u32, LineRefusal>
+    ensures ok { IfOk result (λ id. IsIdentifier id × (rest.now ≡ decimal id)) }
+    ensures id { IsErrOf result LineRefusal.Id → HasNoSpace rest.now × IsNoIdentifier rest.now }
+    ensures syntax { IsErrOf result LineRefusal.Syntax → Contains rest.now 32 }
+{
+    if rest.contains(&b' ') {
+        return Err(LineRefusal::Syntax);
+    }
+    identifier(rest).ok_or(LineRefusal::Id)
+}
+
+// A name, a space, and a text.
+fn name_and_text(rest: &[u8]) -> Result<(&[u8], &[u8]), LineRefusal>
+    ensures ok { IfOk result (λ r. IsName r.0.now × (rest.now ≡ r.0.now ++ 32 ∷ r.1.now)) }
+    ensures err { IfErr result (λ e. (e ≡ Syntax)
+        × ((name text : List ℕ) → IsName name → rest.now ≢ name ++ 32 ∷ text)) }
+{
+    let Some((name, text)) = split_at_space(rest) else {
+        return Err(LineRefusal::Syntax);
+    };
+    if is_name(name) {
+        Ok((name, text))
+    } else {
+        Err(LineRefusal::Syntax)
+    }
+}
+
+// A name and nothing more.
+fn name_alone(rest: &[u8]) -> Result<&[u8], LineRefusal>
+    ensures ok { IfOk result (λ r. IsName rest.now × (r.now ≡ rest.now)) }
+    ensures err { IfErr result (λ e. (e ≡ Syntax) × ¬ IsName rest.now) }
+{
+    if is_name(rest) {
+        Ok(rest)
+    } else {
+        Err(LineRefusal::Syntax)
+    }
+}
+
+// The identifier that the bytes are.
+fn identifier(bytes: &[u8]) -> Option<u32>
+    ensures some { IfSome result (λ id. (bytes.now ≡ decimal id) × IsIdentifier id) }
+    ensures none { IfNone result (IsNoIdentifier bytes.now) }
+{
+    match decimal(bytes, LAST_IDENTIFIER) {
+        Some(id) if id >= 1 => Some(id as u32),
+        _ => None,
+    }
+}
+
+fn is_name(bytes: &[u8]) -> bool
+    ensures { IsTrue result ↔ IsName bytes.now }
+{
+    (1..=LONGEST_NAME).contains(&bytes.len()) && are_name_bytes(bytes)
+}
+
+fn are_name_bytes(bytes: &[u8]) -> bool
+    ensures { IsTrue result ↔ All IsNameByte bytes.now }
+{
+    bytes.iter().all(|byte| is_name_byte(*byte))
+}
+
+fn is_name_byte(byte: u8) -> bool
+    ensures { IsTrue result ↔ IsNameByte byte }
+{
+    byte.is_ascii_alphanumeric() || byte == b'_'
+}
+
+// The bytes before the first space, and those after it.
+fn split_at_space(bytes: &[u8]) -> Option<(&[u8], &[u8])>
+    ensures parts { IfSome result (λ parts. bytes.now ≡ parts.0.now ++ 32 ∷ parts.1.now) }
+    ensures first { IfSome result (λ parts. HasNoSpace parts.0.now) }
+    ensures none { IfNone result (HasNoSpace bytes.now) }
+{
+    let place = bytes.iter().position(|byte| *byte == b' ')?;
+    Some((&bytes[..place], &bytes[place + 1..]))
+}
+
+#[cfg(test)]
+mod tests;

@@ -1,0 +1,73 @@
+//! Lines and what they are read as.
+use super::*;
+
+const NAME: &[u8] = b"Abcdefghijklmnopqrstuvwxyz_01234";
+
+#[test]
+fn lines_are_read_by_their_parts(rt: HostRuntime) {
+    use LineRefusal::{Id, Syntax};
+    for (line, refusal) in [
+        ("", None),
+        (" ", Some(Syntax)),
+        ("\r", Some(Syntax)),
+        ("register 1 C", None),
+        ("register 1 ", None),
+        ("register 1", Some(Syntax)),
+        ("register  1 C", Some(Id)),
+        ("register 0 C", Some(Id)),
+        ("register 0", Some(Syntax)),
+        ("register 01 C", Some(Id)),
+        ("register +1 C", Some(Id)),
+        ("register 1000000000 C", Some(Id)),
+        ("register 999999999 C", None),
+        ("revise x C", Some(Id)),
+        ("register-mol 1", None),
+        ("register-mol", Some(Syntax)),
+        ("register-mol 1 2", Some(Syntax)),
+        ("register-mol  1", Some(Syntax)),
+        ("revise-mol 0", Some(Id)),
+        ("withdraw 1", None),
+        ("withdraw ", Some(Id)),
+        ("withdraw  1", Some(Syntax)),
+        ("withdraw 0 1", Some(Syntax)),
+        ("show 1 ", Some(Syntax)),
+        ("search ", None),
+        ("search", Some(Syntax)),
+        ("open s ", None),
+        ("open  C", Some(Syntax)),
+        ("open a-b C(", Some(Syntax)),
+        ("next s", None),
+        ("next s ", Some(Syntax)),
+        ("close ", Some(Syntax)),
+        ("prune", None),
+        ("prune ", Some(Syntax)),
+        (" stats", Some(Syntax)),
+        ("Stats", Some(Syntax)),
+    ] {
+        assert_eq!(rt; read_command(line.as_bytes()).err(), refusal, "at {line}");
+    }
+}
+
+#[test]
+fn parts_are_given(rt: HostRuntime) {
+    assert!(rt;
+        matches!(
+            read_command(b"register 7  C "),
+            Ok(Command::Register {
+                id: 7,
+                text: b" C "
+            })
+        )
+    );
+    assert!(rt;
+        matches!(
+            read_command(b"open s C C"),
+            Ok(Command::Start {
+                name: b"s",
+                pattern: b"C C"
+            })
+        )
+    );
+    assert!(rt; is_name(NAME) && NAME.len() == 32);
+    assert!(rt; !is_name(b"Abcdefghijklmnopqrstuvwxyz_012345"));
+}

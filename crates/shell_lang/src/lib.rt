@@ -1,0 +1,9 @@
+//! The language of scripts: from lines to commands, from replies to lines.
+#![tactic(auto)]
+
+mod command;
+mod reply;
+mod word;
+
+pub use command::{Command, LAST_IDENTIFIER, LONGEST_NAME, LineRefusal, one_reading, read_command};
+pub use reply::{Refusal, Reply, reply_text};

@@ -1,0 +1,73 @@
+//! The first words of script lines that go on after them.
+ghost use Rattle.std.specs.Prelude.{◌≡◌, ◌≢◌, MatchOption};
+ghost use Rattle.std.specs.Bool.{OnTrue, OnFalse};
+ghost use Rattle.shell_lang.specs.declared.word.Word as word;
+ghost use Rattle.shell_lang.specs.Word.{word_text};
+
+/// The first word of a line that goes on after it.
+#[derive(Clone, Copy, Debug, PartialEq, Eq)]
+pub(crate) enum Word {
+    Register,
+    Revise,
+    RegisterMol,
+    ReviseMol,
+    Withdraw,
+    Show,
+    Search,
+    Open,
+    Next,
+    Close,
+}
+
+const WORDS: [Word; 10] = [
+    Word::Register,
+    Word::Revise,
+    Word::RegisterMol,
+    Word::ReviseMol,
+    Word::Withdraw,
+    Word::Show,
+    Word::Search,
+    Word::Open,
+    Word::Next,
+    Word::Close,
+];
+
+impl Word {
+    /// The word that the bytes spell.
+    pub(crate) fn of_bytes(bytes: &[u8]) -> Option<Word>
+        ensures { MatchOption result ((w : word.Word) → word_text w ≢ bytes.now)
+            (λ w. word_text w ≡ bytes.now) }
+    {
+        for word in WORDS {
+            if are_same(word.text().as_bytes(), bytes) {
+                return Some(word);
+            }
+        }
+        None
+    }
+
+    fn text(self) -> &'static str
+        ensures { result.now ≡ word_text self }
+    {
+        match self {
+            Word::Register => "register",
+            Word::Revise => "revise",
+            Word::RegisterMol => "register-mol",
+            Word::ReviseMol => "revise-mol",
+            Word::Withdraw => "withdraw",
+            Word::Show => "show",
+            Word::Search => "search",
+            Word::Open => "open",
+            Word::Next => "next",
+            Word::Close => "close",
+        }
+    }
+}
+
+/// Whether the bytes are the same.
+pub(crate) fn are_same(bytes: &[u8], others: &[u8]) -> bool
+    ensures same { OnTrue result (bytes.now ≡ others.now) }
+    ensures other { OnFalse result (bytes.now ≢ others.now) }
+{
+    bytes == others
+}

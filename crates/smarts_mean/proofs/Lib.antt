@@ -1,0 +1,5 @@
+pub mod Ascending
+pub mod Chosen
+pub mod Rings
+pub mod Bits
+pub mod Truths

@@ -1,0 +1,17 @@
+//! When a SMARTS expression is true at an atom or a bond of a molecule (Daylight Theory Manual, chapter SMARTS,
+//! sections 4.1 to 4.3).
+//!
+//! What a recursive part asks is not worked out here: a table says at which atoms each one holds.
+#![tactic(auto)]
+
+mod atom;
+mod bond;
+mod count;
+mod table;
+
+pub use atom::atom_true;
+pub use bond::bond_true;
+pub use table::{MOST_PARTS, RecTable};
+
+#[cfg(test)]
+mod tests;

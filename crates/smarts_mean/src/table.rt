@@ -1,0 +1,77 @@
+//! A table of the atoms at which recursive parts hold: a bit for each part and atom, in words of 64.
+ghost use Rattle.std.specs.Prelude.{◌≡◌, ◌≢◌, ℕ, ◌<◌, ◌==◌, ◌&&◌, if◌then◌else◌, false, IfOk};
+ghost use Rattle.std.specs.Int.{bit_at};
+ghost use Rattle.smarts_mean.specs.Table.{holds_at};
+
+use chem_core::MOST_ATOMS;
+use std::alloc::{AllocError, Global};
+use std::marker::Model;
+
+/// The most recursive parts of a pattern.
+pub const MOST_PARTS: usize = 64;
+
+// The words of a part's row: a bit for each atom.
+const ROW: usize = 16;
+
+/// At which atoms each recursive part of a pattern holds: room for `MOST_PARTS` parts and `MOST_ATOMS` atoms.
+/// Contracts ask it by the part's number and the atom.
+#[derive(Debug, Drop)]
+pub struct RecTable {
+    words: Vec<u64>,
+}
+
+impl Model for RecTable {
+    ghost use Rattle.std.specs.Prelude.{◌≡◌, length};
+    ghost use Rattle.smarts_mean.specs.Table.{Table};
+
+    ghost Value = { Table };
+
+    ghost view = { λ t. record { words = t.words.items } };
+
+    ghost invariant = { λ t. length t.words.items ≡ 1024 };
+}
+
+impl RecTable {
+    /// Takes the memory. No part holds anywhere yet.
+    pub fn reserve(alloc: Global) -> Result<RecTable, AllocError>
+        ensures { IfOk result (λ table. (part atom : ℕ) → holds_at table part atom ≡ false) }
+    {
+        Ok(RecTable {
+            words: vec![in alloc; 0u64; ROW * MOST_PARTS]?,
+        })
+    }
+
+    /// Whether the part holds at the atom.
+    pub fn get(&self, part: u16, atom: u16) -> bool
+        requires part { part < MOST_PARTS }
+        requires atom { atom < MOST_ATOMS }
+        ensures { result ≡ holds_at self.now part atom }
+    {
+        let word = self.words[ROW * usize::from(part) + usize::from(atom / 64)];
+        (word >> (atom % 64)) & 1 == 1
+    }
+
+    /// Notes whether the part holds at the atom.
+    pub fn put(&mut self, part: u16, atom: u16, holds: bool)
+        requires part { part < MOST_PARTS }
+        requires atom { atom < MOST_ATOMS }
+        ensures { (p a : ℕ) → p < MOST_PARTS → a < MOST_ATOMS
+            → holds_at self.new p a ≡ (if (p == part) && (a == atom) then holds else holds_at self.old p a) }
+    {
+        let place = ROW * usize::from(part) + usize::from(atom / 64);
+        self.words[place] = with_bit(self.words[place], atom % 64, holds);
+    }
+}
+
+// The word with one bit as given.
+fn with_bit(word: u64, bit: u16, value: bool) -> u64
+    requires { bit < 64 }
+    ensures here { (bit_at result bit == 1) ≡ value }
+    ensures others { (i : ℕ) → i < 64 → i ≢ bit → bit_at result i ≡ bit_at word i }
+{
+    if value {
+        word | (1 << bit)
+    } else {
+        word & !(1 << bit)
+    }
+}

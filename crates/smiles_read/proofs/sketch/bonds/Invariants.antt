@@ -1,0 +1,6 @@
+use Rattle.std.proofs.Common.{◌≡◌, map, take}
+use Rattle.smiles_read.specs.Small.{bond_of}
+use Rattle.smiles_read.proofs.sketch.bonds.Given as goal
+
+abbrev pub invariant-loop-link : goal.invariant-loop-link
+invariant-loop-link l = l.bonds.items ≡ map bond_of (take l.link-index l.links)
