@@ -17,13 +17,14 @@ use Rattle.store_machine.specs.declared.machine.Held.{Held}
 use Rattle.store_machine.specs.declared.machine.Reply.TheVariants as reply
 use Rattle.store_machine.specs.declared.machine.State.{State}
 use Rattle.store_machine.specs.declared.machine.Status.{Status}
+use Rattle.store_core.specs.Calls.{Calls}
 use Rattle.store_core.specs.Chains.{chain_of, is_between, latest, needed, seen, status_of}
-use Rattle.store_core.specs.Stored.{AreAscending, IsChain, StandsFor, StoreTerm, pin_of}
+use Rattle.store_core.specs.Stored.{AreAscending, IsChain, StandsFor, StoreTerm, Stretches, pin_of}
 use Rattle.store_core.specs.declared.chain.Kept.{Kept}
 use Rattle.store_core.proofs.Heads.{total}
 use Rattle.store_core.proofs.Listed.{Rise, entry_of, length-listed, listed, listed-distinct, listed-has, listed-in, rises}
 use Rattle.store_core.proofs.Members.{contains-split}
-use Rattle.store_core.proofs.OneCall.{serves}
+use Rattle.store_core.proofs.OneCall.{one-call, serves}
 use Rattle.store_core.proofs.Prunes.{IsReadAt, chain-pruned, keys-pruned, needed-ascends, needed-old, needed-read, pruned, read-needed}
 use Rattle.store_core.proofs.Rows.{sound-after}
 use Rattle.store_core.proofs.Sees.{made-of, seen-at}
@@ -150,3 +151,13 @@ module _ (read : KeptIsRead) (stay : StatesStay) (sound : RunsStaySound) (store 
       ordered = subst (IsStrictlySortedBy nat_cmp) (sym (keys-pruned live store.chains)) h.ordered;
       chains = chain-left;
     }
+
+  -- the chains that are left, and how many states they have
+  module _ (chains : List (ℕ × List Kept)) (left : ℕ) (same : chains ≡ pruned live store.chains) (count : left ≡ total chains) where
+    pub store-left : StandsFor (record store { chains = chains; kept = left }) (record s { kept = listed (pruned live store.chains) })
+    store-left = subst (λ es. StandsFor (record store { chains = es; kept = left }) (record s { kept = listed (pruned live store.chains) })) (sym same) (prune-stands left (count ∙ ap total same))
+
+    pub prune-call : Calls Stretches (λ _. true) store (record store { chains = chains; kept = left }) s ((event.Prune, reply.Pruned (store.kept - left)) ∷ [])
+    prune-call =
+        one-call store (record store { chains = chains; kept = left }) s (record s { kept = listed (pruned live store.chains) }) 0 event.Prune (reply.Pruned (store.kept - left)) refl h
+        (prune-gives left (count ∙ ap total same)) store-left

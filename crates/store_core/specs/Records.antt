@@ -4,9 +4,10 @@ use Rattle.std.specs.Arc.{arc_value}
 use Rattle.std.specs.declared.alloc.Global.{Global}
 use Rattle.std.specs.declared.sync.Arc.{Arc}
 use Rattle.chem_core.specs.Molecule.{Molecule}
+use Rattle.mol_finish.specs.Structure.{HasMolecule}
 use Rattle.mol_finish.specs.declared.fault.Format.{Format}
 use Rattle.store_machine.specs.History.{IsId}
-use Rattle.store_machine.specs.Structures.{HasStructure, IsPrintOf}
+use Rattle.store_machine.specs.Structures.{IsPrintOf}
 use Rattle.store_machine.specs.declared.machine.Found.{Found}
 
 pub record RecordTerm : Type 0 where
@@ -19,7 +20,7 @@ pub record RecordTerm : Type 0 where
 -- the identifier is in range, the structure is the text's, and the print the structure's
 pub record IsRecord (r : RecordTerm) : Type 0 where
   pub id : IsId r.id
-  pub structure : HasStructure r.format r.text r.mol
+  pub structure : HasMolecule r.format r.text r.mol
   pub print : IsPrintOf r.mol r.print
 
 -- records that are shared

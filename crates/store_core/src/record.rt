@@ -1,9 +1,9 @@
 //! A record: a text under its identifier, with its structure and print.
 ghost use Rattle.std.specs.Prelude.{◌≡◌, ◌↔◌, ◌≤◌, Err, IfErr, IfOk, IsTrue};
 ghost use Rattle.std.specs.Arc.{arc_value};
-ghost use Rattle.mol_finish.specs.Structure.{IsStructure};
+ghost use Rattle.mol_finish.specs.Structure.{HasMolecule, IsAnswer};
 ghost use Rattle.store_machine.specs.History.{IsId};
-ghost use Rattle.store_machine.specs.Structures.{HasStructure, IsPrintOf, IsScreened};
+ghost use Rattle.store_machine.specs.Structures.{IsPrintOf, IsScreened};
 ghost use Rattle.store_core.specs.Records.{IsRecord};
 
 use chem_core::{Mol, Print};
@@ -44,8 +44,7 @@ impl Record {
         ensures id { IfOk result (λ r. (arc_value r).id ≡ id) }
         ensures format { IfOk result (λ r. (arc_value r).format ≡ format) }
         ensures text { IfOk result (λ r. (arc_value r).text ≡ text.now) }
-        ensures molfile { format ≡ Format.Molfile → result ≡ Err TextFault.NotYet }
-        ensures fault { format ≡ Format.Smiles → IfErr result (λ fault. IsStructure text.now (Err fault)) }
+        ensures fault { IfErr result (λ fault. IsAnswer format text.now (Err fault)) }
     {
         let mol = structure(alloc, format, text)?;
         let text = Vec::from_slice(alloc, text)?;
@@ -84,7 +83,7 @@ impl Record {
 
     pub fn mol(&self) -> &Mol
         ensures mol { result.now ≡ self.now.mol }
-        ensures structure { HasStructure self.now.format self.now.text result.now }
+        ensures structure { HasMolecule self.now.format self.now.text result.now }
     {
         &self.mol
     }
