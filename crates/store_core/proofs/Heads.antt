@@ -23,7 +23,7 @@ same-kept : (a b : Kept) → Some a ≡ Some b → a ≡ b
 unfolding kept-in
 same-kept a b e = ap (λ o. kept-in o a) e
 
-latest-within : (v : ℕ) (ks : List Kept) (k : Kept) → latest v ks ≡ Some k → Contains ks k
+pub latest-within : (v : ℕ) (ks : List Kept) (k : Kept) → latest v ks ≡ Some k → Contains ks k
 latest-within v [] k e = absurd (none-some e)
 latest-within v (x ∷ xs) k e = go (latest v xs) (nat_le x.version v) (λ f. latest-within v xs k f) e
   where

@@ -1,3 +1,4 @@
+mod Bits
 mod Commits
 mod Counts
 mod Fresh
@@ -6,8 +7,10 @@ mod Latest
 mod Listed
 mod Members
 mod OneCall
+mod Picked
 mod PruneRow
 mod Prunes
 mod Rows
 mod Screened
 mod Sees
+mod Walks

@@ -52,12 +52,12 @@ rises es sorted = rise-from es (AllPairs-from_increasing (keys_of es) (IsStrictl
 at-same : (a : ℕ) → is_at (nat_cmp a) a ≡ true
 at-same a = grind arith
 
-same-at : (a b : ℕ) (o : Ordering) → nat_cmp a b ≡ o → is_eq o ≡ true → a ≡ b
+pub same-at : (a b : ℕ) (o : Ordering) → nat_cmp a b ≡ o → is_eq o ≡ true → a ≡ b
 same-at a b Less e h = cc
 same-at a b Equal e h = nat_cmp-IsAntisymmetric a b e
 same-at a b Greater e h = cc
 
-chain-above : (a : ℕ) (es : List (ℕ × List Kept)) (id : ℕ) (k : Kept) → Above a es → Contains (chain_of es id) k → a < id
+pub chain-above : (a : ℕ) (es : List (ℕ × List Kept)) (id : ℕ) (k : Kept) → Above a es → Contains (chain_of es id) k → a < id
 chain-above a [] id k up c = absurd (omega (arith, c.1))
 chain-above a (e ∷ es) id k up c =
     elim (is_at (nat_cmp id) e.0) as (λ b. is_at (nat_cmp id) e.0 ≡ b → Contains (states_in (cond b (Some e.1) (lookup (is_at (nat_cmp id)) es))) k → a < id) [
@@ -79,10 +79,10 @@ in-chain key (x ∷ xs) id version c =
       | inr d ↦ let r = in-chain key xs id version d in record { k = r.k; within = contains-there x r.k xs r.within; same = r.same; at = r.at }
     ]
 
-chain-first : (e : ℕ × List Kept) (es : List (ℕ × List Kept)) (id : ℕ) → e.0 ≡ id → chain_of (e ∷ es) id ≡ e.1
+pub chain-first : (e : ℕ × List Kept) (es : List (ℕ × List Kept)) (id : ℕ) → e.0 ≡ id → chain_of (e ∷ es) id ≡ e.1
 chain-first e es id same = ap states_in (cond-true (is_at (nat_cmp id) e.0) (Some e.1) (lookup (is_at (nat_cmp id)) es) (ap (λ a. is_at (nat_cmp id) a) same ∙ at-same id))
 
-chain-rest : (e : ℕ × List Kept) (es : List (ℕ × List Kept)) (id : ℕ) → e.0 < id → chain_of (e ∷ es) id ≡ chain_of es id
+pub chain-rest : (e : ℕ × List Kept) (es : List (ℕ × List Kept)) (id : ℕ) → e.0 < id → chain_of (e ∷ es) id ≡ chain_of es id
 chain-rest e es id less =
     elim (is_at (nat_cmp id) e.0) as (λ b. is_at (nat_cmp id) e.0 ≡ b → states_in (cond b (Some e.1) (lookup (is_at (nat_cmp id)) es)) ≡ chain_of es id) [
       | true ↦ λ t. absurd (omega (arith, less, same-at id e.0 (nat_cmp id e.0) refl t))

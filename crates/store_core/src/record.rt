@@ -97,7 +97,8 @@ impl Record {
 
     /// Whether the print holds what is wanted.
     pub(crate) fn is_screened(&self, want: &Print) -> bool
-        ensures { IsTrue result ↔ IsScreened want.now self.now.format self.now.text }
+        ensures screened { IsTrue result ↔ IsScreened want.now self.now.format self.now.text }
+        ensures sound { IsRecord self.now }
     {
         one_structure();
         self.print.holds(want)

@@ -1,7 +1,14 @@
 //! Walks over the chains, in the order of identifiers.
-ghost use Rattle.std.specs.Prelude.{◌≡◌, ◌<◌, length};
-ghost use Rattle.std.specs.List.{sum_by};
+ghost use Rattle.std.specs.Prelude.{◌≡◌, ◌<◌, ◌≤◌, All, IfOk, IfSome, List, [], MatchOption, Some, length, nat_le, take};
+ghost use Rattle.std.specs.Arc.{arc_value};
 ghost use Rattle.std.specs.BTreeMap.{values};
+ghost use Rattle.std.specs.BTreeMap.Range.{entries_between};
+ghost use Rattle.std.specs.List.{sum_by};
+ghost use Rattle.std.specs.Ordering.{nat_cmp};
+ghost use Rattle.store_machine.specs.History.{IsId};
+ghost use Rattle.store_machine.specs.declared.machine.Found.{Found};
+ghost use Rattle.store_core.specs.Picks.{ArePicked, IsWanted, live_at};
+ghost use Rattle.store_core.specs.Records.{IsRecord, Shared, founds};
 
 use crate::chain::{Chain, Kept};
 use crate::page::Page;
@@ -33,7 +40,16 @@ pub fn fill(
     from: u32,
     limit: u32,
     page: &mut Page,
-) -> Result<bool, AllocError> {
+) -> Result<bool, AllocError>
+    requires empty { page.old.records ≡ [] }
+    requires room { limit ≤ page.old.room }
+    ensures page { (all : List Found)
+        → ArePicked version want.now (entries_between nat_cmp (Bound.Included from) Bound.Unbounded chains.now.entries) all
+        → IfOk result (λ last. (founds page.new.records ≡ take limit all) × (last ≡ nat_le (length all) limit)) }
+    ensures few { length page.new.records ≤ limit }
+    ensures in_range { All (λ (r : Shared). IsId (arc_value r).id) page.new.records }
+    ensures room { page.new.room ≡ page.old.room }
+{
     for (_, chain) in chains.range(from..) {
         if let Some(entry) = wanted(chain, version, want) {
             if page.records().len() >= limit as usize {
@@ -46,7 +62,12 @@ pub fn fill(
 }
 
 // The record of a chain, where it is live at a version and its print holds what is wanted.
-fn wanted<'a>(chain: &'a Chain, version: u32, want: &Print) -> Option<&'a Arc<Record>> {
+fn wanted<'a>(chain: &'a Chain, version: u32, want: &Print) -> Option<&'a Arc<Record>>
+    ensures is { MatchOption result
+        (¬ IsWanted want.now (live_at version chain.now))
+        (λ r. (live_at version chain.now ≡ Some r.now) × IsWanted want.now (Some r.now)) }
+    ensures sound { IfSome result (λ r. IsRecord (arc_value r.now)) }
+{
     match chain.latest(version) {
         Some(
             Kept {

@@ -4,8 +4,8 @@ use Rattle.store_core.specs.Records.{RecordTerm}
 use Rattle.store_core.proofs.Screened.{screened}
 use Rattle.store_core.proofs.record.Record.is_screened.Goals as goal
 
-pub returns : goal.returns
-returns c =
+pub returns-clause-screened : goal.returns-clause-screened
+returns-clause-screened c =
     let r = c.self.inside in
     let want = c.args.want.now in
     let both = screened c.one_structure.ensures r.format r.text.items r.mol r.print want c.self.invariant.structure c.self.invariant.print in
