@@ -1,6 +1,7 @@
 mod Bits
 mod Commits
 mod Counts
+mod FetchRow
 mod Fresh
 mod Heads
 mod Latest

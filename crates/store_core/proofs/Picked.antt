@@ -36,20 +36,20 @@ none-some : {X : Type 0} {x : X} → None ≡ Some x → ⊥
 none-some e = cc
 
 -- a record that is found in a chain is of a state there
-record Of (v : ℕ) (ks : List Kept) (q : Shared) : Type 0 where
-  k : Kept
-  latest-is : latest v ks ≡ Some k
-  within : Contains ks k
-  entry : k.entry ≡ Some q
+pub record Of (v : ℕ) (ks : List Kept) (q : Shared) : Type 0 where
+  pub k : Kept
+  pub latest-is : latest v ks ≡ Some k
+  pub within : Contains ks k
+  pub entry : k.entry ≡ Some q
 
-of-state : (v : ℕ) (ks : List Kept) (q : Shared) → live_at v ks ≡ Some q → Of v ks q
+pub of-state : (v : ℕ) (ks : List Kept) (q : Shared) → live_at v ks ≡ Some q → Of v ks q
 of-state v ks q live = go (latest v ks) refl live
   where
     go : (o : Option Kept) → latest v ks ≡ o → entry_in o ≡ Some q → Of v ks q
     go None e f = absurd (none-some f)
     go (Some k) e f = record { k = k; latest-is = e; within = latest-within v ks k e; entry = f }
 
-own-entry : (id v : ℕ) (ks : List Kept) (q : Shared) → ((k : Kept) → Contains ks k → IsEntryOf id k.entry) → live_at v ks ≡ Some q → IsRecord (arc_value q) × ((arc_value q).id ≡ id)
+pub own-entry : (id v : ℕ) (ks : List Kept) (q : Shared) → ((k : Kept) → Contains ks k → IsEntryOf id k.entry) → live_at v ks ≡ Some q → IsRecord (arc_value q) × ((arc_value q).id ≡ id)
 own-entry id v ks q own live = let o = of-state v ks q live in subst (IsEntryOf id) o.entry (own o.k o.within)
 
 -- something is picked of any chains

@@ -63,7 +63,7 @@ abbrev entry-at : ℕ → ℕ → Entry
 entry-at id version = record { id = id; version = version }
 
 -- the state that a reader sees is that of a kept one
-of-kept : (status : Status) (o : Option Kept) → option_map status_of o ≡ Some status → (k : Kept) × (o ≡ Some k) × (status_of k ≡ status)
+pub of-kept : (status : Status) (o : Option Kept) → option_map status_of o ≡ Some status → (k : Kept) × (o ≡ Some k) × (status_of k ≡ status)
 of-kept status None e = absurd (none-some e)
   where
     none-some : {X : Type 0} {x : X} → None ≡ Some x → ⊥

@@ -95,7 +95,7 @@ pin-outcome law store s None pins h same full free = record {
 pin-outcome law store s (Some p) pins h new few free = pin-taken law store s p pins h new.0 new.1 few free.0 free.1
 
 -- a pin of the registry is held, by some owner
-held-in : (pin : Pin) (ps : List Held) → SlotsApart ps → Contains (map pin_of ps) pin → (owner : ℕ) × (pin_in pin.slot ps ≡ Some (record { slot = pin.slot; owner = owner; version = pin.version }))
+pub held-in : (pin : Pin) (ps : List Held) → SlotsApart ps → Contains (map pin_of ps) pin → (owner : ℕ) × (pin_in pin.slot ps ≡ Some (record { slot = pin.slot; owner = owner; version = pin.version }))
 held-in pin [] apart c = absurd (omega (arith, c.1))
 held-in pin (p ∷ ps) apart c =
     elim (contains-split (pin_of p) pin (map pin_of ps) c) [
