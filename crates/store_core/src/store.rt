@@ -18,6 +18,7 @@ use crate::steps::Steps;
 use crate::walk::{count, fill};
 use crate::words::{CallFault, Change, CommitFault, Look, Stats, counted};
 use chem_core::Print;
+use mol_finish::one_structure;
 use snap_registry::{Pin, Registry};
 use std::alloc::{AllocError, Global};
 use std::collections::BTreeMap;
@@ -133,6 +134,7 @@ impl Service for Store {
         _: &mut Steps<L>,
     ) -> Result<bool, CallFault> {
         laws();
+        one_structure();
         page.clear();
         match fill(&self.chains, pin.version, want, from, limit, page) {
             Ok(last) => Ok(last),

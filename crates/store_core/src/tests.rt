@@ -1,9 +1,5 @@
-use crate::{Change, Look, Page, Record, Service, Steps, Store};
+//! Worked examples of a store in memory: a life of an identifier, and pages of a pin.
+use crate::{Change, CommitFault, Look, Page, Record, Service, Steps, Store};
+use chem_core::Print;
+use mol_finish::Format;
 use std::test::Fail;
-
-#[test]
-fn nothing_is_there(rt: HostRuntime) -> Result<(), Fail> {
-    let mut store = Store::fresh(rt.alloc(), 3);
-    assert!(rt; matches!(store.look(1)?, Look::Absent));
-    Ok(())
-}

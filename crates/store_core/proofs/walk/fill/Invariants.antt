@@ -1,9 +1,7 @@
-use Rattle.std.proofs.Common.{◌≡◌, ◌++◌, ◌≤◌, All, List, length}
+use Rattle.std.proofs.Common.{◌≡◌, ◌≤◌, All, length}
 use Rattle.std.specs.Arc.{arc_value}
 use Rattle.store_machine.specs.History.{IsId}
-use Rattle.store_machine.specs.declared.machine.Found.{Found}
-use Rattle.store_core.specs.Picks.{ArePicked}
-use Rattle.store_core.specs.Records.{Shared, founds}
+use Rattle.store_core.specs.Records.{Shared}
 use Rattle.store_core.proofs.Walks.{Between, GoesOn}
 use Rattle.store_core.proofs.walk.fill.Given as goal
 

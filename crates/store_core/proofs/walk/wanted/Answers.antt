@@ -1,4 +1,4 @@
-use Rattle.std.proofs.Common.{◌≡◌, ◌∙◌, ap, option_copied, rules, Some, subst, sym}
+use Rattle.std.proofs.Common.{◌∙◌, ap, option_copied, rules, subst, sym}
 use Rattle.store_machine.specs.Structures.{IsScreened}
 use Rattle.store_core.specs.Picks.{entry_in}
 use Rattle.store_core.specs.Records.{RecordTerm}

@@ -1,5 +1,5 @@
-use Rattle.std.proofs.Common.{◌≡◌, ap, Contains, subst, sym}
-use Rattle.store_core.specs.Chains.{IsEntryOf, chain_of, states_in}
+use Rattle.std.proofs.Common.{◌≡◌, ap, Contains, subst}
+use Rattle.store_core.specs.Chains.{chain_of, states_in}
 use Rattle.store_core.proofs.Heads.{head-entry}
 use Rattle.store_core.proofs.store.Store.head.Goals as goal
 

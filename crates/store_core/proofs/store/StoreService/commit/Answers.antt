@@ -1,7 +1,7 @@
-use Rattle.std.proofs.Common.{◌+◌, ◌≤◌, ◌∙◌, ap, option_copied, refl, subst, sym}
+use Rattle.std.proofs.Common.{◌+◌, ◌↔◌, ◌≤◌, ◌∙◌, ap, Contains, option_copied, refl, subst, sym}
 use Rattle.store_machine.specs.Machine.{committed}
 use Rattle.store_core.specs.Replies.{change_of}
-use Rattle.store_core.specs.Stored.{StoreTerm}
+use Rattle.store_core.specs.Stored.{HoldsPin, StoreTerm}
 use Rattle.store_core.proofs.Commits.{Committing, KeepsOneMore, done-call, done-stands, full-call, head-at, may-count, no-memory-result, refused-result, same-chains}
 use Rattle.store_core.proofs.store.StoreService.commit.Goals as goal
 
@@ -71,3 +71,9 @@ returns-clause-call c =
       sound = c.id-id.ensures.sound;
       room = c.if-self.false;
     }))
+
+pub returns-in_err-keep-clause-held : goal.returns-in_err-keep-clause-held
+returns-in_err-keep-clause-held c = λ slot version. subst (λ (a : StoreTerm). Contains c.self.inside.registry (record { slot = slot; version = version }) ↔ HoldsPin a slot version) c.self.view_is ((λ h. h), (λ h. h))
+
+pub returns-clause-held : goal.returns-clause-held
+returns-clause-held c = λ slot version. subst (λ (a : StoreTerm). Contains c.self.inside.registry (record { slot = slot; version = version }) ↔ HoldsPin a slot version) c.self.view_is ((λ h. h), (λ h. h))

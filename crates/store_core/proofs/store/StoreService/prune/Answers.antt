@@ -1,4 +1,4 @@
-use Rattle.std.proofs.Common.{◌≡◌, ap, arith, rules, subst, sym}
+use Rattle.std.proofs.Common.{◌≡◌, ap, arith, rules, sym}
 use Rattle.std.proofs.lemmas.Map.Made.{map_same_pairs}
 use Rattle.store_core.specs.Chains.{needed}
 use Rattle.store_core.proofs.Heads.{total}

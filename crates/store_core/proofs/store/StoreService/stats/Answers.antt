@@ -1,4 +1,4 @@
-use Rattle.std.proofs.Common.{◌∙◌, ap, length, List, refl, sym}
+use Rattle.std.proofs.Common.{◌∙◌, ap, length, refl, sym}
 use Rattle.std.proofs.lemmas.List.{length-map}
 use Rattle.snap_registry.specs.declared.Pin.{Pin}
 use Rattle.store_machine.specs.declared.machine.Event.TheVariants.{Stats}

@@ -1,5 +1,4 @@
-use Rattle.std.proofs.Common.{Contains, ◌↔◌, refl, subst, sym, ℕ}
-use Rattle.snap_registry.specs.declared.Pin.{Pin}
+use Rattle.std.proofs.Common.{Contains, refl, subst, sym}
 use Rattle.store_machine.specs.declared.machine.Event.TheVariants.{Unpin}
 use Rattle.store_machine.specs.declared.machine.Reply.TheVariants.{Unpinned}
 use Rattle.store_core.specs.Stored.{StoreTerm}
