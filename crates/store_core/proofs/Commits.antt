@@ -1,6 +1,6 @@
 -- A commit, as a store makes it.
-use Rattle.std.proofs.Common.{◌≡◌, ◌≢◌, ◌+◌, ◌++◌, ◌==◌, ◌<◌, ◌≤◌, ◌⊎◌, ◌∙◌, ap, arith, Bool, cond, Contains, count_by, eq-eqb, eqb-true, Err, false, inl, inr, length, length-append, List, [], ◌∷◌, map, MatchOption, IsErrAnd, None, not, Ok, Option, option_map, refl, Result, Some, subst, sym, true, ℕ, nat_cmp}
-use Rattle.std.proofs.lemmas.Bool.{cond-false, cond-true, false_from_ne_true, true≢false}
+use Rattle.std.proofs.Common.{◌≡◌, ◌≢◌, ◌+◌, ◌++◌, ◌==◌, ◌<◌, ◌≤◌, ◌∙◌, ap, arith, cond, Contains, count_by, eq-eqb, eqb-true, Err, false, inl, inr, length, length-append, List, [], ◌∷◌, IsErrAnd, None, not, Ok, Option, option_map, refl, Result, Some, subst, sym, true, ℕ, nat_cmp}
+use Rattle.std.proofs.lemmas.Bool.{cond-false, cond-true, true≢false}
 use Rattle.std.proofs.lemmas.List.Elements.{Contains-append_left, Contains-push}
 use Rattle.std.specs.Arc.{arc_value}
 use Rattle.std.specs.Cmp.{nat_cmp_total}
@@ -9,7 +9,7 @@ use Rattle.std.specs.List.{sum_by}
 use Rattle.std.specs.List.Sorted.{IsStrictlySortedBy}
 use Rattle.std.specs.Map.{keys_of, values_of}
 use Rattle.std.specs.Ordering.{eq_by_cmp}
-use Rattle.store_machine.specs.History.{IsAllowed, IsHistory, IsId, IsValid, Snapshot, after_change, head, id_of, refusal, snapshot, unless_live}
+use Rattle.store_machine.specs.History.{IsAllowed, IsHistory, IsValid, Snapshot, after_change, head, id_of, refusal, snapshot, unless_live}
 use Rattle.store_machine.specs.Laws.{CommitsChange, KeptIsRead, RunsStaySound, SnapshotsStay, StatesStay}
 use Rattle.store_machine.specs.Machine.{Gives, committed, is_live, now}
 use Rattle.store_machine.specs.Made.{IsKept}
@@ -17,7 +17,6 @@ use Rattle.store_machine.specs.declared.machine.Change.{Change as Told}
 use Rattle.store_machine.specs.declared.machine.Change.TheVariants as told
 use Rattle.store_machine.specs.declared.machine.Entry.{Entry}
 use Rattle.store_machine.specs.declared.machine.Event.TheVariants as event
-use Rattle.store_machine.specs.declared.machine.Reply.{Reply}
 use Rattle.store_machine.specs.declared.machine.Reply.TheVariants as reply
 use Rattle.store_machine.specs.declared.machine.State.{State}
 use Rattle.store_machine.specs.declared.machine.Status.{Status}
@@ -33,7 +32,7 @@ use Rattle.store_core.specs.declared.chain.Kept.{Kept}
 use Rattle.store_core.specs.declared.words.Change.{Change}
 use Rattle.store_core.specs.declared.words.Change.TheVariants.{Register, Revise, Withdraw}
 use Rattle.store_core.proofs.Counts.{count-get, count-insert, one_if, one_in}
-use Rattle.store_core.proofs.Members.{contains-here, contains-last, contains-split, contains-there}
+use Rattle.store_core.proofs.Members.{contains-here, contains-last, contains-there}
 use Rattle.store_core.proofs.OneCall.{one-call, serves}
 use Rattle.store_core.proofs.Rows.{sound-after}
 use Rattle.store_core.proofs.Sees.{head-used, seen-at}

@@ -1,16 +1,15 @@
 -- The row of Fetch, as a store makes it.
-use Rattle.std.proofs.Common.{◌≡◌, ◌++◌, ◌≤◌, ◌∙◌, ap, arith, Bool, Contains, Err, false, inl, inr, length, List, [], ◌∷◌, map, nat_le, None, Ok, Option, option_map, refl, Result, Some, subst, sym, take, true, ℕ}
+use Rattle.std.proofs.Common.{◌≡◌, ◌∙◌, ap, arith, Bool, Contains, Err, inl, inr, length, List, [], ◌∷◌, map, nat_le, None, Ok, Option, option_map, refl, Result, Some, subst, sym, take, true, ℕ}
 use Rattle.std.proofs.lemmas.Bool.{true≢false}
 use Rattle.std.proofs.lemmas.List.Elements.{Contains-append_left}
 use Rattle.std.specs.Arc.{arc_value}
-use Rattle.std.specs.FinMap.{get}
 use Rattle.snap_registry.specs.declared.Pin.{Pin}
 use Rattle.mol_finish.specs.declared.fault.Format.{Format}
 use Rattle.store_machine.specs.Answers.{AreFound, IsLive, from_on}
 use Rattle.store_machine.specs.History.{head, snapshot}
 use Rattle.store_machine.specs.Kept.{in_use}
 use Rattle.store_machine.specs.Laws.{KeptIsRead, StatesStay}
-use Rattle.store_machine.specs.Machine.{Gives, is_live}
+use Rattle.store_machine.specs.Machine.{is_live}
 use Rattle.store_machine.specs.Structures.{IsScreened}
 use Rattle.store_machine.specs.declared.machine.Event.TheVariants as event
 use Rattle.store_machine.specs.declared.machine.Found.{Found}
@@ -27,7 +26,6 @@ use Rattle.store_core.specs.Replies.{fetch_calls}
 use Rattle.store_core.specs.Stored.{StandsFor, StoreTerm, Stretches, pin_of}
 use Rattle.store_core.specs.declared.words.CallFault.{CallFault}
 use Rattle.store_core.specs.declared.words.CallFault.TheVariants as call
-use Rattle.store_core.specs.declared.chain.Kept.{Kept}
 use Rattle.store_core.proofs.Listed.{Rise, rises}
 use Rattle.store_core.proofs.Members.{contains-here, contains-split, contains-there}
 use Rattle.store_core.proofs.OneCall.{one-call, serves}
@@ -79,8 +77,7 @@ module _ (read : KeptIsRead) (stay : StatesStay) (one : OneStructure) (store : S
   is-live : (all : List Found) (r : Found) → ArePicked pin.version want store.chains all → Contains all r → IsLive (snapshot s.history pin.version) r × IsScreened want r.format r.text
   is-live all r p c =
       let k = picked-from pin.version want store.chains all r up own p c in
-      let o = of-state pin.version (chain_of store.chains r.id) k.shared k.live in
-      (
+      let o = of-state pin.version (chain_of store.chains r.id) k.shared k.live in (
         (
           o.k.version,
           seen-at read stay store s pin.version r.id h used ∙ (ap (option_map status_of) o.latest-is ∙ (ap (λ e. Some (status_in o.k.version e)) o.entry ∙ ap (λ (x : Found). Some (Live o.k.version x.format x.text)) k.is)),

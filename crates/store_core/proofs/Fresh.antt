@@ -1,14 +1,12 @@
 -- A store without commits.
-use Rattle.std.proofs.Common.{◌≡◌, ◌<◌, ◌≤◌, ◌∙◌, ap, arith, Bool, Contains, count_by, length, List, [], ◌∷◌, nat_cmp, None, Option, refl, Some, subst, suc, sym, take, true, zero, ℕ}
-use Rattle.std.specs.FinMap.{FinMap, empty as none, entries, get, get-empty, len-empty, len-entries}
+use Rattle.std.proofs.Common.{◌≡◌, ◌≤◌, ◌∙◌, ap, arith, Bool, Contains, count_by, length, List, [], ◌∷◌, nat_cmp, None, refl, Some, subst, suc, sym, take, zero, ℕ}
+use Rattle.std.specs.FinMap.{empty as none, entries, get, get-empty, len-empty, len-entries}
 use Rattle.std.specs.List.Sorted.{IsStrictlySortedBy}
 use Rattle.std.specs.Map.{keys_of}
 use Rattle.snap_registry.specs.declared.Pin.{Pin}
 use Rattle.store_machine.specs.History.{Snapshot, after_changes, snapshot}
-use Rattle.store_machine.specs.Kept.{IsNeeded, in_use}
 use Rattle.store_machine.specs.Laws.{IsSound}
 use Rattle.store_machine.specs.declared.machine.Change.{Change}
-use Rattle.store_machine.specs.declared.machine.Entry.{Entry}
 use Rattle.store_machine.specs.declared.machine.Status.{Status}
 use Rattle.store_core.specs.Stored.{IsChain, StandsFor, empty}
 use Rattle.store_core.specs.declared.chain.Kept.{Kept}

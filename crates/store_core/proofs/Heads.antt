@@ -1,5 +1,5 @@
 -- The record of an identifier at the head, and one state more in its chain.
-use Rattle.std.proofs.Common.{◌≡◌, ◌+◌, ◌++◌, ◌∙◌, ap, arith, Bor, Bool, cond, Contains, Err, false, IfSome, length, length-append, List, [], ◌∷◌, nat_le, None, Ok, OnErr, OnOk, option_copied, Option, option_map, refl, Result, Some, subst, sym, true, unwrap_or, ℕ}
+use Rattle.std.proofs.Common.{◌≡◌, ◌+◌, ◌++◌, ◌∙◌, ap, arith, Bor, Bool, cond, Contains, Err, false, IfSome, length, length-append, List, [], ◌∷◌, nat_le, None, Ok, OnErr, OnOk, option_copied, Option, option_map, Result, Some, sym, true, unwrap_or, ℕ}
 use Rattle.std.proofs.lemmas.Map.Entries.{sum_by-insert_entry, sum_by-set_value}
 use Rattle.std.proofs.lemmas.Map.Steps.{set_value_same}
 use Rattle.std.specs.BTreeMap.{insert_entry, is_at}

@@ -1,6 +1,6 @@
 -- All entries of ordered chains, as one list.
-use Rattle.std.proofs.Common.{◌≡◌, ◌≢◌, ◌+◌, ◌++◌, ◌<◌, ◌≤◌, ◌∙◌, All, AllPairs, ap, arith, Bool, cond, Contains, Equal, false, get_or, Greater, inl, inr, is_eq, length, length-append, Less, List, [], ◌∷◌, map, nat_cmp, Ordering, refl, Some, subst, suc, sym, true, zero, ℕ}
-use Rattle.std.proofs.lemmas.Bool.{cond-false, cond-true}
+use Rattle.std.proofs.Common.{◌≡◌, ◌≢◌, ◌+◌, ◌++◌, ◌<◌, ◌∙◌, AllPairs, ap, arith, cond, Contains, Equal, false, get_or, Greater, inl, inr, is_eq, length, length-append, Less, List, [], ◌∷◌, map, nat_cmp, Ordering, refl, Some, subst, suc, sym, true, ℕ}
+use Rattle.std.proofs.lemmas.Bool.{cond-true}
 use Rattle.std.proofs.lemmas.List.{length-map}
 use Rattle.std.proofs.lemmas.List.Elements.{All-contains_itself, Contains-append_cases, Contains-append_left, Contains-append_right}
 use Rattle.std.proofs.lemmas.List.Kept.{AllPairs-cons, AllPairs-from_increasing}

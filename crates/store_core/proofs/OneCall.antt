@@ -1,6 +1,6 @@
 -- One call of a store is one step of its run.
-use Rattle.std.proofs.Common.{◌≡◌, ◌&&◌, ap, arith, cond, List, [], ◌∷◌, refl, true, ℕ}
-use Rattle.store_machine.specs.Machine.{Gives, NoneFell, Serves}
+use Rattle.std.proofs.Common.{◌≡◌, ◌&&◌, ap, arith, cond, [], ◌∷◌, refl, true, ℕ}
+use Rattle.store_machine.specs.Machine.{Gives, Serves}
 use Rattle.store_machine.specs.Runs.{is_call}
 use Rattle.store_machine.specs.declared.machine.Event.{Event}
 use Rattle.store_machine.specs.declared.machine.Reply.{Reply}

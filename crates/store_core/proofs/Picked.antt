@@ -1,5 +1,5 @@
 -- What is picked of a store's chains is what is found in the snapshot.
-use Rattle.std.proofs.Common.{◌≡◌, ◌&&◌, ◌+◌, ◌<◌, ◌≤◌, ◌⊎◌, ◌∙◌, add-one, ap, arith, Bool, cond, Contains, false, filter, inl, inr, List, [], ◌∷◌, nat_cmp, nat_le, None, Option, option_map, refl, slice_index, Some, subst, suc, sym, true, zero, ℕ}
+use Rattle.std.proofs.Common.{◌≡◌, ◌+◌, ◌<◌, ◌∙◌, add-one, ap, arith, Bool, cond, Contains, false, filter, inl, inr, List, [], ◌∷◌, nat_cmp, nat_le, None, Option, refl, slice_index, Some, subst, suc, sym, true, zero, ℕ}
 use Rattle.std.specs.Arc.{arc_value}
 use Rattle.std.specs.BTreeMap.{is_at}
 use Rattle.std.specs.BTreeMap.Range.{range_contains}
@@ -7,7 +7,6 @@ use Rattle.std.specs.List.Sorted.{IsStrictlyIncreasing}
 use Rattle.std.specs.Map.{lookup}
 use Rattle.std.specs.declared.ops.Bound.TheVariants.{Included, Unbounded}
 use Rattle.store_machine.specs.Answers.{from_on, ids}
-use Rattle.store_machine.specs.Structures.{IsScreened}
 use Rattle.store_machine.specs.declared.machine.Found.{Found}
 use Rattle.store_core.specs.Chains.{IsEntryOf, chain_of, latest, states_in}
 use Rattle.store_core.specs.Picks.{ArePicked, IsFirst, IsWanted, entry_in, live_at}
@@ -15,7 +14,7 @@ use Rattle.store_core.specs.Records.{IsRecord, Shared, found_of}
 use Rattle.store_core.specs.declared.chain.Kept.{Kept}
 use Rattle.store_core.proofs.Bits.{decide-record}
 use Rattle.store_core.proofs.Heads.{latest-within}
-use Rattle.store_core.proofs.Listed.{Above, Rise, chain-above, chain-first, chain-rest, same-at}
+use Rattle.store_core.proofs.Listed.{Above, Rise, chain-above, chain-first, chain-rest}
 use Rattle.store_core.proofs.Members.{contains-here, contains-split, contains-there}
 use Rattle.store_core.proofs.Screened.{OneStructure}
 use Rattle.store_core.proofs.Walks.{Between, same-shared}

@@ -1,13 +1,12 @@
 -- The row of Prune, as a store makes it.
-use Rattle.std.proofs.Common.{◌≡◌, ◌+◌, ◌-◌, ◌++◌, ◌≤◌, ◌⊎◌, ◌↔◌, ◌∙◌, ap, arith, cond, Contains, false, inl, inr, length, List, [], ◌∷◌, map, nat_cmp, None, Option, option_map, refl, Some, subst, sym, true, ℕ}
+use Rattle.std.proofs.Common.{◌≡◌, ◌+◌, ◌-◌, ◌≤◌, ◌⊎◌, ◌∙◌, ap, arith, cond, Contains, false, inl, inr, length, List, [], ◌∷◌, map, nat_cmp, None, Option, option_map, refl, Some, subst, sym, true, ℕ}
 use Rattle.std.proofs.lemmas.List.Elements.{Contains-append_cases, Contains-append_left, Contains-push}
 use Rattle.std.proofs.lemmas.List.Sums.{sum_by-cons}
-use Rattle.std.specs.FinMap.{get}
 use Rattle.std.specs.List.{list_any}
 use Rattle.std.specs.List.Sorted.{IsStrictlySortedBy}
-use Rattle.std.specs.Map.{keys_of, values_of}
+use Rattle.std.specs.Map.{values_of}
 use Rattle.snap_registry.specs.declared.Pin.{Pin}
-use Rattle.store_machine.specs.History.{head, made_at, snapshot}
+use Rattle.store_machine.specs.History.{head, made_at}
 use Rattle.store_machine.specs.Kept.{IsNeeded, in_use}
 use Rattle.store_machine.specs.Laws.{KeptIsRead, RunsStaySound, StatesStay}
 use Rattle.store_machine.specs.Machine.{AreNeeded, Gives}
@@ -18,14 +17,14 @@ use Rattle.store_machine.specs.declared.machine.Reply.TheVariants as reply
 use Rattle.store_machine.specs.declared.machine.State.{State}
 use Rattle.store_machine.specs.declared.machine.Status.{Status}
 use Rattle.store_core.specs.Calls.{Calls}
-use Rattle.store_core.specs.Chains.{chain_of, is_between, latest, needed, seen, status_of}
+use Rattle.store_core.specs.Chains.{chain_of, is_between, latest, needed, status_of}
 use Rattle.store_core.specs.Stored.{AreAscending, IsChain, StandsFor, StoreTerm, Stretches, pin_of}
 use Rattle.store_core.specs.declared.chain.Kept.{Kept}
 use Rattle.store_core.proofs.Heads.{total}
 use Rattle.store_core.proofs.Listed.{Rise, entry_of, length-listed, listed, listed-distinct, listed-has, listed-in, rises}
 use Rattle.store_core.proofs.Members.{contains-split}
 use Rattle.store_core.proofs.OneCall.{one-call, serves}
-use Rattle.store_core.proofs.Prunes.{IsReadAt, chain-pruned, keys-pruned, needed-ascends, needed-old, needed-read, pruned, read-needed}
+use Rattle.store_core.proofs.Prunes.{chain-pruned, keys-pruned, needed-ascends, needed-old, needed-read, pruned, read-needed}
 use Rattle.store_core.proofs.Rows.{sound-after}
 use Rattle.store_core.proofs.Sees.{made-of, seen-at}
 

@@ -1,14 +1,12 @@
 -- The rows of Pin, Unpin, Look and Stats, as a store makes them.
-use Rattle.std.proofs.Common.{◌≡◌, ◌≢◌, ◌++◌, ◌==◌, ◌<◌, ◌↔◌, ◌∙◌, ap, arith, Bool, cond, Contains, eq-eqb, eqb-true, Err, false, filter, get_or, IfErr, IfOk, inl, inr, length, List, [], ◌∷◌, map, MatchOption, None, not, Ok, Option, option_map, refl, Result, Some, subst, suc, sym, true, zero, ℕ}
+use Rattle.std.proofs.Common.{◌≡◌, ◌≢◌, ◌++◌, ◌==◌, ◌<◌, ◌↔◌, ◌∙◌, ap, arith, Bool, cond, Contains, eq-eqb, eqb-true, Err, false, filter, IfErr, IfOk, inl, inr, length, List, [], ◌∷◌, map, MatchOption, None, not, Ok, Option, option_map, refl, Result, Some, subst, suc, sym, true, ℕ}
 use Rattle.std.proofs.lemmas.Bool.{cond-false, cond-true, cond_both, false_from_ne_true, true≢false}
 use Rattle.std.proofs.lemmas.List.{length-map, map-append}
-use Rattle.std.specs.FinMap.{get}
 use Rattle.snap_registry.specs.Pins.{IsFree, is_other}
 use Rattle.snap_registry.specs.declared.Pin.{Pin}
-use Rattle.store_machine.specs.History.{head, snapshot}
-use Rattle.store_machine.specs.Kept.{in_use}
+use Rattle.store_machine.specs.History.{head}
 use Rattle.store_machine.specs.Laws.{IsSound, KeptIsRead, RunsStaySound, StatesStay}
-use Rattle.store_machine.specs.Machine.{Gives, Holds, SlotsApart, now, pin_in, pinned, unpinned}
+use Rattle.store_machine.specs.Machine.{Gives, SlotsApart, pin_in, pinned, unpinned}
 use Rattle.store_machine.specs.declared.machine.Event.{Event}
 use Rattle.store_machine.specs.declared.machine.Event.TheVariants as event
 use Rattle.store_machine.specs.declared.machine.Held.{Held}

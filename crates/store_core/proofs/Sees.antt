@@ -1,5 +1,5 @@
 -- What a reader at a version in use sees of a chain is the snapshot.
-use Rattle.std.proofs.Common.{◌≡◌, ◌<◌, ◌≤◌, ◌∙◌, ap, arith, cond, Contains, List, [], ◌∷◌, le-leb, map, MatchOption, nat_le, None, Option, option_map, refl, Some, subst, sym, true, ℕ, inl, inr}
+use Rattle.std.proofs.Common.{◌≡◌, ◌<◌, ◌≤◌, ◌∙◌, ap, arith, cond, Contains, List, [], ◌∷◌, le-leb, map, MatchOption, nat_le, None, Option, option_map, refl, Some, subst, sym, ℕ, inl, inr}
 use Rattle.std.specs.FinMap.{get}
 use Rattle.std.proofs.lemmas.Bool.{lt-leb}
 use Rattle.std.proofs.lemmas.List.Elements.{Contains-push}
@@ -10,7 +10,7 @@ use Rattle.store_machine.specs.Made.{IsKept}
 use Rattle.store_machine.specs.declared.machine.Held.{Held}
 use Rattle.store_machine.specs.declared.machine.State.{State}
 use Rattle.store_machine.specs.declared.machine.Status.{Status}
-use Rattle.store_machine.specs.declared.machine.Status.TheVariants.{Live, Withdrawn}
+use Rattle.store_machine.specs.declared.machine.Status.TheVariants.{Withdrawn}
 use Rattle.store_core.specs.Chains.{chain_of, latest, or_else, seen, status_in, status_of}
 use Rattle.store_core.specs.Records.{Shared}
 use Rattle.store_core.specs.Stored.{AreAscending, IsChain, StandsFor, StoreTerm}

@@ -1,5 +1,5 @@
 -- A walk over chains, and what it picks.
-use Rattle.std.proofs.Common.{◌≡◌, ◌+◌, ◌++◌, ◌<◌, ◌≤◌, ◌∙◌, ap, arith, Bool, false, le-leb, length, length-append, List, [], ◌∷◌, map, nat_cmp, nat_le, None, Option, refl, Some, subst, sym, take, suc, true, zero, ℕ, inl, inr}
+use Rattle.std.proofs.Common.{◌≡◌, ◌++◌, ◌<◌, ◌≤◌, ◌∙◌, ap, arith, Bool, false, le-leb, length, length-append, List, [], ◌∷◌, nat_cmp, nat_le, None, Option, refl, Some, subst, sym, take, suc, true, zero, ℕ, inl, inr}
 use Rattle.std.proofs.Math.Seq.{take-append_seam}
 use Rattle.std.proofs.lemmas.Bool.{lt-leb}
 use Rattle.std.proofs.lemmas.List.{length-map, map-append}
@@ -7,7 +7,7 @@ use Rattle.std.specs.Arc.{arc_value}
 use Rattle.std.specs.BTreeMap.Range.{entries_between}
 use Rattle.std.specs.declared.ops.Bound.TheVariants.{Included, Unbounded}
 use Rattle.store_machine.specs.declared.machine.Found.{Found}
-use Rattle.store_core.specs.Picks.{ArePicked, IsFirst, IsWanted, live_at}
+use Rattle.store_core.specs.Picks.{ArePicked, IsWanted, live_at}
 use Rattle.store_core.specs.Records.{Shared, found_of, founds}
 use Rattle.store_core.specs.declared.chain.Kept.{Kept}
 
@@ -60,7 +60,7 @@ put-on v want es left e page new r q live asked clone more go all p =
             rest = h.1;
             picked = h.3;
             is = s.is ∙ (ap (λ l. founds page ++ l) f.first ∙ (ap (λ x. founds page ++ x ∷ h.1) same ∙ (append-assoc (founds page) (found_of (arc_value q)) h.1
-              ∙ ap (λ l. l ++ h.1) (sym (ap founds more ∙ map-append (λ x. found_of (arc_value x)) page (q ∷ []))))));
+                ∙ ap (λ l. l ++ h.1) (sym (ap founds more ∙ map-append (λ x. found_of (arc_value x)) page (q ∷ []))))));
           }
       | inr h ↦ absurd (h.0 (subst (IsWanted want) (sym live) asked))
     ]

@@ -20,6 +20,3 @@ pub use service::Service;
 pub use steps::Steps;
 pub use store::{MOST_COMMITS, Store};
 pub use words::{CallFault, Change, CommitFault, Look, Stats};
-
-#[cfg(test)]
-mod tests;

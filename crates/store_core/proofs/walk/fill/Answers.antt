@@ -44,11 +44,10 @@ pub loop-chain-preserved-in-Some-wanted : goal.loop-chain-preserved-in-Some-want
 loop-chain-preserved-in-Some-wanted c =
     let w : (live_at c.args.version c.in-Some.chain.now ≡ Some c.in-Some-wanted.entry.now) × IsWanted c.args.want.now (Some c.in-Some-wanted.entry.now) = c.in-Some-wanted.ensures.is in
     let more = c.push.ensures.records in
-    let id : IsId (arc_value c.in_ok-try_clone.field-0).id = subst (λ (r : RecordTerm). IsId r.id) (sym c.in_ok-try_clone.ensures) c.in-Some-wanted.ensures.sound.id in
-    (
+    let id : IsId (arc_value c.in_ok-try_clone.field-0).id = subst (λ (r : RecordTerm). IsId r.id) (sym c.in_ok-try_clone.ensures) c.in-Some-wanted.ensures.sound.id in (
       put-on c.args.version c.args.want.now (Between c.args.from c.args.chains.now.entries) c.next.new.self (c.in-Some.field-0-0.now, c.in-Some.chain.now) c.loop-chain.page.records c.push.new.self.records
-      c.in-Some-wanted.entry.now c.in_ok-try_clone.field-0 w.0 w.1 c.in_ok-try_clone.ensures more
-      (subst (λ left. GoesOn c.args.version c.args.want.now (Between c.args.from c.args.chains.now.entries) left c.loop-chain.page.records) c.in-Some.ensures.steps c.loop-chain.invariant.0),
+          c.in-Some-wanted.entry.now c.in_ok-try_clone.field-0 w.0 w.1 c.in_ok-try_clone.ensures more
+          (subst (λ left. GoesOn c.args.version c.args.want.now (Between c.args.from c.args.chains.now.entries) left c.loop-chain.page.records) c.in-Some.ensures.steps c.loop-chain.invariant.0),
       omega (arith, ap (λ l. length l) more, length-append c.loop-chain.page.records (c.in_ok-try_clone.field-0 ∷ []), c.if-records-limit.false, ap (λ l. length l) c.records.ensures),
       subst (All (λ (r : Shared). IsId (arc_value r).id)) (sym more) (All-push (λ (r : Shared). IsId (arc_value r).id) c.loop-chain.page.records c.in_ok-try_clone.field-0 c.loop-chain.invariant.2 id),
       c.push.ensures.room ∙ c.loop-chain.invariant.3,
@@ -57,7 +56,7 @@ loop-chain-preserved-in-Some-wanted c =
 pub loop-chain-preserved : goal.loop-chain-preserved
 loop-chain-preserved c = (
   passed-by c.args.version c.args.want.now (Between c.args.from c.args.chains.now.entries) c.next.new.self (c.in-Some.field-0-0.now, c.in-Some.chain.now) c.loop-chain.page.records c.in_default.ensures.is
-  (subst (λ left. GoesOn c.args.version c.args.want.now (Between c.args.from c.args.chains.now.entries) left c.loop-chain.page.records) c.in-Some.ensures.steps c.loop-chain.invariant.0),
+      (subst (λ left. GoesOn c.args.version c.args.want.now (Between c.args.from c.args.chains.now.entries) left c.loop-chain.page.records) c.in-Some.ensures.steps c.loop-chain.invariant.0),
   c.loop-chain.invariant.1,
   c.loop-chain.invariant.2,
   c.loop-chain.invariant.3,

@@ -1,8 +1,8 @@
-use Rattle.std.proofs.Common.{◌+◌, ◌↔◌, ◌≤◌, ◌∙◌, ap, Contains, option_copied, refl, subst, sym}
+use Rattle.std.proofs.Common.{◌+◌, ◌↔◌, ◌≤◌, Contains, option_copied, refl, subst, sym}
 use Rattle.store_machine.specs.Machine.{committed}
 use Rattle.store_core.specs.Replies.{change_of}
 use Rattle.store_core.specs.Stored.{HoldsPin, StoreTerm}
-use Rattle.store_core.proofs.Commits.{Committing, KeepsOneMore, done-call, done-stands, full-call, head-at, may-count, no-memory-result, refused-result, same-chains}
+use Rattle.store_core.proofs.Commits.{KeepsOneMore, done-call, done-stands, full-call, head-at, may-count, no-memory-result, refused-result, same-chains}
 use Rattle.store_core.proofs.store.StoreService.commit.Goals as goal
 
 pub returns-in_err-check-clause-call : goal.returns-in_err-check-clause-call
