@@ -1,0 +1,85 @@
+-- A store without commits.
+use Rattle.std.proofs.Common.{◌≡◌, ◌≤◌, ◌∙◌, ap, arith, Bool, Contains, count_by, length, List, [], ◌∷◌, nat_cmp, None, refl, Some, subst, suc, sym, take, zero, ℕ}
+use Rattle.std.specs.FinMap.{empty as none, entries, get, get-empty, len-empty, len-entries}
+use Rattle.std.specs.List.Sorted.{IsStrictlySortedBy}
+use Rattle.std.specs.Map.{keys_of}
+use Rattle.snap_registry.specs.declared.Pin.{Pin}
+use Rattle.store_machine.specs.History.{Snapshot, after_changes, snapshot}
+use Rattle.store_machine.specs.Laws.{IsSound}
+use Rattle.store_machine.specs.declared.machine.Change.{Change}
+use Rattle.store_machine.specs.declared.machine.Status.{Status}
+use Rattle.store_core.specs.Stored.{IsChain, StandsFor, empty}
+use Rattle.store_core.specs.declared.chain.Kept.{Kept}
+
+none-taken : (v : ℕ) → snapshot [] v ≡ none
+none-taken v = ap (λ cs. after_changes 0 cs none) (nothing v)
+  where
+    nothing : (v : ℕ) → take {A = Change} v [] ≡ []
+    nothing zero = refl
+    nothing (suc n) = refl
+
+no-state : (v id : ℕ) (status : Status) → get (snapshot [] v) id ≡ Some status → ⊥
+no-state v id status e = never status (sym (ap (λ m. get m id) (none-taken v) ∙ get-empty nat_cmp id) ∙ e)
+  where
+    never : (status : Status) → None ≡ Some status → ⊥
+    never status q = cc
+
+none-in : {X : Type 0} (x : X) → Contains [] x → ⊥
+none-in x c = omega (arith, c.1)
+
+empty-sound : (commits : ℕ) → IsSound (empty commits)
+empty-sound commits = record {
+  history = tt;
+  doubt = tt;
+  slots = tt;
+  pins = λ v c. absurd (none-in v c);
+  kept = λ _ entry n. absurd (no-state n.at entry.id n.status n.state);
+  made = λ _ entry k. absurd (none-in entry k);
+}
+
+none-counted : (p : Status → Bool) (es : List (ℕ × Status)) → length es ≡ 0 → 0 ≡ count_by (λ e. p e.1) es
+none-counted p [] e = refl
+none-counted p (x ∷ xs) e = absurd (omega (arith, e))
+
+empty-chain : (commits id : ℕ) → IsChain (empty commits) id []
+empty-chain commits id = record {
+  ascending = tt;
+  late = λ k c. absurd (none-in k c);
+  only = λ k c. absurd (none-in k c);
+  states = λ k c. absurd (none-in k c);
+  records = λ k c. absurd (none-in k c);
+  all = λ version k. absurd (none-in _ k);
+}
+
+abbrev no-chains : List (ℕ × List Kept)
+no-chains = []
+
+stands : (commits : ℕ) → commits ≤ 16777215 → IsStrictlySortedBy nat_cmp (keys_of no-chains) → StandsFor (record { chains = []; pins = []; version = 0; limit = commits; kept = 0; live = 0; withdrawn = 0 }) (empty commits)
+stands commits few ordered =
+    let start : Snapshot = none in
+    let size : length (entries start) ≡ 0 = sym (len-entries start) ∙ len-empty nat_cmp Status in
+    record {
+      sound = empty-sound commits;
+      serves = refl;
+      doubt = refl;
+      version = refl;
+      limit = refl;
+      most = few;
+      within = omega arith;
+      pins = refl;
+      kept = refl;
+      few = omega arith;
+      sum = refl;
+      live = none-counted _ _ size;
+      withdrawn = none-counted _ _ size;
+      ids = omega arith;
+      ordered = ordered;
+      chains = λ id. empty-chain commits id;
+    }
+
+pub fresh-stands : (commits : ℕ) (chains : List (ℕ × List Kept)) (pins : List Pin) → commits ≤ 16777215 → chains ≡ [] → pins ≡ [] → IsStrictlySortedBy nat_cmp (keys_of chains)
+    → StandsFor (record { chains = chains; pins = pins; version = 0; limit = commits; kept = 0; live = 0; withdrawn = 0 }) (empty commits)
+fresh-stands commits chains pins few e f ordered =
+    subst (λ l. StandsFor (record { chains = l; pins = pins; version = 0; limit = commits; kept = 0; live = 0; withdrawn = 0 }) (empty commits)) (sym e)
+    (subst (λ l. StandsFor (record { chains = []; pins = l; version = 0; limit = commits; kept = 0; live = 0; withdrawn = 0 }) (empty commits)) (sym f)
+    (stands commits few (subst (λ l. IsStrictlySortedBy nat_cmp (keys_of l)) e ordered)))

@@ -1,0 +1,17 @@
+mod Bits
+mod Commits
+mod Counts
+mod FetchRow
+mod Fresh
+mod Heads
+mod Latest
+mod Listed
+mod Members
+mod OneCall
+mod Picked
+mod PruneRow
+mod Prunes
+mod Rows
+mod Screened
+mod Sees
+mod Walks

@@ -1,0 +1,22 @@
+//! A store of structures: what a caller may ask of a service, and the store in memory that answers.
+//!
+//! A service is the machine of `store_machine` as one caller sees it: each call is a step of one run, in which others
+//! may have steps too. A session over any service is then proved once.
+#![tactic(auto)]
+
+mod chain;
+mod laws;
+mod page;
+mod record;
+mod service;
+mod steps;
+mod store;
+mod walk;
+mod words;
+
+pub use page::Page;
+pub use record::Record;
+pub use service::Service;
+pub use steps::Steps;
+pub use store::{MOST_COMMITS, Store};
+pub use words::{CallFault, Change, CommitFault, Look, Stats};

@@ -1,0 +1,106 @@
+//! A record: a text under its identifier, with its structure and print.
+ghost use Rattle.std.specs.Prelude.{◌≡◌, ◌↔◌, ◌≤◌, Err, IfErr, IfOk, IsTrue};
+ghost use Rattle.std.specs.Arc.{arc_value};
+ghost use Rattle.mol_finish.specs.Structure.{HasMolecule, IsAnswer};
+ghost use Rattle.store_machine.specs.History.{IsId};
+ghost use Rattle.store_machine.specs.Structures.{IsPrintOf, IsScreened};
+ghost use Rattle.store_core.specs.Records.{IsRecord};
+
+use chem_core::{Mol, Print};
+use mol_finish::{Format, TextFault, one_structure, structure};
+use std::alloc::Global;
+use std::marker::Model;
+use std::sync::Arc;
+
+/// A text that has a structure, under an identifier of 1 to 999,999,999. It is shared, never copied.
+#[derive(Drop)]
+pub struct Record {
+    id: u32,
+    format: Format,
+    text: Vec<u8>,
+    mol: Mol,
+    print: Print,
+}
+
+impl Model for Record {
+    ghost use Rattle.store_core.specs.Records.{IsRecord, RecordTerm};
+
+    ghost Value = { RecordTerm };
+
+    ghost view = { λ r. record { id = r.id; format = r.format; text = r.text.items; mol = r.mol; print = r.print } };
+
+    ghost invariant = { λ r. IsRecord (record { id = r.id; format = r.format; text = r.text.items; mol = r.mol; print = r.print }) };
+}
+
+impl Record {
+    /// The record of a text. It is refused as `structure` refuses the text.
+    pub fn make(
+        alloc: Global,
+        id: u32,
+        format: Format,
+        text: &[u8],
+    ) -> Result<Arc<Record>, TextFault>
+        requires { IsId id }
+        ensures id { IfOk result (λ r. (arc_value r).id ≡ id) }
+        ensures format { IfOk result (λ r. (arc_value r).format ≡ format) }
+        ensures text { IfOk result (λ r. (arc_value r).text ≡ text.now) }
+        ensures fault { IfErr result (λ fault. IsAnswer format text.now (Err fault)) }
+    {
+        let mol = structure(alloc, format, text)?;
+        let text = Vec::from_slice(alloc, text)?;
+        let record = Record {
+            id,
+            format,
+            text,
+            mol,
+            print: Print::empty(),
+        };
+        match Arc::new(alloc, record) {
+            Ok(record) => Ok(record),
+            Err(_) => Err(TextFault::NoMemory),
+        }
+    }
+
+    pub fn id(&self) -> u32
+        ensures id { result ≡ self.now.id }
+        ensures in_range { IsId result }
+        ensures sound { IsRecord self.now }
+    {
+        self.id
+    }
+
+    pub fn format(&self) -> Format
+        ensures { result ≡ self.now.format }
+    {
+        self.format
+    }
+
+    pub fn text(&self) -> &[u8]
+        ensures { result.now ≡ self.now.text }
+    {
+        self.text.as_slice()
+    }
+
+    pub fn mol(&self) -> &Mol
+        ensures mol { result.now ≡ self.now.mol }
+        ensures structure { HasMolecule self.now.format self.now.text result.now }
+    {
+        &self.mol
+    }
+
+    pub fn print(&self) -> &Print
+        ensures print { result.now ≡ self.now.print }
+        ensures of_structure { IsPrintOf self.now.mol result.now }
+    {
+        &self.print
+    }
+
+    /// Whether the print holds what is wanted.
+    pub(crate) fn is_screened(&self, want: &Print) -> bool
+        ensures screened { IsTrue result ↔ IsScreened want.now self.now.format self.now.text }
+        ensures sound { IsRecord self.now }
+    {
+        one_structure();
+        self.print.holds(want)
+    }
+}
