@@ -28,7 +28,7 @@ impl Source for Asker {
             self.faults = self.faults.saturating_add(1);
             return Take::Failed;
         }
-        if self.taken == 3 || room.len() < line.len() {
+        if self.taken >= 3 || room.len() < line.len() {
             return Take::End;
         }
         self.taken += 1;
