@@ -28,7 +28,8 @@ next_is n p q hp hq (inr e) =
     let full : p + 1 ≡ n = omega arith in
     rw full (mod_self n ∙ sym zero_q)
 
-apart_at : (xs : List ℕ) (i j : ℕ) → AllPairs ◌≢◌ xs → i ≢ j → i < length xs → j < length xs → get_or xs i 0 ≢ get_or xs j 0
+apart_at : (xs : List ℕ) (i j : ℕ) → AllPairs ◌≢◌ xs → i ≢ j → i < length xs → j < length xs
+    → get_or xs i 0 ≢ get_or xs j 0
 apart_at xs i j distinct other hi hj = elim (cases_lt i j) [
   | inl l ↦ distinct i j 0 l hj
   | inr l ↦ λ q. distinct j i 0 (omega arith) hi (sym q)
@@ -40,19 +41,33 @@ abbrev rotated : ℕ → List ℕ → List ℕ
 rotated m atoms = drop m atoms ++ take m atoms
 
 length-rotated : (m : ℕ) (atoms : List ℕ) → m ≤ length atoms → length (rotated m atoms) ≡ length atoms
-length-rotated m atoms h = length-append (drop m atoms) (take m atoms) ∙ omega (arith, length-drop m atoms, length-take-le m atoms h)
+length-rotated m atoms h = length-append (drop m atoms) (take m atoms) ∙ omega (
+  arith,
+  length-drop m atoms,
+  length-take-le m atoms h,
+)
 
-rotated-at : (m : ℕ) (atoms : List ℕ) (k : ℕ) → m ≤ length atoms → k < length atoms → (p : ℕ) × (p < length atoms) × (get_or (rotated m atoms) k 0 ≡ get_or atoms p 0) × ((m + k ≡ p) ⊎ (m + k ≡ p + length atoms))
+rotated-at : (m : ℕ) (atoms : List ℕ) (k : ℕ) → m ≤ length atoms → k < length atoms → (p : ℕ) × (p < length atoms)
+    × (get_or (rotated m atoms) k 0 ≡ get_or atoms p 0) × ((m + k ≡ p) ⊎ (m + k ≡ p + length atoms))
 rotated-at m atoms k hm hk =
     let d : length (drop m atoms) ≡ length atoms - m = length-drop m atoms in
     elim (cases_lt k (length atoms - m)) [
       | inl l ↦
-          let l' : k < length (drop m atoms) = omega arith in
-          (m + k, omega arith, get_or_append_left (drop m atoms) (take m atoms) 0 k l' ∙ get_or-drop m atoms k 0, inl refl)
+          let l' : k < length (drop m atoms) = omega arith in (
+            m + k,
+            omega arith,
+            get_or_append_left (drop m atoms) (take m atoms) 0 k l' ∙ get_or-drop m atoms k 0,
+            inl refl,
+          )
       | inr l ↦
           let p : ℕ = k - (length atoms - m) in
-          let lt : p < m = omega arith in
-          (p, omega arith, get_or-append_right (drop m atoms) (take m atoms) (length atoms - m) k 0 d l ∙ get_or-take m atoms p 0 lt, inr (omega arith))
+          let lt : p < m = omega arith in (
+            p,
+            omega arith,
+            get_or-append_right (drop m atoms) (take m atoms) (length atoms - m) k 0 d l
+                ∙ get_or-take m atoms p 0 lt,
+            inr (omega arith),
+          )
     ]
 
 -- an open path of candidates along ring bonds, from one end of a bond of a Hückel cycle to its other end
@@ -62,7 +77,8 @@ record IsOpen (ends : Ends) (rings : List Bool) (gives : List (Option ℕ)) (pat
   distinct : AllPairs ◌≢◌ path
   candidates : All (IsCandidateAt gives) path
   count : sum_by (λ a. given_at gives a) path % 4 ≡ 2
-  joined : (k : ℕ) → k + 1 < length path → (b : ℕ) × JoinsAt ends b (get_or path k 0) (get_or path (k + 1) 0) × (get_or rings b false ≡ true)
+  joined : (k : ℕ) → k + 1 < length path → (b : ℕ) × JoinsAt ends b (get_or path k 0) (get_or path (k + 1) 0)
+      × (get_or rings b false ≡ true)
 
 joins_within : (ends : Ends) (b x y : ℕ) → JoinsAt ends b x y → b < length ends
 joins_within ends b x y h = elim h [ inl q ↦ slice_get_within ends b _ q | inr q ↦ slice_get_within ends b _ q ]
@@ -70,20 +86,24 @@ joins_within ends b x y h = elim h [ inl q ↦ slice_get_within ends b _ q | inr
 joins_back : (ends : Ends) (b x y : ℕ) → JoinsAt ends b x y → JoinsAt ends b y x
 joins_back ends b x y h = elim h [ inl q ↦ inr q | inr q ↦ inl q ]
 
-step_of : (n m k p q : ℕ) → p < n → q < n → k + 1 < n → (m + k ≡ p) ⊎ (m + k ≡ p + n) → (m + (k + 1) ≡ q) ⊎ (m + (k + 1) ≡ q + n) → (p + 1 ≡ q) ⊎ (p + 1 ≡ q + n)
+step_of : (n m k p q : ℕ) → p < n → q < n → k + 1 < n → (m + k ≡ p) ⊎ (m + k ≡ p + n) → (m + (k + 1) ≡ q)
+    ⊎ (m + (k + 1) ≡ q + n) → (p + 1 ≡ q) ⊎ (p + 1 ≡ q + n)
 step_of n m k p q hp hq hk (inl a) (inl b) = inl (omega arith)
 step_of n m k p q hp hq hk (inl a) (inr b) = inr (omega arith)
 step_of n m k p q hp hq hk (inr a) (inl b) = absurd (omega arith)
 step_of n m k p q hp hq hk (inr a) (inr b) = inl (omega arith)
 
-other_place : (n m j k p q : ℕ) → p < n → q < n → j < k → k < n → (m + j ≡ p) ⊎ (m + j ≡ p + n) → (m + k ≡ q) ⊎ (m + k ≡ q + n) → p ≢ q
+other_place : (n m j k p q : ℕ) → p < n → q < n → j < k → k < n → (m + j ≡ p) ⊎ (m + j ≡ p + n) → (m + k ≡ q)
+    ⊎ (m + k ≡ q + n) → p ≢ q
 other_place n m j k p q hp hq hj hk (inl a) (inl b) = λ e. omega arith
 other_place n m j k p q hp hq hj hk (inl a) (inr b) = λ e. omega arith
 other_place n m j k p q hp hq hj hk (inr a) (inl b) = λ e. omega arith
 other_place n m j k p q hp hq hj hk (inr a) (inr b) = λ e. omega arith
 
 -- a Hückel cycle, opened behind place i
-opened : (ends : Ends) (rings : List Bool) (gives : List (Option ℕ)) (links : List (List Link)) (atoms : List ℕ) (i : ℕ) → IsNet ends rings gives links → IsHuckelBy ends (λ a. get_or gives a None) atoms → i < length atoms → IsOpen ends rings gives (rotated (i + 1) atoms)
+opened : (ends : Ends) (rings : List Bool) (gives : List (Option ℕ)) (links : List (List Link)) (atoms : List ℕ) (i : ℕ)
+    → IsNet ends rings gives links → IsHuckelBy ends (λ a. get_or gives a None) atoms → i < length atoms
+    → IsOpen ends rings gives (rotated (i + 1) atoms)
 opened ends rings gives links atoms i net h within =
     let m : ℕ = i + 1 in
     let n : ℕ = length atoms in
@@ -91,7 +111,8 @@ opened ends rings gives links atoms i net h within =
     let path : List ℕ = rotated m atoms in
     let len : length path ≡ n = length-rotated m atoms hm in
     let three : 3 ≤ n = h.cycle.three in
-    let moved : IsPermutation atoms path = subst (λ xs. IsPermutation xs path) (take-append-drop m atoms) (IsPermutation-append_comm (take m atoms) (drop m atoms)) in
+    let moved : IsPermutation atoms path = subst (λ xs. IsPermutation xs path) (take-append-drop m atoms)
+    (IsPermutation-append_comm (take m atoms) (drop m atoms)) in
     record {
       three = omega arith;
       most = rw len h.most;
@@ -103,24 +124,31 @@ opened ends rings gives links atoms i net h within =
           let pj : a.0 < n = a.1 in
           let pk : b.0 < n = b.1 in
           let other : a.0 ≢ b.0 = other_place n m j k a.0 b.0 pj pk lt hk a.3 b.3 in
-          rw (get_or_default path j d 0 (omega arith), get_or_default path k d 0 within', a.2, b.2) (apart_at atoms a.0 b.0 h.cycle.distinct other pj pk);
+          rw (get_or_default path j d 0 (omega arith), get_or_default path k d 0 within', a.2, b.2)
+          (apart_at atoms a.0 b.0 h.cycle.distinct other pj pk);
       candidates = All-permutation (IsCandidateAt gives) atoms path moved h.candidates;
       count = rw (sum_by-IsPermutation (λ a. given_at gives a) atoms path moved) h.count;
       joined = λ k lt.
           let hk : k + 1 < n = omega arith in
           let a = rotated-at m atoms k hm (omega arith) in
           let b = rotated-at m atoms (k + 1) hm hk in
-          let next : next_place atoms a.0 ≡ b.0 = next_is n a.0 b.0 a.1 b.1 (step_of n m k a.0 b.0 a.1 b.1 hk a.3 b.3) in
+          let next : next_place atoms a.0 ≡ b.0 =
+          next_is n a.0 b.0 a.1 b.1 (step_of n m k a.0 b.0 a.1 b.1 hk a.3 b.3) in
           let j = h.cycle.joined a.0 a.1 in
           let ring = net.whole j.0 (atoms, h, (a.0, a.1, j.1)) in
           (j.0, rw (a.2, b.2, ← next) j.1, ring);
     }
 
-opened-first : (atoms : List ℕ) (i : ℕ) → i < length atoms → get_or (rotated (i + 1) atoms) 0 0 ≡ get_or atoms (next_place atoms i) 0
+opened-first : (atoms : List ℕ) (i : ℕ) → i < length atoms → get_or (rotated (i + 1) atoms) 0 0
+    ≡ get_or atoms (next_place atoms i) 0
 opened-first atoms i within =
     let a = rotated-at (i + 1) atoms 0 (omega arith) (omega arith) in
     let lt : a.0 < length atoms = a.1 in
-    let to : (i + 1 ≡ a.0) ⊎ (i + 1 ≡ a.0 + length atoms) = elim (a.3) [ inl e ↦ inl (omega arith) | inr e ↦ inr (omega arith) ] in
+    let to : (i + 1 ≡ a.0) ⊎ (i + 1 ≡ a.0 + length atoms) = elim (a.3) [
+      | inl e ↦ inl (omega arith)
+      | inr e ↦
+          inr (omega arith)
+    ] in
     let next : next_place atoms i ≡ a.0 = next_is (length atoms) i a.0 within lt to in
     a.2 ∙ ap (λ p. get_or atoms p 0) (sym next)
 
@@ -134,7 +162,8 @@ opened-last atoms i within =
     rw len (a.2 ∙ ap (λ p. get_or atoms p 0) is)
 
 -- the same path, walked back
-walked_back : (ends : Ends) (rings : List Bool) (gives : List (Option ℕ)) (path : List ℕ) → IsOpen ends rings gives path → IsOpen ends rings gives (reverse path)
+walked_back : (ends : Ends) (rings : List Bool) (gives : List (Option ℕ)) (path : List ℕ) → IsOpen ends rings gives path
+    → IsOpen ends rings gives (reverse path)
 walked_back ends rings gives path h =
     let n : ℕ = length path in
     let len : length (reverse path) ≡ n = length-reverse path in
@@ -144,14 +173,19 @@ walked_back ends rings gives path h =
       most = rw len h.most;
       distinct = λ j k d lt within.
           let hk : k < n = omega arith in
-          rw (get_or-reverse path j d (omega arith), get_or-reverse path k d hk) (λ q. h.distinct (n - 1 - k) (n - 1 - j) d (omega arith) (omega arith) (sym q));
+          rw (get_or-reverse path j d (omega arith), get_or-reverse path k d hk)
+          (λ q. h.distinct (n - 1 - k) (n - 1 - j) d (omega arith) (omega arith) (sym q));
       candidates = All-permutation (IsCandidateAt gives) path (reverse path) moved h.candidates;
       count = rw (sum_by-IsPermutation (λ a. given_at gives a) path (reverse path) moved) h.count;
       joined = λ k lt.
           let hk : k + 1 < n = omega arith in
           let j = h.joined (n - 1 - (k + 1)) (omega arith) in
-          let e : n - 1 - (k + 1) + 1 ≡ n - 1 - k = omega arith in
-          (j.0, rw (get_or-reverse path k 0 (omega arith), get_or-reverse path (k + 1) 0 hk, ← e) (joins_back ends j.0 _ _ j.1), j.2);
+          let e : n - 1 - (k + 1) + 1 ≡ n - 1 - k = omega arith in (
+            j.0,
+            rw (get_or-reverse path k 0 (omega arith), get_or-reverse path (k + 1) 0 hk, ← e)
+                (joins_back ends j.0 _ _ j.1),
+            j.2,
+          );
     }
 
 back-first : (path : List ℕ) → 1 ≤ length path → get_or (reverse path) 0 0 ≡ last_of path
@@ -172,7 +206,9 @@ candidate_within gives a h = elim (cases_lt a (length gives)) [
 ]
 
 -- an open path is a route to its last atom
-route_from : (ends : Ends) (rings : List Bool) (gives : List (Option ℕ)) (links : List (List Link)) (path : List ℕ) (target : ℕ) → IsNet ends rings gives links → IsOpen ends rings gives path → last_of path ≡ target → IsRoute links gives target path
+route_from : (ends : Ends) (rings : List Bool) (gives : List (Option ℕ)) (links : List (List Link)) (path : List ℕ)
+    (target : ℕ) → IsNet ends rings gives links → IsOpen ends rings gives path → last_of path ≡ target
+    → IsRoute links gives target path
 route_from ends rings gives links path target net h to =
     let three : 3 ≤ length path = h.three in
     let candidate : (k : ℕ) → k < length path → IsCandidateAt gives (get_or path k 0) = λ k lt. h.candidates k 0 lt in
@@ -183,8 +219,16 @@ route_from ends rings gives links path target net h to =
         in_range = λ k lt. rw net.linked.count (candidate_within gives (get_or path k 0) (candidate k lt));
         distinct = h.distinct;
         linked = λ k lt.
-            let j = h.joined k lt in
-            (j.0, (net.linked.each (get_or path k 0) (get_or path (k + 1) 0) j.0).1 (joins_within ends j.0 _ _ j.1, j.1, j.2, candidate k (omega arith), candidate (k + 1) lt));
+            let j = h.joined k lt in (
+              j.0,
+              (net.linked.each (get_or path k 0) (get_or path (k + 1) 0) j.0).1 (
+                joins_within ends j.0 _ _ j.1,
+                j.1,
+                j.2,
+                candidate k (omega arith),
+                candidate (k + 1) lt,
+              ),
+            );
       };
       three = three;
       ends = to;
@@ -196,14 +240,18 @@ begins : (path : List ℕ) (x : ℕ) → 1 ≤ length path → get_or path 0 0 �
 begins [] x some first = absurd (omega arith)
 begins (y ∷ rest) x some first = (rest, ap (λ z. z ∷ rest) first)
 
-reach_from : (ends : Ends) (rings : List Bool) (gives : List (Option ℕ)) (links : List (List Link)) (path : List ℕ) (x y : ℕ) → IsNet ends rings gives links → IsOpen ends rings gives path → get_or path 0 0 ≡ x → last_of path ≡ y → CanReach links gives y (x ∷ [])
+reach_from : (ends : Ends) (rings : List Bool) (gives : List (Option ℕ)) (links : List (List Link)) (path : List ℕ)
+    (x y : ℕ) → IsNet ends rings gives links → IsOpen ends rings gives path → get_or path 0 0 ≡ x → last_of path ≡ y
+    → CanReach links gives y (x ∷ [])
 reach_from ends rings gives links path x y net h first last =
     let three : 3 ≤ length path = h.three in
     let whole = begins path x (omega arith) first in
     (whole.0, subst (λ p. IsRoute links gives y p) whole.1 (route_from ends rings gives links path y net h last))
 
 -- a bond on a Hückel cycle is a ring bond, and a route leads from its one end to its other end
-pub reach-from_cycle : (ends : Ends) (rings : List Bool) (gives : List (Option ℕ)) (links : List (List Link)) (b x y : ℕ) → IsNet ends rings gives links → slice_get ends b ≡ Some (x, y) → IsAromaticBy ends gives b → (get_or rings b false ≡ true) × CanReach links gives y (x ∷ [])
+pub reach-from_cycle : (ends : Ends) (rings : List Bool) (gives : List (Option ℕ)) (links : List (List Link))
+    (b x y : ℕ) → IsNet ends rings gives links → slice_get ends b ≡ Some (x, y) → IsAromaticBy ends gives b
+    → (get_or rings b false ≡ true) × CanReach links gives y (x ∷ [])
 reach-from_cycle ends rings gives links b x y net here (atoms, cycle, (i, within, joins)) =
     let ring = net.whole b (atoms, cycle, (i, within, joins)) in
     let path : List ℕ = rotated (i + 1) atoms in
@@ -214,11 +262,14 @@ reach-from_cycle ends rings gives links b x y net here (atoms, cycle, (i, within
       ring,
       elim joins [
         | inl q ↦
-            let p : ◌≡◌ {A = ℕ × ℕ} (get_or atoms i 0, get_or atoms (next_place atoms i) 0) (x, y) = same_Some _ _ (sym q ∙ here) in
+            let p : ◌≡◌ {A = ℕ × ℕ} (get_or atoms i 0, get_or atoms (next_place atoms i) 0) (x, y) =
+            same_Some _ _ (sym q ∙ here) in
             let back : IsOpen ends rings gives (reverse path) = walked_back ends rings gives path path_open in
-            reach_from ends rings gives links (reverse path) x y net back (back-first path (omega arith) ∙ last ∙ ap (λ u. u.0) p) (back-last path (omega arith) ∙ first ∙ ap (λ u. u.1) p)
+            reach_from ends rings gives links (reverse path) x y net back (back-first path (omega arith) ∙ last
+            ∙ ap (λ u. u.0) p) (back-last path (omega arith) ∙ first ∙ ap (λ u. u.1) p)
         | inr q ↦
-            let p : ◌≡◌ {A = ℕ × ℕ} (get_or atoms (next_place atoms i) 0, get_or atoms i 0) (x, y) = same_Some _ _ (sym q ∙ here) in
+            let p : ◌≡◌ {A = ℕ × ℕ} (get_or atoms (next_place atoms i) 0, get_or atoms i 0) (x, y) =
+            same_Some _ _ (sym q ∙ here) in
             reach_from ends rings gives links path x y net path_open (first ∙ ap (λ u. u.0) p) (last ∙ ap (λ u. u.1) p)
       ],
     )
@@ -226,13 +277,16 @@ reach-from_cycle ends rings gives links b x y net here (atoms, cycle, (i, within
 -- ---- a route closes to a Hückel cycle
 
 -- the bond that leads on from a place of a route
-route_step : (ends : Ends) (rings : List Bool) (gives : List (Option ℕ)) (links : List (List Link)) (path : List ℕ) (k : ℕ) → IsNet ends rings gives links → IsTrail links path → k + 1 < length path → (b : ℕ) × IsLinkBelow ends rings gives (length ends) (get_or path k 0) (get_or path (k + 1) 0) b
+route_step : (ends : Ends) (rings : List Bool) (gives : List (Option ℕ)) (links : List (List Link)) (path : List ℕ)
+    (k : ℕ) → IsNet ends rings gives links → IsTrail links path → k + 1 < length path → (b : ℕ)
+    × IsLinkBelow ends rings gives (length ends) (get_or path k 0) (get_or path (k + 1) 0) b
 route_step ends rings gives links path k net trail lt =
     let link = trail.linked k lt in
     (link.0, (net.linked.each (get_or path k 0) (get_or path (k + 1) 0) link.0).0 link.1)
 
 -- both ends of a route are candidates
-pub ends-candidates : (ends : Ends) (rings : List Bool) (gives : List (Option ℕ)) (links : List (List Link)) (x y : ℕ) → IsNet ends rings gives links → CanReach links gives y (x ∷ []) → IsCandidateAt gives x × IsCandidateAt gives y
+pub ends-candidates : (ends : Ends) (rings : List Bool) (gives : List (Option ℕ)) (links : List (List Link)) (x y : ℕ)
+    → IsNet ends rings gives links → CanReach links gives y (x ∷ []) → IsCandidateAt gives x × IsCandidateAt gives y
 ends-candidates ends rings gives links x y net (rest, route) =
     let path : List ℕ = (x ∷ []) ++ rest in
     let three : 3 ≤ length path = route.three in
@@ -242,7 +296,9 @@ ends-candidates ends rings gives links x y net (rest, route) =
     (first.1.3, subst (λ a. IsCandidateAt gives a) (ap (λ k. get_or path k 0) e ∙ route.ends) last.1.4)
 
 -- the bond between x and y leads from the last atom of a route to its first
-closing : (ends : Ends) (links : List (List Link)) (gives : List (Option ℕ)) (path : List ℕ) (b x y : ℕ) → slice_get ends b ≡ Some (x, y) → IsRoute links gives y path → get_or path 0 0 ≡ x → (k : ℕ) → k + 1 ≡ length path → JoinsAt ends b (get_or path k 0) (get_or path (next_place path k) 0)
+closing : (ends : Ends) (links : List (List Link)) (gives : List (Option ℕ)) (path : List ℕ) (b x y : ℕ)
+    → slice_get ends b ≡ Some (x, y) → IsRoute links gives y path → get_or path 0 0 ≡ x → (k : ℕ) → k + 1 ≡ length path
+    → JoinsAt ends b (get_or path k 0) (get_or path (next_place path k) 0)
 closing ends links gives path b x y here route first k e =
     let at : k ≡ length path - 1 = omega arith in
     let last : get_or path k 0 ≡ y = ap (λ m. get_or path m 0) at ∙ route.ends in
@@ -250,11 +306,14 @@ closing ends links gives path b x y here route first k e =
     rw (last, around, first) (inr here)
 
 -- a route from a bond's one end to its other end is a Hückel cycle
-cycle-from_route : (ends : Ends) (rings : List Bool) (gives : List (Option ℕ)) (links : List (List Link)) (path : List ℕ) (b x y : ℕ) → IsNet ends rings gives links → slice_get ends b ≡ Some (x, y) → IsRoute links gives y path → get_or path 0 0 ≡ x → IsHuckelBy ends (λ a. get_or gives a None) path
+cycle-from_route : (ends : Ends) (rings : List Bool) (gives : List (Option ℕ)) (links : List (List Link))
+    (path : List ℕ) (b x y : ℕ) → IsNet ends rings gives links → slice_get ends b ≡ Some (x, y)
+    → IsRoute links gives y path → get_or path 0 0 ≡ x → IsHuckelBy ends (λ a. get_or gives a None) path
 cycle-from_route ends rings gives links path b x y net here route first =
     let n : ℕ = length path in
     let three : 3 ≤ n = route.three in
-    let link : (k : ℕ) → k + 1 < n → (c : ℕ) × IsLinkBelow ends rings gives (length ends) (get_or path k 0) (get_or path (k + 1) 0) c = λ k lt. route_step ends rings gives links path k net route.trail lt in
+    let link : (k : ℕ) → k + 1 < n → (c : ℕ) × IsLinkBelow ends rings gives (length ends) (get_or path k 0)
+    (get_or path (k + 1) 0) c = λ k lt. route_step ends rings gives links path k net route.trail lt in
     let inner : (k : ℕ) → k + 1 < n → next_place path k ≡ k + 1 = λ k lt. mod-eq_of_lt lt in
     let candidate : (k : ℕ) → k < n → IsCandidateAt gives (get_or path k 0) = λ k lt. elim (cases_lt (k + 1) n) [
       | inl l ↦ (link k l).1.3
@@ -281,14 +340,26 @@ first_link : (path rest : List Link) (first d : Link) → path ≡ (first ∷ []
 first_link path rest first d is = ap (λ p. get_or p 0 d) is
 
 -- the bond of each link of a path that closes lies on the cycle
-pub lies-on_path : (ends : Ends) (rings : List Bool) (gives : List (Option ℕ)) (links : List (List Link)) (path : List Link) (b x y : ℕ) → IsNet ends rings gives links → slice_get ends b ≡ Some (x, y) → Completes links gives y (record { to = x; bond = b } ∷ []) path → (k : ℕ) (d : Link) → k < length path → IsAromaticBy ends gives (get_or path k d).bond
+pub lies-on_path : (ends : Ends) (rings : List Bool) (gives : List (Option ℕ)) (links : List (List Link))
+    (path : List Link) (b x y : ℕ) → IsNet ends rings gives links → slice_get ends b ≡ Some (x, y)
+    → Completes links gives y (record { to = x; bond = b } ∷ []) path → (k : ℕ) (d : Link) → k < length path
+    → IsAromaticBy ends gives (get_or path k d).bond
 lies-on_path ends rings gives links path b x y net here whole zero d lt =
     let first = first_link path whole.begins.0 (record { to = x; bond = b }) d whole.begins.1 in
     let route = whole.route in
     let len : length (atoms_of path) ≡ length path = length-atoms_of path in
     let start : get_or (atoms_of path) 0 0 ≡ x = atom_at path 0 d lt ∙ ap (λ l. l.to) first in
     let last : length path - 1 + 1 ≡ length (atoms_of path) = omega arith in
-    rw first (atoms_of path, cycle-from_route ends rings gives links (atoms_of path) b x y net here route start, (length path - 1, omega arith, closing ends links gives (atoms_of path) b x y here route start (length path - 1) last))
+    rw first (
+      atoms_of path,
+      cycle-from_route ends rings gives links (atoms_of path) b x y net here route start,
+      (
+        length path - 1,
+        omega arith,
+        closing ends links gives (atoms_of path) b x y here route start (length path - 1)
+            last,
+      ),
+    )
 lies-on_path ends rings gives links path b x y net here whole (suc k) d lt =
     let first = first_link path whole.begins.0 (record { to = x; bond = b }) d whole.begins.1 in
     let route = whole.route in
@@ -301,21 +372,32 @@ lies-on_path ends rings gives links path b x y net here whole (suc k) d lt =
     let on' : k + 1 < length (atoms_of path) = omega arith in
     let next : next_place (atoms_of path) k ≡ k + 1 = mod-eq_of_lt on' in
     let link : Contains (links_at links (get_or path k d).to) (get_or path (k + 1) d) = whole.steps k d on in
-    let joins : JoinsAt ends (get_or path (k + 1) d).bond (get_or path k d).to (get_or path (k + 1) d).to = ((net.linked.each (get_or path k d).to (get_or path (k + 1) d).to (get_or path (k + 1) d).bond).0 link).1 in
-    rw (← up) (atoms_of path, cycle-from_route ends rings gives links (atoms_of path) b x y net here route start, (k, omega arith, rw (next, atom_at path k d before, atom_at path (k + 1) d on) joins))
+    let joins : JoinsAt ends (get_or path (k + 1) d).bond (get_or path k d).to (get_or path (k + 1) d).to =
+    ((net.linked.each (get_or path k d).to (get_or path (k + 1) d).to (get_or path (k + 1) d).bond).0 link).1 in
+    rw (← up) (
+      atoms_of path,
+      cycle-from_route ends rings gives links (atoms_of path) b x y net here route start,
+      (k, omega arith, rw (next, atom_at path k d before, atom_at path (k + 1) d on) joins),
+    )
 
 -- the bond of each link of such a path is one of the bonds
-pub bonds-within : (ends : Ends) (rings : List Bool) (gives : List (Option ℕ)) (links : List (List Link)) (path : List Link) (b x y : ℕ) → IsNet ends rings gives links → slice_get ends b ≡ Some (x, y) → Completes links gives y (record { to = x; bond = b } ∷ []) path → (k : ℕ) (d : Link) → k < length path → (get_or path k d).bond < length ends
+pub bonds-within : (ends : Ends) (rings : List Bool) (gives : List (Option ℕ)) (links : List (List Link))
+    (path : List Link) (b x y : ℕ) → IsNet ends rings gives links → slice_get ends b ≡ Some (x, y)
+    → Completes links gives y (record { to = x; bond = b } ∷ []) path → (k : ℕ) (d : Link) → k < length path
+    → (get_or path k d).bond < length ends
 bonds-within ends rings gives links path b x y net here whole k d lt =
     let on = lies-on_path ends rings gives links path b x y net here whole k d lt in
     joins_within ends (get_or path k d).bond _ _ on.2.2
 
 -- ---- the links are in range, and lead back
 
-pub links-closed : (ends : Ends) (rings : List Bool) (gives : List (Option ℕ)) (links : List (List Link)) → IsNet ends rings gives links → AreClosed links
-links-closed ends rings gives links net = λ a n q. rw net.linked.count (candidate_within gives n ((net.linked.each a n q.0).0 q.1).4)
+pub links-closed : (ends : Ends) (rings : List Bool) (gives : List (Option ℕ)) (links : List (List Link))
+    → IsNet ends rings gives links → AreClosed links
+links-closed ends rings gives links net = λ a n q.
+    rw net.linked.count (candidate_within gives n ((net.linked.each a n q.0).0 q.1).4)
 
-pub links-mutual : (ends : Ends) (rings : List Bool) (gives : List (Option ℕ)) (links : List (List Link)) → IsNet ends rings gives links → AreMutual links
+pub links-mutual : (ends : Ends) (rings : List Bool) (gives : List (Option ℕ)) (links : List (List Link))
+    → IsNet ends rings gives links → AreMutual links
 links-mutual ends rings gives links net = λ a n q.
     let l = (net.linked.each a n q.0).0 q.1 in
     (q.0, (net.linked.each n a q.0).1 (l.0, joins_back ends q.0 a n l.1, l.2, l.4, l.3))
@@ -323,7 +405,8 @@ links-mutual ends rings gives links net = λ a n q.
 -- ---- marks of bonds
 
 -- one bond more that is marked if it has to be
-pub marks-same : (ends : Ends) (gives : List (Option ℕ)) (k : ℕ) (marks : List Bool) → AreMarksBelow ends gives k marks → (IsAromaticBy ends gives k → get_or marks k false ≡ true) → AreMarksBelow ends gives (k + 1) marks
+pub marks-same : (ends : Ends) (gives : List (Option ℕ)) (k : ℕ) (marks : List Bool) → AreMarksBelow ends gives k marks
+    → (IsAromaticBy ends gives k → get_or marks k false ≡ true) → AreMarksBelow ends gives (k + 1) marks
 marks-same ends gives k marks h last = record {
   count = h.count;
   sound = h.sound;
@@ -336,13 +419,22 @@ marks-same ends gives k marks h last = record {
 }
 
 -- the bonds of a path that closes are marked
-pub marks-path : (ends : Ends) (rings : List Bool) (gives : List (Option ℕ)) (links : List (List Link)) (k x y : ℕ) (marks after : List Bool) (path : List Link) → IsNet ends rings gives links → slice_get ends k ≡ Some (x, y) → Completes links gives y (record { to = x; bond = k } ∷ []) path → AreMarksBelow ends gives k marks → length after ≡ length marks → ((b : ℕ) → (get_or after b false ≡ true) ↔ ((get_or marks b false ≡ true) ⊎ Contains (map (λ l. l.bond) path) b)) → AreMarksBelow ends gives (k + 1) after
+pub marks-path : (ends : Ends) (rings : List Bool) (gives : List (Option ℕ)) (links : List (List Link)) (k x y : ℕ)
+    (marks after : List Bool) (path : List Link) → IsNet ends rings gives links → slice_get ends k ≡ Some (x, y)
+    → Completes links gives y (record { to = x; bond = k } ∷ []) path → AreMarksBelow ends gives k marks
+    → length after ≡ length marks → ((b : ℕ) → (get_or after b false ≡ true)
+    ↔ ((get_or marks b false ≡ true) ⊎ Contains (map (λ l. l.bond) path) b)) → AreMarksBelow ends gives (k + 1) after
 marks-path ends rings gives links k x y marks after path net here whole h len step =
     let first : Link = record { to = x; bond = k } in
     let some : 1 ≤ length (atoms_of path) = whole.route.trail.some in
     let some' : 0 < length path = omega (arith, length-atoms_of path) in
     let long : length (map (λ l. l.bond) path) ≡ length path = length-map path (λ l. l.bond) in
-    let has : Contains (map (λ l. l.bond) path) k = (0, omega arith, get_or-map (λ l. l.bond) path 0 first k some' ∙ ap (λ l. l.bond) (first_link path whole.begins.0 first first whole.begins.1)) in
+    let has : Contains (map (λ l. l.bond) path) k = (
+      0,
+      omega arith,
+      get_or-map (λ l. l.bond) path 0 first k some'
+          ∙ ap (λ l. l.bond) (first_link path whole.begins.0 first first whole.begins.1),
+    ) in
     record {
       count = len ∙ h.count;
       sound = λ b marked. elim ((step b).0 marked) [
@@ -350,7 +442,8 @@ marks-path ends rings gives links k x y marks after path net here whole h len st
         | inr q ↦
             let within : q.0 < length path = omega (arith, q.1) in
             let is : (get_or path q.0 first).bond ≡ b = sym (get_or-map (λ l. l.bond) path q.0 first b within) ∙ q.2 in
-            subst (λ m. IsAromaticBy ends gives m) is (lies-on_path ends rings gives links path k x y net here whole q.0 first within)
+            subst (λ m. IsAromaticBy ends gives m) is (lies-on_path ends rings gives links path k x y net here whole q.0
+            first within)
       ];
       each = λ b lt on. elim (cases_lt b k) [
         | inl l ↦ (step b).1 (inl (h.each b l on))
@@ -362,13 +455,18 @@ marks-path ends rings gives links k x y marks after path net here whole h len st
 
 -- ---- the same of what the code reads
 
-rows_everywhere : (s : SketchTerm) (rings : List Bool) (rows : List (Option Row)) → AreRows s rings rows → (a : ℕ) → get_or rows a None ≡ row_at s rings a
+rows_everywhere : (s : SketchTerm) (rings : List Bool) (rows : List (Option Row)) → AreRows s rings rows → (a : ℕ)
+    → get_or rows a None ≡ row_at s rings a
 rows_everywhere s rings rows h a = elim (cases_lt a (length s.atoms)) [
   | inl l ↦ h.each a l
-  | inr l ↦ get_or_past rows a None (rw h.count l) ∙ sym (ap (λ o. option_and_then (λ x. let site = site_of s rings a x in if is_eligible site then row_of site else None) o) (slice_get_past s.atoms a l))
+  | inr l ↦ get_or_past rows a None (rw h.count l)
+      ∙ sym (ap (λ o. option_and_then (λ x. let site = site_of s rings a x in
+      if is_eligible site then row_of site else None) o) (slice_get_past s.atoms a l))
 ]
 
-pub given_by_rows : (s : SketchTerm) (rings : List Bool) (rows : List (Option Row)) (gives : List (Option ℕ)) → AreRows s rings rows → gives ≡ map (λ row. option_map (λ (r : Row). r.electrons) row) rows → (a : ℕ) → get_or gives a None ≡ electrons s rings a
+pub given_by_rows : (s : SketchTerm) (rings : List Bool) (rows : List (Option Row)) (gives : List (Option ℕ))
+    → AreRows s rings rows → gives ≡ map (λ row. option_map (λ (r : Row). r.electrons) row) rows → (a : ℕ)
+    → get_or gives a None ≡ electrons s rings a
 given_by_rows s rings rows gives h is a =
     let f : Option Row → Option ℕ = λ row. option_map (λ (r : Row). r.electrons) row in
     let read : get_or (map f rows) a None ≡ f (get_or rows a None) = elim (cases_lt a (length rows)) [
@@ -378,32 +476,45 @@ given_by_rows s rings rows gives h is a =
     rw is (read ∙ ap f (rows_everywhere s rings rows h a))
 
 -- a cycle, where the electrons of each atom are told
-huckel-told : (s : SketchTerm) (rings : List Bool) (gives : List (Option ℕ)) (atoms : List ℕ) → ((a : ℕ) → get_or gives a None ≡ electrons s rings a) → IsHuckelBy (sketch_ends s) (λ a. get_or gives a None) atoms ↔ IsHuckelCycle s rings atoms
+huckel-told : (s : SketchTerm) (rings : List Bool) (gives : List (Option ℕ)) (atoms : List ℕ)
+    → ((a : ℕ) → get_or gives a None ≡ electrons s rings a) → IsHuckelBy (sketch_ends s) (λ a. get_or gives a None)
+    atoms ↔ IsHuckelCycle s rings atoms
 huckel-told s rings gives atoms given =
-    let same : ◌≡◌ {A = ℕ → Option ℕ} (λ a. get_or gives a None) (electrons s rings) = λ i a. given a i in
-    (λ h. subst (λ f. IsHuckelBy (sketch_ends s) f atoms) same h, λ h. subst (λ f. IsHuckelBy (sketch_ends s) f atoms) (sym same) h)
+    let same : ◌≡◌ {A = ℕ → Option ℕ} (λ a. get_or gives a None) (electrons s rings) = λ i a. given a i in (
+      λ h. subst (λ f. IsHuckelBy (sketch_ends s) f atoms) same h,
+      λ h. subst (λ f. IsHuckelBy (sketch_ends s) f atoms)
+          (sym same) h,
+    )
 
 mod_within : (n m : ℕ) → 0 < m → n % m < m
 mod_within n m h = omega arith
 
 -- an end of a bond that joins two atoms of a list is one of the two
-which_end : (ends : Ends) (b a n : ℕ) (atoms : List ℕ) (i j : ℕ) → i < length atoms → j < length atoms → JoinsAt ends b a n → JoinsAt ends b (get_or atoms i 0) (get_or atoms j 0) → Contains atoms a
+which_end : (ends : Ends) (b a n : ℕ) (atoms : List ℕ) (i j : ℕ) → i < length atoms → j < length atoms
+    → JoinsAt ends b a n → JoinsAt ends b (get_or atoms i 0) (get_or atoms j 0) → Contains atoms a
 which_end ends b a n atoms i j hi hj one two =
     let at_i : get_or atoms i 0 ≡ a → Contains atoms a = λ e. (i, hi, get_or_default atoms i a 0 hi ∙ e) in
     let at_j : get_or atoms j 0 ≡ a → Contains atoms a = λ e. (j, hj, get_or_default atoms j a 0 hj ∙ e) in
     elim one [
       | inl p ↦ elim two [
-        | inl q ↦ let e : ◌≡◌ {A = ℕ × ℕ} (get_or atoms i 0, get_or atoms j 0) (a, n) = same_Some _ _ (sym q ∙ p) in at_i (ap (λ u. u.0) e)
-        | inr q ↦ let e : ◌≡◌ {A = ℕ × ℕ} (get_or atoms j 0, get_or atoms i 0) (a, n) = same_Some _ _ (sym q ∙ p) in at_j (ap (λ u. u.0) e)
+        | inl q ↦ let e : ◌≡◌ {A = ℕ × ℕ} (get_or atoms i 0, get_or atoms j 0) (a, n) = same_Some _ _ (sym q ∙ p) in
+            at_i (ap (λ u. u.0) e)
+        | inr q ↦ let e : ◌≡◌ {A = ℕ × ℕ} (get_or atoms j 0, get_or atoms i 0) (a, n) = same_Some _ _ (sym q ∙ p) in
+            at_j (ap (λ u. u.0) e)
       ]
       | inr p ↦ elim two [
-        | inl q ↦ let e : ◌≡◌ {A = ℕ × ℕ} (get_or atoms i 0, get_or atoms j 0) (n, a) = same_Some _ _ (sym q ∙ p) in at_j (ap (λ u. u.1) e)
-        | inr q ↦ let e : ◌≡◌ {A = ℕ × ℕ} (get_or atoms j 0, get_or atoms i 0) (n, a) = same_Some _ _ (sym q ∙ p) in at_i (ap (λ u. u.1) e)
+        | inl q ↦ let e : ◌≡◌ {A = ℕ × ℕ} (get_or atoms i 0, get_or atoms j 0) (n, a) = same_Some _ _ (sym q ∙ p) in
+            at_j (ap (λ u. u.1) e)
+        | inr q ↦ let e : ◌≡◌ {A = ℕ × ℕ} (get_or atoms j 0, get_or atoms i 0) (n, a) = same_Some _ _ (sym q ∙ p) in
+            at_i (ap (λ u. u.1) e)
       ]
     ]
 
 -- an atom lies on a Hückel cycle exactly where one of its bonds does
-pub ends-aromatic : (s : SketchTerm) (rings marks flags : List Bool) → AreAromaticBonds s rings marks → length flags ≡ length s.atoms → ((a : ℕ) → (get_or flags a false ≡ true) ↔ IsMarkedEnd (ends_among s.bonds) marks (length s.bonds) a) → AreAromaticAtoms s rings flags
+pub ends-aromatic : (s : SketchTerm) (rings marks flags : List Bool) → AreAromaticBonds s rings marks
+    → length flags ≡ length s.atoms
+    → ((a : ℕ) → (get_or flags a false ≡ true) ↔ IsMarkedEnd (ends_among s.bonds) marks (length s.bonds) a)
+    → AreAromaticAtoms s rings flags
 ends-aromatic s rings marks flags h len each = record {
   count = len;
   each = λ a. (
@@ -420,13 +531,22 @@ ends-aromatic s rings marks flags h len each = record {
         let k : ℕ = q.2.0 in
         let within : k < length atoms = q.2.1 in
         let j = q.1.cycle.joined k within in
-        let below : j.0 < length s.bonds = subst (λ n. j.0 < n) (length-map s.bonds (λ b. (b.a, b.b))) (joins_within (sketch_ends s) j.0 _ _ j.1) in
+        let below : j.0 < length s.bonds = subst (λ n. j.0 < n) (length-map s.bonds (λ b. (b.a, b.b)))
+        (joins_within (sketch_ends s) j.0 _ _ j.1) in
         let is : get_or atoms k 0 ≡ a = get_or_default atoms k 0 a within ∙ q.2.2 in
-        (each a).1 (j.0, get_or atoms (next_place atoms k) 0, below, subst (λ x. JoinsAt (sketch_ends s) j.0 x (get_or atoms (next_place atoms k) 0)) is j.1, (h.each j.0 below).1 (atoms, q.1, (k, within, j.1))),
+        (each a).1 (
+          j.0,
+          get_or atoms (next_place atoms k) 0,
+          below,
+          subst (λ x. JoinsAt (sketch_ends s) j.0 x (get_or atoms (next_place atoms k) 0)) is j.1,
+          (h.each j.0 below).1 (atoms, q.1, (k, within, j.1)),
+        ),
   );
 }
 
-pub bonds-found : (s : SketchTerm) (rings : List Bool) (rows : List (Option Row)) (gives : List (Option ℕ)) (marks : List Bool) → AreRows s rings rows → gives ≡ map (λ row. option_map (λ (r : Row). r.electrons) row) rows → AreMarksBelow (sketch_ends s) gives (length s.bonds) marks → AreAromaticBonds s rings marks
+pub bonds-found : (s : SketchTerm) (rings : List Bool) (rows : List (Option Row)) (gives : List (Option ℕ))
+    (marks : List Bool) → AreRows s rings rows → gives ≡ map (λ row. option_map (λ (r : Row). r.electrons) row) rows
+    → AreMarksBelow (sketch_ends s) gives (length s.bonds) marks → AreAromaticBonds s rings marks
 bonds-found s rings rows gives marks h is marked =
     let given = given_by_rows s rings rows gives h is in
     record {
@@ -438,10 +558,14 @@ bonds-found s rings rows gives marks h is marked =
     }
 
 -- the links are those of a sketch
-pub net-found : (s : SketchTerm) (rings : List Bool) (rows : List (Option Row)) (gives : List (Option ℕ)) (links : List (List Link)) → IsSound s → AreRingBonds (sketch_ends s) rings → AreRows s rings rows → gives ≡ map (λ row. option_map (λ (r : Row). r.electrons) row) rows → AreLinks (sketch_ends s) rings gives (length s.bonds) links → IsNet (sketch_ends s) rings gives links
+pub net-found : (s : SketchTerm) (rings : List Bool) (rows : List (Option Row)) (gives : List (Option ℕ))
+    (links : List (List Link)) → IsSound s → AreRingBonds (sketch_ends s) rings → AreRows s rings rows
+    → gives ≡ map (λ row. option_map (λ (r : Row). r.electrons) row) rows
+    → AreLinks (sketch_ends s) rings gives (length s.bonds) links → IsNet (sketch_ends s) rings gives links
 net-found s rings rows gives links sound flags h is linked =
     let many : length s.bonds ≡ length (sketch_ends s) = sym (length-map s.bonds (λ b. (b.a, b.b))) in
-    let each : length s.atoms ≡ length gives = sym (ap length is ∙ length-map rows (λ row. option_map (λ (r : Row). r.electrons) row) ∙ h.count) in
+    let each : length s.atoms ≡ length gives =
+    sym (ap length is ∙ length-map rows (λ row. option_map (λ (r : Row). r.electrons) row) ∙ h.count) in
     record {
       graph = subst (λ n. IsSimpleGraph n (sketch_ends s)) each sound.graph;
       count = flags.one_each;
@@ -451,35 +575,58 @@ net-found s rings rows gives links sound flags h is linked =
 
 -- ---- refusals
 
-refused_if : (s : SketchTerm) (rings : List Bool) (a : ℕ) (flag lower : Bool) → ((flag ≡ true) ↔ IsAromaticAtom s rings a) → (if lower then not flag else has_colon s.bonds a) ≡ true → ((lower ≡ true) × (IsAromaticAtom s rings a → ⊥)) ⊎ ((lower ≡ false) × (has_colon s.bonds a ≡ true))
+refused_if : (s : SketchTerm) (rings : List Bool) (a : ℕ) (flag lower : Bool)
+    → ((flag ≡ true) ↔ IsAromaticAtom s rings a) → (if lower then not flag else has_colon s.bonds a) ≡ true
+    → ((lower ≡ true) × (IsAromaticAtom s rings a → ⊥)) ⊎ ((lower ≡ false) × (has_colon s.bonds a ≡ true))
 refused_if s rings a true true h r = absurd (false≢true r)
 refused_if s rings a false true h r = inl (refl, λ q. false≢true (h.1 q))
 refused_if s rings a flag false h r = inr (refl, r)
 
-not_refused_if : (s : SketchTerm) (rings : List Bool) (a : ℕ) (flag lower : Bool) → ((flag ≡ true) ↔ IsAromaticAtom s rings a) → (if lower then not flag else has_colon s.bonds a) ≡ false → ((lower ≡ true) × (IsAromaticAtom s rings a → ⊥)) ⊎ ((lower ≡ false) × (has_colon s.bonds a ≡ true)) → ⊥
+not_refused_if : (s : SketchTerm) (rings : List Bool) (a : ℕ) (flag lower : Bool)
+    → ((flag ≡ true) ↔ IsAromaticAtom s rings a) → (if lower then not flag else has_colon s.bonds a) ≡ false
+    → ((lower ≡ true) × (IsAromaticAtom s rings a → ⊥)) ⊎ ((lower ≡ false) × (has_colon s.bonds a ≡ true)) → ⊥
 not_refused_if s rings a true true h r (inl q) = q.1 (h.0 refl)
 not_refused_if s rings a true true h r (inr q) = false≢true (sym q.0)
 not_refused_if s rings a false true h r q = false≢true (sym r)
 not_refused_if s rings a flag false h r (inl q) = false≢true q.0
 not_refused_if s rings a flag false h r (inr q) = false≢true (sym r ∙ q.1)
 
-pub refused-false : (s : SketchTerm) (rings flags : List Bool) (a : ℕ) (x : SketchAtom) → AreAromaticAtoms s rings flags → refused s.bonds (get_or flags a false) a x ≡ false → IsRefused s rings a x → ⊥
+pub refused-false : (s : SketchTerm) (rings flags : List Bool) (a : ℕ) (x : SketchAtom) → AreAromaticAtoms s rings flags
+    → refused s.bonds (get_or flags a false) a x ≡ false → IsRefused s rings a x → ⊥
 refused-false s rings flags a x h = not_refused_if s rings a (get_or flags a false) x.lower (h.each a)
 
-pub refused-true : (s : SketchTerm) (rings flags : List Bool) (a : ℕ) (x : SketchAtom) → AreAromaticAtoms s rings flags → refused s.bonds (get_or flags a false) a x ≡ true → IsRefused s rings a x
+pub refused-true : (s : SketchTerm) (rings flags : List Bool) (a : ℕ) (x : SketchAtom) → AreAromaticAtoms s rings flags
+    → refused s.bonds (get_or flags a false) a x ≡ true → IsRefused s rings a x
 refused-true s rings flags a x h = refused_if s rings a (get_or flags a false) x.lower (h.each a)
 
-pub fault-first : (s : SketchTerm) (rings flags : List Bool) (w : ℕ) → AreAromaticAtoms s rings flags → (a : ℕ) × (x : SketchAtom) × (slice_get s.atoms a ≡ Some x) × (refused s.bonds (get_or flags a false) a x ≡ true) × (x.written ≡ w) × ((b : ℕ) (y : SketchAtom) → b < a → slice_get s.atoms b ≡ Some y → refused s.bonds (get_or flags b false) b y ≡ false) → IsFirstRefused s rings w
-fault-first s rings flags w h (a, x, here, yes_refused, at, before) = (a, x, here, refused-true s rings flags a x h yes_refused, at, λ b y lt there. refused-false s rings flags b y h (before b y lt there))
+pub fault-first : (s : SketchTerm) (rings flags : List Bool) (w : ℕ) → AreAromaticAtoms s rings flags → (a : ℕ)
+    × (x : SketchAtom) × (slice_get s.atoms a ≡ Some x) × (refused s.bonds (get_or flags a false) a x ≡ true)
+    × (x.written ≡ w) × ((b : ℕ) (y : SketchAtom) → b < a → slice_get s.atoms b ≡ Some y
+    → refused s.bonds (get_or flags b false) b y ≡ false) → IsFirstRefused s rings w
+fault-first s rings flags w h (a, x, here, yes_refused, at, before) = (
+  a,
+  x,
+  here,
+  refused-true s rings flags a x h yes_refused,
+  at,
+  λ b y lt there. refused-false s rings flags b y h
+      (before b y lt there),
+)
 
 -- ---- all that is found
 
-pub all-found : (s : SketchTerm) (rings : List Bool) (rows : List (Option Row)) (flags marks : List Bool) (sums : List ℕ) → AreRows s rings rows → AreAromaticBonds s rings marks → AreAromaticAtoms s rings flags → ((b : ℕ) (y : SketchAtom) → slice_get s.atoms b ≡ Some y → refused s.bonds (get_or flags b false) b y ≡ false) → sums ≡ map (λ p. valence_by rows flags s.bonds marks p.0 p.1) (enumerate_from 0 s.atoms) → IsPerceived s rings flags marks sums
+pub all-found : (s : SketchTerm) (rings : List Bool) (rows : List (Option Row)) (flags marks : List Bool)
+    (sums : List ℕ) → AreRows s rings rows → AreAromaticBonds s rings marks → AreAromaticAtoms s rings flags
+    → ((b : ℕ) (y : SketchAtom) → slice_get s.atoms b ≡ Some y → refused s.bonds (get_or flags b false) b y ≡ false)
+    → sums ≡ map (λ p. valence_by rows flags s.bonds marks p.0 p.1) (enumerate_from 0 s.atoms)
+    → IsPerceived s rings flags marks sums
 all-found s rings rows flags marks sums rows_are marks_are flags_are none values = record {
   atom_each = flags_are.count;
   bond_each = marks_are.count;
   atoms = λ a _. flags_are.each a;
   bonds = marks_are.each;
-  valences = values ∙ (λ i. map (λ p. bonded s.bonds marks p.0 + p.1.hydrogens + (if get_or flags p.0 false && adds_one s.bonds marks p.0 (rows_everywhere s rings rows rows_are p.0 i) then 1 else 0)) (enumerate_from 0 s.atoms));
+  valences = values ∙ (λ i. map (λ p. bonded s.bonds marks p.0 + p.1.hydrogens
+      + (if get_or flags p.0 false && adds_one s.bonds marks p.0 (rows_everywhere s rings rows rows_are p.0 i) then 1
+      else 0)) (enumerate_from 0 s.atoms));
   accepted = λ a x here. refused-false s rings flags a x flags_are (none a x here);
 }

@@ -9,11 +9,15 @@ use Rattle.aromatic.specs.declared.links.Link.{Link}
 use Rattle.chem_core.specs.Sound.{ends_among}
 use Rattle.aromatic.specs.Route.{IsMarkedEnd}
 
-pub ends_at_place : (bonds : List SketchBond) (k : ℕ) (d : SketchBond) → k < length bonds → slice_get (ends_among bonds) k ≡ Some ((get_or bonds k d).a, (get_or bonds k d).b)
-ends_at_place bonds k d within = slice_get-map (λ b. (b.a, b.b)) bonds k ∙ ap (λ o. option_map (λ b. (b.a, b.b)) o) (slice_get-get_or bonds k d within)
+pub ends_at_place : (bonds : List SketchBond) (k : ℕ) (d : SketchBond) → k < length bonds
+    → slice_get (ends_among bonds) k ≡ Some ((get_or bonds k d).a, (get_or bonds k d).b)
+ends_at_place bonds k d within = slice_get-map (λ b. (b.a, b.b)) bonds k ∙ ap (λ o. option_map (λ b. (b.a, b.b)) o)
+    (slice_get-get_or bonds k d within)
 
 -- a bond that is not marked ends at no atom more
-pub ends-same : (ends : Ends) (marks : List Bool) (flags : List Bool) (k : ℕ) → get_or marks k false ≡ false → ((a : ℕ) → (get_or flags a false ≡ true) ↔ IsMarkedEnd ends marks k a) → (a : ℕ) → (get_or flags a false ≡ true) ↔ IsMarkedEnd ends marks (k + 1) a
+pub ends-same : (ends : Ends) (marks : List Bool) (flags : List Bool) (k : ℕ) → get_or marks k false ≡ false
+    → ((a : ℕ) → (get_or flags a false ≡ true) ↔ IsMarkedEnd ends marks k a) → (a : ℕ) → (get_or flags a false ≡ true)
+    ↔ IsMarkedEnd ends marks (k + 1) a
 ends-same ends marks flags k unmarked old a = (
   λ h. let q = (old a).0 h in let lt : q.0 < k = q.2 in (q.0, q.1, omega arith, q.3, q.4),
   λ q. (old a).1 (elim (cases_lt q.0 k) [
@@ -25,7 +29,8 @@ ends-same ends marks flags k unmarked old a = (
   ]),
 )
 
-two_set : (flags : List Bool) (x y a : ℕ) → x < length flags → y < length flags → (get_or (set (set flags x true) y true) a false ≡ true) ↔ ((get_or flags a false ≡ true) ⊎ ((a ≡ x) ⊎ (a ≡ y)))
+two_set : (flags : List Bool) (x y a : ℕ) → x < length flags → y < length flags
+    → (get_or (set (set flags x true) y true) a false ≡ true) ↔ ((get_or flags a false ≡ true) ⊎ ((a ≡ x) ⊎ (a ≡ y)))
 two_set flags x y a hx hy = elim (cases_eq a y) [
   | inl e ↦
       let there : y < length (set flags x true) = omega (arith, length-set flags x true) in
@@ -43,7 +48,10 @@ two_set flags x y a hx hy = elim (cases_eq a y) [
 ]
 
 -- a marked bond ends at its two ends
-pub ends-more : (ends : Ends) (marks : List Bool) (flags : List Bool) (k x y : ℕ) → slice_get ends k ≡ Some (x, y) → get_or marks k false ≡ true → x < length flags → y < length flags → ((a : ℕ) → (get_or flags a false ≡ true) ↔ IsMarkedEnd ends marks k a) → (a : ℕ) → (get_or (set (set flags x true) y true) a false ≡ true) ↔ IsMarkedEnd ends marks (k + 1) a
+pub ends-more : (ends : Ends) (marks : List Bool) (flags : List Bool) (k x y : ℕ) → slice_get ends k ≡ Some (x, y)
+    → get_or marks k false ≡ true → x < length flags → y < length flags
+    → ((a : ℕ) → (get_or flags a false ≡ true) ↔ IsMarkedEnd ends marks k a) → (a : ℕ)
+    → (get_or (set (set flags x true) y true) a false ≡ true) ↔ IsMarkedEnd ends marks (k + 1) a
 ends-more ends marks flags k x y here marked hx hy old a =
     let two = two_set flags x y a hx hy in (
       λ h. elim (two.0 h) [
@@ -60,10 +68,12 @@ ends-more ends marks flags k x y here marked hx hy old a =
             let e : q.0 ≡ k = omega arith in
             inr (elim (q.3) [
               | inl j ↦
-                  let p : ◌≡◌ {A = ℕ × ℕ} (a, q.1) (x, y) = same_Some _ _ (sym j ∙ ap (λ m. slice_get ends m) e ∙ here) in
+                  let p : ◌≡◌ {A = ℕ × ℕ} (a, q.1) (x, y) = same_Some _ _ (sym j ∙ ap (λ m. slice_get ends m) e
+                  ∙ here) in
                   inl (ap (λ u. u.0) p)
               | inr j ↦
-                  let p : ◌≡◌ {A = ℕ × ℕ} (q.1, a) (x, y) = same_Some _ _ (sym j ∙ ap (λ m. slice_get ends m) e ∙ here) in
+                  let p : ◌≡◌ {A = ℕ × ℕ} (q.1, a) (x, y) = same_Some _ _ (sym j ∙ ap (λ m. slice_get ends m) e
+                  ∙ here) in
                   inr (ap (λ u. u.1) p)
             ])
       ]),
@@ -75,7 +85,11 @@ ends-more ends marks flags k x y here marked hx hy old a =
 abbrev pub Follows : List Link → ℕ → ℕ → Type 0
 Follows path k b = (j : ℕ) × (j < k) × (get_or (map (λ l. l.bond) path) j b ≡ b)
 
-pub follow-more : (path : List Link) (before now : List Bool) (k : ℕ) (d : Link) → k < length path → (get_or path k d).bond < length now → ((b : ℕ) → (get_or now b false ≡ true) ↔ ((get_or before b false ≡ true) ⊎ Follows path k b)) → (b : ℕ) → (get_or (set now (get_or path k d).bond true) b false ≡ true) ↔ ((get_or before b false ≡ true) ⊎ Follows path (k + 1) b)
+pub follow-more : (path : List Link) (before now : List Bool) (k : ℕ) (d : Link) → k < length path
+    → (get_or path k d).bond < length now
+    → ((b : ℕ) → (get_or now b false ≡ true) ↔ ((get_or before b false ≡ true) ⊎ Follows path k b)) → (b : ℕ)
+    → (get_or (set now (get_or path k d).bond true) b false ≡ true)
+    ↔ ((get_or before b false ≡ true) ⊎ Follows path (k + 1) b)
 follow-more path before now k d within range h b =
     let c : ℕ = (get_or path k d).bond in
     let bond_at : get_or (map (λ l. l.bond) path) k b ≡ c = get_or-map (λ l. l.bond) path k d b within in

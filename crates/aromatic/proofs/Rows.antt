@@ -23,7 +23,13 @@ shares f g = list_any (λ n. has_number g n) (members f)
 shares-found : (f g : Family) (n : ℕ) → has_number f n ≡ true → has_number g n ≡ true → shares f g ≡ true
 shares-found f g n one other =
     let at = Any-from_list_any (λ m. eqb n m) (members f) one in
-    list_any-from_Any (λ m. has_number g m) (members f) (at.0, at.1, at.2, at.3, subst (λ m. has_number g m ≡ true) (eqb-true n at.1 at.4) other)
+    list_any-from_Any (λ m. has_number g m) (members f) (
+      at.0,
+      at.1,
+      at.2,
+      at.3,
+      subst (λ m. has_number g m ≡ true) (eqb-true n at.1 at.4) other,
+    )
 
 -- how many double bonds in rings, and how many outside
 abbrev inner : Doubles → ℕ
@@ -76,7 +82,8 @@ alike-found r s x one other =
     let d = both _ _ b.0 in
     let e = both _ _ (both _ _ c.0).0 in
     let f = both _ _ (both _ _ d.0).0 in
-    let charge : r.charge ≡ s.charge = (Decides-int_eq r.charge x.charge).0 e.1 ∙ sym ((Decides-int_eq s.charge x.charge).0 f.1) in
+    let charge : r.charge ≡ s.charge = (Decides-int_eq r.charge x.charge).0 e.1
+    ∙ sym ((Decides-int_eq s.charge x.charge).0 f.1) in
     let m = counts r.doubles x c.1 in
     let n = counts s.doubles x d.1 in
     all _ _ (shares-found r.family s.family x.number e.0 f.0)
@@ -97,12 +104,14 @@ turned : (b : Bool) → not b ≡ true → b ≡ false
 turned true h = absurd (false≢true h)
 turned false h = refl
 
-unlike-at : (r : Row) (rest : List Row) (j : ℕ) (d : Row) → none_like r rest ≡ true → j < length rest → alike r (get_or rest j d) ≡ false
+unlike-at : (r : Row) (rest : List Row) (j : ℕ) (d : Row) → none_like r rest ≡ true → j < length rest
+    → alike r (get_or rest j d) ≡ false
 unlike-at r [] j d h within = absurd (omega arith)
 unlike-at r (s ∷ rest) zero d h within = turned (alike r s) (both _ _ h).0
 unlike-at r (s ∷ rest) (suc j) d h within = unlike-at r rest j d (both _ _ h).1 (omega arith)
 
-unlike : (list : List Row) (i j : ℕ) (d : Row) → none_alike list ≡ true → i < j → j < length list → alike (get_or list i d) (get_or list j d) ≡ false
+unlike : (list : List Row) (i j : ℕ) (d : Row) → none_alike list ≡ true → i < j → j < length list
+    → alike (get_or list i d) (get_or list j d) ≡ false
 unlike [] i j d h lt within = absurd (omega arith)
 unlike (r ∷ rest) i zero d h lt within = absurd (omega arith)
 unlike (r ∷ rest) zero (suc j) d h lt within = unlike-at r rest j d (both _ _ h).0 (omega arith)
@@ -113,10 +122,13 @@ unfolding rows
 table_unlike = refl
 
 -- one of two places before the other
-ordered : (x : Site) (i j : ℕ) (d : Row) → i < j → j < length rows → fits (get_or rows i d) x ≡ true → fits (get_or rows j d) x ≡ true → ⊥
-ordered x i j d lt within one other = false≢true (sym (unlike rows i j d table_unlike lt within) ∙ alike-found (get_or rows i d) (get_or rows j d) x one other)
+ordered : (x : Site) (i j : ℕ) (d : Row) → i < j → j < length rows → fits (get_or rows i d) x ≡ true
+    → fits (get_or rows j d) x ≡ true → ⊥
+ordered x i j d lt within one other = false≢true (sym (unlike rows i j d table_unlike lt within)
+    ∙ alike-found (get_or rows i d) (get_or rows j d) x one other)
 
-pub row-once : (x : Site) (i j : ℕ) (d : Row) → i < length rows → j < length rows → fits (get_or rows i d) x ≡ true → fits (get_or rows j d) x ≡ true → i ≡ j
+pub row-once : (x : Site) (i j : ℕ) (d : Row) → i < length rows → j < length rows → fits (get_or rows i d) x ≡ true
+    → fits (get_or rows j d) x ≡ true → i ≡ j
 row-once x i j d hi hj one other = elim (cases_eq i j) [
   | inl e ↦ e
   | inr ne ↦ elim (cases_lt i j) [

@@ -1,4 +1,5 @@
--- A sketch's bonds by their places: they end at atoms of the sketch, and the counts of an atom's bonds, one bond after another.
+-- A sketch's bonds by their places: they end at atoms of the sketch, and the counts of an atom's bonds, one bond after
+-- another.
 use Rattle.std.proofs.Common.{zero, suc, slice_get, Some, ℕ, ◌+◌, ◌<◌, ◌≤◌, ◌≡◌, ◌≢◌, ◌&&◌, All, Option, None, unwrap_or, option_map, option_and_then, Bool, true, false, List, [], ◌∷◌, ◌++◌, length, map, take, get_or, zip, if◌then◌else◌, refl, sym, ap, subst, ◌∙◌, arith, add-zero}
 use Rattle.std.proofs.lemmas.List.{take_more, take_all, get_or-map, length-map, length-take}
 use Rattle.std.proofs.lemmas.List.Sums.{sum_by_push, count_by-le-length}
@@ -22,16 +23,25 @@ some_element (x ∷ xs) zero h = (x, refl)
 some_element (x ∷ xs) (suc i) h = some_element xs i (omega arith)
 
 -- a bond's ends are two atoms
-pub bond-in_graph : (n : ℕ) (bonds : List SketchBond) (i : ℕ) (d : SketchBond) → IsSimpleGraph n (ends_among bonds) → i < length bonds → ((get_or bonds i d).a < n) × ((get_or bonds i d).b < n) × ((get_or bonds i d).a ≢ (get_or bonds i d).b)
+pub bond-in_graph : (n : ℕ) (bonds : List SketchBond) (i : ℕ) (d : SketchBond) → IsSimpleGraph n (ends_among bonds)
+    → i < length bonds → ((get_or bonds i d).a < n) × ((get_or bonds i d).b < n)
+    × ((get_or bonds i d).a ≢ (get_or bonds i d).b)
 bond-in_graph n bonds i d graph within =
     let within' : i < length (ends_among bonds) = omega (arith, length-map {B = ℕ × ℕ} bonds (λ b. (b.a, b.b))) in
     let read = get_or-map {Y = ℕ × ℕ} (λ b. (b.a, b.b)) bonds i d (0, 0) within in
     let range = subst (λ e. (e.0 < n) × (e.1 < n)) read (graph.in_range i (0, 0) within') in
     (range.0, range.1, subst (λ e. e.0 ≢ e.1) read (graph.distinct i (0, 0) within'))
 
-pub few_pairs : (n : ℕ) (bonds : List SketchBond) (rings : List Bool) (i : ℕ) → IsSimpleGraph n (ends_among bonds) → length (take i (zip bonds rings)) < 1000
+pub few_pairs : (n : ℕ) (bonds : List SketchBond) (rings : List Bool) (i : ℕ) → IsSimpleGraph n (ends_among bonds)
+    → length (take i (zip bonds rings)) < 1000
 few_pairs n bonds rings i graph =
-    omega (arith, graph.few_bonds, length-map {B = ℕ × ℕ} bonds (λ b. (b.a, b.b)), length-zip bonds rings, length-take i (zip bonds rings))
+    omega (
+      arith,
+      graph.few_bonds,
+      length-map {B = ℕ × ℕ} bonds (λ b. (b.a, b.b)),
+      length-zip bonds rings,
+      length-take i (zip bonds rings),
+    )
 
 counted : (e : Bool) (x : Site) (ring higher inner outer oxygen hetero : Bool) → ◌≡◌ {A = Site} (record x {
   neighbours = x.neighbours + (if e && true then 1 else 0);
@@ -54,19 +64,31 @@ counted true x ring higher inner outer oxygen hetero = refl
 counted false x ring higher inner outer oxygen hetero = simp add-zero
 
 -- one more bond
-site_among-push : (atoms : List SketchAtom) (a : ℕ) (x : SketchAtom) (pairs : List (SketchBond × Bool)) (bond : SketchBond) (ring : Bool) → site_among atoms a x (pairs ++ (bond, ring) ∷ []) ≡ (if ends_at a bond then add (site_among atoms a x pairs) bond.kind ring (element_beyond atoms a bond) else site_among atoms a x pairs)
-site_among-push atoms a x pairs bond ring = simp sum_by_push (counted (ends_at a bond) (site_among atoms a x pairs) _ _ _ _ _ _)
+site_among-push : (atoms : List SketchAtom) (a : ℕ) (x : SketchAtom) (pairs : List (SketchBond × Bool))
+    (bond : SketchBond) (ring : Bool) → site_among atoms a x (pairs ++ (bond, ring) ∷ [])
+    ≡ (if ends_at a bond then add (site_among atoms a x pairs) bond.kind ring (element_beyond atoms a bond)
+    else site_among atoms a x pairs)
+site_among-push atoms a x pairs bond ring =
+    simp sum_by_push (counted (ends_at a bond) (site_among atoms a x pairs) _ _ _ _ _ _)
 
-site_among-more : (atoms : List SketchAtom) (bonds : List SketchBond) (rings : List Bool) (a i : ℕ) (x : SketchAtom) (d : SketchBond) → i < length bonds → length rings ≡ length bonds → (let bond : SketchBond = get_or bonds i d in site_among atoms a x (take (i + 1) (zip bonds rings)) ≡ (if ends_at a bond then add (site_among atoms a x (take i (zip bonds rings))) bond.kind (get_or rings i false) (element_beyond atoms a bond) else site_among atoms a x (take i (zip bonds rings))))
+site_among-more : (atoms : List SketchAtom) (bonds : List SketchBond) (rings : List Bool) (a i : ℕ) (x : SketchAtom)
+    (d : SketchBond) → i < length bonds → length rings ≡ length bonds → (let bond : SketchBond = get_or bonds i d in
+    site_among atoms a x (take (i + 1) (zip bonds rings))
+    ≡ (if ends_at a bond then add (site_among atoms a x (take i (zip bonds rings))) bond.kind (get_or rings i false)
+    (element_beyond atoms a bond) else site_among atoms a x (take i (zip bonds rings))))
 site_among-more atoms bonds rings a i x d within same =
     let within' : i < length (zip bonds rings) = omega (arith, length-zip bonds rings) in
-    let read : get_or (zip bonds rings) i (d, false) ≡ (get_or bonds i d, get_or rings i false) = get_or-zip bonds rings i (d, false) within (omega arith) in
-    rw (take_more (zip bonds rings) i (d, false) within', read) (site_among-push atoms a x (take i (zip bonds rings)) (get_or bonds i d) (get_or rings i false))
+    let read : get_or (zip bonds rings) i (d, false) ≡ (get_or bonds i d, get_or rings i false) =
+    get_or-zip bonds rings i (d, false) within (omega arith) in
+    rw (take_more (zip bonds rings) i (d, false) within', read) (site_among-push atoms a x (take i (zip bonds rings))
+    (get_or bonds i d) (get_or rings i false))
 
-counts_small : (pairs : List (SketchBond × Bool)) (a : ℕ) (test : SketchBond → Bool → Bool) → length pairs < 1000 → count_at pairs a test < 1000
+counts_small : (pairs : List (SketchBond × Bool)) (a : ℕ) (test : SketchBond → Bool → Bool) → length pairs < 1000
+    → count_at pairs a test < 1000
 counts_small pairs a test few = omega (arith, count_by-le-length (λ p. ends_at a p.0 && test p.0 p.1) pairs)
 
-pub site_among-small : (atoms : List SketchAtom) (a : ℕ) (x : SketchAtom) (pairs : List (SketchBond × Bool)) → length pairs < 1000 → IsSmall (site_among atoms a x pairs)
+pub site_among-small : (atoms : List SketchAtom) (a : ℕ) (x : SketchAtom) (pairs : List (SketchBond × Bool))
+    → length pairs < 1000 → IsSmall (site_among atoms a x pairs)
 site_among-small atoms a x pairs few = record {
   neighbours = counts_small pairs a _ few;
   ring_bonds = counts_small pairs a _ few;
@@ -80,42 +102,62 @@ site_among-small atoms a x pairs few = record {
 -- ---- of each atom
 
 abbrev pub AreSitesBelow : List SketchAtom → List (SketchBond × Bool) → List Site → Type 0
-AreSitesBelow atoms pairs sites = (a : ℕ) (x : SketchAtom) (d : Site) → slice_get atoms a ≡ Some x → get_or sites a d ≡ site_among atoms a x pairs
+AreSitesBelow atoms pairs sites = (a : ℕ) (x : SketchAtom) (d : Site) → slice_get atoms a ≡ Some x → get_or sites a d
+    ≡ site_among atoms a x pairs
 
 -- no bond
 pub sites-none : (atoms : List SketchAtom) (sites : List Site) → sites ≡ map bare atoms → AreSitesBelow atoms [] sites
 sites-none atoms sites is a x d here =
-    rw is (get_or-map bare atoms a x d (slice_get_within atoms a x here) ∙ ap bare (get_or_from_slice_get atoms a x x here))
+    rw is (get_or-map bare atoms a x d (slice_get_within atoms a x here)
+    ∙ ap bare (get_or_from_slice_get atoms a x x here))
 
 -- one more bond
-pub site-more : (atoms : List SketchAtom) (bonds : List SketchBond) (rings : List Bool) (a i : ℕ) (x : SketchAtom) (e : SketchBond) (site after : Site) → i < length bonds → length rings ≡ length bonds → site ≡ site_among atoms a x (take i (zip bonds rings)) → (let bond : SketchBond = get_or bonds i e in after ≡ (if ends_at a bond then add site bond.kind (get_or rings i false) (element_beyond atoms a bond) else site)) → after ≡ site_among atoms a x (take (i + 1) (zip bonds rings))
+pub site-more : (atoms : List SketchAtom) (bonds : List SketchBond) (rings : List Bool) (a i : ℕ) (x : SketchAtom)
+    (e : SketchBond) (site after : Site) → i < length bonds → length rings ≡ length bonds
+    → site ≡ site_among atoms a x (take i (zip bonds rings)) → (let bond : SketchBond = get_or bonds i e in
+    after ≡ (if ends_at a bond then add site bond.kind (get_or rings i false) (element_beyond atoms a bond) else site))
+    → after ≡ site_among atoms a x (take (i + 1) (zip bonds rings))
 site-more atoms bonds rings a i x e site after within same old new =
     let bond : SketchBond = get_or bonds i e in
-    new ∙ ap (λ y. if ends_at a bond then add y bond.kind (get_or rings i false) (element_beyond atoms a bond) else y) old ∙ sym (site_among-more atoms bonds rings a i x e within same)
+    new ∙ ap (λ y. if ends_at a bond then add y bond.kind (get_or rings i false) (element_beyond atoms a bond) else y)
+    old ∙ sym (site_among-more atoms bonds rings a i x e within same)
 
-pub sites-more : (atoms : List SketchAtom) (bonds : List SketchBond) (rings : List Bool) (sites after : List Site) (i : ℕ) (e : SketchBond) → i < length bonds → length rings ≡ length bonds → AreSitesBelow atoms (take i (zip bonds rings)) sites → (let bond : SketchBond = get_or bonds i e in (a : ℕ) (d : Site) → get_or after a d ≡ (if ends_at a bond then add (get_or sites a d) bond.kind (get_or rings i false) (element_beyond atoms a bond) else get_or sites a d)) → AreSitesBelow atoms (take (i + 1) (zip bonds rings)) after
-sites-more atoms bonds rings sites after i e within same old new a x d here = site-more atoms bonds rings a i x e (get_or sites a d) (get_or after a d) within same (old a x d here) (new a d)
+pub sites-more : (atoms : List SketchAtom) (bonds : List SketchBond) (rings : List Bool) (sites after : List Site)
+    (i : ℕ) (e : SketchBond) → i < length bonds → length rings ≡ length bonds
+    → AreSitesBelow atoms (take i (zip bonds rings)) sites → (let bond : SketchBond = get_or bonds i e in
+    (a : ℕ) (d : Site) → get_or after a d
+    ≡ (if ends_at a bond then add (get_or sites a d) bond.kind (get_or rings i false) (element_beyond atoms a bond)
+    else get_or sites a d)) → AreSitesBelow atoms (take (i + 1) (zip bonds rings)) after
+sites-more atoms bonds rings sites after i e within same old new a x d here =
+    site-more atoms bonds rings a i x e (get_or sites a d) (get_or after a d) within same (old a x d here) (new a d)
 
-pub sites-small : (atoms : List SketchAtom) (pairs : List (SketchBond × Bool)) (sites : List Site) → length sites ≡ length atoms → length pairs < 1000 → AreSitesBelow atoms pairs sites → All (λ x. IsSmall x) sites
+pub sites-small : (atoms : List SketchAtom) (pairs : List (SketchBond × Bool)) (sites : List Site)
+    → length sites ≡ length atoms → length pairs < 1000 → AreSitesBelow atoms pairs sites → All (λ x. IsSmall x) sites
 sites-small atoms pairs sites count few are k d within =
     let here = some_element atoms k (omega arith) in
     subst (λ x. IsSmall x) (sym (are k here.0 d here.1)) (site_among-small atoms k here.0 pairs few)
 
 -- all bonds
-pub sites-whole : (atoms : List SketchAtom) (bonds : List SketchBond) (rings : List Bool) (sites : List Site) (i : ℕ) → length sites ≡ length atoms → length bonds ≤ i → AreSitesBelow atoms (take i (zip bonds rings)) sites → AreSites atoms (zip bonds rings) sites
+pub sites-whole : (atoms : List SketchAtom) (bonds : List SketchBond) (rings : List Bool) (sites : List Site) (i : ℕ)
+    → length sites ≡ length atoms → length bonds ≤ i → AreSitesBelow atoms (take i (zip bonds rings)) sites
+    → AreSites atoms (zip bonds rings) sites
 sites-whole atoms bonds rings sites i count past are = record {
   count = count;
   each = λ a x here.
       let within = slice_get_within atoms a x here in
       let whole = take_all i (zip bonds rings) (omega (arith, length-zip bonds rings)) in
-      slice_get-get_or sites a (bare x) (omega arith) ∙ ap (λ y. Some y) (are a x (bare x) here) ∙ ap (λ ps. Some (site_among atoms a x ps)) whole;
+      slice_get-get_or sites a (bare x) (omega arith) ∙ ap (λ y. Some y) (are a x (bare x) here)
+      ∙ ap (λ ps. Some (site_among atoms a x ps)) whole;
 }
 
-pub rows-are : (s : SketchTerm) (rings : List Bool) (sites : List Site) (rows : List (Option Row)) → AreSites s.atoms (zip s.bonds rings) sites → rows ≡ map candidate_row sites → AreRows s rings rows
+pub rows-are : (s : SketchTerm) (rings : List Bool) (sites : List Site) (rows : List (Option Row))
+    → AreSites s.atoms (zip s.bonds rings) sites → rows ≡ map candidate_row sites → AreRows s rings rows
 rows-are s rings sites rows are is = record {
   count = ap (λ rs. length rs) is ∙ length-map sites candidate_row ∙ are.count;
   each = λ a within.
       let there = some_element s.atoms a within in
-      let read : slice_get rows a ≡ Some (candidate_row (site_of s rings a there.0)) = ap (λ rs. slice_get rs a) is ∙ slice_get-map candidate_row sites a ∙ ap (λ o. option_map candidate_row o) (are.each a there.0 there.1) in
-      sym (unwrap_or-slice_get rows a None) ∙ ap (λ o. unwrap_or o None) read ∙ sym (ap (λ o. option_and_then (λ x. candidate_row (site_of s rings a x)) o) there.1);
+      let read : slice_get rows a ≡ Some (candidate_row (site_of s rings a there.0)) = ap (λ rs. slice_get rs a) is
+      ∙ slice_get-map candidate_row sites a ∙ ap (λ o. option_map candidate_row o) (are.each a there.0 there.1) in
+      sym (unwrap_or-slice_get rows a None) ∙ ap (λ o. unwrap_or o None) read
+      ∙ sym (ap (λ o. option_and_then (λ x. candidate_row (site_of s rings a x)) o) there.1);
 }

@@ -12,11 +12,13 @@ count-far : (n : ℕ) → count_by (λ d. eqb d 18) (replicate n 18) ≡ n
 count-far zero = refl
 count-far (suc n) =
     let rest = count-far n in
-    let e : count_by (λ d. eqb d 18) (replicate (suc n) 18) ≡ 1 + count_by (λ d. eqb d 18) (replicate n 18) = sum_by-cons (λ d. cond (eqb d 18) 1 0) 18 (replicate n 18) in
+    let e : count_by (λ d. eqb d 18) (replicate (suc n) 18) ≡ 1 + count_by (λ d. eqb d 18) (replicate n 18) =
+    sum_by-cons (λ d. cond (eqb d 18) 1 0) 18 (replicate n 18) in
     omega arith
 
 -- one atom fewer at 18
-count-nearer : (distances : List ℕ) (w v : ℕ) → w < length distances → get_or distances w 0 ≡ 18 → v < 18 → count_by (λ d. eqb d 18) (set distances w v) + 1 ≡ count_by (λ d. eqb d 18) distances
+count-nearer : (distances : List ℕ) (w v : ℕ) → w < length distances → get_or distances w 0 ≡ 18 → v < 18
+    → count_by (λ d. eqb d 18) (set distances w v) + 1 ≡ count_by (λ d. eqb d 18) distances
 count-nearer distances w v h far near =
     let e = sum_by-set (λ d. cond (eqb d 18) 1 0) distances w v 0 h in
     let now : eqb v 18 ≡ false = ne_eqb v 18 (λ q. omega arith) in
@@ -36,14 +38,16 @@ blank-most n a = elim (cases_lt a n) [
 ]
 
 -- the target alone
-pub spread-start : (links : List (List Link)) (target : ℕ) (distances : List ℕ) → target < length links → distances ≡ replicate (length links) 18 → IsSpread links target (set distances target 0) (target ∷ []) 0
+pub spread-start : (links : List (List Link)) (target : ℕ) (distances : List ℕ) → target < length links
+    → distances ≡ replicate (length links) 18 → IsSpread links target (set distances target 0) (target ∷ []) 0
 spread-start links target distances h is =
     let n : ℕ = length links in
     let size : length distances ≡ n = ap length is ∙ length-replicate n 18 in
     let there : target < length distances = omega arith in
     let far : get_or distances target 0 ≡ 18 = rw is (blank-at n target h) in
     let new : get_or (set distances target 0) target 0 ≡ 0 = get_or-set_same distances target 0 0 there in
-    let old : (a : ℕ) → a ≢ target → get_or (set distances target 0) a 0 ≡ get_or distances a 0 = λ a ne. get_or-set_other distances target a 0 0 ne in
+    let old : (a : ℕ) → a ≢ target → get_or (set distances target 0) a 0 ≡ get_or distances a 0 = λ a ne.
+    get_or-set_other distances target a 0 0 ne in
     let alone : (i : ℕ) → i < 1 → get_or (target ∷ []) i 0 ≡ target = λ i l. let z : i ≡ 0 = omega arith in rw z refl in
     record {
       count = length-set distances target 0 ∙ size;
@@ -56,7 +60,8 @@ spread-start links target distances h is =
         | inl e ↦ (0, omega arith, sym e)
         | inr ne ↦
             let within : a < n = omega (arith, length-set distances target 0) in
-            let e : get_or (set distances target 0) a 0 ≡ 18 = old a ne ∙ ap (λ xs. get_or xs a 0) is ∙ blank-at n a within in
+            let e : get_or (set distances target 0) a 0 ≡ 18 = old a ne ∙ ap (λ xs. get_or xs a 0) is
+            ∙ blank-at n a within in
             absurd (near e)
       ];
       in_range = λ i l. rw (alone i l) h;
@@ -71,7 +76,10 @@ spread-start links target distances h is =
     }
 
 -- an atom at 18 comes nearer, and into the queue
-pub spread-push : (links : List (List Link)) (target : ℕ) (distances queue : List ℕ) (head w v : ℕ) → IsSpread links target distances queue head → head < length queue → w < length links → get_or distances w 0 ≡ 18 → distance_at distances queue head + 1 ≡ v → v < 18 → IsSpread links target (set distances w v) (queue ++ w ∷ []) head
+pub spread-push : (links : List (List Link)) (target : ℕ) (distances queue : List ℕ) (head w v : ℕ)
+    → IsSpread links target distances queue head → head < length queue → w < length links → get_or distances w 0 ≡ 18
+    → distance_at distances queue head + 1 ≡ v → v < 18 → IsSpread links target (set distances w v) (queue ++ w ∷ [])
+    head
 spread-push links target distances queue head w v h inside within far farther near =
     let q : ℕ = length queue in
     let distances' : List ℕ = set distances w v in
@@ -79,10 +87,12 @@ spread-push links target distances queue head w v h inside within far farther ne
     let size = h.count in
     let there : w < length distances = omega arith in
     let long : length queue' ≡ q + 1 = length_push queue w in
-    let old_place : (i : ℕ) → i < q → get_or queue' i 0 ≡ get_or queue i 0 = λ i l. get_or_append_left queue (w ∷ []) 0 i l in
+    let old_place : (i : ℕ) → i < q → get_or queue' i 0 ≡ get_or queue i 0 = λ i l. get_or_append_left queue (w ∷ []) 0
+    i l in
     let new_place : get_or queue' q 0 ≡ w = get_or_push queue w 0 q refl in
     let new : get_or distances' w 0 ≡ v = get_or-set_same distances w v 0 there in
-    let old : (a : ℕ) → a ≢ w → get_or distances' a 0 ≡ get_or distances a 0 = λ a ne. get_or-set_other distances w a v 0 ne in
+    let old : (a : ℕ) → a ≢ w → get_or distances' a 0 ≡ get_or distances a 0 = λ a ne.
+    get_or-set_other distances w a v 0 ne in
     let apart : (i : ℕ) → i < q → get_or queue i 0 ≢ w = λ i l e.
     let close = h.near i l in
     let e' : get_or distances (get_or queue i 0) 0 ≡ 18 = ap (λ a. get_or distances a 0) e ∙ far in
@@ -91,12 +101,19 @@ spread-push links target distances queue head w v h inside within far farther ne
       | inl e ↦ rw (e, new, far) (omega arith)
       | inr ne ↦ let e = old a ne in omega arith
     ] in
-    let old_at : (i : ℕ) → i < q → distance_at distances' queue' i ≡ distance_at distances queue i = λ i l. ap (λ a. get_or distances' a 0) (old_place i l) ∙ old (get_or queue i 0) (apart i l) in
-    let new_at : (i : ℕ) → i ≡ q → distance_at distances' queue' i ≡ v = λ i e. ap (λ k. get_or distances' (get_or queue' k 0) 0) e ∙ ap (λ a. get_or distances' a 0) new_place ∙ new in
-    let split : (i : ℕ) → i < length queue' → (i < q) ⊎ (i ≡ q) = λ i l. elim (cases_lt i q) [ inl a ↦ inl a | inr a ↦ inr (omega arith) ] in
+    let old_at : (i : ℕ) → i < q → distance_at distances' queue' i ≡ distance_at distances queue i = λ i l.
+    ap (λ a. get_or distances' a 0) (old_place i l) ∙ old (get_or queue i 0) (apart i l) in
+    let new_at : (i : ℕ) → i ≡ q → distance_at distances' queue' i ≡ v = λ i e.
+    ap (λ k. get_or distances' (get_or queue' k 0) 0) e ∙ ap (λ a. get_or distances' a 0) new_place ∙ new in
+    let split : (i : ℕ) → i < length queue' → (i < q) ⊎ (i ≡ q) = λ i l. elim (cases_lt i q) [
+      | inl a ↦ inl a
+      | inr a ↦
+          inr (omega arith)
+    ] in
     record {
       count = length-set distances w v ∙ size;
-      here = old target (λ e. let z : get_or distances target 0 ≡ 18 = rw e far in let z' = h.here in omega arith) ∙ h.here;
+      here = old target (λ e. let z : get_or distances target 0 ≡ 18 = rw e far in let z' = h.here in omega arith)
+          ∙ h.here;
       most = λ a. let e = below a in let f = h.most a in omega arith;
       queued = λ a l close. elim (cases_eq a w) [
         | inl e ↦ rw e (Contains-push queue w)
@@ -141,7 +158,10 @@ spread-push links target distances queue head w v h inside within far farther ne
     }
 
 -- the atom at the head is done
-pub spread-next : (links : List (List Link)) (target : ℕ) (distances queue : List ℕ) (head : ℕ) → IsSpread links target distances queue head → ((n : ℕ) → IsLinked links (get_or queue head 0) n → get_or distances n 0 ≤ get_or distances (get_or queue head 0) 0 + 1) → IsSpread links target distances queue (head + 1)
+pub spread-next : (links : List (List Link)) (target : ℕ) (distances queue : List ℕ) (head : ℕ)
+    → IsSpread links target distances queue head → ((n : ℕ) → IsLinked links (get_or queue head 0) n
+    → get_or distances n 0 ≤ get_or distances (get_or queue head 0) 0 + 1) → IsSpread links target distances queue (head
+    + 1)
 spread-next links target distances queue head h here = record {
   count = h.count;
   here = h.here;
@@ -162,7 +182,9 @@ spread-next links target distances queue head h here = record {
 }
 
 -- all atoms of the queue are done
-pub spread-end : (links : List (List Link)) (target : ℕ) (distances queue : List ℕ) (head : ℕ) → AreClosed links → AreMutual links → IsSpread links target distances queue head → length queue ≤ head → AreDistances links target distances
+pub spread-end : (links : List (List Link)) (target : ℕ) (distances queue : List ℕ) (head : ℕ) → AreClosed links
+    → AreMutual links → IsSpread links target distances queue head → length queue ≤ head
+    → AreDistances links target distances
 spread-end links target distances queue head closed both_ways h all = record {
   count = h.count;
   here = h.here;
@@ -182,26 +204,33 @@ spread-end links target distances queue head closed both_ways h all = record {
 }
 
 -- the links of the atom at the head, one after another
-pub record IsVisit (links : List (List Link)) (target head atom farther : ℕ) (nexts : List Link) (distances queue : List ℕ) (k : ℕ) : Type 0 where
+pub record IsVisit (links : List (List Link)) (target head atom farther : ℕ) (nexts : List Link)
+    (distances queue : List ℕ) (k : ℕ) : Type 0 where
   pub spread : IsSpread links target distances queue head
   pub inside : head < length queue
   pub here : get_or queue head 0 ≡ atom
   pub distance : get_or distances atom 0 + 1 ≡ farther
   pub done : (j : ℕ) (d : Link) → j < k → get_or distances (get_or nexts j d).to 0 ≤ farther
 
-pub visit-push : (links : List (List Link)) (target head atom farther : ℕ) (nexts : List Link) (distances queue : List ℕ) (k : ℕ) (d : Link) → IsVisit links target head atom farther nexts distances queue k → farther < 18 → k < length nexts → (get_or nexts k d).to < length links → get_or distances (get_or nexts k d).to 0 ≡ 18 → IsVisit links target head atom farther nexts (set distances (get_or nexts k d).to farther) (queue ++ (get_or nexts k d).to ∷ []) (k + 1)
+pub visit-push : (links : List (List Link)) (target head atom farther : ℕ) (nexts : List Link)
+    (distances queue : List ℕ) (k : ℕ) (d : Link) → IsVisit links target head atom farther nexts distances queue k
+    → farther < 18 → k < length nexts → (get_or nexts k d).to < length links → get_or distances (get_or nexts k d).to 0
+    ≡ 18 → IsVisit links target head atom farther nexts (set distances (get_or nexts k d).to farther)
+    (queue ++ (get_or nexts k d).to ∷ []) (k + 1)
 visit-push links target head atom farther nexts distances queue k d h near inside within far =
     let w : ℕ = (get_or nexts k d).to in
     let size = h.spread.count in
     let there : w < length distances = omega arith in
     let new : get_or (set distances w farther) w 0 ≡ farther = get_or-set_same distances w farther 0 there in
-    let old : (a : ℕ) → a ≢ w → get_or (set distances w farther) a 0 ≡ get_or distances a 0 = λ a ne. get_or-set_other distances w a farther 0 ne in
+    let old : (a : ℕ) → a ≢ w → get_or (set distances w farther) a 0 ≡ get_or distances a 0 = λ a ne.
+    get_or-set_other distances w a farther 0 ne in
     let step = h.distance in
     let apart : atom ≢ w = λ e.
     let e' : get_or distances atom 0 ≡ 18 = rw e far in
     omega arith in
     record {
-      spread = spread-push links target distances queue head w farther h.spread h.inside within far (rw h.here step) near;
+      spread = spread-push links target distances queue head w farther h.spread h.inside within far (rw h.here step)
+          near;
       inside = let e = length_push queue w in let f = h.inside in omega arith;
       here = get_or_append_left queue (w ∷ []) 0 head h.inside ∙ h.here;
       distance = rw (old atom apart) h.distance;
@@ -217,7 +246,10 @@ visit-push links target head atom farther nexts distances queue k d h near insid
     }
 
 -- a link to an atom that has a distance already
-pub visit-skip : (links : List (List Link)) (target head atom farther : ℕ) (nexts : List Link) (distances queue : List ℕ) (k : ℕ) (d : Link) → IsVisit links target head atom farther nexts distances queue k → k < length nexts → (get_or nexts k d).to < length links → get_or distances (get_or nexts k d).to 0 ≢ 18 → IsVisit links target head atom farther nexts distances queue (k + 1)
+pub visit-skip : (links : List (List Link)) (target head atom farther : ℕ) (nexts : List Link)
+    (distances queue : List ℕ) (k : ℕ) (d : Link) → IsVisit links target head atom farther nexts distances queue k
+    → k < length nexts → (get_or nexts k d).to < length links → get_or distances (get_or nexts k d).to 0 ≢ 18
+    → IsVisit links target head atom farther nexts distances queue (k + 1)
 visit-skip links target head atom farther nexts distances queue k d h inside within old =
     let w : ℕ = (get_or nexts k d).to in
     let size = h.spread.count in
@@ -235,7 +267,8 @@ visit-skip links target head atom farther nexts distances queue k d h inside wit
         | inl l ↦ h.done j c l
         | inr l ↦
             let e : j ≡ k = omega arith in
-            let same : (get_or nexts j c).to ≡ w = ap (λ i. (get_or nexts i c).to) e ∙ ap (λ m. m.to) (get_or_default nexts k c d inside) in
+            let same : (get_or nexts j c).to ≡ w = ap (λ i. (get_or nexts i c).to) e
+            ∙ ap (λ m. m.to) (get_or_default nexts k c d inside) in
             rw same low
       ];
     }

@@ -23,15 +23,18 @@ filter-from_retain R test f says (x ∷ xs) ys h =
     h.6 ∙ (λ i. cond (said.0 i) (said.2 i ∷ rest i) (rest i))
 
 -- what passes the test stays
-passes-stays : (test : Link → Bool) (xs : List Link) (l : Link) → Contains xs l → test l ≡ true → Contains (filter test xs) l
+passes-stays : (test : Link → Bool) (xs : List Link) (l : Link) → Contains xs l → test l ≡ true
+    → Contains (filter test xs) l
 passes-stays test [] l (k, lt, is) pass = absurd (omega arith)
 passes-stays test (x ∷ xs) l (zero, lt, is) pass =
-    let now : filter test (x ∷ xs) ≡ x ∷ filter test xs = cond-true (test x) (x ∷ filter test xs) (filter test xs) (ap test is ∙ pass) in
+    let now : filter test (x ∷ xs) ≡ x ∷ filter test xs = cond-true (test x) (x ∷ filter test xs) (filter test xs)
+    (ap test is ∙ pass) in
     subst (λ ys. Contains ys l) (sym now) (zero, omega arith, is)
 passes-stays test (x ∷ xs) l (suc k, lt, is) pass =
     let rest = passes-stays test xs l (k, omega arith, is) pass in
     let within = rest.1 in
-    cond_both (test x) (x ∷ filter test xs) (filter test xs) (λ ys. Contains ys l) (λ _. (suc rest.0, omega arith, rest.2)) (λ _. rest)
+    cond_both (test x) (x ∷ filter test xs) (filter test xs) (λ ys. Contains ys l)
+    (λ _. (suc rest.0, omega arith, rest.2)) (λ _. rest)
 
 passes-not : (b place : ℕ) → not (eqb b place) ≡ true → b ≢ place
 passes-not b place pass is = false≢true (sym (ap not (eq-eqb b place is)) ∙ pass)
@@ -49,22 +52,32 @@ link-take links from place old w within read new a n b =
     let moved : links_in (set links from w) ≡ set lists from w.items = map-set (λ u. u.items) links from w in
     elim (cases_eq a from) [
       | inl e ↦
-          let now : links_at (links_in (set links from w)) a ≡ filter test (links_at lists a) = rw (moved, e) (get_or-set_same lists from w.items [] there ∙ new ∙ ap (λ xs. filter test xs) (sym read)) in (
+          let now : links_at (links_in (set links from w)) a ≡ filter test (links_at lists a) =
+          rw (moved, e) (get_or-set_same lists from w.items [] there ∙ new
+          ∙ ap (λ xs. filter test xs) (sym read)) in (
             λ q.
                 let q' = subst (λ xs. Contains xs l) now q in
-                let pass : not (eqb b place) ≡ true = All-contains (λ m. test m ≡ true) (filter test (links_at lists a)) l (filter_passes test (links_at lists a)) q' in
-                (All-contains (Contains (links_at lists a)) (filter test (links_at lists a)) l (All-filter test (Contains (links_at lists a)) (links_at lists a) (All-contains_itself (links_at lists a))) q', λ is _. passes-not b place pass is),
-            λ q. subst (λ xs. Contains xs l) (sym now) (passes-stays test (links_at lists a) l q.0 (ap not (ne_eqb b place (λ is. q.1 is e)))),
+                let pass : not (eqb b place) ≡ true = All-contains (λ m. test m ≡ true) (filter test (links_at lists a))
+                l (filter_passes test (links_at lists a)) q' in (
+                  All-contains (Contains (links_at lists a)) (filter test (links_at lists a)) l
+                      (All-filter test (Contains (links_at lists a)) (links_at lists a)
+                      (All-contains_itself (links_at lists a))) q',
+                  λ is _. passes-not b place pass is,
+                ),
+            λ q. subst (λ xs. Contains xs l) (sym now) (passes-stays test (links_at lists a) l q.0
+                (ap not (ne_eqb b place (λ is. q.1 is e)))),
           )
       | inr other ↦
-          let now : links_at (links_in (set links from w)) a ≡ links_at lists a = rw moved (get_or-set_other lists from a w.items [] other) in (
+          let now : links_at (links_in (set links from w)) a ≡ links_at lists a =
+          rw moved (get_or-set_other lists from a w.items [] other) in (
             λ q. (subst (λ xs. Contains xs l) now q, λ _ is. other is),
             λ q. subst (λ xs. Contains xs l) (sym now) q.0,
           )
     ]
 
 -- a bond joins no atoms but its ends
-end_of : (ends : Ends) (b k a n x y : ℕ) → slice_get ends k ≡ Some (x, y) → b ≡ k → JoinsAt ends b a n → (a ≡ x) ⊎ (a ≡ y)
+end_of : (ends : Ends) (b k a n x y : ℕ) → slice_get ends k ≡ Some (x, y) → b ≡ k → JoinsAt ends b a n
+    → (a ≡ x) ⊎ (a ≡ y)
 end_of ends b k a n x y here e (inl j) =
     let p : ◌≡◌ {A = ℕ × ℕ} (a, n) (x, y) = same_Some _ _ (sym j ∙ ap (λ m. slice_get ends m) e ∙ here) in
     inl (ap (λ u. u.0) p)
@@ -73,14 +86,17 @@ end_of ends b k a n x y here e (inr j) =
     inr (ap (λ u. u.1) p)
 
 -- a bond on no Hückel cycle is ruled out
-pub net-less : (ends : Ends) (possible after : List Bool) (gives : List (Option ℕ)) (links less : List (List Link)) (k x y : ℕ)
+pub net-less : (ends : Ends) (possible after : List Bool) (gives : List (Option ℕ)) (links less : List (List Link))
+    (k x y : ℕ)
     → slice_get ends k ≡ Some (x, y) → k < length possible → after ≡ set possible k false → length less ≡ length links
     → ((a n b : ℕ) → Contains (links_at less a) (record { to = n; bond = b })
     ↔ (Contains (links_at links a) (record { to = n; bond = b }) × (b ≡ k → (a ≡ x) ⊎ (a ≡ y) → ⊥)))
     → IsNet ends possible gives links → (IsAromaticBy ends gives k → ⊥) → IsNet ends after gives less
 net-less ends possible after gives links less k x y here within is len step net none =
-    let same : get_or after k false ≡ false = ap (λ xs. get_or xs k false) is ∙ get_or-set_same possible k false false within in
-    let other : (b : ℕ) → b ≢ k → get_or after b false ≡ get_or possible b false = λ b ne. ap (λ xs. get_or xs b false) is ∙ get_or-set_other possible k b false false ne in
+    let same : get_or after k false ≡ false = ap (λ xs. get_or xs k false) is ∙ get_or-set_same possible k false false
+    within in
+    let other : (b : ℕ) → b ≢ k → get_or after b false ≡ get_or possible b false = λ b ne.
+    ap (λ xs. get_or xs b false) is ∙ get_or-set_other possible k b false false ne in
     record {
       graph = net.graph;
       count = ap length is ∙ length-set possible k false ∙ net.count;

@@ -14,10 +14,12 @@ use Rattle.chem_core.specs.Sketch.{ends_at, order_of}
 use Rattle.aromatic.specs.Huckel.{bonded, share}
 use Rattle.chem_core.specs.Sound.{ends_among}
 
-pub pair_at : (bonds : List SketchBond) (marks : List Bool) (i : ℕ) (d : SketchBond) → i < length bonds → length marks ≡ length bonds → get_or (zip bonds marks) i (d, false) ≡ (get_or bonds i d, get_or marks i false)
+pub pair_at : (bonds : List SketchBond) (marks : List Bool) (i : ℕ) (d : SketchBond) → i < length bonds
+    → length marks ≡ length bonds → get_or (zip bonds marks) i (d, false) ≡ (get_or bonds i d, get_or marks i false)
 pair_at bonds marks i d within same = get_or-zip bonds marks i (d, false) within (omega arith)
 
-pub pair_within : (bonds : List SketchBond) (marks : List Bool) (i : ℕ) → i < length bonds → length marks ≡ length bonds → i < length (zip bonds marks)
+pub pair_within : (bonds : List SketchBond) (marks : List Bool) (i : ℕ) → i < length bonds → length marks ≡ length bonds
+    → i < length (zip bonds marks)
 pair_within bonds marks i within same = omega (arith, length-zip bonds marks)
 
 pub pairs_past : (bonds : List SketchBond) (marks : List Bool) (i : ℕ) → length bonds ≤ i → length (zip bonds marks) ≤ i
@@ -31,12 +33,14 @@ order-le Triple = omega arith
 order-le Quad = omega arith
 order-le Colon = omega arith
 
-share_le : (ends aromatic : Bool) (order : ℕ) → order ≤ 4 → (if ends then (if aromatic then 1 else order) else 0) ≤ 4 * cond ends 1 0
+share_le : (ends aromatic : Bool) (order : ℕ) → order ≤ 4 → (if ends then (if aromatic then 1 else order) else 0)
+    ≤ 4 * cond ends 1 0
 share_le true true order h = omega arith
 share_le true false order h = omega arith
 share_le false aromatic order h = omega arith
 
-pub bonded-le : (bonds : List SketchBond) (marks : List Bool) (a : ℕ) → bonded bonds marks a ≤ 4 * degree (ends_among bonds) a
+pub bonded-le : (bonds : List SketchBond) (marks : List Bool) (a : ℕ)
+    → bonded bonds marks a ≤ 4 * degree (ends_among bonds) a
 bonded-le [] marks a = omega arith
 bonded-le (b ∷ bonds) [] a = omega arith
 bonded-le (b ∷ bonds) (m ∷ marks) a =
@@ -47,11 +51,17 @@ bonded-le (b ∷ bonds) (m ∷ marks) a =
     omega (arith, rest, here, left, right)
 
 -- one more valence
-pub values-more : (f : ℕ × SketchAtom → ℕ) (atoms : List SketchAtom) (values after : List ℕ) (i : ℕ) (d : SketchAtom) (v : ℕ) → i < length atoms → values ≡ map f (take i (enumerate_from 0 atoms)) → after ≡ values ++ v ∷ [] → v ≡ f (i, get_or atoms i d) → after ≡ map f (take (i + 1) (enumerate_from 0 atoms))
+pub values-more : (f : ℕ × SketchAtom → ℕ) (atoms : List SketchAtom) (values after : List ℕ) (i : ℕ) (d : SketchAtom)
+    (v : ℕ) → i < length atoms → values ≡ map f (take i (enumerate_from 0 atoms)) → after ≡ values ++ v ∷ []
+    → v ≡ f (i, get_or atoms i d) → after ≡ map f (take (i + 1) (enumerate_from 0 atoms))
 values-more f atoms values after i d v within before is new =
     let within' : i < length (enumerate_from 0 atoms) = omega (arith, length-enumerate_from 0 atoms) in
-    let read : get_or (enumerate_from 0 atoms) i (0, d) ≡ (i, get_or atoms i d) = get_or-enumerate_from 0 atoms i (0, d) within ∙ ap (λ m. (m, get_or atoms i d)) (zero-add i) in
-    rw (take_more (enumerate_from 0 atoms) i (0, d) within', read, map-append) (is ∙ ap (λ vs. vs ++ v ∷ []) before ∙ ap (λ m. map f (take i (enumerate_from 0 atoms)) ++ m ∷ []) new)
+    let read : get_or (enumerate_from 0 atoms) i (0, d) ≡ (i, get_or atoms i d) =
+    get_or-enumerate_from 0 atoms i (0, d) within ∙ ap (λ m. (m, get_or atoms i d)) (zero-add i) in
+    rw (take_more (enumerate_from 0 atoms) i (0, d) within', read, map-append) (is ∙ ap (λ vs. vs ++ v ∷ []) before
+    ∙ ap (λ m. map f (take i (enumerate_from 0 atoms)) ++ m ∷ []) new)
 
-pub values-whole : (f : ℕ × SketchAtom → ℕ) (atoms : List SketchAtom) (i : ℕ) → length atoms ≤ i → map f (take i (enumerate_from 0 atoms)) ≡ map f (enumerate_from 0 atoms)
-values-whole f atoms i past = ap (λ ps. map f ps) (take_all i (enumerate_from 0 atoms) (omega (arith, length-enumerate_from 0 atoms)))
+pub values-whole : (f : ℕ × SketchAtom → ℕ) (atoms : List SketchAtom) (i : ℕ) → length atoms ≤ i
+    → map f (take i (enumerate_from 0 atoms)) ≡ map f (enumerate_from 0 atoms)
+values-whole f atoms i past = ap (λ ps. map f ps)
+    (take_all i (enumerate_from 0 atoms) (omega (arith, length-enumerate_from 0 atoms)))

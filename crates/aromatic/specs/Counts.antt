@@ -51,4 +51,5 @@ pub record IsSmall (x : Site) : Type 0 where
 -- what the table reads of each atom and of these bonds, by the atom's place
 pub record AreSites (atoms : List SketchAtom) (pairs : List (SketchBond × Bool)) (sites : List Site) : Type 0 where
   pub count : length sites ≡ length atoms
-  pub each : (a : ℕ) (x : SketchAtom) → slice_get atoms a ≡ Some x → slice_get sites a ≡ Some (site_among atoms a x pairs)
+  pub each : (a : ℕ) (x : SketchAtom) → slice_get atoms a ≡ Some x → slice_get sites a
+      ≡ Some (site_among atoms a x pairs)

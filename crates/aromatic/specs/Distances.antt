@@ -4,7 +4,8 @@ use Rattle.aromatic.specs.declared.limits.TheConstants.{LONGEST}
 use Rattle.aromatic.specs.declared.links.Link.{Link}
 use Rattle.aromatic.specs.Links.{IsLinked}
 
--- A number for each atom: 0 for the target, and along a link it falls by at most one. So from each atom as many links at
+-- A number for each atom: 0 for the target, and along a link it falls by at most one. So from each atom as many links
+-- at
 -- least lead to the target.
 pub record AreDistances (links : List (List Link)) (target : ℕ) (distances : List ℕ) : Type 0 where
   pub count : length distances ≡ length links
@@ -29,7 +30,9 @@ pub record IsSpread (links : List (List Link)) (target : ℕ) (distances queue :
   pub in_range : (i : ℕ) → i < length queue → slice_index queue i < length links
   pub near : (i : ℕ) → i < length queue → distance_at distances queue i < LONGEST
   pub rises : (i j : ℕ) → i ≤ j → j < length queue → distance_at distances queue i ≤ distance_at distances queue j
-  pub close : (i j : ℕ) → head ≤ i → i < length queue → j < length queue → distance_at distances queue j ≤ distance_at distances queue i + 1
-  pub done : (i n : ℕ) → i < head → IsLinked links (slice_index queue i) n → slice_index distances n ≤ distance_at distances queue i + 1
+  pub close : (i j : ℕ) → head ≤ i → i < length queue → j < length queue → distance_at distances queue j
+      ≤ distance_at distances queue i + 1
+  pub done : (i n : ℕ) → i < head → IsLinked links (slice_index queue i) n → slice_index distances n
+      ≤ distance_at distances queue i + 1
   -- an atom is queued once, or at LONGEST
   pub room : length queue + count_by (λ d. d == LONGEST) distances ≡ length links

@@ -55,8 +55,10 @@ site_among atoms a x pairs = record {
   higher = count_at pairs a (λ bond ring. is_higher bond.kind);
   ring_doubles = count_at pairs a (λ bond ring. ring && is_double bond.kind);
   outer_doubles = count_at pairs a (λ bond ring. not ring && is_double bond.kind);
-  to_oxygen = count_at pairs a (λ bond ring. not ring && (is_double bond.kind && is_oxygen (element_beyond atoms a bond)));
-  to_hetero = count_at pairs a (λ bond ring. not ring && (is_double bond.kind && is_hetero (element_beyond atoms a bond)));
+  to_oxygen = count_at pairs a (λ bond ring. not ring
+      && (is_double bond.kind && is_oxygen (element_beyond atoms a bond)));
+  to_hetero = count_at pairs a (λ bond ring. not ring
+      && (is_double bond.kind && is_hetero (element_beyond atoms a bond)));
 }
 
 abbrev pub site_of : SketchTerm → List Bool → ℕ → SketchAtom → Site
@@ -105,19 +107,54 @@ rows =
     record { family = NitrogenGroup; charge = pos 1; lower = false; doubles = Ring; connected = None; electrons = 1 } ∷
     record { family = OxygenGroup; charge = pos 1; lower = false; doubles = Ring; connected = None; electrons = 1 } ∷
     record { family = Boron; charge = neg_ℤ (pos 1); lower = false; doubles = Ring; connected = None; electrons = 1 } ∷
-    record { family = Nitrogen; charge = pos 0; lower = false; doubles = RingAndOxygen; connected = None; electrons = 1 } ∷
+    record {
+      family = Nitrogen;
+      charge = pos 0;
+      lower = false;
+      doubles = RingAndOxygen;
+      connected = None;
+      electrons =
+          1;
+    } ∷
     record { family = Nitrogen; charge = pos 0; lower = true; doubles = Oxygen; connected = Some 3; electrons = 1 } ∷
     record { family = Carbon; charge = pos 0; lower = false; doubles = Hetero; connected = None; electrons = 0 } ∷
     record { family = Carbon; charge = pos 0; lower = true; doubles = Absent; connected = Some 3; electrons = 1 } ∷
-    record { family = NitrogenGroup; charge = pos 0; lower = true; doubles = Absent; connected = Some 2; electrons = 1 } ∷
-    record { family = NitrogenGroup; charge = pos 1; lower = true; doubles = Absent; connected = Some 3; electrons = 1 } ∷
+    record { family = NitrogenGroup; charge = pos 0; lower = true; doubles = Absent; connected = Some 2; electrons = 1 }
+    ∷
+    record { family = NitrogenGroup; charge = pos 1; lower = true; doubles = Absent; connected = Some 3; electrons = 1 }
+    ∷
     record { family = OxygenGroup; charge = pos 1; lower = true; doubles = Absent; connected = Some 2; electrons = 1 } ∷
     record { family = Boron; charge = pos 0; lower = true; doubles = Absent; connected = Some 2; electrons = 1 } ∷
-    record { family = Boron; charge = neg_ℤ (pos 1); lower = true; doubles = Absent; connected = Some 3; electrons = 1 } ∷
-    record { family = NitrogenGroup; charge = pos 0; lower = false; doubles = Absent; connected = Some 3; electrons = 2 } ∷
-    record { family = NitrogenOrPhosphorus; charge = neg_ℤ (pos 1); lower = false; doubles = Absent; connected = Some 2; electrons = 2 } ∷
-    record { family = OxygenGroup; charge = pos 0; lower = false; doubles = Absent; connected = Some 2; electrons = 2 } ∷
-    record { family = Carbon; charge = neg_ℤ (pos 1); lower = false; doubles = Absent; connected = Some 3; electrons = 2 } ∷
+    record { family = Boron; charge = neg_ℤ (pos 1); lower = true; doubles = Absent; connected = Some 3; electrons = 1 }
+    ∷
+    record {
+      family = NitrogenGroup;
+      charge = pos 0;
+      lower = false;
+      doubles = Absent;
+      connected = Some 3;
+      electrons =
+          2;
+    } ∷
+    record {
+      family = NitrogenOrPhosphorus;
+      charge = neg_ℤ (pos 1);
+      lower = false;
+      doubles = Absent;
+      connected = Some 2;
+      electrons = 2;
+    } ∷
+    record { family = OxygenGroup; charge = pos 0; lower = false; doubles = Absent; connected = Some 2; electrons = 2 }
+    ∷
+    record {
+      family = Carbon;
+      charge = neg_ℤ (pos 1);
+      lower = false;
+      doubles = Absent;
+      connected = Some 3;
+      electrons =
+          2;
+    } ∷
     record { family = Carbon; charge = pos 1; lower = false; doubles = Absent; connected = Some 3; electrons = 0 } ∷
     record { family = Boron; charge = pos 0; lower = false; doubles = Absent; connected = Some 3; electrons = 0 } ∷
     []

@@ -41,7 +41,8 @@ has_colon bonds a = list_any (λ bond. is_colon bond.kind && ends_at a bond) bon
 
 -- The atom is refused: it is written in lower case and lies on no Hückel cycle, or it is not and a bond `:` ends at it.
 abbrev pub IsRefused : SketchTerm → List Bool → ℕ → SketchAtom → Type 0
-IsRefused s rings a x = ((x.lower ≡ true) × (IsAromaticAtom s rings a → ⊥)) ⊎ ((x.lower ≡ false) × (has_colon s.bonds a ≡ true))
+IsRefused s rings a x = ((x.lower ≡ true) × (IsAromaticAtom s rings a → ⊥))
+    ⊎ ((x.lower ≡ false) × (has_colon s.bonds a ≡ true))
 
 -- what a bond adds to the valence of an atom that it ends at: 1 where it is aromatic, else its order
 abbrev pub share : ℕ → SketchBond → Bool → ℕ
@@ -71,7 +72,8 @@ valence_of s rings aromatic_atoms aromatic_bonds a x =
     + (if slice_index_or aromatic_atoms a false && adds_one s.bonds aromatic_bonds a (row_at s rings a) then 1 else 0)
 
 -- What perception finds in a sketch: a truth value for each atom and for each bond, and a valence for each atom.
-pub record IsPerceived (s : SketchTerm) (rings : List Bool) (aromatic_atoms aromatic_bonds : List Bool) (sums : List ℕ) : Type 0 where
+pub record IsPerceived (s : SketchTerm) (rings : List Bool) (aromatic_atoms aromatic_bonds : List Bool)
+    (sums : List ℕ) : Type 0 where
   pub atom_each : length aromatic_atoms ≡ length s.atoms
   pub bond_each : length aromatic_bonds ≡ length s.bonds
   pub atoms : (a : ℕ) → a < length s.atoms → (slice_index_or aromatic_atoms a false ≡ true) ↔ IsAromaticAtom s rings a

@@ -29,13 +29,17 @@ IsCandidateAt gives a = IsSome (slice_index_or gives a None)
 
 -- the bond b below place k is a ring bond that joins a and n, and both are candidates
 abbrev pub IsLinkBelow : Ends → List Bool → List (Option ℕ) → ℕ → ℕ → ℕ → ℕ → Type 0
-IsLinkBelow ends rings gives k a n b = (b < k) × JoinsAt ends b a n × (slice_index_or rings b false ≡ true) × IsCandidateAt gives a × IsCandidateAt gives n
+IsLinkBelow ends rings gives k a n b = (b < k) × JoinsAt ends b a n × (slice_index_or rings b false ≡ true)
+    × IsCandidateAt gives a × IsCandidateAt gives n
 
 -- each atom has exactly the links by the bonds below place k
-pub record AreLinks (ends : Ends) (rings : List Bool) (gives : List (Option ℕ)) (k : ℕ) (links : List (List Link)) : Type 0 where
+pub record AreLinks (ends : Ends) (rings : List Bool) (gives : List (Option ℕ)) (k : ℕ)
+    (links : List (List Link)) : Type 0 where
   pub count : length links ≡ length gives
-  pub each : (a n b : ℕ) → Contains (links_at links a) (record { to = n; bond = b }) ↔ IsLinkBelow ends rings gives k a n b
+  pub each : (a n b : ℕ) → Contains (links_at links a) (record { to = n; bond = b })
+      ↔ IsLinkBelow ends rings gives k a n b
 
 -- the bond c between x and y is a ring bond between candidates; it is b, and links a to n
 abbrev pub IsNewLink : List (Option ℕ) → ℕ → ℕ → ℕ → Bool → ℕ → ℕ → ℕ → Type 0
-IsNewLink gives c x y ring a n b = (ring ≡ true) × IsCandidateAt gives x × IsCandidateAt gives y × (b ≡ c) × (((a ≡ x) × (n ≡ y)) ⊎ ((a ≡ y) × (n ≡ x)))
+IsNewLink gives c x y ring a n b = (ring ≡ true) × IsCandidateAt gives x × IsCandidateAt gives y × (b ≡ c)
+    × (((a ≡ x) × (n ≡ y)) ⊎ ((a ≡ y) × (n ≡ x)))

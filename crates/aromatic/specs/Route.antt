@@ -34,7 +34,8 @@ AreFlags flags path = (a : ℕ) → (slice_index_or flags a false ≡ true) ↔ 
 
 -- between two searches: no atom has a distance, or is on a path
 abbrev pub IsBlank : ℕ → Scratch → Type 0
-IsBlank atoms scratch = (scratch.distances.items ≡ replicate atoms LONGEST) × (scratch.path.flags.items ≡ replicate atoms false)
+IsBlank atoms scratch = (scratch.distances.items ≡ replicate atoms LONGEST)
+    × (scratch.path.flags.items ≡ replicate atoms false)
 
 -- such a path of at least three atoms that ends at the target, and whose electrons sum to 2 modulo 4
 pub record IsRoute (links : List (List Link)) (gives : List (Option ℕ)) (target : ℕ) (path : List ℕ) : Type 0 where
@@ -49,27 +50,32 @@ CanReach links gives target path = (rest : List ℕ) × IsRoute links gives targ
 
 -- each link but the first is one of the atom that the link before it leads to
 abbrev pub AreSteps : List (List Link) → List Link → Type 0
-AreSteps links path = (i : ℕ) (d : Link) → i + 1 < length path → Contains (links_at links (slice_index_or path i d).to) (slice_index_or path (i + 1) d)
+AreSteps links path = (i : ℕ) (d : Link) → i + 1 < length path → Contains (links_at links (slice_index_or path i d).to)
+    (slice_index_or path (i + 1) d)
 
 -- the path begins with the old one, goes on by links, and is a route
-pub record Completes (links : List (List Link)) (gives : List (Option ℕ)) (target : ℕ) (old path : List Link) : Type 0 where
-  pub begins : (rest : List Link) × (path ≡ old ++ rest)
-  pub steps : AreSteps links path
-  pub route : IsRoute links gives target (atoms_of path)
+pub record Completes (links : List (List Link)) (gives : List (Option ℕ)) (target : ℕ) (old path : List Link) : Type 0
+  where
+    pub begins : (rest : List Link) × (path ≡ old ++ rest)
+    pub steps : AreSteps links path
+    pub route : IsRoute links gives target (atoms_of path)
 
 -- ---- cycles and marks, where the electrons of each atom are told
 
 -- the bond lies on a Hückel cycle
 abbrev pub IsAromaticBy : Ends → List (Option ℕ) → ℕ → Type 0
-IsAromaticBy ends gives b = (atoms : List ℕ) × IsHuckelBy ends (λ a. slice_index_or gives a None) atoms × LiesOn ends b atoms
+IsAromaticBy ends gives b = (atoms : List ℕ) × IsHuckelBy ends (λ a. slice_index_or gives a None) atoms
+    × LiesOn ends b atoms
 
--- The bonds that searches may go over, each bond on a Hückel cycle among them, and the links between the candidates that
+-- The bonds that searches may go over, each bond on a Hückel cycle among them, and the links between the candidates
+-- that
 -- these bonds join.
-pub record IsNet (ends : Ends) (possible : List Bool) (gives : List (Option ℕ)) (links : List (List Link)) : Type 0 where
-  pub graph : IsSimpleGraph (length gives) ends
-  pub count : length possible ≡ length ends
-  pub whole : (b : ℕ) → IsAromaticBy ends gives b → slice_index_or possible b false ≡ true
-  pub linked : AreLinks ends possible gives (length ends) links
+pub record IsNet (ends : Ends) (possible : List Bool) (gives : List (Option ℕ)) (links : List (List Link)) : Type 0
+  where
+    pub graph : IsSimpleGraph (length gives) ends
+    pub count : length possible ≡ length ends
+    pub whole : (b : ℕ) → IsAromaticBy ends gives b → slice_index_or possible b false ≡ true
+    pub linked : AreLinks ends possible gives (length ends) links
 
 -- each marked bond lies on a Hückel cycle, and of the bonds below place k each that lies on one is marked
 pub record AreMarksBelow (ends : Ends) (gives : List (Option ℕ)) (k : ℕ) (marks : List Bool) : Type 0 where

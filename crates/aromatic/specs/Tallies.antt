@@ -57,8 +57,10 @@ IsFirstToPass test atoms w =
 
 -- the valence of an atom, where it is told what its bonds come to, what its row is, and whether it is aromatic
 abbrev pub valence_told : Tally → Option Row → Bool → SketchAtom → ℕ
-valence_told tally row aromatic x = tally.bonded + x.hydrogens + (if aromatic && adds_by tally.aromatic_double row then 1 else 0)
+valence_told tally row aromatic x = tally.bonded + x.hydrogens
+    + (if aromatic && adds_by tally.aromatic_double row then 1 else 0)
 
 -- the same of the atom at a place
 abbrev pub valence_at : List Bool → List Tally → List (Option Row) → ℕ → SketchAtom → ℕ
-valence_at aromatic tallies rows a x = valence_told (tally_at tallies a) (slice_index_or rows a None) (slice_index_or aromatic a false) x
+valence_at aromatic tallies rows a x = valence_told (tally_at tallies a) (slice_index_or rows a None)
+    (slice_index_or aromatic a false) x

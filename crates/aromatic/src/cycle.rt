@@ -77,8 +77,8 @@ pub fn closes(
     Ok(found)
 }
 
-// Completes the path so that it ends at the target, if it can be; else the path is as before. An atom is tried only where
-// it is near enough to the target. The flags are left as before.
+// Completes the path so that it ends at the target, if it can be; else the path is as before. An atom is tried only
+// where it is near enough to the target. The flags are left as before.
 fn extend(
     links: &[Links],
     gives: &[Option<u8>],

@@ -8,8 +8,8 @@ use crate::limits::LONGEST;
 use crate::links::{Links, links_of};
 use std::alloc::AllocError;
 
-/// Stands for a distance of `LONGEST` links or more. A Hückel cycle has at most that many atoms, so no cycle through the
-/// target passes such an atom.
+/// Stands for a distance of `LONGEST` links or more. A Hückel cycle has at most that many atoms, so no cycle through
+/// the target passes such an atom.
 pub const FAR: u8 = LONGEST as u8;
 
 /// Writes the distance of each atom that is nearer than `FAR`, and puts these atoms into the queue. Only these and

@@ -1,7 +1,7 @@
 //! Which bonds and atoms of a sketch lie on Hückel cycles.
 //!
-//! Each bond is searched in turn. If a Hückel cycle goes through it, all bonds of the cycle are marked; if none does, the
-//! bond is ruled out, so that no later search goes over it.
+//! Each bond is searched in turn. If a Hückel cycle goes through it, all bonds of the cycle are marked; if none does,
+//! the bond is ruled out, so that no later search goes over it.
 ghost use Rattle.std.specs.Prelude.{◌≡◌, ◌<◌, ◌+◌, ◌↔◌, ◌⊎◌, List, Option, length, map, replicate, option_map, slice_index_or, slice_set, All, Contains, IfOk, OnOk, ℕ, true, false};
 ghost use Rattle.chem_core.specs.Graph.{IsSimpleGraph};
 ghost use Rattle.chem_core.specs.RingFacts.{AreRingBonds};

@@ -10,7 +10,8 @@ use Rattle.std.proofs.lemmas.List.Kept.{AllPairs-from_increasing}
 use Rattle.std.proofs.lemmas.List.Sums.{fails_before_first, passes_at_first, prefix_len-le-length}
 
 -- a number between what is below it and what is above it
-ascending-insert : (xs : List ℕ) (i y : ℕ) → IsStrictlyIncreasing xs → i ≤ length xs → ((k : ℕ) → k < i → get_or xs k 0 < y) → (i < length xs → y < get_or xs i 0) → IsStrictlyIncreasing (insert xs i y)
+ascending-insert : (xs : List ℕ) (i y : ℕ) → IsStrictlyIncreasing xs → i ≤ length xs
+    → ((k : ℕ) → k < i → get_or xs k 0 < y) → (i < length xs → y < get_or xs i 0) → IsStrictlyIncreasing (insert xs i y)
 ascending-insert xs i y up within below above k h =
     let len = length-insert xs i y within in
     let at = get_or-insert_at xs i y 0 within in
@@ -56,7 +57,8 @@ pub place_of-within : (xs : List (ℕ × ℕ)) (y : ℕ) → place_of xs y ≤ l
 place_of-within xs y = rw place_of-is (prefix_len-le-length _ xs)
 
 -- a pair whose first part is new keeps the order
-pub ascending-at_place : (xs : List (ℕ × ℕ)) (y b : ℕ) → IsStrictlyIncreasing (map (λ p. p.0) xs) → ((c : ℕ) → Contains xs (y, c) → ⊥) → IsStrictlyIncreasing (map (λ p. p.0) (insert xs (place_of xs y) (y, b)))
+pub ascending-at_place : (xs : List (ℕ × ℕ)) (y b : ℕ) → IsStrictlyIncreasing (map (λ p. p.0) xs)
+    → ((c : ℕ) → Contains xs (y, c) → ⊥) → IsStrictlyIncreasing (map (λ p. p.0) (insert xs (place_of xs y) (y, b)))
 ascending-at_place xs y b up new =
     let test : ℕ × ℕ → Bool = λ p. nat_lt y p.0 in
     let firsts : List ℕ = map (λ p. p.0) xs in
@@ -67,7 +69,14 @@ ascending-at_place xs y b up new =
     let read : get_or firsts k 0 ≡ (get_or xs k (y, 0)).0 = get_or-map (λ p. p.0) xs k (y, 0) 0 (omega arith) in
     let low : nat_lt y (get_or xs k (y, 0)).0 ≡ false = fails_before_first test xs k (y, 0) h in
     elim (cases_eq (get_or xs k (y, 0)).0 y) [
-      | inl e ↦ absurd (new (get_or xs k (y, 0)).1 (k, omega arith, get_or_default xs k (y, (get_or xs k (y, 0)).1) (y, 0) (omega arith) ∙ ap (λ v. (v, (get_or xs k (y, 0)).1)) e))
+      | inl e ↦ absurd (new (get_or xs k (y, 0)).1 (
+        k,
+        omega arith,
+        get_or_default xs k (y, (get_or xs k (y, 0)).1) (
+          y,
+          0,
+        ) (omega arith) ∙ ap (λ v. (v, (get_or xs k (y, 0)).1)) e,
+      ))
       | inr n ↦ grind (arith, nat_tests)
     ] in
     let above : i < length firsts → y < get_or firsts i 0 = λ h.
@@ -96,12 +105,16 @@ ascending-tail x xs up k h =
     rw next at (up (suc k) more)
 
 -- the first pair is below each other
-first_below : (x : ℕ × ℕ) (xs : List (ℕ × ℕ)) (y : ℕ × ℕ) → IsStrictlyIncreasing (map (λ p. p.0) (x ∷ xs)) → Contains xs y → x.0 < y.0
+first_below : (x : ℕ × ℕ) (xs : List (ℕ × ℕ)) (y : ℕ × ℕ) → IsStrictlyIncreasing (map (λ p. p.0) (x ∷ xs))
+    → Contains xs y → x.0 < y.0
 first_below x xs y up (k, l, e) =
-    let far = AllPairs-from_increasing (map (λ p. p.0) (x ∷ xs)) up 0 (suc k) 0 (omega arith) (omega (arith, length-map xs (λ p. p.0))) in
+    let far = AllPairs-from_increasing (map (λ p. p.0) (x ∷ xs)) up 0 (suc k) 0 (omega arith)
+    (omega (arith, length-map xs (λ p. p.0))) in
     rw (get_or-map (λ p. p.0) xs k y 0 l, e) at far
 
-pub same_pairs : (xs ys : List (ℕ × ℕ)) → IsStrictlyIncreasing (map (λ p. p.0) xs) → IsStrictlyIncreasing (map (λ p. p.0) ys) → ((p : ℕ × ℕ) → Contains xs p → Contains ys p) → ((p : ℕ × ℕ) → Contains ys p → Contains xs p) → xs ≡ ys
+pub same_pairs : (xs ys : List (ℕ × ℕ)) → IsStrictlyIncreasing (map (λ p. p.0) xs)
+    → IsStrictlyIncreasing (map (λ p. p.0) ys) → ((p : ℕ × ℕ) → Contains xs p → Contains ys p)
+    → ((p : ℕ × ℕ) → Contains ys p → Contains xs p) → xs ≡ ys
 same_pairs [] [] up0 up1 to from = refl
 same_pairs [] (y ∷ ys) up0 up1 to from = let q = from y (Contains-cons_first y ys) in absurd (omega (arith, q.1))
 same_pairs (x ∷ xs) [] up0 up1 to from = let q = to x (Contains-cons_first x xs) in absurd (omega (arith, q.1))
@@ -116,19 +129,22 @@ same_pairs (x ∷ xs) (y ∷ ys) up0 up1 to from =
             absurd (omega arith)
       ]
     ] in
-    let to' : (p : ℕ × ℕ) → Contains xs p → Contains ys p = λ p q. elim (Contains-cons_cases y ys p (to p (Contains-cons_rest x xs p q))) [
+    let to' : (p : ℕ × ℕ) → Contains xs p → Contains ys p = λ p q.
+    elim (Contains-cons_cases y ys p (to p (Contains-cons_rest x xs p q))) [
       | inl e ↦
           let low = first_below x xs p up0 q in
           let same : x.0 ≡ p.0 = ap (λ v. v.0) (head ∙ e) in
           absurd (omega arith)
       | inr r ↦ r
     ] in
-    let from' : (p : ℕ × ℕ) → Contains ys p → Contains xs p = λ p q. elim (Contains-cons_cases x xs p (from p (Contains-cons_rest y ys p q))) [
+    let from' : (p : ℕ × ℕ) → Contains ys p → Contains xs p = λ p q.
+    elim (Contains-cons_cases x xs p (from p (Contains-cons_rest y ys p q))) [
       | inl e ↦
           let low = first_below y ys p up1 q in
           let same : y.0 ≡ p.0 = ap (λ v. v.0) (sym head ∙ e) in
           absurd (omega arith)
       | inr r ↦ r
     ] in
-    let tails : xs ≡ ys = same_pairs xs ys (ascending-tail x.0 (map (λ p. p.0) xs) up0) (ascending-tail y.0 (map (λ p. p.0) ys) up1) to' from' in
+    let tails : xs ≡ ys = same_pairs xs ys (ascending-tail x.0 (map (λ p. p.0) xs) up0)
+    (ascending-tail y.0 (map (λ p. p.0) ys) up1) to' from' in
     ap (λ v. v ∷ xs) head ∙ ap (λ vs. y ∷ vs) tails

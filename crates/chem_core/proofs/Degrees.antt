@@ -18,7 +18,9 @@ record Counted (ends : Ends) (a : ℕ) : Type 0 where
   count : length pairs ≡ degree ends a
 
 -- one more bond, from the atom to another
-counted-end : (all : Ends) (n i a o : ℕ) → IsSimpleGraph n all → i < length all → (get_or all i (0, 0) ≡ (a, o)) ⊎ (get_or all i (0, 0) ≡ (o, a)) → a ≢ o → degree (take (i + 1) all) a ≡ degree (take i all) a + 1 → Counted (take i all) a → Counted (take (i + 1) all) a
+counted-end : (all : Ends) (n i a o : ℕ) → IsSimpleGraph n all → i < length all → (get_or all i (0, 0) ≡ (a, o))
+    ⊎ (get_or all i (0, 0) ≡ (o, a)) → a ≢ o → degree (take (i + 1) all) a ≡ degree (take i all) a + 1
+    → Counted (take i all) a → Counted (take (i + 1) all) a
 counted-end all n i a o graph within is apart more before =
     let pair : ℕ × ℕ = (o, length (take i all)) in
     let place : ℕ = place_of before.pairs o in
@@ -27,15 +29,18 @@ counted-end all n i a o graph within is apart more before =
     let joins : JoinsAt all i a o = elim is [ inl e ↦ inl (read ∙ ap Some e) | inr e ↦ inr (read ∙ ap Some e) ] in
     let new = no_neighbour_yet all n i before.pairs a o graph before.are joins in
     let up = ascending-at_place before.pairs o (length (take i all)) (before.are).ascending new in
-    let are = AreNeighbours-end (take i all) (get_or all i (0, 0)) a o before.pairs after before.are is apart up (IsPermutation-insert before.pairs place pair) in
+    let are = AreNeighbours-end (take i all) (get_or all i (0, 0)) a o before.pairs after before.are is apart up
+    (IsPermutation-insert before.pairs place pair) in
     record {
       pairs = after;
       are = subst (λ ends. AreNeighbours ends a after) (sym (take_more all i (0, 0) within)) are;
-      count = length-insert before.pairs place pair (place_of-within before.pairs o) ∙ ap (λ k. k + 1) before.count ∙ sym more;
+      count = length-insert before.pairs place pair (place_of-within before.pairs o) ∙ ap (λ k. k + 1) before.count
+          ∙ sym more;
     }
 
 -- one more bond, wherever it ends
-counted-more : (all : Ends) (n i a : ℕ) → IsSimpleGraph n all → i < length all → Counted (take i all) a → Counted (take (i + 1) all) a
+counted-more : (all : Ends) (n i a : ℕ) → IsSimpleGraph n all → i < length all → Counted (take i all) a
+    → Counted (take (i + 1) all) a
 counted-more all n i a graph within before =
     let e : ℕ × ℕ = get_or all i (0, 0) in
     let apart : e.0 ≢ e.1 = graph.distinct i (0, 0) within in
@@ -43,16 +48,20 @@ counted-more all n i a graph within before =
     elim (cases_eq a e.0) [
       | inl is ↦
           let yes : test e ≡ true = or_left _ _ (eq-eqb e.0 a (sym is)) in
-          counted-end all n i a e.1 graph within (inl (ap (λ x. (x, e.1)) (sym is))) (λ q. apart (sym is ∙ q)) (count_by_more_yes test all i (0, 0) within yes) before
+          counted-end all n i a e.1 graph within (inl (ap (λ x. (x, e.1)) (sym is))) (λ q. apart (sym is ∙ q))
+          (count_by_more_yes test all i (0, 0) within yes) before
       | inr not0 ↦ elim (cases_eq a e.1) [
         | inl is ↦
             let yes : test e ≡ true = or_right _ _ (eq-eqb e.1 a (sym is)) in
-            counted-end all n i a e.0 graph within (inr (ap (λ x. (e.0, x)) (sym is))) not0 (count_by_more_yes test all i (0, 0) within yes) before
+            counted-end all n i a e.0 graph within (inr (ap (λ x. (e.0, x)) (sym is))) not0
+            (count_by_more_yes test all i (0, 0) within yes) before
         | inr not1 ↦
-            let no : test e ≡ false = or_from _ _ (ne_eqb e.0 a (λ q. not0 (sym q))) (ne_eqb e.1 a (λ q. not1 (sym q))) in
+            let no : test e ≡ false = or_from _ _ (ne_eqb e.0 a (λ q. not0 (sym q)))
+            (ne_eqb e.1 a (λ q. not1 (sym q))) in
             record {
               pairs = before.pairs;
-              are = subst (λ ends. AreNeighbours ends a before.pairs) (sym (take_more all i (0, 0) within)) (AreNeighbours-other (take i all) e a before.pairs before.are not0 not1);
+              are = subst (λ ends. AreNeighbours ends a before.pairs) (sym (take_more all i (0, 0) within))
+                  (AreNeighbours-other (take i all) e a before.pairs before.are not0 not1);
               count = before.count ∙ sym (count_by_more_no test all i (0, 0) within no);
             }
       ]
@@ -62,10 +71,13 @@ counted : (all : Ends) (n a i : ℕ) → IsSimpleGraph n all → i ≤ length al
 counted all n a zero graph h = record { pairs = []; are = AreNeighbours-none a; count = refl }
 counted all n a (suc i) graph h =
     let next : i + 1 ≡ suc i = omega arith in
-    subst (λ k. Counted (take k all) a) next (counted-more all n i a graph (omega arith) (counted all n a i graph (omega arith)))
+    subst (λ k. Counted (take k all) a) next (counted-more all n i a graph (omega arith)
+    (counted all n a i graph (omega arith)))
 
 -- an atom has as many neighbours as bonds end at it
-pub length-neighbours : (ends : Ends) (n a : ℕ) (pairs : List (ℕ × ℕ)) → IsSimpleGraph n ends → AreNeighbours ends a pairs → length pairs ≡ degree ends a
+pub length-neighbours : (ends : Ends) (n a : ℕ) (pairs : List (ℕ × ℕ)) → IsSimpleGraph n ends
+    → AreNeighbours ends a pairs → length pairs ≡ degree ends a
 length-neighbours ends n a pairs graph are =
-    let all : Counted ends a = subst (λ xs. Counted xs a) (take-length ends) (counted ends n a (length ends) graph (omega arith)) in
+    let all : Counted ends a = subst (λ xs. Counted xs a) (take-length ends)
+    (counted ends n a (length ends) graph (omega arith)) in
     ap length (AreNeighbours-one ends a pairs all.pairs are all.are) ∙ all.count

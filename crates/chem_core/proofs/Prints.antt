@@ -22,7 +22,8 @@ length-bits_of [] = refl
 length-bits_of (w ∷ ws) = rw (length-append, length-word_bits) (omega (arith, length-bits_of ws))
 
 -- a bit of a print by its place in its word
-pub bits_of-at : (words : List ℕ) (k : ℕ) → get_or (bits_of words) k false ≡ eqb (bit_at (get_or words (k / 64) 0) (k % 64)) 1
+pub bits_of-at : (words : List ℕ) (k : ℕ) → get_or (bits_of words) k false
+    ≡ eqb (bit_at (get_or words (k / 64) 0) (k % 64)) 1
 bits_of-at [] k = rw bit_at-zero
 bits_of-at (w ∷ ws) k =
     let len = length-word_bits w in
@@ -39,7 +40,8 @@ bits_of-at (w ∷ ws) k =
     ]
 
 -- what the code computes of a word is the bit
-pub bit_read : (words : List ℕ) (bit word : ℕ) → word ≡ get_or words (bit / 64) 0 → eqb (bit_and (word / 2 ^ (bit % 64)) 1) 1 ≡ get_or (bits_of words) bit false
+pub bit_read : (words : List ℕ) (bit word : ℕ) → word ≡ get_or words (bit / 64) 0
+    → eqb (bit_and (word / 2 ^ (bit % 64)) 1) 1 ≡ get_or (bits_of words) bit false
 bit_read words bit word is = rw (shr_and_one, is) (sym (bits_of-at words bit))
 
 -- no bit lies past the last word
@@ -57,21 +59,28 @@ no_bit n bit =
     bits_of-at zeros bit ∙ rw (zero, bit_at-zero)
 
 -- a list of words with one more bit set
-pub bits_of-set : (words : List ℕ) (bit : ℕ) → bit / 64 < length words → bits_of (set words (bit / 64) (bit_or (get_or words (bit / 64) 0) (1 * 2 ^ (bit % 64) % 2 ^ 64))) ≡ set (bits_of words) bit true
+pub bits_of-set : (words : List ℕ) (bit : ℕ) → bit / 64 < length words
+    → bits_of (set words (bit / 64) (bit_or (get_or words (bit / 64) 0) (1 * 2 ^ (bit % 64) % 2 ^ 64)))
+    ≡ set (bits_of words) bit true
 bits_of-set words bit within =
     let word : ℕ = bit_or (get_or words (bit / 64) 0) (1 * 2 ^ (bit % 64) % 2 ^ 64) in
     let after : List ℕ = set words (bit / 64) word in
-    let len : length (bits_of after) ≡ length (set (bits_of words) bit true) = length-bits_of after ∙ ap (λ n. 64 * n) (length-set words (bit / 64) word) ∙ sym (length-bits_of words) ∙ sym (length-set (bits_of words) bit true) in
+    let len : length (bits_of after) ≡ length (set (bits_of words) bit true) = length-bits_of after
+    ∙ ap (λ n. 64 * n) (length-set words (bit / 64) word) ∙ sym (length-bits_of words)
+    ∙ sym (length-set (bits_of words) bit true) in
     let there : bit < length (bits_of words) = rw length-bits_of (omega arith) in
     let low : bit % 64 < 64 = omega arith in
     ext_get_or false _ _ len (λ k _. elim (cases_eq k bit) [
       | inl e ↦
           let read : get_or after (k / 64) 0 ≡ word = rw e (get_or-set_same words (bit / 64) word 0 within) in
-          let now : get_or (bits_of after) k false ≡ true = bits_of-at after k ∙ rw (read, e, bit_at_set_same w64 (get_or words (bit / 64) 0) (bit % 64) low) in
+          let now : get_or (bits_of after) k false ≡ true = bits_of-at after k
+          ∙ rw (read, e, bit_at_set_same w64 (get_or words (bit / 64) 0) (bit % 64) low) in
           now ∙ sym (rw e (get_or-set_same (bits_of words) bit true false there))
       | inr n ↦
-          let kept : get_or (set (bits_of words) bit true) k false ≡ get_or (bits_of words) k false = get_or-set_other (bits_of words) bit k true false n in
-          let same : bit_at (get_or after (k / 64) 0) (k % 64) ≡ bit_at (get_or words (k / 64) 0) (k % 64) = elim (cases_eq (k / 64) (bit / 64)) [
+          let kept : get_or (set (bits_of words) bit true) k false ≡ get_or (bits_of words) k false =
+          get_or-set_other (bits_of words) bit k true false n in
+          let same : bit_at (get_or after (k / 64) 0) (k % 64) ≡ bit_at (get_or words (k / 64) 0) (k % 64) =
+          elim (cases_eq (k / 64) (bit / 64)) [
             | inl row ↦
                 let col : k % 64 ≢ bit % 64 = λ q. n (omega arith) in
                 let read : get_or after (k / 64) 0 ≡ word = rw row (get_or-set_same words (bit / 64) word 0 within) in
@@ -85,14 +94,16 @@ eqb-one : (n : ℕ) → eqb n 1 ≡ true → n ≡ 1
 eqb-one n h = grind (arith, nat_tests)
 
 -- each bit of one is in the other exactly where each word has the other's
-pub bits_from_words : (have want : List ℕ) → ((k : ℕ) → k < length want → bit_and (get_or have k 0) (get_or want k 0) ≡ get_or want k 0) → (bit : ℕ) → HasBit (bits_of want) bit → HasBit (bits_of have) bit
+pub bits_from_words : (have want : List ℕ) → ((k : ℕ) → k < length want → bit_and (get_or have k 0) (get_or want k 0)
+    ≡ get_or want k 0) → (bit : ℕ) → HasBit (bits_of want) bit → HasBit (bits_of have) bit
 bits_from_words have want each bit h =
     let i : ℕ = bit / 64 in
     let j : ℕ = bit % 64 in
     let one : bit_at (get_or want i 0) j ≡ 1 = eqb-one _ (sym (bits_of-at want bit) ∙ h) in
     elim (cases_lt i (length want)) [
       | inl within ↦
-          let both : bit_at (bit_and (get_or have i 0) (get_or want i 0)) j ≡ min (bit_at (get_or have i 0) j) (bit_at (get_or want i 0) j) = bit_at_and _ _ j in
+          let both : bit_at (bit_and (get_or have i 0) (get_or want i 0)) j ≡ min (bit_at (get_or have i 0) j)
+          (bit_at (get_or want i 0) j) = bit_at_and _ _ j in
           let joined : bit_at (bit_and (get_or have i 0) (get_or want i 0)) j ≡ 1 = rw (each i within) one in
           let small = bit_at-lt (get_or have i 0) j in
           let set : bit_at (get_or have i 0) j ≡ 1 = omega arith in
@@ -100,14 +111,18 @@ bits_from_words have want each bit h =
       | inr past ↦ absurd (false≢true (sym (bit_past want bit past) ∙ h))
     ]
 
-pub words_from_bits : (have want : List ℕ) → ((k : ℕ) → k < length want → get_or want k 0 < 2 ^ 64) → ((bit : ℕ) → HasBit (bits_of want) bit → HasBit (bits_of have) bit) → (k : ℕ) → k < length want → bit_and (get_or have k 0) (get_or want k 0) ≡ get_or want k 0
+pub words_from_bits : (have want : List ℕ) → ((k : ℕ) → k < length want → get_or want k 0 < 2 ^ 64)
+    → ((bit : ℕ) → HasBit (bits_of want) bit → HasBit (bits_of have) bit) → (k : ℕ) → k < length want
+    → bit_and (get_or have k 0) (get_or want k 0) ≡ get_or want k 0
 words_from_bits have want fit h k within =
     same_from_bits _ _ (λ i. bit_at_and (get_or have k 0) (get_or want k 0) i ∙ elim (cases_lt i 64) [
       | inl low ↦
           let row : (64 * k + i) / 64 ≡ k = omega arith in
           let col : (64 * k + i) % 64 ≡ i = omega arith in
-          let mine : get_or (bits_of want) (64 * k + i) false ≡ eqb (bit_at (get_or want k 0) i) 1 = rw (bits_of-at, row, col) in
-          let its : get_or (bits_of have) (64 * k + i) false ≡ eqb (bit_at (get_or have k 0) i) 1 = rw (bits_of-at, row, col) in
+          let mine : get_or (bits_of want) (64 * k + i) false ≡ eqb (bit_at (get_or want k 0) i) 1 =
+          rw (bits_of-at, row, col) in
+          let its : get_or (bits_of have) (64 * k + i) false ≡ eqb (bit_at (get_or have k 0) i) 1 =
+          rw (bits_of-at, row, col) in
           let small = bit_at-lt (get_or want k 0) i in
           elim (cases_eq (bit_at (get_or want k 0) i) 1) [
             | inl one ↦

@@ -19,7 +19,8 @@ Joined ends x y = (b : ℕ) × JoinsAt ends b x y
 abbrev pub degree : Ends → ℕ → ℕ
 degree ends a = count_by (λ e. (e.0 == a) || (e.1 == a)) ends
 
--- Within the limits on atoms, bonds and neighbours of an atom. Ends are distinct and in range, and no two bonds join the same atoms.
+-- Within the limits on atoms, bonds and neighbours of an atom. Ends are distinct and in range, and no two bonds join
+-- the same atoms.
 pub record IsSimpleGraph (atoms : ℕ) (ends : Ends) : Type 0 where
   pub few_atoms : atoms ≤ MOST_ATOMS
   pub few_bonds : length ends ≤ MOST_BONDS
@@ -51,7 +52,8 @@ pub record IsSimpleCycle (ends : Ends) (atoms : List ℕ) : Type 0 where
 
 -- the bond joins two neighbours of the cycle
 abbrev pub LiesOn : Ends → ℕ → List ℕ → Type 0
-LiesOn ends b atoms = (i : ℕ) × (i < length atoms) × JoinsAt ends b (slice_index atoms i) (slice_index atoms (next_place atoms i))
+LiesOn ends b atoms = (i : ℕ) × (i < length atoms) × JoinsAt ends b (slice_index atoms i)
+    (slice_index atoms (next_place atoms i))
 
 -- a ring bond joins two neighbours of some simple cycle
 abbrev pub IsRingBond : Ends → ℕ → Type 0

@@ -23,7 +23,8 @@ pub record IsPrinted (bytes : List ℕ) (n : ℕ) : Type 0 where
 printed_decimal : (n : ℕ) → n < 2 ^ 64 → IsPrinted (decimal n) n
 printed_decimal n h = record {
   plain = record {
-    no_plus = not_in_digits own (decimal n) 43 (digits_decimal own n h) (λ r. omega (arith, r.0)) 0 (decimal_nonempty n h);
+    no_plus = not_in_digits own (decimal n) 43 (digits_decimal own n h) (λ r. omega (arith, r.0)) 0
+        (decimal_nonempty n h);
     no_zero = no_zero n h;
   };
   some = decimal_nonempty n h;
@@ -35,6 +36,8 @@ pub printed : (bytes : List ℕ) (n : ℕ) → n < 2 ^ 64 → bytes ≡ decimal 
 printed bytes n h e = subst (λ (w : List ℕ). IsPrinted w n) (sym e) (printed_decimal n h)
 
 -- plain digits are what is printed of their value
-pub printed_value : (bytes : List ℕ) (n : ℕ) → IsPlain bytes → (0 < length bytes) × AllDigits 10 bytes × (digits_value 10 bytes < 2 ^ 64) → n ≡ digits_value 10 bytes → bytes ≡ decimal n
+pub printed_value : (bytes : List ℕ) (n : ℕ) → IsPlain bytes → (0 < length bytes) × AllDigits 10 bytes
+    × (digits_value 10 bytes < 2 ^ 64) → n ≡ digits_value 10 bytes → bytes ≡ decimal n
 printed_value bytes n plain (some, digits, fits) e =
-    sym (decimal-digits_value own bytes digits some (λ z. let one = plain.no_zero z in omega arith) fits) ∙ ap decimal (sym e)
+    sym (decimal-digits_value own bytes digits some (λ z. let one = plain.no_zero z in omega arith) fits)
+    ∙ ap decimal (sym e)

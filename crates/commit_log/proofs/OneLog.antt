@@ -16,7 +16,8 @@ all_short : (changes : List Change) → AllByRecursion IsLogged changes → AllB
 all_short [] all = tt
 all_short (c ∷ changes) all = (all.0.1, all_short changes all.1)
 
-pub is_read : (changes : List Change) (rest : List ℕ) → AllByRecursion IsLogged changes → IsLog changes (log_text changes ++ rest)
+pub is_read : (changes : List Change) (rest : List ℕ) → AllByRecursion IsLogged changes
+    → IsLog changes (log_text changes ++ rest)
 is_read changes rest all = record { opens = text_opens (payloads changes) rest (all_short changes all); logged = all }
 
 head_is : (x y : List ℕ) (xs ys : List (List ℕ)) → x ∷ xs ≡ y ∷ ys → x ≡ y
@@ -32,17 +33,21 @@ behind_is : (a b : ℕ) (xs ys : List ℕ) → a ∷ xs ≡ b ∷ ys → xs ≡ 
 behind_is a b xs ys is = cc is
 
 -- each payload of a log is read
-is_change : (cs : List Change) (xs : List (List ℕ)) (p : List ℕ) (more : List (List ℕ)) → payloads cs ≡ xs ++ p ∷ more → AllByRecursion IsLogged cs → IsNoChange p → ⊥
+is_change : (cs : List Change) (xs : List (List ℕ)) (p : List ℕ) (more : List (List ℕ)) → payloads cs ≡ xs ++ p ∷ more
+    → AllByRecursion IsLogged cs → IsNoChange p → ⊥
 is_change [] [] p more is all none = cc is
 is_change [] (x ∷ xs) p more is all none = cc is
 is_change (c ∷ cs) [] p more is all none = none c all.0.0 (sym (head_is (written c) p (payloads cs) more is))
-is_change (c ∷ cs) (x ∷ xs) p more is all none = is_change cs xs p more (tail_is (written c) x (payloads cs) (xs ++ p ∷ more) is) all.1 none
+is_change (c ∷ cs) (x ∷ xs) p more is all none =
+    is_change cs xs p more (tail_is (written c) x (payloads cs) (xs ++ p ∷ more) is) all.1 none
 
 -- no log goes on where one payload is not read
-unread_stops : (ps : List (List ℕ)) (payload rest : List ℕ) → IsShort payload → IsNoChange payload → (ds : List Change) → AllByRecursion IsLogged ds
+unread_stops : (ps : List (List ℕ)) (payload rest : List ℕ) → IsShort payload → IsNoChange payload → (ds : List Change)
+    → AllByRecursion IsLogged ds
     → GoesOn ps (payloads ds) (OPEN ∷ (body payload ++ rest)) → ⊥
 unread_stops ps payload rest short none ds all on =
-    let same = same_body payload on.payload rest on.rest short on.short (behind_is OPEN OPEN (body payload ++ rest) (body on.payload ++ on.rest) on.is) in
+    let same = same_body payload on.payload rest on.rest short on.short (behind_is OPEN OPEN (body payload ++ rest)
+    (body on.payload ++ on.rest) on.is) in
     is_change ds ps on.payload on.more on.longer all (subst IsNoChange same.0 none)
 
 -- what stands behind these records, where no log goes on
@@ -54,41 +59,59 @@ record Stops (changes : List Change) (bytes : List ℕ) : Type 0 where
 stops_at : (at : ℕ) (bytes : List ℕ) (d : DamagesLog at bytes) → Stops d.changes bytes
 unfolding NoRecord
 stops_at at bytes d = ⊎_elim
-    (λ (b : Breaks (payloads d.changes) bytes). record { tail = b.tail; is = b.is; stops = λ ds all on. broken_none b.tail b.broken (payloads d.changes) (payloads ds) on })
-    (λ (u : Unread (payloads d.changes) bytes). record { tail = OPEN ∷ (body u.payload ++ u.rest); is = u.is; stops = unread_stops (payloads d.changes) u.payload u.rest u.short u.none })
+    (λ (b : Breaks (payloads d.changes) bytes). record {
+      tail = b.tail;
+      is = b.is;
+      stops = λ ds all on.
+          broken_none b.tail b.broken (payloads d.changes) (payloads ds) on;
+    })
+    (λ (u : Unread (payloads d.changes) bytes). record {
+      tail = OPEN ∷ (body u.payload ++ u.rest);
+      is = u.is;
+      stops =
+          unread_stops (payloads d.changes) u.payload u.rest u.short u.none;
+    })
     d.damage
 
 pub one_place : (a b : ℕ) (bytes : List ℕ) → DamagesLog a bytes → DamagesLog b bytes → a ≡ b
 one_place a b bytes d e =
     let s = stops_at a bytes d in
     let t = stops_at b bytes e in
-    elim (compare (payloads d.changes) (payloads e.changes) s.tail t.tail (all_short d.changes d.logged) (all_short e.changes e.logged) (sym s.is ∙ t.is)) [
+    elim (compare (payloads d.changes) (payloads e.changes) s.tail t.tail (all_short d.changes d.logged)
+    (all_short e.changes e.logged) (sym s.is ∙ t.is)) [
       | inl same ↦ d.place ∙ ap (λ (ps : List (List ℕ)). length (front ps)) same.0 ∙ sym e.place
       | inr on ↦ absurd (⊎_elim (s.stops e.changes e.logged) (t.stops d.changes d.logged) on)
     ]
 
-unread_none : (cs : List Change) (ps : List (List ℕ)) (bytes : List ℕ) → IsLog cs bytes → AllByRecursion IsShort ps → Unread ps bytes → ⊥
+unread_none : (cs : List Change) (ps : List (List ℕ)) (bytes : List ℕ) → IsLog cs bytes → AllByRecursion IsShort ps
+    → Unread ps bytes → ⊥
 unfolding NoRecord
 unread_none cs ps bytes log short u =
     let o = log.opens in
     elim (compare ps (payloads cs) (OPEN ∷ (body u.payload ++ u.rest)) (o.gate ∷ o.rest) short o.fit (sym u.is ∙ o.is)) [
       | inl same ↦ o.shut (sym (first_is OPEN o.gate (body u.payload ++ u.rest) o.rest same.1))
-      | inr on ↦ ⊎_elim (unread_stops ps u.payload u.rest u.short u.none cs log.logged) (shut_none o.gate o.rest o.shut (payloads cs) ps) on
+      | inr on ↦ ⊎_elim (unread_stops ps u.payload u.rest u.short u.none cs log.logged)
+          (shut_none o.gate o.rest o.shut (payloads cs) ps) on
     ]
 
 pub log_or_damage : (changes : List Change) (at : ℕ) (bytes : List ℕ) → IsLog changes bytes → DamagesLog at bytes → ⊥
 log_or_damage changes at bytes log d = ⊎_elim
     (λ (b : Breaks (payloads d.changes) bytes). not_both (payloads changes) (payloads d.changes) bytes log.opens b)
-    (λ (u : Unread (payloads d.changes) bytes). unread_none changes (payloads d.changes) bytes log (all_short d.changes d.logged) u)
+    (λ (u : Unread (payloads d.changes) bytes). unread_none changes (payloads d.changes) bytes log
+    (all_short d.changes d.logged) u)
     d.damage
 
 -- an identifier in four bytes, and what is behind it
-same_field : (m n : ℕ) (xs ys : List ℕ) → m ≤ 999999999 → n ≤ 999999999 → to_le_bytes w32 m ++ xs ≡ to_le_bytes w32 n ++ ys → (m ≡ n) × (xs ≡ ys)
+same_field : (m n : ℕ) (xs ys : List ℕ) → m ≤ 999999999 → n ≤ 999999999 → to_le_bytes w32 m ++ xs ≡ to_le_bytes w32 n
+    ++ ys → (m ≡ n) × (xs ≡ ys)
 same_field m n xs ys p q is =
     let fields : to_le_bytes w32 m ≡ to_le_bytes w32 n =
-    sym (take_at (to_le_bytes w32 m) xs 4 refl) ∙ ap (λ (l : List ℕ). take 4 l) is ∙ take_at (to_le_bytes w32 n) ys 4 refl in (
-      sym (from_le_bytes-to_le_bytes_4 m (omega (arith, p))) ∙ ap (λ (l : List ℕ). from_le_bytes w32 l) fields ∙ from_le_bytes-to_le_bytes_4 n (omega (arith, q)),
-      sym (drop_at (to_le_bytes w32 m) xs 4 refl) ∙ ap (λ (l : List ℕ). drop 4 l) is ∙ drop_at (to_le_bytes w32 n) ys 4 refl,
+    sym (take_at (to_le_bytes w32 m) xs 4 refl) ∙ ap (λ (l : List ℕ). take 4 l) is
+    ∙ take_at (to_le_bytes w32 n) ys 4 refl in (
+      sym (from_le_bytes-to_le_bytes_4 m (omega (arith, p))) ∙ ap (λ (l : List ℕ). from_le_bytes w32 l) fields
+          ∙ from_le_bytes-to_le_bytes_4 n (omega (arith, q)),
+      sym (drop_at (to_le_bytes w32 m) xs 4 refl) ∙ ap (λ (l : List ℕ). drop 4 l) is
+          ∙ drop_at (to_le_bytes w32 n) ys 4 refl,
     )
 
 same_format : (f g : Format) → format_byte f ≡ format_byte g → f ≡ g
@@ -98,25 +121,49 @@ same_format Molfile Smiles is = absurd (omega (arith, is))
 same_format Molfile Molfile is = refl
 
 with_text : (kind id id' : ℕ) (f f' : Format) (t t' : List ℕ) → id ≤ 999999999 → id' ≤ 999999999
-    → kind ∷ (to_le_bytes w32 id ++ format_byte f ∷ t) ≡ kind ∷ (to_le_bytes w32 id' ++ format_byte f' ∷ t') → (id ≡ id') × (f ≡ f') × (t ≡ t')
+    → kind ∷ (to_le_bytes w32 id ++ format_byte f ∷ t) ≡ kind ∷ (to_le_bytes w32 id' ++ format_byte f' ∷ t')
+    → (id ≡ id') × (f ≡ f') × (t ≡ t')
 with_text kind id id' f f' t t' p q is =
-    let e = same_field id id' (format_byte f ∷ t) (format_byte f' ∷ t') p q (behind_is kind kind (to_le_bytes w32 id ++ format_byte f ∷ t) (to_le_bytes w32 id' ++ format_byte f' ∷ t') is) in
-    (e.0, same_format f f' (first_is (format_byte f) (format_byte f') t t' e.1), behind_is (format_byte f) (format_byte f') t t' e.1)
+    let e = same_field id id' (format_byte f ∷ t) (format_byte f' ∷ t') p q
+    (behind_is kind kind (to_le_bytes w32 id ++ format_byte f ∷ t) (to_le_bytes w32 id' ++ format_byte f' ∷ t')
+    is) in (
+      e.0,
+      same_format f f' (first_is (format_byte f) (format_byte f') t t' e.1),
+      behind_is (format_byte f) (format_byte f') t t' e.1,
+    )
 
 pub one_change : (a b : Change) → IsInRange a → IsInRange b → written a ≡ written b → a ≡ b
-one_change (registered id f t) (registered id' f' t') p q is = let e = with_text 1 id id' f f' t t' p.1 q.1 is in λ i. registered (e.0 i) (e.1 i) (e.2 i)
-one_change (registered id f t) (revised id' f' t') p q is = absurd (omega (arith, first_is 1 2 (to_le_bytes w32 id ++ format_byte f ∷ t) (to_le_bytes w32 id' ++ format_byte f' ∷ t') is))
-one_change (registered id f t) (withdrawn id') p q is = absurd (omega (arith, first_is 1 3 (to_le_bytes w32 id ++ format_byte f ∷ t) (to_le_bytes w32 id') is))
-one_change (revised id f t) (registered id' f' t') p q is = absurd (omega (arith, first_is 2 1 (to_le_bytes w32 id ++ format_byte f ∷ t) (to_le_bytes w32 id' ++ format_byte f' ∷ t') is))
-one_change (revised id f t) (revised id' f' t') p q is = let e = with_text 2 id id' f f' t t' p.1 q.1 is in λ i. revised (e.0 i) (e.1 i) (e.2 i)
-one_change (revised id f t) (withdrawn id') p q is = absurd (omega (arith, first_is 2 3 (to_le_bytes w32 id ++ format_byte f ∷ t) (to_le_bytes w32 id') is))
-one_change (withdrawn id) (registered id' f' t') p q is = absurd (omega (arith, first_is 3 1 (to_le_bytes w32 id) (to_le_bytes w32 id' ++ format_byte f' ∷ t') is))
-one_change (withdrawn id) (revised id' f' t') p q is = absurd (omega (arith, first_is 3 2 (to_le_bytes w32 id) (to_le_bytes w32 id' ++ format_byte f' ∷ t') is))
+one_change (registered id f t) (registered id' f' t') p q is = let e = with_text 1 id id' f f' t t' p.1 q.1 is in
+    λ i. registered (e.0 i) (e.1 i) (e.2 i)
+one_change (registered id f t) (revised id' f' t') p q is =
+    absurd (omega (
+      arith,
+      first_is 1 2 (to_le_bytes w32 id ++ format_byte f ∷ t) (to_le_bytes w32 id' ++ format_byte f'
+          ∷ t') is,
+    ))
+one_change (registered id f t) (withdrawn id') p q is =
+    absurd (omega (arith, first_is 1 3 (to_le_bytes w32 id ++ format_byte f ∷ t) (to_le_bytes w32 id') is))
+one_change (revised id f t) (registered id' f' t') p q is =
+    absurd (omega (
+      arith,
+      first_is 2 1 (to_le_bytes w32 id ++ format_byte f ∷ t) (to_le_bytes w32 id' ++ format_byte f'
+          ∷ t') is,
+    ))
+one_change (revised id f t) (revised id' f' t') p q is = let e = with_text 2 id id' f f' t t' p.1 q.1 is in
+    λ i. revised (e.0 i) (e.1 i) (e.2 i)
+one_change (revised id f t) (withdrawn id') p q is =
+    absurd (omega (arith, first_is 2 3 (to_le_bytes w32 id ++ format_byte f ∷ t) (to_le_bytes w32 id') is))
+one_change (withdrawn id) (registered id' f' t') p q is =
+    absurd (omega (arith, first_is 3 1 (to_le_bytes w32 id) (to_le_bytes w32 id' ++ format_byte f' ∷ t') is))
+one_change (withdrawn id) (revised id' f' t') p q is =
+    absurd (omega (arith, first_is 3 2 (to_le_bytes w32 id) (to_le_bytes w32 id' ++ format_byte f' ∷ t') is))
 one_change (withdrawn id) (withdrawn id') p q is =
-    let e = same_field id id' [] [] p.1 q.1 (ap (λ (l : List ℕ). l ++ []) (behind_is 3 3 (to_le_bytes w32 id) (to_le_bytes w32 id') is)) in
+    let e = same_field id id' [] [] p.1 q.1
+    (ap (λ (l : List ℕ). l ++ []) (behind_is 3 3 (to_le_bytes w32 id) (to_le_bytes w32 id') is)) in
     λ i. withdrawn (e.0 i)
 
-same_changes : (cs ds : List Change) → AllByRecursion IsLogged cs → AllByRecursion IsLogged ds → payloads cs ≡ payloads ds → cs ≡ ds
+same_changes : (cs ds : List Change) → AllByRecursion IsLogged cs → AllByRecursion IsLogged ds
+    → payloads cs ≡ payloads ds → cs ≡ ds
 same_changes [] [] p q is = refl
 same_changes [] (d ∷ ds) p q is = cc is
 same_changes (c ∷ cs) [] p q is = cc is
@@ -126,4 +173,5 @@ same_changes (c ∷ cs) (d ∷ ds) p q is =
     λ i. first i ∷ rest i
 
 pub one_log : (cs ds : List Change) (bytes : List ℕ) → IsLog cs bytes → IsLog ds bytes → cs ≡ ds
-one_log cs ds bytes p q = same_changes cs ds p.logged q.logged (one_list (payloads cs) (payloads ds) bytes p.opens q.opens)
+one_log cs ds bytes p q = same_changes cs ds p.logged q.logged (one_list (payloads cs) (payloads ds) bytes p.opens
+    q.opens)

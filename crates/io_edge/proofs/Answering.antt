@@ -13,26 +13,31 @@ use Rattle.io_edge.proofs.TextLines.{lines_of-line, behind_lf-line, lines_of-las
 
 -- ---- the front of a line that is too long is dropped
 
-dropped_as : (long : Bool) (pending rest : List ℕ) → HasNoLf pending → (long ≡ true) ⊎ (LONGEST_LINE + 1 < length pending)
-    → TooLong ∷ lines_of (behind_lf rest) ≡ cond long (TooLong ∷ lines_of (behind_lf (pending ++ rest))) (lines_of (pending ++ rest))
+dropped_as : (long : Bool) (pending rest : List ℕ) → HasNoLf pending → (long ≡ true)
+    ⊎ (LONGEST_LINE + 1 < length pending)
+    → TooLong ∷ lines_of (behind_lf rest) ≡ cond long (TooLong ∷ lines_of (behind_lf (pending ++ rest)))
+    (lines_of (pending ++ rest))
 dropped_as true pending rest none why = ap (λ l. TooLong ∷ lines_of l) (sym (behind_lf-long pending rest none))
 dropped_as false pending rest none (inl long) = cc
 dropped_as false pending rest none (inr long) = sym (lines_of-long pending rest none long)
 
-pub dropped : (r : Reading) (kept rest : List ℕ) → HasNoLf r.pending → HasNoLf kept → (r.long ≡ true) ⊎ (LONGEST_LINE + 1 < length r.pending)
+pub dropped : (r : Reading) (kept rest : List ℕ) → HasNoLf r.pending → HasNoLf kept → (r.long ≡ true)
+    ⊎ (LONGEST_LINE + 1 < length r.pending)
     → TooLong ∷ lines_of (behind_lf (kept ++ rest)) ≡ lines_left r rest
 dropped r kept rest none kept_none why =
     ap (λ l. TooLong ∷ lines_of l) (behind_lf-long kept rest kept_none) ∙ dropped_as r.long r.pending rest none why
 
 -- ---- a line is cut off
 
-as_text : (b : Bool) (text : List ℕ) (rest : List TextLine) → cond b TooLong (Whole text) ∷ rest ≡ answered (Ok (cond b Long Text)) (cond b [] text) ++ rest
+as_text : (b : Bool) (text : List ℕ) (rest : List TextLine) → cond b TooLong (Whole text) ∷ rest
+    ≡ answered (Ok (cond b Long Text)) (cond b [] text) ++ rest
 as_text true text rest = refl
 as_text false text rest = refl
 
 -- the line that is answered is the text, or too long
 line_as : (long : Bool) (n : ℕ) (text : List ℕ) (rest : List TextLine) → length text ≡ n
-    → cond long TooLong (as_line text) ∷ rest ≡ answered (Ok (cond (long || nat_lt LONGEST_LINE n) Long Text)) (cond (long || nat_lt LONGEST_LINE n) [] text) ++ rest
+    → cond long TooLong (as_line text) ∷ rest ≡ answered (Ok (cond (long || nat_lt LONGEST_LINE n) Long Text))
+    (cond (long || nat_lt LONGEST_LINE n) [] text) ++ rest
 line_as true n text rest h = refl
 line_as false n text rest h = rw (← h) (as_text (nat_lt LONGEST_LINE (length text)) text rest)
 
@@ -44,7 +49,8 @@ few_bytes : (long : Bool) (n : ℕ) → (long || nat_lt LONGEST_LINE n) ≡ fals
 few_bytes true n h = cc
 few_bytes false n h = grind (arith, nat_tests)
 
-text_fits : (b : Bool) (text : List ℕ) → (b ≡ false → length text ≤ LONGEST_LINE) → OnText (Ok (cond b Long Text)) (length (cond b [] text) ≤ LONGEST_LINE)
+text_fits : (b : Bool) (text : List ℕ) → (b ≡ false → length text ≤ LONGEST_LINE)
+    → OnText (Ok (cond b Long Text)) (length (cond b [] text) ≤ LONGEST_LINE)
 text_fits true text h = tt
 text_fits false text h = h refl
 
@@ -53,7 +59,8 @@ no_text true text = refl
 no_text false text = tt
 
 left_line : (long : Bool) (all xs ys : List ℕ) → all ≡ xs ++ LF ∷ ys → HasNoLf xs
-    → cond long (TooLong ∷ lines_of (behind_lf all)) (lines_of all) ≡ cond long TooLong (as_line (without_cr xs)) ∷ lines_of ys
+    → cond long (TooLong ∷ lines_of (behind_lf all)) (lines_of all) ≡ cond long TooLong (as_line (without_cr xs))
+    ∷ lines_of ys
 left_line true all xs ys e none = ap (λ l. TooLong ∷ lines_of l) (ap behind_lf e ∙ behind_lf-line xs ys none)
 left_line false all xs ys e none = ap lines_of e ∙ lines_of-line xs ys none
 
@@ -63,31 +70,40 @@ left_last true xs none some = ap (λ l. TooLong ∷ lines_of l) (behind_lf-none 
 left_last false xs none some = lines_of-last xs none some
 
 -- up to its LF
-pub cuts_lf : (r : Reading) (at n : ℕ) → IsSound r → EndsAt r.pending at → n ≡ length (without_cr (take at r.pending)) → CutsLine (front_line r n) r (behind_line r n (at + 1))
+pub cuts_lf : (r : Reading) (at n : ℕ) → IsSound r → EndsAt r.pending at → n ≡ length (without_cr (take at r.pending))
+    → CutsLine (front_line r n) r (behind_line r n (at + 1))
 cuts_lf r at n sound ends len =
     let xs = take at r.pending in
     let ys = drop (at + 1) r.pending in
     let lf : get_or r.pending at 0 ≡ LF = ends.ends in
-    let split : r.pending ≡ xs ++ LF ∷ ys = sym (take-append-drop at r.pending) ∙ ap (λ l. xs ++ l) (drop_more r.pending at 0 ends.within ∙ ap (λ b. b ∷ ys) lf) in
+    let split : r.pending ≡ xs ++ LF ∷ ys = sym (take-append-drop at r.pending)
+    ∙ ap (λ l. xs ++ l) (drop_more r.pending at 0 ends.within ∙ ap (λ b. b ∷ ys) lf) in
     let short : n ≤ at = omega (arith, without_cr-le xs, length-take at r.pending) in
-    let text : take n r.pending ≡ without_cr xs = sym (take-take n at r.pending short) ∙ ap (λ k. take k xs) len ∙ take-without_cr xs in
+    let text : take n r.pending ≡ without_cr xs = sym (take-take n at r.pending short) ∙ ap (λ k. take k xs) len
+    ∙ take-without_cr xs in
     record {
       whole = inl (at, ends.within, get_or_default r.pending at LF 0 ends.within ∙ lf);
       is_line = line_not_end (is_long r n);
       lines = λ rest met.
-          left_line r.long (r.pending ++ rest) xs (ys ++ rest) (ap (λ l. l ++ rest) split ∙ append_assoc xs (LF ∷ ys) rest) ends.before
+          left_line r.long (r.pending ++ rest) xs (ys ++ rest) (ap (λ l. l ++ rest) split
+          ∙ append_assoc xs (LF ∷ ys) rest) ends.before
           ∙ line_as r.long n (without_cr xs) (lines_of (ys ++ rest)) (sym len)
           ∙ ap (λ t. answered (Ok (front_line r n)) (cond (is_long r n) [] t) ++ lines_of (ys ++ rest)) (sym text);
       taken = refl;
       limit = refl;
       ended = refl;
       progress = omega (arith, length-drop (at + 1) r.pending, ends.within, sound.pending);
-      fits = text_fits (is_long r n) (take n r.pending) (λ h. omega (arith, few_bytes r.long n h, length-take n r.pending));
+      fits = text_fits (is_long r n) (take n r.pending) (λ h. omega (
+        arith,
+        few_bytes r.long n h,
+        length-take n r.pending,
+      ));
       none = no_text (is_long r n) (take n r.pending);
     }
 
 -- up to the end
-pub cuts_last : (r : Reading) → IsSound r → HasNoLf r.pending → r.ended ≡ true → 0 < length r.pending → CutsLine (front_line r (length r.pending)) r (behind_line r (length r.pending) (length r.pending))
+pub cuts_last : (r : Reading) → IsSound r → HasNoLf r.pending → r.ended ≡ true → 0 < length r.pending
+    → CutsLine (front_line r (length r.pending)) r (behind_line r (length r.pending) (length r.pending))
 cuts_last r sound none ended some =
     let xs = r.pending in
     let n = length r.pending in
@@ -102,7 +118,8 @@ cuts_last r sound none ended some =
           ∙ left_last r.long xs none some
           ∙ line_as r.long n xs [] refl
           ∙ ap (λ t. answered (Ok (front_line r n)) (cond (is_long r n) [] t) ++ []) (sym text)
-          ∙ ap (λ l. answered (Ok (front_line r n)) (cond (is_long r n) [] (take n xs)) ++ lines_of l) (sym (ap (λ l. l ++ rest) behind ∙ met ended));
+          ∙ ap (λ l. answered (Ok (front_line r n)) (cond (is_long r n) [] (take n xs)) ++ lines_of l)
+          (sym (ap (λ l. l ++ rest) behind ∙ met ended));
       taken = refl;
       limit = refl;
       ended = refl;

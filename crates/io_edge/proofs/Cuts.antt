@@ -36,13 +36,15 @@ is_lf : (b : ℕ) → b == LF ≡ true → b ≡ LF
 is_lf b h = grind (arith, nat_tests)
 
 -- the first LF behind bytes that have none is the first of all
-pub ends_behind : (xs : List ℕ) (n at : ℕ) → n ≤ length xs → HasNoLf (take n xs) → position (λ b. b == LF) (drop n xs) ≡ Some at → EndsAt xs (n + at)
+pub ends_behind : (xs : List ℕ) (n at : ℕ) → n ≤ length xs → HasNoLf (take n xs) → position (λ b. b == LF) (drop n xs)
+    ≡ Some at → EndsAt xs (n + at)
 ends_behind xs n at fits front h =
     let found = position-Some (λ b. b == LF) (drop n xs) at 0 h in
     record {
       within = omega (arith, length-drop n xs);
       ends = sym (get_or-drop n xs at 0) ∙ is_lf _ found.1;
-      before = subst HasNoLf (sym (take-add n at xs)) (All-append (λ b. b ≢ LF) _ _ front (no_lf_before (drop n xs) at h));
+      before = subst HasNoLf (sym (take-add n at xs))
+          (All-append (λ b. b ≢ LF) _ _ front (no_lf_before (drop n xs) at h));
     }
 
 -- the CR at the end is dropped

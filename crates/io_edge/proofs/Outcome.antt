@@ -42,7 +42,18 @@ reads_again a b c x y z p q = record {
 
 -- the text says nothing of what is left
 pub reads_textless : (a b : Reading) (x y : Option (List ℕ)) → Reads a b x y → Reads a (record b { text = [] }) x y
-reads_textless a b x y p = record { got = p.got; leaves = p.leaves; counts = record { taken = p.counts.taken; limit = p.counts.limit; within = p.counts.within }; lines = p.lines; progress = p.progress }
+reads_textless a b x y p = record {
+  got = p.got;
+  leaves = p.leaves;
+  counts = record {
+    taken = p.counts.taken;
+    limit =
+        p.counts.limit;
+    within = p.counts.within;
+  };
+  lines = p.lines;
+  progress = p.progress;
+}
 
 -- ---- the end
 
@@ -81,7 +92,8 @@ finished_lines new l' h e =
     ap (λ b. cond b (TooLong ∷ lines_of (behind_lf (new.pending ++ l'))) (lines_of (new.pending ++ l'))) h.short
     ∙ ap lines_of (ap (λ p. p ++ l') h.none ∙ e)
 
-told_lines : (answer : Result Line LineFault) (old new : Reading) (l l' : List ℕ) → lines_left old l ≡ answered answer new.text ++ lines_left new l'
+told_lines : (answer : Result Line LineFault) (old new : Reading) (l l' : List ℕ) → lines_left old l
+    ≡ answered answer new.text ++ lines_left new l'
     → (answer ≡ Ok End → (l' ≡ []) × IsFinished new) → Told answer old new l l'
 told_lines (Ok Text) old new l l' e end = e
 told_lines (Ok Long) old new l l' e end = e
@@ -92,23 +104,35 @@ split_known : (l l' got : List ℕ) (x y : Option (List ℕ)) → x ≡ Some l �
 split_known l l' got x y p q h = let a = subst (λ v. Leaves v got y) p h in subst (λ v. Leaves (Some l) got v) q a
 
 -- the answer in the words of a source that tells what is left
-pub told_of : (answer : Result Line LineFault) (old new : Reading) (got l l' : List ℕ) (x y : Option (List ℕ)) → x ≡ Some l → y ≡ Some l' → Leaves x got y
-    → Answers answer old got new → (IsTrue new.ended → l' ≡ []) → (answer ≡ Ok End → IsFinished new) → Told answer old new l l'
+pub told_of : (answer : Result Line LineFault) (old new : Reading) (got l l' : List ℕ) (x y : Option (List ℕ))
+    → x ≡ Some l → y ≡ Some l' → Leaves x got y
+    → Answers answer old got new → (IsTrue new.ended → l' ≡ []) → (answer ≡ Ok End → IsFinished new)
+    → Told answer old new l l'
 told_of answer old new got l l' x y p q leaves answers met finished =
-    told_lines answer old new l l' (ap (lines_left old) (split_known l l' got x y p q leaves) ∙ answers l' met) (λ e. (met (finished e).ended, finished e))
+    told_lines answer old new l l' (ap (lines_left old) (split_known l l' got x y p q leaves) ∙ answers l' met)
+    (λ e. (met (finished e).ended, finished e))
 
 -- a call that answers from what was held behind what was read
-pub answers_after : (answer : Result Line LineFault) (a b c : Reading) (x y : Option (List ℕ)) (p : Reads a b x y) → AnswersHeld answer b c → Answers answer a p.got c
+pub answers_after : (answer : Result Line LineFault) (a b c : Reading) (x y : Option (List ℕ)) (p : Reads a b x y)
+    → AnswersHeld answer b c → Answers answer a p.got c
 answers_after answer a b c x y p held = λ rest met. sym (p.lines rest) ∙ held.lines rest met
 
-pub answers_fault : (f : LineFault) (a b : Reading) (x y : Option (List ℕ)) (p : Reads a b x y) → Answers (Err f) a p.got b
+pub answers_fault : (f : LineFault) (a b : Reading) (x y : Option (List ℕ)) (p : Reads a b x y)
+    → Answers (Err f) a p.got b
 answers_fault f a b x y p = λ rest met. sym (p.lines rest)
 
-pub told_fault : (a b : Reading) (l l' : List ℕ) (x y : Option (List ℕ)) (p : Reads a b x y) → x ≡ Some l → y ≡ Some l' → lines_left b l' ≡ lines_left a l
+pub told_fault : (a b : Reading) (l l' : List ℕ) (x y : Option (List ℕ)) (p : Reads a b x y) → x ≡ Some l → y ≡ Some l'
+    → lines_left b l' ≡ lines_left a l
 told_fault a b l l' x y p hx hy = p.lines l' ∙ ap (lines_left a) (sym (split_known l l' p.got x y hx hy p.leaves))
 
-pub counts_after : (answer : Result Line LineFault) (a b c : Reading) (got : List ℕ) → Counts a got b → AnswersHeld answer b c → Counts a got c
-counts_after answer a b c got p held = record { taken = held.taken ∙ p.taken; limit = held.limit ∙ p.limit; within = omega (arith, held.taken, held.limit, p.within) }
+pub counts_after : (answer : Result Line LineFault) (a b c : Reading) (got : List ℕ) → Counts a got b
+    → AnswersHeld answer b c → Counts a got c
+counts_after answer a b c got p held = record {
+  taken = held.taken ∙ p.taken;
+  limit = held.limit ∙ p.limit;
+  within =
+      omega (arith, held.taken, held.limit, p.within);
+}
 
 pub line_rises : (answer : Result Line LineFault) (a b c : ℕ) → a ≤ b → OnLine answer (b < c) → OnLine answer (a < c)
 line_rises (Ok Text) a b c p q = omega arith
@@ -139,7 +163,8 @@ module _ {S : Type 0} (left : S → Option (List ℕ)) (faults : S → ℕ) wher
   abbrev pub Started : Reading → S → Reading → S → Type 0
   Started r s r' s' = ((r' ≡ r) × (s' ≡ s)) ⊎ UnderWay r s r' s'
 
-  pub reads_of : (r : Reading) (s : S) (r' : Reading) (s' : S) → Started r s r' s' → IsSound r' → Reads r r' (left s) (left s')
+  pub reads_of : (r : Reading) (s : S) (r' : Reading) (s' : S) → Started r s r' s' → IsSound r'
+      → Reads r r' (left s) (left s')
   reads_of r s r' s' (inl same) sound = rw (← same.0, ← same.1) (reads_nil r' (left s') sound)
   reads_of r s r' s' (inr under) sound = under.reads
 
@@ -151,8 +176,10 @@ module _ {S : Type 0} (left : S → Option (List ℕ)) (faults : S → ℕ) wher
   none_of r s r' s' (inl same) h can = h (subst CanAnswer (sym same.0) can)
   none_of r s r' s' (inr under) h can = under.none can
 
-  pub goes_on : (r : Reading) (s : S) (r' : Reading) (s' : S) (mid new : Reading) (s'' : S) → Started r s r' s' → IsSound r' → NeedsMore r' → mid ≡ record r' { text = [] }
-      → Reads mid new (left s') (left s'') → faults s' ≤ faults s'' → (IsTrue new.ended → IsEndOf (left s') (left s'')) → UnderWay r s new s''
+  pub goes_on : (r : Reading) (s : S) (r' : Reading) (s' : S) (mid new : Reading) (s'' : S) → Started r s r' s'
+      → IsSound r' → NeedsMore r' → mid ≡ record r' { text = [] }
+      → Reads mid new (left s') (left s'') → faults s' ≤ faults s'' → (IsTrue new.ended → IsEndOf (left s') (left s''))
+      → UnderWay r s new s''
   goes_on r s r' s' mid new s'' started sound needs same reads count end =
       let before = reads_of r s r' s' started sound in
       let before' : Reads r mid (left s) (left s') = rw same (reads_textless r r' (left s) (left s') before) in
@@ -163,18 +190,22 @@ module _ {S : Type 0} (left : S → Option (List ℕ)) (faults : S → ℕ) wher
         end = λ e. end_of (left s) (left s') (left s'') before.got before.leaves (end e);
       }
 
-  pub met_of : (r : Reading) (s : S) (r' : Reading) (s' : S) (l l' : List ℕ) → Started r s r' s' → left s ≡ Some l → left s' ≡ Some l' → (IsTrue r.ended → l ≡ []) → IsTrue r'.ended → l' ≡ []
-  met_of r s r' s' l l' (inl same) p q h e = same_Some l' l (sym q ∙ ap left same.1 ∙ p) ∙ h (subst (λ (v : Reading). IsTrue v.ended) same.0 e)
+  pub met_of : (r : Reading) (s : S) (r' : Reading) (s' : S) (l l' : List ℕ) → Started r s r' s' → left s ≡ Some l
+      → left s' ≡ Some l' → (IsTrue r.ended → l ≡ []) → IsTrue r'.ended → l' ≡ []
+  met_of r s r' s' l l' (inl same) p q h e = same_Some l' l (sym q ∙ ap left same.1 ∙ p)
+      ∙ h (subst (λ (v : Reading). IsTrue v.ended) same.0 e)
   met_of r s r' s' l l' (inr under) p q h e = at_end_of l l' (left s) (left s') p q (under.end e)
 
   pub untouched_of : (r : Reading) (s : S) (r' : Reading) (s' : S) → Started r s r' s' → CanAnswer r → s' ≡ s
   untouched_of r s r' s' (inl same) can = same.1
   untouched_of r s r' s' (inr under) can = absurd (under.none can)
 
-  pub at_limit_of : (answer : Result Line LineFault) (r : Reading) (s : S) (r' : Reading) (s' : S) (new : Reading) → Started r s r' s' → AnswersHeld answer r' new → IsAtLimit r → answer ≡ Err fault.TooLong
+  pub at_limit_of : (answer : Result Line LineFault) (r : Reading) (s : S) (r' : Reading) (s' : S) (new : Reading)
+      → Started r s r' s' → AnswersHeld answer r' new → IsAtLimit r → answer ≡ Err fault.TooLong
   at_limit_of answer r s r' s' new (inl same) held h = held.at_limit (subst IsAtLimit (sym same.0) h)
   at_limit_of answer r s r' s' new (inr under) held h = absurd (under.none (can_at_limit r h))
 
-  pub finished_of : (answer : Result Line LineFault) (r : Reading) (s : S) (r' : Reading) (s' : S) (new : Reading) → Started r s r' s' → AnswersHeld answer r' new → IsFinished r → answer ≡ Ok End
+  pub finished_of : (answer : Result Line LineFault) (r : Reading) (s : S) (r' : Reading) (s' : S) (new : Reading)
+      → Started r s r' s' → AnswersHeld answer r' new → IsFinished r → answer ≡ Ok End
   finished_of answer r s r' s' new (inl same) held h = held.finished (subst IsFinished (sym same.0) h)
   finished_of answer r s r' s' new (inr under) held h = absurd (under.none (can_finished r h))

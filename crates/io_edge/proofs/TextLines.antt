@@ -30,7 +30,10 @@ behind_lf-front : (xs rest : List ℕ) → NoLf xs → behind_lf (xs ++ rest) �
 behind_lf-front [] rest h = refl
 behind_lf-front (x ∷ xs) rest h = rw (not_lf x h.0) (behind_lf-front xs rest h.1)
 
-in_front-cons : (xs : List ℕ) (p : Piece) (ps : List Piece) → in_front xs (p ∷ ps) ≡ record { bytes = xs ++ p.bytes; ended = p.ended } ∷ ps
+in_front-cons : (xs : List ℕ) (p : Piece) (ps : List Piece) → in_front xs (p ∷ ps) ≡ record {
+  bytes = xs ++ p.bytes;
+  ended = p.ended;
+} ∷ ps
 in_front-cons [] p ps = refl
 in_front-cons (x ∷ xs) p ps = ap (before_first x) (in_front-cons xs p ps)
 
@@ -49,17 +52,19 @@ others-before_first x (p ∷ ps) = refl
 
 pieces-behind_lf : (xs : List ℕ) → pieces (behind_lf xs) ≡ others (pieces xs)
 pieces-behind_lf [] = refl
-pieces-behind_lf (x ∷ xs) = elim (x == LF) as (λ b. pieces (cond b xs (behind_lf xs)) ≡ others (cond b (record { bytes = []; ended = true } ∷ pieces xs) (before_first x (pieces xs)))) [
-  | true ↦ refl
-  | false ↦ pieces-behind_lf xs ∙ sym (others-before_first x (pieces xs))
-]
+pieces-behind_lf (x ∷ xs) = elim (x == LF) as (λ b. pieces (cond b xs (behind_lf xs))
+    ≡ others (cond b (record { bytes = []; ended = true } ∷ pieces xs) (before_first x (pieces xs)))) [
+      | true ↦ refl
+      | false ↦ pieces-behind_lf xs ∙ sym (others-before_first x (pieces xs))
+    ]
 
 -- ---- the first line
 
 abbrev line_of : Piece → TextLine
 line_of piece = as_line (text_of piece)
 
-pub lines_of-line : (xs rest : List ℕ) → HasNoLf xs → lines_of (xs ++ LF ∷ rest) ≡ as_line (without_cr xs) ∷ lines_of rest
+pub lines_of-line : (xs rest : List ℕ) → HasNoLf xs → lines_of (xs ++ LF ∷ rest) ≡ as_line (without_cr xs)
+    ∷ lines_of rest
 lines_of-line xs rest h =
     ap (map line_of) (pieces-front xs (LF ∷ rest) (by_recursion xs h) ∙ in_front-cons xs _ (pieces rest))
     ∙ ap (λ l. as_line (without_cr l) ∷ lines_of rest) (append-nil xs)
@@ -87,19 +92,23 @@ length-without_cr (x ∷ y ∷ xs) = omega (arith, length-without_cr (y ∷ xs))
 too_long : (text : List ℕ) → LONGEST_LINE < length text → as_line text ≡ TooLong
 too_long text h = grind (arith, nat_tests)
 
-length-text_of : (bytes : List ℕ) (ended : Bool) → length bytes ≤ length (text_of (record { bytes = bytes; ended = ended })) + 1
+length-text_of : (bytes : List ℕ) (ended : Bool)
+    → length bytes ≤ length (text_of (record { bytes = bytes; ended = ended })) + 1
 length-text_of bytes true = length-without_cr bytes
 length-text_of bytes false = omega arith
 
-long_front : (xs : List ℕ) (ps : List Piece) → LONGEST_LINE + 1 < length xs → map line_of (in_front xs ps) ≡ TooLong ∷ map line_of (others ps)
+long_front : (xs : List ℕ) (ps : List Piece) → LONGEST_LINE + 1 < length xs → map line_of (in_front xs ps) ≡ TooLong
+    ∷ map line_of (others ps)
 long_front [] ps long = absurd (omega arith)
 long_front (x ∷ xs) [] long = ap (map line_of) (in_front-nil x xs) ∙ ap (λ l. l ∷ []) (too_long (x ∷ xs) (omega arith))
 long_front (x ∷ xs) (p ∷ ps) long =
     let bytes = (x ∷ xs) ++ p.bytes in
     ap (map line_of) (in_front-cons (x ∷ xs) p ps)
-    ∙ ap (λ l. l ∷ map line_of ps) (too_long _ (omega (arith, length-text_of bytes p.ended, length-append (x ∷ xs) p.bytes)))
+    ∙ ap (λ l. l ∷ map line_of ps)
+    (too_long _ (omega (arith, length-text_of bytes p.ended, length-append (x ∷ xs) p.bytes)))
 
-pub lines_of-long : (xs rest : List ℕ) → HasNoLf xs → LONGEST_LINE + 1 < length xs → lines_of (xs ++ rest) ≡ TooLong ∷ lines_of (behind_lf rest)
+pub lines_of-long : (xs rest : List ℕ) → HasNoLf xs → LONGEST_LINE + 1 < length xs → lines_of (xs ++ rest) ≡ TooLong
+    ∷ lines_of (behind_lf rest)
 lines_of-long xs rest h long =
     ap (map line_of) (pieces-front xs rest (by_recursion xs h))
     ∙ long_front xs (pieces rest) long
@@ -113,7 +122,11 @@ behind_lf-long xs rest h = behind_lf-front xs rest (by_recursion xs h)
 pub take-without_cr : (xs : List ℕ) → take (length (without_cr xs)) xs ≡ without_cr xs
 take-without_cr [] = refl
 take-without_cr (x ∷ []) =
-    elim (x == CR) as (λ b. take (length (cond b [] (x ∷ []))) (x ∷ []) ≡ cond b [] (x ∷ [])) [ true ↦ refl | false ↦ refl ]
+    elim (x == CR) as (λ b. take (length (cond b [] (x ∷ []))) (x ∷ []) ≡ cond b [] (x ∷ [])) [
+      | true ↦ refl
+      | false ↦
+          refl
+    ]
 take-without_cr (x ∷ y ∷ xs) = ap (λ l. x ∷ l) (take-without_cr (y ∷ xs))
 
 pub without_cr-le : (xs : List ℕ) → length (without_cr xs) ≤ length xs

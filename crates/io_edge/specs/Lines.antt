@@ -58,11 +58,13 @@ pub record Reading : Type 0 where
 
 -- the lines that are still to be answered, where these bytes are left in the source
 abbrev pub lines_left : Reading → List ℕ → List TextLine
-lines_left reading left = if reading.long then TooLong ∷ lines_of (behind_lf (reading.pending ++ left)) else lines_of (reading.pending ++ left)
+lines_left reading left = if reading.long then TooLong ∷ lines_of (behind_lf (reading.pending ++ left)) else lines_of
+    (reading.pending ++ left)
 
 -- A whole line is left to answer in what was taken: an LF, or the end was met behind bytes or a long line.
 abbrev pub HasWholeLine : Reading → Type 0
-HasWholeLine reading = Contains reading.pending LF ⊎ (IsTrue reading.ended × ((0 < length reading.pending) ⊎ IsTrue reading.long))
+HasWholeLine reading = Contains reading.pending LF
+    ⊎ (IsTrue reading.ended × ((0 < length reading.pending) ⊎ IsTrue reading.long))
 
 -- as many bytes were taken as may be, the end was not met, and no whole line is left to answer
 pub record IsAtLimit (reading : Reading) : Type 0 where

@@ -21,7 +21,8 @@ answered (Err f) text = []
 -- However the input goes on behind what was taken (where its end was met, not at all): the lines that were
 -- left are the one that is answered and those that are left then.
 abbrev pub Answers : Result Line LineFault → Reading → List ℕ → Reading → Type 0
-Answers answer old got new = (rest : List ℕ) → (IsTrue new.ended → rest ≡ []) → lines_left old (got ++ rest) ≡ answered answer new.text ++ lines_left new rest
+Answers answer old got new = (rest : List ℕ) → (IsTrue new.ended → rest ≡ []) → lines_left old (got ++ rest)
+    ≡ answered answer new.text ++ lines_left new rest
 
 -- these bytes were taken, and no more than the limit allows
 pub record Counts (old : Reading) (got : List ℕ) (new : Reading) : Type 0 where

@@ -33,9 +33,13 @@ impl Model for Buffer {
 
     ghost Value = { Held };
 
-    ghost view = { λ b. record { text = between b.text_start b.text_end b.block.items; bytes = between b.start b.end b.block.items } };
+    ghost view = { λ b. record {
+      text = between b.text_start b.text_end b.block.items;
+      bytes = between b.start b.end b.block.items;
+    } };
 
-    ghost invariant = { λ b. (length b.block.items ≡ CAPACITY) × (b.text_start ≤ b.text_end) × (b.text_end ≤ CAPACITY) × (b.start ≤ b.end) × (b.end ≤ CAPACITY) };
+    ghost invariant = { λ b. (length b.block.items ≡ CAPACITY)
+        × (b.text_start ≤ b.text_end) × (b.text_end ≤ CAPACITY) × (b.start ≤ b.end) × (b.end ≤ CAPACITY) };
 }
 
 impl Buffer {
@@ -86,7 +90,8 @@ impl Buffer {
 
         ensures some { IfBytes result (λ n. 0 < n) }
         ensures few { number_of result ≤ most }
-        ensures gained { Gains self.old.bytes self.new.bytes (number_of result) (S.left source.old) (S.left source.new) }
+        ensures gained { Gains self.old.bytes self.new.bytes (number_of result)
+            (S.left source.old) (S.left source.new) }
         ensures text { self.new.text ≡ [] }
         ensures end { OnEnd result (IsAtEnd (S.left source.old)) }
         ensures failed { OnFailed result (Rose (S.faults source.old) (S.faults source.new)) }

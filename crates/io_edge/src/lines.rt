@@ -78,7 +78,14 @@ impl Model for Lines {
 
     ghost Value = { Reading };
 
-    ghost view = { λ s. record { pending = s.buffer.bytes; long = s.long; taken = s.taken; limit = s.limit; ended = s.ended; text = s.buffer.text } };
+    ghost view = { λ s. record {
+      pending = s.buffer.bytes;
+      long = s.long;
+      taken = s.taken;
+      limit = s.limit;
+      ended = s.ended;
+      text = s.buffer.text;
+    } };
 
     ghost invariant = { λ s. record {
       scanned : s.scanned ≤ length s.buffer.bytes;
@@ -92,7 +99,14 @@ impl Model for Lines {
 impl Lines {
     /// The lines of a source of which at most `limit` bytes are taken. All its memory is taken here.
     pub fn new(alloc: Global, limit: u64) -> Result<Lines, AllocError>
-        ensures { IfOk result (λ lines. lines ≡ record { pending = []; long = false; taken = 0; limit = limit; ended = false; text = [] }) }
+        ensures { IfOk result (λ lines. lines ≡ record {
+          pending = [];
+          long = false;
+          taken = 0;
+          limit = limit;
+          ended = false;
+          text = [];
+        }) }
     {
         let buffer = Buffer::new(alloc)?;
         Ok(Lines {
@@ -116,8 +130,8 @@ impl Lines {
     /// was taken. It takes no memory. All calls are to be given one source, whose end stays its end.
     pub fn next_line<S: Source>(&mut self, source: &mut S) -> Result<Line, LineFault>
         // What was taken, and that the answer is right, however the input goes on.
-        ensures bytes { (got : List ℕ) × Leaves (S.left source.old) got (S.left source.new) × Counts self.old got self.new
-            × Answers result self.old got self.new }
+        ensures bytes { (got : List ℕ) × Leaves (S.left source.old) got (S.left source.new)
+            × Counts self.old got self.new × Answers result self.old got self.new }
 
         // The same, where the source tells what is left, and has nothing left once its end was met.
         ensures told { (l l' : List ℕ) → S.left source.old ≡ Some l → S.left source.new ≡ Some l'
@@ -131,7 +145,8 @@ impl Lines {
         ensures text { OnText result (length self.new.text ≤ LONGEST_LINE) }
         ensures no_text { OnNoText result (self.new.text ≡ []) }
 
-        ensures source_fault { result ≡ Err LineFault.Source → Rose (S.faults source.old) (S.faults source.new) × ¬ HasWholeLine self.new }
+        ensures source_fault { result ≡ Err LineFault.Source
+            → Rose (S.faults source.old) (S.faults source.new) × ¬ HasWholeLine self.new }
         ensures below_limit { result ≡ Err LineFault.Source → self.new.taken < self.new.limit }
         ensures too_long { result ≡ Err LineFault.TooLong → IsAtLimit self.new }
         ensures at_limit { IsAtLimit self.old → result ≡ Err LineFault.TooLong }

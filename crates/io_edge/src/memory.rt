@@ -27,7 +27,13 @@ impl Model for MemSource {
 
     ghost Value = { Feed };
 
-    ghost view = { λ s. record { left = drop s.at s.bytes.items; piece = s.piece; fails = s.fails.items; takes = s.takes; faults = s.faults } };
+    ghost view = { λ s. record {
+      left = drop s.at s.bytes.items;
+      piece = s.piece;
+      fails = s.fails.items;
+      takes = s.takes;
+      faults = s.faults;
+    } };
 
     ghost invariant = { λ s. (s.at ≤ length s.bytes.items) × (1 ≤ s.piece) };
 }
@@ -60,7 +66,8 @@ impl Source for MemSource {
         requires { 0 < length room.old }
 
         ensures number { feed.IfBytes result (λ n. (0 < n) × (n ≤ length room.old)) }
-        ensures moved { feed.IfBytes result (λ n. feed.Leaves (Some self.old.left) (take n room.new) (Some self.new.left)) }
+        ensures moved { feed.IfBytes result (λ n. feed.Leaves (Some self.old.left)
+            (take n room.new) (Some self.new.left)) }
         ensures behind { feed.IfBytes result (λ n. drop n room.new ≡ drop n room.old) }
         ensures end { feed.OnEnd result (IsAtEnd (Some self.old.left)) }
         ensures at_end { feed.OnEnd result (feed.Leaves (Some self.old.left) [] (Some self.new.left)) }
@@ -151,7 +158,8 @@ impl Sink for MemSink {
     fn put(&mut self, bytes: &[u8]) -> Result<(), PutFault>
         ensures ok { OnOk result (Appends (Some self.old.bytes) (Some self.new.bytes) bytes.now) }
         ensures failed { store.OnFailed result (Rose self.old.faults self.new.faults) }
-        ensures part { store.OnFailed result (store.AppendsPrefix (Some self.old.bytes) (Some self.new.bytes) bytes.now) }
+        ensures part { store.OnFailed result
+            (store.AppendsPrefix (Some self.old.bytes) (Some self.new.bytes) bytes.now) }
         ensures no_memory { store.OnNoMemory result (Appends (Some self.old.bytes) (Some self.new.bytes) []) }
         ensures count { self.old.faults ≤ self.new.faults }
         ensures held { self.new.faults < 2 ^ 64 }

@@ -11,7 +11,8 @@ use Rattle.journal_core.specs.declared.format.TheConstants.{OPEN, CLOSED}
 length-body : (payload : List ℕ) → length (body payload) ≡ 4 + length payload
 length-body payload = length-append (to_le_bytes w32 (length payload)) payload
 
-records_push : (payloads : List (List ℕ)) (payload rest : List ℕ) → records (payloads ++ payload ∷ []) ++ rest ≡ records payloads ++ OPEN ∷ (body payload ++ rest)
+records_push : (payloads : List (List ℕ)) (payload rest : List ℕ) → records (payloads ++ payload ∷ []) ++ rest
+    ≡ records payloads ++ OPEN ∷ (body payload ++ rest)
 records_push [] payload rest = ap (λ (l : List ℕ). OPEN ∷ (l ++ rest)) (append-nil (body payload))
 records_push (p ∷ payloads) payload rest = ap (λ (l : List ℕ). OPEN ∷ l)
     (append_assoc (body p) (records (payloads ++ payload ∷ [])) rest
@@ -19,24 +20,33 @@ records_push (p ∷ payloads) payload rest = ap (λ (l : List ℕ). OPEN ∷ l)
     ∙ sym (append_assoc (body p) (records payloads) (OPEN ∷ (body payload ++ rest))))
 
 -- one record more
-pub front_push : (payloads : List (List ℕ)) (payload rest : List ℕ) → front (payloads ++ payload ∷ []) ++ rest ≡ front payloads ++ OPEN ∷ (body payload ++ rest)
+pub front_push : (payloads : List (List ℕ)) (payload rest : List ℕ) → front (payloads ++ payload ∷ []) ++ rest
+    ≡ front payloads ++ OPEN ∷ (body payload ++ rest)
 unfolding front
 front_push payloads payload rest =
     append_assoc header (records (payloads ++ payload ∷ [])) rest
     ∙ ap (λ (l : List ℕ). header ++ l) (records_push payloads payload rest)
     ∙ sym (append_assoc header (records payloads) (OPEN ∷ (body payload ++ rest)))
 
-pub length-front_push : (payloads : List (List ℕ)) (payload : List ℕ) → length (front (payloads ++ payload ∷ [])) ≡ length (front payloads) + 5 + length payload
+pub length-front_push : (payloads : List (List ℕ)) (payload : List ℕ) → length (front (payloads ++ payload ∷ []))
+    ≡ length (front payloads) + 5 + length payload
 length-front_push payloads payload =
     let same : front (payloads ++ payload ∷ []) ≡ front payloads ++ OPEN ∷ (body payload ++ []) =
     sym (append-nil (front (payloads ++ payload ∷ []))) ∙ front_push payloads payload [] in
-    omega (arith, ap length same, length-append (front payloads) (OPEN ∷ (body payload ++ [])), length-append (body payload) [], length-body payload)
+    omega (
+      arith,
+      ap length same,
+      length-append (front payloads) (OPEN ∷ (body payload ++ [])),
+      length-append (body payload) [],
+      length-body payload,
+    )
 
 pub front_nil : front [] ≡ header
 unfolding front
 front_nil = append-nil header
 
-pub all_short : (payloads : List (List ℕ)) (payload : List ℕ) → AllByRecursion IsShort payloads → IsShort payload → AllByRecursion IsShort (payloads ++ payload ∷ [])
+pub all_short : (payloads : List (List ℕ)) (payload : List ℕ) → AllByRecursion IsShort payloads → IsShort payload
+    → AllByRecursion IsShort (payloads ++ payload ∷ [])
 all_short [] payload fit few = (few, tt)
 all_short (p ∷ payloads) payload fit few = (fit.0, all_short payloads payload fit.1 few)
 
@@ -45,19 +55,25 @@ same_length : (p q rest rest' : List ℕ) → IsShort p → IsShort q → body p
 same_length p q rest rest' fit fit' is =
     let fields : to_le_bytes w32 (length p) ≡ to_le_bytes w32 (length q) =
     sym (take_at (to_le_bytes w32 (length p)) (p ++ rest) 4 refl)
-    ∙ ap (λ (l : List ℕ). take 4 l) (sym (append_assoc (to_le_bytes w32 (length p)) p rest) ∙ is ∙ append_assoc (to_le_bytes w32 (length q)) q rest')
+    ∙ ap (λ (l : List ℕ). take 4 l) (sym (append_assoc (to_le_bytes w32 (length p)) p rest) ∙ is
+    ∙ append_assoc (to_le_bytes w32 (length q)) q rest')
     ∙ take_at (to_le_bytes w32 (length q)) (q ++ rest') 4 refl in
-    sym (from_le_bytes-to_le_bytes_4 (length p) (omega (arith, fit))) ∙ ap (λ (l : List ℕ). from_le_bytes w32 l) fields ∙ from_le_bytes-to_le_bytes_4 (length q) (omega (arith, fit'))
+    sym (from_le_bytes-to_le_bytes_4 (length p) (omega (arith, fit))) ∙ ap (λ (l : List ℕ). from_le_bytes w32 l) fields
+    ∙ from_le_bytes-to_le_bytes_4 (length q) (omega (arith, fit'))
 
-pub same_body : (p q rest rest' : List ℕ) → IsShort p → IsShort q → body p ++ rest ≡ body q ++ rest' → (p ≡ q) × (rest ≡ rest')
+pub same_body : (p q rest rest' : List ℕ) → IsShort p → IsShort q → body p ++ rest ≡ body q ++ rest' → (p ≡ q)
+    × (rest ≡ rest')
 same_body p q rest rest' fit fit' is =
     let len = same_length p q rest rest' fit fit' is in
     let behind : p ++ rest ≡ q ++ rest' =
     sym (drop_at (to_le_bytes w32 (length p)) (p ++ rest) 4 refl)
-    ∙ ap (λ (l : List ℕ). drop 4 l) (sym (append_assoc (to_le_bytes w32 (length p)) p rest) ∙ is ∙ append_assoc (to_le_bytes w32 (length q)) q rest')
+    ∙ ap (λ (l : List ℕ). drop 4 l) (sym (append_assoc (to_le_bytes w32 (length p)) p rest) ∙ is
+    ∙ append_assoc (to_le_bytes w32 (length q)) q rest')
     ∙ drop_at (to_le_bytes w32 (length q)) (q ++ rest') 4 refl in (
-      sym (take_at p rest (length p) refl) ∙ ap (λ (l : List ℕ). take (length p) l) behind ∙ take_at q rest' (length p) (sym len),
-      sym (drop_at p rest (length p) refl) ∙ ap (λ (l : List ℕ). drop (length p) l) behind ∙ drop_at q rest' (length p) (sym len),
+      sym (take_at p rest (length p) refl) ∙ ap (λ (l : List ℕ). take (length p) l) behind
+          ∙ take_at q rest' (length p) (sym len),
+      sym (drop_at p rest (length p) refl) ∙ ap (λ (l : List ℕ). drop (length p) l) behind
+          ∙ drop_at q rest' (length p) (sym len),
     )
 
 same_tail : (a b : ℕ) (xs ys : List ℕ) → a ∷ xs ≡ b ∷ ys → xs ≡ ys
@@ -79,9 +95,17 @@ abbrev Compared : List (List ℕ) → List (List ℕ) → List ℕ → List ℕ 
 Compared ps qs t u = ((ps ≡ qs) × (t ≡ u)) ⊎ (GoesOn ps qs t ⊎ GoesOn qs ps u)
 
 later : (p q : List ℕ) (ps qs : List (List ℕ)) (t : List ℕ) → p ≡ q → GoesOn ps qs t → GoesOn (p ∷ ps) (q ∷ qs) t
-later p q ps qs t same on = record { payload = on.payload; rest = on.rest; more = on.more; is = on.is; short = on.short; longer = λ i. sym same i ∷ on.longer i }
+later p q ps qs t same on = record {
+  payload = on.payload;
+  rest = on.rest;
+  more = on.more;
+  is = on.is;
+  short = on.short;
+  longer = λ i. sym same i ∷ on.longer i;
+}
 
-compare_records : (ps qs : List (List ℕ)) (t u : List ℕ) → AllByRecursion IsShort ps → AllByRecursion IsShort qs → records ps ++ t ≡ records qs ++ u → Compared ps qs t u
+compare_records : (ps qs : List (List ℕ)) (t u : List ℕ) → AllByRecursion IsShort ps → AllByRecursion IsShort qs
+    → records ps ++ t ≡ records qs ++ u → Compared ps qs t u
 compare_records [] [] t u fp fq is = inl (refl, is)
 compare_records [] (q ∷ qs) t u fp fq is = inr (inl (record {
   payload = q;
@@ -101,28 +125,34 @@ compare_records (p ∷ ps) [] t u fp fq is = inr (inr (record {
 }))
 compare_records (p ∷ ps) (q ∷ qs) t u fp fq is =
     let behind = same_tail OPEN OPEN ((body p ++ records ps) ++ t) ((body q ++ records qs) ++ u) is in
-    let same = same_body p q (records ps ++ t) (records qs ++ u) fp.0 fq.0 (sym (append_assoc (body p) (records ps) t) ∙ behind ∙ append_assoc (body q) (records qs) u) in
+    let same = same_body p q (records ps ++ t) (records qs ++ u) fp.0 fq.0 (sym (append_assoc (body p) (records ps) t)
+    ∙ behind ∙ append_assoc (body q) (records qs) u) in
     elim (compare_records ps qs t u fp.1 fq.1 same.1) [
       | inl rest ↦ inl ((λ i. same.0 i ∷ rest.0 i), rest.1)
       | inr on ↦ inr (⊎_elim (λ x. inl (later p q ps qs t same.0 x)) (λ y. inr (later q p qs ps u (sym same.0) y)) on)
     ]
 
 -- Two readings of the same bytes are one, or one of them goes on.
-pub compare : (ps qs : List (List ℕ)) (t u : List ℕ) → AllByRecursion IsShort ps → AllByRecursion IsShort qs → front ps ++ t ≡ front qs ++ u → Compared ps qs t u
+pub compare : (ps qs : List (List ℕ)) (t u : List ℕ) → AllByRecursion IsShort ps → AllByRecursion IsShort qs
+    → front ps ++ t ≡ front qs ++ u → Compared ps qs t u
 unfolding front
 compare ps qs t u fp fq is =
     let behind : records ps ++ t ≡ records qs ++ u =
-    sym (drop_at header (records ps ++ t) 8 refl) ∙ ap (λ (l : List ℕ). drop 8 l) (sym (append_assoc header (records ps) t) ∙ is ∙ append_assoc header (records qs) u) ∙ drop_at header (records qs ++ u) 8 refl in
+    sym (drop_at header (records ps ++ t) 8 refl)
+    ∙ ap (λ (l : List ℕ). drop 8 l) (sym (append_assoc header (records ps) t) ∙ is
+    ∙ append_assoc header (records qs) u) ∙ drop_at header (records qs ++ u) 8 refl in
     compare_records ps qs t u fp fq behind
 
 -- no record stands at the front of these bytes
 unfoldable pub NoRecord : List ℕ → Type 0
 NoRecord bytes = (ps qs : List (List ℕ)) → GoesOn ps qs bytes → ⊥
 
-unique_front : (ps qs : List (List ℕ)) (t u : List ℕ) → AllByRecursion IsShort ps → AllByRecursion IsShort qs → NoRecord t → NoRecord u
+unique_front : (ps qs : List (List ℕ)) (t u : List ℕ) → AllByRecursion IsShort ps → AllByRecursion IsShort qs
+    → NoRecord t → NoRecord u
     → front ps ++ t ≡ front qs ++ u → (ps ≡ qs) × (t ≡ u)
 unfolding NoRecord
-unique_front ps qs t u fp fq nt nu is = ⊎_elim (λ same. same) (λ on. absurd (⊎_elim (nt ps qs) (nu qs ps) on)) (compare ps qs t u fp fq is)
+unique_front ps qs t u fp fq nt nu is = ⊎_elim (λ same. same) (λ on. absurd (⊎_elim (nt ps qs) (nu qs ps) on))
+    (compare ps qs t u fp fq is)
 
 pub shut_none : (gate : ℕ) (rest : List ℕ) → gate ≢ OPEN → NoRecord (gate ∷ rest)
 unfolding NoRecord
@@ -131,19 +161,24 @@ shut_none gate rest shut ps qs on = shut (same_head gate OPEN rest (body on.payl
 pub broken_none : (tail : List ℕ) → IsBroken tail → NoRecord tail
 unfolding NoRecord
 broken_none [] broken ps qs on = cc on.is
-broken_none (gate ∷ rest) broken ps qs on = broken.1 on.payload on.rest on.short (same_tail gate OPEN rest (body on.payload ++ on.rest) on.is)
+broken_none (gate ∷ rest) broken ps qs on =
+    broken.1 on.payload on.rest on.short (same_tail gate OPEN rest (body on.payload ++ on.rest) on.is)
 
 -- where no record stands, the other reading goes on to there
-pub leads_to : (ps qs : List (List ℕ)) (t u : List ℕ) → AllByRecursion IsShort ps → AllByRecursion IsShort qs → NoRecord u → front ps ++ t ≡ front qs ++ u
+pub leads_to : (ps qs : List (List ℕ)) (t u : List ℕ) → AllByRecursion IsShort ps → AllByRecursion IsShort qs
+    → NoRecord u → front ps ++ t ≡ front qs ++ u
     → ((ps ≡ qs) × (t ≡ u)) ⊎ GoesOn ps qs t
 unfolding NoRecord
-leads_to ps qs t u fp fq nu is = ⊎_elim (λ same. inl same) (λ on. ⊎_elim (λ x. inr x) (λ y. absurd (nu qs ps y)) on) (compare ps qs t u fp fq is)
+leads_to ps qs t u fp fq nu is = ⊎_elim (λ same. inl same) (λ on. ⊎_elim (λ x. inr x) (λ y. absurd (nu qs ps y)) on)
+    (compare ps qs t u fp fq is)
 
 pub one_list : (ps qs : List (List ℕ)) (bytes : List ℕ) → Opens ps bytes → Opens qs bytes → ps ≡ qs
-one_list ps qs bytes o r = (unique_front ps qs (o.gate ∷ o.rest) (r.gate ∷ r.rest) o.fit r.fit (shut_none o.gate o.rest o.shut) (shut_none r.gate r.rest r.shut) (sym o.is ∙ r.is)).0
+one_list ps qs bytes o r = (unique_front ps qs (o.gate ∷ o.rest) (r.gate ∷ r.rest) o.fit r.fit
+    (shut_none o.gate o.rest o.shut) (shut_none r.gate r.rest r.shut) (sym o.is ∙ r.is)).0
 
 pub one_break : (ps qs : List (List ℕ)) (bytes : List ℕ) → Breaks ps bytes → Breaks qs bytes → ps ≡ qs
-one_break ps qs bytes o r = (unique_front ps qs o.tail r.tail o.fit r.fit (broken_none o.tail o.broken) (broken_none r.tail r.broken) (sym o.is ∙ r.is)).0
+one_break ps qs bytes o r = (unique_front ps qs o.tail r.tail o.fit r.fit (broken_none o.tail o.broken)
+    (broken_none r.tail r.broken) (sym o.is ∙ r.is)).0
 
 not_broken : (gate : ℕ) (rest tail : List ℕ) → gate ≢ OPEN → gate ∷ rest ≡ tail → IsBroken tail → ⊥
 not_broken gate rest [] shut is broken = cc is
@@ -151,7 +186,8 @@ not_broken gate rest (g ∷ r) shut is broken = shut (same_head gate g rest r is
 
 pub not_both : (ps qs : List (List ℕ)) (bytes : List ℕ) → Opens ps bytes → Breaks qs bytes → ⊥
 not_both ps qs bytes o r =
-    not_broken o.gate o.rest r.tail o.shut (unique_front ps qs (o.gate ∷ o.rest) r.tail o.fit r.fit (shut_none o.gate o.rest o.shut) (broken_none r.tail r.broken) (sym o.is ∙ r.is)).1 r.broken
+    not_broken o.gate o.rest r.tail o.shut (unique_front ps qs (o.gate ∷ o.rest) r.tail o.fit r.fit
+    (shut_none o.gate o.rest o.shut) (broken_none r.tail r.broken) (sym o.is ∙ r.is)).1 r.broken
 
 has_header : (ps : List (List ℕ)) (tail bytes : List ℕ) → bytes ≡ front ps ++ tail → IsNoJournal bytes → ⊥
 unfolding front
@@ -164,7 +200,14 @@ pub breaks_header : (ps : List (List ℕ)) (bytes : List ℕ) → Breaks ps byte
 breaks_header ps bytes o = has_header ps o.tail bytes o.is
 
 pub text_opens : (ps : List (List ℕ)) (rest : List ℕ) → AllByRecursion IsShort ps → Opens ps (text ps ++ rest)
-text_opens ps rest fit = record { gate = CLOSED; rest = rest; is = append_assoc (front ps) (CLOSED ∷ []) rest; shut = λ e. omega (arith, e); fit = fit }
+text_opens ps rest fit = record {
+  gate = CLOSED;
+  rest = rest;
+  is = append_assoc (front ps) (CLOSED ∷ []) rest;
+  shut =
+      λ e. omega (arith, e);
+  fit = fit;
+}
 
 longer : (ps : List (List ℕ)) (p : List ℕ) → ps ≡ ps ++ p ∷ [] → ⊥
 longer ps p is = omega (arith, ap (λ (l : List (List ℕ)). length l) is, length-append ps (p ∷ []))
@@ -175,11 +218,26 @@ never_both ps p bytes o r = longer ps p (one_list ps (ps ++ p ∷ []) bytes o r)
 
 module _ (payloads : List (List ℕ)) where
   -- behind an open gate the record counts
-  pub opened : (payload bytes rest : List ℕ) → AllByRecursion IsShort payloads → IsShort payload → bytes ≡ front payloads ++ OPEN ∷ (body payload ++ CLOSED ∷ rest) → Opens (payloads ++ payload ∷ []) bytes
-  opened payload bytes rest fit few is = record { gate = CLOSED; rest = rest; fit = all_short payloads payload fit few; is = is ∙ sym (front_push payloads payload (CLOSED ∷ rest)); shut = λ e. omega (arith, e) }
+  pub opened : (payload bytes rest : List ℕ) → AllByRecursion IsShort payloads → IsShort payload
+      → bytes ≡ front payloads ++ OPEN ∷ (body payload ++ CLOSED ∷ rest) → Opens (payloads ++ payload ∷ []) bytes
+  opened payload bytes rest fit few is = record {
+    gate = CLOSED;
+    rest = rest;
+    fit = all_short payloads payload fit few;
+    is = is ∙ sym (front_push payloads payload (CLOSED ∷ rest));
+    shut = λ e. omega (arith, e);
+  }
 
   pub before_or_after : (payload bytes : List ℕ) → Staged payloads payload bytes → BeforeOrAfter payloads payload bytes
   before_or_after payload bytes e = elim (cases_eq e.gate OPEN) [
-    | inl is_open ↦ inr (opened payload bytes e.rest e.fit e.few (e.is ∙ ap (λ (b : ℕ). front payloads ++ b ∷ (body payload ++ CLOSED ∷ e.rest)) is_open))
-    | inr shut ↦ inl (record { gate = e.gate; rest = body payload ++ CLOSED ∷ e.rest; is = e.is; shut = shut; fit = e.fit })
+    | inl is_open ↦ inr (opened payload bytes e.rest e.fit e.few (e.is
+        ∙ ap (λ (b : ℕ). front payloads ++ b ∷ (body payload ++ CLOSED ∷ e.rest)) is_open))
+    | inr shut ↦ inl (record {
+      gate = e.gate;
+      rest = body payload ++ CLOSED ∷ e.rest;
+      is = e.is;
+      shut = shut;
+      fit =
+          e.fit;
+    })
   ]

@@ -14,33 +14,48 @@ use Rattle.chem_core.specs.RingFacts.{AreRingBonds, AreSmallestRings}
 use Rattle.chem_core.specs.Sound.{IsSketchAtom, IsSound, sketch_ends}
 use Rattle.mol_finish.specs.Meant.{meant_atom, meant_bond, meant_atoms, meant_bonds, meant}
 
-enumerate_from-append : {X : Type 0} (n : ℕ) (xs ys : List X) → enumerate_from n (xs ++ ys) ≡ enumerate_from n xs ++ enumerate_from (n + length xs) ys
+enumerate_from-append : {X : Type 0} (n : ℕ) (xs ys : List X) → enumerate_from n (xs ++ ys) ≡ enumerate_from n xs
+    ++ enumerate_from (n + length xs) ys
 enumerate_from-append n [] ys = ap (λ k. enumerate_from k ys) (omega arith)
 enumerate_from-append n (x ∷ xs) ys =
-    ap (λ zs. (n, x) ∷ zs) (enumerate_from-append (n + 1) xs ys ∙ ap (λ k. enumerate_from (n + 1) xs ++ enumerate_from k ys) (omega arith))
+    ap (λ zs. (n, x) ∷ zs) (enumerate_from-append (n + 1) xs ys
+    ∙ ap (λ k. enumerate_from (n + 1) xs ++ enumerate_from k ys) (omega arith))
 
 -- one more element, with its place
-enumerate-more : {X : Type 0} (xs : List X) (i : ℕ) (d : X) → i < length xs → enumerate_from 0 (take (i + 1) xs) ≡ enumerate_from 0 (take i xs) ++ (i, get_or xs i d) ∷ []
+enumerate-more : {X : Type 0} (xs : List X) (i : ℕ) (d : X) → i < length xs → enumerate_from 0 (take (i + 1) xs)
+    ≡ enumerate_from 0 (take i xs) ++ (i, get_or xs i d) ∷ []
 enumerate-more xs i d h =
     let len : 0 + length (take i xs) ≡ i = omega (arith, length-take-le i xs (omega arith)) in
-    ap (enumerate_from 0) (take_more xs i d h) ∙ enumerate_from-append 0 (take i xs) (get_or xs i d ∷ []) ∙ ap (λ k. enumerate_from 0 (take i xs) ++ (k, get_or xs i d) ∷ []) len
+    ap (enumerate_from 0) (take_more xs i d h) ∙ enumerate_from-append 0 (take i xs) (get_or xs i d ∷ [])
+    ∙ ap (λ k. enumerate_from 0 (take i xs) ++ (k, get_or xs i d) ∷ []) len
 
-mapped-more : {X Y : Type 0} (f : ℕ × X → Y) (xs : List X) (i : ℕ) (d : X) → i < length xs → map f (enumerate_from 0 (take (i + 1) xs)) ≡ map f (enumerate_from 0 (take i xs)) ++ f (i, get_or xs i d) ∷ []
-mapped-more f xs i d within = ap (map f) (enumerate-more xs i d within) ∙ map-append f (enumerate_from 0 (take i xs)) ((i, get_or xs i d) ∷ [])
+mapped-more : {X Y : Type 0} (f : ℕ × X → Y) (xs : List X) (i : ℕ) (d : X) → i < length xs
+    → map f (enumerate_from 0 (take (i + 1) xs)) ≡ map f (enumerate_from 0 (take i xs)) ++ f (i, get_or xs i d) ∷ []
+mapped-more f xs i d within = ap (map f) (enumerate-more xs i d within) ∙ map-append f (enumerate_from 0 (take i xs))
+    ((i, get_or xs i d) ∷ [])
 
 -- one more atom
-pub atoms-more : (aromatic : List Bool) (valences : List ℕ) (xs : List SketchAtom) (i : ℕ) (d : SketchAtom) (made next : List Atom) (one : Atom) → i < length xs → made ≡ meant_atoms aromatic valences (take i xs) → one ≡ meant_atom (get_or aromatic i false) (get_or valences i 0) (get_or xs i d) → next ≡ made ++ one ∷ [] → next ≡ meant_atoms aromatic valences (take (i + 1) xs)
+pub atoms-more : (aromatic : List Bool) (valences : List ℕ) (xs : List SketchAtom) (i : ℕ) (d : SketchAtom)
+    (made next : List Atom) (one : Atom) → i < length xs → made ≡ meant_atoms aromatic valences (take i xs)
+    → one ≡ meant_atom (get_or aromatic i false) (get_or valences i 0) (get_or xs i d) → next ≡ made ++ one ∷ []
+    → next ≡ meant_atoms aromatic valences (take (i + 1) xs)
 atoms-more aromatic valences xs i d made next one within so_far is pushed =
     let more = mapped-more (λ p. meant_atom (get_or aromatic p.0 false) (get_or valences p.0 0) p.1) xs i d within in
-    pushed ∙ ap (λ ys. ys ++ one ∷ []) so_far ∙ ap (λ y. meant_atoms aromatic valences (take i xs) ++ y ∷ []) is ∙ sym more
+    pushed ∙ ap (λ ys. ys ++ one ∷ []) so_far ∙ ap (λ y. meant_atoms aromatic valences (take i xs) ++ y ∷ []) is
+    ∙ sym more
 
 -- one more bond
-pub bonds-more : (aromatic : List Bool) (xs : List SketchBond) (i : ℕ) (d : SketchBond) (made next : List Bond) (one : Bond) → i < length xs → made ≡ meant_bonds aromatic (take i xs) → one ≡ meant_bond (get_or aromatic i false) (get_or xs i d) → next ≡ made ++ one ∷ [] → next ≡ meant_bonds aromatic (take (i + 1) xs)
+pub bonds-more : (aromatic : List Bool) (xs : List SketchBond) (i : ℕ) (d : SketchBond) (made next : List Bond)
+    (one : Bond) → i < length xs → made ≡ meant_bonds aromatic (take i xs)
+    → one ≡ meant_bond (get_or aromatic i false) (get_or xs i d) → next ≡ made ++ one ∷ []
+    → next ≡ meant_bonds aromatic (take (i + 1) xs)
 bonds-more aromatic xs i d made next one within so_far is pushed =
     let more = mapped-more (λ p. meant_bond (get_or aromatic p.0 false) p.1) xs i d within in
     pushed ∙ ap (λ ys. ys ++ one ∷ []) so_far ∙ ap (λ y. meant_bonds aromatic (take i xs) ++ y ∷ []) is ∙ sym more
 
-ends-from : (aromatic : List Bool) (n : ℕ) (xs : List SketchBond) → map {B = ℕ × ℕ} (λ b. (b.a, b.b)) (map (λ p. meant_bond (get_or aromatic p.0 false) p.1) (enumerate_from n xs)) ≡ map {B = ℕ × ℕ} (λ b. (b.a, b.b)) xs
+ends-from : (aromatic : List Bool) (n : ℕ) (xs : List SketchBond)
+    → map {B = ℕ × ℕ} (λ b. (b.a, b.b)) (map (λ p. meant_bond (get_or aromatic p.0 false) p.1) (enumerate_from n xs))
+    ≡ map {B = ℕ × ℕ} (λ b. (b.a, b.b)) xs
 ends-from aromatic n [] = refl
 ends-from aromatic n (x ∷ xs) = ap (λ es. (x.a, x.b) ∷ es) (ends-from aromatic (n + 1) xs)
 
@@ -48,13 +63,22 @@ ends-from aromatic n (x ∷ xs) = ap (λ es. (x.a, x.b) ∷ es) (ends-from aroma
 pub meant-ends : (aromatic : List Bool) (s : SketchTerm) → bond_ends (meant_bonds aromatic s.bonds) ≡ sketch_ends s
 meant-ends aromatic s = ends-from aromatic 0 s.bonds
 
-pub length-meant_atoms : (aromatic : List Bool) (valences : List ℕ) (xs : List SketchAtom) → length (meant_atoms aromatic valences xs) ≡ length xs
-length-meant_atoms aromatic valences xs = length-map (enumerate_from 0 xs) (λ p. meant_atom (get_or aromatic p.0 false) (get_or valences p.0 0) p.1) ∙ length-enumerate_from 0 xs
+pub length-meant_atoms : (aromatic : List Bool) (valences : List ℕ) (xs : List SketchAtom)
+    → length (meant_atoms aromatic valences xs) ≡ length xs
+length-meant_atoms aromatic valences xs =
+    length-map (enumerate_from 0 xs) (λ p. meant_atom (get_or aromatic p.0 false) (get_or valences p.0 0) p.1)
+    ∙ length-enumerate_from 0 xs
 
 atom-kept : (aromatic : Bool) (valence : ℕ) (x : SketchAtom) → IsSketchAtom x → IsAtom (meant_atom aromatic valence x)
-atom-kept aromatic valence x h = record { number = h.number; isotope = h.isotope; lowest_charge = h.lowest_charge; highest_charge = h.highest_charge }
+atom-kept aromatic valence x h = record {
+  number = h.number;
+  isotope = h.isotope;
+  lowest_charge = h.lowest_charge;
+  highest_charge = h.highest_charge;
+}
 
-atoms-from : (aromatic : List Bool) (valences : List ℕ) (xs : List SketchAtom) → All IsSketchAtom xs → All IsAtom (meant_atoms aromatic valences xs)
+atoms-from : (aromatic : List Bool) (valences : List ℕ) (xs : List SketchAtom) → All IsSketchAtom xs
+    → All IsAtom (meant_atoms aromatic valences xs)
 atoms-from aromatic valences xs each =
     All-map IsAtom (λ p. meant_atom (get_or aromatic p.0 false) (get_or valences p.0 0) p.1) (enumerate_from 0 xs)
     (λ i d within.
@@ -63,18 +87,26 @@ atoms-from aromatic valences xs each =
     rw (get_or-enumerate_from 0 xs i d within') (atom-kept _ _ _ (each i d.1 within')))
 
 -- a sound sketch means a molecule
-pub meant-molecule : (s : SketchTerm) (atoms bonds : List Bool) (valences : List ℕ) → IsSound s → IsMolecule (meant s atoms bonds valences)
+pub meant-molecule : (s : SketchTerm) (atoms bonds : List Bool) (valences : List ℕ) → IsSound s
+    → IsMolecule (meant s atoms bonds valences)
 meant-molecule s atoms bonds valences sound = record {
   graph = rw (length-meant_atoms, meant-ends bonds s) sound.graph;
   each = atoms-from atoms valences s.atoms sound.each;
 }
 
 -- the same of the lists that were made
-pub made-molecule : (s : SketchTerm) (atoms bonds : List Bool) (valences : List ℕ) (made : List Atom) (joined : List Bond) → made ≡ meant_atoms atoms valences s.atoms → joined ≡ meant_bonds bonds s.bonds → IsSound s → IsMolecule (record { atoms = made; bonds = joined })
+pub made-molecule : (s : SketchTerm) (atoms bonds : List Bool) (valences : List ℕ) (made : List Atom)
+    (joined : List Bond) → made ≡ meant_atoms atoms valences s.atoms → joined ≡ meant_bonds bonds s.bonds → IsSound s
+    → IsMolecule (record { atoms = made; bonds = joined })
 made-molecule s atoms bonds valences made joined p q sound = rw (p, q) (meant-molecule s atoms bonds valences sound)
 
-pub made-rings : (s : SketchTerm) (bonds : List Bool) (joined : List Bond) (rings : List Bool) → joined ≡ meant_bonds bonds s.bonds → AreRingBonds (sketch_ends s) rings → AreRingBonds (bond_ends joined) rings
+pub made-rings : (s : SketchTerm) (bonds : List Bool) (joined : List Bond) (rings : List Bool)
+    → joined ≡ meant_bonds bonds s.bonds → AreRingBonds (sketch_ends s) rings → AreRingBonds (bond_ends joined) rings
 made-rings s bonds joined rings q h = rw (q, meant-ends bonds s) h
 
-pub made-smallest : (s : SketchTerm) (atoms bonds : List Bool) (valences : List ℕ) (made : List Atom) (joined : List Bond) (smallest : List ℕ) → made ≡ meant_atoms atoms valences s.atoms → joined ≡ meant_bonds bonds s.bonds → AreSmallestRings (length s.atoms) (sketch_ends s) smallest → AreSmallestRings (length made) (bond_ends joined) smallest
-made-smallest s atoms bonds valences made joined smallest p q h = rw (p, q, meant-ends bonds s, length-meant_atoms atoms valences s.atoms) h
+pub made-smallest : (s : SketchTerm) (atoms bonds : List Bool) (valences : List ℕ) (made : List Atom)
+    (joined : List Bond) (smallest : List ℕ) → made ≡ meant_atoms atoms valences s.atoms
+    → joined ≡ meant_bonds bonds s.bonds → AreSmallestRings (length s.atoms) (sketch_ends s) smallest
+    → AreSmallestRings (length made) (bond_ends joined) smallest
+made-smallest s atoms bonds valences made joined smallest p q h =
+    rw (p, q, meant-ends bonds s, length-meant_atoms atoms valences s.atoms) h

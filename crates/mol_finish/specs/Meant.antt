@@ -42,7 +42,8 @@ meant_bond aromatic b = record { a = b.a; b = b.b; kind = meant_kind aromatic b.
 
 -- the atoms, by the lists of which are aromatic and of their valences
 abbrev pub meant_atoms : List Bool → List ℕ → List SketchAtom → List Atom
-meant_atoms aromatic valences atoms = map (λ p. meant_atom (slice_index_or aromatic p.0 false) (slice_index valences p.0) p.1) (enumerate_from 0 atoms)
+meant_atoms aromatic valences atoms =
+    map (λ p. meant_atom (slice_index_or aromatic p.0 false) (slice_index valences p.0) p.1) (enumerate_from 0 atoms)
 
 -- the bonds, by the list of which are aromatic
 abbrev pub meant_bonds : List Bool → List SketchBond → List Bond

@@ -52,7 +52,8 @@ IsStructure text (Ok m) = IsStructureOf text m
 IsStructure text (Err (Smiles smiles.Syntax)) = IsReading text (Err smiles.Syntax)
 IsStructure text (Err (Smiles smiles.Ring)) = IsReading text (Err smiles.Ring)
 IsStructure text (Err (Smiles smiles.Limit)) = IsReading text (Err smiles.Limit)
-IsStructure text (Err (Smiles (smiles.Aromatic w))) = (s : SketchTerm) × IsReading text (Ok s) × IsRefusedAt (prepared s) w
+IsStructure text (Err (Smiles (smiles.Aromatic w))) = (s : SketchTerm) × IsReading text (Ok s)
+    × IsRefusedAt (prepared s) w
 IsStructure text (Err (Smiles smiles.NoMemory)) = ⊥
 IsStructure text (Err (Molfile fault)) = ⊥
 IsStructure text (Err NoMemory) = Unit {0}

@@ -32,8 +32,12 @@ least_charge = (omega (arith, ints), omega (arith, ints))
 
 field_charge-bound : (n : ℕ) → IsCharge (field_charge n)
 field_charge-bound n =
-    charge_if (n == 1) (pos 3) _ (omega (arith, ints), omega (arith, ints)) (charge_if (n == 2) (pos 2) _ (omega (arith, ints), omega (arith, ints)) (charge_if (n == 3) (pos 1) _ (omega (arith, ints), omega (arith, ints))
-    (charge_if (n == 5) (negsuc 0) _ (omega (arith, ints), omega (arith, ints)) (charge_if (n == 6) (negsuc 1) _ (omega (arith, ints), omega (arith, ints)) (charge_if (n == 7) (negsuc 2) (pos 0) (omega (arith, ints), omega (arith, ints)) least_charge)))))
+    charge_if (n == 1) (pos 3) _ (omega (arith, ints), omega (arith, ints))
+    (charge_if (n == 2) (pos 2) _ (omega (arith, ints), omega (arith, ints))
+    (charge_if (n == 3) (pos 1) _ (omega (arith, ints), omega (arith, ints))
+    (charge_if (n == 5) (negsuc 0) _ (omega (arith, ints), omega (arith, ints))
+    (charge_if (n == 6) (negsuc 1) _ (omega (arith, ints), omega (arith, ints))
+    (charge_if (n == 7) (negsuc 2) (pos 0) (omega (arith, ints), omega (arith, ints)) least_charge)))))
 
 or_else_charge : (o : Option ℤ) → IfSome o IsCharge → IsCharge (unwrap_or o (pos 0))
 or_else_charge None h = least_charge
@@ -52,12 +56,16 @@ fill_if true x y h k = h
 fill_if false x y h k = k
 
 fill_of-bound : (valence electrons : ℕ) → valence ≤ 15 → electrons ≤ 2 → IsFill (fill_of valence electrons)
-fill_of-bound valence electrons v e = fill_if (valence == 0) (Table electrons) _ e (fill_if (valence == 15) (Fixed 0) (Fixed valence) (omega arith) v)
+fill_of-bound valence electrons v e = fill_if (valence == 0) (Table electrons) _ e
+    (fill_if (valence == 15) (Fixed 0) (Fixed valence) (omega arith) v)
 
-made-sound : (place : ℕ) (atom : AtomLine) (b : Bool) (c : Option ℤ) (r i : Option ℕ) → IsAtomLine atom → IfSome c IsCharge → IfSome r (λ n. n ≤ 2) → IfSome i (λ n. n ≤ 999) → IsSketchAtom (made_atom place atom b c r i)
+made-sound : (place : ℕ) (atom : AtomLine) (b : Bool) (c : Option ℤ) (r i : Option ℕ) → IsAtomLine atom
+    → IfSome c IsCharge → IfSome r (λ n. n ≤ 2) → IfSome i (λ n. n ≤ 999) → IsSketchAtom (made_atom place atom b c r i)
 made-sound place atom b c r i is hc hr hi =
-    let charge = charge_if b (unwrap_or c (pos 0)) (field_charge atom.charge) (or_else_charge c hc) (field_charge-bound atom.charge) in
-    let electrons = le_if b (unwrap_or r 0) (field_electrons atom.charge) 2 (or_else_le r 0 2 hr (omega arith)) (le_if (atom.charge == 4) 1 0 2 (omega arith) (omega arith)) in
+    let charge = charge_if b (unwrap_or c (pos 0)) (field_charge atom.charge) (or_else_charge c hc)
+    (field_charge-bound atom.charge) in
+    let electrons = le_if b (unwrap_or r 0) (field_electrons atom.charge) 2 (or_else_le r 0 2 hr (omega arith))
+    (le_if (atom.charge == 4) 1 0 2 (omega arith) (omega arith)) in
     let least = is.isotope in
     record {
       number = is.number;
@@ -92,28 +100,38 @@ isotope_within atoms s h = by_value s.value h.1
     by_value (Radical n) k = tt
     by_value (Isotope n) k = k
 
-sound_atom : (n place : ℕ) (settings : List Setting) (atom : AtomLine) → AllByRecursion (IsSetting n) settings → IsAtomLine atom → IsSketchAtom (sketch_atom settings place atom)
+sound_atom : (n place : ℕ) (settings : List Setting) (atom : AtomLine) → AllByRecursion (IsSetting n) settings
+    → IsAtomLine atom → IsSketchAtom (sketch_atom settings place atom)
 sound_atom n place settings atom within is =
-    made-sound place atom (sets_charges settings) (last_set charge_of place settings) (last_set radical_of place settings) (last_set isotope_of place settings) is
-    (last_set_holds IsCharge charge_of place (IsSetting n) (charge_within n) settings within) (last_set_holds (λ n. n ≤ 2) radical_of place (IsSetting n) (radical_within n) settings within)
+    made-sound place atom (sets_charges settings) (last_set charge_of place settings)
+    (last_set radical_of place settings) (last_set isotope_of place settings) is
+    (last_set_holds IsCharge charge_of place (IsSetting n) (charge_within n) settings within)
+    (last_set_holds (λ n. n ≤ 2) radical_of place (IsSetting n) (radical_within n) settings within)
     (last_set_holds (λ n. n ≤ 999) isotope_of place (IsSetting n) (isotope_within n) settings within)
 
 abbrev atoms_from : List Setting → ℕ → List AtomLine → List SketchAtom
 atoms_from settings k atoms = map (λ p. sketch_atom settings p.0 p.1) (enumerate_from k atoms)
 
-sound_from : (n k : ℕ) (settings : List Setting) (atoms : List AtomLine) → AllByRecursion (IsSetting n) settings → AllByRecursion IsAtomLine atoms → AllByRecursion IsSketchAtom (atoms_from settings k atoms)
+sound_from : (n k : ℕ) (settings : List Setting) (atoms : List AtomLine) → AllByRecursion (IsSetting n) settings
+    → AllByRecursion IsAtomLine atoms → AllByRecursion IsSketchAtom (atoms_from settings k atoms)
 sound_from n k settings [] within h = tt
-sound_from n k settings (a ∷ as') within h = (sound_atom n k settings a within h.0, sound_from n (k + 1) settings as' within h.1)
+sound_from n k settings (a ∷ as') within h = (
+  sound_atom n k settings a within h.0,
+  sound_from n (k + 1) settings as' within h.1,
+)
 
-few_from : (k : ℕ) (settings : List Setting) (atoms : List AtomLine) → AllByRecursion (λ (a : SketchAtom). a.hydrogens ≤ 9) (atoms_from settings k atoms)
+few_from : (k : ℕ) (settings : List Setting) (atoms : List AtomLine)
+    → AllByRecursion (λ (a : SketchAtom). a.hydrogens ≤ 9) (atoms_from settings k atoms)
 few_from k settings [] = tt
 few_from k settings (a ∷ as') = (omega arith, few_from (k + 1) settings as')
 
-upper_from : (k : ℕ) (settings : List Setting) (atoms : List AtomLine) → AllByRecursion (λ (a : SketchAtom). a.lower ≡ false) (atoms_from settings k atoms)
+upper_from : (k : ℕ) (settings : List Setting) (atoms : List AtomLine)
+    → AllByRecursion (λ (a : SketchAtom). a.lower ≡ false) (atoms_from settings k atoms)
 upper_from k settings [] = tt
 upper_from k settings (a ∷ as') = (refl, upper_from (k + 1) settings as')
 
-pub are_atoms : (n : ℕ) (settings : List Setting) (atoms : List AtomLine) → AllByRecursion (IsSetting n) settings → AllByRecursion IsAtomLine atoms → length atoms ≤ 999 → AreAtoms (sketch_atoms settings atoms)
+pub are_atoms : (n : ℕ) (settings : List Setting) (atoms : List AtomLine) → AllByRecursion (IsSetting n) settings
+    → AllByRecursion IsAtomLine atoms → length atoms ≤ 999 → AreAtoms (sketch_atoms settings atoms)
 are_atoms n settings atoms within h few = (
   All-from_recursion IsSketchAtom (sketch_atoms settings atoms) (sound_from n 0 settings atoms within h),
   All-from_recursion (λ a. a.hydrogens ≤ 9) (sketch_atoms settings atoms) (few_from 0 settings atoms),
@@ -123,21 +141,28 @@ are_atoms n settings atoms within h few = (
   All-from_recursion (λ a. a.lower ≡ false) (sketch_atoms settings atoms) (upper_from 0 settings atoms),
 )
 
-pub length-sketch_atoms : (settings : List Setting) (atoms : List AtomLine) → length (sketch_atoms settings atoms) ≡ length atoms
-length-sketch_atoms settings atoms = length-map {B = SketchAtom} (enumerate_from 0 atoms) (λ (p : ℕ × AtomLine). sketch_atom settings p.0 p.1) ∙ length-enumerate_from 0 atoms
+pub length-sketch_atoms : (settings : List Setting) (atoms : List AtomLine) → length (sketch_atoms settings atoms)
+    ≡ length atoms
+length-sketch_atoms settings atoms = length-map {B = SketchAtom} (enumerate_from 0 atoms)
+    (λ (p : ℕ × AtomLine). sketch_atom settings p.0 p.1) ∙ length-enumerate_from 0 atoms
 
-enumerate_from-append : {X : Type 0} (n : ℕ) (xs ys : List X) → enumerate_from n (xs ++ ys) ≡ enumerate_from n xs ++ enumerate_from (n + length xs) ys
+enumerate_from-append : {X : Type 0} (n : ℕ) (xs ys : List X) → enumerate_from n (xs ++ ys) ≡ enumerate_from n xs
+    ++ enumerate_from (n + length xs) ys
 enumerate_from-append n [] ys = ap (λ k. enumerate_from k ys) (omega arith)
 enumerate_from-append n (x ∷ xs) ys =
-    ap (λ zs. (n, x) ∷ zs) (enumerate_from-append (n + 1) xs ys ∙ ap (λ k. enumerate_from (n + 1) xs ++ enumerate_from k ys) (omega arith))
+    ap (λ zs. (n, x) ∷ zs) (enumerate_from-append (n + 1) xs ys
+    ∙ ap (λ k. enumerate_from (n + 1) xs ++ enumerate_from k ys) (omega arith))
 
 -- one more atom
-pub atoms_more : (settings : List Setting) (xs : List AtomLine) (i : ℕ) (d : AtomLine) (made next : List SketchAtom) (one : SketchAtom) → i < length xs → made ≡ sketch_atoms settings (take i xs)
-    → one ≡ sketch_atom settings i (get_or xs i d) → next ≡ made ++ one ∷ [] → next ≡ sketch_atoms settings (take (i + 1) xs)
+pub atoms_more : (settings : List Setting) (xs : List AtomLine) (i : ℕ) (d : AtomLine) (made next : List SketchAtom)
+    (one : SketchAtom) → i < length xs → made ≡ sketch_atoms settings (take i xs)
+    → one ≡ sketch_atom settings i (get_or xs i d) → next ≡ made ++ one ∷ []
+    → next ≡ sketch_atoms settings (take (i + 1) xs)
 atoms_more settings xs i d made next one within so_far is pushed =
     let len : 0 + length (take i xs) ≡ i = omega (arith, length-take-le i xs (omega arith)) in
     let f : ℕ × AtomLine → SketchAtom = λ p. sketch_atom settings p.0 p.1 in
     let more : enumerate_from 0 (take (i + 1) xs) ≡ enumerate_from 0 (take i xs) ++ (i, get_or xs i d) ∷ [] =
-    ap (enumerate_from 0) (take_more xs i d within) ∙ enumerate_from-append 0 (take i xs) (get_or xs i d ∷ []) ∙ ap (λ k. enumerate_from 0 (take i xs) ++ (k, get_or xs i d) ∷ []) len in
+    ap (enumerate_from 0) (take_more xs i d within) ∙ enumerate_from-append 0 (take i xs) (get_or xs i d ∷ [])
+    ∙ ap (λ k. enumerate_from 0 (take i xs) ++ (k, get_or xs i d) ∷ []) len in
     pushed ∙ ap (λ ys. ys ++ one ∷ []) so_far ∙ ap (λ y. sketch_atoms settings (take i xs) ++ y ∷ []) is
     ∙ sym (ap (map f) more ∙ map-append f (enumerate_from 0 (take i xs)) ((i, get_or xs i d) ∷ []))

@@ -12,14 +12,16 @@ abbrev Answer : Type 0
 Answer = Result SketchTerm MolfileFault
 
 abbrev IsTooMuch : List ℕ → Type 0
-IsTooMuch text = (262144 < length text) ⊎ ((s : SketchTerm) × (drawn (numbered_lines text) ≡ Ok s) × ¬ HasFewNeighbours s)
+IsTooMuch text = (262144 < length text) ⊎ ((s : SketchTerm) × (drawn (numbered_lines text) ≡ Ok s)
+    × ¬ HasFewNeighbours s)
 
 abbrev IsFew : Answer → Type 0
 IsFew (Ok s) = HasFewNeighbours s
 IsFew (Err fault) = Unit {0}
 
 -- an answer is want of memory, or a limit, or what the lines say
-known : (text : List ℕ) (r : Answer) → IsReading text r → (r ≡ Err NoMemory) ⊎ (((r ≡ Err Limit) × IsTooMuch text) ⊎ ((length text ≤ 262144) × (drawn (numbered_lines text) ≡ r) × IsFew r))
+known : (text : List ℕ) (r : Answer) → IsReading text r → (r ≡ Err NoMemory)
+    ⊎ (((r ≡ Err Limit) × IsTooMuch text) ⊎ ((length text ≤ 262144) × (drawn (numbered_lines text) ≡ r) × IsFew r))
 known text (Ok s) h = inr (inr (h.0, h.1, h.2))
 known text (Err Limit) h = inr (inl (refl, h))
 known text (Err NoMemory) h = inl refl
@@ -33,11 +35,13 @@ few_of : (r : Answer) (s : SketchTerm) → r ≡ Ok s → IsFew r → HasFewNeig
 few_of (Ok t) s e h = let p : t ≡ s = cc in λ a. rw (← p) (h a)
 few_of (Err f) s e h = absurd (cc)
 
-apart : (text : List ℕ) (r : Answer) → IsTooMuch text → length text ≤ 262144 → drawn (numbered_lines text) ≡ r → IsFew r → ⊥
+apart : (text : List ℕ) (r : Answer) → IsTooMuch text → length text ≤ 262144 → drawn (numbered_lines text) ≡ r → IsFew r
+    → ⊥
 apart text r (inl long) le e few = omega arith
 apart text r (inr p) le e few = p.2 (few_of r p.0 (sym e ∙ p.1) few)
 
-pub one : (text : List ℕ) (a b : Answer) → IsReading text a → IsReading text b → (a ≡ b) ⊎ ((a ≡ Err NoMemory) ⊎ (b ≡ Err NoMemory))
+pub one : (text : List ℕ) (a b : Answer) → IsReading text a → IsReading text b → (a ≡ b)
+    ⊎ ((a ≡ Err NoMemory) ⊎ (b ≡ Err NoMemory))
 one text a b h k = elim (known text a h) [
   | inl e ↦ inr (inl e)
   | inr p ↦ elim (known text b k) [
@@ -56,7 +60,8 @@ one text a b h k = elim (known text a h) [
 ]
 
 -- a fault of the lines is the answer
-fault_reading : (text : List ℕ) (f : MolfileFault) → length text ≤ 262144 → (f ≡ NoMemory) ⊎ (drawn (numbered_lines text) ≡ Err f) → IsReading text (Err f)
+fault_reading : (text : List ℕ) (f : MolfileFault) → length text ≤ 262144 → (f ≡ NoMemory)
+    ⊎ (drawn (numbered_lines text) ≡ Err f) → IsReading text (Err f)
 fault_reading text NoMemory le h = tt
 fault_reading text Limit le (inl h) = absurd (cc)
 fault_reading text Limit le (inr h) = absurd (never_limit (numbered_lines text) h)
@@ -71,7 +76,8 @@ fault_reading text (Query n) le (inr h) = (le, h)
 fault_reading text Cut le (inl h) = absurd (cc)
 fault_reading text Cut le (inr h) = (le, h)
 
-pub fault_handed : (text : List ℕ) (r : Answer) (e : MolfileFault) → length text ≤ 262144 → IsErrAnd r (λ f. f ≡ e) → (e ≡ NoMemory) ⊎ (drawn (numbered_lines text) ≡ Err e) → IsReading text r
+pub fault_handed : (text : List ℕ) (r : Answer) (e : MolfileFault) → length text ≤ 262144 → IsErrAnd r (λ f. f ≡ e)
+    → (e ≡ NoMemory) ⊎ (drawn (numbered_lines text) ≡ Err e) → IsReading text r
 fault_handed text (Ok s) e le h k = absurd h
 fault_handed text (Err f) e le h (inl k) = fault_reading text f le (inl (h ∙ k))
 fault_handed text (Err f) e le h (inr k) = fault_reading text f le (inr (k ∙ ap (λ x. Err x) (sym h)))

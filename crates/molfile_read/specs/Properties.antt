@@ -85,7 +85,8 @@ tag_of line =
 abbrev pub is_query_line : List ℕ → Bool
 is_query_line line =
     list_any (λ tag. begins line tag)
-    (codes "M  ALS" ∷ codes "M  RBC" ∷ codes "M  SUB" ∷ codes "M  UNS" ∷ codes "M  LIN" ∷ codes "M  RGP" ∷ codes "M  LOG" ∷ [])
+    (codes "M  ALS" ∷ codes "M  RBC" ∷ codes "M  SUB" ∷ codes "M  UNS" ∷ codes "M  LIN" ∷ codes "M  RGP"
+    ∷ codes "M  LOG" ∷ [])
 
 -- an alias or a group's text passes over the line after it
 abbrev pub passes_next : List ℕ → Bool

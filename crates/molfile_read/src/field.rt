@@ -74,8 +74,8 @@ pub(crate) fn signed(text: &[u8], most: u16) -> Option<i8>
     }
 }
 
-/// The number in the columns of a line from `first` to `last`, if it is at most `most`. Blanks may stand round it, and a
-/// blank field is 0.
+/// The number in the columns of a line from `first` to `last`, if it is at most `most`. Blanks may stand round it, and
+/// a blank field is 0.
 pub(crate) fn number(line: &[u8], first: usize, last: usize, most: u16) -> Option<u16>
     requires from_one { 1 ≤ first }
     requires order { first ≤ last }

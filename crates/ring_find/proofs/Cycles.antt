@@ -19,7 +19,8 @@ pub same_pair : (a b x y : ℕ) → ◌≡◌ {A = ℕ × ℕ} (a, b) (x, y) →
 same_pair a b x y e = (ap (λ p. p.0) e, ap (λ p. p.1) e)
 
 -- a bond joins one pair of atoms, either way round
-pub joins_one : (ends : Ends) (b x y u v : ℕ) → JoinsAt ends b x y → JoinsAt ends b u v → ((x ≡ u) × (y ≡ v)) ⊎ ((x ≡ v) × (y ≡ u))
+pub joins_one : (ends : Ends) (b x y u v : ℕ) → JoinsAt ends b x y → JoinsAt ends b u v → ((x ≡ u) × (y ≡ v))
+    ⊎ ((x ≡ v) × (y ≡ u))
 joins_one ends b x y u v h k =
     elim h [
       | inl p ↦ elim k [
@@ -37,7 +38,8 @@ step_back ends kept b u v s = (s.0, s.1, s.2, joins_back ends s.0 u v s.3)
 
 -- ---- the places of a cycle
 
-pub next_cases : (xs : List ℕ) (i : ℕ) → i < length xs → ((i + 1 < length xs) × (next_place xs i ≡ i + 1)) ⊎ ((i + 1 ≡ length xs) × (next_place xs i ≡ 0))
+pub next_cases : (xs : List ℕ) (i : ℕ) → i < length xs → ((i + 1 < length xs) × (next_place xs i ≡ i + 1))
+    ⊎ ((i + 1 ≡ length xs) × (next_place xs i ≡ 0))
 next_cases xs i h =
     elim (cases_lt (i + 1) (length xs)) [
       | inl l ↦ inl (l, mod-eq_of_lt l)
@@ -49,7 +51,8 @@ next_cases xs i h =
 pub next_within : (xs : List ℕ) (i : ℕ) → i < length xs → next_place xs i < length xs
 next_within xs i h = elim (next_cases xs i h) [ inl q ↦ rw (q.1) (q.0) | inr q ↦ rw (q.1) (omega arith) ]
 
-pub same_place : (ends : Ends) (xs : List ℕ) → IsSimpleCycle ends xs → (i j : ℕ) → i < length xs → j < length xs → get_or xs i 0 ≡ get_or xs j 0 → i ≡ j
+pub same_place : (ends : Ends) (xs : List ℕ) → IsSimpleCycle ends xs → (i j : ℕ) → i < length xs → j < length xs
+    → get_or xs i 0 ≡ get_or xs j 0 → i ≡ j
 same_place ends xs c i j hi hj e =
     elim (cases_eq i j) [
       | inl q ↦ q
@@ -60,7 +63,9 @@ same_place ends xs c i j hi hj e =
     ]
 
 -- two bonds of a cycle at different places are different
-pub other_bond : (ends : Ends) (xs : List ℕ) → IsSimpleCycle ends xs → (b c i k : ℕ) → i < length xs → k < length xs → k ≢ i → JoinsAt ends b (get_or xs i 0) (get_or xs (next_place xs i) 0) → JoinsAt ends c (get_or xs k 0) (get_or xs (next_place xs k) 0) → c ≢ b
+pub other_bond : (ends : Ends) (xs : List ℕ) → IsSimpleCycle ends xs → (b c i k : ℕ) → i < length xs → k < length xs
+    → k ≢ i → JoinsAt ends b (get_or xs i 0) (get_or xs (next_place xs i) 0)
+    → JoinsAt ends c (get_or xs k 0) (get_or xs (next_place xs k) 0) → c ≢ b
 other_bond ends xs cycle b c i k hi hk ne jb jc same =
     let jb' : JoinsAt ends c (get_or xs i 0) (get_or xs (next_place xs i) 0) = rw same jb in
     let three = cycle.three in
@@ -70,22 +75,39 @@ other_bond ends xs cycle b c i k hi hk ne jb jc same =
           let one : k ≡ next_place xs i = same_place ends xs cycle k (next_place xs i) hk (next_within xs i hi) q.0 in
           let two : next_place xs k ≡ i = same_place ends xs cycle (next_place xs k) i (next_within xs k hk) hi q.1 in
           elim (next_cases xs i hi) [
-            | inl r ↦ elim (next_cases xs k hk) [ inl s ↦ absurd (omega (arith, one, two, r.1, s.1)) | inr s ↦ absurd (omega (arith, one, two, r.1, s.1, s.0, r.0)) ]
-            | inr r ↦ elim (next_cases xs k hk) [ inl s ↦ absurd (omega (arith, one, two, r.1, s.1, s.0, r.0)) | inr s ↦ absurd (omega (arith, one, two, r.1, s.1, s.0, r.0)) ]
+            | inl r ↦ elim (next_cases xs k hk) [
+              | inl s ↦ absurd (omega (arith, one, two, r.1, s.1))
+              | inr s ↦
+                  absurd (omega (arith, one, two, r.1, s.1, s.0, r.0))
+            ]
+            | inr r ↦ elim (next_cases xs k hk) [
+              | inl s ↦ absurd (omega (arith, one, two, r.1, s.1, s.0, r.0))
+              | inr s ↦
+                  absurd (omega (arith, one, two, r.1, s.1, s.0, r.0))
+            ]
           ]
     ]
 
 -- a step of a cycle at a place other than the bond's
-cycle_step : (ends : Ends) (kept : List Bool) (b : ℕ) (xs : List ℕ) → KeepsRings ends kept → IsSimpleCycle ends xs → (i k : ℕ) → i < length xs → k < length xs → k ≢ i → JoinsAt ends b (get_or xs i 0) (get_or xs (next_place xs i) 0) → StepBut ends kept b (get_or xs k 0) (get_or xs (next_place xs k) 0)
+cycle_step : (ends : Ends) (kept : List Bool) (b : ℕ) (xs : List ℕ) → KeepsRings ends kept → IsSimpleCycle ends xs
+    → (i k : ℕ) → i < length xs → k < length xs → k ≢ i → JoinsAt ends b (get_or xs i 0) (get_or xs (next_place xs i) 0)
+    → StepBut ends kept b (get_or xs k 0) (get_or xs (next_place xs k) 0)
 cycle_step ends kept b xs keeps cycle i k hi hk ne j =
-    let here = cycle.joined k hk in
-    (here.0, other_bond ends xs cycle b here.0 i k hi hk ne j here.1, keeps.each here.0 (xs, cycle, (k, hk, here.1)), here.1)
+    let here = cycle.joined k hk in (
+      here.0,
+      other_bond ends xs cycle b here.0 i k hi hk ne j here.1,
+      keeps.each here.0 (xs, cycle, (k, hk, here.1)),
+      here.1,
+    )
 
 -- the rest of a cycle is a walk without the bond
-rest_walk : (ends : Ends) (kept : List Bool) (b : ℕ) (xs : List ℕ) → KeepsRings ends kept → IsSimpleCycle ends xs → (i : ℕ) → i < length xs → JoinsAt ends b (get_or xs i 0) (get_or xs (next_place xs i) 0) → Walk (StepBut ends kept b) (get_or xs (next_place xs i) 0) (get_or xs i 0) (length xs - 1)
+rest_walk : (ends : Ends) (kept : List Bool) (b : ℕ) (xs : List ℕ) → KeepsRings ends kept → IsSimpleCycle ends xs
+    → (i : ℕ) → i < length xs → JoinsAt ends b (get_or xs i 0) (get_or xs (next_place xs i) 0)
+    → Walk (StepBut ends kept b) (get_or xs (next_place xs i) 0) (get_or xs i 0) (length xs - 1)
 rest_walk ends kept b xs keeps cycle i hi j =
     let three = cycle.three in
-    let step : (k : ℕ) → k + 1 < length xs → k ≢ i → StepBut ends kept b (get_or xs k 0) (get_or xs (k + 1) 0) = λ k hk ne.
+    let step : (k : ℕ) → k + 1 < length xs → k ≢ i → StepBut ends kept b (get_or xs k 0) (get_or xs (k + 1) 0) =
+    λ k hk ne.
     elim (next_cases xs k (omega arith)) [
       | inl q ↦ rw (q.1) at (cycle_step ends kept b xs keeps cycle i k hi (omega arith) ne j)
       | inr q ↦ absurd (omega (arith, q.0))
@@ -93,15 +115,20 @@ rest_walk ends kept b xs keeps cycle i hi j =
     elim (next_cases xs i hi) [
       | inl q ↦
           let low : i + 1 < length xs = q.0 in
-          let up : Walk (StepBut ends kept b) (get_or xs (i + 1) 0) (get_or xs (i + 1 + (length xs - 2 - i)) 0) (length xs - 2 - i) = walk_along _ xs (i + 1) (length xs - 2 - i) (λ k a l. step k (omega arith) (omega arith)) in
+          let up : Walk (StepBut ends kept b) (get_or xs (i + 1) 0) (get_or xs (i + 1 + (length xs - 2 - i)) 0)
+          (length xs - 2 - i) = walk_along _ xs (i + 1) (length xs - 2 - i) (λ k a l.
+          step k (omega arith) (omega arith)) in
           let end : i + 1 + (length xs - 2 - i) ≡ length xs - 1 = omega arith in
-          let up' : Walk (StepBut ends kept b) (get_or xs (i + 1) 0) (get_or xs (length xs - 1) 0) (length xs - 2 - i) = rw end at up in
+          let up' : Walk (StepBut ends kept b) (get_or xs (i + 1) 0) (get_or xs (length xs - 1) 0) (length xs - 2 - i) =
+          rw end at up in
           let turn : StepBut ends kept b (get_or xs (length xs - 1) 0) (get_or xs 0 0) =
           elim (next_cases xs (length xs - 1) (omega arith)) [
             | inl s ↦ absurd (omega (arith, s.0))
-            | inr s ↦ rw (s.1) at (cycle_step ends kept b xs keeps cycle i (length xs - 1) hi (omega arith) (omega arith) j)
+            | inr s ↦ rw (s.1) at (cycle_step ends kept b xs keeps cycle i (length xs - 1) hi (omega arith)
+                (omega arith) j)
           ] in
-          let start : Walk (StepBut ends kept b) (get_or xs 0 0) (get_or xs (0 + i) 0) i = walk_along _ xs 0 i (λ k a l. step k (omega arith) (omega arith)) in
+          let start : Walk (StepBut ends kept b) (get_or xs 0 0) (get_or xs (0 + i) 0) i =
+          walk_along _ xs 0 i (λ k a l. step k (omega arith) (omega arith)) in
           let zero_i : 0 + i ≡ i = omega arith in
           let start' : Walk (StepBut ends kept b) (get_or xs 0 0) (get_or xs i 0) i = rw zero_i at start in
           let whole = walk_join _ _ _ _ (suc (length xs - 2 - i)) i (get_or xs (length xs - 1) 0, up', turn) start' in
@@ -109,13 +136,16 @@ rest_walk ends kept b xs keeps cycle i hi j =
           rw (q.1) (rw count at whole)
       | inr q ↦
           let last : i + 1 ≡ length xs = q.0 in
-          let whole : Walk (StepBut ends kept b) (get_or xs 0 0) (get_or xs (0 + (length xs - 1)) 0) (length xs - 1) = walk_along _ xs 0 (length xs - 1) (λ k a l. step k (omega arith) (omega arith)) in
+          let whole : Walk (StepBut ends kept b) (get_or xs 0 0) (get_or xs (0 + (length xs - 1)) 0) (length xs - 1) =
+          walk_along _ xs 0 (length xs - 1) (λ k a l. step k (omega arith) (omega arith)) in
           let is : 0 + (length xs - 1) ≡ i = omega arith in
           rw (q.1) (rw is at whole)
     ]
 
 -- a cycle through a bond leaves a walk from its one end to the other, one step shorter
-pub walk_from_cycle : (ends : Ends) (kept : List Bool) (b x y : ℕ) (xs : List ℕ) → KeepsRings ends kept → slice_get ends b ≡ Some (x, y) → IsSimpleCycle ends xs → LiesOn ends b xs → Walk (StepBut ends kept b) x y (length xs - 1)
+pub walk_from_cycle : (ends : Ends) (kept : List Bool) (b x y : ℕ) (xs : List ℕ) → KeepsRings ends kept
+    → slice_get ends b ≡ Some (x, y) → IsSimpleCycle ends xs → LiesOn ends b xs
+    → Walk (StepBut ends kept b) x y (length xs - 1)
 walk_from_cycle ends kept b x y xs keeps at cycle lies =
     let i : ℕ = lies.0 in
     let w = rest_walk ends kept b xs keeps cycle i lies.1 lies.2 in
@@ -127,14 +157,21 @@ walk_from_cycle ends kept b x y xs keeps at cycle lies =
 
 -- ---- a shortest walk and the bond are a cycle
 
-pub cycle_from_path : (n : ℕ) (ends : Ends) (kept : List Bool) (b x y d : ℕ) (xs : List ℕ) → IsSimpleGraph n ends → slice_get ends b ≡ Some (x, y) → 2 ≤ d → IsPath (StepBut ends kept b) x y d xs → IsSimpleCycle ends xs × LiesOn ends b xs
+pub cycle_from_path : (n : ℕ) (ends : Ends) (kept : List Bool) (b x y d : ℕ) (xs : List ℕ) → IsSimpleGraph n ends
+    → slice_get ends b ≡ Some (x, y) → 2 ≤ d → IsPath (StepBut ends kept b) x y d xs → IsSimpleCycle ends xs
+    × LiesOn ends b xs
 cycle_from_path n ends kept b x y d xs graph at two p =
     let long = p.long in
     let turn : JoinsAt ends b (get_or xs d 0) (get_or xs 0 0) = rw (p.last, p.first) (inr at) in
-    let last : next_place xs d ≡ 0 = elim (next_cases xs d (omega arith)) [ inl q ↦ absurd (omega (arith, q.0)) | inr q ↦ q.1 ] in (
+    let last : next_place xs d ≡ 0 = elim (next_cases xs d (omega arith)) [
+      | inl q ↦
+          absurd (omega (arith, q.0))
+      | inr q ↦ q.1
+    ] in (
       record {
         three = omega arith;
-        distinct = λ i j e low high same. path_distinct _ x y d xs p i j low (omega arith) (get_or_default xs i 0 e (omega arith) ∙ same ∙ get_or_default xs j e 0 high);
+        distinct = λ i j e low high same. path_distinct _ x y d xs p i j low (omega arith)
+            (get_or_default xs i 0 e (omega arith) ∙ same ∙ get_or_default xs j e 0 high);
         joined = λ i h. elim (cases_lt i d) [
           | inl l ↦
               let s = p.steps i l in
@@ -148,7 +185,8 @@ cycle_from_path n ends kept b x y d xs graph at two p =
     )
 
 -- no other bond joins the same atoms, so a walk that leaves the bond out has two steps or more
-two_steps : (n : ℕ) (ends : Ends) (kept : List Bool) (b x y d : ℕ) → IsSimpleGraph n ends → slice_get ends b ≡ Some (x, y) → x ≢ y → Walk (StepBut ends kept b) x y d → 2 ≤ d
+two_steps : (n : ℕ) (ends : Ends) (kept : List Bool) (b x y d : ℕ) → IsSimpleGraph n ends → slice_get ends b
+    ≡ Some (x, y) → x ≢ y → Walk (StepBut ends kept b) x y d → 2 ≤ d
 two_steps n ends kept b x y zero graph at ne w = absurd (ne w)
 two_steps n ends kept b x y (suc zero) graph at ne w =
     let s = w.2 in
@@ -156,7 +194,9 @@ two_steps n ends kept b x y (suc zero) graph at ne w =
     absurd (s.1 (graph.once s.0 b x y j (inl at)))
 two_steps n ends kept b x y (suc (suc d)) graph at ne w = omega arith
 
-pub smallest_from_mark : (n : ℕ) (ends : Ends) (kept : List Bool) (b x y r : ℕ) → IsSimpleGraph n ends → KeepsRings ends kept → slice_get ends b ≡ Some (x, y) → x ≢ y → IsMark (StepBut ends kept b) x y r → IsSmallestThrough ends b r
+pub smallest_from_mark : (n : ℕ) (ends : Ends) (kept : List Bool) (b x y r : ℕ) → IsSimpleGraph n ends
+    → KeepsRings ends kept → slice_get ends b ≡ Some (x, y) → x ≢ y → IsMark (StepBut ends kept b) x y r
+    → IsSmallestThrough ends b r
 smallest_from_mark n ends kept b x y r graph keeps at ne h =
     elim h [
       | inl q ↦ inl (q.0, λ xs cycle lies. q.1 _ (walk_from_cycle ends kept b x y xs keeps at cycle lies))
@@ -182,7 +222,8 @@ smallest_from_mark n ends kept b x y r graph keeps at ne h =
 -- ---- the ring bonds at an atom
 
 -- a ring bond at an atom is not the only one there
-pub two_ring_bonds : (ends : Ends) (b a t : ℕ) → IsRingBond ends b → JoinsAt ends b a t → (c u : ℕ) × (c ≢ b) × JoinsAt ends c a u × IsRingBond ends c
+pub two_ring_bonds : (ends : Ends) (b a t : ℕ) → IsRingBond ends b → JoinsAt ends b a t → (c u : ℕ) × (c ≢ b)
+    × JoinsAt ends c a u × IsRingBond ends c
 two_ring_bonds ends b a t ring j =
     let xs : List ℕ = ring.0 in
     let cycle : IsSimpleCycle ends xs = ring.1 in
@@ -194,24 +235,51 @@ two_ring_bonds ends b a t ring j =
       | inl q ↦
           let before : (p : ℕ) × (p < length xs) × (p ≢ i) × (next_place xs p ≡ i) =
           elim (cases_eq i 0) [
-            | inl z ↦ (length xs - 1, omega arith, omega arith, elim (next_cases xs (length xs - 1) (omega arith)) [ inl s ↦ absurd (omega (arith, s.0)) | inr s ↦ s.1 ∙ sym z ])
-            | inr z ↦ (i - 1, omega arith, omega arith, elim (next_cases xs (i - 1) (omega arith)) [ inl s ↦ omega (arith, s.1) | inr s ↦ absurd (omega (arith, s.0)) ])
+            | inl z ↦ (
+              length xs - 1,
+              omega arith,
+              omega arith,
+              elim (next_cases xs (length xs - 1) (omega arith))
+                  [ inl s ↦ absurd (omega (arith, s.0)) | inr s ↦ s.1 ∙ sym z ],
+            )
+            | inr z ↦ (
+              i - 1,
+              omega arith,
+              omega arith,
+              elim (next_cases xs (i - 1) (omega arith)) [
+                | inl s ↦
+                    omega (arith, s.1)
+                | inr s ↦ absurd (omega (arith, s.0))
+              ],
+            )
           ] in
           let p : ℕ = before.0 in
           let here = cycle.joined p before.1 in
-          let there : JoinsAt ends here.0 a (get_or xs p 0) = joins_back ends here.0 _ _ (rw (before.3, q.0) at here.1) in
-          (here.0, get_or xs p 0, other_bond ends xs cycle b here.0 i p hi before.1 before.2 jb here.1, there, (xs, cycle, (p, before.1, here.1)))
+          let there : JoinsAt ends here.0 a (get_or xs p 0) =
+          joins_back ends here.0 _ _ (rw (before.3, q.0) at here.1) in (
+            here.0,
+            get_or xs p 0,
+            other_bond ends xs cycle b here.0 i p hi before.1 before.2 jb here.1,
+            there,
+            (xs, cycle, (p, before.1, here.1)),
+          )
       | inr q ↦
           let k : ℕ = next_place xs i in
           let hk : k < length xs = next_within xs i hi in
           let ne : k ≢ i = elim (next_cases xs i hi) [ inl s ↦ omega (arith, s.1) | inr s ↦ omega (arith, s.1, s.0) ] in
           let here = cycle.joined k hk in
-          let there : JoinsAt ends here.0 a (get_or xs (next_place xs k) 0) = rw (q.1) at here.1 in
-          (here.0, get_or xs (next_place xs k) 0, other_bond ends xs cycle b here.0 i k hi hk ne jb here.1, there, (xs, cycle, (k, hk, here.1)))
+          let there : JoinsAt ends here.0 a (get_or xs (next_place xs k) 0) = rw (q.1) at here.1 in (
+            here.0,
+            get_or xs (next_place xs k) 0,
+            other_bond ends xs cycle b here.0 i k hi hk ne jb here.1,
+            there,
+            (xs, cycle, (k, hk, here.1)),
+          )
     ]
 
 -- an atom of a cycle has a bond that lies on it
-pub bond_of_atom : (ends : Ends) (xs : List ℕ) (a : ℕ) → IsSimpleCycle ends xs → Contains xs a → (b u : ℕ) × JoinsAt ends b a u × LiesOn ends b xs
+pub bond_of_atom : (ends : Ends) (xs : List ℕ) (a : ℕ) → IsSimpleCycle ends xs → Contains xs a → (b u : ℕ)
+    × JoinsAt ends b a u × LiesOn ends b xs
 bond_of_atom ends xs a cycle has =
     let here = cycle.joined has.0 has.1 in
     let is : get_or xs has.0 0 ≡ a = get_or_default xs has.0 0 a has.1 ∙ has.2 in

@@ -21,7 +21,8 @@ least_start ends lengths v n z = record {
   least = λ c u l j ne. absurd (omega arith);
 }
 
-pub least_more : (ends : Ends) (lengths : List ℕ) (i v u n r : ℕ) → IsLeastBefore ends lengths i v n → JoinsAt ends i v u → IsLesser n (get_or lengths i 0) r → IsLeastBefore ends lengths (i + 1) v r
+pub least_more : (ends : Ends) (lengths : List ℕ) (i v u n r : ℕ) → IsLeastBefore ends lengths i v n
+    → JoinsAt ends i v u → IsLesser n (get_or lengths i 0) r → IsLeastBefore ends lengths (i + 1) v r
 least_more ends lengths i v u n r h joins lesser = record {
   none = λ z c w l j. elim (cases_lt c i) [
     | inl low ↦ elim (cases_eq n 0) [ inl e ↦ h.none e c w low j | inr ne ↦ absurd ((lesser.first ne).0 z) ]
@@ -50,7 +51,8 @@ least_more ends lengths i v u n r h joins lesser = record {
 }
 
 -- an atom that the bond does not end at
-pub least_same : (ends : Ends) (lengths : List ℕ) (i v n : ℕ) (d : ℕ × ℕ) → IsLeastBefore ends lengths i v n → slice_get ends i ≡ Some d → v ≢ d.0 → v ≢ d.1 → IsLeastBefore ends lengths (i + 1) v n
+pub least_same : (ends : Ends) (lengths : List ℕ) (i v n : ℕ) (d : ℕ × ℕ) → IsLeastBefore ends lengths i v n
+    → slice_get ends i ≡ Some d → v ≢ d.0 → v ≢ d.1 → IsLeastBefore ends lengths (i + 1) v n
 least_same ends lengths i v n d h at ne0 ne1 =
     let low : (c u : ℕ) → c < i + 1 → JoinsAt ends c v u → c < i = λ c u l j. elim (cases_lt c i) [
       | inl a ↦ a
@@ -66,7 +68,12 @@ least_same ends lengths i v n d h at ne0 ne1 =
     }
 
 -- all atoms, with one bond more
-pub leasts_more : (n : ℕ) (ends : Ends) (lengths : List ℕ) (i ring : ℕ) (d : ℕ × ℕ) (small after : List ℕ) → ring ≡ get_or lengths i 0 → slice_get ends i ≡ Some d → ((v : ℕ) → v < n → IsLeastBefore ends lengths i v (get_or small v 0)) → IsLesser (get_or small d.0 0) ring (get_or after d.0 0) → IsLesser (get_or small d.1 0) ring (get_or after d.1 0) → ((v : ℕ) → v ≢ d.0 → v ≢ d.1 → get_or after v 0 ≡ get_or small v 0) → (v : ℕ) → v < n → IsLeastBefore ends lengths (i + 1) v (get_or after v 0)
+pub leasts_more : (n : ℕ) (ends : Ends) (lengths : List ℕ) (i ring : ℕ) (d : ℕ × ℕ) (small after : List ℕ)
+    → ring ≡ get_or lengths i 0 → slice_get ends i ≡ Some d
+    → ((v : ℕ) → v < n → IsLeastBefore ends lengths i v (get_or small v 0))
+    → IsLesser (get_or small d.0 0) ring (get_or after d.0 0) → IsLesser (get_or small d.1 0) ring (get_or after d.1 0)
+    → ((v : ℕ) → v ≢ d.0 → v ≢ d.1 → get_or after v 0 ≡ get_or small v 0) → (v : ℕ) → v < n
+    → IsLeastBefore ends lengths (i + 1) v (get_or after v 0)
 leasts_more n ends lengths i ring d small after is at h one other others v within =
     elim (cases_eq v d.0) [
       | inl e ↦
@@ -86,7 +93,9 @@ joined_below : (ends : Ends) (b x y : ℕ) → JoinsAt ends b x y → b < length
 joined_below ends b x y j = elim j [ inl q ↦ slice_get_within ends b _ q | inr q ↦ slice_get_within ends b _ q ]
 
 -- a bond that lies on a ring has a length, which is no more than the ring's
-bond_least : (ends : Ends) (b n : ℕ) (xs : List ℕ) → IsSmallestThrough ends b n → IsSimpleCycle ends xs → ((i : ℕ) × (i < length xs) × JoinsAt ends b (get_or xs i 0) (get_or xs ((i + 1) % length xs) 0)) → (n ≢ 0) × (n ≤ length xs)
+bond_least : (ends : Ends) (b n : ℕ) (xs : List ℕ) → IsSmallestThrough ends b n → IsSimpleCycle ends xs
+    → ((i : ℕ) × (i < length xs) × JoinsAt ends b (get_or xs i 0) (get_or xs ((i + 1) % length xs) 0))
+    → (n ≢ 0) × (n ≤ length xs)
 bond_least ends b n xs h cycle lies =
     elim h [
       | inl q ↦ absurd (q.1 xs cycle lies)
@@ -95,7 +104,8 @@ bond_least ends b n xs h cycle lies =
           (omega (arith, q.3), q.4 xs cycle lies)
     ]
 
-pub smallest_from_least : (ends : Ends) (lengths : List ℕ) (v n : ℕ) → AreBondRings ends lengths → IsLeastBefore ends lengths (length ends) v n → IsSmallestRing ends v n
+pub smallest_from_least : (ends : Ends) (lengths : List ℕ) (v n : ℕ) → AreBondRings ends lengths
+    → IsLeastBefore ends lengths (length ends) v n → IsSmallestRing ends v n
 smallest_from_least ends lengths v n rings h =
     elim (cases_eq n 0) [
       | inl z ↦ inl (

@@ -9,13 +9,17 @@ use Rattle.ring_find.specs.BondRings.{AreBondRings, IsSmallestThrough}
 through_some : (ends : Ends) (b n : ℕ) → IsSmallestThrough ends b n → (not (eqb n 0) ≡ true) ↔ IsRingBond ends b
 through_some ends b n h =
     elim h [
-      | inl q ↦ (λ yes. absurd (false≢true (ap not (sym (eq-eqb n 0 q.0)) ∙ yes)), λ ring. absurd (q.1 ring.0 ring.1 ring.2))
+      | inl q ↦ (
+        λ yes. absurd (false≢true (ap not (sym (eq-eqb n 0 q.0)) ∙ yes)),
+        λ ring. absurd (q.1 ring.0 ring.1 ring.2),
+      )
       | inr q ↦
           let three = (q.1).three in
           (λ yes. (q.0, q.1, q.2), λ ring. ap not (ne_eqb n 0 (λ z. omega (arith, q.3))))
     ]
 
-pub ring_bonds_from : (ends : Ends) (lengths : List ℕ) → AreBondRings ends lengths → AreRingBonds ends (map (λ n. not (eqb n 0)) lengths)
+pub ring_bonds_from : (ends : Ends) (lengths : List ℕ) → AreBondRings ends lengths
+    → AreRingBonds ends (map (λ n. not (eqb n 0)) lengths)
 ring_bonds_from ends lengths h = record {
   one_each = length-map lengths (λ n. not (eqb n 0)) ∙ h.one_each;
   each = λ b within.
@@ -55,7 +59,8 @@ same_smallest ends a n m f g =
       ]
     ]
 
-pub smallest_rings_one : (atoms : ℕ) (ends : Ends) (xs ys : List ℕ) → AreSmallestRings atoms ends xs → AreSmallestRings atoms ends ys → xs ≡ ys
+pub smallest_rings_one : (atoms : ℕ) (ends : Ends) (xs ys : List ℕ) → AreSmallestRings atoms ends xs
+    → AreSmallestRings atoms ends ys → xs ≡ ys
 smallest_rings_one atoms ends xs ys f g =
     ext_get_or 0 xs ys (f.one_each ∙ sym g.one_each) (λ a l.
     let within : a < atoms = omega (arith, f.one_each) in

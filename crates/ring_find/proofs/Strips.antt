@@ -29,7 +29,8 @@ keeps_all ends = record {
 }
 
 -- the one kept bond of an atom is on no ring
-pub keeps_more : (ends : Ends) (kept : List Bool) (a : ℕ) (steps : List Step) (s : Step) → KeepsRings ends kept → AreStepsFrom ends a steps → IsOnlyKept steps kept s → KeepsRings ends (set kept s.bond false)
+pub keeps_more : (ends : Ends) (kept : List Bool) (a : ℕ) (steps : List Step) (s : Step) → KeepsRings ends kept
+    → AreStepsFrom ends a steps → IsOnlyKept steps kept s → KeepsRings ends (set kept s.bond false)
 keeps_more ends kept a steps s keeps from only = record {
   one_each = length-set kept s.bond false ∙ keeps.one_each;
   each = λ b ring. elim (cases_eq b s.bond) [
@@ -44,7 +45,8 @@ keeps_more ends kept a steps s keeps from only = record {
 }
 
 -- one kept bond fewer
-pub count_less : (kept : List Bool) (b : ℕ) → b < length kept → get_or kept b false ≡ true → count_by (λ k. k) (set kept b false) + 1 ≡ count_by (λ k. k) kept
+pub count_less : (kept : List Bool) (b : ℕ) → b < length kept → get_or kept b false ≡ true
+    → count_by (λ k. k) (set kept b false) + 1 ≡ count_by (λ k. k) kept
 count_less kept b h is =
     let e = sum_by-set (λ k. cond k 1 0) kept b false false h in
     let e' = rw is at e in
@@ -53,14 +55,17 @@ count_less kept b h is =
 -- ---- dead ends
 
 -- one more bond stripped, from a to the atom that may now be a dead end
-pub ends_more : (ends : Ends) (kept : List Bool) (a limit : ℕ) (steps : List Step) (s : Step) → KeepsRings ends kept → AreStepsFrom ends a steps → IsOnlyKept steps kept s → ((v : ℕ) → v < limit → v ≢ a → IsDeadEnd ends kept v → ⊥) → (v : ℕ) → v < limit → v ≢ s.to → IsDeadEnd ends (set kept s.bond false) v → ⊥
+pub ends_more : (ends : Ends) (kept : List Bool) (a limit : ℕ) (steps : List Step) (s : Step) → KeepsRings ends kept
+    → AreStepsFrom ends a steps → IsOnlyKept steps kept s → ((v : ℕ) → v < limit → v ≢ a → IsDeadEnd ends kept v → ⊥)
+    → (v : ℕ) → v < limit → v ≢ s.to → IsDeadEnd ends (set kept s.bond false) v → ⊥
 ends_more ends kept a limit steps s keeps from only before v low ne dead =
     let c : ℕ = dead.0 in
     let u : ℕ = dead.1 in
     let joins : JoinsAt ends s.bond a s.to = from.joins s only.0 in
     let within : s.bond < length kept = omega (arith, joined_below ends s.bond a s.to joins, keeps.one_each) in
     let other : c ≢ s.bond = λ e.
-    let stripped : get_or (set kept s.bond false) c false ≡ false = ap (λ k. get_or (set kept s.bond false) k false) e ∙ get_or-set_same kept s.bond false false within in
+    let stripped : get_or (set kept s.bond false) c false ≡ false = ap (λ k. get_or (set kept s.bond false) k false) e
+    ∙ get_or-set_same kept s.bond false false within in
     false≢true (sym stripped ∙ dead.3) in
     let kept_c : get_or kept c false ≡ true = sym (get_or-set_other kept s.bond c false false other) ∙ dead.3 in
     elim (cases_eq v a) [
@@ -74,13 +79,15 @@ ends_more ends kept a limit steps s keeps from only before v low ne dead =
             dead.2,
             kept_c,
             λ d w j k.
-                let apart : d ≢ s.bond = λ e. elim (joins_one ends s.bond v w a s.to (subst (λ b. JoinsAt ends b v w) e j) joins) [ inl q ↦ ne' q.0 | inr q ↦ ne q.0 ] in
+                let apart : d ≢ s.bond = λ e. elim (joins_one ends s.bond v w a s.to
+                (subst (λ b. JoinsAt ends b v w) e j) joins) [ inl q ↦ ne' q.0 | inr q ↦ ne q.0 ] in
                 dead.4 d w j (get_or-set_other kept s.bond d false false apart ∙ k),
           )
     ]
 
 -- an atom at which no bond alone is kept is no dead end
-pub ends_done : (ends : Ends) (kept : List Bool) (a : ℕ) (steps : List Step) → AreStepsFrom ends a steps → ((s : Step) → IsOnlyKept steps kept s → ⊥) → IsDeadEnd ends kept a → ⊥
+pub ends_done : (ends : Ends) (kept : List Bool) (a : ℕ) (steps : List Step) → AreStepsFrom ends a steps
+    → ((s : Step) → IsOnlyKept steps kept s → ⊥) → IsDeadEnd ends kept a → ⊥
 ends_done ends kept a steps from none dead =
     let s : Step = record { to = dead.1; bond = dead.0 } in
     none s (from.each dead.0 dead.1 dead.2, dead.3, λ t has k. dead.4 t.bond t.to (from.joins t has) k)
@@ -88,9 +95,12 @@ ends_done ends kept a steps from none dead =
 -- of the steps before the place i none is by a kept bond, or the one that was found alone is
 abbrev pub KeptSoFar : List Step → List Bool → ℕ → Option Step → Type 0
 KeptSoFar steps kept i only =
-    MatchOption only ((k : ℕ) (d : Step) → k < i → get_or kept (get_or steps k d).bond false ≡ false) (IsOnlyKept (take i steps) kept)
+    MatchOption only ((k : ℕ) (d : Step) → k < i → get_or kept (get_or steps k d).bond false ≡ false)
+    (IsOnlyKept (take i steps) kept)
 
-pub none_kept : (steps : List Step) (kept : List Bool) (i : ℕ) → ((k : ℕ) (d : Step) → k < i → get_or kept (get_or steps k d).bond false ≡ false) → (t : Step) → IsOnlyKept (take i steps) kept t → ⊥
+pub none_kept : (steps : List Step) (kept : List Bool) (i : ℕ)
+    → ((k : ℕ) (d : Step) → k < i → get_or kept (get_or steps k d).bond false ≡ false) → (t : Step)
+    → IsOnlyKept (take i steps) kept t → ⊥
 none_kept steps kept i none t only =
     let k : ℕ = only.0.0 in
     let low : k < i = omega (arith, only.0.1, length-take i steps) in
@@ -99,7 +109,9 @@ none_kept steps kept i none t only =
     false≢true (sym stripped ∙ only.1)
 
 -- of two kept steps neither is alone
-pub two_kept : (steps : List Step) (kept : List Bool) (i : ℕ) (d : Step) (only : Option Step) → is_some only ≡ true → KeptSoFar steps kept i only → AllPairs (λ s t. s.bond ≢ t.bond) steps → i < length steps → get_or kept (get_or steps i d).bond false ≡ true → (t : Step) → IsOnlyKept steps kept t → ⊥
+pub two_kept : (steps : List Step) (kept : List Bool) (i : ℕ) (d : Step) (only : Option Step) → is_some only ≡ true
+    → KeptSoFar steps kept i only → AllPairs (λ s t. s.bond ≢ t.bond) steps → i < length steps
+    → get_or kept (get_or steps i d).bond false ≡ true → (t : Step) → IsOnlyKept steps kept t → ⊥
 two_kept steps kept i d None some first once l here t alone = absurd (false≢true some)
 two_kept steps kept i d (Some s) some first once l here t alone =
     let k : ℕ = first.0.0 in
@@ -111,13 +123,16 @@ two_kept steps kept i d (Some s) some first once l here t alone =
     once k i d low l (ap (λ r. r.bond) same ∙ one ∙ sym two)
 
 -- a step of the first steps, with one more
-step_cases : (steps : List Step) (i : ℕ) (d t : Step) → i < length steps → Contains (take (i + 1) steps) t → Contains (take i steps) t ⊎ (get_or steps i d ≡ t)
+step_cases : (steps : List Step) (i : ℕ) (d t : Step) → i < length steps → Contains (take (i + 1) steps) t
+    → Contains (take i steps) t ⊎ (get_or steps i d ≡ t)
 step_cases steps i d t l has =
     let more : Contains (take i steps ++ get_or steps i d ∷ []) t = rw (take_more steps i d l) at has in
     Contains-push_cases (take i steps) (get_or steps i d) t more
 
 -- the first kept step
-pub kept_first : (steps : List Step) (kept : List Bool) (i : ℕ) (d : Step) (only : Option Step) → is_some only ≡ false → KeptSoFar steps kept i only → i < length steps → get_or kept (get_or steps i d).bond false ≡ true → KeptSoFar steps kept (i + 1) (Some (get_or steps i d))
+pub kept_first : (steps : List Step) (kept : List Bool) (i : ℕ) (d : Step) (only : Option Step) → is_some only ≡ false
+    → KeptSoFar steps kept i only → i < length steps → get_or kept (get_or steps i d).bond false ≡ true
+    → KeptSoFar steps kept (i + 1) (Some (get_or steps i d))
 kept_first steps kept i d (Some s) none so_far l here = absurd (false≢true (sym none))
 kept_first steps kept i d None none so_far l here =
     let s : Step = get_or steps i d in (
@@ -129,7 +144,9 @@ kept_first steps kept i d None none so_far l here =
       ],
     )
   where
-    none_before : (steps : List Step) (kept : List Bool) (i : ℕ) → ((k : ℕ) (d : Step) → k < i → get_or kept (get_or steps k d).bond false ≡ false) → (t : Step) → Contains (take i steps) t → get_or kept t.bond false ≡ true → ⊥
+    none_before : (steps : List Step) (kept : List Bool) (i : ℕ)
+        → ((k : ℕ) (d : Step) → k < i → get_or kept (get_or steps k d).bond false ≡ false) → (t : Step)
+        → Contains (take i steps) t → get_or kept t.bond false ≡ true → ⊥
     none_before steps kept i none t has k =
         let low : has.0 < i = omega (arith, has.1, length-take i steps) in
         let is : get_or steps has.0 t ≡ t = sym (get_or-take i steps has.0 t low) ∙ has.2 in
@@ -137,7 +154,9 @@ kept_first steps kept i d None none so_far l here =
         false≢true (sym stripped ∙ k)
 
 -- a step that is not kept
-pub kept_same : (steps : List Step) (kept : List Bool) (i : ℕ) (d : Step) (only : Option Step) → KeptSoFar steps kept i only → i < length steps → get_or kept (get_or steps i d).bond false ≡ false → KeptSoFar steps kept (i + 1) only
+pub kept_same : (steps : List Step) (kept : List Bool) (i : ℕ) (d : Step) (only : Option Step)
+    → KeptSoFar steps kept i only → i < length steps → get_or kept (get_or steps i d).bond false ≡ false
+    → KeptSoFar steps kept (i + 1) only
 kept_same steps kept i d None so_far l stripped = λ k e low. elim (cases_lt k i) [
   | inl before ↦ so_far k e before
   | inr after ↦
@@ -145,15 +164,18 @@ kept_same steps kept i d None so_far l stripped = λ k e low. elim (cases_lt k i
       rw (is, get_or_default steps i e d l) stripped
 ]
 kept_same steps kept i d (Some s) so_far l stripped = (
-  subst (λ xs. Contains xs s) (sym (take_more steps i d l)) (Contains-append_left (take i steps) (get_or steps i d ∷ []) s so_far.0),
+  subst (λ xs. Contains xs s) (sym (take_more steps i d l)) (Contains-append_left (take i steps) (get_or steps i d ∷ [])
+      s so_far.0),
   so_far.1,
   λ t has k. elim (step_cases steps i d t l has) [
     | inl before ↦ so_far.2 t before k
-    | inr e ↦ absurd (let kept_i : get_or kept (get_or steps i d).bond false ≡ true = rw e k in false≢true (sym stripped ∙ kept_i))
+    | inr e ↦ absurd (let kept_i : get_or kept (get_or steps i d).bond false ≡ true = rw e k in
+        false≢true (sym stripped ∙ kept_i))
   ],
 )
 
 -- all steps looked at
-pub kept_all : (steps : List Step) (kept : List Bool) (i : ℕ) (only : Option Step) → KeptSoFar steps kept i only → length steps ≤ i → MatchOption only ((t : Step) → IsOnlyKept steps kept t → ⊥) (IsOnlyKept steps kept)
+pub kept_all : (steps : List Step) (kept : List Bool) (i : ℕ) (only : Option Step) → KeptSoFar steps kept i only
+    → length steps ≤ i → MatchOption only ((t : Step) → IsOnlyKept steps kept t → ⊥) (IsOnlyKept steps kept)
 kept_all steps kept i None so_far all = rw (take_all i steps all) at (none_kept steps kept i so_far)
 kept_all steps kept i (Some s) so_far all = rw (take_all i steps all) at so_far

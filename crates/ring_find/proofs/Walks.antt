@@ -17,11 +17,17 @@ walk_back S turn x y (suc n) w =
     rw e at (walk_join S y w.0 x 1 n (y, refl, turn w.0 y w.2) (walk_back S turn x w.0 n w.1))
 
 -- along a list from its place p on
-pub walk_along : (S : ℕ → ℕ → Type 0) (xs : List ℕ) (p d : ℕ) → ((k : ℕ) → p ≤ k → k < p + d → S (get_or xs k 0) (get_or xs (k + 1) 0)) → Walk S (get_or xs p 0) (get_or xs (p + d) 0) d
+pub walk_along : (S : ℕ → ℕ → Type 0) (xs : List ℕ) (p d : ℕ)
+    → ((k : ℕ) → p ≤ k → k < p + d → S (get_or xs k 0) (get_or xs (k + 1) 0))
+    → Walk S (get_or xs p 0) (get_or xs (p + d) 0) d
 walk_along S xs p zero steps = let e : p + zero ≡ p = omega arith in rw e refl
 walk_along S xs p (suc d) steps =
     let e : p + suc d ≡ p + d + 1 = omega arith in
-    rw e (get_or xs (p + d) 0, walk_along S xs p d (λ k a b. steps k a (omega arith)), steps (p + d) (omega arith) (omega arith))
+    rw e (
+      get_or xs (p + d) 0,
+      walk_along S xs p d (λ k a b. steps k a (omega arith)),
+      steps (p + d) (omega arith) (omega arith),
+    )
 
 -- the atoms of a shortest walk: the k-th is at distance k
 pub record IsPath (S : ℕ → ℕ → Type 0) (x y n : ℕ) (xs : List ℕ) : Type 0 where
@@ -38,10 +44,12 @@ before_last S x y z n h w s = record {
   least = λ m v. let more = h.least (suc m) (z, v, s) in omega arith;
 }
 
-path_more : (S : ℕ → ℕ → Type 0) (x y z n : ℕ) (xs : List ℕ) → IsDistance S x y (suc n) → S z y → IsPath S x z n xs → IsPath S x y (suc n) (xs ++ y ∷ [])
+path_more : (S : ℕ → ℕ → Type 0) (x y z n : ℕ) (xs : List ℕ) → IsDistance S x y (suc n) → S z y → IsPath S x z n xs
+    → IsPath S x y (suc n) (xs ++ y ∷ [])
 path_more S x y z n xs h s p =
     let long : length xs ≡ suc n = omega (arith, p.long) in
-    let old : (k : ℕ) → k ≤ n → get_or (xs ++ y ∷ []) k 0 ≡ get_or xs k 0 = λ k l. get_or_append_left xs (y ∷ []) 0 k (omega arith) in
+    let old : (k : ℕ) → k ≤ n → get_or (xs ++ y ∷ []) k 0 ≡ get_or xs k 0 = λ k l. get_or_append_left xs (y ∷ []) 0 k
+    (omega arith) in
     let new : get_or (xs ++ y ∷ []) (suc n) 0 ≡ y = get_or_push xs y 0 (suc n) long in
     record {
       long = omega (arith, length_push xs y);
@@ -80,7 +88,8 @@ path_of S x y (suc n) h =
     (rest.0 ++ y ∷ [], path_more S x y z n rest.0 h h.walk.2 rest.1)
 
 -- no two places of a path hold one atom
-pub path_distinct : (S : ℕ → ℕ → Type 0) (x y n : ℕ) (xs : List ℕ) → IsPath S x y n xs → (i j : ℕ) → i < j → j ≤ n → get_or xs i 0 ≢ get_or xs j 0
+pub path_distinct : (S : ℕ → ℕ → Type 0) (x y n : ℕ) (xs : List ℕ) → IsPath S x y n xs → (i j : ℕ) → i < j → j ≤ n
+    → get_or xs i 0 ≢ get_or xs j 0
 path_distinct S x y n xs p i j low high same =
     let there : Walk S x (get_or xs j 0) i = subst (λ v. Walk S x v i) same (p.far i (omega arith)).walk in
     let more = (p.far j high).least i there in

@@ -4,7 +4,8 @@ use Rattle.chem_core.specs.Graph.{Ends, JoinsAt}
 
 -- the bond joins an atom of label m to one of a lower label
 abbrev pub LeadsDown : Ends → List ℕ → ℕ → ℕ → Type 0
-LeadsDown ends labels b m = (x y : ℕ) × JoinsAt ends b x y × (slice_index labels x < slice_index labels y) × (slice_index labels y ≡ m)
+LeadsDown ends labels b m = (x y : ℕ) × JoinsAt ends b x y × (slice_index labels x < slice_index labels y)
+    × (slice_index labels y ≡ m)
 
 -- from each label at most one bond leads to a lower one
 abbrev pub AreForest : Ends → List ℕ → Type 0

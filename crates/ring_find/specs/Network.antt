@@ -17,9 +17,13 @@ pub record AreStepsFrom (ends : Ends) (atom : ℕ) (steps : List Step) : Type 0 
 -- The first bonds, as many as bonds, that end at an atom: as many as count, in the room for the atom's steps.
 pub record IsFilled (ends : Ends) (bonds atom : ℕ) (steps : List Step) (count : ℕ) : Type 0 where
   pub number : count ≡ degree (take bonds ends) atom
-  pub joins : (k : ℕ) (d : Step) → k < count → ((slice_index_or steps (MOST_NEIGHBOURS * atom + k) d).bond < bonds) × JoinsAt ends (slice_index_or steps (MOST_NEIGHBOURS * atom + k) d).bond atom (slice_index_or steps (MOST_NEIGHBOURS * atom + k) d).to
-  pub once : (j k : ℕ) (d : Step) → j < k → k < count → (slice_index_or steps (MOST_NEIGHBOURS * atom + j) d).bond ≢ (slice_index_or steps (MOST_NEIGHBOURS * atom + k) d).bond
-  pub each : (b y : ℕ) → b < bonds → JoinsAt ends b atom y → (k : ℕ) × (k < count) × ((d : Step) → slice_index_or steps (MOST_NEIGHBOURS * atom + k) d ≡ record { to = y; bond = b })
+  pub joins : (k : ℕ) (d : Step) → k < count → ((slice_index_or steps (MOST_NEIGHBOURS * atom + k) d).bond < bonds)
+      × JoinsAt ends (slice_index_or steps (MOST_NEIGHBOURS * atom + k) d).bond atom
+      (slice_index_or steps (MOST_NEIGHBOURS * atom + k) d).to
+  pub once : (j k : ℕ) (d : Step) → j < k → k < count → (slice_index_or steps (MOST_NEIGHBOURS * atom + j) d).bond
+      ≢ (slice_index_or steps (MOST_NEIGHBOURS * atom + k) d).bond
+  pub each : (b y : ℕ) → b < bonds → JoinsAt ends b atom y → (k : ℕ) × (k < count)
+      × ((d : Step) → slice_index_or steps (MOST_NEIGHBOURS * atom + k) d ≡ record { to = y; bond = b })
 
 -- the same at each atom
 pub record AreFilled (ends : Ends) (bonds atoms : ℕ) (steps : List Step) (degrees : List ℕ) : Type 0 where

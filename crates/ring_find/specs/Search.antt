@@ -20,8 +20,10 @@ pub record IsSearch (Step : ℕ → ℕ → Type 0) (atoms x : ℕ) (marks queue
   pub marked : (i : ℕ) → i < length queue → 0 < mark_at marks queue i
   pub low : (i : ℕ) → i < length queue → mark_at marks queue i ≤ i + 1
   pub rises : (i j : ℕ) → i ≤ j → j < length queue → mark_at marks queue i ≤ mark_at marks queue j
-  pub near : (i j : ℕ) → next ≤ i → i < length queue → j < length queue → mark_at marks queue j ≤ mark_at marks queue i + 1
-  pub past : (i v : ℕ) → i < next → Step (slice_index queue i) v → (0 < slice_index marks v) × (slice_index marks v ≤ mark_at marks queue i + 1)
+  pub near : (i j : ℕ) → next ≤ i → i < length queue → j < length queue → mark_at marks queue j ≤ mark_at marks queue i
+      + 1
+  pub past : (i v : ℕ) → i < next → Step (slice_index queue i) v → (0 < slice_index marks v)
+      × (slice_index marks v ≤ mark_at marks queue i + 1)
 
 -- a search for the smallest ring through bond b, from the first of its ends
 abbrev pub IsRingSearch : Ends → List Bool → ℕ → ℕ → List ℕ → List ℕ → ℕ → Type 0

@@ -41,7 +41,10 @@ impl Graph {
     /// The graph of a sketch. Fails only for want of memory.
     pub fn of(alloc: Global, sketch: &Sketch) -> Result<Graph, AllocError>
         requires { IsSound sketch.now }
-        ensures { IfOk result (λ graph. graph ≡ record { atoms = length sketch.now.atoms; ends = sketch_ends sketch.now }) }
+        ensures { IfOk result (λ graph. graph ≡ record {
+          atoms = length sketch.now.atoms;
+          ends = sketch_ends sketch.now;
+        }) }
     {
         let atoms = sketch.atoms.len();
         let ends = ends_of(alloc, &sketch.bonds)?;

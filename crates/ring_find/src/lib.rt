@@ -30,11 +30,13 @@ use std::alloc::{AllocError, Global};
 /// Which bonds are ring bonds, and the length of the smallest ring of each atom, 0 where it is in none.
 ///
 /// A ring is a simple cycle. Fails only for want of memory. A sketch without rings takes time linear in its atoms and
-/// bonds, and so does a chain of small rings; at worst the time is the number of ring bonds times that of atoms and bonds.
+/// bonds, and so does a chain of small rings; at worst the time is the number of ring bonds times that of atoms and
+/// bonds.
 pub fn rings(alloc: Global, sketch: &Sketch) -> Result<Rings, AllocError>
     requires { IsSound sketch.now }
     ensures bonds { IfOk result (λ r. AreRingBonds (sketch_ends sketch.now) r.bond_in_ring.items) }
-    ensures atoms { IfOk result (λ r. AreSmallestRings (length sketch.now.atoms) (sketch_ends sketch.now) r.atom_small.items) }
+    ensures atoms { IfOk result (λ r. AreSmallestRings (length sketch.now.atoms) (sketch_ends sketch.now)
+        r.atom_small.items) }
 {
     let graph = Graph::of(alloc, sketch)?;
     let mut kept = strip_dead_ends(alloc, &graph)?;

@@ -67,7 +67,8 @@ fn visit(
     requires kept { length kept.now ≡ length graph.now.ends }
     requires next { next < length queue.old.items }
     requires search { IsRingSearch graph.now.ends kept.now bond graph.now.atoms marks.old queue.old.items next }
-    ensures { OnOk result (IsRingSearch graph.now.ends kept.now bond graph.now.atoms marks.new queue.new.items (next + 1)) }
+    ensures { OnOk result (IsRingSearch graph.now.ends kept.now bond graph.now.atoms marks.new
+        queue.new.items (next + 1)) }
 {
     let at = queue[next];
     let mark = marks[usize::from(at)] + 1;

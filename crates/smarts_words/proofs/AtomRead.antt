@@ -16,10 +16,12 @@ use Rattle.smarts_words.specs.Owed.BracketRead.{BracketAt, organic_first, lower_
 heads : (a b : ℕ) (r s : List ℕ) → a ∷ r ≡ b ∷ s → a ≡ b
 heads a b r s e = cc
 
-pub bracket_atom : (May : List ℕ → Type 0) (bytes r : List ℕ) (o : Option (AtomValue × List ℕ)) → bytes ≡ 91 ∷ r → BracketAt r o → Reads atom_text IsAtom value_of_atom May bytes o
+pub bracket_atom : (May : List ℕ → Type 0) (bytes r : List ℕ) (o : Option (AtomValue × List ℕ)) → bytes ≡ 91 ∷ r
+    → BracketAt r o → Reads atom_text IsAtom value_of_atom May bytes o
 bracket_atom May bytes r o e at = record { found = found_by o at; only = λ x rest is may h. by x rest is (sym e ∙ h) }
   where
-    found_by : (o : Option (AtomValue × List ℕ)) → BracketAt r o → IfSome o (λ p. (x : Atom) × IsAtom x × (bytes ≡ atom_text x ++ p.1) × (p.0 ≡ value_of_atom x))
+    found_by : (o : Option (AtomValue × List ℕ)) → BracketAt r o
+        → IfSome o (λ p. (x : Atom) × IsAtom x × (bytes ≡ atom_text x ++ p.1) × (p.0 ≡ value_of_atom x))
     found_by None at = tt
     found_by (Some p) at = let f = at.found in (bracket f.0, f.1, e ∙ f.2, f.3)
 
@@ -37,11 +39,18 @@ ok_then (Err y) h f = tt
 
 -- a bond expression, as the walk asks for it
 pub bond_reads : {T Y : Type 0} (F : T → List (Step BondWord) × List ℕ) (bytes : List ℕ) (result : Result (Option T) Y)
-    → IfOk result (λ o. IfSome o (λ r. (e : Expression BondPrim) × IsBondExpression e (F r).1 × (bytes ≡ bond_text e ++ (F r).1) × ((F r).0 ≡ bond_value (Some e))))
-    → IfOk result (λ o. (e : Expression BondPrim) (rest : List ℕ) → IsBondExpression e rest → EndsBond rest → bytes ≡ bond_text e ++ rest → IsSomeAnd o (λ r. (F r).1 ≡ rest))
-    → IfOk result (λ o. Reads bond_text IsBond (λ x. bond_value (Some x)) (AfterBond smarts_words) bytes (option_map F o))
+    → IfOk result (λ o. IfSome o (λ r. (e : Expression BondPrim) × IsBondExpression e (F r).1
+    × (bytes ≡ bond_text e ++ (F r).1) × ((F r).0 ≡ bond_value (Some e))))
+    → IfOk result (λ o. (e : Expression BondPrim) (rest : List ℕ) → IsBondExpression e rest → EndsBond rest
+    → bytes ≡ bond_text e ++ rest → IsSomeAnd o (λ r. (F r).1 ≡ rest))
+    → IfOk result (λ o. Reads bond_text IsBond (λ x. bond_value (Some x)) (AfterBond smarts_words) bytes
+    (option_map F o))
 bond_reads F bytes (Err y) found only = tt
-bond_reads F bytes (Ok None) found only = record { found = tt; only = λ x rest is may h. only x rest (bond_more x rest (after_no_mark rest may) is) (after_ends rest may) h }
+bond_reads F bytes (Ok None) found only = record {
+  found = tt;
+  only = λ x rest is may h.
+      only x rest (bond_more x rest (after_no_mark rest may) is) (after_ends rest may) h;
+}
 bond_reads F bytes (Ok (Some r)) found only = record {
   found = (found.0, bond_less found.0 (F r).1 found.1, found.2, found.3);
   only = λ x rest is may h. only x rest (bond_more x rest (after_no_mark rest may) is) (after_ends rest may) h;

@@ -24,13 +24,16 @@ open_step b n more e = at_true (b == 40) _ _ (equal_is b 40 e)
 
 pub other_step : (b n : ℕ) (more : List ℕ) → b ≢ 40 → b ≢ 41 → IsBalancedIn n more ↔ IsBalancedIn n (b ∷ more)
 other_step b n more e f =
-    let outer = at_false (b == 40) (IsBalancedIn (n + 1) more) (MatchBool (b == 41) ((1 ≤ n) × IsBalancedIn (n - 1) more) (IsBalancedIn n more)) (differ_is b 40 e) in
+    let outer = at_false (b == 40) (IsBalancedIn (n + 1) more)
+    (MatchBool (b == 41) ((1 ≤ n) × IsBalancedIn (n - 1) more) (IsBalancedIn n more)) (differ_is b 40 e) in
     let inner = at_false (b == 41) ((1 ≤ n) × IsBalancedIn (n - 1) more) (IsBalancedIn n more) (differ_is b 41 f) in
     (λ p. outer.0 (inner.0 p), λ p. inner.1 (outer.1 p))
 
 close_both : (b n : ℕ) (more : List ℕ) → b ≡ 41 → ((1 ≤ n) × IsBalancedIn (n - 1) more) ↔ IsBalancedIn n (b ∷ more)
 close_both b n more e =
-    let outer = at_false (b == 40) (IsBalancedIn (n + 1) more) (MatchBool (b == 41) ((1 ≤ n) × IsBalancedIn (n - 1) more) (IsBalancedIn n more)) (differ_is b 40 (λ k. omega arith)) in
+    let outer = at_false (b == 40) (IsBalancedIn (n + 1) more)
+    (MatchBool (b == 41) ((1 ≤ n) × IsBalancedIn (n - 1) more) (IsBalancedIn n more))
+    (differ_is b 40 (λ k. omega arith)) in
     let inner = at_true (b == 41) ((1 ≤ n) × IsBalancedIn (n - 1) more) (IsBalancedIn n more) (equal_is b 41 e) in
     (λ p. outer.0 (inner.0 p), λ p. inner.1 (outer.1 p))
 
@@ -48,12 +51,19 @@ pub record IsOpen (front : List ℕ) (depth : ℕ) : Type 0 where
 pub open_none : IsOpen [] 0
 open_none = record { closes = λ more h. h }
 
-pub open_more : (front : List ℕ) (b depth next : ℕ) → ((more : List ℕ) → IsBalancedIn next more ↔ IsBalancedIn depth (b ∷ more)) → IsOpen front depth → IsOpen (front ++ b ∷ []) next
-open_more front b depth next step h = record { closes = λ more k. subst (λ (v : List ℕ). IsBalancedIn 0 v) (sym (append_assoc front (b ∷ []) more)) (h.closes (b ∷ more) ((step more).0 k)) }
+pub open_more : (front : List ℕ) (b depth next : ℕ)
+    → ((more : List ℕ) → IsBalancedIn next more ↔ IsBalancedIn depth (b ∷ more)) → IsOpen front depth
+    → IsOpen (front ++ b ∷ []) next
+open_more front b depth next step h =
+    record {
+      closes = λ more k. subst (λ (v : List ℕ). IsBalancedIn 0 v) (sym (append_assoc front (b ∷ []) more))
+          (h.closes (b ∷ more) ((step more).0 k));
+    }
 
 -- the text of a part, and what follows it, in the bytes that are left
 pub record IsLeft (bytes left : List ℕ) (depth : ℕ) : Type 0 where
-  pub text_of : (text rest : List ℕ) → IsBalancedIn 0 text → bytes ≡ text ++ 41 ∷ rest → (more : List ℕ) × IsBalancedIn depth more × (left ≡ more ++ 41 ∷ rest)
+  pub text_of : (text rest : List ℕ) → IsBalancedIn 0 text → bytes ≡ text ++ 41 ∷ rest → (more : List ℕ)
+      × IsBalancedIn depth more × (left ≡ more ++ 41 ∷ rest)
 
 pub left_all : (bytes : List ℕ) → IsLeft bytes bytes 0
 left_all bytes = record { text_of = λ text rest h e. (text, h, e) }
@@ -61,26 +71,37 @@ left_all bytes = record { text_of = λ text rest h e. (text, h, e) }
 heads : (a b : ℕ) (r s : List ℕ) → a ∷ r ≡ b ∷ s → (a ≡ b) × (r ≡ s)
 heads a b r s e = (cc, cc)
 
-left_step : (b depth next : ℕ) (after more rest : List ℕ) → ((m : List ℕ) → IsBalancedIn next m ↔ IsBalancedIn depth (b ∷ m)) → (b ≡ 41 → 1 ≤ depth) → IsBalancedIn depth more → b ∷ after ≡ more ++ 41 ∷ rest
+left_step : (b depth next : ℕ) (after more rest : List ℕ)
+    → ((m : List ℕ) → IsBalancedIn next m ↔ IsBalancedIn depth (b ∷ m)) → (b ≡ 41 → 1 ≤ depth) → IsBalancedIn depth more
+    → b ∷ after ≡ more ++ 41 ∷ rest
     → (m : List ℕ) × IsBalancedIn next m × (after ≡ m ++ 41 ∷ rest)
-left_step b depth next after [] rest step closes h e = absurd (let l = closes (heads b 41 after rest e).0 in omega arith)
+left_step b depth next after [] rest step closes h e = absurd (let l = closes (heads b 41 after rest e).0 in
+    omega arith)
 left_step b depth next after (x ∷ xs) rest step closes h e =
     let k = heads b x after (xs ++ 41 ∷ rest) e in
     (xs, (step xs).1 (subst (λ (v : ℕ). IsBalancedIn depth (v ∷ xs)) (sym k.0) h), k.1)
 
-pub left_more : (bytes left after : List ℕ) (b depth next : ℕ) → left ≡ b ∷ after → ((m : List ℕ) → IsBalancedIn next m ↔ IsBalancedIn depth (b ∷ m)) → (b ≡ 41 → 1 ≤ depth) → IsLeft bytes left depth → IsLeft bytes after next
+pub left_more : (bytes left after : List ℕ) (b depth next : ℕ) → left ≡ b ∷ after
+    → ((m : List ℕ) → IsBalancedIn next m ↔ IsBalancedIn depth (b ∷ m)) → (b ≡ 41 → 1 ≤ depth) → IsLeft bytes left depth
+    → IsLeft bytes after next
 left_more bytes left after b depth next front step closes h = record {
-  text_of = λ text rest k e. let p = h.text_of text rest k e in left_step b depth next after p.0 rest step closes p.1 (sym front ∙ p.2);
+  text_of = λ text rest k e. let p = h.text_of text rest k e in left_step b depth next after p.0 rest step closes p.1
+      (sym front ∙ p.2);
 }
 
-last_step : (b depth : ℕ) (after more rest : List ℕ) → b ≡ 41 → depth ≡ 0 → IsBalancedIn depth more → b ∷ after ≡ more ++ 41 ∷ rest → after ≡ rest
+last_step : (b depth : ℕ) (after more rest : List ℕ) → b ≡ 41 → depth ≡ 0 → IsBalancedIn depth more → b ∷ after ≡ more
+    ++ 41 ∷ rest → after ≡ rest
 last_step b depth after [] rest eb eo h e = (heads b 41 after rest e).1
-last_step b depth after (x ∷ xs) rest eb eo h e = let k = heads b x after (xs ++ 41 ∷ rest) e in absurd (close_none x depth xs (sym k.0 ∙ eb) eo h)
+last_step b depth after (x ∷ xs) rest eb eo h e = let k = heads b x after (xs ++ 41 ∷ rest) e in
+    absurd (close_none x depth xs (sym k.0 ∙ eb) eo h)
 
-pub left_last : (bytes left after : List ℕ) (b depth : ℕ) → left ≡ b ∷ after → b ≡ 41 → depth ≡ 0 → IsLeft bytes left depth → (text rest : List ℕ) → IsBalancedIn 0 text → bytes ≡ text ++ 41 ∷ rest → after ≡ rest
-left_last bytes left after b depth front eb eo h text rest k e = let p = h.text_of text rest k e in last_step b depth after p.0 rest eb eo p.1 (sym front ∙ p.2)
+pub left_last : (bytes left after : List ℕ) (b depth : ℕ) → left ≡ b ∷ after → b ≡ 41 → depth ≡ 0
+    → IsLeft bytes left depth → (text rest : List ℕ) → IsBalancedIn 0 text → bytes ≡ text ++ 41 ∷ rest → after ≡ rest
+left_last bytes left after b depth front eb eo h text rest k e = let p = h.text_of text rest k e in
+    last_step b depth after p.0 rest eb eo p.1 (sym front ∙ p.2)
 
-pub left_never : (bytes left : List ℕ) (depth : ℕ) → left ≡ [] → IsLeft bytes left depth → (text rest : List ℕ) → IsBalancedIn 0 text → bytes ≡ text ++ 41 ∷ rest → ⊥
+pub left_never : (bytes left : List ℕ) (depth : ℕ) → left ≡ [] → IsLeft bytes left depth → (text rest : List ℕ)
+    → IsBalancedIn 0 text → bytes ≡ text ++ 41 ∷ rest → ⊥
 left_never bytes left depth none h text rest k e = let p = h.text_of text rest k e in no_end p.0 rest (sym none ∙ p.2)
   where
     no_end : (xs r : List ℕ) → [] ≡ xs ++ 41 ∷ r → ⊥
@@ -94,7 +115,8 @@ front_take xs rest bytes n e l = ap (λ v. take v bytes) (sym l) ∙ ap (λ v. t
     take_front [] rest = refl
     take_front (x ∷ xs) rest = ap (λ v. x ∷ v) (take_front xs rest)
 
-pub closed_part : (bytes left after xs : List ℕ) (b depth n : ℕ) → bytes ≡ xs ++ left → length xs ≡ n → IsOpen xs depth → left ≡ b ∷ after → b ≡ 41 → depth ≡ 0
+pub closed_part : (bytes left after xs : List ℕ) (b depth n : ℕ) → bytes ≡ xs ++ left → length xs ≡ n → IsOpen xs depth
+    → left ≡ b ∷ after → b ≡ 41 → depth ≡ 0
     → IsBalancedIn 0 (take n bytes) × (bytes ≡ take n bytes ++ 41 ∷ after)
 closed_part bytes left after xs b depth n e l front first eb ed =
     let t = front_take xs left bytes n e l in (

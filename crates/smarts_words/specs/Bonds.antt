@@ -62,7 +62,8 @@ IsBondExpression e rest = expression.IsExpression bond_prim_text IsBondPrim Foll
 
 -- the first byte of a bond expression: `!` or that of a primitive
 abbrev pub BeginsBond : ℕ → Type 0
-BeginsBond b = (b ≡ 33) ⊎ (b ≡ 45) ⊎ (b ≡ 61) ⊎ (b ≡ 35) ⊎ (b ≡ 36) ⊎ (b ≡ 58) ⊎ (b ≡ 126) ⊎ (b ≡ 64) ⊎ (b ≡ 47) ⊎ (b ≡ 92)
+BeginsBond b = (b ≡ 33) ⊎ (b ≡ 45) ⊎ (b ≡ 61) ⊎ (b ≡ 35) ⊎ (b ≡ 36) ⊎ (b ≡ 58) ⊎ (b ≡ 126) ⊎ (b ≡ 64) ⊎ (b ≡ 47)
+    ⊎ (b ≡ 92)
 
 -- What a bond is read as: its expression in postfix order, nothing where none is written
 abbrev pub bond_value : Option (Expression BondPrim) → List (Step BondWord)

@@ -1,4 +1,5 @@
--- An atom of a pattern as it is written (Daylight Theory Manual, section 4.1). A text is an atom exactly where some Atom that is one is spelled so. For callers.
+-- An atom of a pattern as it is written (Daylight Theory Manual, section 4.1). A text is an atom exactly where some
+-- Atom that is one is spelled so. For callers.
 use Rattle.std.specs.Prelude.{◌≢◌, ℕ, ◌≤◌, false, true, List, [], ◌∷◌, ◌++◌, length, map, ℤ, Option, None, Some, codes}
 use Rattle.std.specs.List.{AllByRecursion}
 use Rattle.chem_core.specs.Organic.{Organic, symbol_bytes, atomic_number}
@@ -119,7 +120,11 @@ abbrev pub hydro_words : Hydro → List AtomWord
 hydro_words h = words.Symbol 1 false ∷ (mass_words h.mass ++ charge_words h.charge)
 
 abbrev pub inside_value : Inside → AtomValue
-inside_value (hydro h) = record { steps = joined steps.And (map (λ word. steps.Prim word ∷ []) (hydro_words h)); parts = [] }
+inside_value (hydro h) = record {
+  steps = joined steps.And (map (λ word. steps.Prim word ∷ []) (hydro_words h));
+  parts =
+      [];
+}
 inside_value (low e) = expression_value e
 
 abbrev pub value_of_atom : Atom → AtomValue

@@ -1,4 +1,5 @@
--- Expressions: operands and how they are joined (Daylight Theory Manual, section 4.3). `!` binds most, then `&` and standing side by side, then `,`, then `;`. For callers.
+-- Expressions: operands and how they are joined (Daylight Theory Manual, section 4.3). `!` binds most, then `&` and
+-- standing side by side, then `,`, then `;`. For callers.
 use Rattle.std.specs.Prelude.{ℕ, List, [], ◌∷◌, ◌++◌, map, replicate, codes}
 use Rattle.std.specs.List.{flat_map}
 use Rattle.smarts_words.specs.declared.word.Step.{Step}
@@ -43,7 +44,8 @@ abbrev pub joined : {W : Type 0} → Step W → List (List (Step W)) → List (S
 joined operator [] = []
 joined operator (x ∷ xs) = x ++ flat_map (λ y. y ++ operator ∷ []) xs
 
-module _ {P W : Type 0} (text : P → List ℕ) (Is : P → Type 0) (Follows : P → List ℕ → Type 0) (word : P → W) (parts : P → List (List ℕ)) where
+module _ {P W : Type 0} (text : P → List ℕ) (Is : P → Type 0) (Follows : P → List ℕ → Type 0) (word : P → W) (parts : P
+    → List (List ℕ)) where
   abbrev pub operand_text : Operand P → List ℕ
   operand_text x = replicate x.bangs 33 ++ text x.prim
 
@@ -67,7 +69,9 @@ module _ {P W : Type 0} (text : P → List ℕ) (Is : P → Type 0) (Follows : P
   operand_steps x = steps.Prim (word x.prim) ∷ replicate x.bangs steps.Not
 
   abbrev pub expression_steps : Expression P → List (Step W)
-  expression_steps e = joined steps.And (map (λ ors. joined steps.Or (map (λ ands. joined steps.And (map operand_steps ands)) ors)) (levels e.first e.more))
+  expression_steps e = joined steps.And
+      (map (λ ors. joined steps.Or (map (λ ands. joined steps.And (map operand_steps ands)) ors))
+      (levels e.first e.more))
 
   abbrev pub expression_parts : Expression P → List (List ℕ)
   expression_parts e = parts e.first.prim ++ flat_map (λ x. parts x.1.prim) e.more

@@ -10,10 +10,13 @@ use Rattle.smarts_words.specs.declared.word.Letter.{Letter}
 use Rattle.smiles_read.specs.Atom.{IsDigit, ChiralClass, class_bytes}
 use Rattle.std.specs.List.{AllByRecursion}
 
--- A piece that the bytes begin with, what it is read as, and the bytes after it; and the piece that stands there, where what follows it may follow it.
-pub record Takes {X V : Type 0} (text : X → List ℕ) (Is : X → Type 0) (Follows : X → List ℕ → Type 0) (value : X → V) (bytes : List ℕ) (result : Option (V × List ℕ)) : Type 0 where
+-- A piece that the bytes begin with, what it is read as, and the bytes after it; and the piece that stands there, where
+-- what follows it may follow it.
+pub record Takes {X V : Type 0} (text : X → List ℕ) (Is : X → Type 0) (Follows : X → List ℕ → Type 0) (value : X
+    → V) (bytes : List ℕ) (result : Option (V × List ℕ)) : Type 0 where
   pub found : IfSome result (λ r. (x : X) × Is x × (bytes ≡ text x ++ r.1) × Follows x r.1 × (r.0 ≡ value x))
-  pub only : (x : X) (rest : List ℕ) → Is x → Follows x rest → bytes ≡ text x ++ rest → IsSomeAnd result (λ r. r.1 ≡ rest)
+  pub only : (x : X) (rest : List ℕ) → Is x → Follows x rest → bytes ≡ text x ++ rest
+      → IsSomeAnd result (λ r. r.1 ≡ rest)
 
 -- a primitive of a symbol, `*`, `a` or `A`
 abbrev pub IsBare : Prim → Type 0
@@ -53,7 +56,8 @@ pub record IsSingle (a : ℕ) (word : AtomWord) : Type 0 where
 
 -- what is read of the bytes after a letter: its number
 abbrev pub IsCountAt : Letter → List ℕ → Option (AtomWord × List ℕ) → Type 0
-IsCountAt letter = Takes (λ (digits : List ℕ). digits) (λ digits. (length digits ≤ 3) × AllByRecursion IsDigit digits) (λ digits rest. NoDigit rest) (λ digits. words.Count letter (number_of digits))
+IsCountAt letter = Takes (λ (digits : List ℕ). digits) (λ digits. (length digits ≤ 3) × AllByRecursion IsDigit digits)
+    (λ digits rest. NoDigit rest) (λ digits. words.Count letter (number_of digits))
 
 -- after one digit stands no other
 abbrev pub DigitsEnd : List ℕ → List ℕ → Type 0
@@ -62,7 +66,8 @@ DigitsEnd digits rest = Unit {0}
 
 -- no longer turn stands there: no second `@` and no class with a digit, or no second digit
 abbrev pub TurnEnds : Turn → List ℕ → Type 0
-TurnEnds one rest = ((more : List ℕ) → rest ≢ 64 ∷ more) × ((kind : ChiralClass) (digit : ℕ) (more : List ℕ) → IsDigit digit → rest ≢ class_bytes kind ++ digit ∷ more)
+TurnEnds one rest = ((more : List ℕ) → rest ≢ 64 ∷ more) × ((kind : ChiralClass) (digit : ℕ) (more : List ℕ)
+    → IsDigit digit → rest ≢ class_bytes kind ++ digit ∷ more)
 TurnEnds two rest = Unit {0}
 TurnEnds (numbered kind digits) rest = DigitsEnd digits rest
 
@@ -72,7 +77,8 @@ PrimAt = Takes {V = AtomWord × List (List ℕ)} prim_text IsPrim FollowsPrim (�
 
 -- an expression that bytes begin with, and its value
 abbrev pub IsInsideRead : List ℕ → AtomValue → List ℕ → Type 0
-IsInsideRead bytes value rest = (e : Expression Prim) × IsExpression e rest × (bytes ≡ expression_text e ++ rest) × (value ≡ expression_value e)
+IsInsideRead bytes value rest = (e : Expression Prim) × IsExpression e rest × (bytes ≡ expression_text e ++ rest)
+    × (value ≡ expression_value e)
 
 -- after what stands in brackets: `:` or `]`
 abbrev pub BeginsEnd : List ℕ → Type 0

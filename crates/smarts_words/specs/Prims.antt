@@ -1,4 +1,5 @@
--- The primitives of an atom expression: their spellings, what may follow them, and what they are read as (Daylight Theory Manual, section 4.1). For callers.
+-- The primitives of an atom expression: their spellings, what may follow them, and what they are read as (Daylight
+-- Theory Manual, section 4.1). For callers.
 use Rattle.std.specs.Prelude.{◌≡◌, ◌≢◌, ◌⊎◌, ℕ, ◌+◌, ◌-◌, ◌≤◌, ◌==◌, Bool, true, false, MatchBool, List, [], ◌∷◌, ◌++◌, length, replicate, slice_get, slice_index_or, ℤ, Option, None, Some, codes}
 use Rattle.std.specs.List.{AllByRecursion}
 use Rattle.chem_core.specs.Element.{symbols}
@@ -84,7 +85,8 @@ IsTurn (numbered kind digits) = AreDigits digits
 abbrev pub IsBalancedIn : ℕ → List ℕ → Type 0
 IsBalancedIn n [] = n ≡ 0
 IsBalancedIn n (b ∷ bs) =
-    MatchBool (b == 40) (IsBalancedIn (n + 1) bs) (MatchBool (b == 41) ((1 ≤ n) × IsBalancedIn (n - 1) bs) (IsBalancedIn n bs))
+    MatchBool (b == 40) (IsBalancedIn (n + 1) bs) (MatchBool (b == 41) ((1 ≤ n) × IsBalancedIn (n - 1) bs)
+    (IsBalancedIn n bs))
 
 pub data Prim : Type 0 where
   any : Prim
@@ -139,7 +141,8 @@ FollowsSigns (amount sign digits) rest = NoDigit rest
 
 -- two bytes that spell a symbol
 abbrev pub AreSymbol : ℕ → ℕ → Type 0
-AreSymbol a b = ((number : ℕ) × (slice_get symbols number ≡ Some (a ∷ b ∷ []))) ⊎ ((l : Lower) × (lower_bytes l ≡ a ∷ b ∷ []))
+AreSymbol a b = ((number : ℕ) × (slice_get symbols number ≡ Some (a ∷ b ∷ [])))
+    ⊎ ((l : Lower) × (lower_bytes l ≡ a ∷ b ∷ []))
 
 -- A byte stands alone: it spells no symbol with the byte after it, since two bytes that spell one are taken as it.
 abbrev pub StandsAlone : ℕ → List ℕ → Type 0
@@ -153,9 +156,11 @@ IsWhole _ rest = Unit {0}
 
 -- no longer configuration stands there
 abbrev pub IsLongest : Stereo → List ℕ → Type 0
-IsLongest x rest = (y : Stereo) (more : List ℕ) → IsTurn y.turn → stereo_text x ++ rest ≡ stereo_text y ++ more → length (stereo_text y) ≤ length (stereo_text x)
+IsLongest x rest = (y : Stereo) (more : List ℕ) → IsTurn y.turn → stereo_text x ++ rest ≡ stereo_text y ++ more
+    → length (stereo_text y) ≤ length (stereo_text x)
 
--- What may follow: a symbol and a configuration are the longest that stand there, and a number has all digits that stand
+-- What may follow: a symbol and a configuration are the longest that stand there, and a number has all digits that
+-- stand
 -- there.
 abbrev pub FollowsPrim : Prim → List ℕ → Type 0
 FollowsPrim any rest = Unit {0}

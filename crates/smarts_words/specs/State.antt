@@ -27,7 +27,8 @@ one_operand bangs word = steps.Prim word ∷ replicate bangs steps.Not
 abbrev pub ors_ended : {W : Type 0} → List (List (Step W)) → List (List (Step W)) → List (List (Step W))
 ors_ended ors ands = ors ++ joined steps.And ands ∷ []
 
-abbrev pub lows_ended : {W : Type 0} → List (List (Step W)) → List (List (Step W)) → List (List (Step W)) → List (List (Step W))
+abbrev pub lows_ended : {W : Type 0} → List (List (Step W)) → List (List (Step W)) → List (List (Step W))
+    → List (List (Step W))
 lows_ended lows ors ands = lows ++ joined steps.Or (ors_ended ors ands) ∷ []
 
 -- how an operand is joined, where `&` and standing side by side are one
@@ -40,7 +41,8 @@ joint_of beside = joints.And
 -- what joins the next operand, and the bytes from that on; nothing where these begin with no `;`, `,` or `&`
 pub data JoinsAt (bytes : List ℕ) (joint : Joint) (after : List ℕ) : Type 0 where
   joins : (j : Joining) → joint_of j ≡ joint → bytes ≡ joining_text j ++ after
-      → (j ≡ beside → (b : ℕ) (bs : List ℕ) → bytes ≡ b ∷ bs → (b ≢ 59) × (b ≢ 44) × (b ≢ 38)) → JoinsAt bytes joint after
+      → (j ≡ beside → (b : ℕ) (bs : List ℕ) → bytes ≡ b ∷ bs → (b ≢ 59) × (b ≢ 44) × (b ≢ 38))
+      → JoinsAt bytes joint after
 
 -- what stands after an expression in brackets: nothing, `]`, or the `:` of a class
 abbrev pub EndsInside : List ℕ → Type 0

@@ -10,7 +10,8 @@ use Rattle.smarts_words.specs.Bonds.{BondPrim, IsBondExpression, bond_text, Begi
 -- `*`, `[`, `a`, `A`, or the first letter of a symbol that stands without brackets
 abbrev pub BeginsAtom : ℕ → Type 0
 BeginsAtom b =
-    (b ≡ 42) ⊎ (b ≡ 91) ⊎ (b ≡ 97) ⊎ (b ≡ 65) ⊎ (b ≡ 66) ⊎ (b ≡ 67) ⊎ (b ≡ 78) ⊎ (b ≡ 79) ⊎ (b ≡ 80) ⊎ (b ≡ 83) ⊎ (b ≡ 70) ⊎ (b ≡ 73)
+    (b ≡ 42) ⊎ (b ≡ 91) ⊎ (b ≡ 97) ⊎ (b ≡ 65) ⊎ (b ≡ 66) ⊎ (b ≡ 67) ⊎ (b ≡ 78) ⊎ (b ≡ 79) ⊎ (b ≡ 80) ⊎ (b ≡ 83)
+    ⊎ (b ≡ 70) ⊎ (b ≡ 73)
     ⊎ (b ≡ 98) ⊎ (b ≡ 99) ⊎ (b ≡ 110) ⊎ (b ≡ 111) ⊎ (b ≡ 112) ⊎ (b ≡ 115)
 
 -- no byte that may follow a bond belongs to it

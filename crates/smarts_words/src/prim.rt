@@ -138,7 +138,8 @@ fn part_at(bytes: &[u8]) -> Option<(&[u8], &[u8])>
 // How many parentheses are open after the byte, where so many are open before it; none where it is a `)` and none is.
 fn opened(byte: u8, depth: usize) -> Option<usize>
     requires { depth < 2 ^ 63 }
-    ensures steps { IfSome result (λ next. (more : List ℕ) → IsBalancedIn next more ↔ IsBalancedIn depth (byte ∷ more)) }
+    ensures steps { IfSome result (λ next. (more : List ℕ)
+        → IsBalancedIn next more ↔ IsBalancedIn depth (byte ∷ more)) }
     ensures bound { IfSome result (λ next. next ≤ depth + 1) }
     ensures closes { IfSome result (λ next. byte ≡ 41 → 1 ≤ depth) }
     ensures none { IfNone result ((byte ≡ 41) × (depth ≡ 0)) }

@@ -68,47 +68,66 @@ answered text graph h deep =
       is = h.1;
       sketch = record {
         atoms = ap numbered h.2.0;
-        bonds = subst (λ (v : List (Link SketchKind)). IsGraph agreed_kind (entries_of smiles_words tree) v) (sym (links_back graph.links.items)) h.2.1;
+        bonds = subst (λ (v : List (Link SketchKind)). IsGraph agreed_kind (entries_of smiles_words tree) v)
+            (sym (links_back graph.links.items)) h.2.1;
       };
       within = λ s.
           let k = s.depth in
           let l = s.atoms in
           let m = s.bonds in
-          record { depth = omega arith; atoms = omega arith; bonds = omega arith; neighbours = subst P (sym ends) s.neighbours };
+          record {
+            depth = omega arith;
+            atoms = omega arith;
+            bonds = omega arith;
+            neighbours =
+                subst P (sym ends) s.neighbours;
+          };
       small = λ s.
           let k = s.depth in
           let l = s.atoms in
           let m = s.bonds in
-          record { depth = omega arith; atoms = omega arith; bonds = omega arith; neighbours = subst P ends s.neighbours };
+          record {
+            depth = omega arith;
+            atoms = omega arith;
+            bonds = omega arith;
+            neighbours =
+                subst P ends s.neighbours;
+          };
     }
 
 -- a fault of the walk
-pub refused : (text : List ℕ) (e : Fault) → length text ≤ MOST_BYTES → walks.IsReading smiles_words text (Err e) → IsReading text (Err (walk_fault e))
+pub refused : (text : List ℕ) (e : Fault) → length text ≤ MOST_BYTES → walks.IsReading smiles_words text (Err e)
+    → IsReading text (Err (walk_fault e))
 refused text walk.Syntax few h = (few, h)
 refused text walk.Ring few h = (few, h.0, h.1, λ s k. h.2 (map link_of s.bonds) k.bonds)
 refused text walk.NoMemory few h = tt
 
 -- no two bonds join the same atoms
 pair_parts : (a b x y : ℕ) → ◌≡◌ {A = Option (ℕ × ℕ)} (Some (a, b)) (Some (x, y)) → (a ≡ x) × (b ≡ y)
-pair_parts a b x y h = let p : ◌≡◌ {A = ℕ × ℕ} (a, b) (x, y) = cc in (ap (λ (q : ℕ × ℕ). q.0) p, ap (λ (q : ℕ × ℕ). q.1) p)
+pair_parts a b x y h = let p : ◌≡◌ {A = ℕ × ℕ} (a, b) (x, y) = cc in
+    (ap (λ (q : ℕ × ℕ). q.0) p, ap (λ (q : ℕ × ℕ). q.1) p)
 
-joins_head : (z : Link SketchKind) (xs : List (Link SketchKind)) (x y : ℕ) → JoinsAt (link_ends (z ∷ xs)) 0 x y → ((z.a ≡ x) × (z.b ≡ y)) ⊎ ((z.a ≡ y) × (z.b ≡ x))
+joins_head : (z : Link SketchKind) (xs : List (Link SketchKind)) (x y : ℕ) → JoinsAt (link_ends (z ∷ xs)) 0 x y
+    → ((z.a ≡ x) × (z.b ≡ y)) ⊎ ((z.a ≡ y) × (z.b ≡ x))
 joins_head z xs x y (inl h) = inl (pair_parts z.a z.b x y h)
 joins_head z xs x y (inr h) = inr (pair_parts z.a z.b y x h)
 
-joins_same : (z v : Link SketchKind) (x y : ℕ) → ((z.a ≡ x) × (z.b ≡ y)) ⊎ ((z.a ≡ y) × (z.b ≡ x)) → ((v.a ≡ x) × (v.b ≡ y)) ⊎ ((v.a ≡ y) × (v.b ≡ x)) → JoinSame z v
+joins_same : (z v : Link SketchKind) (x y : ℕ) → ((z.a ≡ x) × (z.b ≡ y)) ⊎ ((z.a ≡ y) × (z.b ≡ x))
+    → ((v.a ≡ x) × (v.b ≡ y)) ⊎ ((v.a ≡ y) × (v.b ≡ x)) → JoinSame z v
 joins_same z v x y (inl p) (inl q) = inl (p.0 ∙ sym q.0, p.1 ∙ sym q.1)
 joins_same z v x y (inl p) (inr q) = inr (p.0 ∙ sym q.1, p.1 ∙ sym q.0)
 joins_same z v x y (inr p) (inl q) = inr (p.0 ∙ sym q.1, p.1 ∙ sym q.0)
 joins_same z v x y (inr p) (inr q) = inl (p.0 ∙ sym q.0, p.1 ∙ sym q.1)
 
-head_once : (z : Link SketchKind) (xs : List (Link SketchKind)) (c x y : ℕ) → AllByRecursion (λ v. ¬ JoinSame z v) xs → ((z.a ≡ x) × (z.b ≡ y)) ⊎ ((z.a ≡ y) × (z.b ≡ x)) → JoinsAt (link_ends xs) c x y → ⊥
+head_once : (z : Link SketchKind) (xs : List (Link SketchKind)) (c x y : ℕ) → AllByRecursion (λ v. ¬ JoinSame z v) xs
+    → ((z.a ≡ x) × (z.b ≡ y)) ⊎ ((z.a ≡ y) × (z.b ≡ x)) → JoinsAt (link_ends xs) c x y → ⊥
 head_once z [] c x y free h (inl j) = absurd (cc)
 head_once z [] c x y free h (inr j) = absurd (cc)
 head_once z (v ∷ xs) zero x y free h j = free.0 (joins_same z v x y h (joins_head v xs x y j))
 head_once z (v ∷ xs) (suc c) x y free h j = head_once z xs c x y free.1 h j
 
-once_at : (xs : List (Link SketchKind)) → AreOnce xs → (b c x y : ℕ) → JoinsAt (link_ends xs) b x y → JoinsAt (link_ends xs) c x y → b ≡ c
+once_at : (xs : List (Link SketchKind)) → AreOnce xs → (b c x y : ℕ) → JoinsAt (link_ends xs) b x y
+    → JoinsAt (link_ends xs) c x y → b ≡ c
 once_at [] h b c x y (inl i) j = absurd (cc)
 once_at [] h b c x y (inr i) j = absurd (cc)
 once_at (z ∷ xs) h zero zero x y i j = refl
@@ -116,26 +135,45 @@ once_at (z ∷ xs) h zero (suc c) x y i j = absurd (head_once z xs c x y h.0 (jo
 once_at (z ∷ xs) h (suc b) zero x y i j = absurd (head_once z xs b x y h.0 (joins_head z xs x y j) i)
 once_at (z ∷ xs) h (suc b) (suc c) x y i j = ap (λ n. suc n) (once_at xs h.1 b c x y i j)
 
-all_ends : (P : ℕ × ℕ → Type 0) (xs : List (Link SketchKind)) → AllByRecursion (λ x. P (x.a, x.b)) xs → AllByRecursion P (link_ends xs)
+all_ends : (P : ℕ × ℕ → Type 0) (xs : List (Link SketchKind)) → AllByRecursion (λ x. P (x.a, x.b)) xs
+    → AllByRecursion P (link_ends xs)
 all_ends P [] h = tt
 all_ends P (x ∷ xs) h = (h.0, all_ends P xs h.1)
 
-pub all_weaker : {X : Type 0} (P Q : X → Type 0) → ((x : X) → P x → Q x) → (xs : List X) → AllByRecursion P xs → AllByRecursion Q xs
+pub all_weaker : {X : Type 0} (P Q : X → Type 0) → ((x : X) → P x → Q x) → (xs : List X) → AllByRecursion P xs
+    → AllByRecursion Q xs
 all_weaker P Q f [] h = tt
 all_weaker P Q f (x ∷ xs) h = (f x h.0, all_weaker P Q f xs h.1)
 
 -- soundness
-numbered_read : (n : ℕ) (xs : List SketchAtom) → AllByRecursion IsRead xs → AllByRecursion IsRead (map (λ p. record p.1 { written = p.0 }) (enumerate_from n xs))
+numbered_read : (n : ℕ) (xs : List SketchAtom) → AllByRecursion IsRead xs
+    → AllByRecursion IsRead (map (λ p. record p.1 { written = p.0 }) (enumerate_from n xs))
 numbered_read n [] h = tt
 numbered_read n (x ∷ xs) h =
-    let s = h.0.0 in
-    ((record { number = s.number; isotope = s.isotope; lowest_charge = s.lowest_charge; highest_charge = s.highest_charge; fill = s.fill; hydrogens = s.hydrogens }, h.0.1), numbered_read (n + 1) xs h.1)
+    let s = h.0.0 in (
+      (
+        record {
+          number = s.number;
+          isotope = s.isotope;
+          lowest_charge = s.lowest_charge;
+          highest_charge =
+              s.highest_charge;
+          fill = s.fill;
+          hydrogens = s.hydrogens;
+        },
+        h.0.1,
+      ),
+      numbered_read (n + 1) xs h.1,
+    )
 
-atoms_read : (text : List ℕ) (graph : Graph SketchAtom SketchKind) → walks.IsReading smiles_words text (Ok graph) → AllByRecursion IsRead (numbered graph.atoms.items)
-atoms_read text graph h = numbered_read 0 graph.atoms.items (subst (λ (v : List SketchAtom). AllByRecursion IsRead v) (sym h.2.0) (tree_read h.0 h.1.0))
+atoms_read : (text : List ℕ) (graph : Graph SketchAtom SketchKind) → walks.IsReading smiles_words text (Ok graph)
+    → AllByRecursion IsRead (numbered graph.atoms.items)
+atoms_read text graph h = numbered_read 0 graph.atoms.items (subst (λ (v : List SketchAtom). AllByRecursion IsRead v)
+    (sym h.2.0) (tree_read h.0 h.1.0))
 
 pub sketch_sound : (text : List ℕ) (graph : Graph SketchAtom SketchKind) → walks.IsReading smiles_words text (Ok graph)
-    → AllByRecursion (λ x. (x.a < x.b) × (x.b < length graph.atoms.items)) graph.links.items → IsSmall graph → IsSound (sketch_of graph)
+    → AllByRecursion (λ x. (x.a < x.b) × (x.b < length graph.atoms.items)) graph.links.items → IsSmall graph
+    → IsSound (sketch_of graph)
 sketch_sound text graph h ends small =
     let links = graph.links.items in
     let n = length graph.atoms.items in
@@ -146,7 +184,8 @@ sketch_sound text graph h ends small =
     let la = small.atoms in
     let lb = small.bonds in
     let P : Ends → Type 0 = λ v. (a : ℕ) → degree v a ≤ MOST_NEIGHBOURS in
-    let R : Ends → Type 0 = λ v. All (λ e. (e.0 < length (numbered graph.atoms.items)) × (e.1 < length (numbered graph.atoms.items))) v in
+    let R : Ends → Type 0 = λ v. All (λ e. (e.0 < length (numbered graph.atoms.items))
+    × (e.1 < length (numbered graph.atoms.items))) v in
     let D : Ends → Type 0 = λ v. All (λ e. e.0 ≢ e.1) v in
     let O : Ends → Type 0 = λ v. (b c x y : ℕ) → JoinsAt v b x y → JoinsAt v c x y → b ≡ c in
     record {
@@ -154,15 +193,23 @@ sketch_sound text graph h ends small =
         few_atoms = omega arith;
         few_bonds = omega arith;
         few_neighbours = subst P (sym back) small.neighbours;
-        in_range = subst R (sym back) (All-from_recursion (λ e. (e.0 < length (numbered graph.atoms.items)) × (e.1 < length (numbered graph.atoms.items))) (link_ends links)
-            (all_ends (λ e. (e.0 < length (numbered graph.atoms.items)) × (e.1 < length (numbered graph.atoms.items))) links
-            (all_weaker (λ x. (x.a < x.b) × (x.b < n)) (λ x. (x.a < length (numbered graph.atoms.items)) × (x.b < length (numbered graph.atoms.items))) (λ x k. let u = k.0 in let v = k.1 in (omega arith, omega arith)) links ends)));
+        in_range = subst R (sym back) (All-from_recursion (λ e. (e.0 < length (numbered graph.atoms.items))
+            × (e.1 < length (numbered graph.atoms.items))) (link_ends links)
+            (all_ends (λ e. (e.0 < length (numbered graph.atoms.items)) × (e.1 < length (numbered graph.atoms.items)))
+            links
+            (all_weaker (λ x. (x.a < x.b) × (x.b < n)) (λ x. (x.a < length (numbered graph.atoms.items))
+            × (x.b < length (numbered graph.atoms.items))) (λ x k. let u = k.0 in let v = k.1 in
+            (omega arith, omega arith)) links ends)));
         distinct = subst D (sym back) (All-from_recursion (λ e. e.0 ≢ e.1) (link_ends links)
-            (all_ends (λ e. e.0 ≢ e.1) links (all_weaker (λ x. (x.a < x.b) × (x.b < n)) (λ x. x.a ≢ x.b) (λ x k e. let u = k.0 in omega arith) links ends)));
+            (all_ends (λ e. e.0 ≢ e.1) links (all_weaker (λ x. (x.a < x.b) × (x.b < n)) (λ x. x.a ≢ x.b) (λ x k e.
+            let u = k.0 in omega arith) links ends)));
         once = subst O (sym back) (once_at links h.2.1.once);
       };
-      each = All-from_recursion IsSketchAtom (numbered graph.atoms.items) (all_weaker IsRead IsSketchAtom (λ a k. k.0) (numbered graph.atoms.items) (atoms_read text graph h));
+      each = All-from_recursion IsSketchAtom (numbered graph.atoms.items) (all_weaker IsRead IsSketchAtom (λ a k. k.0)
+          (numbered graph.atoms.items) (atoms_read text graph h));
     }
 
-pub sketch_hydrogens : (text : List ℕ) (graph : Graph SketchAtom SketchKind) → walks.IsReading smiles_words text (Ok graph) → All (λ a. a.hydrogens ≤ 9) (numbered graph.atoms.items)
-sketch_hydrogens text graph h = All-from_recursion (λ a. a.hydrogens ≤ 9) (numbered graph.atoms.items) (all_weaker IsRead (λ a. a.hydrogens ≤ 9) (λ a k. k.1) (numbered graph.atoms.items) (atoms_read text graph h))
+pub sketch_hydrogens : (text : List ℕ) (graph : Graph SketchAtom SketchKind)
+    → walks.IsReading smiles_words text (Ok graph) → All (λ a. a.hydrogens ≤ 9) (numbered graph.atoms.items)
+sketch_hydrogens text graph h = All-from_recursion (λ a. a.hydrogens ≤ 9) (numbered graph.atoms.items)
+    (all_weaker IsRead (λ a. a.hydrogens ≤ 9) (λ a k. k.1) (numbered graph.atoms.items) (atoms_read text graph h))

@@ -59,27 +59,73 @@ small_charge (run s n) is = small_signed s n is.1
 small_charge (amount s ds) is = small_signed s (value_of ds) is.3
 
 pub atom_sound : (x : AtomText) → IsAtomText x → IsSketchAtom (atom_of x) × ((atom_of x).hydrogens ≤ 9)
-atom_sound star is = (record { number = omega arith; isotope = omega arith; lowest_charge = omega (arith, ints); highest_charge = omega (arith, ints); fill = tt; hydrogens = omega arith }, omega arith)
-atom_sound (organic x) is = (record { number = small_organic x; isotope = omega arith; lowest_charge = omega (arith, ints); highest_charge = omega (arith, ints); fill = tt; hydrogens = omega arith }, omega arith)
-atom_sound (aromatic x) is = (record { number = small_lower x; isotope = omega arith; lowest_charge = omega (arith, ints); highest_charge = omega (arith, ints); fill = tt; hydrogens = omega arith }, omega arith)
+atom_sound star is = (
+  record {
+    number = omega arith;
+    isotope = omega arith;
+    lowest_charge = omega (arith, ints);
+    highest_charge = omega (arith, ints);
+    fill = tt;
+    hydrogens = omega arith;
+  },
+  omega arith,
+)
+atom_sound (organic x) is = (
+  record {
+    number = small_organic x;
+    isotope = omega arith;
+    lowest_charge =
+        omega (arith, ints);
+    highest_charge = omega (arith, ints);
+    fill = tt;
+    hydrogens = omega arith;
+  },
+  omega arith,
+)
+atom_sound (aromatic x) is = (
+  record {
+    number = small_lower x;
+    isotope = omega arith;
+    lowest_charge =
+        omega (arith, ints);
+    highest_charge = omega (arith, ints);
+    fill = tt;
+    hydrogens = omega arith;
+  },
+  omega arith,
+)
 atom_sound (bracket x) is =
     let z = small_charge x.charge is.charge in
-    let h = few_hydrogens x.symbol x.hydrogens is.hydrogens in
-    (record { number = small_symbol x.symbol is.symbol; isotope = small_isotope x.isotope is.short is.digits; lowest_charge = z.low; highest_charge = z.high; fill = tt; hydrogens = omega arith }, h)
+    let h = few_hydrogens x.symbol x.hydrogens is.hydrogens in (
+      record {
+        number = small_symbol x.symbol is.symbol;
+        isotope = small_isotope x.isotope is.short is.digits;
+        lowest_charge = z.low;
+        highest_charge = z.high;
+        fill = tt;
+        hydrogens = omega arith;
+      },
+      h,
+    )
 
 -- an atom that is read
 abbrev pub IsRead : SketchAtom → Type 0
 IsRead a = IsSketchAtom a × (a.hydrogens ≤ 9)
 
-both_read : (xs ys : List (Placed AtomText BondText)) → AllByRecursion IsRead (atoms_by smiles_words xs) → AllByRecursion IsRead (atoms_by smiles_words ys) → AllByRecursion IsRead (atoms_by smiles_words (xs ++ ys))
+both_read : (xs ys : List (Placed AtomText BondText)) → AllByRecursion IsRead (atoms_by smiles_words xs)
+    → AllByRecursion IsRead (atoms_by smiles_words ys) → AllByRecursion IsRead (atoms_by smiles_words (xs ++ ys))
 both_read [] ys h k = k
 both_read (x ∷ xs) ys h k = (h.0, both_read xs ys h.1 k)
 
-tail_read : (at n : ℕ) (t : Tail AtomText BondText) → IsTail smiles_words t → AllByRecursion IsRead (atoms_by smiles_words (placed_from at n t))
+tail_read : (at n : ℕ) (t : Tail AtomText BondText) → IsTail smiles_words t
+    → AllByRecursion IsRead (atoms_by smiles_words (placed_from at n t))
 tail_read at n stop h = tt
 tail_read at n (next j x t) h = (atom_sound x.atom h.1.0, tail_read n (n + 1) t h.2)
-tail_read at n (branch j x i t) h =
-    (atom_sound x.atom h.1.0, both_read (placed_from n (n + 1) i) (placed_from at (n + 1 + size_of i) t) (tail_read n (n + 1) i h.2) (tail_read at (n + 1 + size_of i) t h.3))
+tail_read at n (branch j x i t) h = (
+  atom_sound x.atom h.1.0,
+  both_read (placed_from n (n + 1) i) (placed_from at (n + 1 + size_of i) t)
+      (tail_read n (n + 1) i h.2) (tail_read at (n + 1 + size_of i) t h.3),
+)
 
 pub tree_read : (tree : Tree) → IsTree smiles_words tree → AllByRecursion IsRead (atoms_of smiles_words tree)
 tree_read tree h = (atom_sound tree.first.atom h.0.0, tail_read 0 1 tree.tail h.1)

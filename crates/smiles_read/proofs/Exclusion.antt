@@ -18,7 +18,8 @@ abbrev pub OneTree : Type 0
 OneTree = (text : List ℕ) (s t : Tree) → IsTreeOf text s → IsTreeOf text t → s ≡ t
 
 abbrev pub OneGraph : Type 0
-OneGraph = (es : List (Entry SketchKind)) (xs ys : List (Link SketchKind)) → IsGraph agreed_kind es xs → IsGraph agreed_kind es ys → xs ≡ ys
+OneGraph = (es : List (Entry SketchKind)) (xs ys : List (Link SketchKind)) → IsGraph agreed_kind es xs
+    → IsGraph agreed_kind es ys → xs ≡ ys
 
 same_bonds : (xs ys : List SketchBond) → map link_of xs ≡ map link_of ys → xs ≡ ys
 same_bonds xs ys e = sym (bonds_back xs) ∙ ap (λ (v : List (Link SketchKind)). map bond_of v) e ∙ bonds_back ys
@@ -39,11 +40,14 @@ within_moved s t a b is same h =
     subst P is (subst Q same h)
 
 -- a tree with a sketch, and one with none
-not_both : OneTree → (text : List ℕ) (s t : Tree) (a : SketchTerm) → IsTreeOf text s → IsTreeOf text t → IsSketchOf s a → ((b : SketchTerm) → IsSketchOf t b → ⊥) → ⊥
-not_both trees text s t a is it h none = let P : Tree → Type 0 = λ v. IsSketchOf v a in none a (subst P (trees text s t is it) h)
+not_both : OneTree → (text : List ℕ) (s t : Tree) (a : SketchTerm) → IsTreeOf text s → IsTreeOf text t → IsSketchOf s a
+    → ((b : SketchTerm) → IsSketchOf t b → ⊥) → ⊥
+not_both trees text s t a is it h none = let P : Tree → Type 0 = λ v. IsSketchOf v a in
+    none a (subst P (trees text s t is it) h)
 
 -- where there is a sketch, there is no fault
-not_read : OneTree → OneGraph → (text : List ℕ) (s : SketchTerm) (e : SmilesFault) → IsReading text (Ok s) → IsReading text (Err e) → e ≡ NoMemory
+not_read : OneTree → OneGraph → (text : List ℕ) (s : SketchTerm) (e : SmilesFault) → IsReading text (Ok s)
+    → IsReading text (Err e) → e ≡ NoMemory
 not_read trees graphs text s Syntax p q = absurd (q.1 p.1 p.2)
 not_read trees graphs text s Ring p q = absurd (not_both trees text p.1 q.1 s p.2 q.2 p.3 q.3)
 not_read trees graphs text s Limit p (inl long) = absurd (omega (arith, p.0))
@@ -54,7 +58,8 @@ not_read trees graphs text s (Aromatic w) p q = absurd q
 not_read trees graphs text s NoMemory p q = refl
 
 -- two faults
-one_fault : OneTree → (text : List ℕ) (e f : SmilesFault) → IsReading text (Err e) → IsReading text (Err f) → (e ≡ f) ⊎ (e ≡ NoMemory) ⊎ (f ≡ NoMemory)
+one_fault : OneTree → (text : List ℕ) (e f : SmilesFault) → IsReading text (Err e) → IsReading text (Err f) → (e ≡ f)
+    ⊎ (e ≡ NoMemory) ⊎ (f ≡ NoMemory)
 one_fault trees text NoMemory f p q = inr (inl refl)
 one_fault trees text e NoMemory p q = inr (inr refl)
 one_fault trees text (Aromatic w) f p q = absurd p
@@ -73,8 +78,10 @@ one_fault trees text Ring Limit p (inr q) = absurd (not_both trees text q.0 p.1 
 one_fault trees text Limit Ring (inl long) q = absurd (omega (arith, q.0))
 one_fault trees text Limit Ring (inr p) q = absurd (not_both trees text p.0 q.1 p.1 p.2 q.2 p.3 q.3)
 
-pub one_reading : OneTree → OneGraph → (text : List ℕ) (a b : Result SketchTerm SmilesFault) → IsReading text a → IsReading text b → (a ≡ b) ⊎ (a ≡ Err NoMemory) ⊎ (b ≡ Err NoMemory)
-one_reading trees graphs text (Ok s) (Ok t) p q = inl (ap Ok (same_sketch graphs p.1 q.1 s t (trees text p.1 q.1 p.2 q.2) p.3 q.3))
+pub one_reading : OneTree → OneGraph → (text : List ℕ) (a b : Result SketchTerm SmilesFault) → IsReading text a
+    → IsReading text b → (a ≡ b) ⊎ (a ≡ Err NoMemory) ⊎ (b ≡ Err NoMemory)
+one_reading trees graphs text (Ok s) (Ok t) p q =
+    inl (ap Ok (same_sketch graphs p.1 q.1 s t (trees text p.1 q.1 p.2 q.2) p.3 q.3))
 one_reading trees graphs text (Ok s) (Err e) p q = inr (inr (ap Err (not_read trees graphs text s e p q)))
 one_reading trees graphs text (Err e) (Ok s) p q = inr (inl (ap Err (not_read trees graphs text s e q p)))
 one_reading trees graphs text (Err e) (Err f) p q = elim (one_fault trees text e f p q) [

@@ -56,7 +56,8 @@ bond_first backslash = is_one_of bond_bytes 92 refl
 abbrev bond_from : List ℕ → BondText
 bond_from [] = minus
 bond_from (b ∷ bs) =
-    cond (b == 45) minus (cond (b == 61) equals (cond (b == 35) hash (cond (b == 36) dollar (cond (b == 58) colon (cond (b == 47) slash backslash)))))
+    cond (b == 45) minus (cond (b == 61) equals
+    (cond (b == 35) hash (cond (b == 36) dollar (cond (b == 58) colon (cond (b == 47) slash backslash)))))
 
 bond_is : (x : BondText) (r : List ℕ) → bond_from (bond_text x ++ r) ≡ x
 bond_is minus r = refl

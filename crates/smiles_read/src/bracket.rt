@@ -70,8 +70,8 @@ fn front_at(bytes: &[u8]) -> Option<(Front, &[u8])>
     Some((front, rest))
 }
 
-// The bytes after the chirality mark that the bytes begin with, if they begin with one. Returns nothing where its number
-// is out of range.
+// The bytes after the chirality mark that the bytes begin with, if they begin with one. Returns nothing where its
+// number is out of range.
 fn after_chiral(bytes: &[u8]) -> Option<&[u8]>
     ensures { Reads chiral_text IsChiral dropped AfterChiral bytes.now
         (option_map (λ r. (tt, r.now)) result) }

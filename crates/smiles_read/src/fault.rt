@@ -7,15 +7,15 @@ use line_walk::Fault;
 use std::alloc::{AllocError, AllocFailed};
 use thiserror::Error;
 
-/// Why a SMILES is refused. A text that breaks several rules has the first fault of this order: a text over 65,536 bytes
-/// is `Limit`, then `Syntax`, `Ring`, `Limit` by the number of its parts.
+/// Why a SMILES is refused. A text that breaks several rules has the first fault of this order: a text over 65,536
+/// bytes is `Limit`, then `Syntax`, `Ring`, `Limit` by the number of its parts.
 #[derive(Clone, Copy, Debug, PartialEq, Eq, Error)]
 pub enum SmilesFault {
     /// The text is not in the grammar.
     #[error("not a SMILES")]
     Syntax,
-    /// A ring number stays open, its two bond symbols disagree, or it joins an atom with itself or two atoms that have a
-    /// bond.
+    /// A ring number stays open, its two bond symbols disagree, or it joins an atom with itself or two atoms that have
+    /// a bond.
     #[error("a ring number does not pair")]
     Ring,
     /// More than 65,536 bytes, 256 branches open at once, 999 atoms, 999 bonds, or 12 neighbours of an atom.

@@ -70,7 +70,8 @@ bonds-valid n (b ∷ bs) h =
     let s = and_parts (list_all (λ c. not (joins_same b c)) bs) (are_small_bonds n bs) r.1 in
     let rest = bonds-valid n bs s.1 in
     let later = AllPass-from_list_all (λ c. not (joins_same b c)) bs s.0 in (
-      All-cons (IsBond n) b bs (ltb-true b.a n p.0, ltb-true b.b n q.0, eqb-false b.a b.b (not-true (eqb b.a b.b) r.0)) rest.0,
+      All-cons (IsBond n) b bs (ltb-true b.a n p.0, ltb-true b.b n q.0, eqb-false b.a b.b (not-true (eqb b.a b.b) r.0))
+          rest.0,
       AllPairs-cons Apart b bs (λ k d l. apart-by_test b (get_or bs k d) (later k d l)) rest.1,
     )
 
@@ -87,9 +88,17 @@ small-sound s h =
         graph = record {
           few_atoms = leb-true (length s.atoms) 999 p.0;
           few_bonds = omega (arith, long, few);
-          few_neighbours = λ a. omega (arith, long, few, count_by-le-length (λ (e : ℕ × ℕ). eqb e.0 a || eqb e.1 a) (ends_among s.bonds));
-          in_range = All-map (λ (e : ℕ × ℕ). (e.0 < length s.atoms) × (e.1 < length s.atoms)) (λ (b : SketchBond). (b.a, b.b)) s.bonds (λ k d l. let b = bonds.0 k d l in (b.0, b.1));
-          distinct = All-map (λ (e : ℕ × ℕ). e.0 ≢ e.1) (λ (b : SketchBond). (b.a, b.b)) s.bonds (λ k d l. (bonds.0 k d l).2);
+          few_neighbours = λ a. omega (
+            arith,
+            long,
+            few,
+            count_by-le-length (λ (e : ℕ × ℕ). eqb e.0 a || eqb e.1 a)
+                (ends_among s.bonds),
+          );
+          in_range = All-map (λ (e : ℕ × ℕ). (e.0 < length s.atoms) × (e.1 < length s.atoms))
+              (λ (b : SketchBond). (b.a, b.b)) s.bonds (λ k d l. let b = bonds.0 k d l in (b.0, b.1));
+          distinct = All-map (λ (e : ℕ × ℕ). e.0 ≢ e.1) (λ (b : SketchBond). (b.a, b.b)) s.bonds (λ k d l.
+              (bonds.0 k d l).2);
           once = once-from_apart s.bonds bonds.1;
         };
         each = λ k d l. (atom-valid (get_or s.atoms k d) (atoms k d l)).0;

@@ -27,7 +27,8 @@ or_false : (b : Bool) → (b || false) ≡ b
 or_false true = refl
 or_false false = refl
 
-pub raised-at : (xs : List Bool) (x y : ℕ) (p q : Bool) (a : ℕ) → x < length xs → y < length xs → x ≢ y → get_or (raised xs x y p q) a false ≡ (get_or xs a false || ((eqb x a && p) || (eqb y a && q)))
+pub raised-at : (xs : List Bool) (x y : ℕ) (p q : Bool) (a : ℕ) → x < length xs → y < length xs → x ≢ y
+    → get_or (raised xs x y p q) a false ≡ (get_or xs a false || ((eqb x a && p) || (eqb y a && q)))
 raised-at xs x y p q a inx iny apart =
     let first : List Bool = set xs x (get_or xs x false || p) in
     let iny' : y < length first = omega (arith, length-set xs x (get_or xs x false || p)) in
@@ -35,21 +36,27 @@ raised-at xs x y p q a inx iny apart =
       | inl e ↦
           let test : eqb y a ≡ true = eq-eqb y a e in
           let other : eqb x a ≡ false = ne_eqb x a (λ h. apart (h ∙ sym e)) in
-          let new : get_or (set first y (get_or first y false || q)) a false ≡ (get_or first y false || q) = ap (λ k. get_or (set first y (get_or first y false || q)) k false) (sym e) ∙ get_or-set_same first y (get_or first y false || q) false iny' in
-          let kept : get_or first y false ≡ get_or xs y false = get_or-set_other xs x y (get_or xs x false || p) false (λ h. apart (sym h)) in
+          let new : get_or (set first y (get_or first y false || q)) a false ≡ (get_or first y false || q) =
+          ap (λ k. get_or (set first y (get_or first y false || q)) k false) (sym e)
+          ∙ get_or-set_same first y (get_or first y false || q) false iny' in
+          let kept : get_or first y false ≡ get_or xs y false = get_or-set_other xs x y (get_or xs x false || p) false
+          (λ h. apart (sym h)) in
           let here : get_or xs y false ≡ get_or xs a false = ap (λ k. get_or xs k false) e in
           rw (other, test) (new ∙ ap (λ k. k || q) (kept ∙ here))
       | inr ne ↦
           let test : eqb y a ≡ false = ne_eqb y a ne in
-          let kept : get_or (set first y (get_or first y false || q)) a false ≡ get_or first a false = get_or-set_other first y a (get_or first y false || q) false (λ h. ne (sym h)) in
+          let kept : get_or (set first y (get_or first y false || q)) a false ≡ get_or first a false =
+          get_or-set_other first y a (get_or first y false || q) false (λ h. ne (sym h)) in
           elim (cases_eq x a) [
             | inl e ↦
                 let there : eqb x a ≡ true = eq-eqb x a e in
-                let new : get_or first a false ≡ (get_or xs a false || p) = ap (λ k. get_or first k false) (sym e) ∙ get_or-set_same xs x (get_or xs x false || p) false inx ∙ ap (λ k. get_or xs k false || p) e in
+                let new : get_or first a false ≡ (get_or xs a false || p) = ap (λ k. get_or first k false) (sym e)
+                ∙ get_or-set_same xs x (get_or xs x false || p) false inx ∙ ap (λ k. get_or xs k false || p) e in
                 rw (there, test) (kept ∙ new ∙ ap (λ k. get_or xs a false || k) (sym (or_false p)))
             | inr nx ↦
                 let there : eqb x a ≡ false = ne_eqb x a nx in
-                let old : get_or first a false ≡ get_or xs a false = get_or-set_other xs x a (get_or xs x false || p) false (λ h. nx (sym h)) in
+                let old : get_or first a false ≡ get_or xs a false = get_or-set_other xs x a (get_or xs x false || p)
+                false (λ h. nx (sym h)) in
                 rw (there, test) (kept ∙ old ∙ sym (or_false (get_or xs a false)))
           ]
     ]
@@ -61,42 +68,67 @@ spread false true false g h = refl
 spread false false true g h = refl
 spread false false false g h = refl
 
-pub atom_is-at : (p : SketchAtom → Bool) (atoms : List SketchAtom) (a : ℕ) (d : SketchAtom) → a < length atoms → atom_is p atoms a ≡ p (get_or atoms a d)
+pub atom_is-at : (p : SketchAtom → Bool) (atoms : List SketchAtom) (a : ℕ) (d : SketchAtom) → a < length atoms
+    → atom_is p atoms a ≡ p (get_or atoms a d)
 atom_is-at p atoms a d h = ap (λ o. unwrap_or (option_map p o) false) (slice_get-get_or atoms a d h)
 
 -- the flags of one more bond
-pub leads-more : (atoms : List SketchAtom) (xs : List Bool) (bonds : List SketchBond) (i : ℕ) (p q : Bool) (d : SketchBond) (e : SketchAtom) → i < length bonds → (get_or bonds i d).a < length xs → (get_or bonds i d).b < length xs → (get_or bonds i d).a < length atoms → (get_or bonds i d).b < length atoms → (get_or bonds i d).a ≢ (get_or bonds i d).b → p ≡ (is_plain_kind (get_or bonds i d).kind && not (eqb (get_or atoms (get_or bonds i d).b e).number 1)) → q ≡ (is_plain_kind (get_or bonds i d).kind && not (eqb (get_or atoms (get_or bonds i d).a e).number 1)) → ((a : ℕ) → get_or xs a false ≡ list_any (leads_to_heavy atoms a) (take i bonds)) → (a : ℕ) → get_or (raised xs (get_or bonds i d).a (get_or bonds i d).b p q) a false ≡ list_any (leads_to_heavy atoms a) (take (i + 1) bonds)
+pub leads-more : (atoms : List SketchAtom) (xs : List Bool) (bonds : List SketchBond) (i : ℕ) (p q : Bool)
+    (d : SketchBond) (e : SketchAtom) → i < length bonds → (get_or bonds i d).a < length xs
+    → (get_or bonds i d).b < length xs → (get_or bonds i d).a < length atoms → (get_or bonds i d).b < length atoms
+    → (get_or bonds i d).a ≢ (get_or bonds i d).b
+    → p ≡ (is_plain_kind (get_or bonds i d).kind && not (eqb (get_or atoms (get_or bonds i d).b e).number 1))
+    → q ≡ (is_plain_kind (get_or bonds i d).kind && not (eqb (get_or atoms (get_or bonds i d).a e).number 1))
+    → ((a : ℕ) → get_or xs a false ≡ list_any (leads_to_heavy atoms a) (take i bonds)) → (a : ℕ)
+    → get_or (raised xs (get_or bonds i d).a (get_or bonds i d).b p q) a false ≡ list_any (leads_to_heavy atoms a)
+    (take (i + 1) bonds)
 leads-more atoms xs bonds i p q d e h inx iny ina inb apart isp isq before a =
     let b : SketchBond = get_or bonds i d in
     let k : Bool = is_plain_kind b.kind in
-    let isp' : p ≡ (k && is_heavy atoms b.b) = isp ∙ ap (λ t. k && t) (sym (atom_is-at (λ x. not (eqb x.number 1)) atoms b.b e inb)) in
-    let isq' : q ≡ (k && is_heavy atoms b.a) = isq ∙ ap (λ t. k && t) (sym (atom_is-at (λ x. not (eqb x.number 1)) atoms b.a e ina)) in
+    let isp' : p ≡ (k && is_heavy atoms b.b) = isp
+    ∙ ap (λ t. k && t) (sym (atom_is-at (λ x. not (eqb x.number 1)) atoms b.b e inb)) in
+    let isq' : q ≡ (k && is_heavy atoms b.a) = isq
+    ∙ ap (λ t. k && t) (sym (atom_is-at (λ x. not (eqb x.number 1)) atoms b.a e ina)) in
     let new : ((eqb b.a a && p) || (eqb b.b a && q)) ≡ leads_to_heavy atoms a b =
-    ap (λ t. (eqb b.a a && t) || (eqb b.b a && q)) isp' ∙ ap (λ t. (eqb b.a a && (k && is_heavy atoms b.b)) || (eqb b.b a && t)) isq' ∙ spread k (eqb b.a a) (eqb b.b a) (is_heavy atoms b.b) (is_heavy atoms b.a) in
-    raised-at xs b.a b.b p q a inx iny apart ∙ ap (λ t. t || ((eqb b.a a && p) || (eqb b.b a && q))) (before a) ∙ ap (λ t. list_any (leads_to_heavy atoms a) (take i bonds) || t) new ∙ sym (list_any_more (leads_to_heavy atoms a) bonds i d h)
+    ap (λ t. (eqb b.a a && t) || (eqb b.b a && q)) isp' ∙ ap (λ t. (eqb b.a a && (k && is_heavy atoms b.b))
+    || (eqb b.b a && t)) isq' ∙ spread k (eqb b.a a) (eqb b.b a) (is_heavy atoms b.b) (is_heavy atoms b.a) in
+    raised-at xs b.a b.b p q a inx iny apart ∙ ap (λ t. t || ((eqb b.a a && p) || (eqb b.b a && q))) (before a)
+    ∙ ap (λ t. list_any (leads_to_heavy atoms a) (take i bonds) || t) new
+    ∙ sym (list_any_more (leads_to_heavy atoms a) bonds i d h)
 
--- whether the atom at a place goes, by how many neighbours it has and whether one is reached by a plain bond and no hydrogen
-pub suppressed-within : (s : SketchTerm) (a : ℕ) (d : SketchAtom) {n : ℕ} {leads : Bool} → a < length s.atoms → n ≡ count_by (ends_at a) s.bonds → leads ≡ list_any (leads_to_heavy s.atoms a) s.bonds → is_suppressed s a ≡ (is_bare_hydrogen (get_or s.atoms a d) && (eqb n 1 && leads))
+-- whether the atom at a place goes, by how many neighbours it has and whether one is reached by a plain bond and no
+-- hydrogen
+pub suppressed-within : (s : SketchTerm) (a : ℕ) (d : SketchAtom) {n : ℕ} {leads : Bool} → a < length s.atoms
+    → n ≡ count_by (ends_at a) s.bonds → leads ≡ list_any (leads_to_heavy s.atoms a) s.bonds → is_suppressed s a
+    ≡ (is_bare_hydrogen (get_or s.atoms a d) && (eqb n 1 && leads))
 suppressed-within s a d {n} {leads} h isn isl =
-    ap (λ t. t && (eqb (degree (sketch_ends s) a) 1 && list_any (leads_to_heavy s.atoms a) s.bonds)) (atom_is-at is_bare_hydrogen s.atoms a d h)
-    ∙ ap (λ k. is_bare_hydrogen (get_or s.atoms a d) && (eqb k 1 && list_any (leads_to_heavy s.atoms a) s.bonds)) (degree_is s.bonds a ∙ sym isn)
+    ap (λ t. t && (eqb (degree (sketch_ends s) a) 1 && list_any (leads_to_heavy s.atoms a) s.bonds))
+    (atom_is-at is_bare_hydrogen s.atoms a d h)
+    ∙ ap (λ k. is_bare_hydrogen (get_or s.atoms a d) && (eqb k 1 && list_any (leads_to_heavy s.atoms a) s.bonds))
+    (degree_is s.bonds a ∙ sym isn)
     ∙ ap (λ t. is_bare_hydrogen (get_or s.atoms a d) && (eqb n 1 && t)) (sym isl)
 
-pub known-more : (s : SketchTerm) (xs : List Bool) (i : ℕ) (v : Bool) → i < length xs → v ≡ is_suppressed s i → ((a : ℕ) → a < i → get_or xs a false ≡ is_suppressed s a) → (a : ℕ) → a < i + 1 → get_or (set xs i v) a false ≡ is_suppressed s a
+pub known-more : (s : SketchTerm) (xs : List Bool) (i : ℕ) (v : Bool) → i < length xs → v ≡ is_suppressed s i
+    → ((a : ℕ) → a < i → get_or xs a false ≡ is_suppressed s a) → (a : ℕ) → a < i + 1 → get_or (set xs i v) a false
+    ≡ is_suppressed s a
 known-more s xs i v within is before = below_more (λ a. get_or (set xs i v) a false ≡ is_suppressed s a) i
     (λ a h. let ne : a ≢ i = λ e. absurd (omega arith) in get_or-set_other xs i a v false ne ∙ before a h)
     (get_or-set_same xs i v false within ∙ is)
 
-pub later-more : (xs : List Bool) (i : ℕ) (v : Bool) → ((a : ℕ) → i ≤ a → get_or xs a false ≡ false) → (a : ℕ) → i + 1 ≤ a → get_or (set xs i v) a false ≡ false
+pub later-more : (xs : List Bool) (i : ℕ) (v : Bool) → ((a : ℕ) → i ≤ a → get_or xs a false ≡ false) → (a : ℕ)
+    → i + 1 ≤ a → get_or (set xs i v) a false ≡ false
 later-more xs i v before a h =
     let ne : a ≢ i = λ e. absurd (omega arith) in
     get_or-set_other xs i a v false ne ∙ before a (omega arith)
 
 -- no atom past the last goes
-pub suppressed-past : (s : SketchTerm) (xs : List Bool) (n : ℕ) → length s.atoms ≤ n → ((a : ℕ) → a < n → get_or xs a false ≡ is_suppressed s a) → ((a : ℕ) → n ≤ a → get_or xs a false ≡ false) → (a : ℕ) → get_or xs a false ≡ is_suppressed s a
+pub suppressed-past : (s : SketchTerm) (xs : List Bool) (n : ℕ) → length s.atoms ≤ n
+    → ((a : ℕ) → a < n → get_or xs a false ≡ is_suppressed s a) → ((a : ℕ) → n ≤ a → get_or xs a false ≡ false)
+    → (a : ℕ) → get_or xs a false ≡ is_suppressed s a
 suppressed-past s xs n end known later a = elim (cases_lt a n) [
   | inl h ↦ known a h
   | inr h ↦
       let none = slice_get_past s.atoms a (omega arith) in
-      later a h ∙ sym (ap (λ o. unwrap_or (option_map is_bare_hydrogen o) false && (eqb (degree (sketch_ends s) a) 1 && list_any (leads_to_heavy s.atoms a) s.bonds)) none)
+      later a h ∙ sym (ap (λ o. unwrap_or (option_map is_bare_hydrogen o) false
+      && (eqb (degree (sketch_ends s) a) 1 && list_any (leads_to_heavy s.atoms a) s.bonds)) none)
 ]

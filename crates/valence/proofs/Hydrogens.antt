@@ -48,13 +48,15 @@ table-small n (pos (suc (suc k))) = small_none
 table-small n (negsuc zero) = anion-small n
 table-small n (negsuc (suc k)) = small_none
 
-left-le : (b : Bool) (v t : ℕ) (o : Option ℕ) → v ≤ 6 → unwrap_or (option_map (λ v. v - t) o) 0 ≤ 6 → unwrap_or (option_map (λ v. v - t) (cond b (Some v) o)) 0 ≤ 6
+left-le : (b : Bool) (v t : ℕ) (o : Option ℕ) → v ≤ 6 → unwrap_or (option_map (λ v. v - t) o) 0 ≤ 6
+    → unwrap_or (option_map (λ v. v - t) (cond b (Some v) o)) 0 ≤ 6
 left-le true v t o h k = omega arith
 left-le false v t o h k = k
 
 missing-le : (vs : List ℕ) (t : ℕ) → AreSmall vs → missing vs t ≤ 6
 missing-le [] t h = omega arith
-missing-le (v ∷ vs) t h = left-le (nat_le t v) v t (find (λ v. nat_le t v) vs) h.each.0 (missing-le vs t (record { each = h.each.1 }))
+missing-le (v ∷ vs) t h = left-le (nat_le t v) v t (find (λ v. nat_le t v) vs) h.each.0
+    (missing-le vs t (record { each = h.each.1 }))
 
 missing_aromatic-le : (vs : List ℕ) (t : ℕ) → AreSmall vs → missing_aromatic vs t ≤ 6
 missing_aromatic-le [] t h = omega arith
@@ -64,37 +66,51 @@ by_case : (b : Bool) (m n : ℕ) → m ≤ 6 → n ≤ 6 → elim b [ true ↦ m
 by_case true m n p q = omega arith
 by_case false m n p q = omega arith
 
-hydrogens_of-le : (fill : Fill) (atom : SketchAtom) (t : ℕ) → IsFill fill → atom.hydrogens ≤ 9 → hydrogens_of fill atom t ≤ 15
+hydrogens_of-le : (fill : Fill) (atom : SketchAtom) (t : ℕ) → IsFill fill → atom.hydrogens ≤ 9
+    → hydrogens_of fill atom t ≤ 15
 hydrogens_of-le Given atom t valid few = omega arith
-hydrogens_of-le Organic atom t valid few = by_case atom.lower _ _ (missing_aromatic-le _ t (organic-small atom.number)) (missing-le _ t (organic-small atom.number))
-hydrogens_of-le (Table radicals) atom t valid few = omega (arith, missing-le _ (t + radicals) (table-small atom.number atom.charge))
+hydrogens_of-le Organic atom t valid few = by_case atom.lower _ _ (missing_aromatic-le _ t (organic-small atom.number))
+    (missing-le _ t (organic-small atom.number))
+hydrogens_of-le (Table radicals) atom t valid few =
+    omega (arith, missing-le _ (t + radicals) (table-small atom.number atom.charge))
 hydrogens_of-le (Fixed valence) atom t valid few = omega arith
 
 -- one more atom has its hydrogens
-pub fill-more : (sums : List ℕ) (xs ys : List SketchAtom) (i h : ℕ) (d : SketchAtom) → i < length xs → ys ≡ map (λ p. filled_atom (get_or sums p.0 0) p.1) (enumerate_from 0 (take i xs)) ++ drop i xs → h ≡ hydrogens_of (get_or ys i d).fill (get_or ys i d) (get_or sums i 0) → set ys i (record (get_or ys i d) { hydrogens = h }) ≡ map (λ p. filled_atom (get_or sums p.0 0) p.1) (enumerate_from 0 (take (i + 1) xs)) ++ drop (i + 1) xs
+pub fill-more : (sums : List ℕ) (xs ys : List SketchAtom) (i h : ℕ) (d : SketchAtom) → i < length xs
+    → ys ≡ map (λ p. filled_atom (get_or sums p.0 0) p.1) (enumerate_from 0 (take i xs)) ++ drop i xs
+    → h ≡ hydrogens_of (get_or ys i d).fill (get_or ys i d) (get_or sums i 0)
+    → set ys i (record (get_or ys i d) { hydrogens = h }) ≡ map (λ p. filled_atom (get_or sums p.0 0) p.1)
+    (enumerate_from 0 (take (i + 1) xs)) ++ drop (i + 1) xs
 fill-more sums xs ys i h d within is counted =
     let f : ℕ × SketchAtom → SketchAtom = λ p. filled_atom (get_or sums p.0 0) p.1 in
     let same : get_or ys i d ≡ get_or xs i d = ap (λ zs. get_or zs i d) is ∙ written-at f xs i d within in
-    let new : record (get_or ys i d) { hydrogens = h } ≡ f (i, get_or xs i d) = ap (λ n. record (get_or ys i d) { hydrogens = n }) counted ∙ ap (filled_atom (get_or sums i 0)) same in
-    ap (λ zs. set zs i (record (get_or ys i d) { hydrogens = h })) is ∙ ap (λ v. set (map f (enumerate_from 0 (take i xs)) ++ drop i xs) i v) new ∙ written-more f xs i d within
+    let new : record (get_or ys i d) { hydrogens = h } ≡ f (i, get_or xs i d) =
+    ap (λ n. record (get_or ys i d) { hydrogens = n }) counted ∙ ap (filled_atom (get_or sums i 0)) same in
+    ap (λ zs. set zs i (record (get_or ys i d) { hydrogens = h })) is
+    ∙ ap (λ v. set (map f (enumerate_from 0 (take i xs)) ++ drop i xs) i v) new ∙ written-more f xs i d within
 
 length-filled : (s : SketchTerm) → length (filled s).atoms ≡ length s.atoms
-length-filled s = length-map (enumerate_from 0 s.atoms) (λ p. filled_atom (bond_sum s p.0) p.1) ∙ length-enumerate_from 0 s.atoms
+length-filled s = length-map (enumerate_from 0 s.atoms) (λ p. filled_atom (bond_sum s p.0) p.1)
+    ∙ length-enumerate_from 0 s.atoms
 
-filled-at : (s : SketchTerm) (k : ℕ) (d : SketchAtom) → k < length s.atoms → get_or (filled s).atoms k d ≡ filled_atom (bond_sum s k) (get_or s.atoms k d)
+filled-at : (s : SketchTerm) (k : ℕ) (d : SketchAtom) → k < length s.atoms → get_or (filled s).atoms k d
+    ≡ filled_atom (bond_sum s k) (get_or s.atoms k d)
 filled-at s k d h =
     let f : ℕ × SketchAtom → SketchAtom = λ p. filled_atom (bond_sum s p.0) p.1 in
     let within : k < length (enumerate_from 0 s.atoms) = omega (arith, length-enumerate_from 0 s.atoms) in
     let z : 0 + k ≡ k = omega arith in
-    get_or-map f (enumerate_from 0 s.atoms) k (0, d) d within ∙ ap f (get_or-enumerate_from 0 s.atoms k (0, d) h ∙ ap (λ n. (n, get_or s.atoms k d)) z)
+    get_or-map f (enumerate_from 0 s.atoms) k (0, d) d within ∙ ap f (get_or-enumerate_from 0 s.atoms k (0, d) h
+    ∙ ap (λ n. (n, get_or s.atoms k d)) z)
 
-pub filled-few : (s : SketchTerm) → IsSound s → All (λ a. a.hydrogens ≤ 9) s.atoms → All (λ a. a.hydrogens ≤ 15) (filled s).atoms
+pub filled-few : (s : SketchTerm) → IsSound s → All (λ a. a.hydrogens ≤ 9) s.atoms
+    → All (λ a. a.hydrogens ≤ 15) (filled s).atoms
 filled-few s sound few k d h =
     let within : k < length s.atoms = omega (arith, length-filled s) in
     rw (filled-at s k d within) (hydrogens_of-le _ _ _ (sound.each k d within).fill (few k d within))
 
 -- an atom stays one when its hydrogens change
-pub with_hydrogens : (atom : SketchAtom) (n : ℕ) → IsSketchAtom atom → n ≤ 27 → IsSketchAtom (record atom { hydrogens = n })
+pub with_hydrogens : (atom : SketchAtom) (n : ℕ) → IsSketchAtom atom → n ≤ 27
+    → IsSketchAtom (record atom { hydrogens = n })
 with_hydrogens atom n old few = record {
   number = old.number;
   isotope = old.isotope;
@@ -112,15 +128,19 @@ filled-sound s sound few = record {
       let old = sound.each k d within in
       let atom : SketchAtom = get_or s.atoms k d in
       let le = hydrogens_of-le atom.fill atom (bond_sum s k) old.fill (few k d within) in
-      subst IsSketchAtom (sym (filled-at s k d within)) (with_hydrogens atom (hydrogens_of atom.fill atom (bond_sum s k)) old (omega (arith, le)));
+      subst IsSketchAtom (sym (filled-at s k d within))
+      (with_hydrogens atom (hydrogens_of atom.fill atom (bond_sum s k)) old (omega (arith, le)));
 }
 
 -- the atoms with the hydrogens of equal sums
-pub filled-by : (s : SketchTerm) (sums : List ℕ) → ((a : ℕ) → get_or sums a 0 ≡ bond_sum s a) → map (λ p. filled_atom (get_or sums p.0 0) p.1) (enumerate_from 0 s.atoms) ≡ (filled s).atoms
+pub filled-by : (s : SketchTerm) (sums : List ℕ) → ((a : ℕ) → get_or sums a 0 ≡ bond_sum s a)
+    → map (λ p. filled_atom (get_or sums p.0 0) p.1) (enumerate_from 0 s.atoms) ≡ (filled s).atoms
 filled-by s sums h =
     let f : ℕ × SketchAtom → SketchAtom = λ p. filled_atom (get_or sums p.0 0) p.1 in
     let g : ℕ × SketchAtom → SketchAtom = λ p. filled_atom (bond_sum s p.0) p.1 in
-    let len : length (map f (enumerate_from 0 s.atoms)) ≡ length (map g (enumerate_from 0 s.atoms)) = length-map (enumerate_from 0 s.atoms) f ∙ sym (length-map (enumerate_from 0 s.atoms) g) in
+    let len : length (map f (enumerate_from 0 s.atoms)) ≡ length (map g (enumerate_from 0 s.atoms)) =
+    length-map (enumerate_from 0 s.atoms) f ∙ sym (length-map (enumerate_from 0 s.atoms) g) in
     same_lists (map f (enumerate_from 0 s.atoms)) (map g (enumerate_from 0 s.atoms)) len (λ k d l.
     let within : k < length (enumerate_from 0 s.atoms) = omega (arith, length-map (enumerate_from 0 s.atoms) f) in
-    get_or-map f _ k (0, d) d within ∙ ap (λ n. filled_atom n (get_or (enumerate_from 0 s.atoms) k (0, d)).1) (h (get_or (enumerate_from 0 s.atoms) k (0, d)).0) ∙ sym (get_or-map g _ k (0, d) d within))
+    get_or-map f _ k (0, d) d within ∙ ap (λ n. filled_atom n (get_or (enumerate_from 0 s.atoms) k (0, d)).1)
+    (h (get_or (enumerate_from 0 s.atoms) k (0, d)).0) ∙ sym (get_or-map g _ k (0, d) d within))

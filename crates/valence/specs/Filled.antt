@@ -19,7 +19,12 @@ missing_aromatic (v ∷ vs) total = v - total - 1
 -- the hydrogens of an atom whose bonds sum to the total
 abbrev pub hydrogens_of : Fill → SketchAtom → ℕ → ℕ
 hydrogens_of Given atom total = atom.hydrogens
-hydrogens_of Organic atom total = elim atom.lower [ true ↦ missing_aromatic (organic_valences atom.number) total | false ↦ missing (organic_valences atom.number) total ]
+hydrogens_of Organic atom total =
+    elim atom.lower [
+      | true ↦ missing_aromatic (organic_valences atom.number) total
+      | false ↦
+          missing (organic_valences atom.number) total
+    ]
 hydrogens_of (Table radicals) atom total = missing (table_valences atom.number atom.charge) (total + radicals)
 hydrogens_of (Fixed valence) atom total = valence - total
 

@@ -21,7 +21,8 @@ is_small_fill (Fixed valence) = nat_le valence 15
 
 -- each number within its limit, and at most 9 hydrogens
 abbrev pub is_small_atom : SketchAtom → Bool
-is_small_atom x = nat_le x.number 103 && (nat_le x.isotope 999 && (is_small_charge x.charge && (is_small_fill x.fill && nat_le x.hydrogens 9)))
+is_small_atom x = nat_le x.number 103
+    && (nat_le x.isotope 999 && (is_small_charge x.charge && (is_small_fill x.fill && nat_le x.hydrogens 9)))
 
 -- the bonds join the same atoms
 abbrev pub joins_same : SketchBond → SketchBond → Bool
@@ -30,8 +31,10 @@ joins_same b c = ((b.a == c.a) && (b.b == c.b)) || ((b.a == c.b) && (b.b == c.a)
 -- each bond joins two of the atoms, which no later one joins
 abbrev pub are_small_bonds : ℕ → List SketchBond → Bool
 are_small_bonds atoms [] = true
-are_small_bonds atoms (b ∷ bs) = nat_lt b.a atoms && (nat_lt b.b atoms && (not (b.a == b.b) && (list_all (λ c. not (joins_same b c)) bs && are_small_bonds atoms bs)))
+are_small_bonds atoms (b ∷ bs) = nat_lt b.a atoms
+    && (nat_lt b.b atoms && (not (b.a == b.b) && (list_all (λ c. not (joins_same b c)) bs && are_small_bonds atoms bs)))
 
 -- no more atoms than a structure may have, and no more bonds than an atom may have
 abbrev pub is_small : List SketchAtom → List SketchBond → Bool
-is_small atoms bonds = nat_le (length atoms) MOST_ATOMS && (nat_le (length bonds) MOST_NEIGHBOURS && (list_all is_small_atom atoms && are_small_bonds (length atoms) bonds))
+is_small atoms bonds = nat_le (length atoms) MOST_ATOMS && (nat_le (length bonds) MOST_NEIGHBOURS
+    && (list_all is_small_atom atoms && are_small_bonds (length atoms) bonds))

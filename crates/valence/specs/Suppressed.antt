@@ -33,9 +33,11 @@ is_heavy atoms a = atom_is (λ x. not (x.number == 1)) atoms a
 
 -- a plain bond joins the atom a to an atom that is no hydrogen
 abbrev pub leads_to_heavy : List SketchAtom → ℕ → SketchBond → Bool
-leads_to_heavy atoms a b = is_plain_kind b.kind && (((b.a == a) && is_heavy atoms b.b) || ((b.b == a) && is_heavy atoms b.a))
+leads_to_heavy atoms a b = is_plain_kind b.kind
+    && (((b.a == a) && is_heavy atoms b.b) || ((b.b == a) && is_heavy atoms b.a))
 
--- The atom is taken away: hydrogen without isotope and charge, whose only bond is plain and leads to an atom that is no hydrogen.
+-- The atom is taken away: hydrogen without isotope and charge, whose only bond is plain and leads to an atom that is no
+-- hydrogen.
 abbrev pub is_suppressed : SketchTerm → ℕ → Bool
 is_suppressed s a =
     atom_is is_bare_hydrogen s.atoms a
@@ -55,7 +57,8 @@ stays goes b = not (goes b.a) && not (goes b.b)
 
 -- the atoms that stay, in order, each with so many hydrogens more
 abbrev pub staying_atoms : (ℕ → Bool) → (ℕ → ℕ) → List SketchAtom → List SketchAtom
-staying_atoms goes gain atoms = map (λ p. record p.1 { hydrogens = p.1.hydrogens + gain p.0 }) (filter (λ p. not (goes p.0)) (enumerate_from 0 atoms))
+staying_atoms goes gain atoms = map (λ p. record p.1 { hydrogens = p.1.hydrogens + gain p.0 })
+    (filter (λ p. not (goes p.0)) (enumerate_from 0 atoms))
 
 -- the bond between the same atoms at other places
 abbrev pub renumbered : (ℕ → ℕ) → SketchBond → SketchBond

@@ -88,7 +88,8 @@ pub(crate) fn gains(bonds: &[SketchBond], goes: &[bool]) -> [u8; MOST_ATOMS]
     requires in_range { All (λ b. (b.a < MOST_ATOMS) × (b.b < MOST_ATOMS)) bonds.now }
     requires distinct { All (λ b. b.a ≢ b.b) bonds.now }
     requires few { (a : ℕ) → count_by (ends_at a) bonds.now ≤ MOST_NEIGHBOURS }
-    ensures { (a : ℕ) → slice_index result a ≡ count_by (brings (λ k. slice_index_or goes.now k false) a) bonds.now }
+    ensures { (a : ℕ) → slice_index result a
+        ≡ count_by (brings (λ k. slice_index_or goes.now k false) a) bonds.now }
 {
     let mut gains = [0; MOST_ATOMS];
     for bond in bonds {
@@ -102,7 +103,8 @@ pub(crate) fn gains(bonds: &[SketchBond], goes: &[bool]) -> [u8; MOST_ATOMS]
 /// For each atom, how many atoms before it stay.
 pub(crate) fn new_places(goes: &[bool]) -> [u16; MOST_ATOMS]
     requires { length goes.now ≤ MOST_ATOMS }
-    ensures { (a : ℕ) → a < length goes.now → slice_index result a ≡ new_place (λ k. slice_index_or goes.now k false) a }
+    ensures { (a : ℕ) → a < length goes.now
+        → slice_index result a ≡ new_place (λ k. slice_index_or goes.now k false) a }
 {
     let mut places = [0; MOST_ATOMS];
     let mut kept = 0;

@@ -9,7 +9,11 @@ use std::test::Fail;
 const ANSWERS: &[(&str, &str)] = &[
     (
         "syntax",
-        "C[|C%1|[1000C]|[C+16]|C..C|C)|.C|C(|()C|C()|C=|=C|[HH]|[CH10]|[C@TH3]|[C@TH0]|[C@TH01]|[C@OH31]|[H@H]|C(C)1CC1|se|Cr|[]|[C:]|[Uuo]|[++C]",
+        "C[|C%1|[1000C]|[C+16]|C..C|C)|.C|C(|()C|C()|C=|=C|[HH]",
+    ),
+    (
+        "syntax",
+        "[CH10]|[C@TH3]|[C@TH0]|[C@TH01]|[C@OH31]|[H@H]|C(C)1CC1|se|Cr|[]|[C:]|[Uuo]|[++C]",
     ),
     (
         "syntax",
@@ -21,11 +25,19 @@ const ANSWERS: &[(&str, &str)] = &[
     ),
     (
         "read",
-        "C1CC=1|C=1CC1|C=1CC=1|C1CC%01|C%12CC%12|C1.C1|C1CC1C1CC1|[H]|[H][H]|[H@]|[2H]C|[Fe+++]|[Fe+3]|[C+++++++++++++++]|[C+15]|[C@TH2]|[C@OH30]",
+        "C1CC=1|C=1CC1|C=1CC=1|C1CC%01|C%12CC%12|C1.C1|C1CC1C1CC1|[H]",
     ),
     (
         "read",
-        "[C@@H](C)C|[c]|[se]|[as]|Clc|Sc|CsC|[Sc]|[O+00]|[0C]|[13CH4:007]|[*]|*|[Lr]|C/C=C\\C|C$C#N|c1:c:c:c:c:c1|C(C)(C)C|C(=O)O|C(.C)C|C(C)|CC(C)(C(C))C",
+        "[H][H]|[H@]|[2H]C|[Fe+++]|[Fe+3]|[C+++++++++++++++]|[C+15]|[C@TH2]|[C@OH30]",
+    ),
+    (
+        "read",
+        "[C@@H](C)C|[c]|[se]|[as]|Clc|Sc|CsC|[Sc]|[O+00]|[0C]|[13CH4:007]",
+    ),
+    (
+        "read",
+        "[*]|*|[Lr]|C/C=C\\C|C$C#N|c1:c:c:c:c:c1|C(C)(C)C|C(=O)O|C(.C)C|C(C)|CC(C)(C(C))C",
     ),
     ("read", "C.C|S(C)(C)(C)(C)(C)(C)(C)(C)(C)(C)(C)C"),
     ("limit", "S(C)(C)(C)(C)(C)(C)(C)(C)(C)(C)(C)(C)C"),
@@ -137,10 +149,22 @@ const DRAWN: &[Drawn] = &[
     Drawn { text: "[13CH4]", first: SketchAtom { isotope: 13, hydrogens: 4, ..GIVEN }, bonds: &[] },
     Drawn { text: "[nH]", first: SketchAtom { number: 7, lower: true, hydrogens: 1, ..GIVEN }, bonds: &[] },
     Drawn { text: "[Fe+++]", first: SketchAtom { number: 26, charge: 3, ..GIVEN }, bonds: &[] },
-    Drawn { text: "[235U@OH12H0--:7]", first: SketchAtom { number: 92, isotope: 235, charge: -2, ..GIVEN }, bonds: &[] },
-    Drawn { text: "C1CC=1", first: CARBON, bonds: &[bond!(0, Unwritten, 1), bond!(1, Unwritten, 2), bond!(0, Double, 2)] },
+    Drawn {
+        text: "[235U@OH12H0--:7]",
+        first: SketchAtom { number: 92, isotope: 235, charge: -2, ..GIVEN },
+        bonds: &[],
+    },
+    Drawn {
+        text: "C1CC=1",
+        first: CARBON,
+        bonds: &[bond!(0, Unwritten, 1), bond!(1, Unwritten, 2), bond!(0, Double, 2)],
+    },
     Drawn { text: "C1.C1", first: CARBON, bonds: &[bond!(0, Unwritten, 1)] },
-    Drawn { text: "C(=O)(/N)C", first: CARBON, bonds: &[bond!(0, Double, 1), bond!(0, Single, 2), bond!(0, Unwritten, 3)] },
+    Drawn {
+        text: "C(=O)(/N)C",
+        first: CARBON,
+        bonds: &[bond!(0, Double, 1), bond!(0, Single, 2), bond!(0, Unwritten, 3)],
+    },
     Drawn { text: "C(C.N)O", first: CARBON, bonds: &[bond!(0, Unwritten, 1), bond!(0, Unwritten, 3)] },
 ];
 

@@ -5,4 +5,5 @@ use Rattle.ring_find.proofs.rings.Goals as goal
 pub returns-clause-bonds : goal.returns-clause-bonds
 returns-clause-bonds c =
     let ends = ap (λ g. g.ends) c.in_ok-graph.ensures in
-    rw (c.in_ok-bond_in_ring.ensures, c.deref-2.ensures.value) (ring_bonds_from _ _ (rw ends at c.in_ok-lengths.ensures))
+    rw (c.in_ok-bond_in_ring.ensures, c.deref-2.ensures.value)
+    (ring_bonds_from _ _ (rw ends at c.in_ok-lengths.ensures))

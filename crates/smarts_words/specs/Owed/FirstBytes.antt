@@ -51,18 +51,21 @@ length-after_two [] l = absurd (omega arith)
 length-after_two (x ∷ []) l = absurd (omega arith)
 length-after_two (x ∷ y ∷ xs) l = omega arith
 
-upper_passes : (text : List ℕ) → upper_test text ≡ true → (b : ℕ) × (more : List ℕ) × (text ≡ b ∷ more) × (65 ≤ b) × (b ≢ 93)
+upper_passes : (text : List ℕ) → upper_test text ≡ true → (b : ℕ) × (more : List ℕ) × (text ≡ b ∷ more) × (65 ≤ b)
+    × (b ≢ 93)
 unfolding upper_test
 upper_passes [] h = absurd (false≢true h)
 upper_passes (x ∷ xs) h = (x, xs, refl, grind (arith, nat_tests), λ e. grind (arith, nat_tests))
 
-element_first : (n : ℕ) → 2 ≤ n → n ≤ 103 → (b : ℕ) × (more : List ℕ) × (get_or symbols n [] ≡ b ∷ more) × (65 ≤ b) × (b ≢ 93)
+element_first : (n : ℕ) → 2 ≤ n → n ≤ 103 → (b : ℕ) × (more : List ℕ) × (get_or symbols n [] ≡ b ∷ more) × (65 ≤ b)
+    × (b ≢ 93)
 element_first zero low high = absurd (omega arith)
 element_first (suc zero) low high = absurd (omega arith)
 element_first (suc (suc n)) low high =
     let l = length-symbols in
     let k = length-after_two symbols (omega arith) in
-    let p = upper_passes (get_or (after_two symbols) n []) (passes_at upper_test (after_two symbols) n all_upper (omega arith)) in
+    let p = upper_passes (get_or (after_two symbols) n []) (passes_at upper_test (after_two symbols) n all_upper
+    (omega arith)) in
     (p.0, p.1, sym (at_two symbols n (omega arith)) ∙ p.2, p.3, p.4)
 
 letter_high : (l : Letter) → (65 ≤ letter_byte l) × (letter_byte l ≢ 93)
@@ -87,30 +90,73 @@ turn_begins (numbered kind ds) = (_, refl)
 
 pub first_of : (x : Prim) → IsPrim x → First x
 first_of any is = record { byte = 42; more = []; spelled = refl; kind = at_letter tt (inl refl) }
-first_of aromatic is = record { byte = 97; more = []; spelled = refl; kind = at_letter tt (inr (omega arith, λ e. omega arith)) }
-first_of aliphatic is = record { byte = 65; more = []; spelled = refl; kind = at_letter tt (inr (omega arith, λ e. omega arith)) }
-first_of (element n) is = let p = element_first n is.0 is.1 in record { byte = p.0; more = p.1; spelled = p.2; kind = at_letter tt (inr (p.3, p.4)) }
-first_of (lower l) is = let p = lower_first l in let high = p.3 in record { byte = p.0; more = p.1; spelled = p.2; kind = at_letter tt (inr (omega arith, λ e. omega arith)) }
+first_of aromatic is = record {
+  byte = 97;
+  more = [];
+  spelled = refl;
+  kind =
+      at_letter tt (inr (omega arith, λ e. omega arith));
+}
+first_of aliphatic is = record {
+  byte = 65;
+  more = [];
+  spelled = refl;
+  kind =
+      at_letter tt (inr (omega arith, λ e. omega arith));
+}
+first_of (element n) is = let p = element_first n is.0 is.1 in record {
+  byte = p.0;
+  more = p.1;
+  spelled = p.2;
+  kind =
+      at_letter tt (inr (p.3, p.4));
+}
+first_of (lower l) is = let p = lower_first l in let high = p.3 in record {
+  byte = p.0;
+  more = p.1;
+  spelled = p.2;
+  kind = at_letter tt (inr (omega arith, λ e. omega arith));
+}
 first_of (atomic ds) is = record { byte = 35; more = ds; spelled = refl; kind = at_atomic ds refl refl }
-first_of (counted l ds) is = record { byte = letter_byte l; more = ds; spelled = refl; kind = at_letter tt (inr (letter_high l)) }
-first_of (charge s) is = let p = signs_begin s is in record { byte = sign_of s; more = p.0; spelled = p.1; kind = at_charge s refl (sign_is s) }
+first_of (counted l ds) is = record {
+  byte = letter_byte l;
+  more = ds;
+  spelled = refl;
+  kind =
+      at_letter tt (inr (letter_high l));
+}
+first_of (charge s) is = let p = signs_begin s is in record {
+  byte = sign_of s;
+  more = p.0;
+  spelled = p.1;
+  kind =
+      at_charge s refl (sign_is s);
+}
 first_of (mass []) is = absurd (let l = is.0 in omega arith)
 first_of (mass (d ∷ ds)) is = record { byte = d; more = ds; spelled = refl; kind = at_mass (d ∷ ds) refl is.2.0 }
 first_of (part text) is = record { byte = 36; more = _; spelled = refl; kind = at_part text refl refl }
-first_of (stereo s) is = let p = turn_begins s.turn in record { byte = 64; more = p.0 ++ mark_text s.unsure; spelled = ap (λ v. v ++ mark_text s.unsure) p.1; kind = at_stereo s refl refl }
+first_of (stereo s) is = let p = turn_begins s.turn in record {
+  byte = 64;
+  more = p.0 ++ mark_text s.unsure;
+  spelled =
+      ap (λ v. v ++ mark_text s.unsure) p.1;
+  kind = at_stereo s refl refl;
+}
 
 heads_one : (a c : ℕ) (r s : List ℕ) → a ∷ r ≡ c ∷ s → a ≡ c
 heads_one a c r s e = cc
 
 -- the primitive that bytes begin with, by their first byte
-pub kind_at : (x : Prim) (rest bytes r : List ℕ) (b : ℕ) → IsPrim x → bytes ≡ prim_text x ++ rest → bytes ≡ b ∷ r → KindAt b x
+pub kind_at : (x : Prim) (rest bytes r : List ℕ) (b : ℕ) → IsPrim x → bytes ≡ prim_text x ++ rest → bytes ≡ b ∷ r
+    → KindAt b x
 kind_at x rest bytes r b is h e =
     let f = first_of x is in
     let same : f.byte ≡ b = heads_one f.byte b (f.more ++ rest) r (sym (ap (λ v. v ++ rest) f.spelled) ∙ sym h ∙ e) in
     subst (λ (v : ℕ). KindAt v x) same f.kind
 
 pub some_first : (x : Prim) (rest : List ℕ) → IsPrim x → [] ≡ prim_text x ++ rest → ⊥
-some_first x rest is h = let f = first_of x is in let k : [] ≡ f.byte ∷ (f.more ++ rest) = h ∙ ap (λ v. v ++ rest) f.spelled in cc
+some_first x rest is h = let f = first_of x is in let k : [] ≡ f.byte ∷ (f.more ++ rest) = h
+    ∙ ap (λ v. v ++ rest) f.spelled in cc
 
 pub is_atomic : (x : Prim) → KindAt 35 x → (ds : List ℕ) × (x ≡ atomic ds)
 is_atomic x (at_stereo s e k) = absurd (omega arith)
@@ -152,7 +198,8 @@ is_mass x b digit (at_mass ds e k) = (ds, e)
 is_mass x b digit (at_part text e k) = absurd (let low = digit.0 in omega arith)
 is_mass x b digit (at_letter h k) = absurd (let high = digit.1 in let low = digit.0 in grind arith)
 
-pub is_letters : (x : Prim) (b : ℕ) → IsWord x → b ≢ 64 → b ≢ 35 → b ≢ 43 → b ≢ 45 → ¬ IsDigit b → KindAt b x → IsLettered x
+pub is_letters : (x : Prim) (b : ℕ) → IsWord x → b ≢ 64 → b ≢ 35 → b ≢ 43 → b ≢ 45 → ¬ IsDigit b → KindAt b x
+    → IsLettered x
 is_letters x b word u v w y z (at_stereo s e k) = absurd (u k)
 is_letters x b word u v w y z (at_atomic ds e k) = absurd (v k)
 is_letters x b word u v w y z (at_charge s e (inl k)) = absurd (w k)

@@ -37,7 +37,8 @@ lower_one small_se a e = absurd (cc)
 lower_one small_as a e = absurd (cc)
 
 -- no primitive of letters alone is this byte
-pub none_single : (a : ℕ) → a ≢ 42 → a ≢ 97 → a ≢ 65 → ((l : Lower) → IsOrganicLower l → lower_bytes l ≡ a ∷ [] → ⊥) → ((n : ℕ) → slice_get symbols n ≢ Some (a ∷ []))
+pub none_single : (a : ℕ) → a ≢ 42 → a ≢ 97 → a ≢ 65 → ((l : Lower) → IsOrganicLower l → lower_bytes l ≡ a ∷ [] → ⊥)
+    → ((n : ℕ) → slice_get symbols n ≢ Some (a ∷ []))
     → (x : Prim) → IsPrim x → IsBare x → prim_text x ≡ a ∷ [] → ⊥
 none_single a star small big lowers elements any is bare e = star (head_is 42 a e)
 none_single a star small big lowers elements aromatic is bare e = small (head_is 97 a e)

@@ -9,7 +9,8 @@ pub no_digit : (x : ℕ) (xs a : List ℕ) → IsDigit x → NoDigit a → a ≡
 no_digit x xs a d f e = let g : NoDigit (x ∷ xs) = subst NoDigit e f in g d
 
 -- all digits that bytes begin with are one run
-pub same_digits : (xs ys a b : List ℕ) → AllByRecursion IsDigit xs → AllByRecursion IsDigit ys → NoDigit a → NoDigit b → xs ++ a ≡ ys ++ b → (xs ≡ ys) × (a ≡ b)
+pub same_digits : (xs ys a b : List ℕ) → AllByRecursion IsDigit xs → AllByRecursion IsDigit ys → NoDigit a → NoDigit b
+    → xs ++ a ≡ ys ++ b → (xs ≡ ys) × (a ≡ b)
 same_digits [] [] a b dx dy fa fb h = (refl, h)
 same_digits [] (y ∷ ys) a b dx dy fa fb h = absurd (no_digit y (ys ++ b) a dy.0 fa h)
 same_digits (x ∷ xs) [] a b dx dy fa fb h = absurd (no_digit x (xs ++ a) b dx.0 fb (sym h))
@@ -20,7 +21,8 @@ same_digits (x ∷ xs) (y ∷ ys) a b dx dy fa fb h =
     (ap (λ w. w ∷ xs) p ∙ ap (λ w. y ∷ w) r.0, r.1)
 
 -- all signs that bytes begin with are one run
-pub same_run : (m n b : ℕ) (r s : List ℕ) → ((more : List ℕ) → r ≢ b ∷ more) → ((more : List ℕ) → s ≢ b ∷ more) → replicate m b ++ r ≡ replicate n b ++ s → (m ≡ n) × (r ≡ s)
+pub same_run : (m n b : ℕ) (r s : List ℕ) → ((more : List ℕ) → r ≢ b ∷ more) → ((more : List ℕ) → s ≢ b ∷ more)
+    → replicate m b ++ r ≡ replicate n b ++ s → (m ≡ n) × (r ≡ s)
 same_run zero zero b r s f g h = (refl, h)
 same_run zero (suc n) b r s f g h = absurd (f (replicate n b ++ s) h)
 same_run (suc m) zero b r s f g h = absurd (g (replicate m b ++ r) (sym h))
@@ -30,18 +32,21 @@ same_run (suc m) (suc n) b r s f g h =
     (ap suc p.0, p.1)
 
 -- what a reader of all digits answers, where these are wanted or not
-pub digits_taken : {V : Type 0} (P : List ℕ → Type 0) (value : List ℕ → V) (bytes digits rest : List ℕ) (v : V) → bytes ≡ digits ++ rest → AllByRecursion IsDigit digits → NoDigit rest → P digits → v ≡ value digits
+pub digits_taken : {V : Type 0} (P : List ℕ → Type 0) (value : List ℕ → V) (bytes digits rest : List ℕ) (v : V)
+    → bytes ≡ digits ++ rest → AllByRecursion IsDigit digits → NoDigit rest → P digits → v ≡ value digits
     → Takes (λ (d : List ℕ). d) (λ d. P d × AllByRecursion IsDigit d) (λ d r. NoDigit r) value bytes (Some (v, rest))
 digits_taken P value bytes digits rest v split are all p e = record {
   found = (digits, (p, are), split, all, e);
   only = λ x r is follows h. (same_digits digits x rest r are is.1 all follows (sym split ∙ h)).1;
 }
 
-pub digits_refused : {V : Type 0} (P : List ℕ → Type 0) (value : List ℕ → V) (bytes digits rest : List ℕ) → bytes ≡ digits ++ rest → AllByRecursion IsDigit digits → NoDigit rest → (P digits → ⊥)
+pub digits_refused : {V : Type 0} (P : List ℕ → Type 0) (value : List ℕ → V) (bytes digits rest : List ℕ)
+    → bytes ≡ digits ++ rest → AllByRecursion IsDigit digits → NoDigit rest → (P digits → ⊥)
     → Takes (λ (d : List ℕ). d) (λ d. P d × AllByRecursion IsDigit d) (λ d r. NoDigit r) value bytes None
 digits_refused P value bytes digits rest split are all never = record {
   found = tt;
-  only = λ x r is follows h. absurd (never (subst P (sym (same_digits digits x rest r are is.1 all follows (sym split ∙ h)).0) is.0));
+  only = λ x r is follows h. absurd
+      (never (subst P (sym (same_digits digits x rest r are is.1 all follows (sym split ∙ h)).0) is.0));
 }
 
 pub no_number : (digits : List ℕ) → length digits ≡ 0 → number_of digits ≡ None
@@ -62,21 +67,31 @@ has_none (d ∷ ds) l e = cc
 
 -- a number that may be left out, and one that may not
 abbrev pub AnyNumber : List ℕ → Option (Option ℕ × List ℕ) → Type 0
-AnyNumber = Takes (λ (digits : List ℕ). digits) (λ digits. (length digits ≤ 3) × AllByRecursion IsDigit digits) (λ digits rest. NoDigit rest) number_of
+AnyNumber = Takes (λ (digits : List ℕ). digits) (λ digits. (length digits ≤ 3) × AllByRecursion IsDigit digits)
+    (λ digits rest. NoDigit rest) number_of
 
 abbrev pub SomeNumber : List ℕ → Option (ℕ × List ℕ) → Type 0
 SomeNumber = Takes (λ (digits : List ℕ). digits) IsNumber (λ digits rest. NoDigit rest) value_of
 
-pub written_known : (bytes rest : List ℕ) (n : ℕ) → AnyNumber bytes (Some (Some n, rest)) → SomeNumber bytes (Some (n, rest))
+pub written_known : (bytes rest : List ℕ) (n : ℕ) → AnyNumber bytes (Some (Some n, rest))
+    → SomeNumber bytes (Some (n, rest))
 written_known bytes rest n r =
     let f = r.found in
     let d = has_digits n f.0 f.4 in
-    record { found = (f.0, (d.0, f.1.0, f.1.1), f.2, f.3, d.1); only = λ x s is follows h. r.only x s (is.1, is.2) follows h }
+    record {
+      found = (f.0, (d.0, f.1.0, f.1.1), f.2, f.3, d.1);
+      only = λ x s is follows h.
+          r.only x s (is.1, is.2) follows h;
+    }
 
 pub written_none : (bytes rest : List ℕ) → AnyNumber bytes (Some (None, rest)) → SomeNumber bytes None
 written_none bytes rest r =
     let f = r.found in
-    record { found = tt; only = λ x s is follows h. has_none x is.0 (f.4 ∙ ap number_of (same_digits f.0 x rest s f.1.1 is.2 f.3 follows (sym f.2 ∙ h)).0) }
+    record {
+      found = tt;
+      only = λ x s is follows h.
+          has_none x is.0 (f.4 ∙ ap number_of (same_digits f.0 x rest s f.1.1 is.2 f.3 follows (sym f.2 ∙ h)).0);
+    }
 
 pub written_refused : (bytes : List ℕ) → AnyNumber bytes None → SomeNumber bytes None
 written_refused bytes r = record { found = tt; only = λ x s is follows h. r.only x s (is.1, is.2) follows h }

@@ -25,10 +25,12 @@ same_front [] [] r s l m h = refl
 same_front [] (y ∷ ys) r s l m h = absurd (omega arith)
 same_front (x ∷ xs) [] r s l m h = absurd (omega arith)
 same_front (x ∷ xs) (y ∷ ys) r s l m h =
-    ap (λ v. v ∷ xs) (heads x y (xs ++ r) (ys ++ s) h) ∙ ap (λ v. y ∷ v) (same_front xs ys r s (omega arith) (omega arith) (tails x y (xs ++ r) (ys ++ s) h))
+    ap (λ v. v ∷ xs) (heads x y (xs ++ r) (ys ++ s) h)
+    ∙ ap (λ v. y ∷ v) (same_front xs ys r s (omega arith) (omega arith) (tails x y (xs ++ r) (ys ++ s) h))
 
 -- texts of which each parenthesis pairs, before a `)`
-part_by : (a b : Bool) (n : ℕ) (xs ys r s : List ℕ) → MatchBool a (IsBalancedIn (n + 1) xs) (MatchBool b ((1 ≤ n) × IsBalancedIn (n - 1) xs) (IsBalancedIn n xs))
+part_by : (a b : Bool) (n : ℕ) (xs ys r s : List ℕ)
+    → MatchBool a (IsBalancedIn (n + 1) xs) (MatchBool b ((1 ≤ n) × IsBalancedIn (n - 1) xs) (IsBalancedIn n xs))
     → MatchBool a (IsBalancedIn (n + 1) ys) (MatchBool b ((1 ≤ n) × IsBalancedIn (n - 1) ys) (IsBalancedIn n ys))
     → ((m : ℕ) → IsBalancedIn m xs → IsBalancedIn m ys → (xs ≡ ys) × (r ≡ s)) → (xs ≡ ys) × (r ≡ s)
 part_by true b n xs ys r s h k rec = rec (n + 1) h k
@@ -39,14 +41,19 @@ closed_by : (a : Bool) (n : ℕ) (ys : List ℕ) → (41 == 40) ≡ a → n ≡ 
 closed_by true n ys e z h = absurd (false≢true e)
 closed_by false n ys e z h = let low : 1 ≤ n = h.0 in omega arith
 
-pub same_part : (n : ℕ) (xs ys r s : List ℕ) → IsBalancedIn n xs → IsBalancedIn n ys → xs ++ 41 ∷ r ≡ ys ++ 41 ∷ s → (xs ≡ ys) × (r ≡ s)
+pub same_part : (n : ℕ) (xs ys r s : List ℕ) → IsBalancedIn n xs → IsBalancedIn n ys → xs ++ 41 ∷ r ≡ ys ++ 41 ∷ s
+    → (xs ≡ ys) × (r ≡ s)
 same_part n [] [] r s h k e = (refl, tails 41 41 r s e)
-same_part n [] (y ∷ ys) r s h k e = absurd (closed_by false n ys refl h (subst (λ (v : ℕ). IsBalancedIn n (v ∷ ys)) (sym (heads 41 y r (ys ++ 41 ∷ s) e)) k))
-same_part n (x ∷ xs) [] r s h k e = absurd (closed_by false n xs refl k (subst (λ (v : ℕ). IsBalancedIn n (v ∷ xs)) (heads x 41 (xs ++ 41 ∷ r) s e) h))
+same_part n [] (y ∷ ys) r s h k e =
+    absurd (closed_by false n ys refl h (subst (λ (v : ℕ). IsBalancedIn n (v ∷ ys))
+    (sym (heads 41 y r (ys ++ 41 ∷ s) e)) k))
+same_part n (x ∷ xs) [] r s h k e =
+    absurd (closed_by false n xs refl k (subst (λ (v : ℕ). IsBalancedIn n (v ∷ xs)) (heads x 41 (xs ++ 41 ∷ r) s e) h))
 same_part n (x ∷ xs) (y ∷ ys) r s h k e =
     let first = heads x y (xs ++ 41 ∷ r) (ys ++ 41 ∷ s) e in
     let rest = tails x y (xs ++ 41 ∷ r) (ys ++ 41 ∷ s) e in
-    let p = part_by (x == 40) (x == 41) n xs ys r s h (subst (λ (v : ℕ). IsBalancedIn n (v ∷ ys)) (sym first) k) (λ m a b. same_part m xs ys r s a b rest) in
+    let p = part_by (x == 40) (x == 41) n xs ys r s h (subst (λ (v : ℕ). IsBalancedIn n (v ∷ ys)) (sym first) k)
+    (λ m a b. same_part m xs ys r s a b rest) in
     (ap (λ v. v ∷ xs) first ∙ ap (λ v. y ∷ v) p.0, p.1)
 
 -- charges
@@ -56,19 +63,25 @@ same_sign plus minus e = absurd (omega arith)
 same_sign minus plus e = absurd (omega arith)
 same_sign minus minus e = refl
 
-run_number : (s t : Sign) (n : ℕ) (ds r q : List ℕ) → AreSigns (run s n) → AreSigns (amount t ds) → FollowsSigns (run s n) r → replicate n (sign_byte s) ++ r ≡ sign_byte t ∷ (ds ++ q) → ⊥
+run_number : (s t : Sign) (n : ℕ) (ds r q : List ℕ) → AreSigns (run s n) → AreSigns (amount t ds)
+    → FollowsSigns (run s n) r → replicate n (sign_byte s) ++ r ≡ sign_byte t ∷ (ds ++ q) → ⊥
 run_number s t zero ds r q is js f e = absurd (let low = is.0 in omega arith)
 run_number s t (suc zero) [] r q is js f e = absurd (let l = js.0 in omega arith)
-run_number s t (suc zero) (d ∷ ds) r q is js f e = no_digit d (ds ++ q) r js.2.0 f.1 (tails (sign_byte s) (sign_byte t) r (d ∷ (ds ++ q)) e)
-run_number s t (suc (suc n)) ds r q is js f e = digits_no_sign s ds q (replicate n (sign_byte s) ++ r) js (sym (tails (sign_byte s) (sign_byte t) _ (ds ++ q) e))
+run_number s t (suc zero) (d ∷ ds) r q is js f e =
+    no_digit d (ds ++ q) r js.2.0 f.1 (tails (sign_byte s) (sign_byte t) r (d ∷ (ds ++ q)) e)
+run_number s t (suc (suc n)) ds r q is js f e = digits_no_sign s ds q (replicate n (sign_byte s) ++ r) js
+    (sym (tails (sign_byte s) (sign_byte t) _ (ds ++ q) e))
 
-pub same_charge : (x y : Signs) (r s : List ℕ) → AreSigns x → AreSigns y → FollowsSigns x r → FollowsSigns y s → signs_text x ++ r ≡ signs_text y ++ s → x ≡ y
+pub same_charge : (x y : Signs) (r s : List ℕ) → AreSigns x → AreSigns y → FollowsSigns x r → FollowsSigns y s
+    → signs_text x ++ r ≡ signs_text y ++ s → x ≡ y
 same_charge (run a zero) (run b n) r s is js f g e = absurd (let low = is.0 in omega arith)
 same_charge (run a (suc m)) (run b zero) r s is js f g e = absurd (let low = js.0 in omega arith)
 same_charge (run a (suc m)) (run b (suc n)) r s is js f g e =
     let sign = same_sign a b (heads (sign_byte a) (sign_byte b) _ _ e) in
-    let spelled : replicate (suc m) (sign_byte b) ++ r ≡ replicate (suc n) (sign_byte b) ++ s = ap (λ v. replicate (suc m) (sign_byte v) ++ r) (sym sign) ∙ e in
-    let ends : (more : List ℕ) → r ≢ sign_byte b ∷ more = subst (λ (v : Sign). (more : List ℕ) → r ≢ sign_byte v ∷ more) sign f.0 in
+    let spelled : replicate (suc m) (sign_byte b) ++ r ≡ replicate (suc n) (sign_byte b) ++ s =
+    ap (λ v. replicate (suc m) (sign_byte v) ++ r) (sym sign) ∙ e in
+    let ends : (more : List ℕ) → r ≢ sign_byte b ∷ more = subst (λ (v : Sign). (more : List ℕ) → r ≢ sign_byte v ∷ more)
+    sign f.0 in
     let count = (same_run (suc m) (suc n) (sign_byte b) r s ends g.0 spelled).0 in
     ap (λ v. run v (suc m)) sign ∙ ap (λ v. run b v) count
 same_charge (run a m) (amount b ds) r s is js f g e = absurd (run_number a b m ds r s is js f e)
@@ -116,9 +129,14 @@ dropped tb v = refl
 dropped oh v = refl
 
 class_rest : (k j : ChiralClass) (r s : List ℕ) → class_bytes k ++ r ≡ class_bytes j ++ s → (k ≡ j) × (r ≡ s)
-class_rest k j r s e = (sym (class_is k r) ∙ ap class_back e ∙ class_is j s, sym (dropped k r) ∙ ap drop_two e ∙ dropped j s)
+class_rest k j r s e = (
+  sym (class_is k r) ∙ ap class_back e ∙ class_is j s,
+  sym (dropped k r) ∙ ap drop_two e
+      ∙ dropped j s,
+)
 
-class_long : (k : ChiralClass) (ds : List ℕ) (m n : Bool) (c : ℕ) → mark_text m ≡ class_bytes k ++ (ds ++ mark_text n) → ⊥
+class_long : (k : ChiralClass) (ds : List ℕ) (m n : Bool) (c : ℕ) → mark_text m ≡ class_bytes k ++ (ds ++ mark_text n)
+    → ⊥
 class_long th ds true n c e = absurd (let k = heads 63 84 _ _ e in omega arith)
 class_long al ds true n c e = absurd (let k = heads 63 65 _ _ e in omega arith)
 class_long sp ds true n c e = absurd (let k = heads 63 83 _ _ e in omega arith)
@@ -141,33 +159,44 @@ class_no_at sp r s e = absurd (let k = heads 64 83 _ _ e in omega arith)
 class_no_at tb r s e = absurd (let k = heads 64 84 _ _ e in omega arith)
 class_no_at oh r s e = absurd (let k = heads 64 79 _ _ e in omega arith)
 
-same_turn : (t u : Turn) (m n : Bool) → IsTurn t → IsTurn u → turn_text t ++ mark_text m ≡ turn_text u ++ mark_text n → (t ≡ u) × (m ≡ n)
+same_turn : (t u : Turn) (m n : Bool) → IsTurn t → IsTurn u → turn_text t ++ mark_text m ≡ turn_text u ++ mark_text n
+    → (t ≡ u) × (m ≡ n)
 same_turn one one m n is js e = (refl, same_mark m n (tails 64 64 _ _ e))
 same_turn one two m n is js e = absurd (mark_no_at m (mark_text n) (tails 64 64 _ _ e))
-same_turn one (numbered k ds) m n is js e = absurd (class_long k ds m n 0 (tails 64 64 _ _ e ∙ append_assoc (class_bytes k) ds (mark_text n)))
+same_turn one (numbered k ds) m n is js e =
+    absurd (class_long k ds m n 0 (tails 64 64 _ _ e ∙ append_assoc (class_bytes k) ds (mark_text n)))
 same_turn two one m n is js e = absurd (mark_no_at n (mark_text m) (sym (tails 64 64 _ _ e)))
 same_turn two two m n is js e = (refl, same_mark m n (tails 64 64 _ _ (tails 64 64 _ _ e)))
-same_turn two (numbered k ds) m n is js e = absurd (class_no_at k (mark_text m) (ds ++ mark_text n) (tails 64 64 _ _ e ∙ append_assoc (class_bytes k) ds (mark_text n)))
-same_turn (numbered k ds) one m n is js e = absurd (class_long k ds n m 0 (sym (tails 64 64 _ _ e) ∙ append_assoc (class_bytes k) ds (mark_text m)))
-same_turn (numbered k ds) two m n is js e = absurd (class_no_at k (mark_text n) (ds ++ mark_text m) (sym (tails 64 64 _ _ e) ∙ append_assoc (class_bytes k) ds (mark_text m)))
+same_turn two (numbered k ds) m n is js e =
+    absurd (class_no_at k (mark_text m) (ds ++ mark_text n) (tails 64 64 _ _ e
+    ∙ append_assoc (class_bytes k) ds (mark_text n)))
+same_turn (numbered k ds) one m n is js e =
+    absurd (class_long k ds n m 0 (sym (tails 64 64 _ _ e) ∙ append_assoc (class_bytes k) ds (mark_text m)))
+same_turn (numbered k ds) two m n is js e =
+    absurd (class_no_at k (mark_text n) (ds ++ mark_text m) (sym (tails 64 64 _ _ e)
+    ∙ append_assoc (class_bytes k) ds (mark_text m)))
 same_turn (numbered k ds) (numbered j es) m n is js e =
-    let p = class_rest k j (ds ++ mark_text m) (es ++ mark_text n) (sym (append_assoc (class_bytes k) ds (mark_text m)) ∙ tails 64 64 _ _ e ∙ append_assoc (class_bytes j) es (mark_text n)) in
+    let p = class_rest k j (ds ++ mark_text m) (es ++ mark_text n) (sym (append_assoc (class_bytes k) ds (mark_text m))
+    ∙ tails 64 64 _ _ e ∙ append_assoc (class_bytes j) es (mark_text n)) in
     let d = same_digits ds es (mark_text m) (mark_text n) is.2 js.2 (mark_no_digit m) (mark_no_digit n) p.1 in
     (ap (λ v. numbered v ds) p.0 ∙ ap (λ v. numbered j v) d.0, same_mark m n d.1)
 
-pub same_stereo : (x y : Stereo) (r s : List ℕ) → IsTurn x.turn → IsTurn y.turn → IsLongest x r → IsLongest y s → stereo_text x ++ r ≡ stereo_text y ++ s → x ≡ y
+pub same_stereo : (x y : Stereo) (r s : List ℕ) → IsTurn x.turn → IsTurn y.turn → IsLongest x r → IsLongest y s
+    → stereo_text x ++ r ≡ stereo_text y ++ s → x ≡ y
 same_stereo x y r s is js f g e =
     let text = same_front (stereo_text x) (stereo_text y) r s (g x r is (sym e)) (f y s js e) e in
     let p = same_turn x.turn y.turn x.unsure y.unsure is js text in
     stereo_by x.turn y.turn x.unsure y.unsure p.0 p.1
   where
-    stereo_by : (t u : Turn) (m n : Bool) → t ≡ u → m ≡ n → (let v : Stereo = record { turn = t; unsure = m } in v) ≡ record { turn = u; unsure = n }
+    stereo_by : (t u : Turn) (m n : Bool) → t ≡ u → m ≡ n → (let v : Stereo = record { turn = t; unsure = m } in v)
+        ≡ record { turn = u; unsure = n }
     stereo_by t u m n p q = cc
 
 -- symbols
 lower_back : List ℕ → Lower
 lower_back [] = small_b
-lower_back (a ∷ []) = cond (a == 98) small_b (cond (a == 99) small_c (cond (a == 110) small_n (cond (a == 111) small_o (cond (a == 112) small_p small_s))))
+lower_back (a ∷ []) = cond (a == 98) small_b
+    (cond (a == 99) small_c (cond (a == 110) small_n (cond (a == 111) small_o (cond (a == 112) small_p small_s))))
 lower_back (a ∷ b ∷ r) = cond (a == 115) small_se small_as
 
 lower_is : (l : Lower) → lower_back (lower_bytes l) ≡ l
@@ -229,16 +258,20 @@ same_bare any (lower l) is js bx by e = absurd ((lower_no l 42 (sym e)).0 refl)
 same_bare aromatic any is js bx by e = absurd (let k = heads 97 42 [] [] e in omega arith)
 same_bare aromatic aromatic is js bx by e = refl
 same_bare aromatic aliphatic is js bx by e = absurd (let k = heads 97 65 [] [] e in omega arith)
-same_bare aromatic (element n) is js bx by e = absurd (not_single (get_or symbols n []) 97 test_97 (sym e) (element_passes n js.1))
+same_bare aromatic (element n) is js bx by e =
+    absurd (not_single (get_or symbols n []) 97 test_97 (sym e) (element_passes n js.1))
 same_bare aromatic (lower l) is js bx by e = absurd ((lower_no l 97 (sym e)).1 refl)
 same_bare aliphatic any is js bx by e = absurd (let k = heads 65 42 [] [] e in omega arith)
 same_bare aliphatic aromatic is js bx by e = absurd (let k = heads 65 97 [] [] e in omega arith)
 same_bare aliphatic aliphatic is js bx by e = refl
-same_bare aliphatic (element n) is js bx by e = absurd (not_single (get_or symbols n []) 65 test_65 (sym e) (element_passes n js.1))
+same_bare aliphatic (element n) is js bx by e =
+    absurd (not_single (get_or symbols n []) 65 test_65 (sym e) (element_passes n js.1))
 same_bare aliphatic (lower l) is js bx by e = absurd ((lower_no l 65 (sym e)).2 refl)
 same_bare (element n) any is js bx by e = absurd (element_no_star n is.0 is.1 e)
-same_bare (element n) aromatic is js bx by e = absurd (not_single (get_or symbols n []) 97 test_97 e (element_passes n is.1))
-same_bare (element n) aliphatic is js bx by e = absurd (not_single (get_or symbols n []) 65 test_65 e (element_passes n is.1))
+same_bare (element n) aromatic is js bx by e =
+    absurd (not_single (get_or symbols n []) 97 test_97 e (element_passes n is.1))
+same_bare (element n) aliphatic is js bx by e =
+    absurd (not_single (get_or symbols n []) 65 test_65 e (element_passes n is.1))
 same_bare (element n) (element m) is js bx by e = ap (λ v. element v) (same_element n m is.1 js.1 e)
 same_bare (element n) (lower l) is js bx by e = absurd (element_not_lower n l [] [] is.1 (ap (λ v. v ++ []) e))
 same_bare (lower l) any is js bx by e = absurd ((lower_no l 42 e).0 refl)

@@ -17,7 +17,8 @@ both : (u v : Bool) → (u && v) ≡ true → (u ≡ true) × (v ≡ true)
 both true v h = (refl, h)
 both false v h = absurd (false≢true h)
 
-pub passes_at : (test : List ℕ → Bool) (xs : List (List ℕ)) (k : ℕ) → list_all test xs ≡ true → k < length xs → test (get_or xs k []) ≡ true
+pub passes_at : (test : List ℕ → Bool) (xs : List (List ℕ)) (k : ℕ) → list_all test xs ≡ true → k < length xs
+    → test (get_or xs k []) ≡ true
 passes_at test [] k h l = absurd (omega arith)
 passes_at test (x ∷ xs) zero h l = (both (test x) (list_all test xs) h).0
 passes_at test (x ∷ xs) (suc k) h l = passes_at test xs k (both (test x) (list_all test xs) h).1 (omega arith)
@@ -37,7 +38,8 @@ pub data Shape (x : Prim) : Type 0 where
   two : (a b : ℕ) → IsBare x → prim_text x ≡ a ∷ b ∷ [] → AreSymbol a b → Shape x
   letter : (l : Letter) (ds : List ℕ) → x ≡ counted l ds → Shape x
 
-element_by : (n : ℕ) (text : List ℕ) → slice_get symbols n ≡ Some text → get_or symbols n [] ≡ text → short_test text ≡ true → Shape (element n)
+element_by : (n : ℕ) (text : List ℕ) → slice_get symbols n ≡ Some text → get_or symbols n [] ≡ text → short_test text
+    ≡ true → Shape (element n)
 unfolding short_test
 element_by n [] at e h = absurd (false≢true h)
 element_by n (a ∷ []) at e h = one a tt e
@@ -61,13 +63,15 @@ shape_of aliphatic is lettered = one 65 tt refl
 shape_of (element n) is lettered =
     let l = length-symbols in
     let high = is.1 in
-    element_by n (get_or symbols n []) (slice_get-get_or symbols n [] (omega arith)) refl (passes_at short_test symbols n all_short (omega arith))
+    element_by n (get_or symbols n []) (slice_get-get_or symbols n [] (omega arith)) refl
+    (passes_at short_test symbols n all_short (omega arith))
 shape_of (lower l) is lettered = lower_shape l
 shape_of (counted l ds) is lettered = letter l ds refl
 shape_of _ is lettered = absurd lettered
 
 -- what may follow primitives of one and of two bytes
-pub one_follows : (x : Prim) (a : ℕ) (rest : List ℕ) → IsBare x → prim_text x ≡ a ∷ [] → StandsAlone a rest → FollowsPrim x rest
+pub one_follows : (x : Prim) (a : ℕ) (rest : List ℕ) → IsBare x → prim_text x ≡ a ∷ [] → StandsAlone a rest
+    → FollowsPrim x rest
 one_follows any a rest bare e alone = tt
 one_follows aromatic a rest bare e alone = let k : a ≡ 97 = cc in subst (λ (v : ℕ). StandsAlone v rest) k alone
 one_follows aliphatic a rest bare e alone = let k : a ≡ 65 = cc in subst (λ (v : ℕ). StandsAlone v rest) k alone
@@ -87,7 +91,8 @@ two_follows (lower l) a b rest bare e = subst (λ (v : List ℕ). IsWhole v rest
 two_follows _ a b rest bare e = absurd bare
 
 -- what a primitive of one byte asks of what follows: but for `*` its byte stands alone
-pub one_alone : (x : Prim) (a : ℕ) (rest : List ℕ) → IsBare x → prim_text x ≡ a ∷ [] → FollowsPrim x rest → (a ≡ 42) ⊎ StandsAlone a rest
+pub one_alone : (x : Prim) (a : ℕ) (rest : List ℕ) → IsBare x → prim_text x ≡ a ∷ [] → FollowsPrim x rest → (a ≡ 42)
+    ⊎ StandsAlone a rest
 one_alone any a rest bare e follows = inl (cc)
 one_alone aromatic a rest bare e follows = let k : 97 ≡ a = cc in inr (subst (λ (v : ℕ). StandsAlone v rest) k follows)
 one_alone aliphatic a rest bare e follows = let k : 65 ≡ a = cc in inr (subst (λ (v : ℕ). StandsAlone v rest) k follows)
@@ -146,13 +151,15 @@ pub symbol_first : (a b : ℕ) → AreSymbol a b → a ≢ 42
 symbol_first a b (inl e) =
     let l = length-symbols in
     let within = slice_get_within symbols e.0 (a ∷ b ∷ []) e.1 in
-    star_passes (get_or symbols e.0 []) a b (get_or_from_slice_get symbols e.0 (a ∷ b ∷ []) [] e.1) (passes_at star_test symbols e.0 no_star within)
+    star_passes (get_or symbols e.0 []) a b (get_or_from_slice_get symbols e.0 (a ∷ b ∷ []) [] e.1)
+    (passes_at star_test symbols e.0 no_star within)
 symbol_first a b (inr l) = let low = (lower_second l.0 a b l.1).0 in λ e. omega arith
 
 -- a byte that is no letter of a count
 letter_test : List ℕ → Bool
 letter_test (x ∷ []) =
-    not (x == 68) && (not (x == 104) && (not (x == 82) && (not (x == 114) && (not (x == 118) && (not (x == 88) && not (x == 120))))))
+    not (x == 68) && (not (x == 104)
+    && (not (x == 82) && (not (x == 114) && (not (x == 118) && (not (x == 88) && not (x == 120))))))
 letter_test _ = true
 
 no_letter : list_all letter_test symbols ≡ true
@@ -161,14 +168,20 @@ no_letter = refl
 
 letter_passes : (text : List ℕ) (l : Letter) → text ≡ letter_byte l ∷ [] → letter_test text ≡ true → letter_byte l ≡ 72
 unfolding letter_test
-letter_passes text letters.Degree e h = absurd (let k = subst (λ (v : List ℕ). letter_test v ≡ true) e h in false≢true k)
+letter_passes text letters.Degree e h = absurd (let k = subst (λ (v : List ℕ). letter_test v ≡ true) e h in
+    false≢true k)
 letter_passes text letters.TotalH e h = refl
-letter_passes text letters.ImplicitH e h = absurd (let k = subst (λ (v : List ℕ). letter_test v ≡ true) e h in false≢true k)
+letter_passes text letters.ImplicitH e h = absurd (let k = subst (λ (v : List ℕ). letter_test v ≡ true) e h in
+    false≢true k)
 letter_passes text letters.Rings e h = absurd (let k = subst (λ (v : List ℕ). letter_test v ≡ true) e h in false≢true k)
-letter_passes text letters.RingSize e h = absurd (let k = subst (λ (v : List ℕ). letter_test v ≡ true) e h in false≢true k)
-letter_passes text letters.Valence e h = absurd (let k = subst (λ (v : List ℕ). letter_test v ≡ true) e h in false≢true k)
-letter_passes text letters.Connect e h = absurd (let k = subst (λ (v : List ℕ). letter_test v ≡ true) e h in false≢true k)
-letter_passes text letters.RingBonds e h = absurd (let k = subst (λ (v : List ℕ). letter_test v ≡ true) e h in false≢true k)
+letter_passes text letters.RingSize e h = absurd (let k = subst (λ (v : List ℕ). letter_test v ≡ true) e h in
+    false≢true k)
+letter_passes text letters.Valence e h = absurd (let k = subst (λ (v : List ℕ). letter_test v ≡ true) e h in
+    false≢true k)
+letter_passes text letters.Connect e h = absurd (let k = subst (λ (v : List ℕ). letter_test v ≡ true) e h in
+    false≢true k)
+letter_passes text letters.RingBonds e h = absurd (let k = subst (λ (v : List ℕ). letter_test v ≡ true) e h in
+    false≢true k)
 
 head_of : (a b : ℕ) → a ∷ [] ≡ b ∷ [] → a ≡ b
 head_of a b e = cc
@@ -215,12 +228,17 @@ bare_no_letter aliphatic l is bare e = (low_letter l).2 (sym (head_of 65 _ e))
 bare_no_letter (element n) l is bare e =
     let k = length-symbols in
     let high = is.1 in
-    none_hydrogen (element n) is tt (letter_byte l) e (letter_passes (get_or symbols n []) l e (passes_at letter_test symbols n no_letter (omega arith)))
+    none_hydrogen (element n) is tt (letter_byte l) e (letter_passes (get_or symbols n []) l e
+    (passes_at letter_test symbols n no_letter (omega arith)))
 bare_no_letter (lower m) l is bare e = count_letter l (lower_letter m (letter_byte l) e)
 bare_no_letter _ l is bare e = absurd bare
 
 letter_from : ℕ → Letter
-letter_from a = cond (a == 68) letters.Degree (cond (a == 72) letters.TotalH (cond (a == 104) letters.ImplicitH (cond (a == 82) letters.Rings (cond (a == 114) letters.RingSize (cond (a == 118) letters.Valence (cond (a == 88) letters.Connect letters.RingBonds))))))
+letter_from a = cond (a == 68) letters.Degree
+    (cond (a == 72) letters.TotalH
+    (cond (a == 104) letters.ImplicitH
+    (cond (a == 82) letters.Rings (cond (a == 114) letters.RingSize
+    (cond (a == 118) letters.Valence (cond (a == 88) letters.Connect letters.RingBonds))))))
 
 letter_back : (l : Letter) → letter_from (letter_byte l) ≡ l
 unfolding letter_from

@@ -14,14 +14,16 @@ heads : (a b : ℕ) (r s : List ℕ) → a ∷ r ≡ b ∷ s → a ≡ b
 heads a b r s e = cc
 
 -- bytes without `]` that stand at the front stand before it
-before_end : (xs ys s more : List ℕ) → AllByRecursion (λ b. b ≢ 93) ys → xs ++ 93 ∷ s ≡ ys ++ more → (rest : List ℕ) × (xs ≡ ys ++ rest)
+before_end : (xs ys s more : List ℕ) → AllByRecursion (λ b. b ≢ 93) ys → xs ++ 93 ∷ s ≡ ys ++ more → (rest : List ℕ)
+    × (xs ≡ ys ++ rest)
 before_end xs [] s more none h = (xs, refl)
 before_end [] (y ∷ ys) s more none h = absurd (none.0 (sym (heads 93 y s (ys ++ more) h)))
 before_end (x ∷ xs) (y ∷ ys) s more none h =
     let p = before_end xs ys s more none.1 (tails x y (xs ++ 93 ∷ s) (ys ++ more) h) in
     (p.0, ap (λ v. v ∷ xs) (heads x y (xs ++ 93 ∷ s) (ys ++ more) h) ∙ ap (λ v. y ∷ v) p.1)
 
-all_append : (xs ys : List ℕ) → AllByRecursion (λ b. b ≢ 93) xs → AllByRecursion (λ b. b ≢ 93) ys → AllByRecursion (λ b. b ≢ 93) (xs ++ ys)
+all_append : (xs ys : List ℕ) → AllByRecursion (λ b. b ≢ 93) xs → AllByRecursion (λ b. b ≢ 93) ys
+    → AllByRecursion (λ b. b ≢ 93) (xs ++ ys)
 all_append [] ys h k = k
 all_append (x ∷ xs) ys h k = (h.0, all_append xs ys h.1 k)
 
@@ -47,8 +49,10 @@ turn_none (numbered k ds) is = (λ e. omega arith, all_append (class_bytes k) ds
 
 longest_end : (x : Stereo) (w r s : List ℕ) → IsLongest x (w ++ 93 ∷ r) → IsLongest x (w ++ 93 ∷ s)
 longest_end x w r s longest y more is e =
-    let p = before_end (stereo_text x ++ w) (stereo_text y) s more (all_append (turn_text y.turn) (mark_text y.unsure) (turn_none y.turn is) (mark_none y.unsure)) (append_assoc (stereo_text x) w (93 ∷ s) ∙ e) in
-    longest y (p.0 ++ 93 ∷ r) is (sym (append_assoc (stereo_text x) w (93 ∷ r)) ∙ ap (λ v. v ++ 93 ∷ r) p.1 ∙ append_assoc (stereo_text y) p.0 (93 ∷ r))
+    let p = before_end (stereo_text x ++ w) (stereo_text y) s more (all_append (turn_text y.turn) (mark_text y.unsure)
+    (turn_none y.turn is) (mark_none y.unsure)) (append_assoc (stereo_text x) w (93 ∷ s) ∙ e) in
+    longest y (p.0 ++ 93 ∷ r) is (sym (append_assoc (stereo_text x) w (93 ∷ r)) ∙ ap (λ v. v ++ 93 ∷ r) p.1
+    ∙ append_assoc (stereo_text y) p.0 (93 ∷ r))
 
 alone_end : (a : ℕ) (w r s : List ℕ) → StandsAlone a (w ++ 93 ∷ r) → StandsAlone a (w ++ 93 ∷ s)
 alone_end a [] r s h = h
@@ -63,7 +67,8 @@ whole_end [] w r s h = tt
 whole_end (a ∷ []) w r s h = alone_end a w r s h
 whole_end (a ∷ b ∷ bs) w r s h = tt
 
-byte_end : (b : ℕ) (w r s : List ℕ) → ((more : List ℕ) → w ++ 93 ∷ r ≢ b ∷ more) → (more : List ℕ) → w ++ 93 ∷ s ≢ b ∷ more
+byte_end : (b : ℕ) (w r s : List ℕ) → ((more : List ℕ) → w ++ 93 ∷ r ≢ b ∷ more) → (more : List ℕ) → w ++ 93 ∷ s ≢ b
+    ∷ more
 byte_end b [] r s h more e = h r (ap (λ v. v ∷ r) (heads 93 b s more e))
 byte_end b (x ∷ xs) r s h more e = h (xs ++ 93 ∷ r) (ap (λ v. v ∷ (xs ++ 93 ∷ r)) (heads x b (xs ++ 93 ∷ s) more e))
 
@@ -87,12 +92,24 @@ follows_end (stereo x) w r s h = longest_end x w r s h
 
 moved : (p : Prim) (w c r s : List ℕ) → FollowsPrim p (w ++ (c ++ 93 ∷ r)) → FollowsPrim p (w ++ (c ++ 93 ∷ s))
 moved p w c r s h =
-    subst (λ (v : List ℕ). FollowsPrim p v) (append_assoc w c (93 ∷ s)) (follows_end p (w ++ c) r s (subst (λ (v : List ℕ). FollowsPrim p v) (sym (append_assoc w c (93 ∷ r))) h))
+    subst (λ (v : List ℕ). FollowsPrim p v) (append_assoc w c (93 ∷ s))
+    (follows_end p (w ++ c) r s (subst (λ (v : List ℕ). FollowsPrim p v) (sym (append_assoc w c (93 ∷ r))) h))
 
-more_moved : (xs : List (Joining × Operand Prim)) (c r s : List ℕ) → expression.AreMore prim_text IsPrim FollowsPrim word_of part_of xs (c ++ 93 ∷ r) → expression.AreMore prim_text IsPrim FollowsPrim word_of part_of xs (c ++ 93 ∷ s)
+more_moved : (xs : List (Joining × Operand Prim)) (c r s : List ℕ) → expression.AreMore prim_text IsPrim FollowsPrim
+    word_of part_of xs (c ++ 93 ∷ r) → expression.AreMore prim_text IsPrim FollowsPrim word_of part_of xs (c ++ 93 ∷ s)
 more_moved [] c r s h = tt
-more_moved (x ∷ xs) c r s h = (h.0, moved x.1.prim (expression.more_text prim_text IsPrim FollowsPrim word_of part_of xs) c r s h.1, more_moved xs c r s h.2)
+more_moved (x ∷ xs) c r s h = (
+  h.0,
+  moved x.1.prim (expression.more_text prim_text IsPrim FollowsPrim word_of part_of xs) c r s h.1,
+  more_moved xs c r s h.2,
+)
 
 -- an expression before the end of a bracket, whatever stands after it
-pub expression_moved : (e : Expression Prim) (c r s : List ℕ) → IsExpression e (c ++ 93 ∷ r) → IsExpression e (c ++ 93 ∷ s)
-expression_moved e c r s h = (h.0, moved e.first.prim (expression.more_text prim_text IsPrim FollowsPrim word_of part_of e.more) c r s h.1, more_moved e.more c r s h.2)
+pub expression_moved : (e : Expression Prim) (c r s : List ℕ) → IsExpression e (c ++ 93 ∷ r)
+    → IsExpression e (c ++ 93 ∷ s)
+expression_moved e c r s h = (
+  h.0,
+  moved e.first.prim (expression.more_text prim_text IsPrim FollowsPrim word_of part_of
+      e.more) c r s h.1,
+  more_moved e.more c r s h.2,
+)

@@ -43,7 +43,8 @@ one_of (x ∷ xs) b (inl e) = let p = agree_with b x e in ap (λ t. t || list_an
 one_of (x ∷ xs) b (inr k) = ap (λ t. (b == x) || t) (one_of xs b k) ∙ or_true (b == x)
 
 -- two sets that share no byte
-pub share_none : (xs ys : List ℕ) (b : ℕ) → list_all (λ x. not (list_any (λ y. x == y) ys)) xs ≡ true → IsOneOf xs b → IsOneOf ys b → ⊥
+pub share_none : (xs ys : List ℕ) (b : ℕ) → list_all (λ x. not (list_any (λ y. x == y) ys)) xs ≡ true → IsOneOf xs b
+    → IsOneOf ys b → ⊥
 share_none xs ys b h p q =
     let no = passes (λ x. not (list_any (λ y. x == y) ys)) xs b h p in
     let yes = ap not (one_of ys b q) in
@@ -81,12 +82,14 @@ no_digit_by b h = elim (cases_lt b 48) [
 ]
 
 -- a set within another
-pub goes_within : (xs ys rest : List ℕ) → list_all (λ x. list_any (λ y. x == y) ys) xs ≡ true → GoesOn xs rest → GoesOn ys rest
+pub goes_within : (xs ys rest : List ℕ) → list_all (λ x. list_any (λ y. x == y) ys) xs ≡ true → GoesOn xs rest
+    → GoesOn ys rest
 goes_within xs ys [] h g = g
 goes_within xs ys (b ∷ bs) h g = is_one_of ys b (passes (λ x. list_any (λ y. x == y) ys) xs b h g)
 
 -- a set without digits
-pub goes_no_digit : (xs rest : List ℕ) → list_all (λ x. not (leb 48 x && leb x 57)) xs ≡ true → GoesOn xs rest → NoDigitFirst rest
+pub goes_no_digit : (xs rest : List ℕ) → list_all (λ x. not (leb 48 x && leb x 57)) xs ≡ true → GoesOn xs rest
+    → NoDigitFirst rest
 goes_no_digit xs [] h g = tt
 goes_no_digit xs (b ∷ bs) h g = no_digit_by b (passes (λ x. not (leb 48 x && leb x 57)) xs b h g)
 
@@ -95,7 +98,10 @@ letter_by : (c : ℕ) → not ((c == 108) || (c == 114)) ≡ true → (c ≢ 108
 letter_by c h = (λ e. grind (arith, nat_tests), λ e. grind (arith, nat_tests))
 
 walk_letter : (c : ℕ) → IsWalkByte c → (c ≢ 108) × (c ≢ 114)
-walk_letter c h = (λ e. false≢true (sym (ap walk_test e) ∙ is_walk c h), λ e. false≢true (sym (ap walk_test e) ∙ is_walk c h))
+walk_letter c h = (
+  λ e. false≢true (sym (ap walk_test e) ∙ is_walk c h),
+  λ e. false≢true (sym (ap walk_test e) ∙ is_walk c h),
+)
 
 pub no_second_letter : (c : ℕ) (cs : List ℕ) → AfterAtom smiles_words (c ∷ cs) → (c ≢ 108) × (c ≢ 114)
 no_second_letter c cs (inl h) = walk_letter c h

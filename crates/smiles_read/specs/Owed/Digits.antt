@@ -15,7 +15,8 @@ no_digit x xs a d f e =
     elim g [ inl p ↦ omega arith | inr p ↦ omega arith ]
 
 -- all digits that bytes begin with are one run
-pub same_digits : (xs ys a b : List ℕ) → AllByRecursion IsDigit xs → AllByRecursion IsDigit ys → NoDigitFirst a → NoDigitFirst b → xs ++ a ≡ ys ++ b → (xs ≡ ys) × (a ≡ b)
+pub same_digits : (xs ys a b : List ℕ) → AllByRecursion IsDigit xs → AllByRecursion IsDigit ys → NoDigitFirst a
+    → NoDigitFirst b → xs ++ a ≡ ys ++ b → (xs ≡ ys) × (a ≡ b)
 same_digits [] [] a b dx dy fa fb h = (refl, h)
 same_digits [] (y ∷ ys) a b dx dy fa fb h = absurd (no_digit y (ys ++ b) a dy.0 fa h)
 same_digits (x ∷ xs) [] a b dx dy fa fb h = absurd (no_digit x (xs ++ a) b dx.0 fb (sym h))
@@ -33,10 +34,12 @@ pub data Short (n : ℕ) : Type 0 where
 pub short : (n : ℕ) → n ≤ 99 → Short n
 short n le = elim (cases_lt n 10) [
   | inl l ↦ one l (decimal_digit n l)
-  | inr l ↦ two l (decimal_step n l (omega arith) ∙ ap (λ w. w ++ ((48 + n % 10) ∷ [])) (decimal_digit (n / 10) (omega arith)))
+  | inr l ↦ two l (decimal_step n l (omega arith)
+      ∙ ap (λ w. w ++ ((48 + n % 10) ∷ [])) (decimal_digit (n / 10) (omega arith)))
 ]
 
-digits_by : (n : ℕ) (xs : List ℕ) → n ≤ 99 → decimal n ≡ xs → AllByRecursion IsDigit xs → AllByRecursion IsDigit (decimal n)
+digits_by : (n : ℕ) (xs : List ℕ) → n ≤ 99 → decimal n ≡ xs → AllByRecursion IsDigit xs
+    → AllByRecursion IsDigit (decimal n)
 digits_by n xs le e h = subst (λ (w : List ℕ). AllByRecursion IsDigit w) (sym e) h
 
 digits_short : (n : ℕ) → n ≤ 99 → Short n → AllByRecursion IsDigit (decimal n)
@@ -65,7 +68,8 @@ one_only [] n l le h = absurd (omega arith)
 one_only (a ∷ []) n l le h = one_only_by a n (short n le) h
 one_only (a ∷ b ∷ xs) n l le h = absurd (omega arith)
 
-two_value : (a b : ℕ) → IsDigit a → IsDigit b → a ≢ 48 → (10 ≤ 10 * (a - 48) + (b - 48)) × (10 * (a - 48) + (b - 48) ≤ 99)
+two_value : (a b : ℕ) → IsDigit a → IsDigit b → a ≢ 48 → (10 ≤ 10 * (a - 48) + (b - 48))
+    × (10 * (a - 48) + (b - 48) ≤ 99)
     × (48 + (10 * (a - 48) + (b - 48)) / 10 ≡ a) × (48 + (10 * (a - 48) + (b - 48)) % 10 ≡ b)
 two_value a b ha hb ne =
     let la = ha.0 in
@@ -78,7 +82,8 @@ two_spelled : (a b n : ℕ) → Short n → 10 ≤ n → 48 + n / 10 ≡ a → 4
 two_spelled a b n (one l e) ten p q = absurd (omega arith)
 two_spelled a b n (two l e) ten p q = ap (λ w. w ∷ b ∷ []) (sym p) ∙ ap (λ w. (48 + n / 10) ∷ w ∷ []) (sym q) ∙ sym e
 
-pub two_found : (xs : List ℕ) → length xs ≡ 2 → AllByRecursion IsDigit xs → get_or xs 0 0 ≢ 48 → xs ≡ decimal (10 * (get_or xs 0 0 - 48) + (get_or xs 1 0 - 48))
+pub two_found : (xs : List ℕ) → length xs ≡ 2 → AllByRecursion IsDigit xs → get_or xs 0 0 ≢ 48
+    → xs ≡ decimal (10 * (get_or xs 0 0 - 48) + (get_or xs 1 0 - 48))
 two_found [] l h ne = absurd (omega arith)
 two_found (a ∷ []) l h ne = absurd (omega arith)
 two_found (a ∷ b ∷ []) l h ne = let v = two_value a b h.0 h.1.0 ne in two_spelled a b _ (short _ v.1) v.0 v.2 v.3
@@ -92,7 +97,8 @@ two_only_by a b n (two l e) h =
     let q : b ≡ 48 + n % 10 = cc in
     (omega arith, omega arith)
 
-pub two_only : (xs : List ℕ) (n : ℕ) → length xs ≡ 2 → n ≤ 99 → xs ≡ decimal n → (10 * (get_or xs 0 0 - 48) + (get_or xs 1 0 - 48) ≡ n) × (49 ≤ get_or xs 0 0)
+pub two_only : (xs : List ℕ) (n : ℕ) → length xs ≡ 2 → n ≤ 99 → xs ≡ decimal n
+    → (10 * (get_or xs 0 0 - 48) + (get_or xs 1 0 - 48) ≡ n) × (49 ≤ get_or xs 0 0)
 two_only [] n l le h = absurd (omega arith)
 two_only (a ∷ []) n l le h = absurd (omega arith)
 two_only (a ∷ b ∷ []) n l le h = two_only_by a b n (short n le) h
@@ -106,7 +112,8 @@ pub other_only : (xs : List ℕ) (n : ℕ) → n ≤ 99 → xs ≡ decimal n →
 other_only xs n le h = length_by xs n (short n le) h
 
 -- the value of one, two and three digits by their places
-pub one_value : (xs : List ℕ) → length xs ≡ 1 → AllByRecursion IsDigit xs → (get_or xs 0 0 - 48 ≡ value_of xs) × (get_or xs 0 0 ≤ 57) × (48 ≤ get_or xs 0 0)
+pub one_value : (xs : List ℕ) → length xs ≡ 1 → AllByRecursion IsDigit xs → (get_or xs 0 0 - 48 ≡ value_of xs)
+    × (get_or xs 0 0 ≤ 57) × (48 ≤ get_or xs 0 0)
 one_value [] l h = absurd (omega arith)
 one_value (a ∷ []) l h = (omega arith, h.0.1, h.0.0)
 one_value (a ∷ b ∷ xs) l h = absurd (omega arith)
@@ -122,7 +129,8 @@ by_places : (u v w : ℕ) → 100 * u + 10 * v + w ≡ 10 * (10 * (10 * 0 + u) +
 by_places u v w = omega arith
 
 pub three_digits : (xs : List ℕ) → length xs ≡ 3 → AllByRecursion IsDigit xs
-    → (100 * (get_or xs 0 0 - 48) + 10 * (get_or xs 1 0 - 48) + (get_or xs 2 0 - 48) ≡ value_of xs) × (get_or xs 0 0 ≤ 57) × (get_or xs 1 0 ≤ 57) × (get_or xs 2 0 ≤ 57)
+    → (100 * (get_or xs 0 0 - 48) + 10 * (get_or xs 1 0 - 48) + (get_or xs 2 0 - 48) ≡ value_of xs)
+    × (get_or xs 0 0 ≤ 57) × (get_or xs 1 0 ≤ 57) × (get_or xs 2 0 ≤ 57)
 three_digits [] l h = absurd (omega arith)
 three_digits (a ∷ []) l h = absurd (omega arith)
 three_digits (a ∷ b ∷ []) l h = absurd (omega arith)

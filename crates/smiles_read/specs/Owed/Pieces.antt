@@ -53,15 +53,18 @@ chiral_then (numbered k n) r h = inl refl
 after_class_none : (rest after : List ℕ) → AfterClass rest → 58 ∷ after ≡ rest → ⊥
 after_class_none rest after h e = let g : AfterClass (58 ∷ after) = subst AfterClass (sym e) h in omega arith
 
-pub class_only : (x : Option (List ℕ)) (rest bytes after ds r : List ℕ) → IsClass x → AfterClass rest → bytes ≡ class_text x ++ rest
+pub class_only : (x : Option (List ℕ)) (rest bytes after ds r : List ℕ) → IsClass x → AfterClass rest
+    → bytes ≡ class_text x ++ rest
     → bytes ≡ 58 ∷ after → after ≡ ds ++ r → AllByRecursion IsDigit ds → NoDigitFirst r → r ≡ rest
-class_only None rest bytes after ds r is follows h front split digits all = absurd (after_class_none rest after follows (sym front ∙ h))
+class_only None rest bytes after ds r is follows h front split digits all =
+    absurd (after_class_none rest after follows (sym front ∙ h))
 class_only (Some es) rest bytes after ds r is follows h front split digits all =
     let k : 58 ∷ after ≡ 58 ∷ (es ++ rest) = sym front ∙ h in
     let e : ds ++ r ≡ es ++ rest = cc in
     (same_digits ds es r rest digits is.1 all (class_no_digit rest follows) e).1
 
-pub same_class : (x y : Option (List ℕ)) (a b : List ℕ) → IsClass x → IsClass y → AfterClass a → AfterClass b → class_text x ++ a ≡ class_text y ++ b → (x ≡ y) × (a ≡ b)
+pub same_class : (x y : Option (List ℕ)) (a b : List ℕ) → IsClass x → IsClass y → AfterClass a → AfterClass b
+    → class_text x ++ a ≡ class_text y ++ b → (x ≡ y) × (a ≡ b)
 same_class None None a b ix iy fa fb h = (refl, h)
 same_class None (Some es) a b ix iy fa fb h = absurd (after_class_none a (es ++ b) fa (sym h))
 same_class (Some ds) None a b ix iy fa fb h = absurd (after_class_none b (ds ++ a) fb h)
@@ -96,7 +99,11 @@ rest_is tb r = refl
 rest_is oh r = refl
 
 same_kind : (k l : ChiralClass) (a b : List ℕ) → class_bytes k ++ a ≡ class_bytes l ++ b → (k ≡ l) × (a ≡ b)
-same_kind k l a b h = (sym (kind_is k a) ∙ ap kind_from h ∙ kind_is l b, sym (rest_is k a) ∙ ap after_two h ∙ rest_is l b)
+same_kind k l a b h = (
+  sym (kind_is k a) ∙ ap kind_from h ∙ kind_is l b,
+  sym (rest_is k a) ∙ ap after_two h
+      ∙ rest_is l b,
+)
 
 -- a class begins with none of the bytes that may follow a mark, and not with `@`
 kind_first : (k : ChiralClass) (r : List ℕ) → AfterSymbol (class_bytes k ++ r) → ⊥
@@ -109,7 +116,8 @@ kind_first oh r h = grind arith
 no_mark : (rest after : List ℕ) → AfterChiral rest → 64 ∷ after ≡ rest → ⊥
 no_mark rest after h e = let g : AfterChiral (64 ∷ after) = subst AfterChiral (sym e) h in grind arith
 
-pub numbered_text : (k : ChiralClass) (n : ℕ) (r : List ℕ) → chiral_text (numbered k n) ++ r ≡ 64 ∷ (class_bytes k ++ (decimal n ++ r))
+pub numbered_text : (k : ChiralClass) (n : ℕ) (r : List ℕ) → chiral_text (numbered k n) ++ r ≡ 64
+    ∷ (class_bytes k ++ (decimal n ++ r))
 numbered_text k n r = ap (λ w. 64 ∷ w) (append_assoc (class_bytes k) (decimal n) r)
 
 no_kind_after : (k : ChiralClass) (r rest : List ℕ) → AfterChiral rest → rest ≡ class_bytes k ++ r → ⊥
@@ -119,7 +127,8 @@ no_kind_at : (k : ChiralClass) (r rest : List ℕ) → 64 ∷ rest ≡ class_byt
 no_kind_at k r rest e = kind_first k r (subst AfterSymbol e (inl refl))
 
 -- `@@` is a mark of its own
-pub chiral_two : (x : Chiral) (rest bytes r : List ℕ) → AfterChiral rest → bytes ≡ chiral_text x ++ rest → bytes ≡ 64 ∷ 64 ∷ r → r ≡ rest
+pub chiral_two : (x : Chiral) (rest bytes r : List ℕ) → AfterChiral rest → bytes ≡ chiral_text x ++ rest
+    → bytes ≡ 64 ∷ 64 ∷ r → r ≡ rest
 chiral_two none rest bytes r follows h front = absurd (no_mark rest (64 ∷ r) follows (sym front ∙ h))
 chiral_two one rest bytes r follows h front =
     let e : 64 ∷ 64 ∷ r ≡ 64 ∷ rest = sym front ∙ h in
@@ -130,7 +139,8 @@ chiral_two (numbered k n) rest bytes r follows h front =
     absurd (no_kind_at k (decimal n ++ rest) r (cc))
 
 -- after `@` and a class stands a number
-pub chiral_only : (x : Chiral) (rest bytes m : List ℕ) (k : ChiralClass) → IsChiral x → AfterChiral rest → bytes ≡ chiral_text x ++ rest → bytes ≡ 64 ∷ (class_bytes k ++ m)
+pub chiral_only : (x : Chiral) (rest bytes m : List ℕ) (k : ChiralClass) → IsChiral x → AfterChiral rest
+    → bytes ≡ chiral_text x ++ rest → bytes ≡ 64 ∷ (class_bytes k ++ m)
     → (n : ℕ) × (1 ≤ n) × (n ≤ most_of k) × (m ≡ decimal n ++ rest)
 chiral_only none rest bytes m k is follows h front = absurd (no_mark rest _ follows (sym front ∙ h))
 chiral_only one rest bytes m k is follows h front =
@@ -140,7 +150,8 @@ chiral_only two rest bytes m k is follows h front =
     let e : 64 ∷ (class_bytes k ++ m) ≡ 64 ∷ 64 ∷ rest = sym front ∙ h in
     absurd (no_kind_at k m rest (cc))
 chiral_only (numbered l n) rest bytes m k is follows h front =
-    let e : 64 ∷ (class_bytes k ++ m) ≡ 64 ∷ (class_bytes l ++ (decimal n ++ rest)) = sym front ∙ h ∙ numbered_text l n rest in
+    let e : 64 ∷ (class_bytes k ++ m) ≡ 64 ∷ (class_bytes l ++ (decimal n ++ rest)) = sym front ∙ h
+    ∙ numbered_text l n rest in
     let s = same_kind k l m (decimal n ++ rest) (cc) in
     let P : ChiralClass → Type 0 = λ w. n ≤ most_of w in
     (n, is.0, subst P (sym s.0) is.1, s.1)
@@ -157,26 +168,30 @@ no_sign minus xs rest h e = let g : AfterCharge (45 ∷ xs) = subst AfterCharge 
 first_same : (x y : ℕ) (b c : List ℕ) → x ∷ b ≡ y ∷ c → x ≡ y
 first_same x y b c h = cc
 
-split_run : (s t : Sign) (n : ℕ) (rest b : List ℕ) → IsCharge (run t n) → sign_byte s ∷ b ≡ replicate n (sign_byte t) ++ rest → Split s (run t n) rest b
+split_run : (s t : Sign) (n : ℕ) (rest b : List ℕ) → IsCharge (run t n) → sign_byte s ∷ b ≡ replicate n (sign_byte t)
+    ++ rest → Split s (run t n) rest b
 split_run s t zero rest b is h = absurd (omega arith)
 split_run plus plus (suc n) rest b is h = more n (omega arith) refl (cc)
 split_run plus minus (suc n) rest b is h = absurd (omega (arith, first_same 43 45 b (replicate n 45 ++ rest) h))
 split_run minus plus (suc n) rest b is h = absurd (omega (arith, first_same 45 43 b (replicate n 43 ++ rest) h))
 split_run minus minus (suc n) rest b is h = more n (omega arith) refl (cc)
 
-split_digits : (s t : Sign) (ds rest b : List ℕ) → IsCharge (amount t ds) → sign_byte s ∷ b ≡ sign_byte t ∷ (ds ++ rest) → Split s (amount t ds) rest b
+split_digits : (s t : Sign) (ds rest b : List ℕ) → IsCharge (amount t ds) → sign_byte s ∷ b ≡ sign_byte t ∷ (ds ++ rest)
+    → Split s (amount t ds) rest b
 split_digits plus plus ds rest b is h = digits ds is refl (cc)
 split_digits plus minus ds rest b is h = absurd (omega (arith, first_same 43 45 b (ds ++ rest) h))
 split_digits minus plus ds rest b is h = absurd (omega (arith, first_same 45 43 b (ds ++ rest) h))
 split_digits minus minus ds rest b is h = digits ds is refl (cc)
 
-split : (s : Sign) (x : Charge) (rest b : List ℕ) → IsCharge x → AfterCharge rest → sign_byte s ∷ b ≡ charge_text x ++ rest → Split s x rest b
+split : (s : Sign) (x : Charge) (rest b : List ℕ) → IsCharge x → AfterCharge rest → sign_byte s ∷ b ≡ charge_text x
+    ++ rest → Split s x rest b
 split s neutral rest b is after h = absurd (no_sign s b rest after (sym h))
 split s (run t n) rest b is after h = split_run s t n rest b is h
 split s (amount t ds) rest b is after h = split_digits s t ds rest b is h
 
 -- two runs of one sign, both of which end, or the second is the longest that is looked at
-same_run : (s : Sign) (t m k : ℕ) (rest r : List ℕ) → m < t → k ≤ t → AfterCharge rest → (k < t → (xs : List ℕ) → r ≡ sign_byte s ∷ xs → ⊥)
+same_run : (s : Sign) (t m k : ℕ) (rest r : List ℕ) → m < t → k ≤ t → AfterCharge rest
+    → (k < t → (xs : List ℕ) → r ≡ sign_byte s ∷ xs → ⊥)
     → replicate m (sign_byte s) ++ rest ≡ replicate k (sign_byte s) ++ r → (m ≡ k) × (r ≡ rest)
 same_run s zero m k rest r lm lk after stops h = absurd (omega arith)
 same_run s (suc t) zero zero rest r lm lk after stops h = (refl, sym h)
@@ -200,8 +215,10 @@ some_digit : (ds rest b : List ℕ) → 1 ≤ length ds → AllByRecursion IsDig
 some_digit [] rest b some h e f = omega arith
 some_digit (d ∷ ds) rest b some h e f = no_digit d (ds ++ rest) b h.0 f e
 
-empty_by : (s : Sign) (x : Charge) (rest b r : List ℕ) (k : ℕ) → AfterCharge rest → NoDigitFirst b → b ≡ replicate k (sign_byte s) ++ r → k ≤ 15
-    → (k < 15 → (xs : List ℕ) → r ≡ sign_byte s ∷ xs → ⊥) → Split s x rest b → (k ≤ 14) × (r ≡ rest) × (signed s (suc k) ≡ charge_value x)
+empty_by : (s : Sign) (x : Charge) (rest b r : List ℕ) (k : ℕ) → AfterCharge rest → NoDigitFirst b
+    → b ≡ replicate k (sign_byte s) ++ r → k ≤ 15
+    → (k < 15 → (xs : List ℕ) → r ≡ sign_byte s ∷ xs → ⊥) → Split s x rest b → (k ≤ 14) × (r ≡ rest)
+    × (signed s (suc k) ≡ charge_value x)
 empty_by s x rest b r k after free found le stops (more m lm v e) =
     let p = same_run s 15 m k rest r (omega arith) le after stops (sym e ∙ found) in
     let q = p.0 in
@@ -215,14 +232,17 @@ no_digits : (d r b : List ℕ) → length d ≡ 0 → b ≡ d ++ r → NoDigitFi
 no_digits [] r b l e f = subst NoDigitFirst (sym e) f
 no_digits (x ∷ d) r b l e f = absurd (omega arith)
 
-pub amount_empty : (s : Sign) (g : ℕ) (x : Charge) (rest b r d dr : List ℕ) (k : ℕ) → sign_byte s ≡ g → IsCharge x → AfterCharge rest → g ∷ b ≡ charge_text x ++ rest
-    → length d ≡ 0 → b ≡ d ++ dr → NoDigitFirst dr → b ≡ replicate k g ++ r → k ≤ 15 → (k < 15 → (xs : List ℕ) → r ≡ g ∷ xs → ⊥)
+pub amount_empty : (s : Sign) (g : ℕ) (x : Charge) (rest b r d dr : List ℕ) (k : ℕ) → sign_byte s ≡ g → IsCharge x
+    → AfterCharge rest → g ∷ b ≡ charge_text x ++ rest
+    → length d ≡ 0 → b ≡ d ++ dr → NoDigitFirst dr → b ≡ replicate k g ++ r → k ≤ 15
+    → (k < 15 → (xs : List ℕ) → r ≡ g ∷ xs → ⊥)
     → (k ≤ 14) × (r ≡ rest) × (signed s (suc k) ≡ charge_value x)
 amount_empty s g x rest b r d dr k es is after h l front all found le stops =
     empty_by s x rest b r k after (no_digits d dr b l front all) (found ∙ ap (λ w. replicate k w ++ r) (sym es)) le
     (λ lt xs e. stops lt xs (e ∙ ap (λ w. w ∷ xs) es)) (split s x rest b is after (sign_swapped s g b _ es h))
 
-digits_by : (s : Sign) (x : Charge) (rest b d r : List ℕ) → AfterCharge rest → b ≡ d ++ r → 1 ≤ length d → AllByRecursion IsDigit d → NoDigitFirst r
+digits_by : (s : Sign) (x : Charge) (rest b d r : List ℕ) → AfterCharge rest → b ≡ d ++ r → 1 ≤ length d
+    → AllByRecursion IsDigit d → NoDigitFirst r
     → Split s x rest b → IsCharge (amount s d) × (r ≡ rest) × (signed s (value_of d) ≡ charge_value x)
 digits_by s x rest b d r after found some are all (more m lm v e) =
     absurd (some_digit d r b some are found (subst NoDigitFirst (sym e) (run_no_digit s m rest after)))
@@ -231,18 +251,24 @@ digits_by s x rest b d r after found some are all (digits ds is v e) =
     let P : List ℕ → Type 0 = λ w. IsCharge (amount s w) in
     (subst P (sym p.0) is, p.1, ap (λ w. signed s (value_of w)) p.0 ∙ ap charge_value (sym v))
 
-pub amount_digits : (s : Sign) (g : ℕ) (x : Charge) (rest b d r : List ℕ) → sign_byte s ≡ g → IsCharge x → AfterCharge rest → g ∷ b ≡ charge_text x ++ rest
-    → b ≡ d ++ r → 1 ≤ length d → AllByRecursion IsDigit d → NoDigitFirst r → IsCharge (amount s d) × (r ≡ rest) × (signed s (value_of d) ≡ charge_value x)
+pub amount_digits : (s : Sign) (g : ℕ) (x : Charge) (rest b d r : List ℕ) → sign_byte s ≡ g → IsCharge x
+    → AfterCharge rest → g ∷ b ≡ charge_text x ++ rest
+    → b ≡ d ++ r → 1 ≤ length d → AllByRecursion IsDigit d → NoDigitFirst r → IsCharge (amount s d) × (r ≡ rest)
+    × (signed s (value_of d) ≡ charge_value x)
 amount_digits s g x rest b d r es is after h found some are all =
     digits_by s x rest b d r after found some are all (split s x rest b is after (sign_swapped s g b _ es h))
 
-pub run_found : (s : Sign) (g k : ℕ) (b r : List ℕ) → sign_byte s ≡ g → b ≡ replicate k g ++ r → g ∷ b ≡ charge_text (run s (k + 1)) ++ r
+pub run_found : (s : Sign) (g k : ℕ) (b r : List ℕ) → sign_byte s ≡ g → b ≡ replicate k g ++ r
+    → g ∷ b ≡ charge_text (run s (k + 1)) ++ r
 run_found s g k b r es e =
-    ap (λ w. g ∷ w) e ∙ ap (λ w. w ∷ (replicate k w ++ r)) (sym es) ∙ ap (λ n. replicate n (sign_byte s) ++ r) (let p : suc k ≡ k + 1 = omega arith in p)
+    ap (λ w. g ∷ w) e ∙ ap (λ w. w ∷ (replicate k w ++ r)) (sym es) ∙ ap (λ n. replicate n (sign_byte s) ++ r)
+    (let p : suc k ≡ k + 1 = omega arith in p)
 
 -- the whole bracket
 pub bracket_spelled : (x : Bracket) (rest : List ℕ) → bracket_text x ++ rest
-    ≡ 91 ∷ (x.isotope ++ (symbol_text x.symbol ++ (chiral_text x.chiral ++ (hydrogens_text x.hydrogens ++ (charge_text x.charge ++ (class_text x.class ++ 93 ∷ rest))))))
+    ≡ 91 ∷ (x.isotope ++ (symbol_text x.symbol
+    ++ (chiral_text x.chiral ++ (hydrogens_text x.hydrogens
+    ++ (charge_text x.charge ++ (class_text x.class ++ 93 ∷ rest))))))
 bracket_spelled x rest = ap (λ w. 91 ∷ w) (simp append_assoc)
 
 -- hydrogen itself is the one symbol of number 1
@@ -263,12 +289,14 @@ one_is_hydrogen (lower l) h = absurd (lower_not_one l h)
 number_of_hydrogen : (s : Symbol) → s ≡ element 1 → symbol_number s ≡ 1
 number_of_hydrogen s h = ap symbol_number h
 
-pub are_hydrogens : (s : Symbol) (h : Hydrogens) → hydrogen_count h ≤ 9 → (symbol_number s ≡ 1 → written_hydrogens h ≡ None) → AreHydrogens s h
+pub are_hydrogens : (s : Symbol) (h : Hydrogens) → hydrogen_count h ≤ 9
+    → (symbol_number s ≡ 1 → written_hydrogens h ≡ None) → AreHydrogens s h
 are_hydrogens s unwritten le never = tt
 are_hydrogens s single le never = λ e. absurd (let k = never (number_of_hydrogen s e) in cc)
 are_hydrogens s (counted k) le never = (λ e. absurd (let q = never (number_of_hydrogen s e) in cc), le)
 
-pub none_on_hydrogen : (s : Symbol) (h : Hydrogens) → AreHydrogens s h → symbol_number s ≡ 1 → written_hydrogens h ≡ None
+pub none_on_hydrogen : (s : Symbol) (h : Hydrogens) → AreHydrogens s h → symbol_number s ≡ 1 → written_hydrogens h
+    ≡ None
 none_on_hydrogen s unwritten are is_one = refl
 none_on_hydrogen s single are is_one = absurd (are (one_is_hydrogen s is_one))
 none_on_hydrogen s (counted k) are is_one = absurd (are.0 (one_is_hydrogen s is_one))
@@ -294,12 +322,15 @@ signed_by (run s zero) a is = absurd (omega arith)
 signed_by (run s (suc k)) a is = sign_written s (replicate k (sign_byte s) ++ a) refl
 signed_by (amount s ds) a is = sign_written s (ds ++ a) refl
 
-same_split : (s : Sign) (x y : Charge) (a b c : List ℕ) → AfterCharge a → AfterCharge b → Split s x a c → Split s y b c → (x ≡ y) × (a ≡ b)
+same_split : (s : Sign) (x y : Charge) (a b c : List ℕ) → AfterCharge a → AfterCharge b → Split s x a c → Split s y b c
+    → (x ≡ y) × (a ≡ b)
 same_split s x y a b c fa fb (more m lm ex e) (more k lk ey f) =
     let p = same_run s 15 m k a b (omega arith) (omega arith) fa (λ l xs g. no_sign s xs b fb g) (sym e ∙ f) in
     (ex ∙ ap (λ n. run s (suc n)) p.0 ∙ sym ey, sym p.1)
-same_split s x y a b c fa fb (more m lm ex e) (digits ds is ey f) = absurd (some_digit ds b c is.0 is.2 f (subst NoDigitFirst (sym e) (run_no_digit s m a fa)))
-same_split s x y a b c fa fb (digits ds is ex e) (more m lm ey f) = absurd (some_digit ds a c is.0 is.2 e (subst NoDigitFirst (sym f) (run_no_digit s m b fb)))
+same_split s x y a b c fa fb (more m lm ex e) (digits ds is ey f) =
+    absurd (some_digit ds b c is.0 is.2 f (subst NoDigitFirst (sym e) (run_no_digit s m a fa)))
+same_split s x y a b c fa fb (digits ds is ex e) (more m lm ey f) =
+    absurd (some_digit ds a c is.0 is.2 e (subst NoDigitFirst (sym f) (run_no_digit s m b fb)))
 same_split s x y a b c fa fb (digits ds is ex e) (digits es it ey f) =
     let p = same_digits ds es a b is.2 it.2 (charge_no_digit a fa) (charge_no_digit b fb) (sym e ∙ f) in
     (ex ∙ ap (λ w. amount s w) p.0 ∙ sym ey, p.1)
@@ -307,13 +338,22 @@ same_split s x y a b c fa fb (digits ds is ex e) (digits es it ey f) =
 neutral_text : (x : Charge) (a : List ℕ) → x ≡ neutral → charge_text x ++ a ≡ a
 neutral_text x a e = ap (λ w. charge_text w ++ a) e
 
-same_charge_by : (x y : Charge) (a b : List ℕ) → IsCharge x → IsCharge y → AfterCharge a → AfterCharge b → charge_text x ++ a ≡ charge_text y ++ b → Signed x a → Signed y b → (x ≡ y) × (a ≡ b)
-same_charge_by x y a b ix iy fa fb h (none_written e) (none_written f) = (e ∙ sym f, sym (neutral_text x a e) ∙ h ∙ neutral_text y b f)
-same_charge_by x y a b ix iy fa fb h (none_written e) (sign_written s c f) = absurd (no_sign s c a fa (sym (neutral_text x a e) ∙ h ∙ sym f))
-same_charge_by x y a b ix iy fa fb h (sign_written s c e) (none_written f) = absurd (no_sign s c b fb (sym (neutral_text y b f) ∙ sym h ∙ sym e))
-same_charge_by x y a b ix iy fa fb h (sign_written s c e) (sign_written t d f) = same_split s x y a b c fa fb (split s x a c ix fa e) (split s y b c iy fb (e ∙ h))
+same_charge_by : (x y : Charge) (a b : List ℕ) → IsCharge x → IsCharge y → AfterCharge a → AfterCharge b
+    → charge_text x ++ a ≡ charge_text y ++ b → Signed x a → Signed y b → (x ≡ y) × (a ≡ b)
+same_charge_by x y a b ix iy fa fb h (none_written e) (none_written f) = (
+  e ∙ sym f,
+  sym (neutral_text x a e) ∙ h
+      ∙ neutral_text y b f,
+)
+same_charge_by x y a b ix iy fa fb h (none_written e) (sign_written s c f) =
+    absurd (no_sign s c a fa (sym (neutral_text x a e) ∙ h ∙ sym f))
+same_charge_by x y a b ix iy fa fb h (sign_written s c e) (none_written f) =
+    absurd (no_sign s c b fb (sym (neutral_text y b f) ∙ sym h ∙ sym e))
+same_charge_by x y a b ix iy fa fb h (sign_written s c e) (sign_written t d f) =
+    same_split s x y a b c fa fb (split s x a c ix fa e) (split s y b c iy fb (e ∙ h))
 
-pub same_charge : (x y : Charge) (a b : List ℕ) → IsCharge x → IsCharge y → AfterCharge a → AfterCharge b → charge_text x ++ a ≡ charge_text y ++ b → (x ≡ y) × (a ≡ b)
+pub same_charge : (x y : Charge) (a b : List ℕ) → IsCharge x → IsCharge y → AfterCharge a → AfterCharge b
+    → charge_text x ++ a ≡ charge_text y ++ b → (x ≡ y) × (a ≡ b)
 same_charge x y a b ix iy fa fb h = same_charge_by x y a b ix iy fa fb h (signed_by x a ix) (signed_by y b iy)
 
 -- hydrogens are read back
@@ -324,22 +364,28 @@ no_count : (k : ℕ) (xs a : List ℕ) → k ≤ 9 → AfterHydrogens a → a �
 no_count k xs a le f e = no_digit (48 + k) xs a (omega arith, omega arith) (hydrogens_no_digit a f) e
 
 -- `H` and a digit is a count
-pub hydrogens_counted : (x : Hydrogens) (k : ℕ) (r rest bytes : List ℕ) → k ≤ 9 → hydrogen_count x ≤ 9 → AfterHydrogens rest → bytes ≡ 72 ∷ (48 + k) ∷ r → bytes ≡ hydrogens_text x ++ rest → r ≡ rest
-hydrogens_counted unwritten k r rest bytes lk lx after front h = absurd (no_hydrogen ((48 + k) ∷ r) rest after (sym h ∙ front))
+pub hydrogens_counted : (x : Hydrogens) (k : ℕ) (r rest bytes : List ℕ) → k ≤ 9 → hydrogen_count x ≤ 9
+    → AfterHydrogens rest → bytes ≡ 72 ∷ (48 + k) ∷ r → bytes ≡ hydrogens_text x ++ rest → r ≡ rest
+hydrogens_counted unwritten k r rest bytes lk lx after front h =
+    absurd (no_hydrogen ((48 + k) ∷ r) rest after (sym h ∙ front))
 hydrogens_counted single k r rest bytes lk lx after front h =
     let e : 72 ∷ (48 + k) ∷ r ≡ 72 ∷ rest = sym front ∙ h in
     absurd (no_count k r rest lk after (let m : rest ≡ (48 + k) ∷ r = cc in m))
-hydrogens_counted (counted j) k r rest bytes lk lx after front h = let e : 72 ∷ (48 + k) ∷ r ≡ 72 ∷ (48 + j) ∷ rest = sym front ∙ h in cc
+hydrogens_counted (counted j) k r rest bytes lk lx after front h = let e : 72 ∷ (48 + k) ∷ r ≡ 72 ∷ (48 + j) ∷ rest =
+    sym front ∙ h in cc
 
-pub same_hydrogens : (x y : Hydrogens) (a b : List ℕ) → hydrogen_count x ≤ 9 → hydrogen_count y ≤ 9 → AfterHydrogens a → AfterHydrogens b → hydrogens_text x ++ a ≡ hydrogens_text y ++ b → (x ≡ y) × (a ≡ b)
+pub same_hydrogens : (x y : Hydrogens) (a b : List ℕ) → hydrogen_count x ≤ 9 → hydrogen_count y ≤ 9 → AfterHydrogens a
+    → AfterHydrogens b → hydrogens_text x ++ a ≡ hydrogens_text y ++ b → (x ≡ y) × (a ≡ b)
 same_hydrogens unwritten unwritten a b lx ly fa fb h = (refl, h)
 same_hydrogens unwritten single a b lx ly fa fb h = absurd (no_hydrogen b a fa h)
 same_hydrogens unwritten (counted k) a b lx ly fa fb h = absurd (no_hydrogen _ a fa h)
 same_hydrogens single unwritten a b lx ly fa fb h = absurd (no_hydrogen a b fb (sym h))
 same_hydrogens single single a b lx ly fa fb h = let k : 72 ∷ a ≡ 72 ∷ b = h in (refl, cc)
-same_hydrogens single (counted k) a b lx ly fa fb h = let l : 72 ∷ a ≡ 72 ∷ (48 + k) ∷ b = h in absurd (no_count k b a ly fa (cc))
+same_hydrogens single (counted k) a b lx ly fa fb h = let l : 72 ∷ a ≡ 72 ∷ (48 + k) ∷ b = h in
+    absurd (no_count k b a ly fa (cc))
 same_hydrogens (counted k) unwritten a b lx ly fa fb h = absurd (no_hydrogen _ b fb (sym h))
-same_hydrogens (counted k) single a b lx ly fa fb h = let l : 72 ∷ (48 + k) ∷ a ≡ 72 ∷ b = h in absurd (no_count k a b lx fb (let m : b ≡ (48 + k) ∷ a = cc in m))
+same_hydrogens (counted k) single a b lx ly fa fb h = let l : 72 ∷ (48 + k) ∷ a ≡ 72 ∷ b = h in
+    absurd (no_count k a b lx fb (let m : b ≡ (48 + k) ∷ a = cc in m))
 same_hydrogens (counted k) (counted j) a b lx ly fa fb h =
     let l : 72 ∷ (48 + k) ∷ a ≡ 72 ∷ (48 + j) ∷ b = h in
     let p : 48 + k ≡ 48 + j = cc in
@@ -354,24 +400,29 @@ most_small sp = omega arith
 most_small tb = omega arith
 most_small oh = omega arith
 
-same_decimal : (j k : ℕ) (a b : List ℕ) → j ≤ 30 → k ≤ 30 → NoDigitFirst a → NoDigitFirst b → decimal j ++ a ≡ decimal k ++ b → (j ≡ k) × (a ≡ b)
+same_decimal : (j k : ℕ) (a b : List ℕ) → j ≤ 30 → k ≤ 30 → NoDigitFirst a → NoDigitFirst b → decimal j ++ a ≡ decimal k
+    ++ b → (j ≡ k) × (a ≡ b)
 same_decimal j k a b lj lk fa fb h =
-    let p = same_digits (decimal j) (decimal k) a b (decimal_digits j (omega arith)) (decimal_digits k (omega arith)) fa fb h in
+    let p = same_digits (decimal j) (decimal k) a b (decimal_digits j (omega arith)) (decimal_digits k (omega arith)) fa
+    fb h in
     (decimal_injective j k (omega arith) (omega arith) p.0, p.1)
 
-pub same_chiral : (x y : Chiral) (a b : List ℕ) → IsChiral x → IsChiral y → AfterChiral a → AfterChiral b → chiral_text x ++ a ≡ chiral_text y ++ b → (x ≡ y) × (a ≡ b)
+pub same_chiral : (x y : Chiral) (a b : List ℕ) → IsChiral x → IsChiral y → AfterChiral a → AfterChiral b
+    → chiral_text x ++ a ≡ chiral_text y ++ b → (x ≡ y) × (a ≡ b)
 same_chiral none none a b ix iy fa fb h = (refl, h)
 same_chiral none one a b ix iy fa fb h = absurd (no_mark a b fa (sym h))
 same_chiral none two a b ix iy fa fb h = absurd (no_mark a (64 ∷ b) fa (sym h))
 same_chiral none (numbered k j) a b ix iy fa fb h = absurd (no_mark a _ fa (sym h))
 same_chiral one none a b ix iy fa fb h = absurd (no_mark b a fb h)
 same_chiral one one a b ix iy fa fb h = let k : 64 ∷ a ≡ 64 ∷ b = h in (refl, cc)
-same_chiral one two a b ix iy fa fb h = let k : 64 ∷ a ≡ 64 ∷ 64 ∷ b = h in absurd (no_mark a b fa (let m : 64 ∷ b ≡ a = cc in m))
+same_chiral one two a b ix iy fa fb h = let k : 64 ∷ a ≡ 64 ∷ 64 ∷ b = h in
+    absurd (no_mark a b fa (let m : 64 ∷ b ≡ a = cc in m))
 same_chiral one (numbered k j) a b ix iy fa fb h =
     let l : 64 ∷ a ≡ 64 ∷ (class_bytes k ++ (decimal j ++ b)) = h ∙ numbered_text k j b in
     absurd (no_kind_after k (decimal j ++ b) a fa (cc))
 same_chiral two none a b ix iy fa fb h = absurd (no_mark b (64 ∷ a) fb h)
-same_chiral two one a b ix iy fa fb h = let k : 64 ∷ 64 ∷ a ≡ 64 ∷ b = h in absurd (no_mark b a fb (let m : 64 ∷ a ≡ b = cc in m))
+same_chiral two one a b ix iy fa fb h = let k : 64 ∷ 64 ∷ a ≡ 64 ∷ b = h in
+    absurd (no_mark b a fb (let m : 64 ∷ a ≡ b = cc in m))
 same_chiral two two a b ix iy fa fb h = let k : 64 ∷ 64 ∷ a ≡ 64 ∷ 64 ∷ b = h in (refl, cc)
 same_chiral two (numbered k j) a b ix iy fa fb h =
     let l : 64 ∷ 64 ∷ a ≡ 64 ∷ (class_bytes k ++ (decimal j ++ b)) = h ∙ numbered_text k j b in
@@ -384,7 +435,8 @@ same_chiral (numbered k j) two a b ix iy fa fb h =
     let l : 64 ∷ 64 ∷ b ≡ 64 ∷ (class_bytes k ++ (decimal j ++ a)) = sym h ∙ numbered_text k j a in
     absurd (no_kind_at k (decimal j ++ a) b (cc))
 same_chiral (numbered k j) (numbered l i) a b ix iy fa fb h =
-    let e : 64 ∷ (class_bytes k ++ (decimal j ++ a)) ≡ 64 ∷ (class_bytes l ++ (decimal i ++ b)) = sym (numbered_text k j a) ∙ h ∙ numbered_text l i b in
+    let e : 64 ∷ (class_bytes k ++ (decimal j ++ a)) ≡ 64 ∷ (class_bytes l ++ (decimal i ++ b)) =
+    sym (numbered_text k j a) ∙ h ∙ numbered_text l i b in
     let p = same_kind k l (decimal j ++ a) (decimal i ++ b) (cc) in
     let mk = most_small k in
     let ml = most_small l in

@@ -61,7 +61,8 @@ shape_is (x ∷ []) h = one x refl (first_is x h)
 shape_is (x ∷ y ∷ []) h = let q = both (first_test x) (leb 97 y) h in two x y refl (first_is x q.0) (at_most 97 y q.1)
 shape_is (x ∷ y ∷ z ∷ xs) h = absurd (false≢true h)
 
-passes_at : (test : List ℕ → Bool) (xs : List (List ℕ)) (k : ℕ) → list_all test xs ≡ true → k < length xs → test (get_or xs k []) ≡ true
+passes_at : (test : List ℕ → Bool) (xs : List (List ℕ)) (k : ℕ) → list_all test xs ≡ true → k < length xs
+    → test (get_or xs k []) ≡ true
 passes_at test [] k h l = absurd (omega arith)
 passes_at test (x ∷ xs) zero h l = (both (test x) (list_all test xs) h).0
 passes_at test (x ∷ xs) (suc k) h l = passes_at test xs k (both (test x) (list_all test xs) h).1 (omega arith)
@@ -92,10 +93,12 @@ placed table (x ∷ xs) i = eqb (place x table) i && placed table xs (suc i)
 equal_by : (m k : ℕ) → eqb m k ≡ true → m ≡ k
 equal_by m k h = grind (arith, nat_tests)
 
-placed_at : (table xs : List (List ℕ)) (i k : ℕ) → placed table xs i ≡ true → k < length xs → place (get_or xs k []) table ≡ i + k
+placed_at : (table xs : List (List ℕ)) (i k : ℕ) → placed table xs i ≡ true → k < length xs
+    → place (get_or xs k []) table ≡ i + k
 unfolding placed
 placed_at table [] i k h l = absurd (omega arith)
-placed_at table (x ∷ xs) i zero h l = let e = equal_by (place x table) i (both (eqb (place x table) i) (placed table xs (suc i)) h).0 in omega arith
+placed_at table (x ∷ xs) i zero h l = let e =
+    equal_by (place x table) i (both (eqb (place x table) i) (placed table xs (suc i)) h).0 in omega arith
 placed_at table (x ∷ xs) i (suc k) h l =
     let e = placed_at table xs (suc i) k (both (eqb (place x table) i) (placed table xs (suc i)) h).1 (omega arith) in
     omega arith
@@ -119,7 +122,8 @@ at_front x y u a e h = h ∙ ap (λ w. w ++ a) e
 no_lower : (y : ℕ) (ys rest : List ℕ) → 97 ≤ y → AfterSymbol rest → rest ≡ y ∷ ys → ⊥
 no_lower y ys rest le after e = let g : AfterSymbol (y ∷ ys) = subst AfterSymbol e after in grind arith
 
-element_two_by : (text : List ℕ) (x y : ℕ) (r rest : List ℕ) → 97 ≤ y → Shape text → x ∷ y ∷ r ≡ text ++ rest → AfterSymbol rest → (r ≡ rest) × (text ≡ x ∷ y ∷ [])
+element_two_by : (text : List ℕ) (x y : ℕ) (r rest : List ℕ) → 97 ≤ y → Shape text → x ∷ y ∷ r ≡ text ++ rest
+    → AfterSymbol rest → (r ≡ rest) × (text ≡ x ∷ y ∷ [])
 element_two_by text x y r rest le (one u e f) h after =
     let k : x ∷ y ∷ r ≡ u ∷ rest = at_front text _ (u ∷ []) rest e h in
     absurd (no_lower y r rest le after (cc))
@@ -129,38 +133,48 @@ element_two_by text x y r rest le (two u v e f l) h after =
 
 second_is_lower : (text : List ℕ) (x y : ℕ) → text ≡ x ∷ y ∷ [] → Shape text → 97 ≤ y
 second_is_lower text x y e (one u f g) = absurd (let k : u ∷ [] ≡ x ∷ y ∷ [] = sym f ∙ e in cc)
-second_is_lower text x y e (two u v f g l) = let k : u ∷ v ∷ [] ≡ x ∷ y ∷ [] = sym f ∙ e in let q : v ≡ y = cc in omega arith
+second_is_lower text x y e (two u v f g l) = let k : u ∷ v ∷ [] ≡ x ∷ y ∷ [] = sym f ∙ e in let q : v ≡ y = cc in
+    omega arith
 
 pub two_is_lower : (k x y : ℕ) → slice_get symbols k ≡ Some (x ∷ y ∷ []) → 97 ≤ y
 two_is_lower k x y is =
     let l = length-symbols in
     let k' = slice_get_within symbols k (x ∷ y ∷ []) is in
-    second_is_lower (get_or symbols k []) x y (get_or_from_slice_get symbols k (x ∷ y ∷ []) [] is) (element_shape k (omega arith))
+    second_is_lower (get_or symbols k []) x y (get_or_from_slice_get symbols k (x ∷ y ∷ []) [] is)
+    (element_shape k (omega arith))
 
 -- after a symbol of two letters stands what stands after any symbol there
-pub element_two : (k m x y : ℕ) (r rest : List ℕ) → k ≤ 103 → m ≤ 103 → slice_get symbols m ≡ Some (x ∷ y ∷ []) → x ∷ y ∷ r ≡ get_or symbols k [] ++ rest → AfterSymbol rest → (r ≡ rest) × (m ≡ k)
+pub element_two : (k m x y : ℕ) (r rest : List ℕ) → k ≤ 103 → m ≤ 103 → slice_get symbols m ≡ Some (x ∷ y ∷ [])
+    → x ∷ y ∷ r ≡ get_or symbols k [] ++ rest → AfterSymbol rest → (r ≡ rest) × (m ≡ k)
 element_two k m x y r rest lk lm is h after =
     let e = get_or_from_slice_get symbols m (x ∷ y ∷ []) [] is in
     let le = second_is_lower (get_or symbols m []) x y e (element_shape m lm) in
     let p = element_two_by (get_or symbols k []) x y r rest le (element_shape k lk) h after in
     (p.0, same_element m k lm lk (e ∙ sym p.1))
 
-element_one_by : (text bytes rest : List ℕ) → Shape text → bytes ≡ text ++ rest → ((x y : ℕ) (r : List ℕ) → bytes ≡ x ∷ y ∷ r → text ≡ x ∷ y ∷ [] → ⊥) → (x : ℕ) × (text ≡ x ∷ []) × (bytes ≡ x ∷ rest)
+element_one_by : (text bytes rest : List ℕ) → Shape text → bytes ≡ text ++ rest
+    → ((x y : ℕ) (r : List ℕ) → bytes ≡ x ∷ y ∷ r → text ≡ x ∷ y ∷ [] → ⊥) → (x : ℕ) × (text ≡ x ∷ [])
+    × (bytes ≡ x ∷ rest)
 element_one_by text bytes rest (one x e f) h never = (x, e, at_front text bytes (x ∷ []) rest e h)
-element_one_by text bytes rest (two x y e f l) h never = absurd (never x y rest (at_front text bytes (x ∷ y ∷ []) rest e h) e)
+element_one_by text bytes rest (two x y e f l) h never =
+    absurd (never x y rest (at_front text bytes (x ∷ y ∷ []) rest e h) e)
 
 -- bytes that begin with no symbol of two letters
-pub element_one : (k : ℕ) (bytes rest : List ℕ) → k ≤ 103 → bytes ≡ get_or symbols k [] ++ rest → ((x y m : ℕ) (r : List ℕ) → bytes ≡ x ∷ y ∷ r → slice_get symbols m ≡ Some (x ∷ y ∷ []) → ⊥)
+pub element_one : (k : ℕ) (bytes rest : List ℕ) → k ≤ 103 → bytes ≡ get_or symbols k [] ++ rest
+    → ((x y m : ℕ) (r : List ℕ) → bytes ≡ x ∷ y ∷ r → slice_get symbols m ≡ Some (x ∷ y ∷ []) → ⊥)
     → (x : ℕ) × (slice_get symbols k ≡ Some (x ∷ [])) × (bytes ≡ x ∷ rest)
 element_one k bytes rest le h never =
     let l = length-symbols in
     let at = slice_get-get_or symbols k [] (omega arith) in
-    let p = element_one_by (get_or symbols k []) bytes rest (element_shape k le) h (λ x y r e f. never x y k r e (at ∙ ap (λ w. Some w) f)) in
+    let p = element_one_by (get_or symbols k []) bytes rest (element_shape k le) h (λ x y r e f.
+    never x y k r e (at ∙ ap (λ w. Some w) f)) in
     (p.0, at ∙ ap (λ w. Some w) p.1, p.2)
 
-pub one_element : (k m x y : ℕ) → k ≤ 103 → m ≤ 103 → slice_get symbols k ≡ Some (x ∷ []) → slice_get symbols m ≡ Some (y ∷ []) → x ≡ y → m ≡ k
+pub one_element : (k m x y : ℕ) → k ≤ 103 → m ≤ 103 → slice_get symbols k ≡ Some (x ∷ []) → slice_get symbols m
+    ≡ Some (y ∷ []) → x ≡ y → m ≡ k
 one_element k m x y lk lm e f p =
-    same_element m k lm lk (get_or_from_slice_get symbols m (y ∷ []) [] f ∙ ap (λ w. w ∷ []) (sym p) ∙ sym (get_or_from_slice_get symbols k (x ∷ []) [] e))
+    same_element m k lm lk (get_or_from_slice_get symbols m (y ∷ []) [] f ∙ ap (λ w. w ∷ []) (sym p)
+    ∙ sym (get_or_from_slice_get symbols k (x ∷ []) [] e))
 
 -- the first byte of an element
 element_first : (text : List ℕ) → Shape text → (x : ℕ) × (xs : List ℕ) × (text ≡ x ∷ xs) × IsFirst x
@@ -178,7 +192,8 @@ lower_first small_se = (115, 101 ∷ [], refl, omega arith)
 lower_first small_as = (97, 115 ∷ [], refl, omega arith)
 
 -- no element begins as a symbol in lower case
-pub element_not_lower : (k : ℕ) (l : Lower) (r rest : List ℕ) → k ≤ 103 → get_or symbols k [] ++ rest ≡ lower_bytes l ++ r → ⊥
+pub element_not_lower : (k : ℕ) (l : Lower) (r rest : List ℕ) → k ≤ 103 → get_or symbols k [] ++ rest ≡ lower_bytes l
+    ++ r → ⊥
 element_not_lower k l r rest le h =
     let u = element_first (get_or symbols k []) (element_shape k le) in
     let v = lower_first l in
@@ -202,7 +217,8 @@ symbol_no_digit (lower l) rest is =
     digit_by _ v.0 (v.1 ++ rest) (ap (λ w. w ++ rest) v.2) (inr (omega arith))
 
 -- bytes begin with one symbol alone, if what follows may follow one
-same_shape : (t u a b : List ℕ) → Shape t → Shape u → AfterSymbol a → AfterSymbol b → t ++ a ≡ u ++ b → (t ≡ u) × (a ≡ b)
+same_shape : (t u a b : List ℕ) → Shape t → Shape u → AfterSymbol a → AfterSymbol b → t ++ a ≡ u ++ b → (t ≡ u)
+    × (a ≡ b)
 same_shape t u a b (one x e f) (one y g k) fa fb h =
     let l : x ∷ a ≡ y ∷ b = sym (ap (λ w. w ++ a) e) ∙ h ∙ ap (λ w. w ++ b) g in
     let p : x ≡ y = cc in
@@ -219,12 +235,16 @@ same_shape t u a b (two x v e f q) (two y w g k r) fa fb h =
     (e ∙ m ∙ sym g, cc)
 
 abbrev small_from : ℕ → Lower
-small_from a = cond (a == 98) small_b (cond (a == 99) small_c (cond (a == 110) small_n (cond (a == 111) small_o (cond (a == 112) small_p small_s))))
+small_from a = cond (a == 98) small_b
+    (cond (a == 99) small_c (cond (a == 110) small_n (cond (a == 111) small_o (cond (a == 112) small_p small_s))))
 
 abbrev pub lower_read : List ℕ → Lower × List ℕ
 lower_read [] = (small_b, [])
 lower_read (a ∷ []) = (small_from a, [])
-lower_read (a ∷ b ∷ r) = cond (a == 97) (small_as, r) (cond ((a == 115) && (b == 101)) (small_se, r) (small_from a, b ∷ r))
+lower_read (a ∷ b ∷ r) = cond (a == 97) (small_as, r) (cond ((a == 115) && (b == 101)) (small_se, r) (
+  small_from a,
+  b ∷ r,
+))
 
 no_e : (b : ℕ) (bs : List ℕ) → AfterSymbol (b ∷ bs) → (b == 101) ≡ false
 no_e b bs h = let k : b < 101 = grind arith in grind (arith, nat_tests)
@@ -236,18 +256,22 @@ lower_is small_c (x ∷ xs) h = refl
 lower_is small_n (x ∷ xs) h = refl
 lower_is small_o (x ∷ xs) h = refl
 lower_is small_p (x ∷ xs) h = refl
-lower_is small_s (x ∷ xs) h = ap (λ w. cond w (let p : Lower × List ℕ = (small_se, xs) in p) (small_s, x ∷ xs)) (no_e x xs h)
+lower_is small_s (x ∷ xs) h = ap (λ w. cond w (let p : Lower × List ℕ = (small_se, xs) in p) (small_s, x ∷ xs))
+    (no_e x xs h)
 lower_is small_se (x ∷ xs) h = refl
 lower_is small_as (x ∷ xs) h = refl
 
-pub lower_only : (m l : Lower) (bytes r rest : List ℕ) → lower_read bytes ≡ (m, r) → AfterSymbol rest → bytes ≡ lower_bytes l ++ rest → (r ≡ rest) × (lower_number m ≡ lower_number l)
+pub lower_only : (m l : Lower) (bytes r rest : List ℕ) → lower_read bytes ≡ (m, r) → AfterSymbol rest
+    → bytes ≡ lower_bytes l ++ rest → (r ≡ rest) × (lower_number m ≡ lower_number l)
 lower_only m l bytes r rest k after h =
     let e : (m, r) ≡ (l, rest) = sym k ∙ ap lower_read h ∙ lower_is l rest after in
     (ap (λ (p : Lower × List ℕ). p.1) e, ap (λ (p : Lower × List ℕ). lower_number p.0) e)
 
-pub same_symbol : (z w : Symbol) (a b : List ℕ) → IsSymbol z → IsSymbol w → AfterSymbol a → AfterSymbol b → symbol_text z ++ a ≡ symbol_text w ++ b → (z ≡ w) × (a ≡ b)
+pub same_symbol : (z w : Symbol) (a b : List ℕ) → IsSymbol z → IsSymbol w → AfterSymbol a → AfterSymbol b
+    → symbol_text z ++ a ≡ symbol_text w ++ b → (z ≡ w) × (a ≡ b)
 same_symbol (element j) (element k) a b lj lk fa fb h =
-    let p = same_shape (get_or symbols j []) (get_or symbols k []) a b (element_shape j lj) (element_shape k lk) fa fb h in
+    let p = same_shape (get_or symbols j []) (get_or symbols k []) a b (element_shape j lj) (element_shape k lk) fa fb
+    h in
     (ap (λ w. element w) (same_element j k lj lk p.0), p.1)
 same_symbol (element j) (lower l) a b lj lk fa fb h = absurd (element_not_lower j l b a lj h)
 same_symbol (lower l) (element k) a b lj lk fa fb h = absurd (element_not_lower k l a b lk (sym h))
@@ -266,7 +290,8 @@ small_first small_se is = absurd is
 small_first small_as is = absurd is
 
 -- without brackets
-pub same_small : (l m : Lower) (a b : List ℕ) → IsOrganicLower l → IsOrganicLower m → lower_bytes l ++ a ≡ lower_bytes m ++ b → (l ≡ m) × (a ≡ b)
+pub same_small : (l m : Lower) (a b : List ℕ) → IsOrganicLower l → IsOrganicLower m → lower_bytes l ++ a ≡ lower_bytes m
+    ++ b → (l ≡ m) × (a ≡ b)
 same_small l m a b il im h =
     let u = small_first l il in
     let v = small_first m im in

@@ -11,5 +11,6 @@ abbrev pub invariant-loop-link : goal.invariant-loop-link
 invariant-loop-link l = record {
   same : l.path.links.items ≡ l.fn.path.links.items;
   flags : l.path.flags.items ≡ l.fn.path.flags.items;
-  none : (k : ℕ) (d : Link) → k < l.link-index → CanReach (links_in l.links) l.gives l.target (atoms_of l.fn.path.links.items ++ (get_or l.link-items k d).to ∷ []) → ⊥;
+  none : (k : ℕ) (d : Link) → k < l.link-index → CanReach (links_in l.links) l.gives l.target
+      (atoms_of l.fn.path.links.items ++ (get_or l.link-items k d).to ∷ []) → ⊥;
 }

@@ -16,4 +16,5 @@ pub returns-clause-net : goal.returns-clause-net
 returns-clause-net c gives net none =
     let here = ends_at_place c.args.bonds.now c.args.place _ c.requires.place in
     let len = length-links_in c.unlink.new.links ∙ c.unlink.auto.links ∙ sym (length-links_in c.args.links.now) in
-    net-less _ c.args.possible.now _ gives (links_in c.args.links.now) (links_in c.unlink.new.links) c.args.place _ _ here (rw c.requires.each c.requires.place) refl len c.unlink.ensures net none
+    net-less _ c.args.possible.now _ gives (links_in c.args.links.now) (links_in c.unlink.new.links) c.args.place _ _
+    here (rw c.requires.each c.requires.place) refl len c.unlink.ensures net none

@@ -19,16 +19,19 @@ count_at_ends-requires-clause-distinct c =
 pub count_at_ends-requires-clause-small : goal.count_at_ends-requires-clause-small
 count_at_ends-requires-clause-small c =
     let count = c.loop-place.auto.sites ∙ ap (λ xs. length xs) c.requires.bare ∙ length-map c.args.atoms.now bare in
-    sites-small c.args.atoms.now _ c.loop-place.sites count (few_pairs _ c.args.bonds.now c.args.bond_in_ring.now c.loop-place.place c.requires.sound.graph) c.loop-place.invariant
+    sites-small c.args.atoms.now _ c.loop-place.sites count (few_pairs _ c.args.bonds.now c.args.bond_in_ring.now
+    c.loop-place.place c.requires.sound.graph) c.loop-place.invariant
 
 pub loop-place-init : goal.loop-place-init
 loop-place-init c = sites-none c.args.atoms.now c.args.sites.now c.requires.bare
 
 pub loop-place-preserved : goal.loop-place-preserved
 loop-place-preserved c =
-    sites-more c.args.atoms.now c.args.bonds.now c.args.bond_in_ring.now c.loop-place.sites c.count_at_ends.new.sites c.loop-place.place _ c.loop-place-test.true c.requires.rings c.loop-place.invariant c.count_at_ends.ensures
+    sites-more c.args.atoms.now c.args.bonds.now c.args.bond_in_ring.now c.loop-place.sites c.count_at_ends.new.sites
+    c.loop-place.place _ c.loop-place-test.true c.requires.rings c.loop-place.invariant c.count_at_ends.ensures
 
 pub returns : goal.returns
 returns c =
     let count = c.loop-place.auto.sites ∙ ap (λ xs. length xs) c.requires.bare ∙ length-map c.args.atoms.now bare in
-    sites-whole c.args.atoms.now c.args.bonds.now c.args.bond_in_ring.now c.loop-place.sites c.loop-place.place count c.loop-place-test.false c.loop-place.invariant
+    sites-whole c.args.atoms.now c.args.bonds.now c.args.bond_in_ring.now c.loop-place.sites c.loop-place.place count
+    c.loop-place-test.false c.loop-place.invariant

@@ -17,13 +17,17 @@ pub count_bond-requires-clause-small : goal.count_bond-requires-clause-small
 count_bond-requires-clause-small c =
     let there = some_element c.args.atoms.now c.args.atom c.requires.in_range in
     let few = few_pairs _ c.args.bonds.now c.args.bond_in_ring.now c.loop-place.place c.requires.sound.graph in
-    subst (λ x. IsSmall x) (sym (c.loop-place.invariant there.0 there.1)) (site_among-small c.args.atoms.now c.args.atom there.0 (take c.loop-place.place (zip c.args.bonds.now c.args.bond_in_ring.now)) few)
+    subst (λ x. IsSmall x) (sym (c.loop-place.invariant there.0 there.1)) (site_among-small c.args.atoms.now c.args.atom
+    there.0 (take c.loop-place.place (zip c.args.bonds.now c.args.bond_in_ring.now)) few)
 
 pub loop-place-preserved : goal.loop-place-preserved
 loop-place-preserved c = λ x is.
-    site-more c.args.atoms.now c.args.bonds.now c.args.bond_in_ring.now c.args.atom c.loop-place.place x _ c.loop-place.site c.count_bond.new.site c.loop-place-test.true c.requires.rings (c.loop-place.invariant x is) c.count_bond.ensures
+    site-more c.args.atoms.now c.args.bonds.now c.args.bond_in_ring.now c.args.atom c.loop-place.place x _
+    c.loop-place.site c.count_bond.new.site c.loop-place-test.true c.requires.rings (c.loop-place.invariant x is)
+    c.count_bond.ensures
 
 pub returns : goal.returns
 returns c = λ x is.
-    let whole = take_all c.loop-place.place (zip c.args.bonds.now c.args.bond_in_ring.now) (omega (arith, length-zip c.args.bonds.now c.args.bond_in_ring.now)) in
+    let whole = take_all c.loop-place.place (zip c.args.bonds.now c.args.bond_in_ring.now)
+    (omega (arith, length-zip c.args.bonds.now c.args.bond_in_ring.now)) in
     rw whole at (c.loop-place.invariant x is)

@@ -4,4 +4,5 @@ use Rattle.aromatic.specs.Electrons.{site_among}
 use Rattle.aromatic.proofs.site.site_of.Given as goal
 
 abbrev pub invariant-loop-place : goal.invariant-loop-place
-invariant-loop-place l = (x : SketchAtom) → slice_get l.atoms l.atom ≡ Some x → l.site ≡ site_among l.atoms l.atom x (take l.place (zip l.bonds l.bond_in_ring))
+invariant-loop-place l = (x : SketchAtom) → slice_get l.atoms l.atom ≡ Some x
+    → l.site ≡ site_among l.atoms l.atom x (take l.place (zip l.bonds l.bond_in_ring))

@@ -10,7 +10,8 @@ use Rattle.chem_core.proofs.element.number_of.Goals as goal
 pub returns-then-eq-clause-some : goal.returns-then-eq-clause-some
 returns-then-eq-clause-some c =
     let same = (slice_eq-Decides Decides-eqb _ _ c.eq.result c.eq.ensures).0 c.if-eq.true in
-    symbol_at (λ s. s.now) _ _ _ c.table-symbol-items.ensures.value c.loop-number-test.true ∙ ap Some (sym c.as_bytes.ensures.value ∙ same)
+    symbol_at (λ s. s.now) _ _ _ c.table-symbol-items.ensures.value c.loop-number-test.true
+    ∙ ap Some (sym c.as_bytes.ensures.value ∙ same)
 
 pub loop-number-preserved : goal.loop-number-preserved
 loop-number-preserved c =

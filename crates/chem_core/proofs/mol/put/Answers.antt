@@ -5,7 +5,8 @@ use Rattle.chem_core.proofs.mol.put.Goals as goal
 
 pub insert-requires : goal.insert-requires
 insert-requires c =
-    let within : c.place_of-place.result ≤ length c.args.list.now.items = rw (c.place_of-place.ensures, c.as_slice.ensures) (place_of-within _ _) in
+    let within : c.place_of-place.result ≤ length c.args.list.now.items =
+    rw (c.place_of-place.ensures, c.as_slice.ensures) (place_of-within _ _) in
     omega arith
 
 pub returns-clause-ascending : goal.returns-clause-ascending

@@ -9,7 +9,8 @@ returns-then-not-is_plain-clause-none c n le e =
     grind arith
 
 pub returns-in-Some-clause-some : goal.returns-in-Some-clause-some
-returns-in-Some-clause-some c = printed_value c.args.bytes.now c.in-Some.number (c.is_plain.ensures.0 (grind arith)) c.in-Some.ensures.0 c.in-Some.ensures.1
+returns-in-Some-clause-some c = printed_value c.args.bytes.now c.in-Some.number (c.is_plain.ensures.0 (grind arith))
+    c.in-Some.ensures.0 c.in-Some.ensures.1
 
 pub returns-in_default-clause-none : goal.returns-in_default-clause-none
 returns-in_default-clause-none c n le e =

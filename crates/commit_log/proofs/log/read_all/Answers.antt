@@ -11,7 +11,8 @@ use Rattle.commit_log.specs.declared.change.Commit.{Commit}
 use Rattle.commit_log.proofs.Taken.{takes_more, changes_push, payloads_push}
 use Rattle.commit_log.proofs.log.read_all.Goals as goal
 
-on_damaged : (T U : Type 0) (fault : LoadFault) (P Q : ℕ → Type 0) → ((at : ℕ) → P at → Q at) → OnDamaged {T = T} (Err fault) P → OnDamaged {T = U} (Err fault) Q
+on_damaged : (T U : Type 0) (fault : LoadFault) (P Q : ℕ → Type 0) → ((at : ℕ) → P at → Q at)
+    → OnDamaged {T = T} (Err fault) P → OnDamaged {T = U} (Err fault) Q
 on_damaged T U Disk P Q f p = tt
 on_damaged T U NotAStore P Q f p = tt
 on_damaged T U (Damaged at) P Q f p = f at p
@@ -29,15 +30,18 @@ loop-commit-preserved g c =
     let reads = rw c.in-Ok-Some.field-0-is at c.in-Ok-Some.ensures.reads in
     let place : new.place ≡ c.loop-commit.journal.place + 5 + length (written (change_of commit.wire)) =
     found.2 ∙ ap (λ (n : ℕ). n + 5 + length (written (change_of commit.wire))) found.0 in
-    let same : payloads (changes_of commits) ++ written (change_of commit.wire) ∷ [] ≡ payloads (changes_of c.push.new.self.items) =
-    sym (payloads_push (changes_of commits) (change_of commit.wire)) ∙ ap (λ (cs : List Change). payloads cs) (sym (changes_push commits commit))
+    let same : payloads (changes_of commits) ++ written (change_of commit.wire) ∷ []
+    ≡ payloads (changes_of c.push.new.self.items) =
+    sym (payloads_push (changes_of commits) (change_of commit.wire)) ∙ ap (λ (cs : List Change). payloads cs)
+    (sym (changes_push commits commit))
     ∙ ap (λ (l : List Commit). payloads (changes_of l)) (sym items) in
     record {
       settled = c.in-Ok-Some.ensures.settled;
       takes = subst (λ (l : List Commit). Takes c.args.journal.now.place l new.place) (sym items)
           (subst (λ (n : ℕ). Takes c.args.journal.now.place (commits ++ commit ∷ []) n) (sym place)
           (takes_more c.args.journal.now.place c.loop-commit.journal.place commits commit was.takes found.0 found.1));
-      reads = λ q. subst (λ (ps : List (List ℕ)). Reads d.content d.images new ps) same (reads (payloads (changes_of commits)) (was.reads q));
+      reads = λ q. subst (λ (ps : List (List ℕ)). Reads d.content d.images new ps) same
+          (reads (payloads (changes_of commits)) (was.reads q));
       looks = looks_twice d.content d.images d.clock d.images_between d.faults d.bound g.met.D.Disk.parts
           c.args.journal.now.disk c.loop-commit.journal.disk new.disk was.looks c.in-Ok-Some.ensures.looks;
     }
@@ -46,7 +50,8 @@ pub returns-in_err-push-in-Ok-Some-clause-looks : goal.returns-in_err-push-in-Ok
 returns-in_err-push-in-Ok-Some-clause-looks g c =
     let d = g.D.Disk in
     looks_twice d.content d.images d.clock d.images_between d.faults d.bound g.met.D.Disk.parts
-    c.args.journal.now.disk c.loop-commit.journal.disk c.next_commit.new.journal.disk c.loop-commit.invariant.looks c.in-Ok-Some.ensures.looks
+    c.args.journal.now.disk c.loop-commit.journal.disk c.next_commit.new.journal.disk c.loop-commit.invariant.looks
+    c.in-Ok-Some.ensures.looks
 
 pub returns-in-Err-clause-damaged : goal.returns-in-Err-clause-damaged
 returns-in-Err-clause-damaged g c =

@@ -10,7 +10,8 @@ invariant-loop-commit g l =
     record {
       settled : l.journal.doubt ≡ false;
       takes : Takes l.fn.journal.place l.commits.items l.journal.place;
-      reads : Reads d.content d.images l.fn.journal [] → Reads d.content d.images l.journal (payloads (changes_of l.commits.items));
+      reads : Reads d.content d.images l.fn.journal []
+          → Reads d.content d.images l.journal (payloads (changes_of l.commits.items));
       looks : Looks d.content d.images d.clock d.images_between d.faults d.bound l.fn.journal.disk l.journal.disk;
     }
 

@@ -16,9 +16,17 @@ returns-clause-some c =
     let field = c.in_ok-field.field.now in
     let taken : field ≡ take 4 bytes = c.in_ok-field.ensures.cases.0 in
     let behind : c.in_ok-field.rest.now ≡ drop 4 bytes = c.in_ok-field.ensures.cases.1 in
-    let size : length (take 4 bytes) ≡ 4 = omega (arith, length-take 4 bytes, c.in_ok-field.ensures.cases.2, ap length behind) in
-    let number : to_le_bytes w32 id ≡ take 4 bytes = le_bytes_4 (take 4 bytes) id size (take_fits 4 bytes (λ i. omega (arith, c.type_inv.bytes i))) (c.from_le_bytes-id.ensures ∙ ap (λ (t : List ℕ). from_le_bytes w32 t) taken) in (
+    let size : length (take 4 bytes) ≡ 4 = omega (
+      arith,
+      length-take 4 bytes,
+      c.in_ok-field.ensures.cases.2,
+      ap length behind,
+    ) in
+    let number : to_le_bytes w32 id ≡ take 4 bytes =
+    le_bytes_4 (take 4 bytes) id size (take_fits 4 bytes (λ i. omega (arith, c.type_inv.bytes i)))
+    (c.from_le_bytes-id.ensures ∙ ap (λ (t : List ℕ). from_le_bytes w32 t) taken) in (
       omega (arith, c.if-id-eq0.false),
       omega (arith, c.if-id-gt-GREATEST_ID.false),
-      sym (take-append-drop 4 bytes) ∙ ap (λ (t : List ℕ). t ++ drop 4 bytes) (sym number) ∙ ap (λ (t : List ℕ). to_le_bytes w32 id ++ t) (sym behind),
+      sym (take-append-drop 4 bytes) ∙ ap (λ (t : List ℕ). t ++ drop 4 bytes) (sym number)
+          ∙ ap (λ (t : List ℕ). to_le_bytes w32 id ++ t) (sym behind),
     )

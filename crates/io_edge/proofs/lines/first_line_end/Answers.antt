@@ -10,4 +10,5 @@ returns-in_err-at-clause-none c =
 
 pub returns-clause-some : goal.returns-clause-some
 returns-clause-some c =
-    ends_behind c.args.bytes.now c.args.from c.in_ok-at.at c.requires.within c.requires.scanned (rw take_rest at (sym c.in_ok-at.ensures))
+    ends_behind c.args.bytes.now c.args.from c.in_ok-at.at c.requires.within c.requires.scanned
+    (rw take_rest at (sym c.in_ok-at.ensures))

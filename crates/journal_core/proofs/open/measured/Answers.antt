@@ -34,7 +34,8 @@ returns-then-eq-clause-synced g c l told =
     let looks = looks_call d.content d.images d.clock d.images_between d.faults d.bound in
     let len = c.in_ok-len.ensures in
     let read = c.in_ok-read_at.ensures in
-    let look = looks_twice d.content d.images d.clock d.images_between d.faults d.bound g.met.D.Disk.parts c.sync.new.self c.len.new.self c.read_at.new.self
+    let look = looks_twice d.content d.images d.clock d.images_between d.faults d.bound g.met.D.Disk.parts
+    c.sync.new.self c.len.new.self c.read_at.new.self
     (looks c.sync.new.self c.len.new.self len.content len.images len.time len.count)
     (looks c.len.new.self c.read_at.new.self read.content read.images read.time read.count) in
     still_exactly d.content d.images d.clock d.images_between d.faults d.bound c.sync.new.self c.read_at.new.self look l
@@ -60,7 +61,8 @@ returns-else-eq-clause-synced g c l told =
     let looks = looks_call d.content d.images d.clock d.images_between d.faults d.bound in
     let len = c.in_ok-len.ensures in
     let read = c.in_ok-read_at.ensures in
-    let look = looks_twice d.content d.images d.clock d.images_between d.faults d.bound g.met.D.Disk.parts c.sync.new.self c.len.new.self c.read_at.new.self
+    let look = looks_twice d.content d.images d.clock d.images_between d.faults d.bound g.met.D.Disk.parts
+    c.sync.new.self c.len.new.self c.read_at.new.self
     (looks c.sync.new.self c.len.new.self len.content len.images len.time len.count)
     (looks c.len.new.self c.read_at.new.self read.content read.images read.time read.count) in
     still_exactly d.content d.images d.clock d.images_between d.faults d.bound c.sync.new.self c.read_at.new.self look l

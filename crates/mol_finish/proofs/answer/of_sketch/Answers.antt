@@ -8,11 +8,15 @@ pub returns-in_err-found : goal.returns-in_err-found
 returns-in_err-found c =
     let p = err_from_is_err_and c.from_residual-in_err-found.result c.from_residual-in_err-found.ensures.1 in
     rw (p.1, p.2)
-    (structure-refused c.args.sketch _ _ _ _ (c.suppress.ensures.suppressed ∙ ap suppressed c.fill_hydrogens.ensures.filled) c.in_ok-rings.ensures.bonds c.deref.ensures.value c.in_err-found.ensures.refused)
+    (structure-refused c.args.sketch _ _ _ _ (c.suppress.ensures.suppressed
+    ∙ ap suppressed c.fill_hydrogens.ensures.filled) c.in_ok-rings.ensures.bonds c.deref.ensures.value
+    c.in_err-found.ensures.refused)
 
 pub molecule-requires-clause-sums : goal.molecule-requires-clause-sums
 molecule-requires-clause-sums c = length-valences _ _ _ _ _ c.in_ok-found.ensures.perceived
 
 pub returns : goal.returns
 returns c =
-    structure-made c.args.sketch _ _ _ _ _ _ _ (c.suppress.ensures.suppressed ∙ ap suppressed c.fill_hydrogens.ensures.filled) c.in_ok-rings.ensures.bonds c.deref.ensures.value c.in_ok-found.ensures.perceived c.in_ok-molecule.ensures
+    structure-made c.args.sketch _ _ _ _ _ _ _ (c.suppress.ensures.suppressed
+    ∙ ap suppressed c.fill_hydrogens.ensures.filled) c.in_ok-rings.ensures.bonds c.deref.ensures.value
+    c.in_ok-found.ensures.perceived c.in_ok-molecule.ensures

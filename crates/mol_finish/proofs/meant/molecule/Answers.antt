@@ -5,8 +5,15 @@ use Rattle.mol_finish.proofs.meant.molecule.Goals as goal
 
 pub make-requires-clause-molecule : goal.make-requires-clause-molecule
 make-requires-clause-molecule c =
-    let atoms : c.in_ok-atoms.atoms.items ≡ meant_atoms c.args.found.now.atoms.items c.args.found.now.valences.items c.args.sketch.now.atoms =
-    rw (c.in_ok-atoms.ensures, c.deref.ensures.value, c.deref-2.ensures.value, c.deref-3.ensures.value, ← c.sketch.view_is) in
+    let atoms : c.in_ok-atoms.atoms.items ≡ meant_atoms c.args.found.now.atoms.items c.args.found.now.valences.items
+    c.args.sketch.now.atoms =
+    rw (
+      c.in_ok-atoms.ensures,
+      c.deref.ensures.value,
+      c.deref-2.ensures.value,
+      c.deref-3.ensures.value,
+      ← c.sketch.view_is,
+    ) in
     let bonds : c.in_ok-bonds.bonds.items ≡ meant_bonds c.args.found.now.bonds.items c.args.sketch.now.bonds =
     rw (c.in_ok-bonds.ensures, c.deref-4.ensures.value, c.deref-5.ensures.value, ← c.sketch.view_is) in
     made-molecule _ _ _ _ _ _ atoms bonds c.requires.sound
@@ -19,8 +26,15 @@ make-requires-clause-ring_bonds c =
 
 pub make-requires-clause-smallest : goal.make-requires-clause-smallest
 make-requires-clause-smallest c =
-    let atoms : c.in_ok-atoms.atoms.items ≡ meant_atoms c.args.found.now.atoms.items c.args.found.now.valences.items c.args.sketch.now.atoms =
-    rw (c.in_ok-atoms.ensures, c.deref.ensures.value, c.deref-2.ensures.value, c.deref-3.ensures.value, ← c.sketch.view_is) in
+    let atoms : c.in_ok-atoms.atoms.items ≡ meant_atoms c.args.found.now.atoms.items c.args.found.now.valences.items
+    c.args.sketch.now.atoms =
+    rw (
+      c.in_ok-atoms.ensures,
+      c.deref.ensures.value,
+      c.deref-2.ensures.value,
+      c.deref-3.ensures.value,
+      ← c.sketch.view_is,
+    ) in
     let bonds : c.in_ok-bonds.bonds.items ≡ meant_bonds c.args.found.now.bonds.items c.args.sketch.now.bonds =
     rw (c.in_ok-bonds.ensures, c.deref-4.ensures.value, c.deref-5.ensures.value, ← c.sketch.view_is) in
     made-smallest _ _ _ _ _ _ _ atoms bonds c.requires.smallest

@@ -23,7 +23,9 @@ loop-init c = record {
 pub returns-in_err-bond-clause-fault : goal.returns-in_err-bond-clause-fault
 returns-in_err-bond-clause-fault c =
     let p = err_from_is_err_and c.from_residual-in_err-bond.result c.from_residual-in_err-bond.ensures.1 in
-    let whole = bond_stops c.args.counts.atoms c.args.counts.bonds c.loop.counter c.loop.bonds.items c.loop.lines c.next.new.self (c.in-Some.at, c.in-Some.line.now) c.in_err-bond.field-0.0 _ c.loop-test.true c.in-Some.ensures (sym c.in_err-bond.ensures.value) c.loop.invariant.read in
+    let whole = bond_stops c.args.counts.atoms c.args.counts.bonds c.loop.counter c.loop.bonds.items c.loop.lines
+    c.next.new.self (c.in-Some.at, c.in-Some.line.now) c.in_err-bond.field-0.0 _ c.loop-test.true c.in-Some.ensures
+    (sym c.in_err-bond.ensures.value) c.loop.invariant.read in
     rw p.1 (inr (inl (whole ∙ ap (λ e. Err e) (sym p.2))))
 
 was_there : (b : Bool) (x : Bool) → b ≡ false → b ≡ not x → x ≡ true
@@ -39,19 +41,25 @@ returns-then-not-branch-clause-fault c =
     let z = c.in_ok-bond.bond in
     let has : ℕ × ℕ → Bool = λ q. list_any (λ k. (q.0 == k.0) && (q.1 == k.1)) c.loop.seen.keys in
     let key = joined_ordered c.loop.bonds.items z.a z.b in
-    let at = c.loop.invariant.keys (lower z.a z.b) (higher z.a z.b) (lower-higher z.a z.b c.in_ok-bond.ensures.range.2) in
+    let at = c.loop.invariant.keys (lower z.a z.b) (higher z.a z.b)
+    (lower-higher z.a z.b c.in_ok-bond.ensures.range.2) in
     let here : are_joined c.loop.bonds.items z.a z.b ≡ true =
-    sym key ∙ sym at ∙ sym (ap has c.ends_of.ensures) ∙ was_there _ (has c.ends_of.result) c.if-not-branch.true c.in_ok-insert.ensures.added in
-    inr (inl (bond_twice c.args.counts.atoms c.args.counts.bonds c.loop.counter c.loop.bonds.items c.loop.lines c.next.new.self (c.in-Some.at, c.in-Some.line.now) z _ c.loop-test.true c.in-Some.ensures (sym c.in_ok-bond.ensures.value) here c.loop.invariant.read))
+    sym key ∙ sym at ∙ sym (ap has c.ends_of.ensures) ∙ was_there _ (has c.ends_of.result) c.if-not-branch.true
+    c.in_ok-insert.ensures.added in
+    inr (inl (bond_twice c.args.counts.atoms c.args.counts.bonds c.loop.counter c.loop.bonds.items c.loop.lines
+    c.next.new.self (c.in-Some.at, c.in-Some.line.now) z _ c.loop-test.true c.in-Some.ensures
+    (sym c.in_ok-bond.ensures.value) here c.loop.invariant.read))
 
 pub loop-preserved : goal.loop-preserved
 loop-preserved c =
     let z = c.in_ok-bond.bond in
     let has : ℕ × ℕ → Bool = λ q. list_any (λ k. (q.0 == k.0) && (q.1 == k.1)) c.loop.seen.keys in
     let key = joined_ordered c.loop.bonds.items z.a z.b in
-    let at = c.loop.invariant.keys (lower z.a z.b) (higher z.a z.b) (lower-higher z.a z.b c.in_ok-bond.ensures.range.2) in
+    let at = c.loop.invariant.keys (lower z.a z.b) (higher z.a z.b)
+    (lower-higher z.a z.b c.in_ok-bond.ensures.range.2) in
     let free : are_joined c.loop.bonds.items z.a z.b ≡ false =
-    sym key ∙ sym at ∙ sym (ap has c.ends_of.ensures) ∙ was_new _ (has c.ends_of.result) c.if-not-branch.false c.in_ok-insert.ensures.added in
+    sym key ∙ sym at ∙ sym (ap has c.ends_of.ensures) ∙ was_new _ (has c.ends_of.result) c.if-not-branch.false
+    c.in_ok-insert.ensures.added in
     let l = ap length c.in-Some.ensures in
     let left = c.loop.invariant.left in
     let many = c.loop.invariant.many in
@@ -59,13 +67,26 @@ loop-preserved c =
     let more = length_push c.loop.bonds.items z in
     record {
       read = rw c.in_ok-push.ensures.items
-          (bond_goes_on c.args.counts.atoms c.args.counts.bonds c.loop.counter c.loop.bonds.items c.loop.lines c.next.new.self (c.in-Some.at, c.in-Some.line.now) z _ c.loop-test.true c.in-Some.ensures (sym c.in_ok-bond.ensures.value) free c.loop.invariant.read);
-      rest = sym (drop_line c.args.counts.bonds c.loop.counter c.loop.lines c.next.new.self (c.in-Some.at, c.in-Some.line.now) c.loop-test.true c.in-Some.ensures) ∙ c.loop.invariant.rest;
+          (bond_goes_on c.args.counts.atoms c.args.counts.bonds c.loop.counter c.loop.bonds.items c.loop.lines
+          c.next.new.self (c.in-Some.at, c.in-Some.line.now) z _ c.loop-test.true c.in-Some.ensures
+          (sym c.in_ok-bond.ensures.value) free c.loop.invariant.read);
+      rest = sym (drop_line c.args.counts.bonds c.loop.counter c.loop.lines c.next.new.self (
+        c.in-Some.at,
+        c.in-Some.line.now,
+      ) c.loop-test.true c.in-Some.ensures) ∙ c.loop.invariant.rest;
       left = omega arith;
-      sound = rw c.in_ok-push.ensures.items (all_push (JoinsTwo c.args.counts.atoms) c.loop.bonds.items z c.loop.invariant.sound.0 c.in_ok-bond.ensures.range, once_push c.loop.bonds.items z c.loop.invariant.sound.1 free);
+      sound = rw c.in_ok-push.ensures.items (
+        all_push (JoinsTwo c.args.counts.atoms) c.loop.bonds.items z
+            c.loop.invariant.sound.0 c.in_ok-bond.ensures.range,
+        once_push c.loop.bonds.items z c.loop.invariant.sound.1
+            free,
+      );
       keys = λ a b lt. rw c.in_ok-push.ensures.items
-          (joined_more (λ x y. list_any (λ k. (x == k.0) && (y == k.1)) c.loop.seen.keys) (λ x y. list_any (λ k. (x == k.0) && (y == k.1)) c.insert.new.self.keys) c.loop.bonds.items z c.loop.invariant.keys
-          (λ x y. c.in_ok-insert.ensures.updates.0 (x, y) ∙ ap (λ (q : ℕ × ℕ). cond ((q.0 == x) && (q.1 == y)) true (has (x, y))) c.ends_of.ensures) a b lt);
+          (joined_more (λ x y. list_any (λ k. (x == k.0) && (y == k.1)) c.loop.seen.keys) (λ x y.
+          list_any (λ k. (x == k.0) && (y == k.1)) c.insert.new.self.keys) c.loop.bonds.items z
+          c.loop.invariant.keys
+          (λ x y. c.in_ok-insert.ensures.updates.0 (x, y)
+          ∙ ap (λ (q : ℕ × ℕ). cond ((q.0 == x) && (q.1 == y)) true (has (x, y))) c.ends_of.ensures) a b lt);
       many = omega arith;
     }
 
@@ -73,7 +94,8 @@ pub returns-clause-found : goal.returns-clause-found
 returns-clause-found c =
     let none = none_left c.args.counts.bonds c.loop.counter c.loop-test.false in
     let left = c.loop.invariant.left in (
-      bonds_end c.args.counts.atoms (c.args.counts.bonds - c.loop.counter) c.loop.bonds.items c.loop.lines _ (take_none c.args.counts.bonds c.loop.counter c.loop.lines c.loop-test.false) c.loop.invariant.read,
+      bonds_end c.args.counts.atoms (c.args.counts.bonds - c.loop.counter) c.loop.bonds.items c.loop.lines _
+          (take_none c.args.counts.bonds c.loop.counter c.loop.lines c.loop-test.false) c.loop.invariant.read,
       ap (λ k. drop k c.loop.lines) (sym none) ∙ c.loop.invariant.rest,
       omega arith,
     )

@@ -6,7 +6,8 @@ use Rattle.molfile_read.proofs.bond.read_bonds.Given as goal
 
 abbrev pub invariant-loop : goal.invariant-loop
 invariant-loop l = record {
-  read : bonds_read l.counts.atoms l.bonds.items (take (l.counts.bonds - l.counter) l.lines) ≡ bonds_read l.counts.atoms [] (take l.counts.bonds l.fn.lines);
+  read : bonds_read l.counts.atoms l.bonds.items (take (l.counts.bonds - l.counter) l.lines)
+      ≡ bonds_read l.counts.atoms [] (take l.counts.bonds l.fn.lines);
   rest : drop (l.counts.bonds - l.counter) l.lines ≡ drop l.counts.bonds l.fn.lines;
   left : l.counter + length l.lines ≡ length l.fn.lines;
   sound : AreBondsAmong l.counts.atoms l.bonds.items;

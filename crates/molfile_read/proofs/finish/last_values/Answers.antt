@@ -45,24 +45,35 @@ loop-setting-preserved c =
         charge_room = ap length w.charges-is ∙ length-set _ _ _ ∙ inv.charge_room;
         radical_room = ap length w.radicals-is ∙ inv.radical_room;
         isotope_room = ap length w.isotopes-is ∙ inv.isotope_room;
-        charges = λ a h. table_set charge_of c.loop-setting.charges _ a i _ w.in-Charge.charge other settings _ lt c.from-place.ensures (omega arith) (ap charge_of w.in-Charge.is) (w.charges-is ∙ ap (λ v. set c.loop-setting.charges c.from-place.result (Some v)) (kept w.in-Charge.charge (subst IsValue w.in-Charge.is room.1))) (inv.charges a h);
-        radicals = λ a h. table_kept radical_of c.loop-setting.radicals _ a i other settings _ lt (ap radical_of w.in-Charge.is) w.radicals-is (inv.radicals a h);
-        isotopes = λ a h. table_kept isotope_of c.loop-setting.isotopes _ a i other settings _ lt (ap isotope_of w.in-Charge.is) w.isotopes-is (inv.isotopes a h);
+        charges = λ a h. table_set charge_of c.loop-setting.charges _ a i _ w.in-Charge.charge other settings _ lt
+            c.from-place.ensures (omega arith) (ap charge_of w.in-Charge.is) (w.charges-is
+            ∙ ap (λ v. set c.loop-setting.charges c.from-place.result (Some v))
+            (kept w.in-Charge.charge (subst IsValue w.in-Charge.is room.1))) (inv.charges a h);
+        radicals = λ a h. table_kept radical_of c.loop-setting.radicals _ a i other settings _ lt
+            (ap radical_of w.in-Charge.is) w.radicals-is (inv.radicals a h);
+        isotopes = λ a h. table_kept isotope_of c.loop-setting.isotopes _ a i other settings _ lt
+            (ap isotope_of w.in-Charge.is) w.isotopes-is (inv.isotopes a h);
       }
       | in-Radical w ↦ record {
         charge_room = ap length w.charges-is ∙ inv.charge_room;
         radical_room = ap length w.radicals-is ∙ length-set _ _ _ ∙ inv.radical_room;
         isotope_room = ap length w.isotopes-is ∙ inv.isotope_room;
-        charges = λ a h. table_kept charge_of c.loop-setting.charges _ a i other settings _ lt (ap charge_of w.in-Radical.is) w.charges-is (inv.charges a h);
-        radicals = λ a h. table_set radical_of c.loop-setting.radicals _ a i _ w.in-Radical.electrons other settings _ lt c.from-place.ensures (omega arith) (ap radical_of w.in-Radical.is) w.radicals-is (inv.radicals a h);
-        isotopes = λ a h. table_kept isotope_of c.loop-setting.isotopes _ a i other settings _ lt (ap isotope_of w.in-Radical.is) w.isotopes-is (inv.isotopes a h);
+        charges = λ a h. table_kept charge_of c.loop-setting.charges _ a i other settings _ lt
+            (ap charge_of w.in-Radical.is) w.charges-is (inv.charges a h);
+        radicals = λ a h. table_set radical_of c.loop-setting.radicals _ a i _ w.in-Radical.electrons other settings _
+            lt c.from-place.ensures (omega arith) (ap radical_of w.in-Radical.is) w.radicals-is (inv.radicals a h);
+        isotopes = λ a h. table_kept isotope_of c.loop-setting.isotopes _ a i other settings _ lt
+            (ap isotope_of w.in-Radical.is) w.isotopes-is (inv.isotopes a h);
       }
       | in-Isotope w ↦ record {
         charge_room = ap length w.charges-is ∙ inv.charge_room;
         radical_room = ap length w.radicals-is ∙ inv.radical_room;
         isotope_room = ap length w.isotopes-is ∙ length-set _ _ _ ∙ inv.isotope_room;
-        charges = λ a h. table_kept charge_of c.loop-setting.charges _ a i other settings _ lt (ap charge_of w.in-Isotope.is) w.charges-is (inv.charges a h);
-        radicals = λ a h. table_kept radical_of c.loop-setting.radicals _ a i other settings _ lt (ap radical_of w.in-Isotope.is) w.radicals-is (inv.radicals a h);
-        isotopes = λ a h. table_set isotope_of c.loop-setting.isotopes _ a i _ w.in-Isotope.isotope other settings _ lt c.from-place.ensures (omega arith) (ap isotope_of w.in-Isotope.is) w.isotopes-is (inv.isotopes a h);
+        charges = λ a h. table_kept charge_of c.loop-setting.charges _ a i other settings _ lt
+            (ap charge_of w.in-Isotope.is) w.charges-is (inv.charges a h);
+        radicals = λ a h. table_kept radical_of c.loop-setting.radicals _ a i other settings _ lt
+            (ap radical_of w.in-Isotope.is) w.radicals-is (inv.radicals a h);
+        isotopes = λ a h. table_set isotope_of c.loop-setting.isotopes _ a i _ w.in-Isotope.isotope other settings _ lt
+            c.from-place.ensures (omega arith) (ap isotope_of w.in-Isotope.is) w.isotopes-is (inv.isotopes a h);
       }
     ]

@@ -9,7 +9,10 @@ invariant-loop-setting l = record {
   charge_room : length l.charges ≡ 999;
   radical_room : length l.radicals ≡ 999;
   isotope_room : length l.isotopes ≡ 999;
-  charges : (a : ℕ) → a < 999 → last_or (get_or l.charges a None) (set_all charge_of a (drop l.setting-index l.settings)) ≡ last_set charge_of a l.settings;
-  radicals : (a : ℕ) → a < 999 → last_or (get_or l.radicals a None) (set_all radical_of a (drop l.setting-index l.settings)) ≡ last_set radical_of a l.settings;
-  isotopes : (a : ℕ) → a < 999 → last_or (get_or l.isotopes a None) (set_all isotope_of a (drop l.setting-index l.settings)) ≡ last_set isotope_of a l.settings;
+  charges : (a : ℕ) → a < 999 → last_or (get_or l.charges a None)
+      (set_all charge_of a (drop l.setting-index l.settings)) ≡ last_set charge_of a l.settings;
+  radicals : (a : ℕ) → a < 999 → last_or (get_or l.radicals a None)
+      (set_all radical_of a (drop l.setting-index l.settings)) ≡ last_set radical_of a l.settings;
+  isotopes : (a : ℕ) → a < 999 → last_or (get_or l.isotopes a None)
+      (set_all isotope_of a (drop l.setting-index l.settings)) ≡ last_set isotope_of a l.settings;
 }

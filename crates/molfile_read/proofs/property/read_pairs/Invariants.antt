@@ -7,6 +7,7 @@ use Rattle.molfile_read.proofs.property.read_pairs.Given as goal
 
 abbrev pub invariant-loop : goal.invariant-loop
 invariant-loop l = record {
-  read : option_map (λ xs. l.settings.items ++ xs) (pairs_in l.tag l.atoms (l.count - l.counter) (words l.rest)) ≡ option_map (λ xs. l.fn.settings.items ++ xs) (counted_pairs l.tag l.atoms (words l.text));
+  read : option_map (λ xs. l.settings.items ++ xs) (pairs_in l.tag l.atoms (l.count - l.counter) (words l.rest))
+      ≡ option_map (λ xs. l.fn.settings.items ++ xs) (counted_pairs l.tag l.atoms (words l.text));
   range : AllByRecursion (IsSetting l.atoms) l.settings.items;
 }

@@ -7,7 +7,8 @@ use Rattle.molfile_read.proofs.property.read_properties.Given as goal
 
 abbrev pub invariant-loop-at : goal.invariant-loop-at
 invariant-loop-at l = record {
-  read : with_front l.settings.items (settings_read l.atoms (property_lines false l.lines)) ≡ settings_read l.atoms (property_lines false l.fn.lines);
+  read : with_front l.settings.items (settings_read l.atoms (property_lines false l.lines))
+      ≡ settings_read l.atoms (property_lines false l.fn.lines);
   ended : is_ended false l.lines ≡ is_ended false l.fn.lines;
   range : AllByRecursion (IsSetting l.atoms) l.settings.items;
 }

@@ -12,24 +12,34 @@ AreFew bonds = (a : ℕ) → degree (ends_among bonds) a ≤ 12
 
 pub returns-in_err-sketch-clause-reading : goal.returns-in_err-sketch-clause-reading
 returns-in_err-sketch-clause-reading c =
-    fault_handed c.args.text.now c.from_residual.result c.in_err-sketch.field-0.0 c.if-text-gt-MOST_BYTES.false c.from_residual.ensures.1 c.in_err-sketch.ensures.value
+    fault_handed c.args.text.now c.from_residual.result c.in_err-sketch.field-0.0 c.if-text-gt-MOST_BYTES.false
+    c.from_residual.ensures.1 c.in_err-sketch.ensures.value
 
 pub returns-then-not-branch-clause-reading : goal.returns-then-not-branch-clause-reading
 returns-then-not-branch-clause-reading c =
     let same = c.deref.ensures.value ∙ ap (λ (s : SketchTerm). s.bonds) c.sketch.view_is in
-    inr (c.in_ok-sketch.sketch, c.in_ok-sketch.ensures.value, λ few. let k = c.in_ok-are_few_neighbours.ensures.1 (subst AreFew (sym same) few) in let f = c.if-not-branch.true in cc)
+    inr (
+      c.in_ok-sketch.sketch,
+      c.in_ok-sketch.ensures.value,
+      λ few. let k =
+          c.in_ok-are_few_neighbours.ensures.1 (subst AreFew (sym same) few) in let f = c.if-not-branch.true in cc,
+    )
 
 pub returns-clause-reading : goal.returns-clause-reading
 returns-clause-reading c =
-    let same = c.deref.ensures.value ∙ ap (λ (s : SketchTerm). s.bonds) c.sketch.view_is in
-    (c.if-text-gt-MOST_BYTES.false, c.in_ok-sketch.ensures.value, subst AreFew same (c.in_ok-are_few_neighbours.ensures.0 c.if-not-branch.false))
+    let same = c.deref.ensures.value ∙ ap (λ (s : SketchTerm). s.bonds) c.sketch.view_is in (
+      c.if-text-gt-MOST_BYTES.false,
+      c.in_ok-sketch.ensures.value,
+      subst AreFew same (c.in_ok-are_few_neighbours.ensures.0 c.if-not-branch.false),
+    )
 
 pub returns-clause-sound : goal.returns-clause-sound
 returns-clause-sound c =
     let same = c.deref.ensures.value ∙ ap (λ (s : SketchTerm). s.bonds) c.sketch.view_is in
     let atoms = c.in_ok-sketch.ensures.atoms in
     let bonds = c.in_ok-sketch.ensures.bonds in
-    sound_sketch c.in_ok-sketch.sketch.atoms c.in_ok-sketch.sketch.bonds bonds.0 atoms.0 atoms.2 bonds.1 (subst AreFew same (c.in_ok-are_few_neighbours.ensures.0 c.if-not-branch.false))
+    sound_sketch c.in_ok-sketch.sketch.atoms c.in_ok-sketch.sketch.bonds bonds.0 atoms.0 atoms.2 bonds.1
+    (subst AreFew same (c.in_ok-are_few_neighbours.ensures.0 c.if-not-branch.false))
 
 pub returns-clause-no_aromatic_mark : goal.returns-clause-no_aromatic_mark
 returns-clause-no_aromatic_mark c = record {

@@ -9,6 +9,7 @@ loop-place-preserved c =
     elim c.if-labels-from.branch [
       | then-labels-from w ↦
           let differ = rw (c.from.ensures, c.from-in-loop-place.ensures) at w.if-labels-from.true in
-          rw w.kept-is (keeps_dropped c.args.ends.now c.args.labels.now c.loop-place.kept c.loop-place.place _ _ c.requires.forest at differ c.loop-place.invariant)
+          rw w.kept-is (keeps_dropped c.args.ends.now c.args.labels.now c.loop-place.kept c.loop-place.place _ _
+          c.requires.forest at differ c.loop-place.invariant)
       | else-labels-from w ↦ rw w.kept-is c.loop-place.invariant
     ]

@@ -18,5 +18,10 @@ put-requires-in-loop-place-clause-room c =
 pub loop-place-preserved : goal.loop-place-preserved
 loop-place-preserved c =
     let at = slice_get-get_or c.args.ends.now c.loop-place.place (0, 0) c.loop-place-test.true in
-    rw (c.put-in-loop-place.ensures.steps, c.put-in-loop-place.ensures.degrees, c.put.ensures.steps, c.put.ensures.degrees)
+    rw (
+      c.put-in-loop-place.ensures.steps,
+      c.put-in-loop-place.ensures.degrees,
+      c.put.ensures.steps,
+      c.put.ensures.degrees,
+    )
     (AreFilled-more _ _ _ _ _ _ _ c.requires.graph at c.loop-place.invariant)

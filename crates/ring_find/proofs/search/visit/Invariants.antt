@@ -10,6 +10,8 @@ invariant-loop-step l =
       within : l.next < length l.queue.items;
       here : slice_index l.queue.items l.next ≡ l.at;
       mark : slice_index l.marks l.at + 1 ≡ l.mark;
-      done : (k : ℕ) (d : Step) → k < l.step-index → (slice_index_or l.steps k d).bond ≢ l.bond → slice_index_or l.kept (slice_index_or l.steps k d).bond false ≡ true
-          → (0 < slice_index l.marks (slice_index_or l.steps k d).to) × (slice_index l.marks (slice_index_or l.steps k d).to ≤ l.mark);
+      done : (k : ℕ) (d : Step) → k < l.step-index → (slice_index_or l.steps k d).bond ≢ l.bond
+          → slice_index_or l.kept (slice_index_or l.steps k d).bond false ≡ true
+          → (0 < slice_index l.marks (slice_index_or l.steps k d).to)
+          × (slice_index l.marks (slice_index_or l.steps k d).to ≤ l.mark);
     }

@@ -9,7 +9,11 @@ strip_from-requires-clause-ends c = rw c.deref_mut.ensures.value c.loop-atom.inv
 
 pub loop-atom-preserved : goal.loop-atom-preserved
 loop-atom-preserved c =
-    let long : length c.strip_from.new.kept ≡ c.loop-atom.kept.len = omega (arith, c.strip_from.auto.kept, ap length c.deref_mut.ensures.value) in
+    let long : length c.strip_from.new.kept ≡ c.loop-atom.kept.len = omega (
+      arith,
+      c.strip_from.auto.kept,
+      ap length c.deref_mut.ensures.value,
+    ) in
     record {
       keeps = rw (take_at _ _ _ long) c.strip_from.ensures.rings;
       ends = rw (take_at _ _ _ long) c.strip_from.ensures.ends;
@@ -17,5 +21,6 @@ loop-atom-preserved c =
 
 pub returns-clause-ends : goal.returns-clause-ends
 returns-clause-ends c = λ v dead.
-    let within = (joined_within c.args.graph.now.atoms c.args.graph.now.ends dead.0 dead.1 v c.ends.ensures.valid (joins_back c.args.graph.now.ends dead.0 v dead.1 dead.2)).1 in
+    let within = (joined_within c.args.graph.now.atoms c.args.graph.now.ends dead.0 dead.1 v c.ends.ensures.valid
+    (joins_back c.args.graph.now.ends dead.0 v dead.1 dead.2)).1 in
     c.loop-atom.invariant.ends v (omega (arith, within)) dead

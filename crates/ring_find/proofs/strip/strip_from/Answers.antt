@@ -13,7 +13,8 @@ only_kept-requires-clause-within c = λ k d l.
 pub loop-step-preserved : goal.loop-step-preserved
 loop-step-preserved c =
     let only = c.in-Some.ensures in
-    let ends = ends_more _ _ _ _ _ _ c.loop-step.invariant.keeps c.steps_from.ensures.steps only c.loop-step.invariant.ends in
+    let ends = ends_more _ _ _ _ _ _ c.loop-step.invariant.keeps c.steps_from.ensures.steps only
+    c.loop-step.invariant.ends in
     record {
       within = (joined_within _ _ _ _ _ c.steps_from.ensures.valid (c.steps_from.ensures.steps.joins _ only.0)).1;
       keeps = rw c.from.ensures (keeps_more _ _ _ _ _ c.loop-step.invariant.keeps c.steps_from.ensures.steps only);
@@ -30,6 +31,7 @@ loop-step-init c = record {
 pub returns-clause-ends : goal.returns-clause-ends
 returns-clause-ends c = λ v low dead.
     elim (cases_eq v c.loop-step.at) [
-      | inl e ↦ ends_done _ _ _ _ c.steps_from.ensures.steps c.in_default.ensures (subst (λ w. IsDeadEnd c.args.graph.now.ends c.loop-step.kept w) e dead)
+      | inl e ↦ ends_done _ _ _ _ c.steps_from.ensures.steps c.in_default.ensures
+          (subst (λ w. IsDeadEnd c.args.graph.now.ends c.loop-step.kept w) e dead)
       | inr ne ↦ c.loop-step.invariant.ends v low ne dead
     ]

@@ -4,4 +4,5 @@ use Rattle.ring_find.proofs.tests.is_joined.Given as goal
 
 abbrev pub invariant-loop-bond : goal.invariant-loop-bond
 invariant-loop-bond l =
-    (k : ℕ) (d : SketchBond) → k < l.bond-index → ((get_or l.bonds k d).a ≡ l.a → (get_or l.bonds k d).b ≡ l.b → ⊥) × ((get_or l.bonds k d).a ≡ l.b → (get_or l.bonds k d).b ≡ l.a → ⊥)
+    (k : ℕ) (d : SketchBond) → k < l.bond-index → ((get_or l.bonds k d).a ≡ l.a → (get_or l.bonds k d).b ≡ l.b → ⊥)
+    × ((get_or l.bonds k d).a ≡ l.b → (get_or l.bonds k d).b ≡ l.a → ⊥)

@@ -6,9 +6,23 @@ use Rattle.smarts_words.proofs.atom.organic_word.Goals as goal
 pub returns-in-Some : goal.returns-in-Some
 returns-in-Some c =
     let f = c.in-Some.ensures in
-    record { atom = organic f.0; is = tt; bare = tt; spelled = f.1; value = ap single (c.symbol.ensures ∙ ap (λ n. words.Symbol n false) f.2) }
+    record {
+      atom = organic f.0;
+      is = tt;
+      bare = tt;
+      spelled = f.1;
+      value =
+          ap single (c.symbol.ensures ∙ ap (λ n. words.Symbol n false) f.2);
+    }
 
 pub returns-in-Some-small_number : goal.returns-in-Some-small_number
 returns-in-Some-small_number c =
     let f = c.in-Some-small_number.ensures in
-    record { atom = small f.0; is = f.1; bare = tt; spelled = f.2; value = ap single (c.symbol-in-Some-small_number.ensures ∙ ap (λ n. words.Symbol n true) f.3) }
+    record {
+      atom = small f.0;
+      is = f.1;
+      bare = tt;
+      spelled = f.2;
+      value =
+          ap single (c.symbol-in-Some-small_number.ensures ∙ ap (λ n. words.Symbol n true) f.3);
+    }

@@ -5,13 +5,16 @@ use Rattle.smarts_words.specs.State.{joins}
 use Rattle.smarts_words.proofs.bond.joint_at.Goals as goal
 
 pub returns-in-59-clause-found : goal.returns-in-59-clause-found
-returns-in-59-clause-found c = joins semicolon refl (front_is c.args.bytes.now 59 c.in-59.len_at_least (omega arith)) (λ e. absurd (cc))
+returns-in-59-clause-found c = joins semicolon refl (front_is c.args.bytes.now 59 c.in-59.len_at_least (omega arith))
+    (λ e. absurd (cc))
 
 pub returns-in-44-clause-found : goal.returns-in-44-clause-found
-returns-in-44-clause-found c = joins comma refl (front_is c.args.bytes.now 44 c.in-44.len_at_least (omega arith)) (λ e. absurd (cc))
+returns-in-44-clause-found c = joins comma refl (front_is c.args.bytes.now 44 c.in-44.len_at_least (omega arith))
+    (λ e. absurd (cc))
 
 pub returns-in-38-clause-found : goal.returns-in-38-clause-found
-returns-in-38-clause-found c = joins ampersand refl (front_is c.args.bytes.now 38 c.in-38.len_at_least (omega arith)) (λ e. absurd (cc))
+returns-in-38-clause-found c = joins ampersand refl (front_is c.args.bytes.now 38 c.in-38.len_at_least (omega arith))
+    (λ e. absurd (cc))
 
 pub returns-then-begins_bond-clause-found : goal.returns-then-begins_bond-clause-found
 returns-then-begins_bond-clause-found c = joins beside refl refl (λ _ b bs e.

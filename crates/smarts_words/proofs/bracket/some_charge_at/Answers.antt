@@ -11,7 +11,9 @@ use Rattle.smarts_words.proofs.bracket.some_charge_at.Goals as goal
 pub returns-in-Some : goal.returns-in-Some
 returns-in-Some c =
     let fits : SFits w16 c.in-Some.charge = search rules in
-    subst (λ (v : ℤ). Reads charge_text IsCharge charge_value BeginsEnd c.args.bytes.now (Some (Some v, c.in-Some.rest.now))) (sym (to_z-of_z w16 c.in-Some.charge fits)) (charge_some c.args.bytes.now c.in-Some.rest.now c.in-Some.charge c.in-Some.ensures)
+    subst (λ (v : ℤ). Reads charge_text IsCharge charge_value BeginsEnd c.args.bytes.now
+    (Some (Some v, c.in-Some.rest.now))) (sym (to_z-of_z w16 c.in-Some.charge fits)) (charge_some c.args.bytes.now
+    c.in-Some.rest.now c.in-Some.charge c.in-Some.ensures)
 
 pub returns-in-None : goal.returns-in-None
 returns-in-None c = charge_none c.args.bytes.now c.in-None.ensures

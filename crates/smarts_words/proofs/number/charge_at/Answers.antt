@@ -21,7 +21,8 @@ returns-in_ok-amount-in-43 c =
     let f = c.in_ok-amount-in-43.ensures.found plus refl _ front in
     record {
       found = (f.0, f.1, f.2, f.3, plus_value c.in_ok-amount-in-43.amount c.in_ok-amount-in-43.ensures.few ∙ f.4);
-      only = λ x rest is follows h. c.in_ok-amount-in-43.ensures.only x rest is follows (first_sign x rest _ 43 is (sym h ∙ front)) h;
+      only = λ x rest is follows h. c.in_ok-amount-in-43.ensures.only x rest is follows
+          (first_sign x rest _ 43 is (sym h ∙ front)) h;
     }
 
 pub returns-in_ok-amount-in-45 : goal.returns-in_ok-amount-in-45
@@ -31,5 +32,6 @@ returns-in_ok-amount-in-45 c =
     let f = c.in_ok-amount-in-45.ensures.found minus refl _ front in
     record {
       found = (f.0, f.1, f.2, f.3, minus_value c.in_ok-amount-in-45.amount c.in_ok-amount-in-45.ensures.few ∙ f.4);
-      only = λ x rest is follows h. c.in_ok-amount-in-45.ensures.only x rest is follows (first_sign x rest _ 45 is (sym h ∙ front)) h;
+      only = λ x rest is follows h. c.in_ok-amount-in-45.ensures.only x rest is follows
+          (first_sign x rest _ 45 is (sym h ∙ front)) h;
     }

@@ -9,7 +9,8 @@ no_bytes [] l = refl
 no_bytes (x ∷ xs) l = absurd (omega arith)
 
 pub returns-in-Some : goal.returns-in-Some
-returns-in-Some c = let f = c.in-Some.ensures.found in pair_taken c.args.bytes.now c.in-Some.rest.now f.0 f.1 c.in-Some.word f.2 f.3
+returns-in-Some c = let f = c.in-Some.ensures.found in pair_taken c.args.bytes.now c.in-Some.rest.now f.0 f.1
+    c.in-Some.word f.2 f.3
 
 pub returns-in_default-bytes : goal.returns-in_default-bytes
 returns-in_default-bytes c = empty_refused c.args.bytes.now (no_bytes c.args.bytes.now c.in_default-bytes.len_below)
@@ -20,16 +21,19 @@ returns-in-Some-letter_of c =
     let front = front_is bytes (get_or bytes 0 0) c.in-len1-up.len_at_least refl in
     let r = take (length bytes - 1) (drop 1 bytes) in
     let e : get_or bytes 0 0 ≡ letter_byte c.in-Some-letter_of.letter = sym c.in-Some-letter_of.ensures in
-    count_taken bytes r c.in-Some-letter_of.letter _ (front ∙ ap (λ v. v ∷ r) e) c.in_default.ensures.none c.count_at.ensures
+    count_taken bytes r c.in-Some-letter_of.letter _ (front ∙ ap (λ v. v ∷ r) e) c.in_default.ensures.none
+    c.count_at.ensures
 
 pub returns-in-Some-one_letter : goal.returns-in-Some-one_letter
 returns-in-Some-one_letter c =
     let bytes = c.args.bytes.now in
     let front = front_is bytes (get_or bytes 0 0) c.in-len1-up.len_at_least refl in
-    single_taken bytes _ (get_or bytes 0 0) c.in-Some-one_letter.word front c.in_default.ensures.none c.in-None.ensures c.in-Some-one_letter.ensures
+    single_taken bytes _ (get_or bytes 0 0) c.in-Some-one_letter.word front c.in_default.ensures.none c.in-None.ensures
+    c.in-Some-one_letter.ensures
 
 pub returns-in-None-one_letter : goal.returns-in-None-one_letter
 returns-in-None-one_letter c =
     let bytes = c.args.bytes.now in
     let front = front_is bytes (get_or bytes 0 0) c.in-len1-up.len_at_least refl in
-    single_refused bytes _ (get_or bytes 0 0) front c.in_default.ensures.none c.in-None.ensures c.in-None-one_letter.ensures
+    single_refused bytes _ (get_or bytes 0 0) front c.in_default.ensures.none c.in-None.ensures
+    c.in-None-one_letter.ensures

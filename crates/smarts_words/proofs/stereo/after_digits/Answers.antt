@@ -19,8 +19,13 @@ returns-clause-found c =
     let one : IsDigit (get_or bytes 0 0) = grind (arith, common_steps) in
     let two : IsDigit (get_or r 0 0) = grind (arith, common_steps) in
     let front = front_is bytes (get_or bytes 0 0) c.in-len1-up.len_at_least refl in
-    let second = front_is r (get_or r 0 0) c.in-len1-up-rest.len_at_least refl in
-    (get_or bytes 0 0 ∷ get_or r 0 0 ∷ [], (omega arith, omega arith, (one, (two, tt))), front ∙ ap (λ v. get_or bytes 0 0 ∷ v) second, tt)
+    let second = front_is r (get_or r 0 0) c.in-len1-up-rest.len_at_least refl in (
+      get_or bytes 0 0 ∷ get_or r 0 0 ∷ [],
+      (omega arith, omega arith, (one, (two, tt))),
+      front
+          ∙ ap (λ v. get_or bytes 0 0 ∷ v) second,
+      tt,
+    )
 
 pub returns-then-not-is_digit-2-clause-found : goal.returns-then-not-is_digit-2-clause-found
 returns-then-not-is_digit-2-clause-found c =
@@ -28,8 +33,12 @@ returns-then-not-is_digit-2-clause-found c =
     let r = take (length bytes - 1) (drop 1 bytes) in
     let one : IsDigit (get_or bytes 0 0) = grind (arith, common_steps) in
     let front = front_is bytes (get_or bytes 0 0) c.in-len1-up.len_at_least refl in
-    let other : ¬ IsDigit (get_or r 0 0) = grind (arith, common_steps) in
-    (get_or bytes 0 0 ∷ [], (omega arith, omega arith, (one, tt)), front, no_first r _ (get_or r 0 0) (front_is r (get_or r 0 0) c.in-len1-up-rest.len_at_least refl) other)
+    let other : ¬ IsDigit (get_or r 0 0) = grind (arith, common_steps) in (
+      get_or bytes 0 0 ∷ [],
+      (omega arith, omega arith, (one, tt)),
+      front,
+      no_first r _ (get_or r 0 0) (front_is r (get_or r 0 0) c.in-len1-up-rest.len_at_least refl) other,
+    )
 
 pub returns-in_default-rest-clause-found : goal.returns-in_default-rest-clause-found
 returns-in_default-rest-clause-found c =

@@ -10,6 +10,7 @@ returns-in-Some-after_digits c =
     let rest = c.in-Some-after_digits.rest.now in (
       numbered k.0 d.0,
       d.1,
-      ap (λ (v : List ℕ). 64 ∷ v) (k.1 ∙ ap (λ v. class_bytes k.0 ++ v) d.2 ∙ sym (append_assoc (class_bytes k.0) d.0 rest)),
+      ap (λ (v : List ℕ). 64 ∷ v) (k.1 ∙ ap (λ v. class_bytes k.0 ++ v) d.2
+          ∙ sym (append_assoc (class_bytes k.0) d.0 rest)),
       d.3,
     )

@@ -10,7 +10,14 @@ use Rattle.std.proofs.Common.{true}
 pub returns-in-Some : goal.returns-in-Some
 returns-in-Some c =
     let f = c.in-Some.ensures in
-    record { prim = lower f.0; is = tt; bare = tt; spelled = f.2; value = c.symbol.ensures ∙ ap (λ n. words.Symbol n true) f.3 }
+    record {
+      prim = lower f.0;
+      is = tt;
+      bare = tt;
+      spelled = f.2;
+      value = c.symbol.ensures
+          ∙ ap (λ n. words.Symbol n true) f.3;
+    }
 
 pub returns-in-Some-number_of : goal.returns-in-Some-number_of
 returns-in-Some-number_of c =

@@ -8,13 +8,31 @@ use Rattle.smarts_words.proofs.symbol.pair_word.Goals as goal
 
 pub returns-in-115-eq101 : goal.returns-in-115-eq101
 returns-in-115-eq101 c =
-    let e : 115 ∷ 101 ∷ [] ≡ c.args.first ∷ c.args.second ∷ [] = ap (λ v. v ∷ 101 ∷ []) (sym c.in-115-eq101.is-0) ∙ ap (λ v. c.args.first ∷ v ∷ []) (sym c.in-115-eq101.is-1) in
-    record { prim = lower small_se; is = tt; bare = tt; spelled = e; symbol = inr (small_se, e); value = c.symbol.ensures }
+    let e : 115 ∷ 101 ∷ [] ≡ c.args.first ∷ c.args.second ∷ [] = ap (λ v. v ∷ 101 ∷ []) (sym c.in-115-eq101.is-0)
+    ∙ ap (λ v. c.args.first ∷ v ∷ []) (sym c.in-115-eq101.is-1) in
+    record {
+      prim = lower small_se;
+      is = tt;
+      bare = tt;
+      spelled = e;
+      symbol = inr (small_se, e);
+      value =
+          c.symbol.ensures;
+    }
 
 pub returns-in-97-eq115 : goal.returns-in-97-eq115
 returns-in-97-eq115 c =
-    let e : 97 ∷ 115 ∷ [] ≡ c.args.first ∷ c.args.second ∷ [] = ap (λ v. v ∷ 115 ∷ []) (sym c.in-97-eq115.is-0) ∙ ap (λ v. c.args.first ∷ v ∷ []) (sym c.in-97-eq115.is-1) in
-    record { prim = lower small_as; is = tt; bare = tt; spelled = e; symbol = inr (small_as, e); value = c.symbol-in-97-eq115.ensures }
+    let e : 97 ∷ 115 ∷ [] ≡ c.args.first ∷ c.args.second ∷ [] = ap (λ v. v ∷ 115 ∷ []) (sym c.in-97-eq115.is-0)
+    ∙ ap (λ v. c.args.first ∷ v ∷ []) (sym c.in-97-eq115.is-1) in
+    record {
+      prim = lower small_as;
+      is = tt;
+      bare = tt;
+      spelled = e;
+      symbol = inr (small_as, e);
+      value =
+          c.symbol-in-97-eq115.ensures;
+    }
 
 pub returns-in-Some : goal.returns-in-Some
 returns-in-Some c =

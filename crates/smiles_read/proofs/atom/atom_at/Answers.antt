@@ -6,7 +6,8 @@ use Rattle.smiles_read.proofs.Results.{reads_as}
 use Rattle.smiles_read.proofs.atom.atom_at.Goals as goal
 
 -- an atom that begins with `[`
-in_brackets : (bytes after : List ℕ) → bytes ≡ 91 ∷ after → (y : AtomText) (rest : List ℕ) → IsAtomText y → bytes ≡ atom_text y ++ rest → (x : Bracket) × IsBracket x × (91 ∷ after ≡ bracket_text x ++ rest)
+in_brackets : (bytes after : List ℕ) → bytes ≡ 91 ∷ after → (y : AtomText) (rest : List ℕ) → IsAtomText y
+    → bytes ≡ atom_text y ++ rest → (x : Bracket) × IsBracket x × (91 ∷ after ≡ bracket_text x ++ rest)
 in_brackets bytes after e star rest is h = absurd (let k = heads 91 42 after rest (sym e ∙ h) in omega (arith, k))
 in_brackets bytes after e (organic x) rest is h = absurd (not_organic 91 after rest x (inr (omega arith)) (sym e ∙ h))
 in_brackets bytes after e (aromatic x) rest is h = absurd (not_small 91 after rest x (omega arith) (sym e ∙ h))

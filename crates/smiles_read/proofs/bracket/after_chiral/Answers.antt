@@ -14,8 +14,13 @@ returns-in-Some c =
     let front = front_is bytes 64 (omega arith) (omega arith) in
     reads_as _ c.after_number.result c.after_number.ensures
     (λ n v rest is k e.
-    let few = is.1 in
-    (numbered kind n, (is.0, omega arith), front ∙ ap (λ w. 64 ∷ w) (spelled ∙ ap (λ w. class_bytes kind ++ w) k) ∙ sym (numbered_text kind n rest), e))
+    let few = is.1 in (
+      numbered kind n,
+      (is.0, omega arith),
+      front ∙ ap (λ w. 64 ∷ w) (spelled ∙ ap (λ w. class_bytes kind ++ w) k)
+          ∙ sym (numbered_text kind n rest),
+      e,
+    ))
     (λ x rest is after h.
     let p = chiral_only x rest bytes c.in-Some.rest.now kind is after h (front ∙ ap (λ w. 64 ∷ w) spelled) in
     let few = p.2 in

@@ -9,7 +9,13 @@ returns c =
     let split = c.digits_at.ensures.split in
     let front : bytes ≡ 58 ∷ take (length bytes - 1) (drop 1 bytes) = grind (arith, common_steps) in
     record {
-      found = (Some c.digits_at.result.0.now, (grind (arith, common_steps), c.digits_at.ensures.digits), grind (arith, common_steps), refl);
+      found = (
+        Some c.digits_at.result.0.now,
+        (grind (arith, common_steps), c.digits_at.ensures.digits),
+        grind (arith, common_steps),
+        refl,
+      );
       only = λ x rest is after h.
-          class_only x rest bytes _ c.digits_at.result.0.now c.digits_at.result.1.now is after h front c.digits_at.ensures.split c.digits_at.ensures.digits c.digits_at.ensures.all;
+          class_only x rest bytes _ c.digits_at.result.0.now c.digits_at.result.1.now is after h front
+          c.digits_at.ensures.split c.digits_at.ensures.digits c.digits_at.ensures.all;
     }

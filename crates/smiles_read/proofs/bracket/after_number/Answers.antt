@@ -11,7 +11,9 @@ returns-then-number-eq0 c = record {
       let most = c.requires in
       let some = is.0 in
       let few = is.1 in
-      let same = same_digits c.digits_at.result.0.now (decimal n) c.digits_at.result.1.now rest c.digits_at.ensures.digits (decimal_digits n (omega arith)) c.digits_at.ensures.all after (sym c.digits_at.ensures.split ∙ h) in
+      let same = same_digits c.digits_at.result.0.now (decimal n) c.digits_at.result.1.now rest
+      c.digits_at.ensures.digits (decimal_digits n (omega arith)) c.digits_at.ensures.all after
+      (sym c.digits_at.ensures.split ∙ h) in
       let number = c.short_number-number.ensures.only n (omega arith) same.0 in
       elim c.then-number-eq0.branch [
         | then-number-eq0-via-then-number-eq0 w ↦ omega arith
@@ -33,5 +35,6 @@ returns c = record {
   only = λ n rest is after h.
       let most = c.requires in
       let few = is.1 in
-      (same_digits c.digits_at.result.0.now (decimal n) c.digits_at.result.1.now rest c.digits_at.ensures.digits (decimal_digits n (omega arith)) c.digits_at.ensures.all after (sym c.digits_at.ensures.split ∙ h)).1;
+      (same_digits c.digits_at.result.0.now (decimal n) c.digits_at.result.1.now rest c.digits_at.ensures.digits
+      (decimal_digits n (omega arith)) c.digits_at.ensures.all after (sym c.digits_at.ensures.split ∙ h)).1;
 }

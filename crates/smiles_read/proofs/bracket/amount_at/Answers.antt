@@ -10,8 +10,10 @@ returns-then-more-gt14-clause-reads c s es = record {
   only = λ x rest is after h.
       let d = c.digits_at.result.0.now in
       let none : length d ≡ 0 = grind (arith, nat_tests) in
-      let p = amount_empty s c.args.sign x rest c.args.bytes.now c.run_at-more.result.1.now d c.digits_at.result.1.now c.run_at-more.result.0 es is after h none
-      c.digits_at.ensures.split c.digits_at.ensures.all c.run_at-more.ensures.found c.run_at-more.ensures.few c.run_at-more.ensures.all in
+      let p = amount_empty s c.args.sign x rest c.args.bytes.now c.run_at-more.result.1.now d c.digits_at.result.1.now
+      c.run_at-more.result.0 es is after h none
+      c.digits_at.ensures.split c.digits_at.ensures.all c.run_at-more.ensures.found c.run_at-more.ensures.few
+      c.run_at-more.ensures.all in
       let q = p.0 in
       omega arith;
 }
@@ -21,14 +23,17 @@ returns-then-is_empty-clause-reads c s es = record {
   found = (
     run s (c.run_at-more.result.0 + 1),
     (omega arith, omega arith),
-    run_found s c.args.sign c.run_at-more.result.0 c.args.bytes.now c.run_at-more.result.1.now es c.run_at-more.ensures.found,
+    run_found s c.args.sign c.run_at-more.result.0 c.args.bytes.now c.run_at-more.result.1.now es
+        c.run_at-more.ensures.found,
     refl,
   );
   only = λ x rest is after h.
       let d = c.digits_at.result.0.now in
       let none : length d ≡ 0 = grind (arith, nat_tests) in
-      (amount_empty s c.args.sign x rest c.args.bytes.now c.run_at-more.result.1.now d c.digits_at.result.1.now c.run_at-more.result.0 es is after h none
-      c.digits_at.ensures.split c.digits_at.ensures.all c.run_at-more.ensures.found c.run_at-more.ensures.few c.run_at-more.ensures.all).1;
+      (amount_empty s c.args.sign x rest c.args.bytes.now c.run_at-more.result.1.now d c.digits_at.result.1.now
+      c.run_at-more.result.0 es is after h none
+      c.digits_at.ensures.split c.digits_at.ensures.all c.run_at-more.ensures.found c.run_at-more.ensures.few
+      c.run_at-more.ensures.all).1;
 }
 
 pub returns-then-digits-gt2-clause-reads : goal.returns-then-digits-gt2-clause-reads
@@ -37,7 +42,8 @@ returns-then-digits-gt2-clause-reads c s es = record {
   only = λ x rest is after h.
       let d = c.digits_at.result.0.now in
       let some : 1 ≤ length d = grind (arith, nat_tests) in
-      let p = amount_digits s c.args.sign x rest c.args.bytes.now d c.digits_at.result.1.now es is after h c.digits_at.ensures.split some c.digits_at.ensures.digits c.digits_at.ensures.all in
+      let p = amount_digits s c.args.sign x rest c.args.bytes.now d c.digits_at.result.1.now es is after h
+      c.digits_at.ensures.split some c.digits_at.ensures.digits c.digits_at.ensures.all in
       let q = p.0.1 in
       omega arith;
 }
@@ -48,7 +54,8 @@ returns-then-amount-gt15-clause-reads c s es = record {
   only = λ x rest is after h.
       let d = c.digits_at.result.0.now in
       let some : 1 ≤ length d = grind (arith, nat_tests) in
-      let p = amount_digits s c.args.sign x rest c.args.bytes.now d c.digits_at.result.1.now es is after h c.digits_at.ensures.split some c.digits_at.ensures.digits c.digits_at.ensures.all in
+      let p = amount_digits s c.args.sign x rest c.args.bytes.now d c.digits_at.result.1.now es is after h
+      c.digits_at.ensures.split some c.digits_at.ensures.digits c.digits_at.ensures.all in
       let q = p.0.3 in
       let v = c.value-amount.ensures.value in
       omega arith;
@@ -67,5 +74,6 @@ returns-clause-reads c s es =
         ap (λ n. signed s n) v,
       );
       only = λ x rest is after h.
-          (amount_digits s c.args.sign x rest c.args.bytes.now d c.digits_at.result.1.now es is after h c.digits_at.ensures.split some c.digits_at.ensures.digits c.digits_at.ensures.all).1;
+          (amount_digits s c.args.sign x rest c.args.bytes.now d c.digits_at.result.1.now es is after h
+          c.digits_at.ensures.split some c.digits_at.ensures.digits c.digits_at.ensures.all).1;
     }

@@ -3,7 +3,8 @@ use Rattle.smiles_read.specs.Owed.Digits.{one_value, both_digits, one_found, one
 use Rattle.smiles_read.proofs.digit.short_number.Goals as goal
 
 pub returns-then-tens-eq48-clause-only : goal.returns-then-tens-eq48-clause-only
-returns-then-tens-eq48-clause-only c n le h = let p = two_only c.args.digits.now n (omega arith) le h in let q = p.1 in omega arith
+returns-then-tens-eq48-clause-only c n le h = let p = two_only c.args.digits.now n (omega arith) le h in let q = p.1 in
+    omega arith
 
 pub returns-in-len1-clause-found : goal.returns-in-len1-clause-found
 returns-in-len1-clause-found c = inr (one_found c.args.digits.now (omega arith) c.requires)
@@ -18,10 +19,18 @@ pub returns-else-tens-eq48-clause-only : goal.returns-else-tens-eq48-clause-only
 returns-else-tens-eq48-clause-only c n le h = (two_only c.args.digits.now n (omega arith) le h).0
 
 pub returns-in_default-clause-only : goal.returns-in_default-clause-only
-returns-in_default-clause-only c n le h = elim (other_only c.args.digits.now n le h) [ inl e ↦ omega arith | inr e ↦ omega arith ]
+returns-in_default-clause-only c n le h = elim (other_only c.args.digits.now n le h) [
+  | inl e ↦ omega arith
+  | inr e ↦
+      omega arith
+]
 
 pub returns-in_default-2-clause-only : goal.returns-in_default-2-clause-only
-returns-in_default-2-clause-only c n le h = elim (other_only c.args.digits.now n le h) [ inl e ↦ omega arith | inr e ↦ omega arith ]
+returns-in_default-2-clause-only c n le h = elim (other_only c.args.digits.now n le h) [
+  | inl e ↦ omega arith
+  | inr e ↦
+      omega arith
+]
 
 pub returns-then-tens-eq48-clause-found : goal.returns-then-tens-eq48-clause-found
 returns-then-tens-eq48-clause-found c = inl refl

@@ -15,5 +15,7 @@ returns c =
     let bonds : length graph.links.items ≤ MOST_BONDS = grind (arith, common_steps) in
     ok_then c.are_few_neighbours.result c.are_few_neighbours.ensures (λ r h.
     let P : List (Link SketchKind) → Type 0 = λ w. IsTrue r ↔ ((a : ℕ) → degree (link_ends w) a ≤ 12) in
-    let k = subst P c.deref.ensures.value h in
-    (λ e. record { depth = c.if-graph-gt-MOST_BRANCHES.false; atoms = atoms; bonds = bonds; neighbours = k.0 e }, λ s. k.1 s.neighbours))
+    let k = subst P c.deref.ensures.value h in (
+      λ e. record { depth = c.if-graph-gt-MOST_BRANCHES.false; atoms = atoms; bonds = bonds; neighbours = k.0 e },
+      λ s. k.1 s.neighbours,
+    ))

@@ -11,7 +11,14 @@ pub returns-then-not-branch-clause-reading : goal.returns-then-not-branch-clause
 returns-then-not-branch-clause-reading c =
     let graph = c.in_ok-graph.graph in
     let a = answered c.args.text.now graph c.in_ok-graph.ensures.reading c.in_ok-graph.ensures.depth in
-    inr (a.tree, sketch_of graph, a.is, a.sketch, λ w. let k = c.in_ok-is_small.ensures.1 (a.small w) in let f = c.if-not-branch.true in cc)
+    inr (
+      a.tree,
+      sketch_of graph,
+      a.is,
+      a.sketch,
+      λ w. let k = c.in_ok-is_small.ensures.1 (a.small w) in let f =
+          c.if-not-branch.true in cc,
+    )
 
 pub returns-clause-reading : goal.returns-clause-reading
 returns-clause-reading c =
@@ -19,14 +26,20 @@ returns-clause-reading c =
     let a = answered c.args.text.now graph c.in_ok-graph.ensures.reading c.in_ok-graph.ensures.depth in
     let within = a.within (c.in_ok-is_small.ensures.0 c.if-not-branch.false) in
     let P : SketchTerm → Type 0 = λ s. IsSketchOf a.tree s in
-    let Q : SketchTerm → Type 0 = λ s. IsWithinLimits a.tree s in
-    (c.if-text-gt-MOST_BYTES.false, a.tree, a.is, subst P (sym c.in_ok-sketch.ensures) a.sketch, subst Q (sym c.in_ok-sketch.ensures) within)
+    let Q : SketchTerm → Type 0 = λ s. IsWithinLimits a.tree s in (
+      c.if-text-gt-MOST_BYTES.false,
+      a.tree,
+      a.is,
+      subst P (sym c.in_ok-sketch.ensures) a.sketch,
+      subst Q (sym c.in_ok-sketch.ensures) within,
+    )
 
 pub returns-clause-sound : goal.returns-clause-sound
 returns-clause-sound c =
     let graph = c.in_ok-graph.graph in
     let P : SketchTerm → Type 0 = λ s. IsSound s in
-    subst P (sym c.in_ok-sketch.ensures) (sketch_sound c.args.text.now graph c.in_ok-graph.ensures.reading c.in_ok-graph.ensures.ends (c.in_ok-is_small.ensures.0 c.if-not-branch.false))
+    subst P (sym c.in_ok-sketch.ensures) (sketch_sound c.args.text.now graph c.in_ok-graph.ensures.reading
+    c.in_ok-graph.ensures.ends (c.in_ok-is_small.ensures.0 c.if-not-branch.false))
 
 pub returns-clause-few_hydrogens : goal.returns-clause-few_hydrogens
 returns-clause-few_hydrogens c =

@@ -12,10 +12,12 @@ returns-in-Some c =
       found = (
         c.in-Some.number,
         c.in-Some.ensures.range,
-        f.3 ∙ ap (λ w. w ++ c.in-Some.rest.now) (sym (get_or_from_slice_get symbols c.in-Some.number (f.0 ∷ f.1 ∷ []) [] f.2)),
+        f.3 ∙ ap (λ w. w ++ c.in-Some.rest.now)
+            (sym (get_or_from_slice_get symbols c.in-Some.number (f.0 ∷ f.1 ∷ []) [] f.2)),
         refl,
       );
-      only = λ n rest le after h. (element_two n c.in-Some.number f.0 f.1 c.in-Some.rest.now rest le c.in-Some.ensures.range f.2 (sym f.3 ∙ h) after).0;
+      only = λ n rest le after h. (element_two n c.in-Some.number f.0 f.1 c.in-Some.rest.now rest le
+          c.in-Some.ensures.range f.2 (sym f.3 ∙ h) after).0;
     }
 
 pub returns-in_err-number-in-None : goal.returns-in_err-number-in-None
@@ -34,7 +36,8 @@ returns-in_ok-number-in-None c =
       found = (
         c.in_ok-number-in-None.number,
         c.in_ok-number-in-None.ensures.range,
-        f.2 ∙ ap (λ w. w ++ c.in_ok-number-in-None.rest.now) (sym (get_or_from_slice_get symbols c.in_ok-number-in-None.number (f.0 ∷ []) [] f.1)),
+        f.2 ∙ ap (λ w. w ++ c.in_ok-number-in-None.rest.now)
+            (sym (get_or_from_slice_get symbols c.in_ok-number-in-None.number (f.0 ∷ []) [] f.1)),
         refl,
       );
       only = λ n rest le after h.

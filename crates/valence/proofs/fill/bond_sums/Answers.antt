@@ -16,5 +16,6 @@ loop-bond-preserved c =
       long = rw (length-set, length-set) long;
       each =
           rw (c.from.ensures, c.from-in-loop-bond.ensures)
-          (tally-more adds _ c.args.bonds.now c.loop-bond.bond-index _ _ _ within (rw long range.0) (rw long range.1) (c.requires.distinct _ _ within) (adds-at _ _ c.order-order.ensures.value) c.loop-bond.invariant.each);
+          (tally-more adds _ c.args.bonds.now c.loop-bond.bond-index _ _ _ within (rw long range.0) (rw long range.1)
+          (c.requires.distinct _ _ within) (adds-at _ _ c.order-order.ensures.value) c.loop-bond.invariant.each);
     }

@@ -32,7 +32,9 @@ pub returns-clause-filled : goal.returns-clause-filled
 returns-clause-filled c = grind (arith, common_steps)
 
 pub returns-clause-sound : goal.returns-clause-sound
-returns-clause-sound c = subst IsSound (sym (returns-clause-filled c)) (filled-sound c.args.sketch.now c.requires.sound c.requires.few)
+returns-clause-sound c = subst IsSound (sym (returns-clause-filled c)) (filled-sound c.args.sketch.now c.requires.sound
+    c.requires.few)
 
 pub returns-clause-few : goal.returns-clause-few
-returns-clause-few c = rw (ap (λ s. s.atoms) (returns-clause-filled c)) (filled-few c.args.sketch.now c.requires.sound c.requires.few)
+returns-clause-few c = rw (ap (λ s. s.atoms) (returns-clause-filled c)) (filled-few c.args.sketch.now c.requires.sound
+    c.requires.few)

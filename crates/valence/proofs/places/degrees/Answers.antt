@@ -12,8 +12,11 @@ loop-bond-init c = record { long = refl; each = zeros 999 }
 
 pub overflow_add-degrees : goal.overflow_add-degrees
 overflow_add-degrees c =
-    tally-first-fits one c.loop-bond.degrees c.args.bonds.now c.loop-bond.bond-index 1 1 _ c.from.result c.from.ensures c.loop-bond-test.true (ends-at _ _) c.loop-bond.invariant.each c.requires.few
+    tally-first-fits one c.loop-bond.degrees c.args.bonds.now c.loop-bond.bond-index 1 1 _ c.from.result c.from.ensures
+    c.loop-bond-test.true (ends-at _ _) c.loop-bond.invariant.each c.requires.few
 
 pub overflow_add-degrees-in-loop-bond : goal.overflow_add-degrees-in-loop-bond
 overflow_add-degrees-in-loop-bond c =
-    tally-second-fits one c.loop-bond.degrees c.args.bonds.now c.loop-bond.bond-index 1 1 _ c.from.result c.from-in-loop-bond.result c.from.ensures c.from-in-loop-bond.ensures c.loop-bond-test.true (c.requires.distinct _ _ c.loop-bond-test.true) (ends-at _ _) c.loop-bond.invariant.each c.requires.few
+    tally-second-fits one c.loop-bond.degrees c.args.bonds.now c.loop-bond.bond-index 1 1 _ c.from.result
+    c.from-in-loop-bond.result c.from.ensures c.from-in-loop-bond.ensures c.loop-bond-test.true
+    (c.requires.distinct _ _ c.loop-bond-test.true) (ends-at _ _) c.loop-bond.invariant.each c.requires.few

@@ -5,5 +5,6 @@ use Rattle.valence.proofs.places.gains.Given as goal
 abbrev pub invariant-loop-bond : goal.invariant-loop-bond
 invariant-loop-bond l = record {
   long : length l.gains ≡ 999;
-  each : (a : ℕ) → slice_index l.gains a ≡ count_by (brings (λ k. slice_index_or l.goes k false) a) (take l.bond-index l.bonds);
+  each : (a : ℕ) → slice_index l.gains a ≡ count_by (brings (λ k. slice_index_or l.goes k false) a)
+      (take l.bond-index l.bonds);
 }

@@ -27,5 +27,6 @@ loop-place-preserved c =
     record {
       long = rw length-set c.loop-place.invariant.long;
       count = omega (arith, more, count, one);
-      each = places-more (gone c.args.goes.now) c.loop-place.places c.loop-place.place c.loop-place.kept (omega (arith, c.loop-place.invariant.long, within, few)) count c.loop-place.invariant.each;
+      each = places-more (gone c.args.goes.now) c.loop-place.places c.loop-place.place c.loop-place.kept
+          (omega (arith, c.loop-place.invariant.long, within, few)) count c.loop-place.invariant.each;
     }

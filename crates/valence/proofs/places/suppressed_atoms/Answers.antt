@@ -13,10 +13,12 @@ loop-place-preserved c =
     let within = c.loop-place-test.true in
     let few = c.requires.few in
     let long = c.loop-place.invariant.long in
-    let is = c.is_taken.ensures ∙ sym (suppressed-within s c.loop-place.place _ within (c.degrees-degrees.ensures c.loop-place.place) (c.heavy_neighbours-leads.ensures c.loop-place.place)) in
+    let is = c.is_taken.ensures ∙ sym (suppressed-within s c.loop-place.place _ within
+    (c.degrees-degrees.ensures c.loop-place.place) (c.heavy_neighbours-leads.ensures c.loop-place.place)) in
     record {
       long = rw length-set long;
-      known = known-more s c.loop-place.goes c.loop-place.place c.is_taken.result (omega (arith, long, few, within)) is c.loop-place.invariant.known;
+      known = known-more s c.loop-place.goes c.loop-place.place c.is_taken.result (omega (arith, long, few, within)) is
+          c.loop-place.invariant.known;
       later = later-more c.loop-place.goes c.loop-place.place c.is_taken.result c.loop-place.invariant.later;
     }
 

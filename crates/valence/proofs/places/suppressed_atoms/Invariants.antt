@@ -5,6 +5,7 @@ use Rattle.valence.proofs.places.suppressed_atoms.Given as goal
 abbrev pub invariant-loop-place : goal.invariant-loop-place
 invariant-loop-place l = record {
   long : length l.goes ≡ 999;
-  known : (a : ℕ) → a < l.place → slice_index_or l.goes a false ≡ is_suppressed (record { atoms = l.atoms; bonds = l.bonds }) a;
+  known : (a : ℕ) → a < l.place → slice_index_or l.goes a false
+      ≡ is_suppressed (record { atoms = l.atoms; bonds = l.bonds }) a;
   later : (a : ℕ) → l.place ≤ a → slice_index_or l.goes a false ≡ false;
 }

@@ -12,7 +12,8 @@ kept goes b = stays (λ k. get_or goes k false) b
 pub renumber-requires : goal.renumber-requires
 renumber-requires c =
     let filtered = filter_same _ (kept c.args.goes.now) _ (λ x b q k. search rules) _ _ c.retain.ensures.filtered in
-    rw (c.deref_mut.ensures.value, filtered) (All-filter (kept c.args.goes.now) (λ b. (b.a < length c.args.places.now) × (b.b < length c.args.places.now)) c.args.bonds.now.items c.requires)
+    rw (c.deref_mut.ensures.value, filtered) (All-filter (kept c.args.goes.now) (λ b. (b.a < length c.args.places.now)
+    × (b.b < length c.args.places.now)) c.args.bonds.now.items c.requires)
 
 pub returns : goal.returns
 returns c =

@@ -8,5 +8,6 @@ pub returns-else-has_bare_hydrogen-clause-suppressed :
     goal.returns-else-has_bare_hydrogen-clause-suppressed
 returns-else-has_bare_hydrogen-clause-suppressed c =
     let atoms = c.deref.ensures.value ∙ ap (λ s. s.atoms) c.sketch.view_is in
-    let without : list_any is_bare_hydrogen c.args.sketch.now.atoms ≡ false = sym (ap (list_any is_bare_hydrogen) atoms) ∙ sym c.has_bare_hydrogen.ensures ∙ c.if-has_bare_hydrogen.false in
+    let without : list_any is_bare_hydrogen c.args.sketch.now.atoms ≡ false = sym (ap (list_any is_bare_hydrogen) atoms)
+    ∙ sym c.has_bare_hydrogen.ensures ∙ c.if-has_bare_hydrogen.false in
     sym (suppressed-no_hydrogen c.args.sketch.now without)

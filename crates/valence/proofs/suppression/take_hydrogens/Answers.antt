@@ -11,7 +11,12 @@ use Rattle.valence.proofs.suppression.take_hydrogens.Goals as goal
 pub suppressed_atoms-goes-requires-clause-in_range :
     goal.suppressed_atoms-goes-requires-clause-in_range
 suppressed_atoms-goes-requires-clause-in_range c =
-    rw (c.deref.ensures.value, c.deref-2.ensures.value, ap (λ s. s.atoms) c.sketch.view_is, ap (λ s. s.bonds) c.sketch.view_is)
+    rw (
+      c.deref.ensures.value,
+      c.deref-2.ensures.value,
+      ap (λ s. s.atoms) c.sketch.view_is,
+      ap (λ s. s.bonds) c.sketch.view_is,
+    )
     (λ k d h. let at = bond-in_graph c.args.sketch.now.bonds _ k d c.requires.sound.graph h in (at.0, at.1))
 
 pub suppressed_atoms-goes-requires-clause-distinct :
@@ -42,7 +47,11 @@ gains-gains-requires-clause-few c =
 pub keep_atoms-requires-clause-few_more : goal.keep_atoms-requires-clause-few_more
 keep_atoms-requires-clause-few_more c = λ a.
     rw (c.gains-gains.ensures a, c.deref-3.ensures.value, ap (λ s. s.bonds) c.sketch.view_is)
-    (omega (arith, brought-le (gone c.suppressed_atoms-goes.result) a c.args.sketch.now.bonds, few_at c.args.sketch.now c.requires.sound a))
+    (omega (
+      arith,
+      brought-le (gone c.suppressed_atoms-goes.result) a c.args.sketch.now.bonds,
+      few_at c.args.sketch.now c.requires.sound a,
+    ))
 
 pub keep_bonds-requires : goal.keep_bonds-requires
 keep_bonds-requires c =
@@ -62,10 +71,12 @@ returns-clause-suppressed c =
     let front : length (take c.len.result goes) ≡ c.len.result = length-take-le c.len.result goes (omega arith) in
     suppressed-is s goes c.gains-gains.result c.new_places-places.result _ _ c.requires.sound
     (λ a. c.suppressed_atoms-goes.ensures a ∙ ap (λ (t : SketchTerm). is_suppressed t a) drawing)
-    (λ a. c.gains-gains.ensures a ∙ ap (λ (bs : List SketchBond). count_by (brings (gone goes) a) bs) (c.deref-3.ensures.value ∙ bonds))
+    (λ a. c.gains-gains.ensures a ∙ ap (λ (bs : List SketchBond). count_by (brings (gone goes) a) bs)
+    (c.deref-3.ensures.value ∙ bonds))
     (λ a h. c.new_places-places.ensures a (omega (arith, front)) ∙ new_place-front goes c.len.result a (omega arith))
     (c.keep_atoms.ensures ∙ ap (staying_atoms (gone goes) (number_at c.gains-gains.result)) atoms)
     (c.keep_bonds.ensures ∙ ap (staying_bonds (gone goes) (number_at c.new_places-places.result)) bonds)
 
 pub returns-clause-sound : goal.returns-clause-sound
-returns-clause-sound c = subst IsSound (sym (returns-clause-suppressed c)) (suppressed-sound c.args.sketch.now c.requires.sound c.requires.few)
+returns-clause-sound c = subst IsSound (sym (returns-clause-suppressed c))
+    (suppressed-sound c.args.sketch.now c.requires.sound c.requires.few)

@@ -4,4 +4,5 @@ use Rattle.valence.proofs.suppression.to_front.Given as goal
 
 abbrev pub invariant-loop-place : goal.invariant-loop-place
 invariant-loop-place l =
-    StaysInFront (λ k. slice_index_or l.goes k false) (λ k. slice_index l.gains k) l.initial.atoms l.atoms l.kept l.place
+    StaysInFront (λ k. slice_index_or l.goes k false) (λ k. slice_index l.gains k) l.initial.atoms l.atoms l.kept
+    l.place

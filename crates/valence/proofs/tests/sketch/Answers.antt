@@ -9,4 +9,5 @@ pub returns-clause-sound : goal.returns-clause-sound
 returns-clause-sound c =
     let atoms : c.in_ok-to_vec.field-0.items ≡ c.args.atoms.now = grind (arith, common_steps) in
     let bonds : c.in_ok-to_vec-2.field-0.items ≡ c.args.bonds.now = grind (arith, common_steps) in
-    subst IsSound (sym (same_drawing _ _ _ _ atoms bonds)) (small-sound (record { atoms = c.args.atoms.now; bonds = c.args.bonds.now }) c.requires).0
+    subst IsSound (sym (same_drawing _ _ _ _ atoms bonds))
+    (small-sound (record { atoms = c.args.atoms.now; bonds = c.args.bonds.now }) c.requires).0

@@ -14,5 +14,7 @@ returns-clause-gained g c =
     let now_len : length c.take_at-answer.new.block ≡ b.block.len = omega arith in
     let fits : c.with_room-start.result.1 + number_of c.take_at-answer.result ≤ b.block.len = omega arith in
     let moved = c.with_room-start.ensures.same ∙ ap (between b.start b.end) c.deref_mut.ensures.value ∙ held in
-    let before = c.take_at-answer.ensures.before ∙ ap (take c.with_room-start.result.1) (c.deref_mut-2.ensures.value ∙ take_at _ _ _ moved_len) in
-    rw c.number.ensures (filled _ _ _ _ _ _ _ _ _ _ moved_len now_len moved before c.with_room-start.ensures.order fits c.take_at-answer.ensures.moved)
+    let before = c.take_at-answer.ensures.before ∙ ap (take c.with_room-start.result.1) (c.deref_mut-2.ensures.value
+    ∙ take_at _ _ _ moved_len) in
+    rw c.number.ensures (filled _ _ _ _ _ _ _ _ _ _ moved_len now_len moved before c.with_room-start.ensures.order fits
+    c.take_at-answer.ensures.moved)

@@ -19,7 +19,8 @@ returns-then-len-clause-lines c =
     let long = ap (λ (r : Reading). r.long) c.self.view_is in
     let pending = ap (λ (r : Reading). length r.pending) c.self.view_is in
     let same = ap length c.bytes-len.ensures.bytes in
-    let why : (c.args.self.now.long ≡ true) ⊎ (LONGEST_LINE + 1 < length c.args.self.now.pending) = elim c.if-self.branch [
+    let why : (c.args.self.now.long ≡ true) ⊎ (LONGEST_LINE + 1 < length c.args.self.now.pending) =
+    elim c.if-self.branch [
       | then-self w ↦ inl (sym long ∙ w.if-self.true)
       | else-self w ↦ inr (let test = sym w.value-is ∙ c.if-len.true in grind (arith, nat_tests))
     ] in

@@ -8,7 +8,8 @@ pub loop-answer-preserved : goal.loop-answer-preserved
 loop-answer-preserved g c =
     let left = g.S.Source.left in
     let faults = g.S.Source.faults in
-    inr (goes_on left faults _ _ _ _ _ _ _ c.loop-answer.invariant c.held_answer.ensures.sound c.in_default.ensures.none c.in_default.ensures.same c.take_piece.ensures.reads c.take_piece.ensures.count c.take_piece.ensures.end)
+    inr (goes_on left faults _ _ _ _ _ _ _ c.loop-answer.invariant c.held_answer.ensures.sound c.in_default.ensures.none
+    c.in_default.ensures.same c.take_piece.ensures.reads c.take_piece.ensures.count c.take_piece.ensures.end)
 
 pub returns-in-Some : goal.returns-in-Some
 returns-in-Some g c =
@@ -20,7 +21,8 @@ returns-in-Some g c =
     let answers = answers_after _ _ _ _ _ _ reads held in
     record {
       bytes = (reads.got, reads.leaves, counts_after _ _ _ _ _ reads.counts held, answers);
-      told = λ l l' p q h. told_of _ _ _ reads.got l l' _ _ p q reads.leaves answers (λ e. met_of left faults _ _ _ _ l l' start p q h (subst IsTrue held.ended e)) held.end;
+      told = λ l l' p q h. told_of _ _ _ reads.got l l' _ _ p q reads.leaves answers
+          (λ e. met_of left faults _ _ _ _ l l' start p q h (subst IsTrue held.ended e)) held.end;
       met = λ l l' p q h e. met_of left faults _ _ _ _ l l' start p q h (subst IsTrue held.ended e);
       progress = omega (arith, reads.progress, held.progress);
       rises = line_rises _ _ _ _ reads.progress held.rises;
@@ -41,7 +43,8 @@ returns-in_err-take_piece g c =
     let left = g.S.Source.left in
     let faults = g.S.Source.faults in
     let start = c.loop-answer.invariant in
-    let under = goes_on left faults _ _ _ _ _ _ _ start c.held_answer.ensures.sound c.in_default.ensures.none c.in_default.ensures.same c.take_piece.ensures.reads c.take_piece.ensures.count c.take_piece.ensures.end in
+    let under = goes_on left faults _ _ _ _ _ _ _ start c.held_answer.ensures.sound c.in_default.ensures.none
+    c.in_default.ensures.same c.take_piece.ensures.reads c.take_piece.ensures.count c.take_piece.ensures.end in
     let fault = err_from_is_err_and c.from_residual.result c.from_residual.ensures.1 in
     let answers = answers_fault fault.0 _ _ _ _ under.reads in
     rw fault.1 (record {
@@ -52,7 +55,10 @@ returns-in_err-take_piece g c =
       rises = tt;
       text = tt;
       no_text = c.take_piece.ensures.text;
-      source_fault = λ e. (rose_after _ _ _ (count_of left faults _ _ _ _ start) c.in_err-take_piece.ensures.rose, no_whole_line c.take_piece.new.self c.in_err-take_piece.ensures.none c.in_err-take_piece.ensures.not_ended);
+      source_fault = λ e. (
+        rose_after _ _ _ (count_of left faults _ _ _ _ start) c.in_err-take_piece.ensures.rose,
+        no_whole_line c.take_piece.new.self c.in_err-take_piece.ensures.none c.in_err-take_piece.ensures.not_ended,
+      );
       below_limit = λ e. c.in_err-take_piece.ensures.below;
       too_long = λ e. absurd (not_too_long _ (fault.2 ∙ c.in_err-take_piece.ensures.fault) e);
       at_limit = λ h. absurd (under.none (can_at_limit _ h));

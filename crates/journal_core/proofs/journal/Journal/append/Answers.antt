@@ -14,20 +14,25 @@ use Rattle.journal_core.proofs.journal.Journal.append.Goals as goal
 -- the record was not written, or not synced
 pub returns-in-Err-Failed-clause-sure : goal.returns-in-Err-Failed-clause-sure
 returns-in-Err-Failed-clause-sure g c ps q =
-    let r = subst (λ (j : Standing g.row.D.Denot). Rests g.D.Disk.content g.D.Disk.images j ps) (sym c.self.view_is) q in
+    let r = subst (λ (j : Standing g.row.D.Denot). Rests g.D.Disk.content g.D.Disk.images j ps) (sym c.self.view_is)
+    q in
     let d = g.D.Disk in
     let old = c.self.inside.disk in
     let mid = c.put.new.disk in
     let place = c.self.inside.place in
     let payload = c.args.payload.now in
-    let tears = at_failed c.in-Err-Failed.field-0 (Tears (place + 1) (length c.deref.result.now) (d.images old) (d.images mid)) c.in-Err-Failed.field-0-is c.in-Err-Failed.ensures.failed in
-    let content = at_failed c.in-Err-Failed.field-0 (TearsContent (place + 1) (length c.deref.result.now) (d.content old) (d.content mid)) c.in-Err-Failed.field-0-is c.in-Err-Failed.ensures.failed_content in
-    let told = tears_told (place + 1) (length c.deref.result.now) (d.content old) (d.content mid) r.told r.is_told content in
+    let tears = at_failed c.in-Err-Failed.field-0 (Tears (place + 1) (length c.deref.result.now) (d.images old)
+    (d.images mid)) c.in-Err-Failed.field-0-is c.in-Err-Failed.ensures.failed in
+    let content = at_failed c.in-Err-Failed.field-0 (TearsContent (place + 1) (length c.deref.result.now)
+    (d.content old) (d.content mid)) c.in-Err-Failed.field-0-is c.in-Err-Failed.ensures.failed_content in
+    let told = tears_told (place + 1) (length c.deref.result.now) (d.content old) (d.content mid) r.told r.is_told
+    content in
     record {
       told = told.0;
       is_told = told.1;
       place = r.place;
-      each = λ image i. let t = tears.from image i in behind ps payload place r.place (length c.deref.result.now) t.0 image (r.each t.0 t.1) t.2;
+      each = λ image i. let t = tears.from image i in behind ps payload place r.place (length c.deref.result.now) t.0
+          image (r.each t.0 t.1) t.2;
     }
 
 pub returns-in-Err-Failed-clause-no_image : goal.returns-in-Err-Failed-clause-no_image
@@ -36,45 +41,59 @@ returns-in-Err-Failed-clause-no_image g c ps q image i o =
 
 pub returns-in-Err-Failed-clause-moments : goal.returns-in-Err-Failed-clause-moments
 returns-in-Err-Failed-clause-moments g c ps q =
-    let r = subst (λ (j : Standing g.row.D.Denot). Rests g.D.Disk.content g.D.Disk.images j ps) (sym c.self.view_is) q in
+    let r = subst (λ (j : Standing g.row.D.Denot). Rests g.D.Disk.content g.D.Disk.images j ps) (sym c.self.view_is)
+    q in
     let d = g.D.Disk in
     let old = c.self.inside.disk in
     let mid = c.put.new.disk in
     let place = c.self.inside.place in
     let payload = c.args.payload.now in
-    at_view d.clock d.images_between (BeforeOrAfter ps payload) _ _ mid c.self.view_is (λ image m. let t = c.put.ensures.moments image m in inl ((behind ps payload place r.place (length c.deref.result.now) t.0 image (r.each t.0 t.1) t.2)))
+    at_view d.clock d.images_between (BeforeOrAfter ps payload) _ _ mid c.self.view_is (λ image m. let t =
+    c.put.ensures.moments image m in
+    inl ((behind ps payload place r.place (length c.deref.result.now) t.0 image (r.each t.0 t.1) t.2)))
 
 pub returns-in-Err-NoMemory-clause-moments : goal.returns-in-Err-NoMemory-clause-moments
 returns-in-Err-NoMemory-clause-moments g c ps q =
-    let r = subst (λ (j : Standing g.row.D.Denot). Rests g.D.Disk.content g.D.Disk.images j ps) (sym c.self.view_is) q in
+    let r = subst (λ (j : Standing g.row.D.Denot). Rests g.D.Disk.content g.D.Disk.images j ps) (sym c.self.view_is)
+    q in
     let d = g.D.Disk in
     let old = c.self.inside.disk in
     let mid = c.put.new.disk in
     let place = c.self.inside.place in
     let payload = c.args.payload.now in
-    at_view d.clock d.images_between (BeforeOrAfter ps payload) _ _ mid c.self.view_is (λ image m. let t = c.put.ensures.moments image m in inl ((behind ps payload place r.place (length c.deref.result.now) t.0 image (r.each t.0 t.1) t.2)))
+    at_view d.clock d.images_between (BeforeOrAfter ps payload) _ _ mid c.self.view_is (λ image m. let t =
+    c.put.ensures.moments image m in
+    inl ((behind ps payload place r.place (length c.deref.result.now) t.0 image (r.each t.0 t.1) t.2)))
 
 -- the gate was not written, or not synced
 pub returns-in-Err-Failed-put-clause-doubt : goal.returns-in-Err-Failed-put-clause-doubt
 returns-in-Err-Failed-put-clause-doubt g c ps q =
-    let r = subst (λ (j : Standing g.row.D.Denot). Rests g.D.Disk.content g.D.Disk.images j ps) (sym c.self.view_is) q in
+    let r = subst (λ (j : Standing g.row.D.Denot). Rests g.D.Disk.content g.D.Disk.images j ps) (sym c.self.view_is)
+    q in
     let d = g.D.Disk in
     let old = c.self.inside.disk in
     let mid = c.put.new.disk in
     let place = c.self.inside.place in
     let payload = c.args.payload.now in
     let new = c.put-2.new.disk in
-    let stage = stage_done ps payload place r.place c.requires.few c.deref.result.now (d.content old) (d.content mid) (d.images old) (d.images mid) r.told
-    (c.deref.ensures.value ∙ c.in-Ok.ensures) r.is_told (g.met.D.Disk.content_is_image old r.told r.is_told) r.each c.in-Ok-put.ensures.content c.in-Ok-put.ensures.synced in
-    let tears = at_failed c.in-Err-Failed-put.field-0 (Tears place 1 (d.images mid) (d.images new)) c.in-Err-Failed-put.field-0-is c.in-Err-Failed-put.ensures.failed in
-    let content = at_failed c.in-Err-Failed-put.field-0 (TearsContent place 1 (d.content mid) (d.content new)) c.in-Err-Failed-put.field-0-is c.in-Err-Failed-put.ensures.failed_content in
+    let stage = stage_done ps payload place r.place c.requires.few c.deref.result.now (d.content old) (d.content mid)
+    (d.images old) (d.images mid) r.told
+    (c.deref.ensures.value ∙ c.in-Ok.ensures) r.is_told (g.met.D.Disk.content_is_image old r.told r.is_told) r.each
+    c.in-Ok-put.ensures.content c.in-Ok-put.ensures.synced in
+    let tears = at_failed c.in-Err-Failed-put.field-0 (Tears place 1 (d.images mid) (d.images new))
+    c.in-Err-Failed-put.field-0-is c.in-Err-Failed-put.ensures.failed in
+    let content = at_failed c.in-Err-Failed-put.field-0 (TearsContent place 1 (d.content mid) (d.content new))
+    c.in-Err-Failed-put.field-0-is c.in-Err-Failed-put.ensures.failed_content in
     let told = tears_told place 1 (d.content mid) (d.content new) stage.bytes stage.told content in
     record {
       told = told.0;
       is_told = told.1;
       place = r.place;
-      each = λ image i. let t = tears.from image i in before_or_after ps payload image (stage_torn ps payload place r.place (d.content mid) (d.images mid) stage t.0 image t.1 t.2);
-      staged = λ image i. let t = tears.from image i in stage_torn ps payload place r.place (d.content mid) (d.images mid) stage t.0 image t.1 t.2;
+      each = λ image i. let t = tears.from image i in
+          before_or_after ps payload image (stage_torn ps payload place r.place (d.content mid) (d.images mid) stage t.0
+          image t.1 t.2);
+      staged = λ image i. let t = tears.from image i in stage_torn ps payload place r.place (d.content mid)
+          (d.images mid) stage t.0 image t.1 t.2;
       some = stage_open ps payload place r.place (d.content mid) (d.images mid) (d.images new) stage tears;
     }
 
@@ -86,10 +105,12 @@ invariant_of-self-in-Err-Failed-put g c =
     let new = c.put-2.new.disk in
     let place = c.self.inside.place in
     let ready = ap (λ (j : Standing g.row.D.Denot). j.ready) c.self.view_is ∙ c.requires.ready in
-    let content = at_failed c.in-Err-Failed-put.field-0 (TearsContent place 1 (d.content mid) (d.content new)) c.in-Err-Failed-put.field-0-is c.in-Err-Failed-put.ensures.failed_content in
+    let content = at_failed c.in-Err-Failed-put.field-0 (TearsContent place 1 (d.content mid) (d.content new))
+    c.in-Err-Failed-put.field-0-is c.in-Err-Failed-put.ensures.failed_content in
     let gate = keeps_gate place 1 place (d.content mid) (d.content new) content
     (keeps_gate (place + 1) (length c.deref.result.now) place (d.content old) (d.content mid)
-    (done_tears (place + 1) c.deref.result.now (d.content old) (d.content mid) (d.content mid) c.in-Ok-put.ensures.content refl) (c.self.invariant.gate ready)) in
+    (done_tears (place + 1) c.deref.result.now (d.content old) (d.content mid) (d.content mid)
+    c.in-Ok-put.ensures.content refl) (c.self.invariant.gate ready)) in
     record {
       holds = search rules;
       gate = λ _. gate;
@@ -98,34 +119,46 @@ invariant_of-self-in-Err-Failed-put g c =
 
 pub returns-in-Err-Failed-put-clause-moments : goal.returns-in-Err-Failed-put-clause-moments
 returns-in-Err-Failed-put-clause-moments g c ps q =
-    let r = subst (λ (j : Standing g.row.D.Denot). Rests g.D.Disk.content g.D.Disk.images j ps) (sym c.self.view_is) q in
+    let r = subst (λ (j : Standing g.row.D.Denot). Rests g.D.Disk.content g.D.Disk.images j ps) (sym c.self.view_is)
+    q in
     let d = g.D.Disk in
     let old = c.self.inside.disk in
     let mid = c.put.new.disk in
     let place = c.self.inside.place in
     let payload = c.args.payload.now in
     let new = c.put-2.new.disk in
-    let stage = stage_done ps payload place r.place c.requires.few c.deref.result.now (d.content old) (d.content mid) (d.images old) (d.images mid) r.told
-    (c.deref.ensures.value ∙ c.in-Ok.ensures) r.is_told (g.met.D.Disk.content_is_image old r.told r.is_told) r.each c.in-Ok-put.ensures.content c.in-Ok-put.ensures.synced in
+    let stage = stage_done ps payload place r.place c.requires.few c.deref.result.now (d.content old) (d.content mid)
+    (d.images old) (d.images mid) r.told
+    (c.deref.ensures.value ∙ c.in-Ok.ensures) r.is_told (g.met.D.Disk.content_is_image old r.told r.is_told) r.each
+    c.in-Ok-put.ensures.content c.in-Ok-put.ensures.synced in
     at_view d.clock d.images_between (BeforeOrAfter ps payload) _ _ new c.self.view_is (
-    two_calls d.clock d.images_between old mid new (BeforeOrAfter ps payload) (g.met.D.Disk.parts new) c.put.ensures.past.later c.put-2.ensures.past
-    (λ image m. let t = c.put.ensures.moments image m in inl ((behind ps payload place r.place (length c.deref.result.now) t.0 image (r.each t.0 t.1) t.2)))
-    (λ image m. let t = c.put-2.ensures.moments image m in before_or_after ps payload image (stage_torn ps payload place r.place (d.content mid) (d.images mid) stage t.0 image t.1 t.2)))
+    two_calls d.clock d.images_between old mid new (BeforeOrAfter ps payload) (g.met.D.Disk.parts new)
+    c.put.ensures.past.later c.put-2.ensures.past
+    (λ image m. let t = c.put.ensures.moments image m in
+    inl ((behind ps payload place r.place (length c.deref.result.now) t.0 image (r.each t.0 t.1) t.2)))
+    (λ image m. let t = c.put-2.ensures.moments image m in
+    before_or_after ps payload image (stage_torn ps payload place r.place (d.content mid) (d.images mid) stage t.0
+    image t.1 t.2)))
 
 -- no memory for the write of the gate
 pub returns-in-Err-NoMemory-put-clause-no_memory : goal.returns-in-Err-NoMemory-put-clause-no_memory
 returns-in-Err-NoMemory-put-clause-no_memory g c ps q =
-    let r = subst (λ (j : Standing g.row.D.Denot). Rests g.D.Disk.content g.D.Disk.images j ps) (sym c.self.view_is) q in
+    let r = subst (λ (j : Standing g.row.D.Denot). Rests g.D.Disk.content g.D.Disk.images j ps) (sym c.self.view_is)
+    q in
     let d = g.D.Disk in
     let old = c.self.inside.disk in
     let mid = c.put.new.disk in
     let place = c.self.inside.place in
     let payload = c.args.payload.now in
     let new = c.put-2.new.disk in
-    let stage = stage_done ps payload place r.place c.requires.few c.deref.result.now (d.content old) (d.content mid) (d.images old) (d.images mid) r.told
-    (c.deref.ensures.value ∙ c.in-Ok.ensures) r.is_told (g.met.D.Disk.content_is_image old r.told r.is_told) r.each c.in-Ok-put.ensures.content c.in-Ok-put.ensures.synced in
-    let same = at_no_memory c.in-Err-NoMemory-put.field-0 (Same (d.images mid) (d.images new)) c.in-Err-NoMemory-put.field-0-is c.in-Err-NoMemory-put.ensures.no_memory in
-    let content = at_no_memory c.in-Err-NoMemory-put.field-0 (d.content new ≡ d.content mid) c.in-Err-NoMemory-put.field-0-is c.in-Err-NoMemory-put.ensures.no_memory_content in
+    let stage = stage_done ps payload place r.place c.requires.few c.deref.result.now (d.content old) (d.content mid)
+    (d.images old) (d.images mid) r.told
+    (c.deref.ensures.value ∙ c.in-Ok.ensures) r.is_told (g.met.D.Disk.content_is_image old r.told r.is_told) r.each
+    c.in-Ok-put.ensures.content c.in-Ok-put.ensures.synced in
+    let same = at_no_memory c.in-Err-NoMemory-put.field-0 (Same (d.images mid) (d.images new))
+    c.in-Err-NoMemory-put.field-0-is c.in-Err-NoMemory-put.ensures.no_memory in
+    let content = at_no_memory c.in-Err-NoMemory-put.field-0 (d.content new ≡ d.content mid)
+    c.in-Err-NoMemory-put.field-0-is c.in-Err-NoMemory-put.ensures.no_memory_content in
     record {
       told = stage.bytes;
       is_told = content ∙ stage.told;
@@ -135,53 +168,71 @@ returns-in-Err-NoMemory-put-clause-no_memory g c ps q =
 
 pub returns-in-Err-NoMemory-put-clause-moments : goal.returns-in-Err-NoMemory-put-clause-moments
 returns-in-Err-NoMemory-put-clause-moments g c ps q =
-    let r = subst (λ (j : Standing g.row.D.Denot). Rests g.D.Disk.content g.D.Disk.images j ps) (sym c.self.view_is) q in
+    let r = subst (λ (j : Standing g.row.D.Denot). Rests g.D.Disk.content g.D.Disk.images j ps) (sym c.self.view_is)
+    q in
     let d = g.D.Disk in
     let old = c.self.inside.disk in
     let mid = c.put.new.disk in
     let place = c.self.inside.place in
     let payload = c.args.payload.now in
     let new = c.put-2.new.disk in
-    let stage = stage_done ps payload place r.place c.requires.few c.deref.result.now (d.content old) (d.content mid) (d.images old) (d.images mid) r.told
-    (c.deref.ensures.value ∙ c.in-Ok.ensures) r.is_told (g.met.D.Disk.content_is_image old r.told r.is_told) r.each c.in-Ok-put.ensures.content c.in-Ok-put.ensures.synced in
+    let stage = stage_done ps payload place r.place c.requires.few c.deref.result.now (d.content old) (d.content mid)
+    (d.images old) (d.images mid) r.told
+    (c.deref.ensures.value ∙ c.in-Ok.ensures) r.is_told (g.met.D.Disk.content_is_image old r.told r.is_told) r.each
+    c.in-Ok-put.ensures.content c.in-Ok-put.ensures.synced in
     at_view d.clock d.images_between (BeforeOrAfter ps payload) _ _ new c.self.view_is (
-    two_calls d.clock d.images_between old mid new (BeforeOrAfter ps payload) (g.met.D.Disk.parts new) c.put.ensures.past.later c.put-2.ensures.past
-    (λ image m. let t = c.put.ensures.moments image m in inl ((behind ps payload place r.place (length c.deref.result.now) t.0 image (r.each t.0 t.1) t.2)))
-    (λ image m. let t = c.put-2.ensures.moments image m in before_or_after ps payload image (stage_torn ps payload place r.place (d.content mid) (d.images mid) stage t.0 image t.1 t.2)))
+    two_calls d.clock d.images_between old mid new (BeforeOrAfter ps payload) (g.met.D.Disk.parts new)
+    c.put.ensures.past.later c.put-2.ensures.past
+    (λ image m. let t = c.put.ensures.moments image m in
+    inl ((behind ps payload place r.place (length c.deref.result.now) t.0 image (r.each t.0 t.1) t.2)))
+    (λ image m. let t = c.put-2.ensures.moments image m in
+    before_or_after ps payload image (stage_torn ps payload place r.place (d.content mid) (d.images mid) stage t.0
+    image t.1 t.2)))
 
 -- all is on the disk
 pub returns-clause-ok : goal.returns-clause-ok
 returns-clause-ok g c ps q =
-    let r = subst (λ (j : Standing g.row.D.Denot). Rests g.D.Disk.content g.D.Disk.images j ps) (sym c.self.view_is) q in
+    let r = subst (λ (j : Standing g.row.D.Denot). Rests g.D.Disk.content g.D.Disk.images j ps) (sym c.self.view_is)
+    q in
     let d = g.D.Disk in
     let old = c.self.inside.disk in
     let mid = c.put.new.disk in
     let place = c.self.inside.place in
     let payload = c.args.payload.now in
     let new = c.put-2.new.disk in
-    let stage = stage_done ps payload place r.place c.requires.few c.deref.result.now (d.content old) (d.content mid) (d.images old) (d.images mid) r.told
-    (c.deref.ensures.value ∙ c.in-Ok.ensures) r.is_told (g.met.D.Disk.content_is_image old r.told r.is_told) r.each c.in-Ok-put.ensures.content c.in-Ok-put.ensures.synced in
+    let stage = stage_done ps payload place r.place c.requires.few c.deref.result.now (d.content old) (d.content mid)
+    (d.images old) (d.images mid) r.told
+    (c.deref.ensures.value ∙ c.in-Ok.ensures) r.is_told (g.met.D.Disk.content_is_image old r.told r.is_told) r.each
+    c.in-Ok-put.ensures.content c.in-Ok-put.ensures.synced in
     let told = becomes_told (d.content mid) (d.content new) _ stage.bytes stage.told c.in-Ok-put-2.ensures.content in
     let only = c.in-Ok-put-2.ensures.synced _ told in
     record {
       told = _;
       is_told = told;
       place = omega (arith, r.place, length-front_push ps payload);
-      each = λ image i. subst (Opens (ps ++ payload ∷ [])) (sym (only.only image i)) (written_open ps payload place r.place stage.bytes stage.staged);
+      each = λ image i. subst (Opens (ps ++ payload ∷ [])) (sym (only.only image i))
+          (written_open ps payload place r.place stage.bytes stage.staged);
     }
 
 pub returns-clause-moments : goal.returns-clause-moments
 returns-clause-moments g c ps q =
-    let r = subst (λ (j : Standing g.row.D.Denot). Rests g.D.Disk.content g.D.Disk.images j ps) (sym c.self.view_is) q in
+    let r = subst (λ (j : Standing g.row.D.Denot). Rests g.D.Disk.content g.D.Disk.images j ps) (sym c.self.view_is)
+    q in
     let d = g.D.Disk in
     let old = c.self.inside.disk in
     let mid = c.put.new.disk in
     let place = c.self.inside.place in
     let payload = c.args.payload.now in
     let new = c.put-2.new.disk in
-    let stage = stage_done ps payload place r.place c.requires.few c.deref.result.now (d.content old) (d.content mid) (d.images old) (d.images mid) r.told
-    (c.deref.ensures.value ∙ c.in-Ok.ensures) r.is_told (g.met.D.Disk.content_is_image old r.told r.is_told) r.each c.in-Ok-put.ensures.content c.in-Ok-put.ensures.synced in
+    let stage = stage_done ps payload place r.place c.requires.few c.deref.result.now (d.content old) (d.content mid)
+    (d.images old) (d.images mid) r.told
+    (c.deref.ensures.value ∙ c.in-Ok.ensures) r.is_told (g.met.D.Disk.content_is_image old r.told r.is_told) r.each
+    c.in-Ok-put.ensures.content c.in-Ok-put.ensures.synced in
     at_view d.clock d.images_between (BeforeOrAfter ps payload) _ _ new c.self.view_is (
-    two_calls d.clock d.images_between old mid new (BeforeOrAfter ps payload) (g.met.D.Disk.parts new) c.put.ensures.past.later c.put-2.ensures.past
-    (λ image m. let t = c.put.ensures.moments image m in inl ((behind ps payload place r.place (length c.deref.result.now) t.0 image (r.each t.0 t.1) t.2)))
-    (λ image m. let t = c.put-2.ensures.moments image m in before_or_after ps payload image (stage_torn ps payload place r.place (d.content mid) (d.images mid) stage t.0 image t.1 t.2)))
+    two_calls d.clock d.images_between old mid new (BeforeOrAfter ps payload) (g.met.D.Disk.parts new)
+    c.put.ensures.past.later c.put-2.ensures.past
+    (λ image m. let t = c.put.ensures.moments image m in
+    inl ((behind ps payload place r.place (length c.deref.result.now) t.0 image (r.each t.0 t.1) t.2)))
+    (λ image m. let t = c.put-2.ensures.moments image m in
+    before_or_after ps payload image (stage_torn ps payload place r.place (d.content mid) (d.images mid) stage t.0
+    image t.1 t.2)))

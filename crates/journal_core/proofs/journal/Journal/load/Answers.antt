@@ -11,9 +11,11 @@ invariant_of-result g c =
     let window = c.new.result in
     record {
       holds = record {
-        bytes = λ l told. c.new.ensures.bytes ∙ sym (ap (λ (b : List ℕ). take (length b) (drop window.start l)) c.new.ensures.bytes);
+        bytes = λ l told. c.new.ensures.bytes
+            ∙ sym (ap (λ (b : List ℕ). take (length b) (drop window.start l)) c.new.ensures.bytes);
         len = λ n is l told.
-            let measured = subst (λ (o : Option ℕ). IsMeasured o l) c.in-Ok-Some.field-0-is (c.in-Ok-Some.ensures.header l (sym c.in-Ok-Some.ensures.narrows.same ∙ told)) in
+            let measured = subst (λ (o : Option ℕ). IsMeasured o l) c.in-Ok-Some.field-0-is
+            (c.in-Ok-Some.ensures.header l (sym c.in-Ok-Some.ensures.narrows.same ∙ told)) in
             sym (same_number c.in-Ok-Some.len n (sym c.new.ensures.len ∙ is)) ∙ measured.0;
       };
       gate = λ r. absurd (cc r);
@@ -22,7 +24,8 @@ invariant_of-result g c =
 
 pub returns-in-Ok-Some-clause-ok : goal.returns-in-Ok-Some-clause-ok
 returns-in-Ok-Some-clause-ok g c l told =
-    let measured = subst (λ (o : Option ℕ). IsMeasured o l) c.in-Ok-Some.field-0-is (c.in-Ok-Some.ensures.header l told) in
+    let measured = subst (λ (o : Option ℕ). IsMeasured o l) c.in-Ok-Some.field-0-is
+    (c.in-Ok-Some.ensures.header l told) in
     let is_told = c.in-Ok-Some.ensures.narrows.same ∙ told in
     record {
       told = l;
@@ -35,4 +38,5 @@ returns-in-Ok-Some-clause-ok g c l told =
     }
 
 pub returns-in-Ok-None-clause-not_a_store : goal.returns-in-Ok-None-clause-not_a_store
-returns-in-Ok-None-clause-not_a_store g c e l told = subst (λ (o : Option ℕ). IsMeasured o l) c.in-Ok-None.field-0-is (c.in-Ok-None.ensures.header l told)
+returns-in-Ok-None-clause-not_a_store g c e l told = subst (λ (o : Option ℕ). IsMeasured o l) c.in-Ok-None.field-0-is
+    (c.in-Ok-None.ensures.header l told)

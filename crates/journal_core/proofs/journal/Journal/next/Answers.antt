@@ -17,7 +17,8 @@ invariant_of-self g c =
     record {
       holds = c.in-Ok-Shut.ensures.holds;
       gate = λ r l told.
-          let found = subst (λ (f : Found). IsFound f (drop place l)) c.in-Ok-Shut.field-0-is (c.in-Ok-Shut.ensures.found l (sym c.in-Ok-Shut.ensures.looks.narrows.same ∙ told)) in
+          let found = subst (λ (f : Found). IsFound f (drop place l)) c.in-Ok-Shut.field-0-is
+          (c.in-Ok-Shut.ensures.found l (sym c.in-Ok-Shut.ensures.looks.narrows.same ∙ told)) in
           omega (arith, ap length found.2, length-drop place l);
       in_doubt = λ r. absurd (cc (none, r));
     }
@@ -28,8 +29,10 @@ returns-in-Ok-Shut-clause-opens g c ps q =
     let r = subst (λ (j : Standing g.row.D.Denot). Reads d.content d.images j ps) (sym c.self.view_is) q in
     let place = c.self.inside.place in
     let looks = c.in-Ok-Shut.ensures.looks in
-    let found = subst (λ (f : Found). IsFound f (drop place r.told)) c.in-Ok-Shut.field-0-is (c.in-Ok-Shut.ensures.found r.told r.is_told) in
-    let tail : drop place r.told ≡ r.tail = ap (λ (l : List ℕ). drop place l) r.is ∙ drop_at (front ps) r.tail place (sym r.place) in
+    let found = subst (λ (f : Found). IsFound f (drop place r.told)) c.in-Ok-Shut.field-0-is
+    (c.in-Ok-Shut.ensures.found r.told r.is_told) in
+    let tail : drop place r.told ≡ r.tail = ap (λ (l : List ℕ). drop place l) r.is
+    ∙ drop_at (front ps) r.tail place (sym r.place) in
     record {
       told = r.told;
       is_told = looks.narrows.same ∙ r.is_told;
@@ -37,7 +40,8 @@ returns-in-Ok-Shut-clause-opens g c ps q =
       each = λ image i. record {
         gate = found.0;
         rest = found.1;
-        is = r.exactly.only image (looks.narrows.no_more image i) ∙ r.is ∙ ap (λ (l : List ℕ). front ps ++ l) (sym tail ∙ found.2);
+        is = r.exactly.only image (looks.narrows.no_more image i) ∙ r.is ∙ ap (λ (l : List ℕ). front ps ++ l) (sym tail
+            ∙ found.2);
         shut = found.3;
         fit = r.fit;
       };
@@ -50,13 +54,16 @@ returns-in-Ok-Record-clause-reads g c ps q =
     let place = c.self.inside.place in
     let payload = c.in-Ok-Record.payload.items in
     let looks = c.in-Ok-Record.ensures.looks in
-    let found = subst (λ (f : Found). IsFound f (drop place r.told)) c.in-Ok-Record.field-0-is (c.in-Ok-Record.ensures.found r.told r.is_told) in
-    let tail : drop place r.told ≡ r.tail = ap (λ (l : List ℕ). drop place l) r.is ∙ drop_at (front ps) r.tail place (sym r.place) in
+    let found = subst (λ (f : Found). IsFound f (drop place r.told)) c.in-Ok-Record.field-0-is
+    (c.in-Ok-Record.ensures.found r.told r.is_told) in
+    let tail : drop place r.told ≡ r.tail = ap (λ (l : List ℕ). drop place l) r.is
+    ∙ drop_at (front ps) r.tail place (sym r.place) in
     record {
       told = r.told;
       tail = found.0;
       is_told = looks.narrows.same ∙ r.is_told;
-      exactly = still_exactly d.content d.images d.clock d.images_between d.faults d.bound c.self.inside.disk c.record_at.new.disk looks r.told r.exactly;
+      exactly = still_exactly d.content d.images d.clock d.images_between d.faults d.bound c.self.inside.disk
+          c.record_at.new.disk looks r.told r.exactly;
       is = r.is ∙ ap (λ (l : List ℕ). front ps ++ l) (sym tail ∙ found.1) ∙ sym (front_push ps payload found.0);
       place = omega (arith, r.place, length-front_push ps payload, c.len.ensures);
       fit = all_short ps payload r.fit found.2;
@@ -69,9 +76,12 @@ returns-in-Ok-Broken-clause-damaged g c = (
       let d = g.D.Disk in
       let r = subst (λ (j : Standing g.row.D.Denot). Reads d.content d.images j ps) (sym c.self.view_is) q in
       let place = c.self.inside.place in
-      let found = subst (λ (f : Found). IsFound f (drop place r.told)) c.in-Ok-Broken.field-0-is (c.in-Ok-Broken.ensures.found r.told r.is_told) in
-      let tail : drop place r.told ≡ r.tail = ap (λ (t : List ℕ). drop place t) r.is ∙ drop_at (front ps) r.tail place (sym r.place) in
-      let same : r.told ≡ l = some_is r.told l (sym r.is_told ∙ ap (λ (j : Standing g.row.D.Denot). d.content j.disk) c.self.view_is ∙ told) in
+      let found = subst (λ (f : Found). IsFound f (drop place r.told)) c.in-Ok-Broken.field-0-is
+      (c.in-Ok-Broken.ensures.found r.told r.is_told) in
+      let tail : drop place r.told ≡ r.tail = ap (λ (t : List ℕ). drop place t) r.is
+      ∙ drop_at (front ps) r.tail place (sym r.place) in
+      let same : r.told ≡ l = some_is r.told l (sym r.is_told ∙ ap (λ (j : Standing g.row.D.Denot). d.content j.disk)
+      c.self.view_is ∙ told) in
       record {
         tail = r.tail;
         is = sym same ∙ r.is;

@@ -29,13 +29,15 @@ returns-in-Ok-clause-ok g c ps p q =
     }
 
 pub returns-in-Ok-clause-gone : goal.returns-in-Ok-clause-gone
-returns-in-Ok-clause-gone g c ps p q image i o = never_both ps p image ((returns-in-Ok-clause-ok g c ps p q).each image i) o
+returns-in-Ok-clause-gone g c ps p q image i o =
+    never_both ps p image ((returns-in-Ok-clause-ok g c ps p q).each image i) o
 
 pub returns-in-Ok-clause-moments : goal.returns-in-Ok-clause-moments
 returns-in-Ok-clause-moments g c ps p q =
     let d = g.D.Disk in
     let r = subst (λ (j : Standing g.row.D.Denot). Doubts d.content d.images j ps p) (sym c.self.view_is) q in
-    at_view d.clock d.images_between (BeforeOrAfter ps p) _ _ c.put.new.disk c.self.view_is (λ image m. let t = c.put.ensures.moments image m in
+    at_view d.clock d.images_between (BeforeOrAfter ps p) _ _ c.put.new.disk c.self.view_is (λ image m. let t =
+    c.put.ensures.moments image m in
     before_or_after ps p image (gate ps p c.self.inside.place r.place t.0 image (r.staged t.0 t.1) t.2))
 
 -- the doubt stays, and so does an image that has the payload
@@ -46,14 +48,17 @@ returns-in-Err-Failed-clause-failed g c ps p q =
     let old = c.self.inside.disk in
     let new = c.put.new.disk in
     let place = c.self.inside.place in
-    let tears = at_failed c.in-Err-Failed.field-0 (Tears place 1 (d.images old) (d.images new)) c.in-Err-Failed.field-0-is c.in-Err-Failed.ensures.failed in
-    let content = at_failed c.in-Err-Failed.field-0 (TearsContent place 1 (d.content old) (d.content new)) c.in-Err-Failed.field-0-is c.in-Err-Failed.ensures.failed_content in
+    let tears = at_failed c.in-Err-Failed.field-0 (Tears place 1 (d.images old) (d.images new))
+    c.in-Err-Failed.field-0-is c.in-Err-Failed.ensures.failed in
+    let content = at_failed c.in-Err-Failed.field-0 (TearsContent place 1 (d.content old) (d.content new))
+    c.in-Err-Failed.field-0-is c.in-Err-Failed.ensures.failed_content in
     let told = tears_told place 1 (d.content old) (d.content new) r.told r.is_told content in
     record {
       told = told.0;
       is_told = told.1;
       place = r.place;
-      each = λ image i. let t = tears.from image i in before_or_after ps p image (gate ps p place r.place t.0 image (r.staged t.0 t.1) t.2);
+      each = λ image i. let t = tears.from image i in
+          before_or_after ps p image (gate ps p place r.place t.0 image (r.staged t.0 t.1) t.2);
       some = (r.some.0, tears.all r.some.0 r.some.0 r.some.1 (torn_same place 1 r.some.0), r.some.2);
       staged = λ image i. let t = tears.from image i in gate ps p place r.place t.0 image (r.staged t.0 t.1) t.2;
     }
@@ -62,12 +67,14 @@ pub returns-in-Err-Failed-clause-moments : goal.returns-in-Err-Failed-clause-mom
 returns-in-Err-Failed-clause-moments g c ps p q =
     let d = g.D.Disk in
     let r = subst (λ (j : Standing g.row.D.Denot). Doubts d.content d.images j ps p) (sym c.self.view_is) q in
-    at_view d.clock d.images_between (BeforeOrAfter ps p) _ _ c.put.new.disk c.self.view_is (λ image m. let t = c.put.ensures.moments image m in
+    at_view d.clock d.images_between (BeforeOrAfter ps p) _ _ c.put.new.disk c.self.view_is (λ image m. let t =
+    c.put.ensures.moments image m in
     before_or_after ps p image (gate ps p c.self.inside.place r.place t.0 image (r.staged t.0 t.1) t.2))
 
 pub returns-in-Err-NoMemory-clause-moments : goal.returns-in-Err-NoMemory-clause-moments
 returns-in-Err-NoMemory-clause-moments g c ps p q =
     let d = g.D.Disk in
     let r = subst (λ (j : Standing g.row.D.Denot). Doubts d.content d.images j ps p) (sym c.self.view_is) q in
-    at_view d.clock d.images_between (BeforeOrAfter ps p) _ _ c.put.new.disk c.self.view_is (λ image m. let t = c.put.ensures.moments image m in
+    at_view d.clock d.images_between (BeforeOrAfter ps p) _ _ c.put.new.disk c.self.view_is (λ image m. let t =
+    c.put.ensures.moments image m in
     before_or_after ps p image (gate ps p c.self.inside.place r.place t.0 image (r.staged t.0 t.1) t.2))
