@@ -8,7 +8,7 @@ use Rattle.std.proofs.lemmas.Bool.{cases_lt, false≢true}
 use Rattle.chem_core.specs.Sketch.{SketchTerm}
 use Rattle.chem_core.specs.Sound.{IsSound, sketch_ends, ends_among}
 use Rattle.chem_core.specs.Graph.{Ends, JoinsAt, IsSimpleGraph, next_place}
-use Rattle.aromatic.specs.Electrons.{electrons, row_at, row_of, site_of, is_eligible}
+use Rattle.aromatic.specs.Electrons.{electrons, row_at, row_of, environment_of, is_eligible}
 use Rattle.aromatic.specs.Huckel.{IsHuckelBy, IsHuckelCycle, IsAromaticAtom, IsRefused, IsFirstRefused, IsPerceived, has_colon, bonded, adds_one}
 use Rattle.std.specs.List.{enumerate_from}
 use Rattle.chem_core.specs.declared.sketch.SketchAtom.{SketchAtom}
@@ -460,8 +460,8 @@ rows_everywhere : (s : SketchTerm) (rings : List Bool) (rows : List (Option Row)
 rows_everywhere s rings rows h a = elim (cases_lt a (length s.atoms)) [
   | inl l ↦ h.each a l
   | inr l ↦ get_or_past rows a None (rw h.count l)
-      ∙ sym (ap (λ o. option_and_then (λ x. let site = site_of s rings a x in
-      if is_eligible site then row_of site else None) o) (slice_get_past s.atoms a l))
+      ∙ sym (ap (λ o. option_and_then (λ x. let environment = environment_of s rings a x in
+      if is_eligible environment then row_of environment else None) o) (slice_get_past s.atoms a l))
 ]
 
 pub given_by_rows : (s : SketchTerm) (rings : List Bool) (rows : List (Option Row)) (gives : List (Option ℕ))

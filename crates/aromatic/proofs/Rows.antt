@@ -5,7 +5,7 @@ use Rattle.std.specs.Ordering.{int_eq}
 use Rattle.std.proofs.lemmas.Bool.{cases_lt, cases_eq, eq-eqb, eqb-true, false≢true}
 use Rattle.std.proofs.lemmas.Bool.Decides.{Decides-int_eq}
 use Rattle.std.proofs.lemmas.List.Folds.{Any-from_list_any, list_any-from_Any}
-use Rattle.aromatic.specs.declared.site.Site.{Site}
+use Rattle.aromatic.specs.declared.environment.Environment.{Environment}
 use Rattle.aromatic.specs.declared.table.Row.{Row}
 use Rattle.aromatic.specs.declared.table.Family.{Family}
 use Rattle.aromatic.specs.declared.table.Doubles.{Doubles}
@@ -46,7 +46,7 @@ outer RingAndOxygen = 1
 outer Oxygen = 1
 outer Hetero = 1
 
-counts : (d : Doubles) (x : Site) → has_doubles d x ≡ true → (x.ring_doubles ≡ inner d) × (x.outer_doubles ≡ outer d)
+counts : (d : Doubles) (x : Environment) → has_doubles d x ≡ true → (x.ring_doubles ≡ inner d) × (x.outer_doubles ≡ outer d)
 counts Absent x h = let p = both _ _ h in (eqb-true _ _ p.0, eqb-true _ _ p.1)
 counts Ring x h = let p = both _ _ h in (eqb-true _ _ p.0, eqb-true _ _ p.1)
 counts RingAndOxygen x h = let p = both _ _ h in let q = both _ _ p.0 in (eqb-true _ _ q.0, eqb-true _ _ q.1)
@@ -57,7 +57,7 @@ abbrev agree : Option ℕ → Option ℕ → Bool
 agree (Some m) (Some n) = eqb m n
 agree _ _ = true
 
-agree-found : (m n : Option ℕ) (x : Site) → has_connected m x ≡ true → has_connected n x ≡ true → agree m n ≡ true
+agree-found : (m n : Option ℕ) (x : Environment) → has_connected m x ≡ true → has_connected n x ≡ true → agree m n ≡ true
 agree-found (Some m) (Some n) x one other = eq-eqb m n (sym (eqb-true _ m one) ∙ eqb-true _ n other)
 agree-found (Some m) None x one other = refl
 agree-found None (Some n) x one other = refl
@@ -73,7 +73,7 @@ all : (a b : Bool) → a ≡ true → b ≡ true → (a && b) ≡ true
 all true b one other = other
 all false b one other = absurd (false≢true one)
 
-alike-found : (r s : Row) (x : Site) → fits r x ≡ true → fits s x ≡ true → alike r s ≡ true
+alike-found : (r s : Row) (x : Environment) → fits r x ≡ true → fits s x ≡ true → alike r s ≡ true
 unfolding fits
 alike-found r s x one other =
     let a = both _ _ one in
@@ -122,12 +122,12 @@ unfolding rows
 table_unlike = refl
 
 -- one of two places before the other
-ordered : (x : Site) (i j : ℕ) (d : Row) → i < j → j < length rows → fits (get_or rows i d) x ≡ true
+ordered : (x : Environment) (i j : ℕ) (d : Row) → i < j → j < length rows → fits (get_or rows i d) x ≡ true
     → fits (get_or rows j d) x ≡ true → ⊥
 ordered x i j d lt within one other = false≢true (sym (unlike rows i j d table_unlike lt within)
     ∙ alike-found (get_or rows i d) (get_or rows j d) x one other)
 
-pub row-once : (x : Site) (i j : ℕ) (d : Row) → i < length rows → j < length rows → fits (get_or rows i d) x ≡ true
+pub row-once : (x : Environment) (i j : ℕ) (d : Row) → i < length rows → j < length rows → fits (get_or rows i d) x ≡ true
     → fits (get_or rows j d) x ≡ true → i ≡ j
 row-once x i j d hi hj one other = elim (cases_eq i j) [
   | inl e ↦ e

@@ -10,9 +10,9 @@ use Rattle.chem_core.specs.declared.sketch.SketchBond.{SketchBond}
 use Rattle.chem_core.specs.Sketch.{SketchTerm, ends_at}
 use Rattle.chem_core.specs.Graph.{IsSimpleGraph}
 use Rattle.chem_core.specs.Sound.{ends_among}
-use Rattle.aromatic.specs.declared.site.Site.{Site}
-use Rattle.aromatic.specs.Electrons.{site_among, site_of, element_beyond, count_at, candidate_row}
-use Rattle.aromatic.specs.Counts.{AreSites, IsSmall, add, bare, more}
+use Rattle.aromatic.specs.declared.environment.Environment.{Environment}
+use Rattle.aromatic.specs.Electrons.{environment_among, environment_of, element_beyond, count_at, candidate_row}
+use Rattle.aromatic.specs.Counts.{AreEnvironments, HasFewBonds, add, without_bonds, more}
 use Rattle.aromatic.specs.Route.{AreRows}
 use Rattle.aromatic.specs.declared.table.Row.{Row}
 
@@ -43,7 +43,7 @@ few_pairs n bonds rings i graph =
       length-take i (zip bonds rings),
     )
 
-counted : (e : Bool) (x : Site) (ring higher inner outer oxygen hetero : Bool) → ◌≡◌ {A = Site} (record x {
+counted : (e : Bool) (x : Environment) (ring higher inner outer oxygen hetero : Bool) → ◌≡◌ {A = Environment} (record x {
   neighbours = x.neighbours + (if e && true then 1 else 0);
   ring_bonds = x.ring_bonds + (if e && ring then 1 else 0);
   higher = x.higher + (if e && higher then 1 else 0);
@@ -64,32 +64,32 @@ counted true x ring higher inner outer oxygen hetero = refl
 counted false x ring higher inner outer oxygen hetero = simp add-zero
 
 -- one more bond
-site_among-push : (atoms : List SketchAtom) (a : ℕ) (x : SketchAtom) (pairs : List (SketchBond × Bool))
-    (bond : SketchBond) (ring : Bool) → site_among atoms a x (pairs ++ (bond, ring) ∷ [])
-    ≡ (if ends_at a bond then add (site_among atoms a x pairs) bond.kind ring (element_beyond atoms a bond)
-    else site_among atoms a x pairs)
-site_among-push atoms a x pairs bond ring =
-    simp sum_by_push (counted (ends_at a bond) (site_among atoms a x pairs) _ _ _ _ _ _)
+environment_among-push : (atoms : List SketchAtom) (a : ℕ) (x : SketchAtom) (pairs : List (SketchBond × Bool))
+    (bond : SketchBond) (ring : Bool) → environment_among atoms a x (pairs ++ (bond, ring) ∷ [])
+    ≡ (if ends_at a bond then add (environment_among atoms a x pairs) bond.kind ring (element_beyond atoms a bond)
+    else environment_among atoms a x pairs)
+environment_among-push atoms a x pairs bond ring =
+    simp sum_by_push (counted (ends_at a bond) (environment_among atoms a x pairs) _ _ _ _ _ _)
 
-site_among-more : (atoms : List SketchAtom) (bonds : List SketchBond) (rings : List Bool) (a i : ℕ) (x : SketchAtom)
+environment_among-more : (atoms : List SketchAtom) (bonds : List SketchBond) (rings : List Bool) (a i : ℕ) (x : SketchAtom)
     (d : SketchBond) → i < length bonds → length rings ≡ length bonds → (let bond : SketchBond = get_or bonds i d in
-    site_among atoms a x (take (i + 1) (zip bonds rings))
-    ≡ (if ends_at a bond then add (site_among atoms a x (take i (zip bonds rings))) bond.kind (get_or rings i false)
-    (element_beyond atoms a bond) else site_among atoms a x (take i (zip bonds rings))))
-site_among-more atoms bonds rings a i x d within same =
+    environment_among atoms a x (take (i + 1) (zip bonds rings))
+    ≡ (if ends_at a bond then add (environment_among atoms a x (take i (zip bonds rings))) bond.kind (get_or rings i false)
+    (element_beyond atoms a bond) else environment_among atoms a x (take i (zip bonds rings))))
+environment_among-more atoms bonds rings a i x d within same =
     let within' : i < length (zip bonds rings) = omega (arith, length-zip bonds rings) in
     let read : get_or (zip bonds rings) i (d, false) ≡ (get_or bonds i d, get_or rings i false) =
     get_or-zip bonds rings i (d, false) within (omega arith) in
-    rw (take_more (zip bonds rings) i (d, false) within', read) (site_among-push atoms a x (take i (zip bonds rings))
+    rw (take_more (zip bonds rings) i (d, false) within', read) (environment_among-push atoms a x (take i (zip bonds rings))
     (get_or bonds i d) (get_or rings i false))
 
 counts_small : (pairs : List (SketchBond × Bool)) (a : ℕ) (test : SketchBond → Bool → Bool) → length pairs < 1000
     → count_at pairs a test < 1000
 counts_small pairs a test few = omega (arith, count_by-le-length (λ p. ends_at a p.0 && test p.0 p.1) pairs)
 
-pub site_among-small : (atoms : List SketchAtom) (a : ℕ) (x : SketchAtom) (pairs : List (SketchBond × Bool))
-    → length pairs < 1000 → IsSmall (site_among atoms a x pairs)
-site_among-small atoms a x pairs few = record {
+pub environment_among-small : (atoms : List SketchAtom) (a : ℕ) (x : SketchAtom) (pairs : List (SketchBond × Bool))
+    → length pairs < 1000 → HasFewBonds (environment_among atoms a x pairs)
+environment_among-small atoms a x pairs few = record {
   neighbours = counts_small pairs a _ few;
   ring_bonds = counts_small pairs a _ few;
   higher = counts_small pairs a _ few;
@@ -101,63 +101,63 @@ site_among-small atoms a x pairs few = record {
 
 -- ---- of each atom
 
-abbrev pub AreSitesBelow : List SketchAtom → List (SketchBond × Bool) → List Site → Type 0
-AreSitesBelow atoms pairs sites = (a : ℕ) (x : SketchAtom) (d : Site) → slice_get atoms a ≡ Some x → get_or sites a d
-    ≡ site_among atoms a x pairs
+abbrev pub AreEnvironmentsBelow : List SketchAtom → List (SketchBond × Bool) → List Environment → Type 0
+AreEnvironmentsBelow atoms pairs environments = (a : ℕ) (x : SketchAtom) (d : Environment) → slice_get atoms a ≡ Some x → get_or environments a d
+    ≡ environment_among atoms a x pairs
 
 -- no bond
-pub sites-none : (atoms : List SketchAtom) (sites : List Site) → sites ≡ map bare atoms → AreSitesBelow atoms [] sites
-sites-none atoms sites is a x d here =
-    rw is (get_or-map bare atoms a x d (slice_get_within atoms a x here)
-    ∙ ap bare (get_or_from_slice_get atoms a x x here))
+pub environments-none : (atoms : List SketchAtom) (environments : List Environment) → environments ≡ map without_bonds atoms → AreEnvironmentsBelow atoms [] environments
+environments-none atoms environments is a x d here =
+    rw is (get_or-map without_bonds atoms a x d (slice_get_within atoms a x here)
+    ∙ ap without_bonds (get_or_from_slice_get atoms a x x here))
 
 -- one more bond
-pub site-more : (atoms : List SketchAtom) (bonds : List SketchBond) (rings : List Bool) (a i : ℕ) (x : SketchAtom)
-    (e : SketchBond) (site after : Site) → i < length bonds → length rings ≡ length bonds
-    → site ≡ site_among atoms a x (take i (zip bonds rings)) → (let bond : SketchBond = get_or bonds i e in
-    after ≡ (if ends_at a bond then add site bond.kind (get_or rings i false) (element_beyond atoms a bond) else site))
-    → after ≡ site_among atoms a x (take (i + 1) (zip bonds rings))
-site-more atoms bonds rings a i x e site after within same old new =
+pub environment-more : (atoms : List SketchAtom) (bonds : List SketchBond) (rings : List Bool) (a i : ℕ) (x : SketchAtom)
+    (e : SketchBond) (environment after : Environment) → i < length bonds → length rings ≡ length bonds
+    → environment ≡ environment_among atoms a x (take i (zip bonds rings)) → (let bond : SketchBond = get_or bonds i e in
+    after ≡ (if ends_at a bond then add environment bond.kind (get_or rings i false) (element_beyond atoms a bond) else environment))
+    → after ≡ environment_among atoms a x (take (i + 1) (zip bonds rings))
+environment-more atoms bonds rings a i x e environment after within same old new =
     let bond : SketchBond = get_or bonds i e in
     new ∙ ap (λ y. if ends_at a bond then add y bond.kind (get_or rings i false) (element_beyond atoms a bond) else y)
-    old ∙ sym (site_among-more atoms bonds rings a i x e within same)
+    old ∙ sym (environment_among-more atoms bonds rings a i x e within same)
 
-pub sites-more : (atoms : List SketchAtom) (bonds : List SketchBond) (rings : List Bool) (sites after : List Site)
+pub environments-more : (atoms : List SketchAtom) (bonds : List SketchBond) (rings : List Bool) (environments after : List Environment)
     (i : ℕ) (e : SketchBond) → i < length bonds → length rings ≡ length bonds
-    → AreSitesBelow atoms (take i (zip bonds rings)) sites → (let bond : SketchBond = get_or bonds i e in
-    (a : ℕ) (d : Site) → get_or after a d
-    ≡ (if ends_at a bond then add (get_or sites a d) bond.kind (get_or rings i false) (element_beyond atoms a bond)
-    else get_or sites a d)) → AreSitesBelow atoms (take (i + 1) (zip bonds rings)) after
-sites-more atoms bonds rings sites after i e within same old new a x d here =
-    site-more atoms bonds rings a i x e (get_or sites a d) (get_or after a d) within same (old a x d here) (new a d)
+    → AreEnvironmentsBelow atoms (take i (zip bonds rings)) environments → (let bond : SketchBond = get_or bonds i e in
+    (a : ℕ) (d : Environment) → get_or after a d
+    ≡ (if ends_at a bond then add (get_or environments a d) bond.kind (get_or rings i false) (element_beyond atoms a bond)
+    else get_or environments a d)) → AreEnvironmentsBelow atoms (take (i + 1) (zip bonds rings)) after
+environments-more atoms bonds rings environments after i e within same old new a x d here =
+    environment-more atoms bonds rings a i x e (get_or environments a d) (get_or after a d) within same (old a x d here) (new a d)
 
-pub sites-small : (atoms : List SketchAtom) (pairs : List (SketchBond × Bool)) (sites : List Site)
-    → length sites ≡ length atoms → length pairs < 1000 → AreSitesBelow atoms pairs sites → All (λ x. IsSmall x) sites
-sites-small atoms pairs sites count few are k d within =
+pub environments-small : (atoms : List SketchAtom) (pairs : List (SketchBond × Bool)) (environments : List Environment)
+    → length environments ≡ length atoms → length pairs < 1000 → AreEnvironmentsBelow atoms pairs environments → All (λ x. HasFewBonds x) environments
+environments-small atoms pairs environments count few are k d within =
     let here = some_element atoms k (omega arith) in
-    subst (λ x. IsSmall x) (sym (are k here.0 d here.1)) (site_among-small atoms k here.0 pairs few)
+    subst (λ x. HasFewBonds x) (sym (are k here.0 d here.1)) (environment_among-small atoms k here.0 pairs few)
 
 -- all bonds
-pub sites-whole : (atoms : List SketchAtom) (bonds : List SketchBond) (rings : List Bool) (sites : List Site) (i : ℕ)
-    → length sites ≡ length atoms → length bonds ≤ i → AreSitesBelow atoms (take i (zip bonds rings)) sites
-    → AreSites atoms (zip bonds rings) sites
-sites-whole atoms bonds rings sites i count past are = record {
+pub environments-whole : (atoms : List SketchAtom) (bonds : List SketchBond) (rings : List Bool) (environments : List Environment) (i : ℕ)
+    → length environments ≡ length atoms → length bonds ≤ i → AreEnvironmentsBelow atoms (take i (zip bonds rings)) environments
+    → AreEnvironments atoms (zip bonds rings) environments
+environments-whole atoms bonds rings environments i count past are = record {
   count = count;
   each = λ a x here.
       let within = slice_get_within atoms a x here in
       let whole = take_all i (zip bonds rings) (omega (arith, length-zip bonds rings)) in
-      slice_get-get_or sites a (bare x) (omega arith) ∙ ap (λ y. Some y) (are a x (bare x) here)
-      ∙ ap (λ ps. Some (site_among atoms a x ps)) whole;
+      slice_get-get_or environments a (without_bonds x) (omega arith) ∙ ap (λ y. Some y) (are a x (without_bonds x) here)
+      ∙ ap (λ ps. Some (environment_among atoms a x ps)) whole;
 }
 
-pub rows-are : (s : SketchTerm) (rings : List Bool) (sites : List Site) (rows : List (Option Row))
-    → AreSites s.atoms (zip s.bonds rings) sites → rows ≡ map candidate_row sites → AreRows s rings rows
-rows-are s rings sites rows are is = record {
-  count = ap (λ rs. length rs) is ∙ length-map sites candidate_row ∙ are.count;
+pub rows-are : (s : SketchTerm) (rings : List Bool) (environments : List Environment) (rows : List (Option Row))
+    → AreEnvironments s.atoms (zip s.bonds rings) environments → rows ≡ map candidate_row environments → AreRows s rings rows
+rows-are s rings environments rows are is = record {
+  count = ap (λ rs. length rs) is ∙ length-map environments candidate_row ∙ are.count;
   each = λ a within.
       let there = some_element s.atoms a within in
-      let read : slice_get rows a ≡ Some (candidate_row (site_of s rings a there.0)) = ap (λ rs. slice_get rs a) is
-      ∙ slice_get-map candidate_row sites a ∙ ap (λ o. option_map candidate_row o) (are.each a there.0 there.1) in
+      let read : slice_get rows a ≡ Some (candidate_row (environment_of s rings a there.0)) = ap (λ rs. slice_get rs a) is
+      ∙ slice_get-map candidate_row environments a ∙ ap (λ o. option_map candidate_row o) (are.each a there.0 there.1) in
       sym (unwrap_or-slice_get rows a None) ∙ ap (λ o. unwrap_or o None) read
-      ∙ sym (ap (λ o. option_and_then (λ x. candidate_row (site_of s rings a x)) o) there.1);
+      ∙ sym (ap (λ o. option_and_then (λ x. candidate_row (environment_of s rings a x)) o) there.1);
 }

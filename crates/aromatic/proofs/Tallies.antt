@@ -9,7 +9,7 @@ use Rattle.chem_core.specs.declared.sketch.SketchBond.{SketchBond}
 use Rattle.chem_core.specs.Sketch.{ends_at}
 use Rattle.chem_core.specs.Graph.{IsSimpleGraph}
 use Rattle.chem_core.specs.Sound.{ends_among}
-use Rattle.aromatic.specs.declared.tally.Tally.{Tally}
+use Rattle.aromatic.specs.declared.bond_tallies.Tally.{Tally}
 use Rattle.aromatic.specs.Electrons.{is_double}
 use Rattle.chem_core.specs.declared.sketch.SketchAtom.{SketchAtom}
 use Rattle.aromatic.specs.Huckel.{bonded, has_colon, share, is_colon}

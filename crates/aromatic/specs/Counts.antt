@@ -3,12 +3,12 @@ use Rattle.std.specs.Prelude.{◌≡◌, ℕ, ◌+◌, ◌<◌, ◌&&◌, not, B
 use Rattle.chem_core.specs.declared.sketch.SketchAtom.{SketchAtom}
 use Rattle.chem_core.specs.declared.sketch.SketchBond.{SketchBond}
 use Rattle.chem_core.specs.declared.sketch.SketchKind.{SketchKind}
-use Rattle.aromatic.specs.declared.site.Site.{Site}
-use Rattle.aromatic.specs.Electrons.{is_double, is_hetero, is_higher, is_oxygen, site_among}
+use Rattle.aromatic.specs.declared.environment.Environment.{Environment}
+use Rattle.aromatic.specs.Electrons.{is_double, is_hetero, is_higher, is_oxygen, environment_among}
 
 -- an atom before any bond
-abbrev pub bare : SketchAtom → Site
-bare x = record {
+abbrev pub without_bonds : SketchAtom → Environment
+without_bonds x = record {
   number = x.number;
   charge = x.charge;
   lower = x.lower;
@@ -27,7 +27,7 @@ abbrev pub more : ℕ → Bool → ℕ
 more n test = n + (if test then 1 else 0)
 
 -- one more bond, which leads to an element of this number
-abbrev pub add : Site → SketchKind → Bool → ℕ → Site
+abbrev pub add : Environment → SketchKind → Bool → ℕ → Environment
 add x kind ring number = record x {
   neighbours = x.neighbours + 1;
   ring_bonds = more x.ring_bonds ring;
@@ -39,7 +39,7 @@ add x kind ring number = record x {
 }
 
 -- no count is near the end of its type
-pub record IsSmall (x : Site) : Type 0 where
+pub record HasFewBonds (x : Environment) : Type 0 where
   pub neighbours : x.neighbours < 1000
   pub ring_bonds : x.ring_bonds < 1000
   pub higher : x.higher < 1000
@@ -49,7 +49,7 @@ pub record IsSmall (x : Site) : Type 0 where
   pub to_hetero : x.to_hetero < 1000
 
 -- what the table reads of each atom and of these bonds, by the atom's place
-pub record AreSites (atoms : List SketchAtom) (pairs : List (SketchBond × Bool)) (sites : List Site) : Type 0 where
-  pub count : length sites ≡ length atoms
-  pub each : (a : ℕ) (x : SketchAtom) → slice_get atoms a ≡ Some x → slice_get sites a
-      ≡ Some (site_among atoms a x pairs)
+pub record AreEnvironments (atoms : List SketchAtom) (pairs : List (SketchBond × Bool)) (environments : List Environment) : Type 0 where
+  pub count : length environments ≡ length atoms
+  pub each : (a : ℕ) (x : SketchAtom) → slice_get atoms a ≡ Some x → slice_get environments a
+      ≡ Some (environment_among atoms a x pairs)

@@ -7,7 +7,7 @@ use Rattle.chem_core.specs.declared.sketch.SketchBond.{SketchBond}
 use Rattle.chem_core.specs.declared.sketch.SketchKind.{SketchKind}
 use Rattle.chem_core.specs.declared.sketch.SketchKind.TheVariants.{Double, Triple, Quad}
 use Rattle.chem_core.specs.Sketch.{SketchTerm, ends_at}
-use Rattle.aromatic.specs.declared.site.Site.{Site}
+use Rattle.aromatic.specs.declared.environment.Environment.{Environment}
 use Rattle.aromatic.specs.declared.table.Row.{Row}
 use Rattle.aromatic.specs.declared.table.Family.{Family}
 use Rattle.aromatic.specs.declared.table.Family.TheVariants.{Boron, Carbon, Nitrogen, NitrogenOrPhosphorus, NitrogenGroup, OxygenGroup}
@@ -44,8 +44,8 @@ abbrev pub count_at : List (SketchBond × Bool) → ℕ → (SketchBond → Bool
 count_at pairs a test = count_by (λ p. ends_at a p.0 && test p.0 p.1) pairs
 
 -- what the table reads of an atom and of these bonds
-abbrev pub site_among : List SketchAtom → ℕ → SketchAtom → List (SketchBond × Bool) → Site
-site_among atoms a x pairs = record {
+abbrev pub environment_among : List SketchAtom → ℕ → SketchAtom → List (SketchBond × Bool) → Environment
+environment_among atoms a x pairs = record {
   number = x.number;
   charge = x.charge;
   lower = x.lower;
@@ -61,8 +61,8 @@ site_among atoms a x pairs = record {
       && (is_double bond.kind && is_hetero (element_beyond atoms a bond)));
 }
 
-abbrev pub site_of : SketchTerm → List Bool → ℕ → SketchAtom → Site
-site_of s rings a x = site_among s.atoms a x (zip s.bonds rings)
+abbrev pub environment_of : SketchTerm → List Bool → ℕ → SketchAtom → Environment
+environment_of s rings a x = environment_among s.atoms a x (zip s.bonds rings)
 
 -- ---- the table
 
@@ -77,7 +77,7 @@ members OxygenGroup = 8 ∷ 16 ∷ 34 ∷ []
 abbrev pub has_number : Family → ℕ → Bool
 has_number family number = list_any (λ n. number == n) (members family)
 
-abbrev pub has_doubles : Doubles → Site → Bool
+abbrev pub has_doubles : Doubles → Environment → Bool
 -- no double bond
 has_doubles Absent x = (x.ring_doubles == 0) && (x.outer_doubles == 0)
 -- exactly one, a ring bond
@@ -90,12 +90,12 @@ has_doubles Oxygen x = (x.ring_doubles == 0) && (x.outer_doubles == 1) && (x.to_
 has_doubles Hetero x = (x.ring_doubles == 0) && (x.outer_doubles == 1) && (x.to_hetero == 1)
 
 -- so many neighbours and hydrogens, or any number
-abbrev pub has_connected : Option ℕ → Site → Bool
+abbrev pub has_connected : Option ℕ → Environment → Bool
 has_connected None x = true
 has_connected (Some n) x = (x.neighbours + x.hydrogens) == n
 
 -- A row that asks for no lower case holds for both.
-unfoldable pub fits : Row → Site → Bool
+unfoldable pub fits : Row → Environment → Bool
 fits row x =
     has_number row.family x.number && int_eq row.charge x.charge && (not row.lower || x.lower)
     && has_doubles row.doubles x && has_connected row.connected x
@@ -169,20 +169,20 @@ abbrev pub by_ring_double : Row → Bool
 by_ring_double row = is_by_ring row.doubles
 
 -- the first row that fits
-abbrev pub row_of : Site → Option Row
+abbrev pub row_of : Environment → Option Row
 row_of x = find (λ row. fits row x) rows
 
 -- two or three neighbours, at least two ring bonds, and no bond of order 3 or 4
-abbrev pub is_eligible : Site → Bool
+abbrev pub is_eligible : Environment → Bool
 is_eligible x = ((x.neighbours == 2) || (x.neighbours == 3)) && nat_le 2 x.ring_bonds && (x.higher == 0)
 
 -- the row of what is read of an atom, if it is a candidate
-abbrev pub candidate_row : Site → Option Row
+abbrev pub candidate_row : Environment → Option Row
 candidate_row x = if is_eligible x then row_of x else None
 
 -- the row of an atom, if it is a candidate
 abbrev pub row_at : SketchTerm → List Bool → ℕ → Option Row
-row_at s rings a = option_and_then (λ x. candidate_row (site_of s rings a x)) (slice_get s.atoms a)
+row_at s rings a = option_and_then (λ x. candidate_row (environment_of s rings a x)) (slice_get s.atoms a)
 
 -- the electrons that an atom gives; none where it is no candidate
 abbrev pub electrons : SketchTerm → List Bool → ℕ → Option ℕ

@@ -5,7 +5,7 @@ use Rattle.chem_core.specs.declared.sketch.SketchBond.{SketchBond}
 use Rattle.chem_core.specs.declared.sketch.SketchKind.{SketchKind}
 use Rattle.chem_core.specs.Sketch.{order_of}
 use Rattle.aromatic.specs.declared.table.Row.{Row}
-use Rattle.aromatic.specs.declared.tally.Tally.{Tally}
+use Rattle.aromatic.specs.declared.bond_tallies.Tally.{Tally}
 use Rattle.aromatic.specs.Electrons.{is_double}
 use Rattle.aromatic.specs.Huckel.{bonded, has_aromatic_double, has_colon, is_colon, adds_by}
 

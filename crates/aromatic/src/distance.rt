@@ -39,6 +39,17 @@ pub fn spread(
     Ok(())
 }
 
+/// Resets the distances. The queue holds exactly the atoms that have one.
+pub fn forget(distances: &mut [u8], queue: &[u16])
+    requires queue { IsQueue distances.old queue.now }
+    requires in_range { All (λ a. a < length distances.old) queue.now }
+    ensures { distances.new ≡ replicate (length distances.old) LONGEST }
+{
+    for atom in queue {
+        distances[usize::from(*atom)] = FAR;
+    }
+}
+
 // Takes the links of the atom at the head of the queue: an atom that has no distance yet is one farther.
 fn visit(
     links: &[Links],
@@ -64,15 +75,4 @@ fn visit(
         }
     }
     Ok(())
-}
-
-/// Resets the distances. The queue holds exactly the atoms that have one.
-pub fn forget(distances: &mut [u8], queue: &[u16])
-    requires queue { IsQueue distances.old queue.now }
-    requires in_range { All (λ a. a < length distances.old) queue.now }
-    ensures { distances.new ≡ replicate (length distances.old) LONGEST }
-{
-    for atom in queue {
-        distances[usize::from(*atom)] = FAR;
-    }
 }

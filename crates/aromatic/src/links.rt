@@ -35,6 +35,35 @@ pub fn links_between(
     Ok(links)
 }
 
+/// Whether both ends of a bond are candidates.
+pub fn are_candidates(gives: &[Option<u8>], bond: SketchBond) -> bool
+    requires a_in_range { bond.a < length gives.now }
+    requires b_in_range { bond.b < length gives.now }
+    ensures { IsTrue result ↔ IsCandidateAt gives.now bond.a × IsCandidateAt gives.now bond.b }
+{
+    gives[usize::from(bond.a)].is_some() && gives[usize::from(bond.b)].is_some()
+}
+
+/// The links of one atom.
+pub fn links_of(links: &[Links], atom: u16) -> &[Link]
+    requires { atom < length links.now }
+    ensures { result.now ≡ links_at (links_in links.now) atom }
+{
+    links[usize::from(atom)].as_slice()
+}
+
+/// Takes a bond's links from its two ends.
+pub fn unlink(links: &mut [Links], bond: SketchBond, place: u16)
+    requires a_in_range { bond.a < length links.old }
+    requires b_in_range { bond.b < length links.old }
+    ensures { (a n b : ℕ) → Contains (links_at (links_in links.new) a) (record { to = n; bond = b })
+        ↔ (Contains (links_at (links_in links.old) a) (record { to = n; bond = b })
+        × (b ≡ place → (a ≡ bond.a) ⊎ (a ≡ bond.b) → ⊥)) }
+{
+    take(links, bond.a, place);
+    take(links, bond.b, place);
+}
+
 fn join_all(
     links: &mut [Links],
     bonds: &[SketchBond],
@@ -94,15 +123,6 @@ fn join(
     Ok(())
 }
 
-/// Whether both ends of a bond are candidates.
-pub fn are_candidates(gives: &[Option<u8>], bond: SketchBond) -> bool
-    requires a_in_range { bond.a < length gives.now }
-    requires b_in_range { bond.b < length gives.now }
-    ensures { IsTrue result ↔ IsCandidateAt gives.now bond.a × IsCandidateAt gives.now bond.b }
-{
-    gives[usize::from(bond.a)].is_some() && gives[usize::from(bond.b)].is_some()
-}
-
 fn add(links: &mut [Links], from: u16, link: Link) -> Result<(), AllocError>
     requires { from < length links.old }
     ensures { OnOk result ((a n b : ℕ) → Contains (links_at (links_in links.new) a) (record { to = n; bond = b })
@@ -111,26 +131,6 @@ fn add(links: &mut [Links], from: u16, link: Link) -> Result<(), AllocError>
 {
     links[usize::from(from)].push(link)?;
     Ok(())
-}
-
-/// The links of one atom.
-pub fn links_of(links: &[Links], atom: u16) -> &[Link]
-    requires { atom < length links.now }
-    ensures { result.now ≡ links_at (links_in links.now) atom }
-{
-    links[usize::from(atom)].as_slice()
-}
-
-/// Takes a bond's links from its two ends.
-pub fn unlink(links: &mut [Links], bond: SketchBond, place: u16)
-    requires a_in_range { bond.a < length links.old }
-    requires b_in_range { bond.b < length links.old }
-    ensures { (a n b : ℕ) → Contains (links_at (links_in links.new) a) (record { to = n; bond = b })
-        ↔ (Contains (links_at (links_in links.old) a) (record { to = n; bond = b })
-        × (b ≡ place → (a ≡ bond.a) ⊎ (a ≡ bond.b) → ⊥)) }
-{
-    take(links, bond.a, place);
-    take(links, bond.b, place);
 }
 
 // Takes the links by a bond from an atom.

@@ -3,15 +3,15 @@ ghost use Rattle.std.specs.Prelude.{◌≡◌, ◌≤◌, length, map, slice_ind
 ghost use Rattle.std.specs.List.{enumerate_from};
 ghost use Rattle.chem_core.specs.RingFacts.{AreRingBonds};
 ghost use Rattle.chem_core.specs.Sound.{IsSketchAtom, IsSound, ends_among, sketch_ends};
-ghost use Rattle.aromatic.specs.Electrons.{by_ring_double, candidate_row};
+ghost use Rattle.aromatic.specs.Electrons.{candidate_row};
 ghost use Rattle.aromatic.specs.Huckel.{IsFaultOf, IsPerceived, adds_by};
 ghost use Rattle.aromatic.specs.Route.{AreRows};
 ghost use Rattle.aromatic.specs.Tallies.{IsFirstToPass, NonePasses, refused_at, refused_by, valence_at, valence_told};
 
-use crate::marks::{find_atoms, find_bonds};
-use crate::site::{Site, sites};
-use crate::table::{Doubles, Row};
-use crate::tally::{Tally, tallies};
+use crate::bond_tallies::{Tally, tallies};
+use crate::environment::{Environment, environments};
+use crate::huckel::{find_atoms, find_bonds};
+use crate::table::Row;
 use chem_core::{Sketch, SketchAtom, SketchBond};
 use std::alloc::{AllocError, Global};
 
@@ -105,14 +105,14 @@ fn rows_of(
     ensures { IfOk result (λ rows. AreRows (record { atoms = atoms.now; bonds = bonds.now })
         bond_in_ring.now rows.items) }
 {
-    let sites = sites(alloc, atoms, bonds, bond_in_ring)?;
-    rows_by(alloc, &sites)
+    let environments = environments(alloc, atoms, bonds, bond_in_ring)?;
+    rows_by(alloc, &environments)
 }
 
-fn rows_by(alloc: Global, sites: &[Site]) -> Result<Vec<Option<Row>>, AllocError>
-    ensures { IfOk result (λ rows. rows.items ≡ map candidate_row sites.now) }
+fn rows_by(alloc: Global, environments: &[Environment]) -> Result<Vec<Option<Row>>, AllocError>
+    ensures { IfOk result (λ rows. rows.items ≡ map candidate_row environments.now) }
 {
-    sites.iter().map(Site::row).collect(alloc)
+    environments.iter().map(Environment::row).collect(alloc)
 }
 
 // The valence of an atom: its bond orders, its hydrogens, and 1 more where it is aromatic and its row adds one.
@@ -131,16 +131,7 @@ fn adds_one(row: Option<Row>, aromatic_double: bool) -> bool
 {
     match row {
         None => false,
-        Some(row) => row.electrons == 1 && (!by_ring_double(row) || aromatic_double),
-    }
-}
-
-fn by_ring_double(row: Row) -> bool
-    ensures { result ≡ by_ring_double row }
-{
-    match row.doubles {
-        Doubles::Ring | Doubles::RingAndOxygen => true,
-        Doubles::Absent | Doubles::Oxygen | Doubles::Hetero => false,
+        Some(row) => row.electrons == 1 && (!row.by_ring_double() || aromatic_double),
     }
 }
 

@@ -1,11 +1,11 @@
 //! The table of what an atom gives to an aromatic ring, this project's own profile. At most one row fits an atom.
 ghost use Rattle.std.specs.Prelude.{◌≡◌, ◌<◌, ℕ, length, slice_index_or, true};
 ghost use Rattle.std.specs.List.{find};
-ghost use Rattle.aromatic.specs.declared.site.Site.{Site};
+ghost use Rattle.aromatic.specs.declared.environment.Environment.{Environment};
 ghost use Rattle.aromatic.specs.declared.table.Row.{Row};
-ghost use Rattle.aromatic.specs.Electrons.{fits, has_connected, has_doubles, has_number, row_of, rows};
+ghost use Rattle.aromatic.specs.Electrons.{by_ring_double, fits, has_connected, has_doubles, has_number, row_of, rows};
 
-use crate::site::Site;
+use crate::environment::Environment;
 
 /// Elements that share a row.
 #[derive(Clone, Copy, Debug, PartialEq, Eq)]
@@ -50,15 +50,38 @@ pub struct Row {
 impl Row {
     /// Whether the row is that of an atom.
     #[tactic(auto, unfolding(crate::specs::Electrons::fits))]
-    pub fn fits(&self, site: &Site) -> bool
-        ensures { result ≡ fits self.now site.now }
+    pub fn fits(&self, environment: &Environment) -> bool
+        ensures { result ≡ fits self.now environment.now }
     {
-        has_number(self.family, site.number)
-            && self.charge == site.charge
-            && (!self.lower || site.lower)
-            && has_doubles(self.doubles, site)
-            && has_connected(self.connected, site)
+        has_number(self.family, environment.number)
+            && self.charge == environment.charge
+            && (!self.lower || environment.lower)
+            && has_doubles(self.doubles, environment)
+            && has_connected(self.connected, environment)
     }
+
+    /// Whether the row names a double bond in a ring.
+    pub fn by_ring_double(self) -> bool
+        ensures { result ≡ by_ring_double self }
+    {
+        match self.doubles {
+            Doubles::Ring | Doubles::RingAndOxygen => true,
+            Doubles::Absent | Doubles::Oxygen | Doubles::Hetero => false,
+        }
+    }
+}
+
+/// A law: at most one row fits an atom, so the order of the rows does not count.
+pub fn one_row()
+    ensures { (environment : Environment) (i j : ℕ) (d : Row) → i < length rows → j < length rows
+        → fits (slice_index_or rows i d) environment ≡ true → fits (slice_index_or rows j d) environment ≡ true → i ≡ j }
+{}
+
+/// The row that fits an atom, if one does.
+pub fn row_of(environment: &Environment) -> Option<Row>
+    ensures { result ≡ row_of environment.now }
+{
+    first_fit(table(), environment)
 }
 
 fn has_number(family: Family, number: u8) -> bool
@@ -74,52 +97,45 @@ fn has_number(family: Family, number: u8) -> bool
     }
 }
 
-fn has_doubles(doubles: Doubles, site: &Site) -> bool
-    ensures { result ≡ has_doubles doubles site.now }
+fn has_doubles(doubles: Doubles, environment: &Environment) -> bool
+    ensures { result ≡ has_doubles doubles environment.now }
 {
     match doubles {
-        Doubles::Absent => site.ring_doubles == 0 && site.outer_doubles == 0,
-        Doubles::Ring => site.ring_doubles == 1 && site.outer_doubles == 0,
+        Doubles::Absent => environment.ring_doubles == 0 && environment.outer_doubles == 0,
+        Doubles::Ring => environment.ring_doubles == 1 && environment.outer_doubles == 0,
         Doubles::RingAndOxygen => {
-            site.ring_doubles == 1 && site.outer_doubles == 1 && site.to_oxygen == 1
+            environment.ring_doubles == 1
+                && environment.outer_doubles == 1
+                && environment.to_oxygen == 1
         }
         Doubles::Oxygen => {
-            site.ring_doubles == 0 && site.outer_doubles == 1 && site.to_oxygen == 1
+            environment.ring_doubles == 0
+                && environment.outer_doubles == 1
+                && environment.to_oxygen == 1
         }
         Doubles::Hetero => {
-            site.ring_doubles == 0 && site.outer_doubles == 1 && site.to_hetero == 1
+            environment.ring_doubles == 0
+                && environment.outer_doubles == 1
+                && environment.to_hetero == 1
         }
     }
 }
 
-fn has_connected(connected: Option<u8>, site: &Site) -> bool
-    ensures { result ≡ has_connected connected site.now }
+fn has_connected(connected: Option<u8>, environment: &Environment) -> bool
+    ensures { result ≡ has_connected connected environment.now }
 {
     match connected {
         None => true,
-        Some(count) => usize::from(site.neighbours) + usize::from(site.hydrogens)
+        Some(count) => usize::from(environment.neighbours) + usize::from(environment.hydrogens)
             == usize::from(count),
     }
 }
 
-/// A law: at most one row fits an atom, so the order of the rows does not count.
-pub fn one_row()
-    ensures { (site : Site) (i j : ℕ) (d : Row) → i < length rows → j < length rows
-        → fits (slice_index_or rows i d) site ≡ true → fits (slice_index_or rows j d) site ≡ true → i ≡ j }
-{}
-
-/// The row that fits an atom, if one does.
-pub fn row_of(site: &Site) -> Option<Row>
-    ensures { result ≡ row_of site.now }
-{
-    first_fit(table(), site)
-}
-
-fn first_fit(rows: &[Row], site: &Site) -> Option<Row>
-    ensures { result ≡ find (λ row. fits row site.now) rows.now }
+fn first_fit(rows: &[Row], environment: &Environment) -> Option<Row>
+    ensures { result ≡ find (λ row. fits row environment.now) rows.now }
 {
     for row in rows {
-        if row.fits(site) {
+        if row.fits(environment) {
             return Some(*row);
         }
     }

@@ -1,4 +1,5 @@
 pub mod Ascending
+pub mod Counts
 pub mod Degrees
 pub mod Elements
 pub mod Neighbours

@@ -9,7 +9,7 @@ mod print;
 mod sketch;
 
 pub use element::{number_of, symbol_of};
-pub use limits::{MOST_ATOMS, MOST_BONDS, MOST_NEIGHBOURS};
+pub use limits::{MOST_ATOMS, MOST_BONDS, MOST_NEIGHBOURS, are_few_neighbours};
 pub use mol::{Atom, Bond, BondKind, Mol, one_neighbour_list};
 pub use print::Print;
 pub use sketch::{Fill, Sketch, SketchAtom, SketchBond, SketchKind};

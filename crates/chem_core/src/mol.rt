@@ -44,7 +44,7 @@ pub struct Bond {
     pub kind: BondKind,
 }
 
-/// The neighbours of an atom, each with the bond to it.
+// The neighbours of an atom, each with the bond to it.
 type Neighbours = SmallVec<(u16, u16), 4>;
 
 /// A molecule: atoms and bonds as they are meant, for each atom its neighbours, and what lies on rings.

@@ -3,7 +3,7 @@ use Rattle.std.proofs.Common.{◌≡◌, ℕ, zero, suc, ◌^◌, ◌<◌, ◌�
 use Rattle.std.specs.Str.Parse.{AllDigits, digits_value}
 use Rattle.std.proofs.lemmas.Fmt.{decimal_nonempty, decimal_digit, first_decimal, decimal-digits_value, digits_decimal, digits_value-decimal}
 use Rattle.std.proofs.lemmas.Str.Parse.{IsNumeralModel, numerals_by_value, tells_digits, not_in_digits}
-use Rattle.chem_text.specs.Number.{IsPlain}
+use Rattle.chem_text.specs.Number.{IsCanonical}
 
 own : IsNumeralModel (AllDigits 10) (digits_value 10)
 own = numerals_by_value (AllDigits 10) tells_digits
@@ -15,7 +15,7 @@ no_zero (suc n) h z = let first = first_decimal (suc n) (omega arith) h in absur
 
 -- digits, as a number is printed
 pub record IsPrinted (bytes : List ℕ) (n : ℕ) : Type 0 where
-  pub plain : IsPlain bytes
+  pub plain : IsCanonical bytes
   pub some : 0 < length bytes
   pub digits : AllDigits 10 bytes
   pub value : digits_value 10 bytes ≡ n
@@ -36,7 +36,7 @@ pub printed : (bytes : List ℕ) (n : ℕ) → n < 2 ^ 64 → bytes ≡ decimal 
 printed bytes n h e = subst (λ (w : List ℕ). IsPrinted w n) (sym e) (printed_decimal n h)
 
 -- plain digits are what is printed of their value
-pub printed_value : (bytes : List ℕ) (n : ℕ) → IsPlain bytes → (0 < length bytes) × AllDigits 10 bytes
+pub printed_value : (bytes : List ℕ) (n : ℕ) → IsCanonical bytes → (0 < length bytes) × AllDigits 10 bytes
     × (digits_value 10 bytes < 2 ^ 64) → n ≡ digits_value 10 bytes → bytes ≡ decimal n
 printed_value bytes n plain (some, digits, fits) e =
     sym (decimal-digits_value own bytes digits some (λ z. let one = plain.no_zero z in omega arith) fits)

@@ -3,29 +3,10 @@
 ghost use Rattle.std.specs.Prelude.{◌≡◌, ◌≢◌, ◌↔◌, ℕ, ◌^◌, ◌<◌, ◌≤◌, ◌++◌, length, slice_index, decimal, IsTrue, IfSome, IfNone, OnOk, OnErr};
 ghost use Rattle.std.specs.Option.{SomeIff};
 ghost use Rattle.std.specs.Str.Parse.{AllDigits, digits_value};
-ghost use Rattle.chem_text.specs.Number.{IsPlain};
+ghost use Rattle.chem_text.specs.Number.{IsCanonical};
 
 use itoa::Buffer;
 use std::alloc::AllocError;
-
-/// Whether no plus and no leading zero stands in front.
-fn is_plain(bytes: &[u8]) -> bool
-    ensures { IsTrue result ↔ IsPlain bytes.now }
-{
-    bytes.first() != Some(&b'+') && (bytes.len() < 2 || bytes[0] != b'0')
-}
-
-/// The value of decimal digits, if it is below 2 ^ 64.
-fn value(bytes: &[u8]) -> Option<u64>
-    requires { slice_index bytes.now 0 ≢ 43 }
-    ensures { SomeIff result ((0 < length bytes.now) × AllDigits 10 bytes.now × (digits_value 10 bytes.now < 2 ^ 64))
-        (digits_value 10 bytes.now) }
-{
-    match std::str::from_utf8(bytes) {
-        Ok(text) => text.parse().ok(),
-        Err(_) => None,
-    }
-}
 
 /// The number that the bytes are printed as, if it is at most `most`.
 pub fn decimal(bytes: &[u8], most: u64) -> Option<u64>
@@ -33,7 +14,7 @@ pub fn decimal(bytes: &[u8], most: u64) -> Option<u64>
     ensures limit { IfSome result (λ n. n ≤ most) }
     ensures none { IfNone result ((n : ℕ) → n ≤ most → bytes.now ≢ decimal n) }
 {
-    if !is_plain(bytes) {
+    if !is_canonical(bytes) {
         return None;
     }
     match value(bytes) {
@@ -48,6 +29,25 @@ pub fn push_decimal(out: &mut Vec<u8>, n: u64) -> Result<(), AllocError>
     ensures err { OnErr result (out.new.items ≡ out.old.items) }
 {
     out.extend_from_slice(Buffer::new().format(n).as_bytes())
+}
+
+// Whether no plus and no leading zero stands in front.
+fn is_canonical(bytes: &[u8]) -> bool
+    ensures { IsTrue result ↔ IsCanonical bytes.now }
+{
+    bytes.first() != Some(&b'+') && (bytes.len() < 2 || bytes[0] != b'0')
+}
+
+// The value of decimal digits, if it is below 2 ^ 64.
+fn value(bytes: &[u8]) -> Option<u64>
+    requires { slice_index bytes.now 0 ≢ 43 }
+    ensures { SomeIff result ((0 < length bytes.now) × AllDigits 10 bytes.now × (digits_value 10 bytes.now < 2 ^ 64))
+        (digits_value 10 bytes.now) }
+{
+    match std::str::from_utf8(bytes) {
+        Ok(text) => text.parse().ok(),
+        Err(_) => None,
+    }
 }
 
 #[cfg(test)]

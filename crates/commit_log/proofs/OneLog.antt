@@ -5,7 +5,7 @@ use Rattle.std.proofs.lemmas.Nat.{from_le_bytes-to_le_bytes_4}
 use Rattle.std.specs.Int.{to_le_bytes, from_le_bytes, w32}
 use Rattle.std.specs.List.{AllByRecursion}
 use Rattle.journal_core.specs.RecordLaws.{GoesOn, NoRecord, same_body, one_list, not_both, text_opens, compare, broken_none, shut_none}
-use Rattle.journal_core.specs.Records.{IsShort, Breaks, body, front}
+use Rattle.journal_core.specs.Records.{IsShort, Breaks, body, prefix}
 use Rattle.journal_core.specs.declared.format.TheConstants.{OPEN}
 use Rattle.commit_log.specs.Change.{Change, registered, revised, withdrawn, format_byte, written, IsInRange, IsNoChange}
 use Rattle.commit_log.specs.declared.change.Format.{Format}
@@ -53,7 +53,7 @@ unread_stops ps payload rest short none ds all on =
 -- what stands behind these records, where no log goes on
 record Stops (changes : List Change) (bytes : List ℕ) : Type 0 where
   tail : List ℕ
-  is : bytes ≡ front (payloads changes) ++ tail
+  is : bytes ≡ prefix (payloads changes) ++ tail
   stops : (ds : List Change) → AllByRecursion IsLogged ds → GoesOn (payloads changes) (payloads ds) tail → ⊥
 
 stops_at : (at : ℕ) (bytes : List ℕ) (d : DamagesLog at bytes) → Stops d.changes bytes
@@ -79,7 +79,7 @@ one_place a b bytes d e =
     let t = stops_at b bytes e in
     elim (compare (payloads d.changes) (payloads e.changes) s.tail t.tail (all_short d.changes d.logged)
     (all_short e.changes e.logged) (sym s.is ∙ t.is)) [
-      | inl same ↦ d.place ∙ ap (λ (ps : List (List ℕ)). length (front ps)) same.0 ∙ sym e.place
+      | inl same ↦ d.place ∙ ap (λ (ps : List (List ℕ)). length (prefix ps)) same.0 ∙ sym e.place
       | inr on ↦ absurd (⊎_elim (s.stops e.changes e.logged) (t.stops d.changes d.logged) on)
     ]
 

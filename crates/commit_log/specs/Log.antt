@@ -3,7 +3,7 @@ use Rattle.std.specs.Prelude.{◌≡◌, ◌⊎◌, ℕ, ◌+◌, List, [], ◌�
 use Rattle.std.specs.List.{AllByRecursion}
 use Rattle.commit_log.specs.Change.{Change, change_of, written, IsInRange, IsNoChange}
 use Rattle.commit_log.specs.declared.change.Commit.{Commit}
-use Rattle.journal_core.specs.Records.{IsShort, body, front, text, Opens, Breaks}
+use Rattle.journal_core.specs.Records.{IsShort, body, prefix, text, Opens, Breaks}
 use Rattle.journal_core.specs.declared.format.TheConstants.{OPEN}
 
 -- the payloads of these changes
@@ -23,7 +23,7 @@ pub record IsLog (changes : List Change) (bytes : List ℕ) : Type 0 where
 pub record Unread (payloads : List (List ℕ)) (bytes : List ℕ) : Type 0 where
   pub payload : List ℕ
   pub rest : List ℕ
-  pub is : bytes ≡ front payloads ++ OPEN ∷ (body payload ++ rest)
+  pub is : bytes ≡ prefix payloads ++ OPEN ∷ (body payload ++ rest)
   pub short : IsShort payload
   pub none : IsNoChange payload
 
@@ -31,7 +31,7 @@ pub record Unread (payloads : List (List ℕ)) (bytes : List ℕ) : Type 0 where
 pub record DamagesLog (at : ℕ) (bytes : List ℕ) : Type 0 where
   pub changes : List Change
   pub logged : AllByRecursion IsLogged changes
-  pub place : at ≡ length (front (payloads changes))
+  pub place : at ≡ length (prefix (payloads changes))
   pub damage : Breaks (payloads changes) bytes ⊎ Unread (payloads changes) bytes
 
 -- a whole file of these changes

@@ -5,7 +5,7 @@ ghost use Rattle.disk_edge.specs.Disk.{IfTold, Rose};
 ghost use Rattle.journal_core.specs.Answers.{OnDamaged};
 ghost use Rattle.journal_core.specs.Journal.{Reads, Rests};
 ghost use Rattle.journal_core.specs.Looks.{Looks};
-ghost use Rattle.journal_core.specs.Records.{Breaks, front};
+ghost use Rattle.journal_core.specs.Records.{Breaks, prefix};
 ghost use Rattle.commit_log.specs.Change.{change_of, written};
 ghost use Rattle.commit_log.specs.Log.{DamagesLog, IsLog, IsLogged, Takes, Unread, changes_of, payloads};
 
@@ -64,7 +64,7 @@ fn next_commit<D: Disk>(
         × (journal.new.place ≡ journal.old.place) × ((ps : List (List ℕ))
         → Reads D.content D.images journal.old ps → Rests D.content D.images journal.new ps))) }
     ensures damaged { OnDamaged result (λ at. (ps : List (List ℕ))
-        → Reads D.content D.images journal.old ps → (at ≡ length (front ps))
+        → Reads D.content D.images journal.old ps → (at ≡ length (prefix ps))
         × IfTold (D.content journal.old.disk) (λ l. Breaks ps l ⊎ Unread ps l)) }
     ensures cause { IsErrOf result LoadFault.Disk
         → Rose (D.faults journal.old.disk) (D.faults journal.new.disk) }

@@ -108,8 +108,8 @@ impl Buffer {
     }
 }
 
-/// Moves the bytes of a block from `start` to `end` to its front, where no room is behind them. It returns
-/// where they stand then.
+// Moves the bytes of a block from `start` to `end` to its front, where no room is behind them. It returns
+// where they stand then.
 fn with_room(block: &mut [u8], start: usize, end: usize) -> (usize, usize)
     requires order { start ≤ end }
     requires within { end ≤ length block.old }
@@ -129,7 +129,7 @@ fn with_room(block: &mut [u8], start: usize, end: usize) -> (usize, usize)
     (0, end - start)
 }
 
-/// Takes the next bytes of a source, at most so many, to a place of the block.
+// Takes the next bytes of a source, at most so many, to a place of the block.
 fn take_at<S: Source>(source: &mut S, block: &mut [u8], at: usize, most: usize) -> Take
     requires some { 0 < most }
     requires room { at + most ≤ length block.old }
@@ -145,7 +145,7 @@ fn take_at<S: Source>(source: &mut S, block: &mut [u8], at: usize, most: usize) 
     source.take(&mut block[at..at + most])
 }
 
-/// `len` zeros.
+// `len` zeros.
 fn zeros(alloc: Global, len: usize) -> Result<Vec<u8>, AllocError>
     ensures { IfOk result (λ v. vec_len v ≡ len) }
 {

@@ -164,7 +164,7 @@ impl Lines {
         }
     }
 
-    /// Where the first LF of the pending bytes stands. The text is gone.
+    // Where the first LF of the pending bytes stands. The text is gone.
     fn line_end(&mut self) -> Option<usize>
         ensures same { self.new ≡ record self.old { text = [] } }
         ensures none { IfNone result (HasNoLf self.old.pending) }
@@ -185,7 +185,7 @@ impl Lines {
         }
     }
 
-    /// Answers the first `len` pending bytes, a line whose text is the first `text_len` of them.
+    // Answers the first `len` pending bytes, a line whose text is the first `text_len` of them.
     fn answer(&mut self, text_len: usize, len: usize) -> Line
         requires text { text_len ≤ len }
         requires within { len ≤ length self.old.pending }
@@ -203,7 +203,7 @@ impl Lines {
         Line::Text
     }
 
-    /// Answers a whole line, if one is left to answer in what was taken. The text is gone where none is.
+    // Answers a whole line, if one is left to answer in what was taken. The text is gone where none is.
     fn whole_line(&mut self) -> Option<Line>
         ensures some { IfSome result (λ line. CutsLine line self.old self.new) }
         ensures none { IfNone result (HasNoLf self.old.pending) }
@@ -222,7 +222,7 @@ impl Lines {
         None
     }
 
-    /// Answers what can be answered with no more bytes, if something can. The text is gone where nothing can.
+    // Answers what can be answered with no more bytes, if something can. The text is gone where nothing can.
     fn held_answer(&mut self) -> Option<Result<Line, LineFault>>
         ensures some { IfSome result (λ answer. AnswersHeld answer self.old self.new) }
         ensures none { IfNone result (NeedsMore self.old) }
@@ -241,7 +241,7 @@ impl Lines {
         None
     }
 
-    /// Drops the pending bytes but the last, where their line is too long whatever follows.
+    // Drops the pending bytes but the last, where their line is too long whatever follows.
     fn drop_front(&mut self)
         requires { HasNoLf self.old.pending }
         ensures lines { (rest : List ℕ) → lines_left self.new rest ≡ lines_left self.old rest }
@@ -260,8 +260,8 @@ impl Lines {
         }
     }
 
-    /// Takes the next bytes of the source, as many as the limit leaves and the buffer has room for, or meets
-    /// the source's end.
+    // Takes the next bytes of the source, as many as the limit leaves and the buffer has room for, or meets
+    // the source's end.
     fn take_piece<S: Source>(&mut self, source: &mut S) -> Result<(), LineFault>
         requires none { HasNoLf self.old.pending }
         requires not_ended { self.old.ended ≡ false }
@@ -292,7 +292,7 @@ impl Lines {
     }
 }
 
-/// Where the first LF stands, if none stands before `from`.
+// Where the first LF stands, if none stands before `from`.
 fn first_line_end(bytes: &[u8], from: usize) -> Option<usize>
     requires within { from ≤ length bytes.now }
     requires scanned { HasNoLf (take from bytes.now) }
@@ -303,14 +303,14 @@ fn first_line_end(bytes: &[u8], from: usize) -> Option<usize>
     Some(from + at)
 }
 
-/// Where the first LF stands.
+// Where the first LF stands.
 fn first_lf(bytes: &[u8]) -> Option<usize>
     ensures { result ≡ position (λ b. b == LF) bytes.now }
 {
     bytes.iter().position(|b| *b == LF)
 }
 
-/// A line's text: the line without the one CR at its end, if there is one.
+// A line's text: the line without the one CR at its end, if there is one.
 fn text_of(line: &[u8]) -> &[u8]
     ensures text { result.now ≡ without_cr line.now }
     ensures short { length result.now ≤ length line.now }

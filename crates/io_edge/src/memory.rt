@@ -96,7 +96,7 @@ impl Source for MemSource {
     }
 }
 
-/// Copies bytes into the front of the room, at most so many, and returns how many.
+// Copies bytes into the front of the room, at most so many, and returns how many.
 fn copy_front(bytes: &[u8], most: usize, room: &mut [u8]) -> usize
     ensures count { result ≡ min (min most (length room.old)) (length bytes.now) }
     ensures front { bytes.now ≡ take result room.new ++ drop result bytes.now }

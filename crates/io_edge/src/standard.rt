@@ -8,7 +8,7 @@ use crate::sinks::{PutFault, Sink};
 use crate::sources::{Source, Take};
 use std::io::{Read, Write};
 
-/// How many bytes are read at once, at most.
+// How many bytes are read at once, at most.
 const PIECE: usize = 16 * 1024;
 
 /// A reader of std as a source. Each error of the reader is a fault. Over a reader whose bytes std's clauses
@@ -88,7 +88,7 @@ impl<W: Write + Drop> Sink for StdSink<W> {
     }
 }
 
-/// Writes all of `bytes` and flushes. It answers whether that succeeded.
+// Writes all of `bytes` and flushes. It answers whether that succeeded.
 fn write_whole<W: Write>(writer: &mut W, bytes: &[u8]) -> bool
     ensures whole { OnTrue result (Appends (W.contents writer.old) (W.contents writer.new) bytes.now) }
     ensures part { OnFalse result (AppendsPrefix (W.contents writer.old) (W.contents writer.new) bytes.now) }

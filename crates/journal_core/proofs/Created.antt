@@ -3,7 +3,7 @@ use Rattle.std.proofs.Common.{◌≡◌, ◌≤◌, ◌⊎◌, inl, inr, ℕ, Li
 use Rattle.disk_edge.specs.Disk.{written, Torn, Same, Elapses, Keeps}
 use Rattle.disk_edge.specs.Moments.{AtEachMoment, two_calls}
 use Rattle.disk_edge.specs.TornLaws.{torn_same}
-use Rattle.journal_core.specs.Records.{header, front, text}
+use Rattle.journal_core.specs.Records.{header, prefix, text}
 use Rattle.journal_core.specs.declared.format.TheConstants.{CLOSED}
 
 pub nil_of : (l : List ℕ) → length l ≡ 0 → l ≡ []
@@ -11,7 +11,7 @@ nil_of [] is = refl
 nil_of (b ∷ l) is = absurd (omega (arith, is))
 
 pub text_on_nothing : (l : List ℕ) → l ≡ [] → written 0 (header ++ CLOSED ∷ []) l ≡ text []
-unfolding front
+unfolding prefix
 text_on_nothing l is = ap (λ (k : List ℕ). written 0 (header ++ CLOSED ∷ []) k) is
 
 module _ {D : Type 0} (images : D → List ℕ → Type 0) (clock : D → ℕ) (between : D → ℕ → ℕ → List ℕ → Type 0)

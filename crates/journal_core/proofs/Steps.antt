@@ -2,7 +2,7 @@
 use Rattle.std.proofs.Common.{◌≡◌, ◌+◌, ℕ, List, [], ◌∷◌, ◌++◌, length, Option, Some, sym, subst, arith}
 use Rattle.disk_edge.specs.Disk.{written, Torn, Exactly, Tears, Becomes, IfTold}
 use Rattle.disk_edge.specs.TornLaws.{torn_written}
-use Rattle.journal_core.specs.Records.{IsShort, body, front, Opens, Staged}
+use Rattle.journal_core.specs.Records.{IsShort, body, prefix, Opens, Staged}
 use Rattle.journal_core.proofs.Told.{becomes_told}
 use Rattle.journal_core.specs.RecordLaws.{opened}
 use Rattle.journal_core.proofs.Crash.{torn_behind, written_behind, torn_gate, written_gate}
@@ -16,7 +16,7 @@ pub record AtStage (payloads : List (List ℕ)) (payload : List ℕ) (content : 
   pub staged : Staged payloads payload bytes
   pub opens : Opens payloads bytes
 
-module _ (payloads : List (List ℕ)) (payload : List ℕ) (place : ℕ) (at : place ≡ length (front payloads)) where
+module _ (payloads : List (List ℕ)) (payload : List ℕ) (place : ℕ) (at : place ≡ length (prefix payloads)) where
   pub behind : (n : ℕ) (d c : List ℕ) → Opens payloads d → Torn (place + 1) n d c → Opens payloads c
   behind n d c e torn = torn_behind payloads n d c e (subst (λ (p : ℕ). Torn (p + 1) n d c) at torn)
 
@@ -35,7 +35,7 @@ module _ (payloads : List (List ℕ)) (payload : List ℕ) (place : ℕ) (at : p
         told = told;
         exactly = synced (written (place + 1) bytes l) told;
         staged = subst (λ (p : ℕ). Staged payloads payload (written (p + 1) bytes l)) (sym at)
-            (subst (λ (b : List ℕ). Staged payloads payload (written (length (front payloads) + 1) b l)) (sym is_bytes)
+            (subst (λ (b : List ℕ). Staged payloads payload (written (length (prefix payloads) + 1) b l)) (sym is_bytes)
             (written_behind payloads payload l few (each l is_image)));
         opens = behind (length bytes) l (written (place + 1) bytes l) (each l is_image)
             (torn_written (place + 1) bytes l);
@@ -51,7 +51,7 @@ module _ (payloads : List (List ℕ)) (payload : List ℕ) (place : ℕ) (at : p
   pub written_open : (l : List ℕ) → Staged payloads payload l
       → Opens (payloads ++ payload ∷ []) (written place (0x5a ∷ []) l)
   written_open l e = subst (λ (p : ℕ). Opens (payloads ++ payload ∷ []) (written p (0x5a ∷ []) l)) (sym at)
-      (opened payloads payload (written (length (front payloads)) (0x5a ∷ []) l) e.rest e.fit e.few
+      (opened payloads payload (written (length (prefix payloads)) (0x5a ∷ []) l) e.rest e.fit e.few
       (written_gate payloads payload l 0x5a e))
 
   pub written_closed : (l : List ℕ) → Staged payloads payload l → Opens payloads (written place (0 ∷ []) l)

@@ -5,7 +5,7 @@ use Rattle.std.proofs.lemmas.Bool.{cases_eq}
 use Rattle.std.proofs.lemmas.Nat.{from_le_bytes-to_le_bytes_4}
 use Rattle.std.specs.Int.{to_le_bytes, from_le_bytes, w32}
 use Rattle.std.specs.List.{AllByRecursion}
-use Rattle.journal_core.specs.Records.{IsShort, header, body, records, front, text, Opens, IsBroken, Breaks, IsNoJournal, Staged, BeforeOrAfter}
+use Rattle.journal_core.specs.Records.{IsShort, header, body, records, prefix, text, Opens, IsBroken, Breaks, IsNoJournal, Staged, BeforeOrAfter}
 use Rattle.journal_core.specs.declared.format.TheConstants.{OPEN, CLOSED}
 
 length-body : (payload : List ℕ) → length (body payload) ≡ 4 + length payload
@@ -20,30 +20,30 @@ records_push (p ∷ payloads) payload rest = ap (λ (l : List ℕ). OPEN ∷ l)
     ∙ sym (append_assoc (body p) (records payloads) (OPEN ∷ (body payload ++ rest))))
 
 -- one record more
-pub front_push : (payloads : List (List ℕ)) (payload rest : List ℕ) → front (payloads ++ payload ∷ []) ++ rest
-    ≡ front payloads ++ OPEN ∷ (body payload ++ rest)
-unfolding front
-front_push payloads payload rest =
+pub prefix_push : (payloads : List (List ℕ)) (payload rest : List ℕ) → prefix (payloads ++ payload ∷ []) ++ rest
+    ≡ prefix payloads ++ OPEN ∷ (body payload ++ rest)
+unfolding prefix
+prefix_push payloads payload rest =
     append_assoc header (records (payloads ++ payload ∷ [])) rest
     ∙ ap (λ (l : List ℕ). header ++ l) (records_push payloads payload rest)
     ∙ sym (append_assoc header (records payloads) (OPEN ∷ (body payload ++ rest)))
 
-pub length-front_push : (payloads : List (List ℕ)) (payload : List ℕ) → length (front (payloads ++ payload ∷ []))
-    ≡ length (front payloads) + 5 + length payload
-length-front_push payloads payload =
-    let same : front (payloads ++ payload ∷ []) ≡ front payloads ++ OPEN ∷ (body payload ++ []) =
-    sym (append-nil (front (payloads ++ payload ∷ []))) ∙ front_push payloads payload [] in
+pub length-prefix_push : (payloads : List (List ℕ)) (payload : List ℕ) → length (prefix (payloads ++ payload ∷ []))
+    ≡ length (prefix payloads) + 5 + length payload
+length-prefix_push payloads payload =
+    let same : prefix (payloads ++ payload ∷ []) ≡ prefix payloads ++ OPEN ∷ (body payload ++ []) =
+    sym (append-nil (prefix (payloads ++ payload ∷ []))) ∙ prefix_push payloads payload [] in
     omega (
       arith,
       ap length same,
-      length-append (front payloads) (OPEN ∷ (body payload ++ [])),
+      length-append (prefix payloads) (OPEN ∷ (body payload ++ [])),
       length-append (body payload) [],
       length-body payload,
     )
 
-pub front_nil : front [] ≡ header
-unfolding front
-front_nil = append-nil header
+pub prefix_nil : prefix [] ≡ header
+unfolding prefix
+prefix_nil = append-nil header
 
 pub all_short : (payloads : List (List ℕ)) (payload : List ℕ) → AllByRecursion IsShort payloads → IsShort payload
     → AllByRecursion IsShort (payloads ++ payload ∷ [])
@@ -134,8 +134,8 @@ compare_records (p ∷ ps) (q ∷ qs) t u fp fq is =
 
 -- Two readings of the same bytes are one, or one of them goes on.
 pub compare : (ps qs : List (List ℕ)) (t u : List ℕ) → AllByRecursion IsShort ps → AllByRecursion IsShort qs
-    → front ps ++ t ≡ front qs ++ u → Compared ps qs t u
-unfolding front
+    → prefix ps ++ t ≡ prefix qs ++ u → Compared ps qs t u
+unfolding prefix
 compare ps qs t u fp fq is =
     let behind : records ps ++ t ≡ records qs ++ u =
     sym (drop_at header (records ps ++ t) 8 refl)
@@ -147,11 +147,11 @@ compare ps qs t u fp fq is =
 unfoldable pub NoRecord : List ℕ → Type 0
 NoRecord bytes = (ps qs : List (List ℕ)) → GoesOn ps qs bytes → ⊥
 
-unique_front : (ps qs : List (List ℕ)) (t u : List ℕ) → AllByRecursion IsShort ps → AllByRecursion IsShort qs
+unique_prefix : (ps qs : List (List ℕ)) (t u : List ℕ) → AllByRecursion IsShort ps → AllByRecursion IsShort qs
     → NoRecord t → NoRecord u
-    → front ps ++ t ≡ front qs ++ u → (ps ≡ qs) × (t ≡ u)
+    → prefix ps ++ t ≡ prefix qs ++ u → (ps ≡ qs) × (t ≡ u)
 unfolding NoRecord
-unique_front ps qs t u fp fq nt nu is = ⊎_elim (λ same. same) (λ on. absurd (⊎_elim (nt ps qs) (nu qs ps) on))
+unique_prefix ps qs t u fp fq nt nu is = ⊎_elim (λ same. same) (λ on. absurd (⊎_elim (nt ps qs) (nu qs ps) on))
     (compare ps qs t u fp fq is)
 
 pub shut_none : (gate : ℕ) (rest : List ℕ) → gate ≢ OPEN → NoRecord (gate ∷ rest)
@@ -166,18 +166,18 @@ broken_none (gate ∷ rest) broken ps qs on =
 
 -- where no record stands, the other reading goes on to there
 pub leads_to : (ps qs : List (List ℕ)) (t u : List ℕ) → AllByRecursion IsShort ps → AllByRecursion IsShort qs
-    → NoRecord u → front ps ++ t ≡ front qs ++ u
+    → NoRecord u → prefix ps ++ t ≡ prefix qs ++ u
     → ((ps ≡ qs) × (t ≡ u)) ⊎ GoesOn ps qs t
 unfolding NoRecord
 leads_to ps qs t u fp fq nu is = ⊎_elim (λ same. inl same) (λ on. ⊎_elim (λ x. inr x) (λ y. absurd (nu qs ps y)) on)
     (compare ps qs t u fp fq is)
 
 pub one_list : (ps qs : List (List ℕ)) (bytes : List ℕ) → Opens ps bytes → Opens qs bytes → ps ≡ qs
-one_list ps qs bytes o r = (unique_front ps qs (o.gate ∷ o.rest) (r.gate ∷ r.rest) o.fit r.fit
+one_list ps qs bytes o r = (unique_prefix ps qs (o.gate ∷ o.rest) (r.gate ∷ r.rest) o.fit r.fit
     (shut_none o.gate o.rest o.shut) (shut_none r.gate r.rest r.shut) (sym o.is ∙ r.is)).0
 
 pub one_break : (ps qs : List (List ℕ)) (bytes : List ℕ) → Breaks ps bytes → Breaks qs bytes → ps ≡ qs
-one_break ps qs bytes o r = (unique_front ps qs o.tail r.tail o.fit r.fit (broken_none o.tail o.broken)
+one_break ps qs bytes o r = (unique_prefix ps qs o.tail r.tail o.fit r.fit (broken_none o.tail o.broken)
     (broken_none r.tail r.broken) (sym o.is ∙ r.is)).0
 
 not_broken : (gate : ℕ) (rest tail : List ℕ) → gate ≢ OPEN → gate ∷ rest ≡ tail → IsBroken tail → ⊥
@@ -186,11 +186,11 @@ not_broken gate rest (g ∷ r) shut is broken = shut (same_head gate g rest r is
 
 pub not_both : (ps qs : List (List ℕ)) (bytes : List ℕ) → Opens ps bytes → Breaks qs bytes → ⊥
 not_both ps qs bytes o r =
-    not_broken o.gate o.rest r.tail o.shut (unique_front ps qs (o.gate ∷ o.rest) r.tail o.fit r.fit
+    not_broken o.gate o.rest r.tail o.shut (unique_prefix ps qs (o.gate ∷ o.rest) r.tail o.fit r.fit
     (shut_none o.gate o.rest o.shut) (broken_none r.tail r.broken) (sym o.is ∙ r.is)).1 r.broken
 
-has_header : (ps : List (List ℕ)) (tail bytes : List ℕ) → bytes ≡ front ps ++ tail → IsNoJournal bytes → ⊥
-unfolding front
+has_header : (ps : List (List ℕ)) (tail bytes : List ℕ) → bytes ≡ prefix ps ++ tail → IsNoJournal bytes → ⊥
+unfolding prefix
 has_header ps tail bytes is none = none (records ps ++ tail) (is ∙ append_assoc header (records ps) tail)
 
 pub opens_header : (ps : List (List ℕ)) (bytes : List ℕ) → Opens ps bytes → IsNoJournal bytes → ⊥
@@ -203,7 +203,7 @@ pub text_opens : (ps : List (List ℕ)) (rest : List ℕ) → AllByRecursion IsS
 text_opens ps rest fit = record {
   gate = CLOSED;
   rest = rest;
-  is = append_assoc (front ps) (CLOSED ∷ []) rest;
+  is = append_assoc (prefix ps) (CLOSED ∷ []) rest;
   shut =
       λ e. omega (arith, e);
   fit = fit;
@@ -219,19 +219,19 @@ never_both ps p bytes o r = longer ps p (one_list ps (ps ++ p ∷ []) bytes o r)
 module _ (payloads : List (List ℕ)) where
   -- behind an open gate the record counts
   pub opened : (payload bytes rest : List ℕ) → AllByRecursion IsShort payloads → IsShort payload
-      → bytes ≡ front payloads ++ OPEN ∷ (body payload ++ CLOSED ∷ rest) → Opens (payloads ++ payload ∷ []) bytes
+      → bytes ≡ prefix payloads ++ OPEN ∷ (body payload ++ CLOSED ∷ rest) → Opens (payloads ++ payload ∷ []) bytes
   opened payload bytes rest fit few is = record {
     gate = CLOSED;
     rest = rest;
     fit = all_short payloads payload fit few;
-    is = is ∙ sym (front_push payloads payload (CLOSED ∷ rest));
+    is = is ∙ sym (prefix_push payloads payload (CLOSED ∷ rest));
     shut = λ e. omega (arith, e);
   }
 
   pub before_or_after : (payload bytes : List ℕ) → Staged payloads payload bytes → BeforeOrAfter payloads payload bytes
   before_or_after payload bytes e = elim (cases_eq e.gate OPEN) [
     | inl is_open ↦ inr (opened payload bytes e.rest e.fit e.few (e.is
-        ∙ ap (λ (b : ℕ). front payloads ++ b ∷ (body payload ++ CLOSED ∷ e.rest)) is_open))
+        ∙ ap (λ (b : ℕ). prefix payloads ++ b ∷ (body payload ++ CLOSED ∷ e.rest)) is_open))
     | inr shut ↦ inl (record {
       gate = e.gate;
       rest = body payload ++ CLOSED ∷ e.rest;

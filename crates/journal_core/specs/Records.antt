@@ -19,12 +19,12 @@ records [] = []
 records (payload ∷ payloads) = (OPEN ∷ body payload) ++ records payloads
 
 -- the header and these records
-unfoldable pub front : List (List ℕ) → List ℕ
-front payloads = header ++ records payloads
+unfoldable pub prefix : List (List ℕ) → List ℕ
+prefix payloads = header ++ records payloads
 
 -- a whole file: the header, these records and a closed gate
 abbrev pub text : List (List ℕ) → List ℕ
-text payloads = front payloads ++ CLOSED ∷ []
+text payloads = prefix payloads ++ CLOSED ∷ []
 
 abbrev pub IsShort : List ℕ → Type 0
 IsShort payload = length payload ≤ LONGEST_PAYLOAD
@@ -33,7 +33,7 @@ IsShort payload = length payload ≤ LONGEST_PAYLOAD
 pub record Opens (payloads : List (List ℕ)) (bytes : List ℕ) : Type 0 where
   pub gate : ℕ
   pub rest : List ℕ
-  pub is : bytes ≡ front payloads ++ gate ∷ rest
+  pub is : bytes ≡ prefix payloads ++ gate ∷ rest
   pub shut : gate ≢ OPEN
   pub fit : AllByRecursion IsShort payloads
 
@@ -46,7 +46,7 @@ IsBroken (gate ∷ rest) = (gate ≡ OPEN)
 -- Open records of these payloads, and behind them what is broken.
 pub record Breaks (payloads : List (List ℕ)) (bytes : List ℕ) : Type 0 where
   pub tail : List ℕ
-  pub is : bytes ≡ front payloads ++ tail
+  pub is : bytes ≡ prefix payloads ++ tail
   pub broken : IsBroken tail
   pub fit : AllByRecursion IsShort payloads
 
@@ -58,7 +58,7 @@ IsNoJournal bytes = (rest : List ℕ) → bytes ≡ header ++ rest → ⊥
 pub record Staged (payloads : List (List ℕ)) (payload bytes : List ℕ) : Type 0 where
   pub gate : ℕ
   pub rest : List ℕ
-  pub is : bytes ≡ front payloads ++ gate ∷ (body payload ++ CLOSED ∷ rest)
+  pub is : bytes ≡ prefix payloads ++ gate ∷ (body payload ++ CLOSED ∷ rest)
   pub fit : AllByRecursion IsShort payloads
   pub few : IsShort payload
 

@@ -9,7 +9,7 @@ ghost use Rattle.journal_core.specs.Looks.{Looks};
 use disk_edge::{Disk, DiskFail};
 use std::alloc::Global;
 
-/// How many bytes are read at once, where so many are left.
+// How many bytes are read at once, where so many are left.
 const PIECE: usize = 65_536;
 
 /// Bytes of a disk from a place on, and the disk's length, once it was asked for.

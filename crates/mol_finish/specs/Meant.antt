@@ -13,17 +13,17 @@ use Rattle.chem_core.specs.Sketch.{SketchTerm}
 use Rattle.chem_core.specs.Molecule.{Molecule}
 
 -- a bond that is not aromatic keeps its order; without a symbol, or with `:`, it is single
-abbrev pub plain_kind : SketchKind → BondKind
-plain_kind Unwritten = kinds.Single
-plain_kind Single = kinds.Single
-plain_kind Double = kinds.Double
-plain_kind Triple = kinds.Triple
-plain_kind Quad = kinds.Quad
-plain_kind Colon = kinds.Single
+abbrev pub written_kind : SketchKind → BondKind
+written_kind Unwritten = kinds.Single
+written_kind Single = kinds.Single
+written_kind Double = kinds.Double
+written_kind Triple = kinds.Triple
+written_kind Quad = kinds.Quad
+written_kind Colon = kinds.Single
 
 abbrev pub meant_kind : Bool → SketchKind → BondKind
 meant_kind true kind = kinds.Aromatic
-meant_kind false kind = plain_kind kind
+meant_kind false kind = written_kind kind
 
 -- the atom, aromatic or not, with this valence
 abbrev pub meant_atom : Bool → ℕ → SketchAtom → Atom

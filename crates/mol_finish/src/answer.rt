@@ -7,7 +7,7 @@ ghost use Rattle.mol_finish.specs.declared.fault.TextFault.{TextFault};
 ghost use Rattle.mol_finish.specs.declared.fault.Format.{Format};
 
 use crate::fault::{Format, TextFault};
-use crate::meant::molecule;
+use crate::molecule::molecule;
 use aromatic::{AromFault, perceive};
 use chem_core::{Mol, Sketch};
 use molfile_read::read_molfile;
@@ -30,6 +30,27 @@ pub fn structure(alloc: Global, format: Format, text: &[u8]) -> Result<Mol, Text
         Format::Smiles => of_smiles(alloc, text),
         Format::Molfile => of_molfile(alloc, text),
     }
+}
+
+/// A law: a text has one structure in a format.
+pub fn one_structure()
+    ensures { (format : Format) (text : List ℕ) (m n : Molecule)
+        → HasMolecule format text m → HasMolecule format text n → m ≡ n }
+{
+    smiles_read::one_reading();
+    molfile_read::one_reading();
+    ring_find::one_answer();
+}
+
+/// A law: but for want of memory a text has one answer in a format.
+pub fn one_answer()
+    ensures { (format : Format) (text : List ℕ) (a b : Result Molecule TextFault)
+        → IsAnswer format text a → IsAnswer format text b
+        → (a ≡ b) ⊎ (a ≡ Err TextFault.NoMemory) ⊎ (b ≡ Err TextFault.NoMemory) }
+{
+    smiles_read::one_reading();
+    molfile_read::one_reading();
+    ring_find::one_answer();
 }
 
 fn of_smiles(alloc: Global, text: &[u8]) -> Result<Mol, TextFault>
@@ -57,25 +78,4 @@ fn of_sketch(alloc: Global, mut sketch: Sketch) -> Result<Mol, AromFault>
     let rings = rings(alloc, &sketch)?;
     let found = perceive(alloc, &sketch, &rings.bond_in_ring)?;
     Ok(molecule(alloc, &sketch, &found, rings)?)
-}
-
-/// A law: a text has one structure in a format.
-pub fn one_structure()
-    ensures { (format : Format) (text : List ℕ) (m n : Molecule)
-        → HasMolecule format text m → HasMolecule format text n → m ≡ n }
-{
-    smiles_read::one_reading();
-    molfile_read::one_reading();
-    ring_find::one_answer();
-}
-
-/// A law: but for want of memory a text has one answer in a format.
-pub fn one_answer()
-    ensures { (format : Format) (text : List ℕ) (a b : Result Molecule TextFault)
-        → IsAnswer format text a → IsAnswer format text b
-        → (a ≡ b) ⊎ (a ≡ Err TextFault.NoMemory) ⊎ (b ≡ Err TextFault.NoMemory) }
-{
-    smiles_read::one_reading();
-    molfile_read::one_reading();
-    ring_find::one_answer();
 }

@@ -3,7 +3,7 @@
 
 mod answer;
 mod fault;
-mod meant;
+mod molecule;
 
 pub use answer::{one_answer, one_structure, structure};
 pub use fault::{Format, TextFault};

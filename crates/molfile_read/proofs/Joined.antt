@@ -207,6 +207,12 @@ all_ends : (P : ℕ × ℕ → Type 0) (n : ℕ) (xs : List SketchBond) → ((x 
 all_ends P n [] k h = tt
 all_ends P n (x ∷ xs) k h = (k x h.0, all_ends P n xs k h.1)
 
+-- each bond joins two of the atoms
+pub apart : (n : ℕ) (xs : List SketchBond) → AllByRecursion (JoinsTwo n) xs
+    → AllByRecursion (λ b. (b.a < n) × (b.b < n) × (b.a ≢ b.b)) xs
+apart n [] h = tt
+apart n (x ∷ xs) h = ((h.0.0, h.0.1, h.0.2), apart n xs h.1)
+
 -- such atoms and bonds are a sound sketch
 pub sound_sketch : (atoms : List SketchAtom) (bonds : List SketchBond) → AreBondsAmong (length atoms) bonds
     → All IsSketchAtom atoms → length atoms ≤ 999 → length bonds ≤ 999

@@ -1,5 +1,4 @@
 mod BondSteps
-mod Degrees
 mod Drawn
 mod Joined
 mod LastSet

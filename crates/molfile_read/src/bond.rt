@@ -39,6 +39,13 @@ pub(crate) fn read_bonds(
     Ok(bonds)
 }
 
+/// Whether the number is that of one of so many atoms, which count from 1.
+pub(crate) fn is_atom(atoms: u16, number: u16) -> bool
+    ensures { result ≡ is_atom atoms number }
+{
+    0 < number && number <= atoms
+}
+
 // What the bond line of this number says by itself, among so many atoms.
 #[tactic(auto, unfolding(crate::specs::Bonds::bond_line))]
 fn bond(at: u32, line: &[u8], atoms: u16) -> Result<SketchBond, MolfileFault>
@@ -86,13 +93,6 @@ fn kind_of_type(kind: u16) -> Option<SketchKind>
         3 => Some(SketchKind::Triple),
         _ => None,
     }
-}
-
-/// Whether the number is that of one of so many atoms, which count from 1.
-pub(crate) fn is_atom(atoms: u16, number: u16) -> bool
-    ensures { result ≡ is_atom atoms number }
-{
-    0 < number && number <= atoms
 }
 
 // The ends of a bond, the lower first.

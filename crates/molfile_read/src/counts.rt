@@ -1,13 +1,14 @@
 //! The counts line.
 ghost use Rattle.std.specs.Prelude.{◌≡◌, ◌≤◌, ◌==◌, filter, not, drop, IfOk, OnOk};
 ghost use Rattle.std.specs.Str.{bytes_eq};
+ghost use Rattle.chem_core.specs.declared.limits.TheConstants.{MOST_ATOMS, MOST_BONDS};
 ghost use Rattle.molfile_read.specs.Counts.{is_version_read, counts_read, first_counts};
 
 use crate::fault::MolfileFault;
 use crate::field::{columns, number};
 use crate::lines::Lines;
 
-/// The lines before the counts line, which may hold anything.
+// The lines before the counts line, which may hold anything.
 const HEADER_LINES: usize = 3;
 
 /// How many atom lines and bond lines there are.
@@ -21,7 +22,7 @@ pub(crate) struct Counts {
 #[tactic(auto, unfolding(crate::specs::Counts::counts_read))]
 pub(crate) fn counts_line(line: &[u8]) -> Result<Counts, MolfileFault>
     ensures value { result ≡ counts_read line.now }
-    ensures range { IfOk result (λ c. (c.atoms ≤ 999) × (c.bonds ≤ 999)) }
+    ensures range { IfOk result (λ c. (c.atoms ≤ MOST_ATOMS) × (c.bonds ≤ MOST_BONDS)) }
 {
     let atoms = number(line, 1, 3, 999).ok_or(MolfileFault::Header)?;
     let bonds = number(line, 4, 6, 999).ok_or(MolfileFault::Header)?;
@@ -34,6 +35,21 @@ pub(crate) fn counts_line(line: &[u8]) -> Result<Counts, MolfileFault>
         return Err(MolfileFault::Query(4));
     }
     Ok(Counts { atoms, bonds })
+}
+
+/// What the counts line says, which is the fourth.
+pub(crate) fn read_counts(lines: &mut Lines) -> Result<Counts, MolfileFault>
+    ensures value { result ≡ first_counts (drop 3 lines.old) }
+    ensures rest { OnOk result (lines.new ≡ drop 4 lines.old) }
+    ensures range { IfOk result (λ c. (c.atoms ≤ MOST_ATOMS) × (c.bonds ≤ MOST_BONDS)) }
+{
+    for _ in 0..HEADER_LINES {
+        lines.skip();
+    }
+    match lines.next() {
+        Some((_, line)) => counts_line(line),
+        None => Err(MolfileFault::Cut),
+    }
 }
 
 // Whether the version, blanks taken out, is `V2000` or nothing.
@@ -61,19 +77,4 @@ fn is_spelled(field: &[u8], text: &[u8]) -> bool
         }
     }
     left.is_empty()
-}
-
-/// What the counts line says, which is the fourth.
-pub(crate) fn read_counts(lines: &mut Lines) -> Result<Counts, MolfileFault>
-    ensures value { result ≡ first_counts (drop 3 lines.old) }
-    ensures rest { OnOk result (lines.new ≡ drop 4 lines.old) }
-    ensures range { IfOk result (λ c. (c.atoms ≤ 999) × (c.bonds ≤ 999)) }
-{
-    for _ in 0..HEADER_LINES {
-        lines.skip();
-    }
-    match lines.next() {
-        Some((_, line)) => counts_line(line),
-        None => Err(MolfileFault::Cut),
-    }
 }

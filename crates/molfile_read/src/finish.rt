@@ -1,6 +1,7 @@
 //! The atoms of a sketch, from what atom lines and property lines say.
 ghost use Rattle.std.specs.Prelude.{◌≡◌, ◌<◌, ◌≤◌, ◌||◌, is_some, ℕ, None, Ok, length, slice_index_or, position, IfSome, IfOk, MatchResult};
 ghost use Rattle.std.specs.List.{AllByRecursion};
+ghost use Rattle.chem_core.specs.declared.limits.TheConstants.{MOST_ATOMS};
 ghost use Rattle.molfile_read.specs.Properties.{sets_charges, sets_isotopes, last_set, charge_of, radical_of, isotope_of};
 ghost use Rattle.molfile_read.specs.Reading.{field_charge, field_electrons, fill_of, made_atom, has_mass, sketch_atoms, masses_read};
 ghost use Rattle.molfile_read.specs.Parts.{IsAtomLine, IsSetting, AreAtoms};
@@ -21,7 +22,7 @@ struct Values {
 
 /// Refuses the first atom with a mass difference, unless some line sets isotopes.
 pub(crate) fn check_masses(atoms: &[AtomLine], settings: &[Setting]) -> Result<(), MolfileFault>
-    requires { length atoms.now ≤ 999 }
+    requires { length atoms.now ≤ MOST_ATOMS }
     ensures { MatchResult result (λ _. masses_read atoms.now settings.now ≡ Ok tt)
         (λ e. masses_read atoms.now settings.now ≡ Err e) }
 {

@@ -9,7 +9,6 @@ mod counts;
 mod fault;
 mod field;
 mod finish;
-mod limits;
 mod lines;
 mod property;
 mod read;

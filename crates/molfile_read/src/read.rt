@@ -12,10 +12,9 @@ use crate::bond::read_bonds;
 use crate::counts::read_counts;
 use crate::fault::MolfileFault;
 use crate::finish::{check_masses, sketch_atoms};
-use crate::limits::are_few_neighbours;
 use crate::lines::Lines;
 use crate::property::read_properties;
-use chem_core::{MOST_BONDS, Sketch};
+use chem_core::{MOST_BONDS, Sketch, are_few_neighbours};
 use std::alloc::Global;
 
 /// The longest molfile that is looked at, in bytes.

@@ -11,10 +11,10 @@ ghost use Rattle.ring_find.specs.Bridges.{AreForest, AreTaken};
 use crate::graph::Graph;
 use std::alloc::{AllocError, Global};
 
-/// Stands for a missing atom, bond or visit number.
+// Stands for a missing atom, bond or visit number.
 const NONE: u16 = u16::MAX;
 
-/// How a depth-first walk comes to an atom: from which atom, and by which bond.
+// How a depth-first walk comes to an atom: from which atom, and by which bond.
 #[derive(Clone, Copy, Debug)]
 struct Way {
     to: u16,
@@ -22,7 +22,7 @@ struct Way {
     bond: u16,
 }
 
-/// An atom of the walk.
+// An atom of the walk.
 #[derive(Clone, Copy, Debug)]
 struct Seen {
     /// Its number in the order of the walk; `NONE` before the walk comes to it.

@@ -7,10 +7,10 @@
 #![tactic(auto)]
 
 mod bridges;
-mod facts;
 mod graph;
-mod least;
+mod ring_facts;
 mod search;
+mod smallest;
 mod strip;
 
 ghost use Rattle.std.specs.Prelude.{◌≡◌, ◌==◌, ℕ, Bool, List, not, length, map, IfOk};
@@ -20,11 +20,11 @@ ghost use Rattle.chem_core.specs.RingFacts.{AreRingBonds, AreSmallestRings};
 
 use crate::bridges::drop_bridges;
 use crate::graph::Graph;
-use crate::least::smallest_rings;
 use crate::search::ring_lengths;
+use crate::smallest::smallest_rings;
 use crate::strip::strip_dead_ends;
 use chem_core::Sketch;
-pub use facts::Rings;
+pub use ring_facts::Rings;
 use std::alloc::{AllocError, Global};
 
 /// Which bonds are ring bonds, and the length of the smallest ring of each atom, 0 where it is in none.
@@ -50,19 +50,19 @@ pub fn rings(alloc: Global, sketch: &Sketch) -> Result<Rings, AllocError>
     })
 }
 
-// For each bond, whether its ring length is not 0.
-fn nonzero(alloc: Global, lengths: &[u16]) -> Result<Vec<bool>, AllocError>
-    ensures { IfOk result (λ flags. flags.items ≡ map (λ n. not (n == 0)) lengths.now) }
-{
-    lengths.iter().map(|length| *length != 0).collect(alloc)
-}
-
 /// A law: a structure has one list of ring bonds, and one of smallest rings.
 pub fn one_answer()
     ensures bonds { (ends : Ends) (xs ys : List Bool) → AreRingBonds ends xs → AreRingBonds ends ys → xs ≡ ys }
     ensures atoms { (atoms : ℕ) (ends : Ends) (xs ys : List ℕ)
         → AreSmallestRings atoms ends xs → AreSmallestRings atoms ends ys → xs ≡ ys }
 {}
+
+// For each bond, whether its ring length is not 0.
+fn nonzero(alloc: Global, lengths: &[u16]) -> Result<Vec<bool>, AllocError>
+    ensures { IfOk result (λ flags. flags.items ≡ map (λ n. not (n == 0)) lengths.now) }
+{
+    lengths.iter().map(|length| *length != 0).collect(alloc)
+}
 
 #[cfg(test)]
 mod tests;

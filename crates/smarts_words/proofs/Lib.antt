@@ -1,3 +1,4 @@
+pub mod Digits
 pub mod Taken
 pub mod Stereos
 pub mod Balance

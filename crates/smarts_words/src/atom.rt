@@ -1,7 +1,6 @@
 //! Atoms.
 
 ghost use Rattle.std.specs.Prelude.{◌≡◌, ◌≢◌, ℕ, [], ◌∷◌, ◌++◌, List, IfOk, IfSome, IsSomeAnd, MatchOption, option_map};
-ghost use Rattle.chem_core.specs.Organic.{Organic, symbol_bytes, atomic_number};
 ghost use Rattle.line_walk.specs.Follow.{Reads, AfterAtom};
 ghost use Rattle.smarts_words.specs.Bracket.{Atom, atom_text, IsAtom, value_of_atom};
 ghost use Rattle.smarts_words.specs.Bracket as bracket;
@@ -9,9 +8,10 @@ ghost use Rattle.smarts_words.specs.Words.{smarts_words};
 ghost use Rattle.smarts_words.specs.Follow.{IsBareAtom, IsBareRead};
 
 use crate::bracket::bracket_at;
-use crate::symbol::{small_number, symbol};
+use crate::symbol::symbol;
 use crate::value::PatternAtom;
 use crate::word::{AtomWord, Step};
+use smiles_read::{lower_letter_number, organic_number};
 use std::alloc::{AllocError, Global};
 
 /// The atom that the bytes begin with, and the bytes after it.
@@ -65,28 +65,10 @@ fn organic_word(byte: u8) -> Option<AtomWord>
 {
     match organic_number(byte) {
         Some(number) => Some(symbol(number, false)),
-        None => match small_number(byte) {
+        None => match lower_letter_number(byte) {
             Some(number) => Some(symbol(number, true)),
             None => None,
         },
-    }
-}
-
-// The number of the element of the organic subset whose symbol is the one letter.
-fn organic_number(byte: u8) -> Option<u8>
-    ensures { MatchOption result ((x : Organic) → symbol_bytes x ≢ byte ∷ [])
-        (λ number. (x : Organic) × (symbol_bytes x ≡ byte ∷ []) × (number ≡ atomic_number x)) }
-{
-    match byte {
-        b'C' => Some(6),
-        b'N' => Some(7),
-        b'O' => Some(8),
-        b'S' => Some(16),
-        b'F' => Some(9),
-        b'P' => Some(15),
-        b'I' => Some(53),
-        b'B' => Some(5),
-        _ => None,
     }
 }
 

@@ -1,12 +1,14 @@
 //! Numbers and signs.
 
-ghost use Rattle.std.specs.Prelude.{◌≡◌, ◌≢◌, ◌⊎◌, ℕ, ◌<◌, ◌≤◌, ◌∷◌, ◌++◌, ◌↔◌, List, IsTrue, IfSome, IsSomeAnd, length, replicate, option_map};
+ghost use Rattle.std.specs.Prelude.{◌≡◌, ◌≢◌, ◌⊎◌, ℕ, ◌<◌, ◌≤◌, ◌∷◌, ◌++◌, List, IfSome, IsSomeAnd, length, replicate, option_map};
 ghost use Rattle.std.specs.List.{AllByRecursion};
 ghost use Rattle.smiles_read.specs.Atom.{IsDigit, value_of, Sign, sign_byte, signed};
 ghost use Rattle.smarts_words.specs.Prims.{IsNumber, NoDigit, number_of, Signs, signs_text, AreSigns, FollowsSigns, sign_of, charge_of, most_signs};
 ghost use Rattle.smarts_words.specs.Follow.{Takes};
 
-/// The most signs that a charge has; no text that is read has more.
+use smiles_read::{digits_at, digits_value};
+
+// The most signs that a charge has; no text that is read has more.
 const MOST_SIGNS: usize = 4096;
 
 /// The number that the bytes begin with, if they begin with one, and the bytes after it; none where more than three
@@ -23,7 +25,7 @@ pub fn number_at(bytes: &[u8]) -> Option<(Option<u16>, &[u8])>
     if digits.is_empty() {
         return Some((None, rest));
     }
-    Some((Some(value(digits)), rest))
+    Some((Some(digits_value(digits)), rest))
 }
 
 /// The number that the bytes begin with, and the bytes after it.
@@ -69,24 +71,6 @@ pub fn after_digits(bytes: &[u8]) -> Option<&[u8]>
     Some(rest)
 }
 
-// How many signs the bytes begin with, or the number after one.
-fn amount_at(bytes: &[u8], sign: u8) -> Option<(u16, &[u8])>
-    ensures found { IfSome result (λ r. (s : Sign) → sign_byte s ≡ sign → (rest : List ℕ) → bytes.now ≡ sign ∷ rest
-        → (x : Signs) × AreSigns x × (bytes.now ≡ signs_text x ++ r.1.now) × FollowsSigns x r.1.now
-        × (signed s r.0 ≡ charge_of x)) }
-    ensures few { IfSome result (λ r. r.0 ≤ most_signs) }
-    ensures only { (x : Signs) (rest : List ℕ) → AreSigns x → FollowsSigns x rest → sign_of x ≡ sign
-        → bytes.now ≡ signs_text x ++ rest → IsSomeAnd result (λ r. r.1.now ≡ rest) }
-{
-    let (count, after) = run_at(bytes, sign);
-    let (number, rest) = number_at(after)?;
-    match number {
-        None if count <= MOST_SIGNS => Some((count as u16, rest)),
-        Some(number) if count == 1 => Some((number, rest)),
-        _ => None,
-    }
-}
-
 /// How many of the bytes at the front are the sign, and the bytes after these.
 pub fn run_at(bytes: &[u8], sign: u8) -> (usize, &[u8])
     ensures found { bytes.now ≡ replicate result.0 sign ++ result.1.now }
@@ -103,41 +87,20 @@ pub fn run_at(bytes: &[u8], sign: u8) -> (usize, &[u8])
     (count, rest)
 }
 
-/// Whether the byte is a digit.
-pub fn is_digit(byte: u8) -> bool
-    ensures { IsTrue result ↔ IsDigit byte }
+// How many signs the bytes begin with, or the number after one.
+fn amount_at(bytes: &[u8], sign: u8) -> Option<(u16, &[u8])>
+    ensures found { IfSome result (λ r. (s : Sign) → sign_byte s ≡ sign → (rest : List ℕ) → bytes.now ≡ sign ∷ rest
+        → (x : Signs) × AreSigns x × (bytes.now ≡ signs_text x ++ r.1.now) × FollowsSigns x r.1.now
+        × (signed s r.0 ≡ charge_of x)) }
+    ensures few { IfSome result (λ r. r.0 ≤ most_signs) }
+    ensures only { (x : Signs) (rest : List ℕ) → AreSigns x → FollowsSigns x rest → sign_of x ≡ sign
+        → bytes.now ≡ signs_text x ++ rest → IsSomeAnd result (λ r. r.1.now ≡ rest) }
 {
-    byte >= b'0' && byte <= b'9'
-}
-
-// All digits that the bytes begin with, and the bytes after these.
-fn digits_at(bytes: &[u8]) -> (&[u8], &[u8])
-    ensures split { bytes.now ≡ result.0.now ++ result.1.now }
-    ensures digits { AllByRecursion IsDigit result.0.now }
-    ensures all { NoDigit result.1.now }
-{
-    for (count, byte) in bytes.iter().enumerate() {
-        if !is_digit(*byte) {
-            return bytes.split_at(count);
-        }
-    }
-    (bytes, &[])
-}
-
-// The value of at most three digits.
-fn value(digits: &[u8]) -> u16
-    requires few { length digits.now ≤ 3 }
-    requires digits { AllByRecursion IsDigit digits.now }
-    ensures value { result ≡ value_of digits.now }
-    ensures bound { result ≤ 999 }
-{
-    match digits {
-        [] => 0,
-        [a] => u16::from(*a - b'0'),
-        [a, b] => 10 * u16::from(*a - b'0') + u16::from(*b - b'0'),
-        [a, b, c] => {
-            100 * u16::from(*a - b'0') + 10 * u16::from(*b - b'0') + u16::from(*c - b'0')
-        }
-        _ => unreachable!(),
+    let (count, after) = run_at(bytes, sign);
+    let (number, rest) = number_at(after)?;
+    match number {
+        None if count <= MOST_SIGNS => Some((count as u16, rest)),
+        Some(number) if count == 1 => Some((number, rest)),
+        _ => None,
     }
 }

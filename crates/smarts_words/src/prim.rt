@@ -6,10 +6,11 @@ ghost use Rattle.smarts_words.specs.Prims.{Prim, prim_text, IsPrim, FollowsPrim,
 ghost use Rattle.smarts_words.specs.declared.word.AtomWord.TheVariants as words;
 ghost use Rattle.smarts_words.specs.Follow.{Takes, IsWord, IsLettered, IsCountAt, PrimAt};
 
-use crate::number::{charge_at, is_digit, number_at, written_at};
+use crate::number::{charge_at, number_at, written_at};
 use crate::stereo::after_stereo;
 use crate::symbol::{letter_of, one_letter, two_letters_at};
 use crate::word::{AtomWord, Letter};
+use smiles_read::is_digit;
 
 /// A primitive, and the text of the recursive part that it is.
 #[derive(Clone, Copy)]

@@ -1,7 +1,6 @@
 //! Symbols of elements, and other primitives of one letter.
 
 ghost use Rattle.std.specs.Prelude.{◌≡◌, ◌≢◌, ℕ, ◌≤◌, ◌∷◌, [], List, Some, IfSome, IfNone, MatchOption, slice_get};
-ghost use Rattle.smiles_read.specs.Atom.{Lower, lower_bytes, lower_number, IsOrganicLower};
 ghost use Rattle.chem_core.specs.Element.{symbols};
 ghost use Rattle.smarts_words.specs.Prims.{Prim, prim_text, IsPrim, AreSymbol, letter_byte};
 ghost use Rattle.smarts_words.specs.Follow.{IsBare, IsPair, IsSingle};
@@ -10,6 +9,7 @@ ghost use Rattle.smarts_words.specs.declared.word.AtomWord.TheVariants as words;
 
 use crate::word::{AtomWord, Letter};
 use chem_core::number_of;
+use smiles_read::lower_letter_number;
 
 /// The symbol of two bytes that the bytes begin with, and the bytes after it.
 pub fn two_letters_at(bytes: &[u8]) -> Option<(AtomWord, &[u8])>
@@ -36,6 +36,30 @@ pub fn one_letter(byte: u8) -> Option<AtomWord>
         b'H' => None,
         _ => letter_symbol(byte),
     }
+}
+
+/// What the letter counts that the byte is.
+pub fn letter_of(byte: u8) -> Option<Letter>
+    ensures { MatchOption result ((letter : Letter) → letter_byte letter ≢ byte) (λ letter. letter_byte letter ≡ byte) }
+{
+    match byte {
+        b'D' => Some(Letter::Degree),
+        b'H' => Some(Letter::TotalH),
+        b'h' => Some(Letter::ImplicitH),
+        b'R' => Some(Letter::Rings),
+        b'r' => Some(Letter::RingSize),
+        b'v' => Some(Letter::Valence),
+        b'X' => Some(Letter::Connect),
+        b'x' => Some(Letter::RingBonds),
+        _ => None,
+    }
+}
+
+/// The word of an element's symbol.
+pub fn symbol(number: u8, lower: bool) -> AtomWord
+    ensures { result ≡ words.Symbol number lower }
+{
+    AtomWord::Symbol { number, lower }
 }
 
 // The symbol of two bytes.
@@ -68,51 +92,11 @@ fn letter_symbol(byte: u8) -> Option<AtomWord>
     requires other { (byte ≢ 42) × (byte ≢ 72) × (byte ≢ 97) × (byte ≢ 65) }
     ensures { MatchOption result ((x : Prim) → IsPrim x → IsBare x → prim_text x ≢ byte ∷ []) (IsSingle byte) }
 {
-    match small_number(byte) {
+    match lower_letter_number(byte) {
         Some(number) => Some(symbol(number, true)),
         None => match number_of(&[byte]) {
             Some(number) => Some(symbol(number, false)),
             None => None,
         },
     }
-}
-
-/// What the letter counts that the byte is.
-pub fn letter_of(byte: u8) -> Option<Letter>
-    ensures { MatchOption result ((letter : Letter) → letter_byte letter ≢ byte) (λ letter. letter_byte letter ≡ byte) }
-{
-    match byte {
-        b'D' => Some(Letter::Degree),
-        b'H' => Some(Letter::TotalH),
-        b'h' => Some(Letter::ImplicitH),
-        b'R' => Some(Letter::Rings),
-        b'r' => Some(Letter::RingSize),
-        b'v' => Some(Letter::Valence),
-        b'X' => Some(Letter::Connect),
-        b'x' => Some(Letter::RingBonds),
-        _ => None,
-    }
-}
-
-/// The number of the symbol of one letter in lower case that the byte is.
-pub fn small_number(byte: u8) -> Option<u8>
-    ensures { MatchOption result ((l : Lower) → IsOrganicLower l → lower_bytes l ≡ byte ∷ [] → ⊥)
-        (λ number. (l : Lower) × IsOrganicLower l × (lower_bytes l ≡ byte ∷ []) × (number ≡ lower_number l)) }
-{
-    match byte {
-        b'b' => Some(5),
-        b'c' => Some(6),
-        b'n' => Some(7),
-        b'o' => Some(8),
-        b'p' => Some(15),
-        b's' => Some(16),
-        _ => None,
-    }
-}
-
-/// The word of an element's symbol.
-pub fn symbol(number: u8, lower: bool) -> AtomWord
-    ensures { result ≡ words.Symbol number lower }
-{
-    AtomWord::Symbol { number, lower }
 }

@@ -10,7 +10,7 @@ use Rattle.chem_core.specs.declared.sketch.SketchBond.{SketchBond}
 use Rattle.chem_core.specs.declared.sketch.SketchKind.{SketchKind}
 use Rattle.chem_core.specs.Sketch.{SketchTerm}
 use Rattle.chem_core.specs.Graph.{Ends, JoinsAt, degree}
-use Rattle.chem_core.specs.Sound.{IsSketchAtom, IsSound}
+use Rattle.chem_core.specs.Sound.{IsSketchAtom, IsSound, ends_among}
 use Rattle.line_walk.specs.declared.pairs.Link.{Link}
 use Rattle.line_walk.specs.declared.read.Graph.{Graph}
 use Rattle.line_walk.specs.declared.fault.Fault.{Fault}
@@ -24,7 +24,7 @@ use Rattle.smiles_read.specs.Words.{smiles_words, agreed_kind, Tree, IsTreeOf}
 use Rattle.smiles_read.specs.Sketch.{numbered, link_of, IsSketchOf}
 use Rattle.smiles_read.specs.Faults.{walk_fault}
 use Rattle.smiles_read.specs.Reading.{IsWithinLimits, IsReading}
-use Rattle.smiles_read.specs.Small.{bond_of, link_ends, IsSmall}
+use Rattle.smiles_read.specs.Limits.{bond_of, link_ends, HasFewParts}
 use Rattle.smiles_read.proofs.AtomSound.{IsRead, tree_read}
 
 -- a bond of a sketch is one of a graph, and back
@@ -47,12 +47,16 @@ ends_same (x ∷ xs) = ap (λ v. (x.a, x.b) ∷ v) (ends_same xs)
 length-numbered : (xs : List SketchAtom) → length (numbered xs) ≡ length xs
 length-numbered xs = length-map (enumerate_from 0 xs) (λ p. record p.1 { written = p.0 }) ∙ length-enumerate_from 0 xs
 
+-- no atom has more than `MOST_NEIGHBOURS` neighbours
+abbrev pub AreFew : List SketchBond → Type 0
+AreFew bonds = (a : ℕ) → degree (ends_among bonds) a ≤ MOST_NEIGHBOURS
+
 pub record Answered (text : List ℕ) (graph : Graph SketchAtom SketchKind) : Type 0 where
   pub tree : Tree
   pub is : IsTreeOf text tree
   pub sketch : IsSketchOf tree (sketch_of graph)
-  pub within : IsSmall graph → IsWithinLimits tree (sketch_of graph)
-  pub small : IsWithinLimits tree (sketch_of graph) → IsSmall graph
+  pub within : HasFewParts graph → AreFew (map bond_of graph.links.items) → IsWithinLimits tree (sketch_of graph)
+  pub few : IsWithinLimits tree (sketch_of graph) → HasFewParts graph
 
 pub answered : (text : List ℕ) (graph : Graph SketchAtom SketchKind) → walks.IsReading smiles_words text (Ok graph)
     → ((tree : Tree) → IsTreeOf text tree → graph.depth ≡ depth_of tree.tail) → Answered text graph
@@ -61,8 +65,6 @@ answered text graph h deep =
     let d = deep tree h.1 in
     let atoms = length-numbered graph.atoms.items in
     let bonds = length-map {B = SketchBond} graph.links.items bond_of in
-    let ends = ends_same graph.links.items in
-    let P : Ends → Type 0 = λ v. (a : ℕ) → degree v a ≤ MOST_NEIGHBOURS in
     record {
       tree = tree;
       is = h.1;
@@ -71,7 +73,7 @@ answered text graph h deep =
         bonds = subst (λ (v : List (Link SketchKind)). IsGraph agreed_kind (entries_of smiles_words tree) v)
             (sym (links_back graph.links.items)) h.2.1;
       };
-      within = λ s.
+      within = λ s few.
           let k = s.depth in
           let l = s.atoms in
           let m = s.bonds in
@@ -79,10 +81,9 @@ answered text graph h deep =
             depth = omega arith;
             atoms = omega arith;
             bonds = omega arith;
-            neighbours =
-                subst P (sym ends) s.neighbours;
+            neighbours = few;
           };
-      small = λ s.
+      few = λ s.
           let k = s.depth in
           let l = s.atoms in
           let m = s.bonds in
@@ -90,8 +91,6 @@ answered text graph h deep =
             depth = omega arith;
             atoms = omega arith;
             bonds = omega arith;
-            neighbours =
-                subst P ends s.neighbours;
           };
     }
 
@@ -145,6 +144,14 @@ pub all_weaker : {X : Type 0} (P Q : X → Type 0) → ((x : X) → P x → Q x)
 all_weaker P Q f [] h = tt
 all_weaker P Q f (x ∷ xs) h = (f x h.0, all_weaker P Q f xs h.1)
 
+apart_at : (n m : ℕ) (xs : List (Link SketchKind)) → n ≡ m → AllByRecursion (λ x. (x.a < x.b) × (x.b < m)) xs
+    → AllByRecursion (λ b. (b.a < n) × (b.b < n) × (b.a ≢ b.b)) (map bond_of xs)
+apart_at n m [] is h = tt
+apart_at n m (x ∷ xs) is h =
+    let u = h.0.0 in
+    let v = h.0.1 in
+    ((omega arith, omega arith, λ e. omega arith), apart_at n m xs is h.1)
+
 -- soundness
 numbered_read : (n : ℕ) (xs : List SketchAtom) → AllByRecursion IsRead xs
     → AllByRecursion IsRead (map (λ p. record p.1 { written = p.0 }) (enumerate_from n xs))
@@ -172,9 +179,9 @@ atoms_read text graph h = numbered_read 0 graph.atoms.items (subst (λ (v : List
     (sym h.2.0) (tree_read h.0 h.1.0))
 
 pub sketch_sound : (text : List ℕ) (graph : Graph SketchAtom SketchKind) → walks.IsReading smiles_words text (Ok graph)
-    → AllByRecursion (λ x. (x.a < x.b) × (x.b < length graph.atoms.items)) graph.links.items → IsSmall graph
-    → IsSound (sketch_of graph)
-sketch_sound text graph h ends small =
+    → AllByRecursion (λ x. (x.a < x.b) × (x.b < length graph.atoms.items)) graph.links.items → HasFewParts graph
+    → AreFew (map bond_of graph.links.items) → IsSound (sketch_of graph)
+sketch_sound text graph h ends small few =
     let links = graph.links.items in
     let n = length graph.atoms.items in
     let same = length-numbered graph.atoms.items in
@@ -183,7 +190,6 @@ sketch_sound text graph h ends small =
     let count = length-map {B = ℕ × ℕ} (map bond_of links) (λ (b : SketchBond). (b.a, b.b)) in
     let la = small.atoms in
     let lb = small.bonds in
-    let P : Ends → Type 0 = λ v. (a : ℕ) → degree v a ≤ MOST_NEIGHBOURS in
     let R : Ends → Type 0 = λ v. All (λ e. (e.0 < length (numbered graph.atoms.items))
     × (e.1 < length (numbered graph.atoms.items))) v in
     let D : Ends → Type 0 = λ v. All (λ e. e.0 ≢ e.1) v in
@@ -192,7 +198,7 @@ sketch_sound text graph h ends small =
       graph = record {
         few_atoms = omega arith;
         few_bonds = omega arith;
-        few_neighbours = subst P (sym back) small.neighbours;
+        few_neighbours = few;
         in_range = subst R (sym back) (All-from_recursion (λ e. (e.0 < length (numbered graph.atoms.items))
             × (e.1 < length (numbered graph.atoms.items))) (link_ends links)
             (all_ends (λ e. (e.0 < length (numbered graph.atoms.items)) × (e.1 < length (numbered graph.atoms.items)))
@@ -213,3 +219,10 @@ pub sketch_hydrogens : (text : List ℕ) (graph : Graph SketchAtom SketchKind)
     → walks.IsReading smiles_words text (Ok graph) → All (λ a. a.hydrogens ≤ 9) (numbered graph.atoms.items)
 sketch_hydrogens text graph h = All-from_recursion (λ a. a.hydrogens ≤ 9) (numbered graph.atoms.items)
     (all_weaker IsRead (λ a. a.hydrogens ≤ 9) (λ a k. k.1) (numbered graph.atoms.items) (atoms_read text graph h))
+
+-- each bond joins two of the atoms
+pub sketch_ends_apart : (graph : Graph SketchAtom SketchKind) (n : ℕ) → n ≡ length (numbered graph.atoms.items)
+    → AllByRecursion (λ x. (x.a < x.b) × (x.b < length graph.atoms.items)) graph.links.items
+    → AllByRecursion (λ b. (b.a < n) × (b.b < n) × (b.a ≢ b.b)) (map bond_of graph.links.items)
+sketch_ends_apart graph n is ends = apart_at n (length graph.atoms.items) graph.links.items
+    (is ∙ length-numbered graph.atoms.items) ends

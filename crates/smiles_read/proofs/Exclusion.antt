@@ -10,7 +10,7 @@ use Rattle.smiles_read.specs.declared.fault.SmilesFault.TheVariants.{Syntax, Rin
 use Rattle.smiles_read.specs.Words.{agreed_kind, Tree, IsTreeOf}
 use Rattle.smiles_read.specs.Sketch.{link_of, IsSketchOf}
 use Rattle.smiles_read.specs.Reading.{IsWithinLimits, IsReading}
-use Rattle.smiles_read.specs.Small.{bond_of}
+use Rattle.smiles_read.specs.Limits.{bond_of}
 use Rattle.smiles_read.proofs.Answer.{bonds_back}
 
 -- the laws of the walk

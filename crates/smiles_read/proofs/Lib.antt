@@ -1,6 +1,5 @@
 pub mod Answer
 pub mod AtomSound
-pub mod Counts
 pub mod Enumerated
 pub mod Exclusion
 pub mod Fronts

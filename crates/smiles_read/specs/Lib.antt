@@ -4,6 +4,6 @@ pub mod Words
 pub mod Sketch
 pub mod Faults
 pub mod Reading
-pub mod Small
+pub mod Limits
 pub mod Parts
 pub mod Owed

@@ -8,7 +8,7 @@ ghost use Rattle.smiles_read.specs.Parts.{IsAny, IsOrganic};
 ghost use Rattle.smiles_read.specs.Words.{smiles_words};
 
 use crate::bracket::bracket_at;
-use crate::symbol::small_at;
+use crate::symbol::lower_letter_at;
 use chem_core::{Fill, SketchAtom};
 
 /// The atom that the bytes begin with, the longest, and the bytes after it. It is read as the first one of its text.
@@ -23,6 +23,24 @@ pub fn atom_at(bytes: &[u8]) -> Option<(SketchAtom, &[u8])>
     }
 }
 
+/// The atomic number of the element of the organic subset whose symbol is the one letter (OpenSMILES 1.0, section 3.1.5).
+pub fn organic_number(byte: u8) -> Option<u8>
+    ensures { MatchOption result ((x : Organic) → symbol_bytes x ≢ byte ∷ [])
+        (λ number. (x : Organic) × (symbol_bytes x ≡ byte ∷ []) × (number ≡ atomic_number x)) }
+{
+    match byte {
+        b'C' => Some(6),
+        b'N' => Some(7),
+        b'O' => Some(8),
+        b'S' => Some(16),
+        b'F' => Some(9),
+        b'P' => Some(15),
+        b'I' => Some(53),
+        b'B' => Some(5),
+        _ => None,
+    }
+}
+
 // The atom of the organic subset that the bytes begin with, and the bytes after it.
 fn organic_at(bytes: &[u8]) -> Option<(SketchAtom, &[u8])>
     ensures { Reads atom_text IsOrganic atom_of (AfterAtom smiles_words) bytes.now
@@ -31,7 +49,7 @@ fn organic_at(bytes: &[u8]) -> Option<(SketchAtom, &[u8])>
     match upper_at(bytes) {
         Some((number, rest)) => Some((bare(number, false, Fill::Organic), rest)),
         None => {
-            let (number, rest) = small_at(bytes)?;
+            let (number, rest) = lower_letter_at(bytes)?;
             Some((bare(number, true, Fill::Organic), rest))
         }
     }
@@ -46,28 +64,10 @@ fn upper_at(bytes: &[u8]) -> Option<(u8, &[u8])>
         [b'C', b'l', rest @ ..] => Some((17, rest)),
         [b'B', b'r', rest @ ..] => Some((35, rest)),
         [first, rest @ ..] => {
-            let number = letter_number(*first)?;
+            let number = organic_number(*first)?;
             Some((number, rest))
         }
         [] => None,
-    }
-}
-
-// The number of the element of the organic subset whose symbol is the one letter.
-fn letter_number(byte: u8) -> Option<u8>
-    ensures { MatchOption result ((x : Organic) → symbol_bytes x ≢ byte ∷ [])
-        (λ number. (x : Organic) × (symbol_bytes x ≡ byte ∷ []) × (number ≡ atomic_number x)) }
-{
-    match byte {
-        b'C' => Some(6),
-        b'N' => Some(7),
-        b'O' => Some(8),
-        b'S' => Some(16),
-        b'F' => Some(9),
-        b'P' => Some(15),
-        b'I' => Some(53),
-        b'B' => Some(5),
-        _ => None,
     }
 }
 

@@ -7,7 +7,7 @@ ghost use Rattle.smiles_read.specs.Atom.{ChiralClass, class_bytes, most_of, chir
 ghost use Rattle.smiles_read.specs.Parts.{dropped, IsUpTo, written_hydrogens, AreFew, front_text, IsFront, front_of, end_text, IsEnd, end_of};
 ghost use Rattle.smiles_read.specs.Follow.{NoDigitFirst, AfterChiral, AfterHydrogens, AfterCharge, AfterClass};
 
-use crate::digit::{digits_at, short_number, value};
+use crate::digit::{digits_at, digits_value, short_number};
 use crate::symbol::symbol_at;
 use chem_core::{Fill, SketchAtom};
 
@@ -63,7 +63,7 @@ fn front_at(bytes: &[u8]) -> Option<(Front, &[u8])>
     let ((number, lower), rest) = symbol_at(rest)?;
     let rest = after_chiral(rest)?;
     let front = Front {
-        isotope: value(digits),
+        isotope: digits_value(digits),
         number,
         lower,
     };
@@ -180,7 +180,7 @@ fn amount_at(bytes: &[u8], sign: u8) -> Option<(u8, &[u8])>
     if digits.len() > 2 {
         return None;
     }
-    let amount = value(digits);
+    let amount = digits_value(digits);
     if amount > 15 {
         return None;
     }

@@ -6,12 +6,6 @@ ghost use Rattle.std.specs.Fmt.{decimal};
 ghost use Rattle.smiles_read.specs.Atom.{IsDigit, value_of};
 ghost use Rattle.smiles_read.specs.Follow.{NoDigitFirst};
 
-fn is_digit(byte: u8) -> bool
-    ensures { IsTrue result ↔ IsDigit byte }
-{
-    byte >= b'0' && byte <= b'9'
-}
-
 /// The digits that the bytes begin with, all of them, and the bytes after these.
 pub fn digits_at(bytes: &[u8]) -> (&[u8], &[u8])
     ensures split { bytes.now ≡ result.0.now ++ result.1.now }
@@ -26,8 +20,15 @@ pub fn digits_at(bytes: &[u8]) -> (&[u8], &[u8])
     (bytes, &[])
 }
 
-/// The value of at most three digits.
-pub fn value(digits: &[u8]) -> u16
+/// Whether the byte is a digit.
+pub fn is_digit(byte: u8) -> bool
+    ensures { IsTrue result ↔ IsDigit byte }
+{
+    byte >= b'0' && byte <= b'9'
+}
+
+/// The number that at most three digits spell; 0 where there are none.
+pub fn digits_value(digits: &[u8]) -> u16
     requires few { length digits.now ≤ 3 }
     requires digits { AllByRecursion IsDigit digits.now }
     ensures value { result ≡ value_of digits.now }

@@ -8,10 +8,10 @@ ghost use Rattle.smiles_read.specs.Reading.{IsReading};
 ghost use Rattle.smiles_read.specs.declared.fault.SmilesFault.{SmilesFault};
 
 use crate::fault::SmilesFault;
-use crate::limits::{MOST_BYTES, is_small};
+use crate::limits::{MOST_BYTES, has_few_parts};
 use crate::notation::Smiles;
 use crate::sketch::sketch;
-use chem_core::Sketch;
+use chem_core::{Sketch, are_few_neighbours};
 use line_walk::read_graph;
 use std::alloc::Global;
 
@@ -31,10 +31,14 @@ pub fn read_smiles(alloc: Global, text: &[u8]) -> Result<Sketch, SmilesFault>
         return Err(SmilesFault::Limit);
     }
     let graph = read_graph::<Smiles>(alloc, text)?;
-    if !is_small(alloc, &graph)? {
+    if !has_few_parts(&graph) {
         return Err(SmilesFault::Limit);
     }
-    Ok(sketch(alloc, graph)?)
+    let sketch = sketch(alloc, graph)?;
+    if !are_few_neighbours(alloc, sketch.atoms.len(), &sketch.bonds)? {
+        return Err(SmilesFault::Limit);
+    }
+    Ok(sketch)
 }
 
 /// A law: a text has at most one tree.

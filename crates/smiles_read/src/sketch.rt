@@ -3,7 +3,7 @@
 ghost use Rattle.std.specs.Prelude.{◌≡◌, ◌<◌, ◌≤◌, length, map, IfOk};
 ghost use Rattle.std.specs.List.{AllByRecursion};
 ghost use Rattle.smiles_read.specs.Sketch.{numbered};
-ghost use Rattle.smiles_read.specs.Small.{bond_of};
+ghost use Rattle.smiles_read.specs.Limits.{bond_of};
 
 use chem_core::{MOST_ATOMS, Sketch, SketchAtom, SketchBond, SketchKind};
 use line_walk::{Graph, Link};

@@ -25,31 +25,19 @@ pub fn symbol_at(bytes: &[u8]) -> Option<((u8, bool), &[u8])>
 }
 
 /// The number of the symbol of one letter in lower case that the bytes begin with, and the bytes after it.
-pub fn small_at(bytes: &[u8]) -> Option<(u8, &[u8])>
+pub fn lower_letter_at(bytes: &[u8]) -> Option<(u8, &[u8])>
     ensures { Reads lower_bytes IsOrganicLower lower_number Anything bytes.now
         (option_map (λ r. (r.0, r.1.now)) result) }
 {
     let [first, rest @ ..] = bytes else {
         return None;
     };
-    let number = small_number(*first)?;
+    let number = lower_letter_number(*first)?;
     Some((number, rest))
 }
 
-// The number of a symbol in lower case that the bytes begin with, the longest, and the bytes after it.
-fn lower_at(bytes: &[u8]) -> Option<(u8, &[u8])>
-    ensures { Reads lower_bytes IsAny lower_number AfterSymbol bytes.now
-        (option_map (λ r. (r.0, r.1.now)) result) }
-{
-    match bytes {
-        [b's', b'e', rest @ ..] => Some((34, rest)),
-        [b'a', b's', rest @ ..] => Some((33, rest)),
-        _ => small_at(bytes),
-    }
-}
-
-// The number of the symbol of one letter in lower case that the byte is.
-fn small_number(byte: u8) -> Option<u8>
+/// The atomic number of the symbol of one letter in lower case that the byte is (OpenSMILES 1.0, section 3.5).
+pub fn lower_letter_number(byte: u8) -> Option<u8>
     ensures { MatchOption result ((l : Lower) → IsOrganicLower l → lower_bytes l ≢ byte ∷ [])
         (λ number. (l : Lower) × IsOrganicLower l × (lower_bytes l ≡ byte ∷ []) × (number ≡ lower_number l)) }
 {
@@ -61,6 +49,18 @@ fn small_number(byte: u8) -> Option<u8>
         b'p' => Some(15),
         b's' => Some(16),
         _ => None,
+    }
+}
+
+// The number of a symbol in lower case that the bytes begin with, the longest, and the bytes after it.
+fn lower_at(bytes: &[u8]) -> Option<(u8, &[u8])>
+    ensures { Reads lower_bytes IsAny lower_number AfterSymbol bytes.now
+        (option_map (λ r. (r.0, r.1.now)) result) }
+{
+    match bytes {
+        [b's', b'e', rest @ ..] => Some((34, rest)),
+        [b'a', b's', rest @ ..] => Some((33, rest)),
+        _ => lower_letter_at(bytes),
     }
 }
 

@@ -7,7 +7,7 @@ use Rattle.std.proofs.lemmas.List.Folds.{list_any_more}
 use Rattle.std.proofs.lemmas.Option.{slice_get-get_or, slice_get_past}
 use Rattle.chem_core.specs.declared.sketch.SketchAtom.{SketchAtom}
 use Rattle.chem_core.specs.declared.sketch.SketchBond.{SketchBond}
-use Rattle.valence.specs.Suppressed.{is_plain_kind, is_bare_hydrogen, is_heavy, is_suppressed, atom_is, leads_to_heavy}
+use Rattle.valence.specs.Suppressed.{is_single_kind, is_plain_hydrogen, is_heavy, is_suppressed, atom_is, leads_to_heavy}
 use Rattle.valence.proofs.Sums.{degree_is}
 use Rattle.chem_core.specs.Sketch.{SketchTerm, ends_at}
 use Rattle.chem_core.specs.Graph.{degree}
@@ -77,14 +77,14 @@ pub leads-more : (atoms : List SketchAtom) (xs : List Bool) (bonds : List Sketch
     (d : SketchBond) (e : SketchAtom) → i < length bonds → (get_or bonds i d).a < length xs
     → (get_or bonds i d).b < length xs → (get_or bonds i d).a < length atoms → (get_or bonds i d).b < length atoms
     → (get_or bonds i d).a ≢ (get_or bonds i d).b
-    → p ≡ (is_plain_kind (get_or bonds i d).kind && not (eqb (get_or atoms (get_or bonds i d).b e).number 1))
-    → q ≡ (is_plain_kind (get_or bonds i d).kind && not (eqb (get_or atoms (get_or bonds i d).a e).number 1))
+    → p ≡ (is_single_kind (get_or bonds i d).kind && not (eqb (get_or atoms (get_or bonds i d).b e).number 1))
+    → q ≡ (is_single_kind (get_or bonds i d).kind && not (eqb (get_or atoms (get_or bonds i d).a e).number 1))
     → ((a : ℕ) → get_or xs a false ≡ list_any (leads_to_heavy atoms a) (take i bonds)) → (a : ℕ)
     → get_or (raised xs (get_or bonds i d).a (get_or bonds i d).b p q) a false ≡ list_any (leads_to_heavy atoms a)
     (take (i + 1) bonds)
 leads-more atoms xs bonds i p q d e h inx iny ina inb apart isp isq before a =
     let b : SketchBond = get_or bonds i d in
-    let k : Bool = is_plain_kind b.kind in
+    let k : Bool = is_single_kind b.kind in
     let isp' : p ≡ (k && is_heavy atoms b.b) = isp
     ∙ ap (λ t. k && t) (sym (atom_is-at (λ x. not (eqb x.number 1)) atoms b.b e inb)) in
     let isq' : q ≡ (k && is_heavy atoms b.a) = isq
@@ -100,13 +100,13 @@ leads-more atoms xs bonds i p q d e h inx iny ina inb apart isp isq before a =
 -- hydrogen
 pub suppressed-within : (s : SketchTerm) (a : ℕ) (d : SketchAtom) {n : ℕ} {leads : Bool} → a < length s.atoms
     → n ≡ count_by (ends_at a) s.bonds → leads ≡ list_any (leads_to_heavy s.atoms a) s.bonds → is_suppressed s a
-    ≡ (is_bare_hydrogen (get_or s.atoms a d) && (eqb n 1 && leads))
+    ≡ (is_plain_hydrogen (get_or s.atoms a d) && (eqb n 1 && leads))
 suppressed-within s a d {n} {leads} h isn isl =
     ap (λ t. t && (eqb (degree (sketch_ends s) a) 1 && list_any (leads_to_heavy s.atoms a) s.bonds))
-    (atom_is-at is_bare_hydrogen s.atoms a d h)
-    ∙ ap (λ k. is_bare_hydrogen (get_or s.atoms a d) && (eqb k 1 && list_any (leads_to_heavy s.atoms a) s.bonds))
+    (atom_is-at is_plain_hydrogen s.atoms a d h)
+    ∙ ap (λ k. is_plain_hydrogen (get_or s.atoms a d) && (eqb k 1 && list_any (leads_to_heavy s.atoms a) s.bonds))
     (degree_is s.bonds a ∙ sym isn)
-    ∙ ap (λ t. is_bare_hydrogen (get_or s.atoms a d) && (eqb n 1 && t)) (sym isl)
+    ∙ ap (λ t. is_plain_hydrogen (get_or s.atoms a d) && (eqb n 1 && t)) (sym isl)
 
 pub known-more : (s : SketchTerm) (xs : List Bool) (i : ℕ) (v : Bool) → i < length xs → v ≡ is_suppressed s i
     → ((a : ℕ) → a < i → get_or xs a false ≡ is_suppressed s a) → (a : ℕ) → a < i + 1 → get_or (set xs i v) a false
@@ -129,6 +129,6 @@ suppressed-past s xs n end known later a = elim (cases_lt a n) [
   | inl h ↦ known a h
   | inr h ↦
       let none = slice_get_past s.atoms a (omega arith) in
-      later a h ∙ sym (ap (λ o. unwrap_or (option_map is_bare_hydrogen o) false
+      later a h ∙ sym (ap (λ o. unwrap_or (option_map is_plain_hydrogen o) false
       && (eqb (degree (sketch_ends s) a) 1 && list_any (leads_to_heavy s.atoms a) s.bonds)) none)
 ]

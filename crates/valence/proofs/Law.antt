@@ -18,7 +18,7 @@ use Rattle.chem_core.specs.declared.sketch.Fill.TheVariants.{Given}
 use Rattle.chem_core.specs.Sketch.{SketchTerm, ends_at}
 use Rattle.chem_core.specs.Graph.{degree}
 use Rattle.chem_core.specs.Sound.{IsSound, sketch_ends}
-use Rattle.valence.specs.Suppressed.{is_plain_kind, is_bare_hydrogen, atom_is, is_heavy, leads_to_heavy, is_suppressed, new_place, brings, stays, staying_atoms, staying_bonds, renumbered, gained, suppressed}
+use Rattle.valence.specs.Suppressed.{is_single_kind, is_plain_hydrogen, atom_is, is_heavy, leads_to_heavy, is_suppressed, new_place, brings, stays, staying_atoms, staying_bonds, renumbered, gained, suppressed}
 use Rattle.valence.proofs.Enumerated.{enumerate_from-append}
 use Rattle.valence.proofs.Sums.{degree_is, bond-in_graph}
 use Rattle.valence.proofs.Flags.{atom_is-at}
@@ -164,7 +164,7 @@ one-alone {X} p q le (x ∷ xs) (suc j) d one any h t =
 
 leads-ends : (xs : List SketchAtom) (y : ℕ) (b : SketchBond) → leads_to_heavy xs y b ≡ true → ends_at y b ≡ true
 leads-ends xs y b h =
-    let p = and_parts (is_plain_kind b.kind) ((eqb b.a y && is_heavy xs b.b) || (eqb b.b y && is_heavy xs b.a)) h in
+    let p = and_parts (is_single_kind b.kind) ((eqb b.a y && is_heavy xs b.b) || (eqb b.b y && is_heavy xs b.a)) h in
     elim (or_cases (eqb b.a y && is_heavy xs b.b) (eqb b.b y && is_heavy xs b.a) p.1) [
       | inl t ↦ or_left (eqb b.a y) (eqb b.b y) (and_parts (eqb b.a y) (is_heavy xs b.b) t).0
       | inr t ↦ or_right (eqb b.a y) (eqb b.b y) (and_parts (eqb b.b y) (is_heavy xs b.a) t).0
@@ -174,7 +174,7 @@ leads-ends xs y b h =
 stays-by_bond : (s : SketchTerm) (y j : ℕ) (d : SketchBond) → j < length s.bonds → ends_at y (get_or s.bonds j d) ≡ true
     → (leads_to_heavy s.atoms y (get_or s.bonds j d) ≡ true → ⊥) → is_suppressed s y ≡ false
 stays-by_bond s y j d h ends light = false_from_ne_true (is_suppressed s y) (λ going.
-    let p = and_parts (atom_is is_bare_hydrogen s.atoms y) (eqb (degree (sketch_ends s) y) 1
+    let p = and_parts (atom_is is_plain_hydrogen s.atoms y) (eqb (degree (sketch_ends s) y) 1
     && list_any (leads_to_heavy s.atoms y) s.bonds) going in
     let q = and_parts (eqb (degree (sketch_ends s) y) 1) (list_any (leads_to_heavy s.atoms y) s.bonds) p.1 in
     let one : count_by (ends_at y) s.bonds ≡ 1 = sym (degree_is s.bonds y)
@@ -184,7 +184,7 @@ stays-by_bond s y j d h ends light = false_from_ne_true (is_suppressed s y) (λ 
 light-first : (xs : List SketchAtom) (b : SketchBond) → b.a ≢ b.b → is_heavy xs b.a ≡ false → leads_to_heavy xs b.b b
     ≡ true → ⊥
 light-first xs b apart light h =
-    let p = and_parts (is_plain_kind b.kind) ((eqb b.a b.b && is_heavy xs b.b) || (eqb b.b b.b && is_heavy xs b.a)) h in
+    let p = and_parts (is_single_kind b.kind) ((eqb b.a b.b && is_heavy xs b.b) || (eqb b.b b.b && is_heavy xs b.a)) h in
     elim (or_cases (eqb b.a b.b && is_heavy xs b.b) (eqb b.b b.b && is_heavy xs b.a) p.1) [
       | inl t ↦ apart (eqb-true b.a b.b (and_parts (eqb b.a b.b) (is_heavy xs b.b) t).0)
       | inr t ↦ false≢true (sym light ∙ (and_parts (eqb b.b b.b) (is_heavy xs b.a) t).1)
@@ -193,7 +193,7 @@ light-first xs b apart light h =
 light-second : (xs : List SketchAtom) (b : SketchBond) → b.a ≢ b.b → is_heavy xs b.b ≡ false → leads_to_heavy xs b.a b
     ≡ true → ⊥
 light-second xs b apart light h =
-    let p = and_parts (is_plain_kind b.kind) ((eqb b.a b.a && is_heavy xs b.b) || (eqb b.b b.a && is_heavy xs b.a)) h in
+    let p = and_parts (is_single_kind b.kind) ((eqb b.a b.a && is_heavy xs b.b) || (eqb b.b b.a && is_heavy xs b.a)) h in
     elim (or_cases (eqb b.a b.a && is_heavy xs b.b) (eqb b.b b.a && is_heavy xs b.a) p.1) [
       | inl t ↦ false≢true (sym light ∙ (and_parts (eqb b.a b.a) (is_heavy xs b.b) t).1)
       | inr t ↦ apart (sym (eqb-true b.b b.a (and_parts (eqb b.b b.a) (is_heavy xs b.a) t).0))
@@ -283,7 +283,7 @@ leads-test : (goes : ℕ → Bool) (xs new : List SketchAtom) (x : ℕ) (b : Ske
 leads-test goes xs new x b p s heavy =
     let q = stays-ends goes b s in
     let r = heavy s in
-    let k : Bool = is_plain_kind b.kind in
+    let k : Bool = is_single_kind b.kind in
     let place : ℕ → ℕ = new_place goes in
     ap (λ t. k && ((t && is_heavy new (place b.b)) || (eqb (place b.b) (place x) && is_heavy new (place b.a))))
     (place-test goes b.a x q.0 p)
@@ -342,13 +342,13 @@ none-at s x sound h p =
       length-staying g (gained s) s.atoms,
       new_place-lt g x (length s.atoms) p h,
     ) in
-    let bare : atom_is is_bare_hydrogen t.atoms (place x) ≡ is_bare_hydrogen atom =
-    atom_is-at is_bare_hydrogen t.atoms (place x) some_atom within
-    ∙ ap is_bare_hydrogen (staying-at g (gained s) s.atoms x some_atom h p) in
-    let old : atom_is is_bare_hydrogen s.atoms x ≡ is_bare_hydrogen atom =
-    atom_is-at is_bare_hydrogen s.atoms x some_atom h in
-    elim (cases_Bool (is_bare_hydrogen atom)) [
-      | inr no_hydrogen ↦ and_left (atom_is is_bare_hydrogen t.atoms (place x))
+    let bare : atom_is is_plain_hydrogen t.atoms (place x) ≡ is_plain_hydrogen atom =
+    atom_is-at is_plain_hydrogen t.atoms (place x) some_atom within
+    ∙ ap is_plain_hydrogen (staying-at g (gained s) s.atoms x some_atom h p) in
+    let old : atom_is is_plain_hydrogen s.atoms x ≡ is_plain_hydrogen atom =
+    atom_is-at is_plain_hydrogen s.atoms x some_atom h in
+    elim (cases_Bool (is_plain_hydrogen atom)) [
+      | inr no_hydrogen ↦ and_left (atom_is is_plain_hydrogen t.atoms (place x))
           (eqb (degree (sketch_ends t) (place x)) 1 && list_any (leads_to_heavy t.atoms (place x)) t.bonds) (bare
           ∙ no_hydrogen)
       | inl hydrogen ↦
@@ -368,9 +368,9 @@ none-at s x sound h p =
           any-same g s.atoms t.atoms x s.bonds p keeps heavy in
           ap (λ b. b && (eqb (degree (sketch_ends t) (place x)) 1 && list_any (leads_to_heavy t.atoms (place x))
           t.bonds)) (bare ∙ sym old)
-          ∙ ap (λ k. atom_is is_bare_hydrogen s.atoms x
+          ∙ ap (λ k. atom_is is_plain_hydrogen s.atoms x
           && (eqb k 1 && list_any (leads_to_heavy t.atoms (place x)) t.bonds)) deg
-          ∙ ap (λ b. atom_is is_bare_hydrogen s.atoms x && (eqb (degree (sketch_ends s) x) 1 && b)) any
+          ∙ ap (λ b. atom_is is_plain_hydrogen s.atoms x && (eqb (degree (sketch_ends s) x) 1 && b)) any
           ∙ p
     ]
 
@@ -382,7 +382,7 @@ none-left s sound a =
           let o = place-of (is_suppressed s) a (length s.atoms)
           (omega (arith, length-staying (is_suppressed s) (gained s) s.atoms)) in
           subst (λ (k : ℕ). is_suppressed t k ≡ false) o.3 (none-at s o.0 sound o.1 o.2)
-      | inr h ↦ ap (λ o. unwrap_or (option_map is_bare_hydrogen o) false
+      | inr h ↦ ap (λ o. unwrap_or (option_map is_plain_hydrogen o) false
           && (eqb (degree (sketch_ends t) a) 1 && list_any (leads_to_heavy t.atoms a) t.bonds)) (slice_get_past t.atoms
           a h)
     ]
@@ -437,13 +437,13 @@ suppressed-none t h =
     ∙ bonds-none t.bonds)
 
 -- where no atom is hydrogen without isotope and charge, none goes
-pub suppressed-no_hydrogen : (s : SketchTerm) → list_any is_bare_hydrogen s.atoms ≡ false → suppressed s ≡ s
+pub suppressed-no_hydrogen : (s : SketchTerm) → list_any is_plain_hydrogen s.atoms ≡ false → suppressed s ≡ s
 suppressed-no_hydrogen s without = suppressed-none s (λ a.
-    let bare : atom_is is_bare_hydrogen s.atoms a ≡ false = elim (cases_lt a (length s.atoms)) [
-      | inl h ↦ atom_is-at is_bare_hydrogen s.atoms a some_atom h
-          ∙ false_from_ne_true (is_bare_hydrogen (get_or s.atoms a some_atom)) (λ yes.
-          false≢true (sym without ∙ list_any_at is_bare_hydrogen s.atoms a some_atom h yes))
-      | inr h ↦ ap (λ o. unwrap_or (option_map is_bare_hydrogen o) false) (slice_get_past s.atoms a h)
+    let bare : atom_is is_plain_hydrogen s.atoms a ≡ false = elim (cases_lt a (length s.atoms)) [
+      | inl h ↦ atom_is-at is_plain_hydrogen s.atoms a some_atom h
+          ∙ false_from_ne_true (is_plain_hydrogen (get_or s.atoms a some_atom)) (λ yes.
+          false≢true (sym without ∙ list_any_at is_plain_hydrogen s.atoms a some_atom h yes))
+      | inr h ↦ ap (λ o. unwrap_or (option_map is_plain_hydrogen o) false) (slice_get_past s.atoms a h)
     ] in
     ap (λ t. t && (eqb (degree (sketch_ends s) a) 1 && list_any (leads_to_heavy s.atoms a) s.bonds)) bare)
 

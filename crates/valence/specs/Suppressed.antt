@@ -11,17 +11,17 @@ use Rattle.chem_core.specs.Graph.{degree}
 use Rattle.chem_core.specs.Sound.{sketch_ends}
 
 -- a bond without a symbol or `-`
-abbrev pub is_plain_kind : SketchKind → Bool
-is_plain_kind Unwritten = true
-is_plain_kind Single = true
-is_plain_kind Double = false
-is_plain_kind Triple = false
-is_plain_kind Quad = false
-is_plain_kind Colon = false
+abbrev pub is_single_kind : SketchKind → Bool
+is_single_kind Unwritten = true
+is_single_kind Single = true
+is_single_kind Double = false
+is_single_kind Triple = false
+is_single_kind Quad = false
+is_single_kind Colon = false
 
 -- hydrogen without isotope and charge
-abbrev pub is_bare_hydrogen : SketchAtom → Bool
-is_bare_hydrogen x = (x.number == 1) && ((x.isotope == 0) && int_eq x.charge (pos 0))
+abbrev pub is_plain_hydrogen : SketchAtom → Bool
+is_plain_hydrogen x = (x.number == 1) && ((x.isotope == 0) && int_eq x.charge (pos 0))
 
 -- the atom at a place has the property
 abbrev pub atom_is : (SketchAtom → Bool) → List SketchAtom → ℕ → Bool
@@ -33,14 +33,14 @@ is_heavy atoms a = atom_is (λ x. not (x.number == 1)) atoms a
 
 -- a plain bond joins the atom a to an atom that is no hydrogen
 abbrev pub leads_to_heavy : List SketchAtom → ℕ → SketchBond → Bool
-leads_to_heavy atoms a b = is_plain_kind b.kind
+leads_to_heavy atoms a b = is_single_kind b.kind
     && (((b.a == a) && is_heavy atoms b.b) || ((b.b == a) && is_heavy atoms b.a))
 
 -- The atom is taken away: hydrogen without isotope and charge, whose only bond is plain and leads to an atom that is no
 -- hydrogen.
 abbrev pub is_suppressed : SketchTerm → ℕ → Bool
 is_suppressed s a =
-    atom_is is_bare_hydrogen s.atoms a
+    atom_is is_plain_hydrogen s.atoms a
     && ((degree (sketch_ends s) a == 1) && list_any (leads_to_heavy s.atoms a) s.bonds)
 
 -- of atoms of which those go, the place of an atom that stays among those that stay: how many before it do

@@ -1,9 +1,9 @@
 //! Hydrogens that are not written (OpenSMILES 1.0, sections 3.1.5 and 3.5), and hydrogen atoms that become counts.
 #![tactic(auto)]
 
+mod atom_lists;
 mod fill;
 mod laws;
-mod places;
 mod suppression;
 mod table;
 

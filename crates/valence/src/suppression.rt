@@ -3,7 +3,7 @@ ghost use Rattle.std.specs.Prelude.{◌≡◌, ◌<◌, ◌≤◌, ℕ, length, 
 ghost use Rattle.chem_core.specs.Sound.{IsSound};
 ghost use Rattle.valence.specs.Suppressed.{staying_atoms, staying_bonds, stays, renumbered, suppressed};
 
-use crate::places::{gains, has_bare_hydrogen, new_places, suppressed_atoms};
+use crate::atom_lists::{gains, has_plain_hydrogen, new_places, suppressed_atoms};
 use chem_core::{MOST_NEIGHBOURS, Sketch, SketchAtom, SketchBond};
 
 /// Turns plain hydrogen atoms into counts at their neighbours, all at once: those without isotope and charge whose only
@@ -16,7 +16,7 @@ pub fn suppress(sketch: &mut Sketch)
     ensures suppressed { sketch.new ≡ suppressed sketch.old }
     ensures sound { IsSound sketch.new }
 {
-    if has_bare_hydrogen(&sketch.atoms) {
+    if has_plain_hydrogen(&sketch.atoms) {
         take_hydrogens(sketch);
     }
 }

@@ -3,7 +3,7 @@ use Rattle.std.specs.declared.alloc.Global.{Global}
 use Rattle.journal_core.specs.Answers.{OnRecord}
 use Rattle.journal_core.specs.Journal.{Reads}
 use Rattle.journal_core.specs.Records.{IsShort}
-use Rattle.journal_core.specs.RecordLaws.{front_push}
+use Rattle.journal_core.specs.RecordLaws.{prefix_push}
 use Rattle.commit_log.specs.Change.{IsNoChange}
 use Rattle.commit_log.specs.declared.change.Wire.{Wire}
 use Rattle.commit_log.proofs.log.next_commit.Goals as goal
@@ -34,7 +34,7 @@ returns-in-Ok-None-decode-clause-damaged g c ps q =
           inr (record {
             payload = payload;
             rest = new.tail;
-            is = sym same ∙ new.is ∙ front_push ps payload new.tail;
+            is = sym same ∙ new.is ∙ prefix_push ps payload new.tail;
             short = facts.1;
             none = subst IsNoChange c.deref.ensures.value
                 (subst (λ (o : Option Wire). IfNone o (IsNoChange c.deref.result.now)) c.in-Ok-None-decode.field-0-is

@@ -1,9 +1,10 @@
-use Rattle.std.proofs.Common.{ℕ, ◌≤◌, List, sym, ap, subst, ◌∙◌, inr}
+use Rattle.std.specs.List.{AllByRecursion}
+use Rattle.std.proofs.Common.{ℕ, ◌<◌, ◌≤◌, ◌≢◌, List, length, ◌≡◌, sym, ap, subst, ◌∙◌, inr}
 use Rattle.chem_core.specs.declared.sketch.SketchBond.{SketchBond}
 use Rattle.chem_core.specs.Graph.{degree}
 use Rattle.chem_core.specs.Sketch.{SketchTerm}
 use Rattle.chem_core.specs.Sound.{ends_among}
-use Rattle.molfile_read.proofs.Joined.{sound_sketch, no_colons}
+use Rattle.molfile_read.proofs.Joined.{sound_sketch, no_colons, apart}
 use Rattle.molfile_read.proofs.Readings.{fault_handed}
 use Rattle.molfile_read.proofs.read.read_molfile.Goals as goal
 
@@ -46,3 +47,12 @@ returns-clause-no_aromatic_mark c = record {
   atoms = c.in_ok-sketch.ensures.atoms.3;
   bonds = no_colons _ c.in_ok-sketch.sketch.bonds c.in_ok-sketch.ensures.bonds.0.0;
 }
+
+pub are_few_neighbours-requires : goal.are_few_neighbours-requires
+are_few_neighbours-requires c =
+    let same = c.deref.ensures.value ∙ ap (λ (s : SketchTerm). s.bonds) c.sketch.view_is in
+    let P : ℕ → List SketchBond → Type 0 = λ n. AllByRecursion (λ b. (b.a < n) × (b.b < n) × (b.a ≢ b.b)) in
+    let count : length c.in_ok-sketch.sketch.atoms ≡ c.len.result =
+    sym (c.len.ensures ∙ c.sketch.inside.atoms.ok.0 ∙ ap (λ (s : SketchTerm). length s.atoms) c.sketch.view_is) in
+    subst (P c.len.result) (sym same) (subst (λ n. P n c.in_ok-sketch.sketch.bonds) count
+    (apart (length c.in_ok-sketch.sketch.atoms) c.in_ok-sketch.sketch.bonds c.in_ok-sketch.ensures.bonds.0.0))

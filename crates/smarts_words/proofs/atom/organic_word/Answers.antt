@@ -15,14 +15,14 @@ returns-in-Some c =
           ap single (c.symbol.ensures ∙ ap (λ n. words.Symbol n false) f.2);
     }
 
-pub returns-in-Some-small_number : goal.returns-in-Some-small_number
-returns-in-Some-small_number c =
-    let f = c.in-Some-small_number.ensures in
+pub returns-in-Some-lower_letter_number : goal.returns-in-Some-lower_letter_number
+returns-in-Some-lower_letter_number c =
+    let f = c.in-Some-lower_letter_number.ensures in
     record {
       atom = small f.0;
       is = f.1;
       bare = tt;
       spelled = f.2;
       value =
-          ap single (c.symbol-in-Some-small_number.ensures ∙ ap (λ n. words.Symbol n true) f.3);
+          ap single (c.symbol-in-Some-lower_letter_number.ensures ∙ ap (λ n. words.Symbol n true) f.3);
     }

@@ -57,14 +57,14 @@ returns-then-amount-gt15-clause-reads c s es = record {
       let p = amount_digits s c.args.sign x rest c.args.bytes.now d c.digits_at.result.1.now es is after h
       c.digits_at.ensures.split some c.digits_at.ensures.digits c.digits_at.ensures.all in
       let q = p.0.3 in
-      let v = c.value-amount.ensures.value in
+      let v = c.digits_value-amount.ensures.value in
       omega arith;
 }
 
 pub returns-clause-reads : goal.returns-clause-reads
 returns-clause-reads c s es =
     let d = c.digits_at.result.0.now in
-    let v = c.value-amount.ensures.value in
+    let v = c.digits_value-amount.ensures.value in
     let some : 1 ≤ length d = grind (arith, nat_tests) in
     record {
       found = (

@@ -48,7 +48,7 @@ returns c =
         record { short = omega arith; digits = c.digits_at.ensures.digits; symbol = s.1; chiral = m.1 },
         c.digits_at.ensures.split ∙ ap (λ w. c.digits_at.result.0.now ++ w) (s.2 ∙ ap (λ w. symbol_text s.0 ++ w) m.2)
             ∙ sym (front_spelled (record { isotope = c.digits_at.result.0.now; symbol = s.0; chiral = m.0 }) _),
-        same_front_value _ _ _ _ _ _ c.value.ensures.value (ap (λ (p : ℕ × Bool). p.0) s.3)
+        same_front_value _ _ _ _ _ _ c.digits_value.ensures.value (ap (λ (p : ℕ × Bool). p.0) s.3)
             (ap (λ (p : ℕ × Bool). p.1) s.3),
       );
       only = λ x rest is after h.

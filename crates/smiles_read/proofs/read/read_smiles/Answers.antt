@@ -1,14 +1,15 @@
-use Rattle.std.proofs.Common.{◌≤◌, inr, sym, subst}
-use Rattle.std.specs.List.{All}
+use Rattle.std.proofs.Common.{◌≡◌, ◌<◌, ◌≢◌, ◌≤◌, inr, List, length, sym, ap, subst, ◌∙◌}
+use Rattle.std.specs.List.{All, AllByRecursion}
+use Rattle.chem_core.specs.declared.sketch.SketchBond.{SketchBond}
 use Rattle.chem_core.specs.Sketch.{SketchTerm}
 use Rattle.chem_core.specs.Sound.{IsSound}
-use Rattle.smiles_read.specs.Sketch.{IsSketchOf}
+use Rattle.smiles_read.specs.Sketch.{numbered, IsSketchOf}
 use Rattle.smiles_read.specs.Reading.{IsWithinLimits}
-use Rattle.smiles_read.proofs.Answer.{sketch_of, answered, sketch_sound, sketch_hydrogens}
+use Rattle.smiles_read.proofs.Answer.{AreFew, sketch_of, answered, sketch_sound, sketch_hydrogens, sketch_ends_apart}
 use Rattle.smiles_read.proofs.read.read_smiles.Goals as goal
 
-pub returns-then-not-branch-clause-reading : goal.returns-then-not-branch-clause-reading
-returns-then-not-branch-clause-reading c =
+pub returns-then-not-has_few_parts-clause-reading : goal.returns-then-not-has_few_parts-clause-reading
+returns-then-not-has_few_parts-clause-reading c =
     let graph = c.in_ok-graph.graph in
     let a = answered c.args.text.now graph c.in_ok-graph.ensures.reading c.in_ok-graph.ensures.depth in
     inr (
@@ -16,15 +17,39 @@ returns-then-not-branch-clause-reading c =
       sketch_of graph,
       a.is,
       a.sketch,
-      λ w. let k = c.in_ok-is_small.ensures.1 (a.small w) in let f =
-          c.if-not-branch.true in cc,
+      λ w. let k = c.has_few_parts.ensures.1 (a.few w) in let f = c.if-not-has_few_parts.true in cc,
+    )
+
+pub are_few_neighbours-requires : goal.are_few_neighbours-requires
+are_few_neighbours-requires c =
+    let graph = c.in_ok-graph.graph in
+    let is = c.sketch-2.view_is ∙ c.in_ok-sketch.ensures in
+    let same = c.deref.ensures.value ∙ ap (λ (s : SketchTerm). s.bonds) is in
+    let P : List SketchBond → Type 0 = AllByRecursion (λ b. (b.a < c.len.result) × (b.b < c.len.result) × (b.a ≢ b.b)) in
+    let count = c.len.ensures ∙ c.sketch-2.inside.atoms.ok.0 ∙ ap (λ (s : SketchTerm). length s.atoms) is in
+    subst P (sym same) (sketch_ends_apart graph c.len.result count c.in_ok-graph.ensures.ends)
+
+pub returns-then-not-branch-clause-reading : goal.returns-then-not-branch-clause-reading
+returns-then-not-branch-clause-reading c =
+    let graph = c.in_ok-graph.graph in
+    let a = answered c.args.text.now graph c.in_ok-graph.ensures.reading c.in_ok-graph.ensures.depth in
+    let same = c.deref.ensures.value ∙ ap (λ (s : SketchTerm). s.bonds) (c.sketch-2.view_is ∙ c.in_ok-sketch.ensures) in
+    inr (
+      a.tree,
+      sketch_of graph,
+      a.is,
+      a.sketch,
+      λ w. let k = c.in_ok-are_few_neighbours.ensures.1 (subst AreFew (sym same) w.neighbours) in
+          let f = c.if-not-branch.true in cc,
     )
 
 pub returns-clause-reading : goal.returns-clause-reading
 returns-clause-reading c =
     let graph = c.in_ok-graph.graph in
     let a = answered c.args.text.now graph c.in_ok-graph.ensures.reading c.in_ok-graph.ensures.depth in
-    let within = a.within (c.in_ok-is_small.ensures.0 c.if-not-branch.false) in
+    let same = c.deref.ensures.value ∙ ap (λ (s : SketchTerm). s.bonds) (c.sketch-2.view_is ∙ c.in_ok-sketch.ensures) in
+    let few = subst AreFew same (c.in_ok-are_few_neighbours.ensures.0 c.if-not-branch.false) in
+    let within = a.within (c.has_few_parts.ensures.0 c.if-not-has_few_parts.false) few in
     let P : SketchTerm → Type 0 = λ s. IsSketchOf a.tree s in
     let Q : SketchTerm → Type 0 = λ s. IsWithinLimits a.tree s in (
       c.if-text-gt-MOST_BYTES.false,
@@ -38,8 +63,10 @@ pub returns-clause-sound : goal.returns-clause-sound
 returns-clause-sound c =
     let graph = c.in_ok-graph.graph in
     let P : SketchTerm → Type 0 = λ s. IsSound s in
+    let same = c.deref.ensures.value ∙ ap (λ (s : SketchTerm). s.bonds) (c.sketch-2.view_is ∙ c.in_ok-sketch.ensures) in
+    let few = subst AreFew same (c.in_ok-are_few_neighbours.ensures.0 c.if-not-branch.false) in
     subst P (sym c.in_ok-sketch.ensures) (sketch_sound c.args.text.now graph c.in_ok-graph.ensures.reading
-    c.in_ok-graph.ensures.ends (c.in_ok-is_small.ensures.0 c.if-not-branch.false))
+    c.in_ok-graph.ensures.ends (c.has_few_parts.ensures.0 c.if-not-has_few_parts.false) few)
 
 pub returns-clause-few_hydrogens : goal.returns-clause-few_hydrogens
 returns-clause-few_hydrogens c =

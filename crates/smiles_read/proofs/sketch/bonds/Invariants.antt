@@ -1,5 +1,5 @@
 use Rattle.std.proofs.Common.{◌≡◌, map, take}
-use Rattle.smiles_read.specs.Small.{bond_of}
+use Rattle.smiles_read.specs.Limits.{bond_of}
 use Rattle.smiles_read.proofs.sketch.bonds.Given as goal
 
 abbrev pub invariant-loop-link : goal.invariant-loop-link

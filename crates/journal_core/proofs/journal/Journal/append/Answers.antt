@@ -4,7 +4,7 @@ use Rattle.disk_edge.specs.Moments.{two_calls}
 use Rattle.journal_core.specs.Journal.{Rests}
 use Rattle.journal_core.specs.Records.{Opens, BeforeOrAfter}
 use Rattle.journal_core.specs.Standing.{Standing}
-use Rattle.journal_core.specs.RecordLaws.{never_both, before_or_after, length-front_push}
+use Rattle.journal_core.specs.RecordLaws.{never_both, before_or_after, length-prefix_push}
 use Rattle.journal_core.proofs.Results.{at_failed, at_no_memory}
 use Rattle.journal_core.proofs.Steps.{behind, stage_done, stage_torn, written_open, stage_open}
 use Rattle.journal_core.proofs.Told.{becomes_told, tears_told, done_tears, keeps_gate}
@@ -209,7 +209,7 @@ returns-clause-ok g c ps q =
     record {
       told = _;
       is_told = told;
-      place = omega (arith, r.place, length-front_push ps payload);
+      place = omega (arith, r.place, length-prefix_push ps payload);
       each = λ image i. subst (Opens (ps ++ payload ∷ [])) (sym (only.only image i))
           (written_open ps payload place r.place stage.bytes stage.staged);
     }

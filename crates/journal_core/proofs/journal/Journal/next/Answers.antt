@@ -2,11 +2,11 @@ use Rattle.std.proofs.Common.{◌≡◌, ℕ, List, ◌++◌, length, drop, sym,
 use Rattle.std.proofs.lemmas.List.{drop_at}
 use Rattle.journal_core.specs.Found.{IsFound}
 use Rattle.journal_core.specs.Journal.{Reads}
-use Rattle.journal_core.specs.Records.{IsBroken, front}
+use Rattle.journal_core.specs.Records.{IsBroken, prefix}
 use Rattle.journal_core.specs.Standing.{Standing}
 use Rattle.journal_core.specs.declared.record.Found.{Found}
 use Rattle.journal_core.specs.LookLaws.{still_exactly}
-use Rattle.journal_core.specs.RecordLaws.{front_push, length-front_push, all_short}
+use Rattle.journal_core.specs.RecordLaws.{prefix_push, length-prefix_push, all_short}
 use Rattle.journal_core.proofs.Told.{some_is}
 use Rattle.journal_core.proofs.journal.Journal.next.Goals as goal
 
@@ -32,7 +32,7 @@ returns-in-Ok-Shut-clause-opens g c ps q =
     let found = subst (λ (f : Found). IsFound f (drop place r.told)) c.in-Ok-Shut.field-0-is
     (c.in-Ok-Shut.ensures.found r.told r.is_told) in
     let tail : drop place r.told ≡ r.tail = ap (λ (l : List ℕ). drop place l) r.is
-    ∙ drop_at (front ps) r.tail place (sym r.place) in
+    ∙ drop_at (prefix ps) r.tail place (sym r.place) in
     record {
       told = r.told;
       is_told = looks.narrows.same ∙ r.is_told;
@@ -40,7 +40,7 @@ returns-in-Ok-Shut-clause-opens g c ps q =
       each = λ image i. record {
         gate = found.0;
         rest = found.1;
-        is = r.exactly.only image (looks.narrows.no_more image i) ∙ r.is ∙ ap (λ (l : List ℕ). front ps ++ l) (sym tail
+        is = r.exactly.only image (looks.narrows.no_more image i) ∙ r.is ∙ ap (λ (l : List ℕ). prefix ps ++ l) (sym tail
             ∙ found.2);
         shut = found.3;
         fit = r.fit;
@@ -57,15 +57,15 @@ returns-in-Ok-Record-clause-reads g c ps q =
     let found = subst (λ (f : Found). IsFound f (drop place r.told)) c.in-Ok-Record.field-0-is
     (c.in-Ok-Record.ensures.found r.told r.is_told) in
     let tail : drop place r.told ≡ r.tail = ap (λ (l : List ℕ). drop place l) r.is
-    ∙ drop_at (front ps) r.tail place (sym r.place) in
+    ∙ drop_at (prefix ps) r.tail place (sym r.place) in
     record {
       told = r.told;
       tail = found.0;
       is_told = looks.narrows.same ∙ r.is_told;
       exactly = still_exactly d.content d.images d.clock d.images_between d.faults d.bound c.self.inside.disk
           c.record_at.new.disk looks r.told r.exactly;
-      is = r.is ∙ ap (λ (l : List ℕ). front ps ++ l) (sym tail ∙ found.1) ∙ sym (front_push ps payload found.0);
-      place = omega (arith, r.place, length-front_push ps payload, c.len.ensures);
+      is = r.is ∙ ap (λ (l : List ℕ). prefix ps ++ l) (sym tail ∙ found.1) ∙ sym (prefix_push ps payload found.0);
+      place = omega (arith, r.place, length-prefix_push ps payload, c.len.ensures);
       fit = all_short ps payload r.fit found.2;
     }
 
@@ -79,7 +79,7 @@ returns-in-Ok-Broken-clause-damaged g c = (
       let found = subst (λ (f : Found). IsFound f (drop place r.told)) c.in-Ok-Broken.field-0-is
       (c.in-Ok-Broken.ensures.found r.told r.is_told) in
       let tail : drop place r.told ≡ r.tail = ap (λ (t : List ℕ). drop place t) r.is
-      ∙ drop_at (front ps) r.tail place (sym r.place) in
+      ∙ drop_at (prefix ps) r.tail place (sym r.place) in
       let same : r.told ≡ l = some_is r.told l (sym r.is_told ∙ ap (λ (j : Standing g.row.D.Denot). d.content j.disk)
       c.self.view_is ∙ told) in
       record {

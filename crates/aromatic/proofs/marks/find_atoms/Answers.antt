@@ -1,5 +1,0 @@
-use Rattle.aromatic.proofs.Cycles.{ends-aromatic}
-use Rattle.aromatic.proofs.marks.find_atoms.Goals as goal
-
-pub returns : goal.returns
-returns c = ends-aromatic _ _ _ _ c.requires.marks c.in_ok-flags.ensures.count c.in_ok-flags.ensures.each

@@ -1,6 +1,0 @@
-use Rattle.std.proofs.Common.{take, zip}
-use Rattle.aromatic.proofs.Sketches.{AreSitesBelow}
-use Rattle.aromatic.proofs.site.count_bonds.Given as goal
-
-abbrev pub invariant-loop-place : goal.invariant-loop-place
-invariant-loop-place l = AreSitesBelow l.atoms (take l.place (zip l.bonds l.bond_in_ring)) l.sites

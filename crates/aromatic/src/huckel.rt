@@ -1,0 +1,188 @@
+//! Which bonds and atoms of a sketch lie on Hückel cycles.
+//!
+//! Each bond is searched in turn. If a Hückel cycle goes through it, all bonds of the cycle are marked; if none does,
+//! the bond is ruled out, so that no later search goes over it.
+ghost use Rattle.std.specs.Prelude.{◌≡◌, ◌<◌, ◌+◌, ◌↔◌, ◌⊎◌, List, Option, length, map, replicate, option_map, slice_index_or, slice_set, All, Contains, IfOk, OnOk, ℕ, true, false};
+ghost use Rattle.chem_core.specs.Graph.{IsSimpleGraph};
+ghost use Rattle.chem_core.specs.RingFacts.{AreRingBonds};
+ghost use Rattle.chem_core.specs.Sound.{IsSound, ends_among};
+ghost use Rattle.aromatic.specs.Links.{links_in};
+ghost use Rattle.aromatic.specs.Route.{AreAromaticAtoms, AreAromaticBonds, AreMarksBelow, AreRows, IsAromaticBy, IsBlank, IsMarkedEnd, IsNet};
+
+use crate::cycle::{Scratch, closes};
+use crate::links::{Link, Links, are_candidates, links_between, unlink};
+use crate::table::Row;
+use chem_core::{SketchAtom, SketchBond};
+use std::alloc::{AllocError, Global};
+
+// What the searches share.
+#[derive(Drop)]
+struct Search {
+    // For each bond whether a search may go over it. Each bond on a Hückel cycle is possible.
+    possible: Vec<bool>,
+    // The links by possible bonds.
+    links: Vec<Links>,
+    scratch: Scratch,
+}
+
+/// Which bonds lie on a Hückel cycle.
+pub fn find_bonds(
+    alloc: Global,
+    atoms: &[SketchAtom],
+    bonds: &[SketchBond],
+    bond_in_ring: &[bool],
+    rows: &[Option<Row>],
+) -> Result<Vec<bool>, AllocError>
+    requires sound { IsSound (record { atoms = atoms.now; bonds = bonds.now }) }
+    requires rings { AreRingBonds (ends_among bonds.now) bond_in_ring.now }
+    requires rows { AreRows (record { atoms = atoms.now; bonds = bonds.now }) bond_in_ring.now rows.now }
+    ensures { IfOk result (λ marks. AreAromaticBonds (record { atoms = atoms.now; bonds = bonds.now })
+        bond_in_ring.now marks.items) }
+{
+    let gives = electrons_of(alloc, rows)?;
+    let links = links_between(alloc, bonds, bond_in_ring, &gives)?;
+    let marks = aromatic_bonds(alloc, bonds, bond_in_ring, &gives, links)?;
+    Ok(marks)
+}
+
+/// Which atoms lie on a Hückel cycle.
+pub fn find_atoms(
+    alloc: Global,
+    atoms: &[SketchAtom],
+    bonds: &[SketchBond],
+    bond_in_ring: &[bool],
+    marks: &[bool],
+) -> Result<Vec<bool>, AllocError>
+    requires sound { IsSound (record { atoms = atoms.now; bonds = bonds.now }) }
+    requires marks { AreAromaticBonds (record { atoms = atoms.now; bonds = bonds.now }) bond_in_ring.now marks.now }
+    ensures { IfOk result (λ flags. AreAromaticAtoms (record { atoms = atoms.now; bonds = bonds.now })
+        bond_in_ring.now flags.items) }
+{
+    let flags = ends_of_marked(alloc, atoms.len(), bonds, marks)?;
+    Ok(flags)
+}
+
+// What each atom gives, by its row.
+fn electrons_of(alloc: Global, rows: &[Option<Row>]) -> Result<Vec<Option<u8>>, AllocError>
+    ensures { IfOk result (λ gives. gives.items
+        ≡ map (λ row. option_map (λ r. r.electrons) row) rows.now) }
+{
+    rows.iter()
+        .map(|row| row.map(|row| row.electrons))
+        .collect(alloc)
+}
+
+// Marks the bonds that lie on a Hückel cycle.
+fn aromatic_bonds(
+    alloc: Global,
+    bonds: &[SketchBond],
+    bond_in_ring: &[bool],
+    gives: &[Option<u8>],
+    links: Vec<Links>,
+) -> Result<Vec<bool>, AllocError>
+    requires net { IsNet (ends_among bonds.now) bond_in_ring.now gives.now (links_in links.items) }
+    ensures { IfOk result (λ marks. AreMarksBelow (ends_among bonds.now) gives.now (length bonds.now) marks.items) }
+{
+    let mut search = Search {
+        possible: bond_in_ring.to_vec(alloc)?,
+        links,
+        scratch: Scratch::new(alloc, gives.len())?,
+    };
+    let mut marks = vec![in alloc; false; bonds.len()]?;
+    for place in 0..bonds.len() {
+        mark_through(bonds, gives, place, &mut search, &mut marks)?;
+    }
+    Ok(marks)
+}
+
+// Marks the bonds of a Hückel cycle through a bond, if there is one and the bond is not marked yet. If there is none,
+// the bond is ruled out: no later search goes over it.
+fn mark_through(
+    bonds: &[SketchBond],
+    gives: &[Option<u8>],
+    place: usize,
+    search: &mut Search,
+    marks: &mut [bool],
+) -> Result<(), AllocError>
+    requires net { IsNet (ends_among bonds.now) search.old.possible.items gives.now (links_in search.old.links.items) }
+    requires place { place < length bonds.now }
+    requires blank { IsBlank (length gives.now) search.old.scratch }
+    requires marks { AreMarksBelow (ends_among bonds.now) gives.now place marks.old }
+    ensures net { OnOk result (IsNet (ends_among bonds.now) search.new.possible.items gives.now
+        (links_in search.new.links.items)) }
+    ensures marks { OnOk result (AreMarksBelow (ends_among bonds.now) gives.now (place + 1) marks.new) }
+    ensures blank { OnOk result (IsBlank (length gives.now) search.new.scratch) }
+{
+    let bond = bonds[place];
+    if !search.possible[place] || !are_candidates(gives, bond) || marks[place] {
+        return Ok(());
+    }
+    let first = Link {
+        to: bond.a,
+        bond: place as u16,
+    };
+    if closes(&search.links, gives, first, bond.b, &mut search.scratch)? {
+        mark_path(marks, &search.scratch.path.links);
+    } else {
+        rule_out(bonds, place, &mut search.possible, &mut search.links);
+    }
+    Ok(())
+}
+
+// Rules out a bond that lies on no Hückel cycle.
+fn rule_out(bonds: &[SketchBond], place: usize, possible: &mut [bool], links: &mut [Links])
+    requires place { place < length bonds.now }
+    requires each { length possible.old ≡ length bonds.now }
+    requires graph { IsSimpleGraph (length links.old) (ends_among bonds.now) }
+    ensures ruled_out { possible.new ≡ slice_set possible.old place false }
+    ensures net { (gives : List (Option ℕ)) → IsNet (ends_among bonds.now) possible.old gives (links_in links.old)
+        → (IsAromaticBy (ends_among bonds.now) gives place → ⊥)
+        → IsNet (ends_among bonds.now) possible.new gives (links_in links.new) }
+{
+    possible[place] = false;
+    unlink(links, bonds[place], place as u16);
+}
+
+// Marks the bonds of a path.
+fn mark_path(marks: &mut [bool], path: &[Link])
+    requires { All (λ l. l.bond < length marks.old) path.now }
+    ensures { (b : ℕ) → (slice_index_or marks.new b false ≡ true)
+        ↔ ((slice_index_or marks.old b false ≡ true) ⊎ Contains (map (λ l. l.bond) path.now) b) }
+{
+    for link in path {
+        marks[usize::from(link.bond)] = true;
+    }
+}
+
+// Which atoms are ends of these bonds.
+fn ends_of_marked(
+    alloc: Global,
+    count: usize,
+    bonds: &[SketchBond],
+    marks: &[bool],
+) -> Result<Vec<bool>, AllocError>
+    requires graph { IsSimpleGraph count (ends_among bonds.now) }
+    requires each { length marks.now ≡ length bonds.now }
+    ensures count { IfOk result (λ flags. length flags.items ≡ count) }
+    ensures each { IfOk result (λ flags. (a : ℕ) → (slice_index_or flags.items a false ≡ true)
+        ↔ IsMarkedEnd (ends_among bonds.now) marks.now (length bonds.now) a) }
+{
+    let mut flags = vec![in alloc; false; count]?;
+    mark_all(&mut flags, bonds, marks);
+    Ok(flags)
+}
+
+fn mark_all(flags: &mut [bool], bonds: &[SketchBond], marks: &[bool])
+    requires graph { IsSimpleGraph (length flags.old) (ends_among bonds.now) }
+    requires each { length marks.now ≡ length bonds.now }
+    requires none { flags.old ≡ replicate (length flags.old) false }
+    ensures { (a : ℕ) → (slice_index_or flags.new a false ≡ true)
+        ↔ IsMarkedEnd (ends_among bonds.now) marks.now (length bonds.now) a }
+{
+    for (place, bond) in bonds.iter().enumerate() {
+        if marks[place] {
+            flags[usize::from(bond.a)] = true;
+            flags[usize::from(bond.b)] = true;
+        }
+    }
+}
