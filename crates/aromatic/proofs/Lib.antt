@@ -1,5 +1,6 @@
 mod Cycles
 mod Finds
+mod Found
 mod LinkLists
 mod MarkSteps
 mod Routes

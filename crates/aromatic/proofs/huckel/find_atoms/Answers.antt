@@ -1,4 +1,4 @@
-use Rattle.aromatic.proofs.Cycles.{ends-aromatic}
+use Rattle.aromatic.proofs.Found.{ends-aromatic}
 use Rattle.aromatic.proofs.huckel.find_atoms.Goals as goal
 
 pub returns : goal.returns

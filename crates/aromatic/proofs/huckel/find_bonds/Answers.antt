@@ -1,5 +1,5 @@
 use Rattle.aromatic.specs.Links.{links_in}
-use Rattle.aromatic.proofs.Cycles.{bonds-found, net-found}
+use Rattle.aromatic.proofs.Found.{bonds-found, net-found}
 use Rattle.aromatic.proofs.huckel.find_bonds.Goals as goal
 
 pub aromatic_bonds-requires : goal.aromatic_bonds-requires

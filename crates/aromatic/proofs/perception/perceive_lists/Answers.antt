@@ -1,7 +1,7 @@
 use Rattle.std.proofs.Common.{◌≡◌, map, subst}
 use Rattle.std.specs.List.{enumerate_from}
 use Rattle.aromatic.specs.Tallies.{IsFirstToPass, NonePasses}
-use Rattle.aromatic.proofs.Cycles.{all-found, fault-first}
+use Rattle.aromatic.proofs.Found.{all-found, fault-first}
 use Rattle.aromatic.proofs.Tallies.{refusals-told, valences-told}
 use Rattle.aromatic.proofs.perception.perceive_lists.Goals as goal
 
