@@ -1,4 +1,4 @@
--- The counts of an atom's bonds, one bond after another.
+-- The counts of an atom's bonds, one bond after another. For private clauses alone.
 use Rattle.std.specs.Prelude.{◌≡◌, ℕ, ◌+◌, ◌<◌, ◌&&◌, not, Bool, List, length, slice_get, Some, if◌then◌else◌}
 use Rattle.chem_core.specs.declared.sketch.SketchAtom.{SketchAtom}
 use Rattle.chem_core.specs.declared.sketch.SketchBond.{SketchBond}

@@ -1,4 +1,5 @@
 -- How far atoms are from the target of a search, and the queue of the atoms that are reached.
+-- For private clauses alone.
 use Rattle.std.specs.Prelude.{◌≡◌, ◌≢◌, ◌==◌, ℕ, ◌+◌, ◌<◌, ◌≤◌, List, length, slice_index, count_by, Contains}
 use Rattle.aromatic.specs.declared.limits.TheConstants.{LONGEST}
 use Rattle.aromatic.specs.declared.links.Link.{Link}

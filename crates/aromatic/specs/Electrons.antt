@@ -1,4 +1,4 @@
--- How many electrons an atom gives to an aromatic ring. The table is this project's own profile.
+-- How many electrons an atom gives to an aromatic ring. The table is this project's own profile. For callers.
 use Rattle.std.specs.Prelude.{ℕ, ◌+◌, ◌==◌, ◌&&◌, ◌||◌, not, nat_le, Bool, true, false, List, [], ◌∷◌, slice_get, slice_index_or, count_by, map, Option, None, Some, option_and_then, option_map, if◌then◌else◌, pos, neg_ℤ}
 use Rattle.std.specs.List.{find, list_any, zip}
 use Rattle.std.specs.Ordering.{int_eq}

@@ -1,4 +1,4 @@
--- Aromatic atoms and bonds: those on a Hückel cycle.
+-- Aromatic atoms and bonds: those on a Hückel cycle. For callers.
 use Rattle.std.specs.Prelude.{◌≡◌, ◌⊎◌, ℕ, ◌+◌, ◌%◌, ◌<◌, ◌≤◌, ◌↔◌, not, ◌==◌, ◌||◌, ◌&&◌, Bool, true, false, List, length, map, sum_by, slice_get, slice_index_or, Contains, All, IsSome, Option, None, Some, unwrap_or, if◌then◌else◌}
 use Rattle.std.specs.List.{list_any, enumerate_from, zip}
 use Rattle.chem_core.specs.declared.sketch.SketchAtom.{SketchAtom}

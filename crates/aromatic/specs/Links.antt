@@ -1,4 +1,4 @@
--- The links of atoms: ring bonds from candidate to candidate.
+-- The links of atoms: ring bonds from candidate to candidate. For private clauses alone.
 use Rattle.std.specs.Prelude.{◌≡◌, ℕ, ◌<◌, ◌⊎◌, ◌↔◌, List, [], length, map, slice_index_or, Contains, Option, None, IsSome, Bool, true, false}
 use Rattle.smallvec.specs.SmallVec.{SmallVec}
 use Rattle.chem_core.specs.Graph.{Ends, JoinsAt}

@@ -1,4 +1,4 @@
--- Paths of links, from one end of a bond on the way to its other end.
+-- Paths of links, from one end of a bond on the way to its other end. For private clauses alone.
 use Rattle.std.specs.Prelude.{◌≡◌, ◌≢◌, ℕ, ◌+◌, ◌-◌, ◌%◌, ◌<◌, ◌≤◌, List, ◌++◌, length, map, replicate, sum_by, slice_index, slice_index_or, AllPairs, Contains, Option, None, unwrap_or, Bool, true, false, ◌↔◌}
 use Rattle.chem_core.specs.Sketch.{SketchTerm}
 use Rattle.chem_core.specs.Graph.{Ends, IsSimpleGraph, JoinsAt, LiesOn}

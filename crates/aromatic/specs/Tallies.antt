@@ -1,4 +1,4 @@
--- What the bonds of an atom come to, and what is read of that.
+-- What the bonds of an atom come to, and what is read of that. For private clauses alone.
 use Rattle.std.specs.Prelude.{◌≡◌, ℕ, ◌+◌, ◌<◌, ◌&&◌, ◌||◌, not, Bool, true, false, List, slice_get, slice_index_or, Option, None, Some, if◌then◌else◌}
 use Rattle.chem_core.specs.declared.sketch.SketchAtom.{SketchAtom}
 use Rattle.chem_core.specs.declared.sketch.SketchBond.{SketchBond}

@@ -1,4 +1,5 @@
 -- Bonds as pairs of ends: what joins what, cycles, rings. Atoms and bonds are named by their places, from 0.
+-- For callers.
 use Rattle.std.specs.Prelude.{◌≡◌, ◌≢◌, ◌⊎◌, ℕ, ◌+◌, ◌%◌, ◌<◌, ◌≤◌, List, length, slice_get, slice_index, slice_index_or, [], count_by, Some, All, AllPairs, Contains, ◌==◌, ◌||◌, map}
 use Rattle.std.specs.List.Sorted.{IsStrictlyIncreasing}
 use Rattle.chem_core.specs.declared.limits.TheConstants.{MOST_ATOMS, MOST_BONDS, MOST_NEIGHBOURS}

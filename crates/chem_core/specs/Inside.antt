@@ -1,4 +1,4 @@
--- What a molecule keeps about its fields.
+-- What a molecule keeps about its fields. For private clauses alone.
 use Rattle.std.specs.Prelude.{ℕ, Bool, List, length, map}
 use Rattle.smallvec.specs.SmallVec.{SmallVec}
 use Rattle.chem_core.specs.declared.mol.Atom.{Atom}

@@ -1,4 +1,4 @@
--- A molecule: atoms and bonds as they are meant.
+-- A molecule: atoms and bonds as they are meant. For callers.
 use Rattle.std.specs.Prelude.{◌≤◌, List, length, map, All, pos, neg_ℤ, ◌≤ℤ◌}
 use Rattle.chem_core.specs.declared.mol.Atom.{Atom}
 use Rattle.chem_core.specs.declared.mol.Bond.{Bond}

@@ -1,4 +1,4 @@
--- A structure as it is written, without where it lies in memory.
+-- A structure as it is written, without where it lies in memory. For callers.
 use Rattle.std.specs.Prelude.{ℕ, Bool, ◌==◌, ◌||◌, List}
 use Rattle.chem_core.specs.declared.sketch.SketchAtom.{SketchAtom}
 use Rattle.chem_core.specs.declared.sketch.SketchBond.{SketchBond}

@@ -1,4 +1,4 @@
--- The words of a print as its bits.
+-- The words of a print as its bits. For private clauses alone.
 use Rattle.std.specs.Prelude.{ℕ, ◌==◌, Bool, List, map}
 use Rattle.std.specs.List.{flat_map, range_with_len}
 use Rattle.std.specs.Int.{bit_at}

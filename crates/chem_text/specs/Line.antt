@@ -1,4 +1,4 @@
--- The lines of a text. Each ends with LF, and the last may have none.
+-- The lines of a text. Each ends with LF, and the last may have none. For callers.
 use Rattle.std.specs.Prelude.{◌≡◌, ◌≢◌, ◌⊎◌, ℕ, ◌+◌, ◌<◌, ◌≤◌, List, length, slice_index}
 
 -- an LF stands at the place

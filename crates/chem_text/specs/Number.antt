@@ -1,4 +1,4 @@
--- Decimal numbers.
+-- Decimal numbers. For callers.
 use Rattle.std.specs.Prelude.{◌≡◌, ◌≢◌, ℕ, ◌≤◌, List, length, slice_index}
 
 -- no plus, and no zero before other bytes

@@ -1,4 +1,4 @@
--- Where a line ends.
+-- Where a line ends. For private clauses alone.
 use Rattle.std.specs.Prelude.{◌≡◌, ◌≢◌, ◌<◌, ℕ, List, length, take, slice_index, All}
 use Rattle.io_edge.specs.declared.lines.TheConstants.{LF}
 

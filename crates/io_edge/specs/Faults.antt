@@ -1,4 +1,4 @@
--- The count of faults of a source or a sink, which a `u64` holds.
+-- The count of faults of a source or a sink, which a `u64` holds. For callers.
 use Rattle.std.specs.Prelude.{◌≡◌, ◌<◌, ◌-◌, ◌^◌, ◌+◌, ◌⊎◌, ℕ, min}
 
 -- the count rose in a call: it is greater afterwards, or stands at its end

@@ -1,4 +1,4 @@
--- The lines of a text, and how far a text was read.
+-- The lines of a text, and how far a text was read. For callers.
 use Rattle.std.specs.Prelude.{◌≡◌, ◌<◌, ◌-◌, ◌⊎◌, ℕ, Bool, true, false, IsTrue, List, [], ◌∷◌, ◌++◌, length, map, nat_lt, ◌==◌, if◌then◌else◌, Contains}
 use Rattle.io_edge.specs.declared.lines.TheConstants.{LF, CR, LONGEST_LINE}
 

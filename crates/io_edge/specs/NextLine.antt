@@ -1,4 +1,4 @@
--- What a call for the next line answers.
+-- What a call for the next line answers. For callers.
 use Rattle.std.specs.Prelude.{◌≡◌, ◌≤◌, ◌+◌, ◌⊎◌, ℕ, IsTrue, Result, Ok, Err, List, [], ◌∷◌, ◌++◌, length, codes}
 use Rattle.io_edge.specs.Lines.{TextLine, Whole, TooLong, Reading, lines_left, HasWholeLine}
 use Rattle.io_edge.specs.declared.lines.Line.{Line}

@@ -1,4 +1,4 @@
--- What a sink is given, and a sink in memory.
+-- What a sink is given, and a sink in memory. For callers.
 use Rattle.std.specs.Prelude.{◌≡◌, ℕ, Option, Result, Ok, Err, Bool, true, false, List, ◌++◌, ◌==◌, codes}
 use Rattle.std.specs.List.{list_any}
 use Rattle.std.specs.Io.KnownBytes.{Appends}

@@ -1,4 +1,4 @@
--- What a source gives, and a source in memory.
+-- What a source gives, and a source in memory. For callers.
 use Rattle.std.specs.Prelude.{ℕ, Option, Bool, List, length, drop, min, ◌==◌, if◌then◌else◌}
 use Rattle.std.specs.List.{list_any}
 use Rattle.std.specs.Io.KnownBytes.{Consumes}

@@ -1,4 +1,4 @@
--- The faults of the stages, as faults of a text. Want of memory has one name in all of them.
+-- The faults of the stages, as faults of a text. Want of memory has one name in all of them. For callers.
 use Rattle.smiles_read.specs.declared.fault.SmilesFault.{SmilesFault}
 use Rattle.smiles_read.specs.declared.fault.SmilesFault.TheVariants as smiles
 use Rattle.molfile_read.specs.declared.fault.MolfileFault.{MolfileFault}

@@ -1,4 +1,4 @@
--- The molecule that a sketch means, once it is known which of its atoms and bonds are aromatic.
+-- The molecule that a sketch means, once it is known which of its atoms and bonds are aromatic. For callers.
 use Rattle.std.specs.Prelude.{ℕ, Bool, true, false, List, map, slice_index, slice_index_or}
 use Rattle.std.specs.List.{enumerate_from}
 use Rattle.chem_core.specs.declared.mol.Atom.{Atom}

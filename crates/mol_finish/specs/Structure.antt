@@ -1,4 +1,4 @@
--- The structure of a text: the stages, one after another, and the fault of the first that fails.
+-- The structure of a text: the stages, one after another, and the fault of the first that fails. For callers.
 use Rattle.std.specs.Prelude.{◌≡◌, ℕ, Bool, List, Result, Ok, Err}
 use Rattle.chem_core.specs.Sketch.{SketchTerm}
 use Rattle.chem_core.specs.Molecule.{Molecule}

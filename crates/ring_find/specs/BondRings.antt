@@ -1,4 +1,4 @@
--- The smallest ring through each bond, and bonds kept so that none of a ring is lost.
+-- The smallest ring through each bond, and bonds kept so that none of a ring is lost. For private clauses alone.
 use Rattle.std.specs.Prelude.{◌≡◌, ◌≤◌, ◌<◌, ◌⊎◌, ℕ, Bool, true, false, List, length, slice_index, slice_index_or}
 use Rattle.chem_core.specs.Graph.{Ends, IsSimpleCycle, LiesOn, IsRingBond}
 

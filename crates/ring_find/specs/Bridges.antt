@@ -1,4 +1,4 @@
--- Labels of atoms, and the bonds that lead from one label to another.
+-- Labels of atoms, and the bonds that lead from one label to another. For private clauses alone.
 use Rattle.std.specs.Prelude.{◌≡◌, ℕ, ◌<◌, Bool, true, false, List, slice_index, slice_index_or}
 use Rattle.chem_core.specs.Graph.{Ends, JoinsAt}
 

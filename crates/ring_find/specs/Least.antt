@@ -1,4 +1,4 @@
--- The least of some lengths, where 0 is no length.
+-- The least of some lengths, where 0 is no length. For private clauses alone.
 use Rattle.std.specs.Prelude.{◌≡◌, ◌≢◌, ◌≤◌, ◌⊎◌, ℕ}
 
 -- the lesser of two lengths: one of them, no more than either, and 0 only where both are

@@ -1,4 +1,4 @@
--- The graph of a sketch: its bonds as steps from each atom to its neighbours.
+-- The graph of a sketch: its bonds as steps from each atom to its neighbours. For private clauses alone.
 use Rattle.std.specs.Prelude.{◌≡◌, ◌≢◌, ◌<◌, ◌+◌, ◌*◌, ℕ, List, length, take, slice_index, slice_index_or, Contains, AllPairs}
 use Rattle.chem_core.specs.Graph.{Ends, JoinsAt, IsSimpleGraph, degree}
 use Rattle.chem_core.specs.declared.limits.TheConstants.{MOST_NEIGHBOURS}

@@ -1,4 +1,5 @@
 -- A breadth-first search under way: the marks of the atoms, and the queue of the atoms that are marked.
+-- For private clauses alone.
 use Rattle.std.specs.Prelude.{◌≡◌, ◌≢◌, ◌≤◌, ◌<◌, ◌+◌, ◌==◌, ℕ, suc, Bool, List, length, slice_index, slice_index_or, count_by, Contains}
 use Rattle.chem_core.specs.Graph.{Ends}
 use Rattle.ring_find.specs.Walk.{Walk, StepBut}

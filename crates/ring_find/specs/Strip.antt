@@ -1,4 +1,4 @@
--- Dead ends: atoms at which one bond alone is kept.
+-- Dead ends: atoms at which one bond alone is kept. For private clauses alone.
 use Rattle.std.specs.Prelude.{◌≡◌, ℕ, Bool, true, false, List, slice_index_or, Contains}
 use Rattle.chem_core.specs.Graph.{Ends, JoinsAt}
 use Rattle.ring_find.specs.declared.graph.Step.{Step}

@@ -1,4 +1,4 @@
--- Walks over kept bonds that leave out one bond.
+-- Walks over kept bonds that leave out one bond. For private clauses alone.
 use Rattle.std.specs.Prelude.{◌≡◌, ◌≢◌, ◌≤◌, ℕ, zero, suc, Bool, true, false, List, slice_index_or}
 use Rattle.chem_core.specs.Graph.{Ends, JoinsAt}
 

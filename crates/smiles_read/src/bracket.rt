@@ -109,7 +109,7 @@ fn after_number(bytes: &[u8], most: u8) -> Option<&[u8]>
         (option_map (λ r. (tt, r.now)) result) }
 {
     let (digits, rest) = digits_at(bytes);
-    let number = short_number(digits);
+    let number = short_number(digits)?;
     if number == 0 || number > most {
         return None;
     }

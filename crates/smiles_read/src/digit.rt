@@ -1,6 +1,6 @@
 //! Runs of digits.
 
-ghost use Rattle.std.specs.Prelude.{◌≡◌, ◌⊎◌, ℕ, ◌≤◌, ◌++◌, ◌↔◌, IsTrue, length};
+ghost use Rattle.std.specs.Prelude.{◌≡◌, ℕ, ◌≤◌, ◌++◌, ◌↔◌, IsTrue, IfSome, Some, length};
 ghost use Rattle.std.specs.List.{AllByRecursion};
 ghost use Rattle.std.specs.Fmt.{decimal};
 ghost use Rattle.smiles_read.specs.Atom.{IsDigit, value_of};
@@ -45,21 +45,20 @@ pub fn digits_value(digits: &[u8]) -> u16
     }
 }
 
-/// The number that the digits spell, if it is 1 to 99 and begins with no 0; 0 for other digits.
-pub fn short_number(digits: &[u8]) -> u8
+/// The number of at most two digits that the digits spell; nothing where there are more, or a 0 stands in front.
+pub fn short_number(digits: &[u8]) -> Option<u8>
     requires { AllByRecursion IsDigit digits.now }
-    ensures few { result ≤ 99 }
-    ensures found { (result ≡ 0) ⊎ (digits.now ≡ decimal result) }
-    ensures only { (n : ℕ) → n ≤ 99 → digits.now ≡ decimal n → result ≡ n }
+    ensures found { IfSome result (λ n. (n ≤ 99) × (digits.now ≡ decimal n)) }
+    ensures only { (n : ℕ) → n ≤ 99 → digits.now ≡ decimal n → result ≡ Some n }
 {
     match digits {
-        [ones] => *ones - b'0',
+        [ones] => Some(*ones - b'0'),
         [tens, ones] => {
             if *tens == b'0' {
-                return 0;
+                return None;
             }
-            10 * (*tens - b'0') + (*ones - b'0')
+            Some(10 * (*tens - b'0') + (*ones - b'0'))
         }
-        _ => 0,
+        _ => None,
     }
 }

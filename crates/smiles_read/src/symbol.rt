@@ -93,10 +93,8 @@ fn two_letters_at(bytes: &[u8]) -> Option<(u8, &[u8])>
     if *second < b'a' {
         return None;
     }
-    match number_of(&[*first, *second]) {
-        Some(number) => Some((number, rest)),
-        None => None,
-    }
+    let number = number_of(&[*first, *second])?;
+    Some((number, rest))
 }
 
 // The element whose symbol of one letter the bytes begin with, or 0 for `*`, and the bytes after it.
@@ -109,8 +107,6 @@ fn one_letter_at(bytes: &[u8]) -> Option<(u8, &[u8])>
     let [first, rest @ ..] = bytes else {
         return None;
     };
-    match number_of(&[*first]) {
-        Some(number) => Some((number, rest)),
-        None => None,
-    }
+    let number = number_of(&[*first])?;
+    Some((number, rest))
 }

@@ -1,4 +1,4 @@
--- A sketch with its hydrogens counted.
+-- A sketch with its hydrogens counted. For callers.
 use Rattle.std.specs.Prelude.{ℕ, ◌+◌, ◌-◌, true, false, List, [], ◌∷◌, map, find, nat_le, option_map, unwrap_or}
 use Rattle.std.specs.List.{enumerate_from}
 use Rattle.chem_core.specs.declared.sketch.SketchAtom.{SketchAtom}

@@ -1,4 +1,4 @@
--- A sketch whose plain hydrogen atoms have become counts at their neighbours, all at once.
+-- A sketch whose plain hydrogen atoms have become counts at their neighbours, all at once. For callers.
 use Rattle.std.specs.Prelude.{ℕ, ◌+◌, ◌==◌, ◌&&◌, ◌||◌, not, Bool, true, false, List, map, filter, count_by, slice_get, option_map, unwrap_or, pos}
 use Rattle.std.specs.List.{list_any, enumerate_from, range_with_len}
 use Rattle.std.specs.Ordering.{int_eq}

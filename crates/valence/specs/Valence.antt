@@ -1,4 +1,4 @@
--- The normal valences, and what the bonds of an atom sum to.
+-- The normal valences, and what the bonds of an atom sum to. For callers.
 use Rattle.std.specs.Prelude.{ℕ, zero, suc, ◌==◌, ◌||◌, List, [], ◌∷◌, sum_by, if◌then◌else◌, ℤ, pos, negsuc}
 use Rattle.chem_core.specs.declared.sketch.SketchBond.{SketchBond}
 use Rattle.chem_core.specs.Sketch.{SketchTerm, ends_at, order_of}

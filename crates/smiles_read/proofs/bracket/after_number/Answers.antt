@@ -1,4 +1,5 @@
-use Rattle.std.proofs.Common.{◌∙◌, sym, ◌++◌, inl, inr, refl, arith, ap}
+use Rattle.std.proofs.Common.{◌≡◌, ◌∙◌, sym, ◌++◌, refl, arith, ap}
+use Rattle.std.proofs.lemmas.Option.{same_Some}
 use Rattle.std.specs.Fmt.{decimal}
 use Rattle.smiles_read.specs.Owed.Digits.{same_digits, decimal_digits}
 use Rattle.smiles_read.proofs.bracket.after_number.Goals as goal
@@ -14,7 +15,7 @@ returns-then-number-eq0 c = record {
       let same = same_digits c.digits_at.result.0.now (decimal n) c.digits_at.result.1.now rest
       c.digits_at.ensures.digits (decimal_digits n (omega arith)) c.digits_at.ensures.all after
       (sym c.digits_at.ensures.split ∙ h) in
-      let number = c.short_number-number.ensures.only n (omega arith) same.0 in
+      let number : c.in_ok-number.number ≡ n = same_Some _ _ (c.in_ok-number.ensures.only n (omega arith) same.0) in
       elim c.then-number-eq0.branch [
         | then-number-eq0-via-then-number-eq0 w ↦ omega arith
         | then-number-eq0-via-else-number-eq0+then-number-most w ↦ omega arith
@@ -24,12 +25,9 @@ returns-then-number-eq0 c = record {
 pub returns : goal.returns
 returns c = record {
   found = (
-    c.short_number-number.result,
+    c.in_ok-number.number,
     (omega arith, omega arith),
-    elim c.short_number-number.ensures.found [
-      | inl zero ↦ absurd (omega arith)
-      | inr is ↦ c.digits_at.ensures.split ∙ ap (λ w. w ++ c.digits_at.result.1.now) is
-    ],
+    c.digits_at.ensures.split ∙ ap (λ w. w ++ c.digits_at.result.1.now) c.in_ok-number.ensures.found.1,
     refl,
   );
   only = λ n rest is after h.
