@@ -1,4 +1,4 @@
--- What the bonds of an atom come to, and what is read of that. For private clauses alone.
+-- The sum of the orders of an atom's bonds, and what is read of it. For private clauses alone.
 use Rattle.std.specs.Prelude.{◌≡◌, ℕ, ◌+◌, ◌<◌, ◌&&◌, ◌||◌, not, Bool, true, false, List, slice_get, slice_index_or, Option, None, Some, if◌then◌else◌}
 use Rattle.chem_core.specs.declared.sketch.SketchAtom.{SketchAtom}
 use Rattle.chem_core.specs.declared.sketch.SketchBond.{SketchBond}
@@ -21,7 +21,7 @@ with_bond t kind aromatic = record {
   colon = t.colon || is_colon kind;
 }
 
--- what the bonds of an atom come to
+-- the sum of the orders of its bonds, and what is read of them
 abbrev pub tally_of : List SketchBond → List Bool → ℕ → Tally
 tally_of bonds aromatic a = record {
   bonded = bonded bonds aromatic a;
@@ -55,7 +55,7 @@ IsFirstToPass test atoms w =
     (a : ℕ) × (x : SketchAtom) × (slice_get atoms a ≡ Some x) × (test a x ≡ true) × (x.written ≡ w)
     × ((b : ℕ) (y : SketchAtom) → b < a → slice_get atoms b ≡ Some y → test b y ≡ false)
 
--- the valence of an atom, where it is told what its bonds come to, what its row is, and whether it is aromatic
+-- the valence of an atom, by the tally of its bonds, its row, and whether it is aromatic
 abbrev pub valence_told : Tally → Option Row → Bool → SketchAtom → ℕ
 valence_told tally row aromatic x = tally.bonded + x.hydrogens
     + (if aromatic && adds_by tally.aromatic_double row then 1 else 0)

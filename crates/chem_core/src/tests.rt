@@ -1,3 +1,4 @@
+//! Worked examples, by hand.
 use crate::{Atom, Mol, Print, number_of, symbol_of};
 use std::test::Fail;
 

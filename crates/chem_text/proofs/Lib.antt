@@ -1,2 +1,2 @@
 pub mod Digits
-pub mod LineLemmas
+pub mod Lines

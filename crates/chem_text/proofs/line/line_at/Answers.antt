@@ -1,7 +1,7 @@
 use Rattle.std.proofs.Common.{ℕ, List, subst}
 use Rattle.memchr.specs.Find.{IsFirstByte, is_byte}
 use Rattle.std.proofs.Common.{None, Some}
-use Rattle.chem_text.proofs.LineLemmas.{slice_from, line_with_lf, last_line}
+use Rattle.chem_text.proofs.Lines.{slice_from, line_with_lf, last_line}
 use Rattle.chem_text.proofs.line.line_at.Goals as goal
 
 pub returns-in-Some-clause-line : goal.returns-in-Some-clause-line

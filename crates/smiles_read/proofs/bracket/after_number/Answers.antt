@@ -2,6 +2,7 @@ use Rattle.std.proofs.Common.{◌≡◌, ◌∙◌, sym, ◌++◌, refl, arith, 
 use Rattle.std.proofs.lemmas.Option.{same_Some}
 use Rattle.std.specs.Fmt.{decimal}
 use Rattle.smiles_read.specs.Owed.Digits.{same_digits, decimal_digits}
+use Rattle.smiles_read.proofs.Results.{reads_none}
 use Rattle.smiles_read.proofs.bracket.after_number.Goals as goal
 use Rattle.smiles_read.proofs.bracket.after_number.Goals.{then-number-eq0-via-then-number-eq0, then-number-eq0-via-else-number-eq0+then-number-most}
 
@@ -36,3 +37,14 @@ returns c = record {
       (same_digits c.digits_at.result.0.now (decimal n) c.digits_at.result.1.now rest c.digits_at.ensures.digits
       (decimal_digits n (omega arith)) c.digits_at.ensures.all after (sym c.digits_at.ensures.split ∙ h)).1;
 }
+
+pub returns-in_err-number : goal.returns-in_err-number
+returns-in_err-number c =
+    reads_none (λ r. (tt, r.now)) c.from_residual.result c.from_residual.ensures (λ n rest is after h.
+        let most = c.requires in
+        let few = is.1 in
+        let same = same_digits c.digits_at.result.0.now (decimal n) c.digits_at.result.1.now rest
+            c.digits_at.ensures.digits (decimal_digits n (omega arith)) c.digits_at.ensures.all after
+            (sym c.digits_at.ensures.split ∙ h) in
+        let none = c.in_err-number.ensures.only n (omega arith) same.0 in
+        cc)
