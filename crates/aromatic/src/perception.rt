@@ -14,6 +14,7 @@ use crate::huckel::{find_atoms, find_bonds};
 use crate::table::Row;
 use chem_core::{Sketch, SketchAtom, SketchBond};
 use std::alloc::{AllocError, Global};
+use thiserror::Error;
 
 /// What perception finds: whether each atom and each bond is aromatic, and the valence of each atom, by their places.
 #[derive(Debug, Drop)]
@@ -26,12 +27,14 @@ pub struct Arom {
 }
 
 /// Why perception fails.
-#[derive(Clone, Copy, Debug, PartialEq, Eq, Drop)]
+#[derive(Clone, Copy, Debug, PartialEq, Eq, Drop, Error)]
 pub enum AromFault {
     /// The first atom that is written in lower case and is not aromatic, or is not in lower case and has a bond `:`, by
     /// its place as written.
+    #[error("atom {0} is not aromatic")]
     Aromatic(u16),
     /// Memory ran out.
+    #[error("out of memory")]
     NoMemory,
 }
 

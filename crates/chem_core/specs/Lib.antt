@@ -1,5 +1,6 @@
 pub mod Graph
 pub mod Element
+pub mod Enumerated
 pub mod Sketch
 pub mod Sound
 pub mod Molecule

@@ -8,31 +8,12 @@ use Rattle.chem_core.specs.declared.mol.Atom.{Atom}
 use Rattle.chem_core.specs.declared.mol.Bond.{Bond}
 use Rattle.chem_core.specs.declared.sketch.SketchAtom.{SketchAtom}
 use Rattle.chem_core.specs.declared.sketch.SketchBond.{SketchBond}
+use Rattle.chem_core.specs.Enumerated.{mapped-more}
 use Rattle.chem_core.specs.Sketch.{SketchTerm}
 use Rattle.chem_core.specs.Molecule.{IsAtom, IsMolecule, bond_ends}
 use Rattle.chem_core.specs.RingFacts.{AreRingBonds, AreSmallestRings}
 use Rattle.chem_core.specs.Sound.{IsSketchAtom, IsSound, sketch_ends}
 use Rattle.mol_finish.specs.Meant.{meant_atom, meant_bond, meant_atoms, meant_bonds, meant}
-
-enumerate_from-append : {X : Type 0} (n : ℕ) (xs ys : List X) → enumerate_from n (xs ++ ys) ≡ enumerate_from n xs
-    ++ enumerate_from (n + length xs) ys
-enumerate_from-append n [] ys = ap (λ k. enumerate_from k ys) (omega arith)
-enumerate_from-append n (x ∷ xs) ys =
-    ap (λ zs. (n, x) ∷ zs) (enumerate_from-append (n + 1) xs ys
-    ∙ ap (λ k. enumerate_from (n + 1) xs ++ enumerate_from k ys) (omega arith))
-
--- one more element, with its place
-enumerate-more : {X : Type 0} (xs : List X) (i : ℕ) (d : X) → i < length xs → enumerate_from 0 (take (i + 1) xs)
-    ≡ enumerate_from 0 (take i xs) ++ (i, get_or xs i d) ∷ []
-enumerate-more xs i d h =
-    let len : 0 + length (take i xs) ≡ i = omega (arith, length-take-le i xs (omega arith)) in
-    ap (enumerate_from 0) (take_more xs i d h) ∙ enumerate_from-append 0 (take i xs) (get_or xs i d ∷ [])
-    ∙ ap (λ k. enumerate_from 0 (take i xs) ++ (k, get_or xs i d) ∷ []) len
-
-mapped-more : {X Y : Type 0} (f : ℕ × X → Y) (xs : List X) (i : ℕ) (d : X) → i < length xs
-    → map f (enumerate_from 0 (take (i + 1) xs)) ≡ map f (enumerate_from 0 (take i xs)) ++ f (i, get_or xs i d) ∷ []
-mapped-more f xs i d within = ap (map f) (enumerate-more xs i d within) ∙ map-append f (enumerate_from 0 (take i xs))
-    ((i, get_or xs i d) ∷ [])
 
 -- one more atom
 pub atoms-more : (aromatic : List Bool) (valences : List ℕ) (xs : List SketchAtom) (i : ℕ) (d : SketchAtom)

@@ -7,6 +7,7 @@ use Rattle.std.proofs.lemmas.List.Elements.{All-from_recursion}
 use Rattle.std.specs.List.{enumerate_from, AllByRecursion}
 use Rattle.std.specs.Option.{IfSome}
 use Rattle.std.specs.Prelude.{if◌then◌else◌, unwrap_or, ℤ, pos, negsuc, neg_ℤ, ◌≤ℤ◌}
+use Rattle.chem_core.specs.Enumerated.{mapped-more}
 use Rattle.chem_core.specs.declared.sketch.SketchAtom.{SketchAtom}
 use Rattle.chem_core.specs.declared.sketch.Fill.{Fill}
 use Rattle.chem_core.specs.declared.sketch.Fill.TheVariants.{Table, Fixed}
@@ -146,23 +147,11 @@ pub length-sketch_atoms : (settings : List Setting) (atoms : List AtomLine) → 
 length-sketch_atoms settings atoms = length-map {B = SketchAtom} (enumerate_from 0 atoms)
     (λ (p : ℕ × AtomLine). sketch_atom settings p.0 p.1) ∙ length-enumerate_from 0 atoms
 
-enumerate_from-append : {X : Type 0} (n : ℕ) (xs ys : List X) → enumerate_from n (xs ++ ys) ≡ enumerate_from n xs
-    ++ enumerate_from (n + length xs) ys
-enumerate_from-append n [] ys = ap (λ k. enumerate_from k ys) (omega arith)
-enumerate_from-append n (x ∷ xs) ys =
-    ap (λ zs. (n, x) ∷ zs) (enumerate_from-append (n + 1) xs ys
-    ∙ ap (λ k. enumerate_from (n + 1) xs ++ enumerate_from k ys) (omega arith))
-
 -- one more atom
 pub atoms_more : (settings : List Setting) (xs : List AtomLine) (i : ℕ) (d : AtomLine) (made next : List SketchAtom)
     (one : SketchAtom) → i < length xs → made ≡ sketch_atoms settings (take i xs)
     → one ≡ sketch_atom settings i (get_or xs i d) → next ≡ made ++ one ∷ []
     → next ≡ sketch_atoms settings (take (i + 1) xs)
 atoms_more settings xs i d made next one within so_far is pushed =
-    let len : 0 + length (take i xs) ≡ i = omega (arith, length-take-le i xs (omega arith)) in
-    let f : ℕ × AtomLine → SketchAtom = λ p. sketch_atom settings p.0 p.1 in
-    let more : enumerate_from 0 (take (i + 1) xs) ≡ enumerate_from 0 (take i xs) ++ (i, get_or xs i d) ∷ [] =
-    ap (enumerate_from 0) (take_more xs i d within) ∙ enumerate_from-append 0 (take i xs) (get_or xs i d ∷ [])
-    ∙ ap (λ k. enumerate_from 0 (take i xs) ++ (k, get_or xs i d) ∷ []) len in
     pushed ∙ ap (λ ys. ys ++ one ∷ []) so_far ∙ ap (λ y. sketch_atoms settings (take i xs) ++ y ∷ []) is
-    ∙ sym (ap (map f) more ∙ map-append f (enumerate_from 0 (take i xs)) ((i, get_or xs i d) ∷ []))
+    ∙ sym (mapped-more (λ p. sketch_atom settings p.0 p.1) xs i d within)

@@ -12,7 +12,7 @@ use Rattle.chem_core.specs.Graph.{IsSimpleGraph}
 use Rattle.chem_core.specs.Sound.{IsSound, IsSketchAtom, IsFill, sketch_ends}
 use Rattle.valence.specs.Valence.{organic_valences, table_valences, anion_valences, cation_valences, bond_sum}
 use Rattle.valence.specs.Filled.{missing, missing_aromatic, hydrogens_of, filled_atom, filled}
-use Rattle.valence.proofs.Enumerated.{written-at, written-more}
+use Rattle.chem_core.specs.Enumerated.{written-at, written-more}
 
 -- a list of small numbers
 abbrev Small : List ℕ → Type 0

@@ -9,7 +9,7 @@ use Rattle.std.specs.Prelude.{pos}
 use Rattle.chem_core.specs.declared.sketch.Fill.TheVariants.{Given}
 use Rattle.chem_core.specs.declared.sketch.SketchBond.{SketchBond}
 use Rattle.valence.specs.Suppressed.{staying_atoms, renumbered}
-use Rattle.valence.proofs.Enumerated.{enumerate-more}
+use Rattle.chem_core.specs.Enumerated.{enumerate-more}
 
 -- the element at i of two lists that are one from i on
 same-at : {X : Type 0} (xs ys : List X) (i : ℕ) (d : X) → drop i ys ≡ drop i xs → get_or ys i d ≡ get_or xs i d

@@ -19,7 +19,7 @@ use Rattle.chem_core.specs.Sketch.{SketchTerm, ends_at}
 use Rattle.chem_core.specs.Graph.{degree}
 use Rattle.chem_core.specs.Sound.{IsSound, sketch_ends}
 use Rattle.valence.specs.Suppressed.{is_single_kind, is_plain_hydrogen, atom_is, is_heavy, leads_to_heavy, is_suppressed, new_place, brings, stays, staying_atoms, staying_bonds, renumbered, gained, suppressed}
-use Rattle.valence.proofs.Enumerated.{enumerate_from-append}
+use Rattle.chem_core.specs.Enumerated.{enumerate_from-append}
 use Rattle.valence.proofs.Sums.{degree_is, bond-in_graph}
 use Rattle.valence.proofs.Flags.{atom_is-at}
 use Rattle.valence.proofs.Kept.{staying-more}

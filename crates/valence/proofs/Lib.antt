@@ -1,4 +1,3 @@
-pub mod Enumerated
 pub mod Sums
 pub mod Hydrogens
 pub mod Flags

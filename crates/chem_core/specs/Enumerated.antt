@@ -1,4 +1,5 @@
--- Lists whose elements are written one after another, each by its place.
+-- Lists whose elements are written one after another, each by its place. For proofs alone: here stand lemmas, and no
+-- definition that a reader must believe.
 use Rattle.std.proofs.Common.{ℕ, ◌+◌, ◌<◌, ◌≡◌, List, [], ◌∷◌, ◌++◌, length, map, take, drop, get_or, set, ap, ◌∙◌, arith}
 use Rattle.std.specs.List.{enumerate_from}
 use Rattle.std.proofs.lemmas.List.{take_more, drop_more, length-take-le, map-append, set_at, length-map, get_or_at, append_assoc}
@@ -18,6 +19,12 @@ enumerate-more xs i d h =
     let len : 0 + length (take i xs) ≡ i = omega (arith, length-take-le i xs (omega arith)) in
     ap (enumerate_from 0) (take_more xs i d h) ∙ enumerate_from-append 0 (take i xs) (get_or xs i d ∷ [])
     ∙ ap (λ k. enumerate_from 0 (take i xs) ++ (k, get_or xs i d) ∷ []) len
+
+-- one more element, mapped with its place
+pub mapped-more : {X Y : Type 0} (f : ℕ × X → Y) (xs : List X) (i : ℕ) (d : X) → i < length xs
+    → map f (enumerate_from 0 (take (i + 1) xs)) ≡ map f (enumerate_from 0 (take i xs)) ++ f (i, get_or xs i d) ∷ []
+mapped-more f xs i d within = ap (map f) (enumerate-more xs i d within) ∙ map-append f (enumerate_from 0 (take i xs))
+    ((i, get_or xs i d) ∷ [])
 
 -- the element at i, where those before it are written
 pub written-at : {X : Type 0} (f : ℕ × X → X) (xs : List X) (i : ℕ) (d : X) → i < length xs
