@@ -24,7 +24,7 @@ use Rattle.valence.proofs.Sums.{degree_is, bond-in_graph}
 use Rattle.valence.proofs.Flags.{atom_is-at}
 use Rattle.valence.proofs.Kept.{staying-more}
 use Rattle.valence.proofs.Renumbering.{new_place-more, new_place-lt, new_place-one}
-use Rattle.valence.proofs.Staying.{length-staying, same_drawing}
+use Rattle.valence.proofs.Staying.{length-staying, same_sketch}
 
 some_atom : SketchAtom
 some_atom = record { number = 0; isotope = 0; charge = pos 0; lower = false; fill = Given; hydrogens = 0; written = 0 }
@@ -430,7 +430,7 @@ suppressed-none t h =
     let n : gained t ≡ (λ (a : ℕ). 0) = fun_ext (λ (a : ℕ). ap (λ (f : ℕ → Bool). count_by (brings f a) t.bonds) g
     ∙ gain-none a t.bonds) in
     let p : new_place none ≡ (λ (a : ℕ). a) = fun_ext place-none in
-    same_drawing (suppressed t).atoms t.atoms (suppressed t).bonds t.bonds
+    same_sketch (suppressed t).atoms t.atoms (suppressed t).bonds t.bonds
     (ap (λ (f : ℕ → Bool). staying_atoms f (gained t) t.atoms) g ∙ ap (λ (f : ℕ → ℕ). staying_atoms none f t.atoms) n
     ∙ atoms-none 0 t.atoms)
     (ap (λ (f : ℕ → Bool). staying_bonds f (new_place f) t.bonds) g ∙ ap (λ (f : ℕ → ℕ). staying_bonds none f t.bonds) p

@@ -330,9 +330,9 @@ new_place-front goes n a h = new_place-agree (gone (take n goes)) (gone goes) a 
 abbrev pub number_at : List ℕ → ℕ → ℕ
 number_at xs k = get_or xs k 0
 
-pub same_drawing : (xs ys : List SketchAtom) (ps qs : List SketchBond) → xs ≡ ys → ps ≡ qs
+pub same_sketch : (xs ys : List SketchAtom) (ps qs : List SketchBond) → xs ≡ ys → ps ≡ qs
     → ◌≡◌ {A = SketchTerm} (record { atoms = xs; bonds = ps }) (record { atoms = ys; bonds = qs })
-same_drawing xs ys ps qs e f = λ i. record { atoms = e i; bonds = f i }
+same_sketch xs ys ps qs e f = λ i. record { atoms = e i; bonds = f i }
 
 pub bonds-in_range : (s : SketchTerm) → IsSound s → All (λ b. (b.a < 999) × (b.b < 999)) s.bonds
 bonds-in_range s sound k d h =
@@ -353,7 +353,7 @@ suppressed-is s goes gains places atoms bonds sound going gaining placing es fs 
     let g : gone goes ≡ is_suppressed s = fun_ext going in
     let n : number_at gains ≡ gained s =
     fun_ext (λ (a : ℕ). gaining a ∙ ap (λ (f : ℕ → Bool). count_by (brings f a) s.bonds) g) in
-    same_drawing atoms (suppressed s).atoms bonds (suppressed s).bonds
+    same_sketch atoms (suppressed s).atoms bonds (suppressed s).bonds
     (es ∙ ap (λ (f : ℕ → Bool). staying_atoms f (number_at gains) s.atoms) g
     ∙ ap (λ (f : ℕ → ℕ). staying_atoms (is_suppressed s) f s.atoms) n)
     (fs ∙ places-agree (gone goes) (number_at places) (new_place (gone goes)) s.bonds (length s.atoms) (λ k d h.

@@ -5,7 +5,7 @@ use Rattle.chem_core.specs.Sound.{IsSound}
 use Rattle.chem_core.specs.declared.sketch.SketchBond.{SketchBond}
 use Rattle.valence.specs.Suppressed.{is_suppressed, brings, staying_atoms, staying_bonds}
 use Rattle.valence.proofs.Sums.{bond-in_graph, brought-le}
-use Rattle.valence.proofs.Staying.{gone, new_place-front, number_at, same_drawing, bonds-in_range, few_at, suppressed-is, suppressed-sound}
+use Rattle.valence.proofs.Staying.{gone, new_place-front, number_at, same_sketch, bonds-in_range, few_at, suppressed-is, suppressed-sound}
 use Rattle.valence.proofs.suppression.take_hydrogens.Goals as goal
 
 pub suppressed_atoms-goes-requires-clause-in_range :
@@ -64,13 +64,13 @@ returns-clause-suppressed c =
     let goes = c.suppressed_atoms-goes.result in
     let atoms = ap (λ s. s.atoms) c.sketch.view_is in
     let bonds = ap (λ s. s.bonds) c.sketch.view_is in
-    let drawing = same_drawing _ _ _ _ c.deref.ensures.value c.deref-2.ensures.value ∙ c.sketch.view_is in
+    let same_lists = same_sketch _ _ _ _ c.deref.ensures.value c.deref-2.ensures.value ∙ c.sketch.view_is in
     let few = c.requires.sound.graph.few_atoms in
     let count : c.len.result ≡ length s.atoms = omega (arith, ap length atoms) in
     let long : length goes ≡ 999 = search rules in
     let front : length (take c.len.result goes) ≡ c.len.result = length-take-le c.len.result goes (omega arith) in
     suppressed-is s goes c.gains-gains.result c.new_places-places.result _ _ c.requires.sound
-    (λ a. c.suppressed_atoms-goes.ensures a ∙ ap (λ (t : SketchTerm). is_suppressed t a) drawing)
+    (λ a. c.suppressed_atoms-goes.ensures a ∙ ap (λ (t : SketchTerm). is_suppressed t a) same_lists)
     (λ a. c.gains-gains.ensures a ∙ ap (λ (bs : List SketchBond). count_by (brings (gone goes) a) bs)
     (c.deref-3.ensures.value ∙ bonds))
     (λ a h. c.new_places-places.ensures a (omega (arith, front)) ∙ new_place-front goes c.len.result a (omega arith))
