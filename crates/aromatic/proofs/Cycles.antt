@@ -1,24 +1,16 @@
 -- A bond lies on a Hückel cycle exactly where its one end is joined to its other end by a path that closes to one.
-use Rattle.std.proofs.Common.{zero, suc, ℕ, ◌+◌, ◌-◌, ◌%◌, ◌<◌, ◌≤◌, ◌≡◌, ◌≢◌, ◌⊎◌, ◌↔◌, inl, inr, Bool, true, false, List, [], ◌∷◌, ◌++◌, length, map, take, drop, reverse, get_or, All, AllPairs, Contains, IsPermutation, Option, None, Some, IsSome, option_map, option_and_then, if◌then◌else◌, not, ◌&&◌, sum_by, slice_get, refl, sym, ap, subst, ◌∙◌, arith}
+use Rattle.std.proofs.Common.{zero, suc, ℕ, ◌+◌, ◌-◌, ◌%◌, ◌<◌, ◌≤◌, ◌≡◌, ◌≢◌, ◌⊎◌, ◌↔◌, inl, inr, Bool, true, false, List, [], ◌∷◌, ◌++◌, length, map, take, drop, reverse, get_or, All, AllPairs, Contains, IsPermutation, Option, None, Some, IsSome, sum_by, slice_get, refl, sym, ap, subst, ◌∙◌, arith}
 use Rattle.std.proofs.Math.Nat.{mod-eq_of_lt, mod_self}
 use Rattle.std.proofs.lemmas.List.{get_or_append_left, get_or-append_right, get_or-drop, get_or-take, get_or-reverse, get_or_default, get_or_past, get_or-map, length-append, length-drop, length-take-le, length-reverse, length-map, take-append-drop}
 use Rattle.std.proofs.lemmas.List.Sorted.{IsPermutation-append_comm, IsPermutation-reverse, All-permutation, sum_by-IsPermutation}
-use Rattle.std.proofs.lemmas.Option.{slice_get_within, slice_get_past, same_Some}
+use Rattle.std.proofs.lemmas.Option.{slice_get_within, same_Some}
 use Rattle.std.proofs.lemmas.Bool.{cases_lt, false≢true}
-use Rattle.chem_core.specs.Sketch.{SketchTerm}
-use Rattle.chem_core.specs.Sound.{IsSound, sketch_ends, ends_among}
-use Rattle.chem_core.specs.Graph.{Ends, JoinsAt, IsSimpleGraph, next_place}
-use Rattle.aromatic.specs.Electrons.{electrons, row_at, row_of, environment_of, is_eligible}
-use Rattle.aromatic.specs.Huckel.{IsHuckelBy, IsHuckelCycle, IsAromaticAtom, IsRefused, IsFirstRefused, IsPerceived, has_colon, bonded, adds_one}
-use Rattle.std.specs.List.{enumerate_from}
-use Rattle.chem_core.specs.declared.sketch.SketchAtom.{SketchAtom}
-use Rattle.chem_core.specs.RingFacts.{AreRingBonds}
+use Rattle.chem_core.specs.Graph.{Ends, JoinsAt, next_place}
+use Rattle.aromatic.specs.Huckel.{IsHuckelBy}
 use Rattle.aromatic.specs.declared.links.Link.{Link}
-use Rattle.aromatic.specs.Links.{AreClosed, AreLinks, AreMutual, IsCandidateAt, IsLinkBelow, links_at}
-use Rattle.aromatic.specs.Route.{AreAromaticAtoms, AreAromaticBonds, AreMarksBelow, AreRows, CanReach, Completes, IsAromaticBy, IsMarkedEnd, IsNet, IsRoute, IsTrail, atoms_of, given_at, last_of}
-use Rattle.aromatic.proofs.Tallies.{refused, valence_by}
+use Rattle.aromatic.specs.Links.{AreClosed, AreMutual, IsCandidateAt, IsLinkBelow, links_at}
+use Rattle.aromatic.specs.Route.{AreMarksBelow, CanReach, Completes, IsAromaticBy, IsNet, IsRoute, IsTrail, atoms_of, given_at, last_of}
 use Rattle.aromatic.proofs.Routes.{atom_at, length-atoms_of}
-use Rattle.aromatic.specs.declared.table.Row.{Row}
 
 -- the place after p on a cycle of n
 next_is : (n p q : ℕ) → p < n → q < n → (p + 1 ≡ q) ⊎ (p + 1 ≡ q + n) → (p + 1) % n ≡ q

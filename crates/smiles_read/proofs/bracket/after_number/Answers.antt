@@ -41,10 +41,10 @@ returns c = record {
 pub returns-in_err-number : goal.returns-in_err-number
 returns-in_err-number c =
     reads_none (λ r. (tt, r.now)) c.from_residual.result c.from_residual.ensures (λ n rest is after h.
-        let most = c.requires in
-        let few = is.1 in
-        let same = same_digits c.digits_at.result.0.now (decimal n) c.digits_at.result.1.now rest
-            c.digits_at.ensures.digits (decimal_digits n (omega arith)) c.digits_at.ensures.all after
-            (sym c.digits_at.ensures.split ∙ h) in
-        let none = c.in_err-number.ensures.only n (omega arith) same.0 in
-        cc)
+    let most = c.requires in
+    let few = is.1 in
+    let same = same_digits c.digits_at.result.0.now (decimal n) c.digits_at.result.1.now rest
+    c.digits_at.ensures.digits (decimal_digits n (omega arith)) c.digits_at.ensures.all after
+    (sym c.digits_at.ensures.split ∙ h) in
+    let none = c.in_err-number.ensures.only n (omega arith) same.0 in
+    cc)

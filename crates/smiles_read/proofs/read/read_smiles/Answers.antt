@@ -1,9 +1,9 @@
-use Rattle.std.proofs.Common.{◌≡◌, ◌<◌, ◌≢◌, ◌≤◌, inr, List, length, sym, ap, subst, ◌∙◌}
+use Rattle.std.proofs.Common.{◌<◌, ◌≢◌, ◌≤◌, inr, List, length, sym, ap, subst, ◌∙◌}
 use Rattle.std.specs.List.{All, AllByRecursion}
 use Rattle.chem_core.specs.declared.sketch.SketchBond.{SketchBond}
 use Rattle.chem_core.specs.Sketch.{SketchTerm}
 use Rattle.chem_core.specs.Sound.{IsSound}
-use Rattle.smiles_read.specs.Sketch.{numbered, IsSketchOf}
+use Rattle.smiles_read.specs.Sketch.{IsSketchOf}
 use Rattle.smiles_read.specs.Reading.{IsWithinLimits}
 use Rattle.smiles_read.proofs.Answer.{AreFew, sketch_of, answered, sketch_sound, sketch_hydrogens, sketch_ends_apart}
 use Rattle.smiles_read.proofs.read.read_smiles.Goals as goal
