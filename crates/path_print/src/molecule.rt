@@ -1,12 +1,12 @@
 //! The print of a molecule.
-ghost use Rattle.std.specs.Prelude.{◌≡◌, ◌<◌, [], ◌∷◌, ◌++◌, length, IfSome, IfNone};
+ghost use Rattle.std.specs.Prelude.{◌≡◌, ◌<◌, length, Contains};
 ghost use Rattle.chem_core.specs.Graph.{JoinsAt};
 ghost use Rattle.chem_core.specs.Molecule.{ends_of};
 ghost use Rattle.path_print.specs.Prints.{known_of, kind_byte, molecule_view, IsPrint};
-ghost use Rattle.path_print.specs.Texts.{IsOn, IsOneLonger, IsBitFrom, NoneFrom, SetsBits, last_of};
+ghost use Rattle.path_print.specs.Texts.{IsOn, IsOneLonger, IsBitFrom, SetsBits, last_of};
 
 use crate::known::Known;
-use crate::path::Path;
+use crate::path::{MOST, Path};
 use chem_core::{Atom, BondKind, Mol, Print};
 
 /// The bits of all paths of the molecule.
@@ -32,19 +32,21 @@ fn walk(mol: &Mol, path: &Path, print: &mut Print)
     }
     let neighbours = mol.neighbours(path.last());
     for (to, bond) in neighbours {
-        if let Some(longer) = step(mol, path, *to, *bond) {
+        if !path.has(*to) {
+            let longer = step(mol, path, *to, *bond);
             walk(mol, &longer, print);
         }
     }
 }
 
-// The path that goes on to a neighbour by the bond between. `None` where no path does.
+// The path that goes on to a new neighbour by the bond between.
 #[inline(always)]
-fn step(mol: &Mol, path: &Path, to: u16, bond: u16) -> Option<Path>
+fn step(mol: &Mol, path: &Path, to: u16, bond: u16) -> Path
     requires path { IsOn (molecule_view mol.now) path.now }
     requires joined { JoinsAt (ends_of mol.now) bond (last_of path.now.atoms) to }
-    ensures some { IfSome result (IsOneLonger (molecule_view mol.now) path.now to) }
-    ensures none { IfNone result (NoneFrom (molecule_view mol.now) (path.now.atoms ++ to ∷ [])) }
+    requires new { Contains path.now.atoms to → ⊥ }
+    requires room { length path.now.atoms < MOST }
+    ensures { IsOneLonger (molecule_view mol.now) path.now to result }
 {
     let byte = byte_of(mol.bonds()[usize::from(bond)].kind);
     path.longer(to, byte, known(&mol.atoms()[usize::from(to)]))

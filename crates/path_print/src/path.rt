@@ -1,7 +1,7 @@
 //! Paths under way: the atoms so far, and the text in each family of labels.
-ghost use Rattle.std.specs.Prelude.{◌≡◌, ◌<◌, ◌≤◌, ◌+◌, ◌⊎◌, ◌↔◌, length, Contains, None, IsTrue, IfSome, IfNone, option_and_then};
+ghost use Rattle.std.specs.Prelude.{◌≡◌, ◌<◌, ◌↔◌, length, Contains, None, IsTrue};
 ghost use Rattle.chem_core.specs.Bits.{HasBit};
-ghost use Rattle.path_print.specs.Texts.{longer_if, path_start, path_longer, IsBitHere, IsBitOf, SetsBits, last_of, own_bit};
+ghost use Rattle.path_print.specs.Texts.{path_start, path_longer, IsBitHere, IsBitOf, SetsBits, last_of};
 
 use crate::known::Known;
 use crate::text::Text;
@@ -14,10 +14,10 @@ pub const MOST: usize = 5;
 /// A path under way. Contracts see its atoms and its texts.
 #[derive(Drop)]
 pub struct Path {
-    atoms: [u16; 5],
+    exact: Text,
+    plain: Text,
     count: usize,
-    exact: Option<Text>,
-    plain: Option<Text>,
+    atoms: [u16; 5],
 }
 
 impl Model for Path {
@@ -37,10 +37,10 @@ impl Path {
         ensures { result ≡ path_start atom known }
     {
         Path {
-            atoms: [atom, 0, 0, 0, 0],
+            exact: Text::of(known.exact()),
+            plain: Text::of(known.plain()),
             count: 1,
-            exact: known.exact().map(|label| Text::of(label)),
-            plain: known.plain().map(|label| Text::of(label)),
+            atoms: [atom, 0, 0, 0, 0],
         }
     }
 
@@ -60,32 +60,36 @@ impl Path {
         self.atoms[self.count - 1]
     }
 
-    /// The path that goes on to an atom by a bond with this byte. `None` where it is full, where the atom is in it, and
-    /// where it has no text.
+    /// Whether the atom is in it.
     #[inline(always)]
-    pub fn longer(&self, atom: u16, byte: u8, known: Known) -> Option<Path>
-        ensures value { IfSome result (λ p. p ≡ path_longer self.now atom byte known) }
-        ensures new { IfSome result (λ _. Contains self.now.atoms atom → ⊥) }
-        ensures room { IfSome result (λ _. length self.now.atoms < MOST) }
-        ensures none { IfNone result ((length self.now.atoms ≡ MOST) ⊎ Contains self.now.atoms atom
-            ⊎ ((path_longer self.now atom byte known).exact ≡ None) × ((path_longer self.now atom byte known).plain ≡ None)) }
+    pub fn has(&self, atom: u16) -> bool
+        ensures { IsTrue result ↔ Contains self.now.atoms atom }
     {
-        if self.is_full() || self.atoms[..self.count].contains(&atom) {
-            return None;
-        }
-        let exact = longer_text(&self.exact, byte, known.exact());
-        let plain = longer_text(&self.plain, byte, known.plain());
-        if exact.is_none() && plain.is_none() {
-            return None;
-        }
+        self.atoms[..self.count].contains(&atom)
+    }
+
+    /// Whether it has no text, and so no path that goes on from it has.
+    #[inline(always)]
+    pub fn has_no_text(&self) -> bool
+        ensures { IsTrue result ↔ ((self.now.exact ≡ None) × (self.now.plain ≡ None)) }
+    {
+        self.exact.is_none() && self.plain.is_none()
+    }
+
+    /// The path that goes on to an atom by a bond with this byte.
+    #[inline(always)]
+    pub fn longer(&self, atom: u16, byte: u8, known: Known) -> Path
+        requires { length self.now.atoms < MOST }
+        ensures { result ≡ path_longer self.now atom byte known }
+    {
         let mut atoms = self.atoms;
         atoms[self.count] = atom;
-        Some(Path {
-            atoms,
+        Path {
+            exact: self.exact.longer(byte, known.exact()),
+            plain: self.plain.longer(byte, known.plain()),
             count: self.count + 1,
-            exact,
-            plain,
-        })
+            atoms,
+        }
     }
 
     /// Sets the bit of each of its texts.
@@ -98,34 +102,12 @@ impl Path {
     }
 }
 
-#[inline(always)]
-fn longer_text(text: &Option<Text>, byte: u8, label: Option<(u8, u8)>) -> Option<Text>
-    requires { IfSome text.now (λ t. length t.there ≤ 11) }
-    ensures { result ≡ longer_if text.now byte label }
-{
-    match (text, label) {
-        (Some(text), Some(label)) => Some(text.longer(byte, label)),
-        _ => None,
-    }
-}
-
-#[inline(always)]
-fn bit_of(text: &Option<Text>) -> Option<u16>
-    ensures value { result ≡ option_and_then own_bit text.now }
-    ensures small { IfSome result (λ bit. bit < 1024) }
-{
-    match text {
-        Some(text) => text.bit(),
-        None => None,
-    }
-}
-
 // Sets the bit of a text, if there is one.
 #[inline(always)]
-fn mark_text(text: &Option<Text>, print: &mut Print)
+fn mark_text(text: &Text, print: &mut Print)
     ensures bits { SetsBits (IsBitOf text.now) print.old print.new }
 {
-    if let Some(bit) = bit_of(text) {
+    if let Some(bit) = text.bit() {
         print.set(bit);
     }
 }

@@ -8,34 +8,17 @@ use Rattle.path_print.specs.Texts.{IsBitFrom, IsBitHere, SetsBits, last_of}
 use Rattle.path_print.proofs.Ways.{IsBitVia, sets_more, sets_none, sets_from, sets_full}
 use Rattle.path_print.proofs.Molecules.{byte_neighbour, ends_within}
 use Rattle.path_print.proofs.molecule.+walk.Goals as goal
-use Rattle.path_print.proofs.molecule.+walk.Goals.{in-Some, in_default}
 
 pub returns-then-is_full : goal.returns-then-is_full
 returns-then-is_full t c =
     sets_full (molecule_view c.args.mol.now) c.args.path.now c.requires.path (c.is_full.ensures.0 c.if-is_full.true) c.args.print.now c.mark.new.print c.mark.ensures.bits
 
-pub step-requires-clause-joined : goal.step-requires-clause-joined
-step-requires-clause-joined t c =
+pub step-longer-requires-clause-joined : goal.step-longer-requires-clause-joined
+step-longer-requires-clause-joined t c =
     let pairs = c.neighbours-neighbours.result.now in
     let pair : ℕ × ℕ = get_or pairs c.loop-to.to-index (0, 0) in
     let joined : JoinsAt (ends_of c.args.mol.now) pair.1 c.last.result pair.0 = c.neighbours-neighbours.ensures.each.joined pair.0 pair.1 (Contains-get_or pairs c.loop-to.to-index (0, 0) c.loop-to-test.true) in
     subst (λ x. JoinsAt (ends_of c.args.mol.now) pair.1 x pair.0) c.last.ensures joined
-
-pub loop-to-preserved : goal.loop-to-preserved
-loop-to-preserved t c =
-    let views = molecule_view c.args.mol.now in
-    let atoms = c.args.path.now.atoms in
-    let pairs = c.neighbours-neighbours.result.now in
-    sets_more (IsBitHere c.args.path.now) (λ k bit. IsBitFrom views (atoms ++ (get_or pairs k (0, 0)).0 ∷ []) bit) c.loop-to.to-index c.args.print.now c.loop-to.print c.match-step.print c.loop-to.invariant
-    (elim c.match-step.branch [
-      | in-Some w ↦
-          let longer = w.in-Some.ensures.some in
-          subst (λ print. SetsBits (IsBitFrom views (atoms ++ (get_or pairs c.loop-to.to-index (0, 0)).0 ∷ [])) c.loop-to.print print) (sym w.print-is)
-          (subst (λ xs. SetsBits (IsBitFrom views xs) c.loop-to.print w.walk.new.print) longer.atoms w.walk.ensures)
-      | in_default w ↦
-          subst (λ print. SetsBits (IsBitFrom views (atoms ++ (get_or pairs c.loop-to.to-index (0, 0)).0 ∷ [])) c.loop-to.print print) (sym w.print-is)
-          (sets_none (IsBitFrom views (atoms ++ (get_or pairs c.loop-to.to-index (0, 0)).0 ∷ [])) c.loop-to.print w.in_default.ensures.none)
-    ])
 
 pub returns : goal.returns
 returns t c =
@@ -48,13 +31,5 @@ returns t c =
     c.args.print.now c.loop-to.print
     (subst (λ n. SetsBits (λ bit. IsBitHere c.args.path.now bit ⊎ IsBitVia views c.args.path.now.atoms (λ k. (get_or pairs k (0, 0)).0) n bit) c.args.print.now c.loop-to.print) whole c.loop-to.invariant)
 
-pub walk-requires : goal.walk-requires
-walk-requires t c =
-    let longer = c.in-Some.ensures.some in
-    let one : length c.in-Some.longer.atoms ≡ length c.args.path.now.atoms + 1 = ap length longer.atoms ∙ length-append c.args.path.now.atoms _ in
-    let short = longer.on.short in
-    let pairs = c.neighbours-neighbours.result.now in
-    let pair : ℕ × ℕ = get_or pairs c.loop-to.to-index (0, 0) in
-    let joined : JoinsAt (ends_of c.args.mol.now) pair.1 c.last.result pair.0 = c.neighbours-neighbours.ensures.each.joined pair.0 pair.1 (Contains-get_or pairs c.loop-to.to-index (0, 0) c.loop-to-test.true) in
-    let within : pair.0 < length c.args.mol.now.atoms = (ends_within c.args.mol.now pair.1 c.last.result pair.0 c.neighbours-neighbours.ensures.valid joined).2 in
-    (omega (arith, c.decreases), (longer.on, subst (λ x. x < length c.args.mol.now.atoms) (sym longer.last) within))
+pub loop-to-preserved : goal.loop-to-preserved
+loop-to-preserved t c = ?
