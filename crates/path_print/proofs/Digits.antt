@@ -1,5 +1,5 @@
 -- Strings as numbers: bytes at either end, order, and what they add to a hash.
-use Rattle.std.proofs.Common.{ℕ, zero, suc, ◌+◌, ◌-◌, ◌*◌, ◌/◌, ◌%◌, ◌^◌, ◌<◌, ◌≤◌, ◌≡◌, ◌≢◌, ◌⊎◌, inl, inr, Bool, true, false, cond, ltb, List, [], ◌∷◌, ◌++◌, length, get_or, fold, refl, sym, ap, ◌∙◌, append_assoc, lit≤, lit<, arith, rules}
+use Rattle.std.proofs.Common.{ℕ, zero, suc, ◌+◌, ◌-◌, ◌*◌, ◌/◌, ◌%◌, ◌^◌, ◌<◌, ◌≤◌, ◌≡◌, ◌≢◌, ◌⊎◌, inl, inr, Bool, true, false, cond, ltb, List, [], ◌∷◌, ◌++◌, length, get_or, fold, refl, sym, ap, ◌∙◌, append_assoc, lit≤, arith, rules}
 use Rattle.std.specs.declared.cmp.Ordering.{Ordering}
 use Rattle.std.specs.declared.cmp.Ordering.TheVariants.{Less, Equal, Greater}
 use Rattle.std.specs.Ordering.{nat_cmp, ordering_then, is_lt}
@@ -14,7 +14,7 @@ use Rattle.std.proofs.lemmas.List.{length-append, append-nil}
 use Rattle.std.proofs.lemmas.List.Sums.{fold-append}
 use Rattle.std.specs.Prelude.{None, Some}
 use Rattle.path_print.specs.Path.{hash_of}
-use Rattle.path_print.specs.Texts.{TextTerm, text_of, digits, own_bit, IsTextInside}
+use Rattle.path_print.specs.Texts.{digits, own_bit, IsTextInside}
 
 -- ---- bytes at the end
 
@@ -174,14 +174,6 @@ pub own_bit-no : (k m n : ℕ) → m < 256 ^ k → n < 256 ^ k → n < m → Non
 own_bit-no k m n hm hn lt = rw (slice_cmp-digits k n m hn hm, less n m lt)
 
 -- ---- texts
-
-pub text_some : (k m n : ℕ) → k ≢ 0 → text_of k m n ≡ Some (record { there = digits k m; back = digits k n })
-text_some zero m n ne = absurd (ne refl)
-text_some (suc k) m n ne = refl
-
-pub none_inside : IsTextInside 0 0 0 7
-unfolding digits
-none_inside = record { few = lit≤ tt; there_fits = lit< tt; back_fits = lit< tt; hashes = refl; small = lit< tt }
 
 digits-two : (n a b : ℕ) → a < 256 → b < 256 → n ≡ 65536 * 0 + 256 * a + b → digits 2 n ≡ a ∷ b ∷ []
 unfolding digits

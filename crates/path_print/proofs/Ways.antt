@@ -142,9 +142,6 @@ module _ (views : Family → View) (symmetric : (family : Family) (x y : ℕ) �
       no_text exact none r is = none-some r (sym (ap (option_map (λ t. t.there)) none.0) ∙ longer_there exact ∙ is)
       no_text plain none r is = none-some r (sym (ap (option_map (λ t. t.there)) none.1) ∙ longer_there plain ∙ is)
 
-  pub one_longer : (Contains p.atoms y → ⊥) → length p.atoms < 5 → (q : PathTerm) → q ≡ path_longer p y b known → IsOneLonger views p y q
-  one_longer new room q is = record { on = subst (IsOn views) (sym is) (longer_on new room); atoms = ap (λ z. z.atoms) is; last = ap (λ z. last_of z.atoms) is ∙ last-push p.atoms y }
-
   -- what a step gives
   pub step_some : (r : Option PathTerm) → IfSome r (λ q. q ≡ path_longer p y b known) → IfSome r (λ _. Contains p.atoms y → ⊥) → IfSome r (λ _. length p.atoms < 5) → IfSome r (IsOneLonger views p y)
   step_some None is new room = tt
@@ -331,23 +328,6 @@ below_all views n empty print within size none sets = record {
       | inl here ↦ first family bit atoms there back path (here ∙ ap Some (sym is))
       | inr other ↦ first family bit (reverse atoms) back there (path_back (views family) atoms there back path) (other ∙ ap Some (sym is))
     ]
-
--- no path goes on to an atom that is in it
-pub none_twice : (views : Family → View) (atoms : List ℕ) (y : ℕ) → Contains atoms y → NoneFrom views (atoms ++ y ∷ [])
-none_twice views atoms y there = λ bit from.
-    let path = from.4 in
-    let more : List ℕ = from.1 in
-    let lo : there.0 < length atoms = there.1 in
-    let count : length (atoms ++ y ∷ []) ≡ length atoms + 1 = length-append atoms (y ∷ []) in
-    let count2 : length ((atoms ++ y ∷ []) ++ more) ≡ length (atoms ++ y ∷ []) + length more = length-append (atoms ++ y ∷ []) more in
-    let hi : length atoms < length ((atoms ++ y ∷ []) ++ more) = omega arith in
-    let first : get_or ((atoms ++ y ∷ []) ++ more) there.0 y ≡ y = get_or_append_left (atoms ++ y ∷ []) more y there.0 (omega arith) ∙ get_or_append_left atoms (y ∷ []) y there.0 lo ∙ there.2 in
-    let second : get_or ((atoms ++ y ∷ []) ++ more) (length atoms) y ≡ y = get_or_append_left (atoms ++ y ∷ []) more y (length atoms) (omega arith) ∙ at atoms in
-    path.distinct there.0 (length atoms) y lo hi (first ∙ sym second)
-  where
-    at : (xs : List ℕ) → get_or (xs ++ y ∷ []) (length xs) y ≡ y
-    at [] = refl
-    at (x ∷ xs) = at xs
 
 -- without a bond that has a byte no path goes on
 pub none_without_byte : (views : Family → View) (p : PathTerm) → IsOn views p → (y : ℕ) → ((family : Family) (b : ℕ) → (views family).byte (last_of p.atoms) y ≡ Some b → ⊥) → NoneFrom views (p.atoms ++ y ∷ [])

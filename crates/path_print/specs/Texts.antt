@@ -1,5 +1,5 @@
 -- Strings of paths in both directions, and paths under way, for private clauses alone.
-use Rattle.std.specs.Prelude.{◌==◌, ◌≡◌, ◌≢◌, ◌⊎◌, ◌↔◌, ℕ, zero, suc, ◌+◌, ◌-◌, ◌*◌, ◌/◌, ◌%◌, ◌^◌, ◌<◌, ◌≤◌, Bool, List, [], ◌∷◌, ◌++◌, length, slice_index, reverse, AllPairs, Option, None, Some, IfSome, option_map, option_and_then, if◌then◌else◌}
+use Rattle.std.specs.Prelude.{◌≡◌, ◌≢◌, ◌⊎◌, ◌↔◌, ℕ, zero, suc, ◌+◌, ◌-◌, ◌*◌, ◌/◌, ◌%◌, ◌^◌, ◌<◌, ◌≤◌, Bool, List, [], ◌∷◌, ◌++◌, length, slice_index, reverse, AllPairs, Option, None, Some, IfSome, option_map, option_and_then, if◌then◌else◌}
 use Rattle.std.specs.Ordering.{nat_cmp, is_lt}
 use Rattle.std.specs.Cmp.Lexicographic.{slice_cmp}
 use Rattle.chem_core.specs.Bits.{HasBit}
@@ -27,10 +27,6 @@ own_bit t = if is_lt (slice_cmp nat_cmp t.back t.there) then None else Some (has
 unfoldable pub digits : ℕ → ℕ → List ℕ
 digits zero n = []
 digits (suc k) n = digits k (n / 256) ++ (n % 256) ∷ []
-
--- the strings of so many bytes; none for no bytes
-abbrev pub text_of : ℕ → ℕ → ℕ → Option TextTerm
-text_of count there back = if count == 0 then None else Some (record { there = digits count there; back = digits count back })
 
 -- what a text keeps about its fields
 pub record IsTextInside (count there back hash : ℕ) : Type 0 where

@@ -1,9 +1,9 @@
 //! The print of a molecule.
-ghost use Rattle.std.specs.Prelude.{◌≡◌, ◌<◌, length, Contains};
+ghost use Rattle.std.specs.Prelude.{◌≡◌, ◌<◌, ◌+◌, [], ◌∷◌, ◌++◌, ℕ, length, IfSome, IfNone};
 ghost use Rattle.chem_core.specs.Graph.{JoinsAt};
 ghost use Rattle.chem_core.specs.Molecule.{ends_of};
 ghost use Rattle.path_print.specs.Prints.{known_of, kind_byte, molecule_view, IsPrint};
-ghost use Rattle.path_print.specs.Texts.{IsOn, IsOneLonger, IsBitFrom, SetsBits, last_of};
+ghost use Rattle.path_print.specs.Texts.{IsOn, IsOneLonger, IsBitFrom, NoneFrom, SetsBits, last_of};
 
 use crate::known::Known;
 use crate::path::{MOST, Path};
@@ -15,38 +15,65 @@ pub fn print(mol: &Mol) -> Print
 {
     let mut print = Print::empty();
     for (place, atom) in mol.atoms().iter().enumerate() {
-        walk(mol, &Path::start(place as u16, known(atom)), &mut print);
+        FromOne::walk(mol, &Path::start(place as u16, known(atom)), &mut print);
     }
     print
 }
 
-// Sets the bits of all paths that begin with this one.
-fn walk(mol: &Mol, path: &Path, print: &mut Print)
-    requires path { IsOn (molecule_view mol.now) path.now }
-    requires atom { last_of path.now.atoms < length mol.now.atoms }
-    ensures { SetsBits (IsBitFrom (molecule_view mol.now) path.now.atoms) print.old print.new }
-{
-    path.mark(print);
-    if path.is_full() {
-        return;
+/// The walk on from a path of one atom, to five atoms at most.
+type FromOne = More<More<More<More<Full>>>>;
+
+/// A walk on from a path that has a given number of atoms.
+///
+/// Each number has a walk of its own, which has the next one in it, so that a path is kept in registers.
+trait Walk {
+    // how many atoms may still follow
+    ghost left: { ℕ };
+
+    // Sets the bits of all paths that begin with this one.
+    fn walk(mol: &Mol, path: &Path, print: &mut Print)
+        requires path { IsOn (molecule_view mol.now) path.now }
+        requires atom { last_of path.now.atoms < length mol.now.atoms }
+        requires left { length path.now.atoms + left ≡ MOST }
+        ensures { SetsBits (IsBitFrom (molecule_view mol.now) path.now.atoms) print.old print.new };
+}
+
+/// From a full path, which no path goes on from.
+struct Full;
+
+/// From a path to all neighbours of its last atom, and by `W` from each.
+struct More<W>(W);
+
+impl Walk for Full {
+    ghost left = { 0 };
+
+    #[inline(always)]
+    fn walk(_mol: &Mol, path: &Path, print: &mut Print) {
+        path.mark(print);
     }
-    let neighbours = mol.neighbours(path.last());
-    for (to, bond) in neighbours {
-        if !path.has(*to) {
-            let longer = step(mol, path, *to, *bond);
-            walk(mol, &longer, print);
+}
+
+impl<W: Walk> Walk for More<W> {
+    ghost left = { W.left + 1 };
+
+    #[inline(always)]
+    fn walk(mol: &Mol, path: &Path, print: &mut Print) {
+        path.mark(print);
+        for (to, bond) in mol.neighbours(path.last()) {
+            if let Some(longer) = step(mol, path, *to, *bond) {
+                W::walk(mol, &longer, print);
+            }
         }
     }
 }
 
-// The path that goes on to a new neighbour by the bond between.
+// The path that goes on to a neighbour by the bond between. `None` where no path does.
 #[inline(always)]
-fn step(mol: &Mol, path: &Path, to: u16, bond: u16) -> Path
+fn step(mol: &Mol, path: &Path, to: u16, bond: u16) -> Option<Path>
     requires path { IsOn (molecule_view mol.now) path.now }
     requires joined { JoinsAt (ends_of mol.now) bond (last_of path.now.atoms) to }
-    requires new { Contains path.now.atoms to → ⊥ }
-    requires room { length path.now.atoms < MOST }
-    ensures { IsOneLonger (molecule_view mol.now) path.now to result }
+    ensures some { IfSome result (IsOneLonger (molecule_view mol.now) path.now to) }
+    ensures none { IfNone result (NoneFrom (molecule_view mol.now) (path.now.atoms ++ to ∷ [])) }
 {
     let byte = byte_of(mol.bonds()[usize::from(bond)].kind);
     path.longer(to, byte, known(&mol.atoms()[usize::from(to)]))

@@ -1,7 +1,7 @@
 //! Paths under way: the atoms so far, and the text in each family of labels.
-ghost use Rattle.std.specs.Prelude.{◌≡◌, ◌<◌, ◌↔◌, length, Contains, None, IsTrue};
+ghost use Rattle.std.specs.Prelude.{◌≡◌, ◌<◌, ◌≤◌, ◌+◌, ◌⊎◌, ◌↔◌, length, Contains, None, IsTrue, IfSome, IfNone, option_and_then};
 ghost use Rattle.chem_core.specs.Bits.{HasBit};
-ghost use Rattle.path_print.specs.Texts.{path_start, path_longer, IsBitHere, IsBitOf, SetsBits, last_of};
+ghost use Rattle.path_print.specs.Texts.{longer_if, path_start, path_longer, IsBitHere, IsBitOf, SetsBits, last_of, own_bit};
 
 use crate::known::Known;
 use crate::text::Text;
@@ -14,10 +14,10 @@ pub const MOST: usize = 5;
 /// A path under way. Contracts see its atoms and its texts.
 #[derive(Drop)]
 pub struct Path {
-    exact: Text,
-    plain: Text,
-    count: usize,
     atoms: [u16; 5],
+    count: usize,
+    exact: Option<Text>,
+    plain: Option<Text>,
 }
 
 impl Model for Path {
@@ -37,10 +37,10 @@ impl Path {
         ensures { result ≡ path_start atom known }
     {
         Path {
-            exact: Text::of(known.exact()),
-            plain: Text::of(known.plain()),
-            count: 1,
             atoms: [atom, 0, 0, 0, 0],
+            count: 1,
+            exact: known.exact().map(|label| Text::of(label)),
+            plain: known.plain().map(|label| Text::of(label)),
         }
     }
 
@@ -60,36 +60,32 @@ impl Path {
         self.atoms[self.count - 1]
     }
 
-    /// Whether the atom is in it.
+    /// The path that goes on to an atom by a bond with this byte. `None` where it is full, where the atom is in it, and
+    /// where it has no text.
     #[inline(always)]
-    pub fn has(&self, atom: u16) -> bool
-        ensures { IsTrue result ↔ Contains self.now.atoms atom }
+    pub fn longer(&self, atom: u16, byte: u8, known: Known) -> Option<Path>
+        ensures value { IfSome result (λ p. p ≡ path_longer self.now atom byte known) }
+        ensures new { IfSome result (λ _. Contains self.now.atoms atom → ⊥) }
+        ensures room { IfSome result (λ _. length self.now.atoms < MOST) }
+        ensures none { IfNone result ((length self.now.atoms ≡ MOST) ⊎ Contains self.now.atoms atom
+            ⊎ ((path_longer self.now atom byte known).exact ≡ None) × ((path_longer self.now atom byte known).plain ≡ None)) }
     {
-        self.atoms[..self.count].contains(&atom)
-    }
-
-    /// Whether it has no text, and so no path that goes on from it has.
-    #[inline(always)]
-    pub fn has_no_text(&self) -> bool
-        ensures { IsTrue result ↔ ((self.now.exact ≡ None) × (self.now.plain ≡ None)) }
-    {
-        self.exact.is_none() && self.plain.is_none()
-    }
-
-    /// The path that goes on to an atom by a bond with this byte.
-    #[inline(always)]
-    pub fn longer(&self, atom: u16, byte: u8, known: Known) -> Path
-        requires { length self.now.atoms < MOST }
-        ensures { result ≡ path_longer self.now atom byte known }
-    {
+        if self.is_full() || self.atoms[..self.count].contains(&atom) {
+            return None;
+        }
+        let exact = longer_text(&self.exact, byte, known.exact());
+        let plain = longer_text(&self.plain, byte, known.plain());
+        if exact.is_none() && plain.is_none() {
+            return None;
+        }
         let mut atoms = self.atoms;
         atoms[self.count] = atom;
-        Path {
-            exact: self.exact.longer(byte, known.exact()),
-            plain: self.plain.longer(byte, known.plain()),
-            count: self.count + 1,
+        Some(Path {
             atoms,
-        }
+            count: self.count + 1,
+            exact,
+            plain,
+        })
     }
 
     /// Sets the bit of each of its texts.
@@ -102,12 +98,34 @@ impl Path {
     }
 }
 
+#[inline(always)]
+fn longer_text(text: &Option<Text>, byte: u8, label: Option<(u8, u8)>) -> Option<Text>
+    requires { IfSome text.now (λ t. length t.there ≤ 11) }
+    ensures { result ≡ longer_if text.now byte label }
+{
+    match (text, label) {
+        (Some(text), Some(label)) => Some(text.longer(byte, label)),
+        _ => None,
+    }
+}
+
+#[inline(always)]
+fn bit_of(text: &Option<Text>) -> Option<u16>
+    ensures value { result ≡ option_and_then own_bit text.now }
+    ensures small { IfSome result (λ bit. bit < 1024) }
+{
+    match text {
+        Some(text) => text.bit(),
+        None => None,
+    }
+}
+
 // Sets the bit of a text, if there is one.
 #[inline(always)]
-fn mark_text(text: &Text, print: &mut Print)
+fn mark_text(text: &Option<Text>, print: &mut Print)
     ensures bits { SetsBits (IsBitOf text.now) print.old print.new }
 {
-    if let Some(bit) = text.bit() {
+    if let Some(bit) = bit_of(text) {
         print.set(bit);
     }
 }

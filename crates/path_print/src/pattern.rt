@@ -10,7 +10,7 @@ ghost use Rattle.path_print.specs.Squares.{AreKnown, IsSimplePattern, IsSquare, 
 
 use crate::implied::{implied, implied_byte};
 use crate::known::Known;
-use crate::path::{MOST, Path};
+use crate::path::Path;
 use chem_core::Print;
 use smarts_parse::{Graph, Pattern};
 
@@ -106,7 +106,6 @@ fn step(graph: &Graph, known: &[Known], square: &[u8], path: &Path, atom: u16) -
     requires path { IsOn (graph_view (graph_of graph.now)) path.now }
     requires last { last_of path.now.atoms < length (graph_of graph.now).atoms }
     requires atom { atom < length (graph_of graph.now).atoms }
-    requires room { length path.now.atoms < MOST }
     ensures some { IfSome result (IsOneLonger (graph_view (graph_of graph.now)) path.now atom) }
     ensures none { IfNone result (NoneFrom (graph_view (graph_of graph.now)) (path.now.atoms ++ atom ∷ [])) }
 {
@@ -114,12 +113,5 @@ fn step(graph: &Graph, known: &[Known], square: &[u8], path: &Path, atom: u16) -
     if byte == 0 {
         return None;
     }
-    if path.has(atom) {
-        return None;
-    }
-    let longer = path.longer(atom, byte, known[usize::from(atom)]);
-    if longer.has_no_text() {
-        return None;
-    }
-    Some(longer)
+    path.longer(atom, byte, known[usize::from(atom)])
 }

@@ -2,8 +2,8 @@
 //!
 //! Each path is walked from both of its ends. So the bit is told from the end from which the string comes first, and the
 //! hash grows at its end alone.
-ghost use Rattle.std.specs.Prelude.{◌≡◌, ◌<◌, ◌≤◌, ◌+◌, ◌*◌, ◌↔◌, length, None, IsTrue, IfSome, option_map, option_and_then};
-ghost use Rattle.path_print.specs.Texts.{of_label, longer_if, own_bit};
+ghost use Rattle.std.specs.Prelude.{◌≡◌, ◌<◌, ◌≤◌, ◌+◌, ◌*◌, length, IfSome};
+ghost use Rattle.path_print.specs.Texts.{of_label, longer_text, own_bit};
 
 use std::marker::Model;
 
@@ -16,9 +16,7 @@ const SEED: u64 = 7;
 /// What the bytes so far are multiplied by, before the next byte is added.
 const FACTOR: u64 = 131;
 
-/// The string of a path in its two directions, if its labels are known. Contracts see it as two lists of bytes, if any.
-///
-/// It is no `Option`, since it is copied at every step: a length of 0 stands for none, in this file alone.
+/// The string of a path in its two directions. Contracts see it as two lists of bytes.
 #[derive(Drop)]
 pub struct Text {
     // The strings as numbers, the first byte highest.
@@ -30,67 +28,35 @@ pub struct Text {
 }
 
 impl Model for Text {
-    ghost use Rattle.std.specs.Prelude.{Option};
-    ghost use Rattle.path_print.specs.Texts.{TextTerm, text_of, IsTextInside};
+    ghost use Rattle.path_print.specs.Texts.{TextTerm, digits, IsTextInside};
 
-    ghost Value = { Option TextTerm };
+    ghost Value = { TextTerm };
 
-    ghost view = { λ t. text_of t.length t.there t.back };
+    ghost view = { λ t. record { there = digits t.length t.there; back = digits t.length t.back } };
 
     ghost invariant = { λ t. IsTextInside t.length t.there t.back t.hash };
 }
 
 impl Text {
     /// The text of one atom.
-    pub fn of(label: Option<(u8, u8)>) -> Text
-        ensures { result ≡ option_map of_label label }
+    pub fn of(label: (u8, u8)) -> Text
+        ensures { result ≡ of_label label }
     {
-        match label {
-            Some(label) => {
-                let number = number_of(0, label.0, label.1);
-                Text {
-                    there: number,
-                    back: number,
-                    hash: (SEED * FACTOR * FACTOR + sum_of(0, label.0, label.1)) % PRIME,
-                    length: 2,
-                }
-            }
-            None => Text::none(),
-        }
-    }
-
-    #[inline(always)]
-    fn none() -> Text
-        ensures { result ≡ None }
-    {
+        let number = number_of(0, label.0, label.1);
         Text {
-            there: 0,
-            back: 0,
-            hash: SEED,
-            length: 0,
+            there: number,
+            back: number,
+            hash: (SEED * FACTOR * FACTOR + sum_of(0, label.0, label.1)) % PRIME,
+            length: 2,
         }
-    }
-
-    /// Whether there is none.
-    #[inline(always)]
-    pub fn is_none(&self) -> bool
-        ensures { IsTrue result ↔ (self.now ≡ None) }
-    {
-        self.length == 0
     }
 
     /// The text of a path that goes on to one more atom.
     #[inline(always)]
-    pub fn longer(&self, byte: u8, label: Option<(u8, u8)>) -> Text
-        requires { IfSome self.now (λ t. length t.there ≤ 11) }
-        ensures { result ≡ longer_if self.now byte label }
+    pub fn longer(&self, byte: u8, label: (u8, u8)) -> Text
+        requires { length self.now.there ≤ 11 }
+        ensures { result ≡ longer_text self.now byte label }
     {
-        if self.length == 0 {
-            return Text::none();
-        }
-        let Some(label) = label else {
-            return Text::none();
-        };
         let tail = sum_of(byte, label.0, label.1);
         Text {
             there: (self.there << 24) + number_of(byte, label.0, label.1),
@@ -103,12 +69,9 @@ impl Text {
     /// The bit of the path, unless its string comes first in the other direction.
     #[inline(always)]
     pub fn bit(&self) -> Option<u16>
-        ensures value { result ≡ option_and_then own_bit self.now }
+        ensures value { result ≡ own_bit self.now }
         ensures small { IfSome result (λ bit. bit < 1024) }
     {
-        if self.length == 0 {
-            return None;
-        }
         if self.back < self.there {
             None
         } else {

@@ -7,7 +7,7 @@ use Rattle.path_print.specs.Path.{Family, label_of}
 use Rattle.path_print.specs.Prints.{known_of, kind_byte, molecule_view}
 use Rattle.path_print.specs.Texts.{last_of}
 use Rattle.path_print.proofs.Molecules.{molecule_symmetric, ends_within, joined_byte, atom_label}
-use Rattle.path_print.proofs.Ways.{one_longer}
+use Rattle.path_print.proofs.Ways.{step_some, step_none}
 use Rattle.path_print.proofs.molecule.step.Goals as goal
 
 pub byte_is : (c : goal.After-longer) (family : Family) → (molecule_view c.args.mol.now family).byte (last_of c.args.path.now.atoms) c.args.to ≡ Some c.byte_of-byte.result
@@ -22,6 +22,10 @@ label_is c family =
     atom_label c.args.mol.now family c.args.to d (ends_within c.args.mol.now c.args.bond (last_of c.args.path.now.atoms) c.args.to c.bonds.ensures.valid c.requires.joined).2
     ∙ ap (λ k. label_of family (known_of (get_or c.args.mol.now.atoms k d))) (sym c.from-2.ensures) ∙ ap (λ xs. label_of family (known_of (get_or xs c.from-2.result d))) (sym c.atoms.ensures.value) ∙ ap (label_of family) (sym c.known.ensures)
 
-pub returns : goal.returns
-returns c =
-    one_longer (molecule_view c.args.mol.now) (molecule_symmetric c.args.mol.now) c.args.path.now c.requires.path c.args.to c.byte_of-byte.result c.known.result (byte_is c) (label_is c) c.requires.new c.requires.room c.longer.result c.longer.ensures
+pub returns-clause-some : goal.returns-clause-some
+returns-clause-some c =
+    step_some (molecule_view c.args.mol.now) (molecule_symmetric c.args.mol.now) c.args.path.now c.requires.path c.args.to c.byte_of-byte.result c.known.result (byte_is c) (label_is c) c.longer.result c.longer.ensures.value c.longer.ensures.new c.longer.ensures.room
+
+pub returns-clause-none : goal.returns-clause-none
+returns-clause-none c =
+    step_none (molecule_view c.args.mol.now) (molecule_symmetric c.args.mol.now) c.args.path.now c.requires.path c.args.to c.byte_of-byte.result c.known.result (byte_is c) (label_is c) c.longer.result c.longer.ensures.none
