@@ -1,4 +1,4 @@
-use Rattle.std.proofs.Common.{ℕ, ◌-◌, ◌⊎◌, length}
+use Rattle.std.proofs.Common.{◌-◌, ◌⊎◌, length}
 use Rattle.smarts_parse.specs.Pattern.{graph_of}
 use Rattle.path_print.specs.Prints.{graph_view}
 use Rattle.path_print.specs.Texts.{IsBitHere, SetsBits}

@@ -1,4 +1,4 @@
-use Rattle.std.proofs.Common.{ℕ, ◌<◌, ◌≡◌, List, inl, inr, replicate, get_or}
+use Rattle.std.proofs.Common.{ℕ, ◌≡◌, List, inl, inr, replicate, get_or}
 use Rattle.std.proofs.lemmas.Bool.{cases_lt}
 use Rattle.std.proofs.lemmas.List.{get_or-replicate, get_or_past, length-replicate}
 use Rattle.path_print.proofs.pattern.blank_square.Goals as goal

@@ -1,8 +1,7 @@
-use Rattle.std.proofs.Common.{ℕ, ◌<◌, ◌≤◌, ◌≡◌, None, length, get_or, sym, ap, subst, arith}
+use Rattle.std.proofs.Common.{◌<◌, ◌≤◌, ◌≡◌, None, length, get_or, sym, ap, subst, arith}
 use Rattle.std.proofs.lemmas.List.{length-map}
 use Rattle.smarts_parse.specs.Pattern.{pattern_of, graph_of}
 use Rattle.path_print.specs.declared.known.Known.{Known}
-use Rattle.path_print.specs.Path.{Family}
 use Rattle.path_print.specs.Prints.{graph_view}
 use Rattle.path_print.specs.Squares.{IsSheet}
 use Rattle.path_print.specs.Texts.{IsBitFrom, IsOn, SetsBits}

@@ -1,4 +1,4 @@
-use Rattle.std.proofs.Common.{ℕ, ◌⊎◌, get_or}
+use Rattle.std.proofs.Common.{◌⊎◌, get_or}
 use Rattle.path_print.specs.Prints.{molecule_view}
 use Rattle.path_print.specs.Texts.{IsBitHere, SetsBits}
 use Rattle.path_print.proofs.Ways.{IsBitVia}
