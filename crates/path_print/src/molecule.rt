@@ -6,7 +6,7 @@ ghost use Rattle.path_print.specs.Prints.{known_of, kind_byte, molecule_view, Is
 ghost use Rattle.path_print.specs.Texts.{IsOn, IsOneLonger, IsBitFrom, NoneFrom, SetsBits, last_of};
 
 use crate::known::Known;
-use crate::path::{MOST, Path};
+use crate::path::{FromOne, Full, MOST, More, Path};
 use chem_core::{Atom, BondKind, Mol, Print};
 
 /// The bits of all paths of the molecule.
@@ -20,12 +20,9 @@ pub fn print(mol: &Mol) -> Print
     print
 }
 
-/// The walk on from a path of one atom, to five atoms at most.
-type FromOne = More<More<More<More<Full>>>>;
-
-/// A walk on from a path that has a given number of atoms.
+/// A walk on from a path of a molecule that has a given number of atoms.
 ///
-/// Each number has a walk of its own, which has the next one in it, so that a path is kept in registers.
+/// Each number has a walk of its own, which has the next one in it. So the compiler keeps a path under way in registers.
 trait Walk {
     // how many atoms may still follow
     ghost left: { ℕ };
@@ -37,12 +34,6 @@ trait Walk {
         requires left { length path.now.atoms + left ≡ MOST }
         ensures { SetsBits (IsBitFrom (molecule_view mol.now) path.now.atoms) print.old print.new };
 }
-
-/// From a full path, which no path goes on from.
-struct Full;
-
-/// From a path to all neighbours of its last atom, and by `W` from each.
-struct More<W>(W);
 
 impl Walk for Full {
     ghost left = { 0 };

@@ -11,6 +11,15 @@ use std::marker::Model;
 /// The most atoms of a path.
 pub const MOST: usize = 5;
 
+/// No atom may follow: a path of five.
+pub struct Full;
+
+/// One more atom may follow, and after it what `W` says.
+pub struct More<W>(W);
+
+/// What may follow a path of one atom.
+pub type FromOne = More<More<More<More<Full>>>>;
+
 /// A path under way. Contracts see its atoms and its texts.
 #[derive(Drop)]
 pub struct Path {

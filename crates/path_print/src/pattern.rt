@@ -10,7 +10,7 @@ ghost use Rattle.path_print.specs.Squares.{AreKnown, IsSimplePattern, IsSquare, 
 
 use crate::implied::{implied, implied_byte};
 use crate::known::Known;
-use crate::path::Path;
+use crate::path::{FromOne, Full, MOST, More, Path};
 use chem_core::Print;
 use smarts_parse::{Graph, Pattern};
 
@@ -31,7 +31,7 @@ pub fn need(pattern: &Pattern) -> Print
     let mut print = Print::empty();
     for atom in 0..graph.atoms.len() {
         let path = Path::start(atom as u16, known[atom]);
-        walk(graph, &known, &square, &path, &mut print);
+        FromOne::walk(graph, &known, &square, &path, &mut print);
     }
     print
 }
@@ -81,20 +81,39 @@ fn write(square: &mut [u8], a: usize, b: usize, byte: u8)
     square[SIDE * b + a] = byte;
 }
 
-// Sets the bits of all paths that begin with this one.
-fn walk(graph: &Graph, known: &[Known], square: &[u8], path: &Path, print: &mut Print)
-    requires sheet { IsSheet (graph_of graph.now) known.now square.now }
-    requires path { IsOn (graph_view (graph_of graph.now)) path.now }
-    requires atom { last_of path.now.atoms < length (graph_of graph.now).atoms }
-    ensures { SetsBits (IsBitFrom (graph_view (graph_of graph.now)) path.now.atoms) print.old print.new }
-{
-    path.mark(print);
-    if path.is_full() {
-        return;
+/// A walk on from a path of a graph that has a given number of atoms. Each has the next one in it, as for molecules.
+trait Walk {
+    // how many atoms may still follow
+    ghost left: { ℕ };
+
+    // Sets the bits of all paths that begin with this one.
+    fn walk(graph: &Graph, known: &[Known], square: &[u8], path: &Path, print: &mut Print)
+        requires sheet { IsSheet (graph_of graph.now) known.now square.now }
+        requires path { IsOn (graph_view (graph_of graph.now)) path.now }
+        requires atom { last_of path.now.atoms < length (graph_of graph.now).atoms }
+        requires left { length path.now.atoms + left ≡ MOST }
+        ensures { SetsBits (IsBitFrom (graph_view (graph_of graph.now)) path.now.atoms) print.old print.new };
+}
+
+impl Walk for Full {
+    ghost left = { 0 };
+
+    #[inline(always)]
+    fn walk(_graph: &Graph, _known: &[Known], _square: &[u8], path: &Path, print: &mut Print) {
+        path.mark(print);
     }
-    for atom in 0..graph.atoms.len() {
-        if let Some(longer) = step(graph, known, square, path, atom as u16) {
-            walk(graph, known, square, &longer, print);
+}
+
+impl<W: Walk> Walk for More<W> {
+    ghost left = { W.left + 1 };
+
+    #[inline(always)]
+    fn walk(graph: &Graph, known: &[Known], square: &[u8], path: &Path, print: &mut Print) {
+        path.mark(print);
+        for atom in 0..graph.atoms.len() {
+            if let Some(longer) = step(graph, known, square, path, atom as u16) {
+                W::walk(graph, known, square, &longer, print);
+            }
         }
     }
 }
