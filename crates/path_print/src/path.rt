@@ -79,7 +79,7 @@ impl Path {
         ensures none { IfNone result ((length self.now.atoms ≡ MOST) ⊎ Contains self.now.atoms atom
             ⊎ ((path_longer self.now atom byte known).exact ≡ None) × ((path_longer self.now atom byte known).plain ≡ None)) }
     {
-        if self.is_full() || self.atoms[..self.count].contains(&atom) {
+        if self.is_full() || self.has(atom) {
             return None;
         }
         let exact = longer_text(&self.exact, byte, known.exact());
@@ -95,6 +95,39 @@ impl Path {
             exact,
             plain,
         })
+    }
+
+    // Whether the atom is in it. Each place is compared by itself, so that the atoms stay in registers.
+    #[inline(always)]
+    fn has(&self, atom: u16) -> bool
+        ensures { IsTrue result ↔ Contains self.now.atoms atom }
+    {
+        let [first, second, third, fourth, fifth] = self.atoms;
+        if atom == first {
+            return true;
+        }
+        if self.count == 1 {
+            return false;
+        }
+        if atom == second {
+            return true;
+        }
+        if self.count == 2 {
+            return false;
+        }
+        if atom == third {
+            return true;
+        }
+        if self.count == 3 {
+            return false;
+        }
+        if atom == fourth {
+            return true;
+        }
+        if self.count == 4 {
+            return false;
+        }
+        atom == fifth
     }
 
     /// Sets the bit of each of its texts.
