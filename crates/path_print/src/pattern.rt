@@ -27,7 +27,8 @@ pub fn need(pattern: &Pattern) -> Print
 {
     let graph = &pattern.top;
     let known = known_atoms(graph);
-    let square = square_of(graph);
+    let mut square = [0; PLACES];
+    fill(&mut square, graph);
     let mut print = Print::empty();
     for atom in 0..graph.atoms.len() {
         let path = Path::start(atom as u16, known[atom]);
@@ -49,26 +50,19 @@ fn known_atoms(graph: &Graph) -> [Known; SIDE]
     known
 }
 
-// The byte that each bond implies, at its ends either way round; 0 where none does.
-fn square_of(graph: &Graph) -> [u8; PLACES]
-    requires { IsSimplePattern SIDE (graph_of graph.now).bonds }
-    ensures square { IsSquare (graph_of graph.now).bonds result }
-    ensures size { length result ≡ PLACES }
+// Writes the byte that each bond implies, at its ends either way round, into a square of zeros.
+fn fill(square: &mut [u8], graph: &Graph)
+    requires pattern { IsSimplePattern SIDE (graph_of graph.now).bonds }
+    requires zero { (i : ℕ) → slice_index square.old i ≡ 0 }
+    requires size { length square.old ≡ PLACES }
+    ensures square { IsSquare (graph_of graph.now).bonds square.new }
+    ensures size { length square.new ≡ PLACES }
 {
-    let mut square = blank_square();
     for bond in &graph.bonds {
         if let Some(byte) = implied_byte(&bond.expr) {
-            write(&mut square, usize::from(bond.a), usize::from(bond.b), byte);
+            write(square, usize::from(bond.a), usize::from(bond.b), byte);
         }
     }
-    square
-}
-
-fn blank_square() -> [u8; PLACES]
-    ensures zero { (i : ℕ) → slice_index result i ≡ 0 }
-    ensures size { length result ≡ PLACES }
-{
-    [0; PLACES]
 }
 
 fn write(square: &mut [u8], a: usize, b: usize, byte: u8)
