@@ -20,11 +20,10 @@ pub fn print(mol: &Mol) -> Print
     print
 }
 
-/// A walk on from a path of a molecule that has a given number of atoms.
-///
-/// Each number has a walk of its own, which has the next one in it. So the compiler keeps a path under way in registers.
+// The walk on from a path, one for each number of atoms that may still follow. Each has the next one in its loop, so that
+// the compiler keeps a path under way in registers.
 trait Walk {
-    // how many atoms may still follow
+    // how many atoms may follow
     ghost left: { ℕ };
 
     // Sets the bits of all paths that begin with this one.

@@ -11,13 +11,13 @@ use std::marker::Model;
 /// The most atoms of a path.
 pub const MOST: usize = 5;
 
-/// No atom may follow: a path of five.
+/// No atom may follow.
 pub struct Full;
 
-/// One more atom may follow, and after it what `W` says.
+/// One atom may follow, and behind it those of `W`.
 pub struct More<W>(W);
 
-/// What may follow a path of one atom.
+/// A path of one atom, which four may follow.
 pub type FromOne = More<More<More<More<Full>>>>;
 
 /// A path under way. Contracts see its atoms and its texts.
@@ -97,7 +97,7 @@ impl Path {
         })
     }
 
-    // Whether the atom is in it. Each place is compared by itself, so that the atoms stay in registers.
+    // Whether the atom is in it. There is no slice and no loop, so that the compiler keeps the atoms in registers.
     #[inline(always)]
     fn has(&self, atom: u16) -> bool
         ensures { IsTrue result ↔ Contains self.now.atoms atom }

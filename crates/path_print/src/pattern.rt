@@ -75,9 +75,9 @@ fn write(square: &mut [u8], a: usize, b: usize, byte: u8)
     square[SIDE * b + a] = byte;
 }
 
-/// A walk on from a path of a graph that has a given number of atoms. Each has the next one in it, as for molecules.
+// The walk on from a path, one for each number of atoms that may still follow, as for molecules.
 trait Walk {
-    // how many atoms may still follow
+    // how many atoms may follow
     ghost left: { ℕ };
 
     // Sets the bits of all paths that begin with this one.
