@@ -1,21 +1,19 @@
 -- An embedding carries the paths of a pattern to paths of the molecule with the same strings.
-use Rattle.std.proofs.Common.{ℕ, zero, suc, ◌+◌, ◌<◌, ◌≤◌, ◌≡◌, ◌≢◌, ◌⊎◌, inl, inr, Bool, true, false, eqb, List, [], ◌∷◌, ◌++◌, length, get_or, map, reverse, AllPairs, All, refl, sym, ap, ◌∙◌, subst, ⊎_elim, arith, rules}
-use Rattle.std.specs.Prelude.{Option, None, Some, option_map, option_and_then, find, ◌&&◌, ◌||◌, ◌==◌}
+use Rattle.std.proofs.Common.{ℕ, zero, suc, ◌<◌, ◌≡◌, ◌⊎◌, inl, inr, true, List, [], ◌∷◌, ◌++◌, length, get_or, map, reverse, refl, sym, ap, ◌∙◌, subst, ⊎_elim, arith}
+use Rattle.std.specs.Prelude.{Some, option_map, find}
 use Rattle.std.specs.List.{slice_get}
-use Rattle.std.proofs.lemmas.Bool.{cases_lt, cases_eq, false≢true}
+use Rattle.std.proofs.lemmas.Bool.{cases_lt, cases_eq}
 use Rattle.std.proofs.lemmas.Bool.Decides.{nat_tests}
-use Rattle.std.proofs.lemmas.List.{get_or-map, length-map, map-append, get_or_default}
+use Rattle.std.proofs.lemmas.List.{get_or-map, length-map, map-append}
 use Rattle.std.proofs.lemmas.Grind.{reverse_onto}
-use Rattle.std.proofs.lemmas.Option.{none-some, same_Some, some_pair_parts, slice_get_within, slice_get-map, slice_get-get_or, get_or_from_slice_get}
+use Rattle.std.proofs.lemmas.Option.{none-some, same_Some, some_pair_parts, slice_get_within, slice_get-map, get_or_from_slice_get}
 use Rattle.chem_core.specs.declared.mol.Bond.{Bond}
-use Rattle.chem_core.specs.Graph.{Ends, JoinsAt, IsSimpleGraph}
+use Rattle.chem_core.specs.Graph.{JoinsAt, IsSimpleGraph}
 use Rattle.chem_core.specs.Molecule.{Molecule, IsMolecule, bond_ends, ends_of}
-use Rattle.smarts_parse.specs.declared.pattern.AtomPrim.{AtomPrim}
-use Rattle.smarts_parse.specs.Pattern.{Term, BondTerm, GraphTerm, PatternTerm}
-use Rattle.smarts_parse.specs.Embedding.{BondEmbeds, IsEmbedding, PartsHold, Matches}
+use Rattle.smarts_parse.specs.Pattern.{GraphTerm}
+use Rattle.smarts_parse.specs.Embedding.{BondEmbeds, IsEmbedding}
 use Rattle.path_print.specs.Path.{Family, View, string_of, IsPath}
-use Rattle.path_print.specs.Implied.{implied, implied_byte}
-use Rattle.path_print.specs.Prints.{kind_byte, are_ends, molecule_view, graph_view}
+use Rattle.path_print.specs.Prints.{are_ends, molecule_view, graph_view}
 use Rattle.path_print.proofs.Options.{and_then_some, map_some, find_there, find_some}
 use Rattle.path_print.proofs.Truths.{label_is_so, byte_is_so}
 

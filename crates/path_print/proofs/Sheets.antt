@@ -1,25 +1,23 @@
 -- What a pattern's expressions imply, as it is written into a row and a square.
-use Rattle.std.proofs.Common.{ℕ, zero, suc, ◌+◌, ◌-◌, ◌*◌, ◌<◌, ◌≤◌, ◌≡◌, ◌≢◌, ◌⊎◌, inl, inr, Bool, true, false, cond, eqb, List, [], ◌∷◌, ◌++◌, length, get_or, set, map, take, Contains, refl, sym, ap, ◌∙◌, subst, ⊎_elim, arith}
+use Rattle.std.proofs.Common.{ℕ, zero, suc, ◌+◌, ◌*◌, ◌<◌, ◌≤◌, ◌≡◌, ◌≢◌, ◌⊎◌, inl, inr, Bool, true, false, cond, List, [], ◌∷◌, ◌++◌, length, get_or, set, map, take, refl, sym, ap, ◌∙◌, subst, ⊎_elim, arith, replicate}
 use Rattle.std.specs.Prelude.{Option, None, Some, option_map, option_and_then, find, unwrap_or}
 use Rattle.std.specs.List.{slice_get}
-use Rattle.std.proofs.lemmas.Bool.{cases_lt, cases_eq, false≢true}
-use Rattle.std.proofs.lemmas.List.{length-set, length-map, length-append, length-take-le, take_more, get_or-map, get_or-set_same, get_or-set_other}
+use Rattle.std.proofs.lemmas.Bool.{cases_eq, false≢true, cases_lt}
+use Rattle.std.proofs.lemmas.List.{length-set, length-map, length-take-le, take_more, get_or-map, get_or-set_same, get_or-set_other, get_or-replicate, get_or_past, length-replicate}
 use Rattle.std.proofs.lemmas.Option.{none-some, same_Some, slice_get_within, slice_get-map, slice_get-get_or, get_or_from_slice_get}
-use Rattle.chem_core.specs.Graph.{Ends, JoinsAt}
+use Rattle.chem_core.specs.Graph.{JoinsAt}
 use Rattle.smarts_parse.specs.Pattern.{Term, Prim, Not, And, Or, BondTerm, GraphTerm}
 use Rattle.smarts_parse.specs.Sound.{IsSoundGraph}
 use Rattle.smarts_parse.specs.declared.pattern.BondPrim.{BondPrim}
 use Rattle.smarts_parse.specs.declared.pattern.BondPrim.TheVariants as bonds
 use Rattle.path_print.specs.declared.known.Known.{Known}
-use Rattle.path_print.specs.Path.{Family, exact, plain, label_of, View, string_of}
-use Rattle.path_print.specs.Implied.{implied, implied_byte, prim_byte, either, alike}
+use Rattle.path_print.specs.Path.{Family, label_of}
+use Rattle.path_print.specs.Implied.{implied, implied_byte, prim_byte}
 use Rattle.path_print.specs.Prints.{are_ends, graph_view}
-use Rattle.path_print.specs.Squares.{AreKnown, IsSquare, IsSimplePattern, IsSheet}
-use Rattle.path_print.specs.Texts.{PathTerm, IsOn, IsBitFrom, NoneFrom, last_of}
-use Rattle.path_print.proofs.Options.{and_then_some, find_there, find_some, either_some, alike_some}
+use Rattle.path_print.specs.Squares.{IsSquare, IsSimplePattern, IsSheet}
+use Rattle.path_print.proofs.Options.{and_then_some, find_there, either_some, alike_some}
 use Rattle.path_print.proofs.Carries.{ends_cases, ends_there, ends_back}
 use Rattle.path_print.proofs.Molecules.{find_same, ends_swap}
-use Rattle.path_print.proofs.Strings.{split_last, step_byte}
 
 -- ---- bytes
 
@@ -224,8 +222,10 @@ simple_wider m n bs le simple = record {
   once = simple.once;
 }
 
-pub square_blank : (square : List ℕ) → ((i : ℕ) → get_or square i 0 ≡ 0) → IsSquare [] square
-square_blank square zeros x y hx hy = zeros (256 * x + y)
+pub zeros : (n i : ℕ) → ◌≡◌ {A = ℕ} (get_or (replicate n 0) i 0) 0
+zeros n i =
+    let blank : List ℕ = replicate n 0 in
+    elim (cases_lt i n) [ inl l ↦ get_or-replicate n i 0 0 l | inr past ↦ get_or_past blank i 0 (rw length-replicate past) ]
 
 begins_take : (i : ℕ) (xs : List BondTerm) (j : ℕ) (c : BondTerm) → slice_get (take i xs) j ≡ Some c → slice_get xs j ≡ Some c
 begins_take zero xs j c h = absurd (none-some c h)

@@ -1,11 +1,10 @@
 -- Strings of paths that go on by one atom.
-use Rattle.std.proofs.Common.{ℕ, zero, suc, ◌+◌, ◌-◌, ◌<◌, ◌≤◌, ◌≡◌, List, [], ◌∷◌, ◌++◌, length, get_or, take, reverse, refl, sym, ap, ◌∙◌, arith}
+use Rattle.std.proofs.Common.{ℕ, ◌+◌, ◌-◌, ◌≤◌, ◌≡◌, List, [], ◌∷◌, ◌++◌, length, get_or, take, reverse, refl, sym, ap, ◌∙◌, arith}
 use Rattle.std.specs.Prelude.{Option, None, Some, option_map, option_and_then}
 use Rattle.std.proofs.Math.Seq.{take-length}
-use Rattle.std.proofs.lemmas.List.{append_assoc, append-nil, reverse-append, take_more}
-use Rattle.std.proofs.lemmas.Option.{none-some, same_Some}
-use Rattle.path_print.specs.Path.{◌>>=◌, Family, exact, plain, label_of, View, string_of}
-use Rattle.path_print.specs.Texts.{TextTerm, of_label, longer_text, longer_if}
+use Rattle.std.proofs.lemmas.List.{reverse-append, take_more}
+use Rattle.path_print.specs.Path.{View, string_of}
+use Rattle.path_print.specs.Texts.{TextTerm, longer_if}
 use Rattle.path_print.proofs.Options.{and_then_some, map_some}
 
 -- what a step adds at the end

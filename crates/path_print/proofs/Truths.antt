@@ -1,13 +1,11 @@
 -- Where an expression is true, what it implies is so.
-use Rattle.std.proofs.Common.{ℕ, ◌≡◌, ◌⊎◌, inl, inr, Bool, true, false, cond, List, refl, sym, ap, ◌∙◌, ⊎_elim, arith, rules, leb}
-use Rattle.std.specs.Prelude.{Option, None, Some, nat_eq, nat_le, option_map, option_and_then}
+use Rattle.std.proofs.Common.{ℕ, ◌≡◌, Bool, true, false, cond, refl, sym, ap, ◌∙◌, ⊎_elim, arith}
+use Rattle.std.specs.Prelude.{None, Some, nat_eq, nat_le}
 use Rattle.std.specs.List.{slice_get}
-use Rattle.std.proofs.lemmas.Option.{none-some, same_Some, some_pair_parts}
+use Rattle.std.proofs.lemmas.Option.{none-some, same_Some}
 use Rattle.std.proofs.lemmas.Bool.Decides.{nat_tests}
 use Rattle.chem_core.specs.declared.mol.Atom.{Atom}
 use Rattle.chem_core.specs.declared.mol.Bond.{Bond}
-use Rattle.chem_core.specs.declared.mol.BondKind.{BondKind}
-use Rattle.chem_core.specs.declared.mol.BondKind.TheVariants as kinds
 use Rattle.chem_core.specs.Molecule.{Molecule}
 use Rattle.smarts_parse.specs.declared.pattern.AtomPrim.{AtomPrim}
 use Rattle.smarts_parse.specs.declared.pattern.AtomPrim.TheVariants as atoms
@@ -15,10 +13,9 @@ use Rattle.smarts_parse.specs.declared.pattern.BondPrim.{BondPrim}
 use Rattle.smarts_parse.specs.declared.pattern.BondPrim.TheVariants as bonds
 use Rattle.smarts_parse.specs.Pattern.{Term, Prim, Not, And, Or}
 use Rattle.smarts_parse.specs.Truth.{AtomPrimTrue, AtomTrue, BondPrimTrue, BondTrue}
-use Rattle.path_print.specs.declared.known.Known.{Known}
-use Rattle.path_print.specs.Path.{Family, exact, plain, flag_of, label_of}
-use Rattle.path_print.specs.Implied.{nothing, either, alike, same_flag, prim_implies, implied, prim_byte, implied_byte}
-use Rattle.path_print.specs.Prints.{known_of, kind_byte, molecule_view}
+use Rattle.path_print.specs.Path.{Family, exact, plain, label_of}
+use Rattle.path_print.specs.Implied.{same_flag, prim_implies, implied, prim_byte, implied_byte}
+use Rattle.path_print.specs.Prints.{kind_byte, molecule_view}
 use Rattle.path_print.proofs.Options.{and_then_some, map_some, either_some, alike_some}
 
 eq-nat : (m n : ℕ) → nat_eq m n ≡ true → m ≡ n

@@ -1,7 +1,7 @@
 -- Walks that set the bits of all paths that begin with a path.
-use Rattle.std.proofs.Common.{ℕ, zero, suc, ◌+◌, ◌-◌, ◌%◌, ◌<◌, ◌≤◌, ◌≡◌, ◌≢◌, ◌⊎◌, ◌↔◌, inl, inr, Bool, true, false, cond, List, [], ◌∷◌, ◌++◌, length, get_or, take, reverse, AllPairs, Contains, refl, sym, ap, ◌∙◌, subst, ⊎_elim, lit≤, arith}
-use Rattle.std.specs.Prelude.{Option, None, Some, IfSome, IfNone, option_map, option_and_then}
-use Rattle.std.proofs.lemmas.Bool.{cases_lt, cases_eq}
+use Rattle.std.proofs.Common.{ℕ, ◌+◌, ◌-◌, ◌%◌, ◌<◌, ◌≤◌, ◌≡◌, ◌≢◌, ◌⊎◌, inl, inr, Bool, true, false, cond, List, [], ◌∷◌, ◌++◌, length, get_or, take, reverse, Contains, refl, sym, ap, ◌∙◌, subst, ⊎_elim, lit≤, arith}
+use Rattle.std.specs.Prelude.{Option, None, Some, IfSome, IfNone, option_map}
+use Rattle.std.proofs.lemmas.Bool.{cases_eq}
 use Rattle.std.specs.declared.cmp.Ordering.{Ordering}
 use Rattle.std.specs.declared.cmp.Ordering.TheVariants.{Less, Equal, Greater}
 use Rattle.std.specs.Ordering.{nat_cmp, is_lt, ordering_reverse}
@@ -15,9 +15,9 @@ use Rattle.path_print.specs.declared.known.Known.{Known}
 use Rattle.path_print.specs.Path.{Family, exact, plain, label_of, View, string_of, hash_of, bit_of, IsPath}
 use Rattle.path_print.specs.Texts.{TextTerm, PathTerm, text_in, longer_if, of_label, path_start, path_longer, IsOn, IsOneLonger, NoneFrom, IsBitHere, IsBitFrom, SetsBits, last_of, own_bit}
 use Rattle.path_print.specs.Prints.{HasPathBits}
-use Rattle.path_print.proofs.Options.{and_then_some, map_some}
+use Rattle.path_print.proofs.Options.{map_some}
 use Rattle.path_print.proofs.Carries.{labels_in}
-use Rattle.path_print.proofs.Strings.{string-push, string_prefix, step_byte, there_longer, back_longer, split_last}
+use Rattle.path_print.proofs.Strings.{string_prefix, step_byte, there_longer, back_longer, split_last}
 
 -- the bit of some path that goes on to one of the first i atoms of a row
 abbrev pub IsBitVia : (Family → View) → List ℕ → (ℕ → ℕ) → ℕ → ℕ → Type 0

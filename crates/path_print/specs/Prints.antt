@@ -1,5 +1,5 @@
 -- The print of a molecule and the need of a pattern, for callers.
-use Rattle.std.specs.Prelude.{◌≡◌, ◌↔◌, ℕ, Bool, ◌==◌, ◌&&◌, ◌||◌, List, length, slice_get, find, Option, Some, option_map, option_and_then}
+use Rattle.std.specs.Prelude.{◌≡◌, ◌↔◌, ℕ, Bool, ◌==◌, ◌&&◌, ◌||◌, List, length, slice_get, find, Some, option_map, option_and_then}
 use Rattle.chem_core.specs.declared.mol.Atom.{Atom}
 use Rattle.chem_core.specs.declared.mol.BondKind.{BondKind}
 use Rattle.chem_core.specs.declared.mol.BondKind.TheVariants as kinds

@@ -1,12 +1,12 @@
 //! The print of a molecule.
-ghost use Rattle.std.specs.Prelude.{◌≡◌, ◌<◌, [], ◌∷◌, ◌++◌, length, IfSome, IfNone};
+ghost use Rattle.std.specs.Prelude.{◌≡◌, ◌<◌, ◌+◌, [], ◌∷◌, ◌++◌, ℕ, length, IfSome, IfNone};
 ghost use Rattle.chem_core.specs.Graph.{JoinsAt};
 ghost use Rattle.chem_core.specs.Molecule.{ends_of};
 ghost use Rattle.path_print.specs.Prints.{known_of, kind_byte, molecule_view, IsPrint};
 ghost use Rattle.path_print.specs.Texts.{IsOn, IsOneLonger, IsBitFrom, NoneFrom, SetsBits, last_of};
 
 use crate::known::Known;
-use crate::path::Path;
+use crate::path::{FromOne, Full, MOST, More, Path};
 use chem_core::{Atom, BondKind, Mol, Print};
 
 /// The bits of all paths of the molecule.
@@ -15,25 +15,44 @@ pub fn print(mol: &Mol) -> Print
 {
     let mut print = Print::empty();
     for (place, atom) in mol.atoms().iter().enumerate() {
-        walk(mol, &Path::start(place as u16, known(atom)), &mut print);
+        FromOne::walk(mol, &Path::start(place as u16, known(atom)), &mut print);
     }
     print
 }
 
-// Sets the bits of all paths that begin with this one.
-fn walk(mol: &Mol, path: &Path, print: &mut Print)
-    requires path { IsOn (molecule_view mol.now) path.now }
-    requires atom { last_of path.now.atoms < length mol.now.atoms }
-    ensures { SetsBits (IsBitFrom (molecule_view mol.now) path.now.atoms) print.old print.new }
-{
-    path.mark(print);
-    if path.is_full() {
-        return;
+// The walk on from a path, one for each number of atoms that may still follow. Each has the next one in its loop, so that
+// the compiler keeps a path under way in registers.
+trait Walk {
+    // how many atoms may follow
+    ghost left: { ℕ };
+
+    // Sets the bits of all paths that begin with this one.
+    fn walk(mol: &Mol, path: &Path, print: &mut Print)
+        requires path { IsOn (molecule_view mol.now) path.now }
+        requires atom { last_of path.now.atoms < length mol.now.atoms }
+        requires left { length path.now.atoms + left ≡ MOST }
+        ensures { SetsBits (IsBitFrom (molecule_view mol.now) path.now.atoms) print.old print.new };
+}
+
+impl Walk for Full {
+    ghost left = { 0 };
+
+    #[inline(always)]
+    fn walk(_mol: &Mol, path: &Path, print: &mut Print) {
+        path.mark(print);
     }
-    let neighbours = mol.neighbours(path.last());
-    for (to, bond) in neighbours {
-        if let Some(longer) = step(mol, path, *to, *bond) {
-            walk(mol, &longer, print);
+}
+
+impl<W: Walk> Walk for More<W> {
+    ghost left = { W.left + 1 };
+
+    #[inline(always)]
+    fn walk(mol: &Mol, path: &Path, print: &mut Print) {
+        path.mark(print);
+        for (to, bond) in mol.neighbours(path.last()) {
+            if let Some(longer) = step(mol, path, *to, *bond) {
+                W::walk(mol, &longer, print);
+            }
         }
     }
 }

@@ -11,6 +11,15 @@ use std::marker::Model;
 /// The most atoms of a path.
 pub const MOST: usize = 5;
 
+/// No atom may follow.
+pub struct Full;
+
+/// One atom may follow, and behind it those of `W`.
+pub struct More<W>(W);
+
+/// A path of one atom, which four may follow.
+pub type FromOne = More<More<More<More<Full>>>>;
+
 /// A path under way. Contracts see its atoms and its texts.
 #[derive(Drop)]
 pub struct Path {
@@ -70,7 +79,7 @@ impl Path {
         ensures none { IfNone result ((length self.now.atoms ≡ MOST) ⊎ Contains self.now.atoms atom
             ⊎ ((path_longer self.now atom byte known).exact ≡ None) × ((path_longer self.now atom byte known).plain ≡ None)) }
     {
-        if self.is_full() || self.atoms[..self.count].contains(&atom) {
+        if self.is_full() || self.has(atom) {
             return None;
         }
         let exact = longer_text(&self.exact, byte, known.exact());
@@ -86,6 +95,39 @@ impl Path {
             exact,
             plain,
         })
+    }
+
+    // Whether the atom is in it. There is no slice and no loop, so that the compiler keeps the atoms in registers.
+    #[inline(always)]
+    fn has(&self, atom: u16) -> bool
+        ensures { IsTrue result ↔ Contains self.now.atoms atom }
+    {
+        let [first, second, third, fourth, fifth] = self.atoms;
+        if atom == first {
+            return true;
+        }
+        if self.count == 1 {
+            return false;
+        }
+        if atom == second {
+            return true;
+        }
+        if self.count == 2 {
+            return false;
+        }
+        if atom == third {
+            return true;
+        }
+        if self.count == 3 {
+            return false;
+        }
+        if atom == fourth {
+            return true;
+        }
+        if self.count == 4 {
+            return false;
+        }
+        atom == fifth
     }
 
     /// Sets the bit of each of its texts.

@@ -10,7 +10,7 @@ ghost use Rattle.path_print.specs.Squares.{AreKnown, IsSimplePattern, IsSquare, 
 
 use crate::implied::{implied, implied_byte};
 use crate::known::Known;
-use crate::path::Path;
+use crate::path::{FromOne, Full, MOST, More, Path};
 use chem_core::Print;
 use smarts_parse::{Graph, Pattern};
 
@@ -27,11 +27,12 @@ pub fn need(pattern: &Pattern) -> Print
 {
     let graph = &pattern.top;
     let known = known_atoms(graph);
-    let square = square_of(graph);
+    let mut square = [0; PLACES];
+    fill(&mut square, graph);
     let mut print = Print::empty();
     for atom in 0..graph.atoms.len() {
         let path = Path::start(atom as u16, known[atom]);
-        walk(graph, &known, &square, &path, &mut print);
+        FromOne::walk(graph, &known, &square, &path, &mut print);
     }
     print
 }
@@ -49,26 +50,19 @@ fn known_atoms(graph: &Graph) -> [Known; SIDE]
     known
 }
 
-// The byte that each bond implies, at its ends either way round; 0 where none does.
-fn square_of(graph: &Graph) -> [u8; PLACES]
-    requires { IsSimplePattern SIDE (graph_of graph.now).bonds }
-    ensures square { IsSquare (graph_of graph.now).bonds result }
-    ensures size { length result ≡ PLACES }
+// Writes the byte that each bond implies, at its ends either way round, into a square of zeros.
+fn fill(square: &mut [u8], graph: &Graph)
+    requires pattern { IsSimplePattern SIDE (graph_of graph.now).bonds }
+    requires zero { (i : ℕ) → slice_index square.old i ≡ 0 }
+    requires size { length square.old ≡ PLACES }
+    ensures square { IsSquare (graph_of graph.now).bonds square.new }
+    ensures size { length square.new ≡ PLACES }
 {
-    let mut square = blank_square();
     for bond in &graph.bonds {
         if let Some(byte) = implied_byte(&bond.expr) {
-            write(&mut square, usize::from(bond.a), usize::from(bond.b), byte);
+            write(square, usize::from(bond.a), usize::from(bond.b), byte);
         }
     }
-    square
-}
-
-fn blank_square() -> [u8; PLACES]
-    ensures zero { (i : ℕ) → slice_index result i ≡ 0 }
-    ensures size { length result ≡ PLACES }
-{
-    [0; PLACES]
 }
 
 fn write(square: &mut [u8], a: usize, b: usize, byte: u8)
@@ -81,20 +75,39 @@ fn write(square: &mut [u8], a: usize, b: usize, byte: u8)
     square[SIDE * b + a] = byte;
 }
 
-// Sets the bits of all paths that begin with this one.
-fn walk(graph: &Graph, known: &[Known], square: &[u8], path: &Path, print: &mut Print)
-    requires sheet { IsSheet (graph_of graph.now) known.now square.now }
-    requires path { IsOn (graph_view (graph_of graph.now)) path.now }
-    requires atom { last_of path.now.atoms < length (graph_of graph.now).atoms }
-    ensures { SetsBits (IsBitFrom (graph_view (graph_of graph.now)) path.now.atoms) print.old print.new }
-{
-    path.mark(print);
-    if path.is_full() {
-        return;
+// The walk on from a path, one for each number of atoms that may still follow, as for molecules.
+trait Walk {
+    // how many atoms may follow
+    ghost left: { ℕ };
+
+    // Sets the bits of all paths that begin with this one.
+    fn walk(graph: &Graph, known: &[Known], square: &[u8], path: &Path, print: &mut Print)
+        requires sheet { IsSheet (graph_of graph.now) known.now square.now }
+        requires path { IsOn (graph_view (graph_of graph.now)) path.now }
+        requires atom { last_of path.now.atoms < length (graph_of graph.now).atoms }
+        requires left { length path.now.atoms + left ≡ MOST }
+        ensures { SetsBits (IsBitFrom (graph_view (graph_of graph.now)) path.now.atoms) print.old print.new };
+}
+
+impl Walk for Full {
+    ghost left = { 0 };
+
+    #[inline(always)]
+    fn walk(_graph: &Graph, _known: &[Known], _square: &[u8], path: &Path, print: &mut Print) {
+        path.mark(print);
     }
-    for atom in 0..graph.atoms.len() {
-        if let Some(longer) = step(graph, known, square, path, atom as u16) {
-            walk(graph, known, square, &longer, print);
+}
+
+impl<W: Walk> Walk for More<W> {
+    ghost left = { W.left + 1 };
+
+    #[inline(always)]
+    fn walk(graph: &Graph, known: &[Known], square: &[u8], path: &Path, print: &mut Print) {
+        path.mark(print);
+        for atom in 0..graph.atoms.len() {
+            if let Some(longer) = step(graph, known, square, path, atom as u16) {
+                W::walk(graph, known, square, &longer, print);
+            }
         }
     }
 }

@@ -1,5 +1,4 @@
-use Rattle.std.proofs.Common.{length, sym, subst}
-use Rattle.chem_core.specs.Bits.{HasBit}
+use Rattle.std.proofs.Common.{length}
 use Rattle.smarts_parse.specs.Embedding.{PartsHold}
 use Rattle.path_print.proofs.Carries.{path_carried}
 use Rattle.path_print.proofs.law.screen_law.Goals as goal

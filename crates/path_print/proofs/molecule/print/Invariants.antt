@@ -1,4 +1,3 @@
-use Rattle.std.proofs.Common.{ℕ, ◌≡◌, length}
 use Rattle.path_print.specs.Prints.{molecule_view}
 use Rattle.path_print.specs.Texts.{SetsBits}
 use Rattle.path_print.proofs.Ways.{IsBitBelow}

@@ -1,20 +1,22 @@
-use Rattle.std.proofs.Common.{ℕ, ◌<◌, ◌≤◌, ◌≡◌, None, length, get_or, sym, ap, subst, arith}
+use Rattle.std.proofs.Common.{◌<◌, ◌≤◌, ◌≡◌, None, length, get_or, sym, ap, subst, arith}
 use Rattle.std.proofs.lemmas.List.{length-map}
 use Rattle.smarts_parse.specs.Pattern.{pattern_of, graph_of}
 use Rattle.path_print.specs.declared.known.Known.{Known}
-use Rattle.path_print.specs.Path.{Family}
 use Rattle.path_print.specs.Prints.{graph_view}
 use Rattle.path_print.specs.Squares.{IsSheet}
 use Rattle.path_print.specs.Texts.{IsBitFrom, IsOn, SetsBits}
-use Rattle.path_print.proofs.Sheets.{simple_within, simple_wider, label_from_known, graph_label_within}
+use Rattle.path_print.proofs.Sheets.{zeros, simple_within, simple_wider, label_from_known, graph_label_within}
 use Rattle.path_print.proofs.Ways.{IsBitBelow, start_on, below_more, below_all}
 use Rattle.path_print.proofs.pattern.need.Goals as goal
 
-pub square_of-square-requires : goal.square_of-square-requires
-square_of-square-requires c =
+pub fill-requires-clause-pattern : goal.fill-requires-clause-pattern
+fill-requires-clause-pattern c =
     let p = pattern_of c.args.pattern.now in
     let few : length p.top.atoms ≤ 256 = let all = c.requires.few_atoms in omega arith in
     simple_wider (length p.top.atoms) 256 p.top.bonds few (simple_within p.top (length p.recs) c.requires.top)
+
+pub fill-requires-clause-zero : goal.fill-requires-clause-zero
+fill-requires-clause-zero c = zeros 65536
 
 pub walk-requires-clause-sheet : goal.walk-requires-clause-sheet
 walk-requires-clause-sheet c =
@@ -24,9 +26,9 @@ walk-requires-clause-sheet c =
       few = few;
       ends = simple_within p.top (length p.recs) c.requires.top;
       room = c.known_atoms-known.ensures.size;
-      side = c.square_of-square.ensures.size;
+      side = c.fill.ensures.size;
       atoms = c.known_atoms-known.ensures.known;
-      bonds = c.square_of-square.ensures.square;
+      bonds = c.fill.ensures.square;
     }
 
 pub walk-requires-clause-path : goal.walk-requires-clause-path
@@ -36,17 +38,17 @@ walk-requires-clause-path c =
     let within : c.loop-atom.atom < length g.atoms = rw length-map (omega arith) in
     let p = pattern_of c.args.pattern.now in
     let few : length p.top.atoms ≤ 256 = let all = c.requires.few_atoms in omega arith in
-    let sheet : IsSheet g c.known_atoms-known.result c.square_of-square.result = record {
+    let sheet : IsSheet g c.known_atoms-known.result c.fill.new.square = record {
       few = few;
       ends = simple_within p.top (length p.recs) c.requires.top;
       room = c.known_atoms-known.ensures.size;
-      side = c.square_of-square.ensures.size;
+      side = c.fill.ensures.size;
       atoms = c.known_atoms-known.ensures.known;
-      bonds = c.square_of-square.ensures.square;
+      bonds = c.fill.ensures.square;
     } in
     subst (IsOn (graph_view g)) (sym c.start-path.ensures)
     (start_on (graph_view g) c.loop-atom.atom (get_or c.known_atoms-known.result c.loop-atom.atom d)
-    (λ family. label_from_known g c.known_atoms-known.result c.square_of-square.result sheet family c.loop-atom.atom c.loop-atom.atom within within d))
+    (λ family. label_from_known g c.known_atoms-known.result c.fill.new.square sheet family c.loop-atom.atom c.loop-atom.atom within within d))
 
 pub loop-atom-preserved : goal.loop-atom-preserved
 loop-atom-preserved c =

@@ -1,4 +1,4 @@
-use Rattle.std.proofs.Common.{ℕ, ◌+◌, ◌*◌, ◌≡◌, ◌≢◌, Some, None, get_or, sym, ap, ◌∙◌, subst, arith}
+use Rattle.std.proofs.Common.{ℕ, ◌+◌, ◌*◌, ◌≡◌, ◌≢◌, Some, None, get_or, sym, ap, ◌∙◌, arith}
 use Rattle.smarts_parse.specs.Pattern.{graph_of}
 use Rattle.path_print.specs.declared.known.Known.{Known}
 use Rattle.path_print.specs.Path.{Family, label_of}

@@ -1,19 +1,15 @@
-use Rattle.std.proofs.Common.{ℕ, ◌<◌, ◌≡◌, ◌⊎◌, ◌++◌, ◌∷◌, [], length, refl, subst, sym, ap, ◌∙◌, arith}
+use Rattle.std.proofs.Common.{◌≡◌, ◌⊎◌, ◌++◌, ◌∷◌, [], length, refl, subst, sym, arith}
 use Rattle.std.proofs.lemmas.List.{length-map}
 use Rattle.smarts_parse.specs.Pattern.{graph_of}
 use Rattle.path_print.specs.Prints.{graph_view}
 use Rattle.path_print.specs.Texts.{IsBitFrom, IsBitHere, SetsBits, last_of}
-use Rattle.path_print.proofs.Ways.{IsBitVia, sets_more, sets_none, sets_from, sets_full}
+use Rattle.path_print.proofs.Ways.{IsBitVia, sets_more, sets_none, sets_from}
 use Rattle.path_print.proofs.Sheets.{byte_within}
-use Rattle.path_print.proofs.pattern.+walk.Goals as goal
-use Rattle.path_print.proofs.pattern.+walk.Goals.{in-Some, in_default}
-
-pub returns-then-is_full : goal.returns-then-is_full
-returns-then-is_full t c =
-    sets_full (graph_view (graph_of c.args.graph.now)) c.args.path.now c.requires.path (c.is_full.ensures.0 c.if-is_full.true) c.args.print.now c.mark.new.print c.mark.ensures.bits
+use Rattle.path_print.proofs.pattern.MoreWalk.walk.Goals as goal
+use Rattle.path_print.proofs.pattern.MoreWalk.walk.Goals.{in-Some, in_default}
 
 pub loop-atom-preserved : goal.loop-atom-preserved
-loop-atom-preserved t c =
+loop-atom-preserved g c =
     let views = graph_view (graph_of c.args.graph.now) in
     let atoms = c.args.path.now.atoms in
     sets_more (IsBitHere c.args.path.now) (λ k bit. IsBitFrom views (atoms ++ k ∷ []) bit) c.loop-atom.atom c.args.print.now c.loop-atom.print c.match-step.print c.loop-atom.invariant
@@ -28,7 +24,7 @@ loop-atom-preserved t c =
     ])
 
 pub returns : goal.returns
-returns t c =
+returns g c =
     let g = graph_of c.args.graph.now in
     let views = graph_view g in
     let whole : c.loop-atom.atom ≡ length g.atoms = rw length-map (omega arith) in

@@ -1,31 +1,27 @@
-use Rattle.std.proofs.Common.{ℕ, ◌+◌, ◌<◌, ◌≡◌, ◌⊎◌, ◌++◌, ◌∷◌, [], length, get_or, inl, inr, subst, sym, ap, ◌∙◌, arith}
+use Rattle.std.proofs.Common.{ℕ, ◌+◌, ◌<◌, ◌≡◌, ◌⊎◌, ◌++◌, ◌∷◌, [], length, get_or, subst, sym, ap, ◌∙◌, arith}
 use Rattle.std.proofs.lemmas.List.{length-append}
 use Rattle.std.proofs.lemmas.List.Elements.{Contains-get_or}
 use Rattle.chem_core.specs.Graph.{JoinsAt, AreNeighbours}
 use Rattle.chem_core.specs.Molecule.{ends_of}
 use Rattle.path_print.specs.Prints.{molecule_view}
 use Rattle.path_print.specs.Texts.{IsBitFrom, IsBitHere, SetsBits, last_of}
-use Rattle.path_print.proofs.Ways.{IsBitVia, sets_more, sets_none, sets_from, sets_full}
+use Rattle.path_print.proofs.Ways.{IsBitVia, sets_more, sets_none, sets_from}
 use Rattle.path_print.proofs.Molecules.{byte_neighbour, ends_within}
-use Rattle.path_print.proofs.molecule.+walk.Goals as goal
-use Rattle.path_print.proofs.molecule.+walk.Goals.{in-Some, in_default}
-
-pub returns-then-is_full : goal.returns-then-is_full
-returns-then-is_full t c =
-    sets_full (molecule_view c.args.mol.now) c.args.path.now c.requires.path (c.is_full.ensures.0 c.if-is_full.true) c.args.print.now c.mark.new.print c.mark.ensures.bits
+use Rattle.path_print.proofs.molecule.MoreWalk.walk.Goals as goal
+use Rattle.path_print.proofs.molecule.MoreWalk.walk.Goals.{in-Some, in_default}
 
 pub step-requires-clause-joined : goal.step-requires-clause-joined
-step-requires-clause-joined t c =
-    let pairs = c.neighbours-neighbours.result.now in
+step-requires-clause-joined g c =
+    let pairs = c.neighbours-to-items.result.now in
     let pair : ℕ × ℕ = get_or pairs c.loop-to.to-index (0, 0) in
-    let joined : JoinsAt (ends_of c.args.mol.now) pair.1 c.last.result pair.0 = c.neighbours-neighbours.ensures.each.joined pair.0 pair.1 (Contains-get_or pairs c.loop-to.to-index (0, 0) c.loop-to-test.true) in
+    let joined : JoinsAt (ends_of c.args.mol.now) pair.1 c.last.result pair.0 = c.neighbours-to-items.ensures.each.joined pair.0 pair.1 (Contains-get_or pairs c.loop-to.to-index (0, 0) c.loop-to-test.true) in
     subst (λ x. JoinsAt (ends_of c.args.mol.now) pair.1 x pair.0) c.last.ensures joined
 
 pub loop-to-preserved : goal.loop-to-preserved
-loop-to-preserved t c =
+loop-to-preserved g c =
     let views = molecule_view c.args.mol.now in
     let atoms = c.args.path.now.atoms in
-    let pairs = c.neighbours-neighbours.result.now in
+    let pairs = c.neighbours-to-items.result.now in
     sets_more (IsBitHere c.args.path.now) (λ k bit. IsBitFrom views (atoms ++ (get_or pairs k (0, 0)).0 ∷ []) bit) c.loop-to.to-index c.args.print.now c.loop-to.print c.match-step.print c.loop-to.invariant
     (elim c.match-step.branch [
       | in-Some w ↦
@@ -38,10 +34,10 @@ loop-to-preserved t c =
     ])
 
 pub returns : goal.returns
-returns t c =
+returns g c =
     let views = molecule_view c.args.mol.now in
-    let pairs = c.neighbours-neighbours.result.now in
-    let each : AreNeighbours (ends_of c.args.mol.now) (last_of c.args.path.now.atoms) pairs = subst (λ x. AreNeighbours (ends_of c.args.mol.now) x pairs) c.last.ensures c.neighbours-neighbours.ensures.each in
+    let pairs = c.neighbours-to-items.result.now in
+    let each : AreNeighbours (ends_of c.args.mol.now) (last_of c.args.path.now.atoms) pairs = subst (λ x. AreNeighbours (ends_of c.args.mol.now) x pairs) c.last.ensures c.neighbours-to-items.ensures.each in
     let whole : c.loop-to.to-index ≡ length pairs = omega arith in
     sets_from views c.args.path.now c.requires.path (λ k. (get_or pairs k (0, 0)).0) (length pairs)
     (λ family y b h. byte_neighbour c.args.mol.now family (last_of c.args.path.now.atoms) y b pairs each h)
@@ -49,12 +45,11 @@ returns t c =
     (subst (λ n. SetsBits (λ bit. IsBitHere c.args.path.now bit ⊎ IsBitVia views c.args.path.now.atoms (λ k. (get_or pairs k (0, 0)).0) n bit) c.args.print.now c.loop-to.print) whole c.loop-to.invariant)
 
 pub walk-requires : goal.walk-requires
-walk-requires t c =
+walk-requires g c =
     let longer = c.in-Some.ensures.some in
     let one : length c.in-Some.longer.atoms ≡ length c.args.path.now.atoms + 1 = ap length longer.atoms ∙ length-append c.args.path.now.atoms _ in
-    let short = longer.on.short in
-    let pairs = c.neighbours-neighbours.result.now in
+    let pairs = c.neighbours-to-items.result.now in
     let pair : ℕ × ℕ = get_or pairs c.loop-to.to-index (0, 0) in
-    let joined : JoinsAt (ends_of c.args.mol.now) pair.1 c.last.result pair.0 = c.neighbours-neighbours.ensures.each.joined pair.0 pair.1 (Contains-get_or pairs c.loop-to.to-index (0, 0) c.loop-to-test.true) in
-    let within : pair.0 < length c.args.mol.now.atoms = (ends_within c.args.mol.now pair.1 c.last.result pair.0 c.neighbours-neighbours.ensures.valid joined).2 in
-    (omega (arith, c.decreases), (longer.on, subst (λ x. x < length c.args.mol.now.atoms) (sym longer.last) within))
+    let joined : JoinsAt (ends_of c.args.mol.now) pair.1 c.last.result pair.0 = c.neighbours-to-items.ensures.each.joined pair.0 pair.1 (Contains-get_or pairs c.loop-to.to-index (0, 0) c.loop-to-test.true) in
+    let within : pair.0 < length c.args.mol.now.atoms = (ends_within c.args.mol.now pair.1 c.last.result pair.0 c.neighbours-to-items.ensures.valid joined).2 in
+    record { path = longer.on; atom = subst (λ x. x < length c.args.mol.now.atoms) (sym longer.last) within; left = omega (arith, one, c.requires.left) }

@@ -1,7 +1,7 @@
 use Rattle.std.proofs.Common.{◌≡◌, length, take}
 use Rattle.smarts_parse.specs.Pattern.{graph_of}
 use Rattle.path_print.specs.Squares.{IsSquare}
-use Rattle.path_print.proofs.pattern.square_of.Given as goal
+use Rattle.path_print.proofs.pattern.fill.Given as goal
 
 -- what the bonds so far imply
 abbrev pub invariant-loop-bond : goal.invariant-loop-bond
