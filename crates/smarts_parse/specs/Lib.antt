@@ -6,3 +6,4 @@ pub mod Faults
 pub mod Whole
 pub mod Meaning
 pub mod Reading
+pub mod Survey
