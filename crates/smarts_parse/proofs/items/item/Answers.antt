@@ -1,4 +1,5 @@
 use Rattle.std.proofs.Common.{◌≡◌, ℕ, inl, List, [], ◌∷◌, length, get_or, refl, sym, ◌∙◌, ap, arith}
+use Rattle.std.proofs.lemmas.Grind.{common_steps}
 use Rattle.line_walk.proofs.Steps.{front_is}
 use Rattle.line_walk.proofs.Unique.{tails}
 use Rattle.smarts_parse.proofs.ItemRead.{plain_read, group_read, group_first}
@@ -28,4 +29,4 @@ returns-in_default-2-clause-only c x rest is =
     let k = c.in_ok-read_part-2.ensures.only t.0 (41 ∷ rest) (inl refl) t.1 in
     let l = ap length k in
     let b = ap (λ v. get_or v 0 0) k in
-    elim c.in_default-2.branch [ in_default-2-via-then-branch-lt1 w ↦ absurd (omega arith) | in_default-2-via-else-branch-lt1+in_default-1 w ↦ absurd (omega arith) ]
+    elim c.in_default-2.branch [ in_default-2-via-then-branch-lt1 w ↦ absurd (grind (arith, common_steps)) | in_default-2-via-else-branch-lt1+in_default-1 w ↦ absurd (grind (arith, common_steps)) ]
