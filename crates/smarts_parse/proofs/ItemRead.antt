@@ -21,7 +21,7 @@ tree_begins tree rest is =
 pub not_open : (tree : Tree) (rest bytes inside : List ℕ) → walk.IsTree smarts_words tree → bytes ≡ walk.spelling smarts_words tree ++ rest → bytes ≡ 40 ∷ inside → ⊥
 not_open tree rest bytes inside is e f = begins_clash BeginsAtom (λ b. b ≡ 40) (walk.spelling smarts_words tree ++ rest) (40 ∷ inside) (λ b h k. smarts_apart.atom_or_walk b h (inl k)) (tree_begins tree rest is) refl (sym e ∙ f)
 
-group_text : (tree : Tree) (rest : List ℕ) → item_text (group tree) ++ rest ≡ 40 ∷ (walk.spelling smarts_words tree ++ 41 ∷ rest)
+pub group_text : (tree : Tree) (rest : List ℕ) → item_text (group tree) ++ rest ≡ 40 ∷ (walk.spelling smarts_words tree ++ 41 ∷ rest)
 group_text tree rest = ap (λ (v : List ℕ). 40 ∷ v) (append_assoc (walk.spelling smarts_words tree) (41 ∷ []) rest)
 
 -- an item was read

@@ -58,13 +58,13 @@ so_far_none text reader holds closed depth = record {
 }
 
 -- the first item of several
-stops_after : (x : Item) (xs : List Item) → AreItems x xs → StopsAfter x (others_text xs)
+pub stops_after : (x : Item) (xs : List Item) → AreItems x xs → StopsAfter x (others_text xs)
 stops_after (group t) xs are = tt
 stops_after (plain t) [] are = tt
 stops_after (plain t) (plain u ∷ ys) are = absurd are.1
 stops_after (plain t) (group u ∷ ys) are = inr (refl, refl)
 
-first_tree : (x : Item) (xs : List Item) → AreItems x xs → walk.IsTree smarts_words (tree_of x)
+pub first_tree : (x : Item) (xs : List Item) → AreItems x xs → walk.IsTree smarts_words (tree_of x)
 first_tree x [] are = are
 first_tree x (y ∷ ys) are = are.0
 
@@ -105,7 +105,7 @@ depth_push : (ds : List Item) (x : Item) → items_depth (ds ++ x ∷ []) ≡ ma
 depth_push [] x = omega arith
 depth_push (d ∷ ds) x = let h = depth_push ds x in omega arith
 
-or_false : (b : Bool) → (b || false) ≡ b
+pub or_false : (b : Bool) → (b || false) ≡ b
 or_false true = refl
 or_false false = refl
 
