@@ -28,7 +28,7 @@ same_item bytes (group t) (group u) r s is it =
 item_of : (bytes : List ℕ) (x : Item) (xs : List Item) → AreItems x xs → bytes ≡ item_text x ++ others_text xs → IsItemOf bytes x (others_text xs)
 item_of bytes x xs are e = record { tree = first_tree x xs are; spelled = e; stops = stops_after x xs are }
 
-same_list : (x y : Item) (xs ys : List Item) → x ≡ y → xs ≡ ys → x ∷ xs ≡ y ∷ ys
+pub same_list : (x y : Item) (xs ys : List Item) → x ≡ y → xs ≡ ys → x ∷ xs ≡ y ∷ ys
 same_list x y xs ys e f = cc
 
 pub same_items : (bytes : List ℕ) (x : Item) (xs : List Item) (y : Item) (ys : List Item) → AreItems x xs → AreItems y ys → bytes ≡ item_text x ++ others_text xs → bytes ≡ item_text y ++ others_text ys

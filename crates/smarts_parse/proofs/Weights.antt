@@ -72,9 +72,9 @@ bracket_weight (hydro h) class = omega arith
 bracket_weight (low e) class = let k = expression_weight e in omega (arith, length-append (expression_text e) (end_text class))
 
 atom_weight : (x : Atom) → IsAtom x → 1 + weight (value_of_atom x).parts ≤ length (atom_text x)
-atom_weight star is = let h = some_begins BeginsAtom _ (smarts_apart.atom_begins star is) in omega arith
-atom_weight aromatic is = let h = some_begins BeginsAtom _ (smarts_apart.atom_begins aromatic is) in omega arith
-atom_weight aliphatic is = let h = some_begins BeginsAtom _ (smarts_apart.atom_begins aliphatic is) in omega arith
+atom_weight star is = let h = some_begins BeginsAtom (atom_text star) (smarts_apart.atom_begins star is) in omega arith
+atom_weight aromatic is = let h = some_begins BeginsAtom (atom_text aromatic) (smarts_apart.atom_begins aromatic is) in omega arith
+atom_weight aliphatic is = let h = some_begins BeginsAtom (atom_text aliphatic) (smarts_apart.atom_begins aliphatic is) in omega arith
 atom_weight (organic x) is = let h = some_begins BeginsAtom (atom_text (organic x)) (smarts_apart.atom_begins (organic x) is) in omega arith
 atom_weight (small x) is = let h = some_begins BeginsAtom (atom_text (small x)) (smarts_apart.atom_begins (small x) is) in omega arith
 atom_weight (bracket x) is = bracket_weight x.inside x.class

@@ -261,3 +261,25 @@ module _ (text : List ℕ) (s t : Survey) (init : List Left) (x : Left) (tree : 
       let new_level = top-append init (at_level (x.level + 1) inner_texts) in
       let here = top-level (x.level + 1) inner_texts in
       record { found = found_more; only = only_more; fits = omega arith; level = omega arith }
+
+module _ (text : List ℕ) (s : Survey) (init : List Left) (x : Left) (w : Worklist text s (init ++ x ∷ [])) where
+  last_texts : texts_of (init ++ x ∷ []) ≡ texts_of init ++ x.text ∷ []
+  last_texts = map-append (λ y. y.text) init (x ∷ [])
+
+  -- the text that is read next has a tree where the whole text has
+  last_by : (p : Parts) → AreParts (x.text ∷ []) p → (tree : Tree) × walk.IsTreeOf smarts_words x.text tree
+  last_by none h = absurd h
+  last_by (part tree r more) h = (tree, h.0)
+
+  pub last_tree : (whole : Whole) → IsWholeOf text whole → (tree : Tree) × walk.IsTreeOf smarts_words x.text tree
+  last_tree whole is =
+      let o = w.only whole is in
+      let P : List (List ℕ) → Type 0 = λ v. AreParts v o.0 in
+      let v = split (texts_of init) (x.text ∷ []) o.0 (subst P last_texts o.1) in
+      last_by v.others v.others_of
+
+  pub last_level : x.level ≤ s.parts + 1
+  last_level = let l = w.level in let e = top-append init (x ∷ []) in omega arith
+
+  pub last_fits : s.parts + 1 ≤ length text
+  last_fits = let f = w.fits in let e = ap weight last_texts ∙ weight-append (texts_of init) (x.text ∷ []) in omega arith
