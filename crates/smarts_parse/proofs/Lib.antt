@@ -5,3 +5,7 @@ pub mod OneWhole
 pub mod Weights
 pub mod Joined
 pub mod Worklist
+pub mod Soundness
+pub mod OnePattern
+pub mod Readings
+pub mod OneAnswer

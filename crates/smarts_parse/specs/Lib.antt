@@ -6,4 +6,6 @@ pub mod Faults
 pub mod Whole
 pub mod Meaning
 pub mod Reading
+pub mod Steps
+pub mod Build
 pub mod Survey
