@@ -42,10 +42,12 @@ pub record SoFar (text rest : List ℕ) (reader : Read) (is_grouped : Bool) : Ty
   pub depth : reader.depth ≡ items_depth done
   pub grouped : is_grouped ≡ list_any is_group done
   pub spelled : text ≡ dotted done ++ rest
-  pub before : (x : Item) (after : List ℕ) → walk.IsTree smarts_words (tree_of x) → rest ≡ item_text x ++ after → AreBefore done x
+  pub before : (x : Item) (after : List ℕ) → walk.IsTree smarts_words (tree_of x) → rest ≡ item_text x ++ after
+      → AreBefore done x
   pub only : AreLeft text → AreLeft rest
 
-pub so_far_none : (text : List ℕ) (reader : Read) → Holds smarts_words [] reader → IsBetween reader → reader.depth ≡ 0 → SoFar text text reader false
+pub so_far_none : (text : List ℕ) (reader : Read) → Holds smarts_words [] reader → IsBetween reader → reader.depth ≡ 0
+    → SoFar text text reader false
 so_far_none text reader holds closed depth = record {
   done = [];
   holds = holds;
@@ -76,24 +78,28 @@ left_more x [] next are e = absurd (cc)
 left_more x (y ∷ ys) next are e = record { first = y; others = ys; are = are.2; spelled = tails 46 46 next _ e }
 
 -- an item more before
-may_meet : (x y : Item) (next after : List ℕ) → StopsAfter x (46 ∷ next) → walk.IsTree smarts_words (tree_of y) → next ≡ item_text y ++ after → MayMeet x y
+may_meet : (x y : Item) (next after : List ℕ) → StopsAfter x (46 ∷ next) → walk.IsTree smarts_words (tree_of y)
+    → next ≡ item_text y ++ after → MayMeet x y
 may_meet (group s) (group t) next after stops is e = tt
 may_meet (group s) (plain t) next after stops is e = tt
 may_meet (plain s) (group t) next after stops is e = tt
 may_meet (plain s) (plain t) next after (inl f) is e = absurd (omega arith)
 may_meet (plain s) (plain t) next after (inr f) is e = begins_clash BeginsAtom (λ b. b ≡ 40) _ next (λ b h k. smarts_apart.atom_or_walk b h (inl k)) (tree_begins t after is) f.1 (sym e)
 
-before_more : (ds : List Item) (x y : Item) → AreBefore ds x → walk.IsTree smarts_words (tree_of x) → MayMeet x y → AreBefore (ds ++ x ∷ []) y
+before_more : (ds : List Item) (x y : Item) → AreBefore ds x → walk.IsTree smarts_words (tree_of x) → MayMeet x y
+    → AreBefore (ds ++ x ∷ []) y
 before_more [] x y h is meet = (is, meet)
 before_more (d ∷ []) x y h is meet = (h.0, h.1, (is, meet))
 before_more (d ∷ e ∷ ds) x y h is meet = (h.0, h.1, before_more (e ∷ ds) x y h.2 is meet)
 
-dotted_more : (ds : List Item) (x : Item) (next : List ℕ) → dotted ds ++ (item_text x ++ 46 ∷ next) ≡ dotted (ds ++ x ∷ []) ++ next
+dotted_more : (ds : List Item) (x : Item) (next : List ℕ)
+    → dotted ds ++ (item_text x ++ 46 ∷ next) ≡ dotted (ds ++ x ∷ []) ++ next
 dotted_more [] x next = sym (append_assoc (item_text x) (46 ∷ []) next)
 dotted_more (d ∷ ds) x next =
     append_assoc (item_text d) (46 ∷ dotted ds) (item_text x ++ 46 ∷ next) ∙ ap (λ v. item_text d ++ 46 ∷ v) (dotted_more ds x next) ∙ sym (append_assoc (item_text d) (46 ∷ dotted (ds ++ x ∷ [])) next)
 
-nodes_push : (n : ℕ) (ds : List Item) (x : Item) → nodes_from n (ds ++ x ∷ []) ≡ nodes_from n ds ++ placed_at (n + length (nodes_from n ds)) (tree_of x)
+nodes_push : (n : ℕ) (ds : List Item) (x : Item)
+    → nodes_from n (ds ++ x ∷ []) ≡ nodes_from n ds ++ placed_at (n + length (nodes_from n ds)) (tree_of x)
 nodes_push n [] x = append-nil (placed_at n (tree_of x)) ∙ ap (λ k. placed_at k (tree_of x)) (let e : n ≡ n + 0 = omega arith in e)
 nodes_push n (d ∷ ds) x =
     let p = placed_at n (tree_of d) in
@@ -101,7 +107,8 @@ nodes_push n (d ∷ ds) x =
     let l : m + length (nodes_from m ds) ≡ n + length (p ++ nodes_from m ds) = omega (arith, length-append p (nodes_from m ds)) in
     ap (λ v. p ++ v) (nodes_push m ds x ∙ ap (λ k. nodes_from m ds ++ placed_at k (tree_of x)) l) ∙ sym (append_assoc p (nodes_from m ds) (placed_at (n + length (p ++ nodes_from m ds)) (tree_of x)))
 
-depth_push : (ds : List Item) (x : Item) → items_depth (ds ++ x ∷ []) ≡ max (items_depth ds) (walk.depth_of (tree_of x).tail)
+depth_push : (ds : List Item) (x : Item)
+    → items_depth (ds ++ x ∷ []) ≡ max (items_depth ds) (walk.depth_of (tree_of x).tail)
 depth_push [] x = omega arith
 depth_push (d ∷ ds) x = let h = depth_push ds x in omega arith
 
@@ -109,7 +116,8 @@ pub or_false : (b : Bool) → (b || false) ≡ b
 or_false true = refl
 or_false false = refl
 
-group_push : (ds : List Item) (x : Item) (g b : Bool) → g ≡ list_any is_group ds → b ≡ is_group x → (g || b) ≡ list_any is_group (ds ++ x ∷ [])
+group_push : (ds : List Item) (x : Item) (g b : Bool) → g ≡ list_any is_group ds → b ≡ is_group x
+    → (g || b) ≡ list_any is_group (ds ++ x ∷ [])
 group_push ds x g b e f = ap (λ v. v || b) e ∙ ap (λ v. list_any is_group ds || v) (f ∙ sym (or_false (is_group x))) ∙ sym (list_any-append is_group ds (x ∷ []))
 
 module _ (text rest after : List ℕ) (old new : Read) (g b : Bool) (s : SoFar text rest old g) (r : IsItemRead (nodes_from 0 s.done) old new rest b after) where
@@ -121,7 +129,8 @@ module _ (text rest after : List ℕ) (old new : Read) (g b : Bool) (s : SoFar t
   depth_more : new.depth ≡ items_depth (s.done ++ r.item ∷ [])
   depth_more = r.depth ∙ ap (λ v. max v (walk.depth_of (tree_of r.item).tail)) s.depth ∙ sym (depth_push s.done r.item)
 
-  pub so_far_more : (next : List ℕ) → after ≡ 46 ∷ next → IsBetween new → ((x : Item) (left : List ℕ) → IsItemOf rest x left → after ≡ left) → SoFar text next new (g || b)
+  pub so_far_more : (next : List ℕ) → after ≡ 46 ∷ next → IsBetween new
+      → ((x : Item) (left : List ℕ) → IsItemOf rest x left → after ≡ left) → SoFar text next new (g || b)
   so_far_more next e closed only = record {
     done = s.done ++ r.item ∷ [];
     holds = holds_more;
@@ -148,7 +157,8 @@ module _ (text rest after : List ℕ) (old new : Read) (g b : Bool) (s : SoFar t
   together [] x = refl
   together (d ∷ ds) x = refl
 
-  joined_are : (ds : List Item) (x : Item) → AreBefore ds x → walk.IsTree smarts_words (tree_of x) → AreItems (first_of ds x) (others_of ds x)
+  joined_are : (ds : List Item) (x : Item) → AreBefore ds x → walk.IsTree smarts_words (tree_of x)
+      → AreItems (first_of ds x) (others_of ds x)
   joined_are [] x h is = is
   joined_are (d ∷ []) x h is = (h.0, h.1, is)
   joined_are (d ∷ e ∷ ds) x h is = (h.0, h.1, joined_are (e ∷ ds) x h.2 is)
@@ -157,7 +167,8 @@ module _ (text rest after : List ℕ) (old new : Read) (g b : Bool) (s : SoFar t
   others_joined [] x = ap (λ (v : List ℕ). 46 ∷ v) (sym (append-nil (item_text x)))
   others_joined (d ∷ ds) x = ap (λ (v : List ℕ). 46 ∷ v) (append_assoc (item_text d) (46 ∷ dotted ds) (item_text x) ∙ ap (λ v. item_text d ++ v) (others_joined ds x))
 
-  joined_text : (ds : List Item) (x : Item) → dotted ds ++ item_text x ≡ item_text (first_of ds x) ++ others_text (others_of ds x)
+  joined_text : (ds : List Item) (x : Item)
+      → dotted ds ++ item_text x ≡ item_text (first_of ds x) ++ others_text (others_of ds x)
   joined_text [] x = sym (append-nil (item_text x))
   joined_text (d ∷ ds) x = append_assoc (item_text d) (46 ∷ dotted ds) (item_text x) ∙ ap (λ v. item_text d ++ v) (others_joined ds x)
 

@@ -108,5 +108,6 @@ module _ (text : List ℕ) where
   by_tests (Err Grouping) h n = no_limit (Err Grouping) h.0 h.1 (inl (λ k. k h.0 h.1.0.0.0.0.is h.2, refl))
   by_tests (Err NoMemory) h n = absurd (n refl)
 
-pub one_answer : (text : List ℕ) (r s : Answer) → IsReading text r → IsReading text s → r ≢ Err NoMemory → s ≢ Err NoMemory → r ≡ s
+pub one_answer : (text : List ℕ) (r s : Answer) → IsReading text r → IsReading text s → r ≢ Err NoMemory
+    → s ≢ Err NoMemory → r ≡ s
 one_answer text r s h k n m = one_length text r s (by_tests text r h n) (by_tests text s k m)

@@ -10,7 +10,8 @@ use Rattle.smarts_parse.specs.Survey.{IsItemOf}
 use Rattle.smarts_parse.proofs.ItemRead.{not_open, group_text}
 use Rattle.smarts_parse.proofs.ItemsRead.{stops_after, first_tree}
 
-pub same_tree : (text : List ℕ) (s t : Tree) → walk.IsTreeOf smarts_words text s → walk.IsTreeOf smarts_words text t → s ≡ t
+pub same_tree : (text : List ℕ) (s t : Tree) → walk.IsTreeOf smarts_words text s → walk.IsTreeOf smarts_words text t
+    → s ≡ t
 same_tree = one_tree smarts_words smarts_apart
 
 same_item : (bytes : List ℕ) (x y : Item) (r s : List ℕ) → IsItemOf bytes x r → IsItemOf bytes y s → (x ≡ y) × (r ≡ s)
@@ -25,13 +26,15 @@ same_item bytes (group t) (group u) r s is it =
     let p = one_part smarts_words smarts_apart inside t u (41 ∷ r) (41 ∷ s) (inl refl) (inl refl) (is.tree, refl) (it.tree, e) in
     (ap (λ v. group v) p.0, tails 41 41 r s p.1)
 
-item_of : (bytes : List ℕ) (x : Item) (xs : List Item) → AreItems x xs → bytes ≡ item_text x ++ others_text xs → IsItemOf bytes x (others_text xs)
+item_of : (bytes : List ℕ) (x : Item) (xs : List Item) → AreItems x xs → bytes ≡ item_text x ++ others_text xs
+    → IsItemOf bytes x (others_text xs)
 item_of bytes x xs are e = record { tree = first_tree x xs are; spelled = e; stops = stops_after x xs are }
 
 pub same_list : (x y : Item) (xs ys : List Item) → x ≡ y → xs ≡ ys → x ∷ xs ≡ y ∷ ys
 same_list x y xs ys e f = cc
 
-pub same_items : (bytes : List ℕ) (x : Item) (xs : List Item) (y : Item) (ys : List Item) → AreItems x xs → AreItems y ys → bytes ≡ item_text x ++ others_text xs → bytes ≡ item_text y ++ others_text ys
+pub same_items : (bytes : List ℕ) (x : Item) (xs : List Item) (y : Item) (ys : List Item) → AreItems x xs
+    → AreItems y ys → bytes ≡ item_text x ++ others_text xs → bytes ≡ item_text y ++ others_text ys
     → (x ≡ y) × (xs ≡ ys)
 same_items bytes x [] y [] ax ay e f = ((same_item bytes x y [] [] (item_of bytes x [] ax e) (item_of bytes y [] ay f)).0, refl)
 same_items bytes x [] y (v ∷ vs) ax ay e f = let p = (same_item bytes x y [] (others_text (v ∷ vs)) (item_of bytes x [] ax e) (item_of bytes y (v ∷ vs) ay f)).1 in absurd (cc)

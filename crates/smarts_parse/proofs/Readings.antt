@@ -82,7 +82,8 @@ pub record IsPlain (whole : Whole) : Type 0 where
   pub first : whole.first ≡ plain tree
   pub others : whole.others ≡ []
 
-plain_by : (x : Item) (xs : List Item) → AreItems x xs → ¬ (list_any is_group (x ∷ xs) ≡ true) → (tree : Tree) × (x ≡ plain tree) × (xs ≡ [])
+plain_by : (x : Item) (xs : List Item) → AreItems x xs → ¬ (list_any is_group (x ∷ xs) ≡ true)
+    → (tree : Tree) × (x ≡ plain tree) × (xs ≡ [])
 plain_by (group t) xs are n = absurd (n refl)
 plain_by (plain t) [] are n = (t, refl, refl)
 plain_by (plain t) (plain u ∷ ys) are n = absurd are.1
@@ -134,17 +135,20 @@ module _ (text : List ℕ) (s : Survey) (l : Looked text s) (marks : ¬ HasMark 
   Built old new g = (tree : Tree) (parts : Parts) → IsBuildable text tree parts 8 (length old) → IsGraphTerm (placed_nodes tree) (numbers_from (length old) parts) (graph_of g)
       × (gs : List GraphTerm) × ArePartTerms (length old) parts gs × (map graph_of new ≡ map graph_of old ++ gs)
 
-  pub needs : (old : List Graph) → old ≡ [] → (tree : Tree) × (parts : Parts) × IsBuildable text tree parts 8 (length old)
+  pub needs : (old : List Graph) → old ≡ []
+      → (tree : Tree) × (parts : Parts) × IsBuildable text tree parts 8 (length old)
   needs old e = let P : List Graph → Type 0 = λ v. IsBuildable text one.tree l.whole.parts 8 (length v) in (one.tree, l.whole.parts, subst P (sym e) buildable)
 
-  pattern_by : (new : List Graph) (g : Graph) → Built [] new g → IsPatternOf l.whole (record { top = graph_of g; recs = map graph_of new })
+  pattern_by : (new : List Graph) (g : Graph) → Built [] new g
+      → IsPatternOf l.whole (record { top = graph_of g; recs = map graph_of new })
   pattern_by new g built =
       let b = built one.tree l.whole.parts buildable in
       let P : List GraphTerm → Type 0 = λ v. ArePartTerms 0 l.whole.parts v in
       let Q : Nodes → Type 0 = λ v. IsGraphTerm v (numbers_from 0 l.whole.parts) (graph_of g) in
       (subst P (sym b.3) b.2, subst Q (sym one_nodes) b.0)
 
-  pub pattern : (old new : List Graph) (g : Graph) → old ≡ [] → Built old new g → IsPatternOf l.whole (record { top = graph_of g; recs = map graph_of new })
+  pub pattern : (old new : List Graph) (g : Graph) → old ≡ [] → Built old new g
+      → IsPatternOf l.whole (record { top = graph_of g; recs = map graph_of new })
   pattern old new g e built = let P : List Graph → Type 0 = λ v. Built v new g in pattern_by new g (subst P e built)
 
   pub sound : (p : PatternTerm) → IsPatternOf l.whole p → IsSoundPattern p
@@ -152,7 +156,8 @@ module _ (text : List ℕ) (s : Survey) (l : Looked text s) (marks : ¬ HasMark 
       let plain_stereo : s.stereo ≡ false = not_true s.stereo (λ e. marks (inl e)) in
       sound_pattern text l.whole p l.read (l.survey.pair rings) (within text s l small) (no_group text s l groups) (sym l.survey.stereo ∙ plain_stereo) (no_ring_set text s l marks ring_set).1 is
 
-pub looked : (text : List ℕ) (s : Survey) → length text ≤ 4096 → ¬ Contains text 62 → (whole : Whole) × IsWholeOf text whole × IsSurveyOf whole s → Looked text s
+pub looked : (text : List ℕ) (s : Survey) → length text ≤ 4096 → ¬ Contains text 62
+    → (whole : Whole) × IsWholeOf text whole × IsSurveyOf whole s → Looked text s
 looked text s short reaction f = record { whole = f.0; read = record { short = short; reaction = reaction; is = f.1 }; survey = f.2 }
 
 -- what a test that failed says

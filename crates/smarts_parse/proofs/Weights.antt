@@ -48,7 +48,8 @@ more_text = expression.more_text prim_text IsPrim FollowsPrim word_of part_of
 operand_weight : (x : Operand Prim) → weight (part_of x.prim) ≤ length (operand_text x)
 operand_weight x = let h = prim_weight x.prim in omega (arith, length-append (replicate x.bangs 33) (prim_text x.prim))
 
-more_weight : (xs : List (Joining × Operand Prim)) → weight (flat_map (λ x. part_of x.1.prim) xs) ≤ length (more_text xs)
+more_weight : (xs : List (Joining × Operand Prim))
+    → weight (flat_map (λ x. part_of x.1.prim) xs) ≤ length (more_text xs)
 more_weight [] = omega arith
 more_weight (x ∷ xs) =
     let h = operand_weight x.1 in
@@ -56,7 +57,8 @@ more_weight (x ∷ xs) =
     let e = weight-append (part_of x.1.prim) (flat_map (λ y. part_of y.1.prim) xs) in
     omega (arith, length-append (joining_text x.0) (operand_text x.1 ++ more_text xs), length-append (operand_text x.1) (more_text xs))
 
-expression_weight : (e : Expression Prim) → weight (expression.expression_parts prim_text IsPrim FollowsPrim word_of part_of e) ≤ length (expression_text e)
+expression_weight : (e : Expression Prim)
+    → weight (expression.expression_parts prim_text IsPrim FollowsPrim word_of part_of e) ≤ length (expression_text e)
 expression_weight e =
     let h = operand_weight e.first in
     let k = more_weight e.more in
@@ -67,7 +69,8 @@ some_begins : (P : ℕ → Type 0) (xs : List ℕ) → Begins P xs → 1 ≤ len
 some_begins P [] h = absurd h
 some_begins P (x ∷ xs) h = omega arith
 
-bracket_weight : (inside : Inside) (class : _) → 1 + weight (value_of_atom (bracket (record { inside = inside; class = class }))).parts ≤ length (bracket_text (record { inside = inside; class = class }))
+bracket_weight : (inside : Inside) (class : _)
+    → 1 + weight (value_of_atom (bracket (record { inside = inside; class = class }))).parts ≤ length (bracket_text (record { inside = inside; class = class }))
 bracket_weight (hydro h) class = omega arith
 bracket_weight (low e) class = let k = expression_weight e in omega (arith, length-append (expression_text e) (end_text class))
 
@@ -89,7 +92,8 @@ TreeNode = Node Atom (Expression BondPrim)
 parts_of : TreeNode → List (List ℕ)
 parts_of x = (value_of_atom x.atom).parts
 
-total-cons : (x : Placed Atom (Expression BondPrim)) (xs : Nodes) → total (x ∷ xs) ≡ 1 + weight (value_of_atom x.node.atom).parts + total xs
+total-cons : (x : Placed Atom (Expression BondPrim)) (xs : Nodes)
+    → total (x ∷ xs) ≡ 1 + weight (value_of_atom x.node.atom).parts + total xs
 total-cons x xs = let e = weight-append (value_of_atom x.node.atom).parts (part_texts (atoms_by smarts_words xs)) in omega arith
 
 total-append : (xs ys : Nodes) → total (xs ++ ys) ≡ total xs + total ys
@@ -100,10 +104,12 @@ total-append (x ∷ xs) ys =
     let b = weight-append (value_of_atom x.node.atom).parts (part_texts (atoms_by smarts_words xs)) in
     omega arith
 
-node_weight : (x : TreeNode) → walk.IsNode smarts_words x → 1 + weight (value_of_atom x.atom).parts ≤ length (walk.node_text smarts_words x)
+node_weight : (x : TreeNode) → walk.IsNode smarts_words x
+    → 1 + weight (value_of_atom x.atom).parts ≤ length (walk.node_text smarts_words x)
 node_weight x is = let h = atom_weight x.atom is.0 in omega (arith, length-append (atom_text x.atom) (flat_map (walk.ring_text smarts_words) x.rings))
 
-tail_weight : (at n : ℕ) (t : Tail Atom (Expression BondPrim)) → walk.IsTail smarts_words t → total (placed_from at n t) ≤ length (walk.tail_text smarts_words t)
+tail_weight : (at n : ℕ) (t : Tail Atom (Expression BondPrim)) → walk.IsTail smarts_words t
+    → total (placed_from at n t) ≤ length (walk.tail_text smarts_words t)
 tail_weight at n stop is = omega arith
 tail_weight at n (next joint node tail) is =
     let h = node_weight node is.1 in
@@ -119,21 +125,25 @@ tail_weight at n (branch joint node inner tail) is =
     let text = walk.tail_text smarts_words inner ++ 41 ∷ walk.tail_text smarts_words tail in
     omega (arith, length-append (walk.joint_text smarts_words joint) (walk.node_text smarts_words node ++ text), length-append (walk.node_text smarts_words node) text, length-append (walk.tail_text smarts_words inner) (41 ∷ walk.tail_text smarts_words tail))
 
-pub tree_weight : (n : ℕ) (tree : Tree) → walk.IsTree smarts_words tree → total (placed_at n tree) ≤ length (walk.spelling smarts_words tree)
+pub tree_weight : (n : ℕ) (tree : Tree) → walk.IsTree smarts_words tree
+    → total (placed_at n tree) ≤ length (walk.spelling smarts_words tree)
 tree_weight n tree is =
     let h = node_weight tree.first is.0 in
     let k = tail_weight n (n + 1) tree.tail is.1 in
     let e = total-cons (record { node = tree.first; before = None }) (placed_from n (n + 1) tree.tail) in
     omega (arith, length-append (walk.node_text smarts_words tree.first) (walk.tail_text smarts_words tree.tail))
 
-pub text_weight : (text : List ℕ) (tree : Tree) → walk.IsTreeOf smarts_words text tree → total (placed_nodes tree) ≤ length text
+pub text_weight : (text : List ℕ) (tree : Tree) → walk.IsTreeOf smarts_words text tree
+    → total (placed_nodes tree) ≤ length text
 text_weight text tree is = let h = tree_weight 0 tree is.0 in let e = ap length is.1 in omega arith
 
-item_weight : (n : ℕ) (x : Item) → walk.IsTree smarts_words (tree_of x) → total (placed_at n (tree_of x)) ≤ length (item_text x)
+item_weight : (n : ℕ) (x : Item) → walk.IsTree smarts_words (tree_of x)
+    → total (placed_at n (tree_of x)) ≤ length (item_text x)
 item_weight n (plain t) is = tree_weight n t is
 item_weight n (group t) is = let h = tree_weight n t is in omega (arith, length-append (walk.spelling smarts_words t) (41 ∷ []))
 
-pub items_weight : (n : ℕ) (x : Item) (xs : List Item) → AreItems x xs → total (nodes_from n (x ∷ xs)) ≤ length (item_text x ++ others_text xs)
+pub items_weight : (n : ℕ) (x : Item) (xs : List Item) → AreItems x xs
+    → total (nodes_from n (x ∷ xs)) ≤ length (item_text x ++ others_text xs)
 items_weight n x [] is =
     let h = item_weight n x is in
     let a = total-append (placed_at n (tree_of x)) [] in

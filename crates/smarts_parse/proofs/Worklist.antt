@@ -67,13 +67,15 @@ top-append : (xs ys : List Left) → top_level (xs ++ ys) ≡ max (top_level xs)
 top-append [] ys = omega arith
 top-append (x ∷ xs) ys = let e = top-append xs ys in omega arith
 
-level_nesting : (k : ℕ) (ts : List (List ℕ)) (p : Parts) → AreParts ts p → max k (nesting_at (at_level (k + 1) ts) p) ≡ k + nesting_of p
+level_nesting : (k : ℕ) (ts : List (List ℕ)) (p : Parts) → AreParts ts p
+    → max k (nesting_at (at_level (k + 1) ts) p) ≡ k + nesting_of p
 level_nesting k [] none h = omega arith
 level_nesting k [] (part tree inner others) h = absurd h
 level_nesting k (t ∷ ts) none h = absurd h
 level_nesting k (t ∷ ts) (part tree inner others) h = let e = level_nesting k ts others h.2 in omega arith
 
-nesting-join : (xs ys : List Left) (p q : Parts) → AreParts (texts_of xs) p → nesting_at (xs ++ ys) (join p q) ≡ max (nesting_at xs p) (nesting_at ys q)
+nesting-join : (xs ys : List Left) (p q : Parts) → AreParts (texts_of xs) p
+    → nesting_at (xs ++ ys) (join p q) ≡ max (nesting_at xs p) (nesting_at ys q)
 nesting-join [] ys none q h = omega arith
 nesting-join [] ys (part tree inner others) q h = absurd h
 nesting-join (x ∷ xs) ys none q h = absurd h
@@ -130,7 +132,8 @@ module _ (text : List ℕ) (first : Item) (others : List Item) (are : AreItems f
       }
 
 -- nothing is left
-pub all_read : (text : List ℕ) (s : Survey) → Worklist text s [] → (whole : Whole) × IsWholeOf text whole × IsSurveyOf whole s
+pub all_read : (text : List ℕ) (s : Survey) → Worklist text s []
+    → (whole : Whole) × IsWholeOf text whole × IsSurveyOf whole s
 all_read text s w =
     let f = w.found none tt in
     let i = f.2 in
@@ -162,7 +165,8 @@ or_moved false false true r = refl
 or_moved false false false true = refl
 or_moved false false false false = refl
 
-any_moved : (P : AtomValue → Bool) (b : Bool) (q r : Parts) (tree : Tree) → (b || list_any P (parts_atoms (join q (part tree r none)))) ≡ ((b || list_any P (tree_atoms tree)) || list_any P (parts_atoms (join q r)))
+any_moved : (P : AtomValue → Bool) (b : Bool) (q r : Parts) (tree : Tree)
+    → (b || list_any P (parts_atoms (join q (part tree r none)))) ≡ ((b || list_any P (tree_atoms tree)) || list_any P (parts_atoms (join q r)))
 any_moved P b q r tree =
     let one = parts_atoms (part tree r none) in
     let e : list_any P (parts_atoms (join q (part tree r none))) ≡ (list_any P (parts_atoms q) || (list_any P (tree_atoms tree) || (list_any P (parts_atoms r) || false))) =
@@ -188,12 +192,14 @@ module _ (text : List ℕ) (s t : Survey) (init : List Left) (x : Left) (tree : 
   new_texts : texts_of new_left ≡ texts_of init ++ inner_texts
   new_texts = map-append (λ y. y.text) init (at_level (x.level + 1) inner_texts) ∙ ap (λ v. texts_of init ++ v) (texts-level (x.level + 1) inner_texts)
 
-  whole_part : (q r : Parts) → AreParts (texts_of init) q → AreParts inner_texts r → AreParts (texts_of (init ++ x ∷ [])) (join q (part tree r none))
+  whole_part : (q r : Parts) → AreParts (texts_of init) q → AreParts inner_texts r
+      → AreParts (texts_of (init ++ x ∷ [])) (join q (part tree r none))
   whole_part q r h k =
       let P : List (List ℕ) → Type 0 = λ v. AreParts v (join q (part tree r none)) in
       subst P (sym old_texts) (are-join (texts_of init) (x.text ∷ []) q (part tree r none) h (is, k, tt))
 
-  moved : (whole : Whole) (q r : Parts) → AreParts (texts_of init) q → AreParts inner_texts r → IsSoFar whole s (init ++ x ∷ []) (join q (part tree r none)) → IsSoFar whole counted new_left (join q r)
+  moved : (whole : Whole) (q r : Parts) → AreParts (texts_of init) q → AreParts inner_texts r
+      → IsSoFar whole s (init ++ x ∷ []) (join q (part tree r none)) → IsSoFar whole counted new_left (join q r)
   moved whole q r h k i =
       let one = part tree r none in
       let a = i.atoms in
@@ -224,7 +230,8 @@ module _ (text : List ℕ) (s t : Survey) (init : List Left) (x : Left) (tree : 
         depth = omega arith;
       }
 
-  found_more : (p : Parts) → AreParts (texts_of new_left) p → (whole : Whole) × IsWholeOf text whole × IsSoFar whole counted new_left p
+  found_more : (p : Parts) → AreParts (texts_of new_left) p
+      → (whole : Whole) × IsWholeOf text whole × IsSoFar whole counted new_left p
   found_more p h =
       let P : List (List ℕ) → Type 0 = λ v. AreParts v p in
       let v = split (texts_of init) inner_texts p (subst P new_texts h) in
