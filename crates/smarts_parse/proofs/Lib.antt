@@ -1,2 +1,0 @@
-pub mod ChainSound
-pub mod Unambiguous
