@@ -1,0 +1,5 @@
+pub mod Postfix
+pub mod OnePattern
+pub mod Values
+pub mod Parts
+pub mod Building

@@ -6,3 +6,5 @@ pub mod Faults
 pub mod Whole
 pub mod Meaning
 pub mod Reading
+pub mod Steps
+pub mod Build
