@@ -1,13 +1,14 @@
 -- Building goes on: what is left of recursive parts and atoms, and what stands already.
 use Rattle.std.proofs.Common.{◌≡◌, ℕ, ◌+◌, ◌-◌, ◌≤◌, Bool, true, false, ◌||◌, List, [], ◌∷◌, ◌++◌, length, map, drop, refl, sym, ◌∙◌, ap, subst, arith, append_assoc, length-append}
-use Rattle.std.proofs.lemmas.List.{append-nil}
+use Rattle.std.proofs.lemmas.List.{append-nil, length-map}
 use Rattle.std.proofs.lemmas.List.Folds.{list_any-append}
 use Rattle.std.specs.List.{list_any, AllByRecursion}
 use Rattle.line_walk.specs.Places.{placed_nodes}
 use Rattle.smarts_words.specs.declared.word.Step.{Step}
 use Rattle.smarts_words.specs.Bracket.{AtomValue}
 use Rattle.smarts_parse.specs.declared.pattern.AtomPrim.{AtomPrim}
-use Rattle.smarts_parse.specs.Pattern.{Term, GraphTerm}
+use Rattle.smarts_parse.specs.declared.pattern.Graph.{Graph}
+use Rattle.smarts_parse.specs.Pattern.{GraphTerm, graph_of}
 use Rattle.smarts_parse.specs.Whole.{Tree, Parts, none, part, part_texts, tree_atoms, AreParts, parts_atoms, count_of}
 use Rattle.smarts_parse.specs.Meaning.{postfix, atom_steps, atoms_steps, numbers_from, ArePartTerms, IsGraphTerm}
 use Rattle.smarts_parse.specs.Reading.{is_stereo}
@@ -200,3 +201,14 @@ pub atoms_end : (whole : List AtomValue) (all : Parts) (levels n m : ℕ) (done 
     → (done ≡ atoms_steps (numbers_from n all) whole) × ArePut n all before now
 atoms_end whole all levels n m done before now h =
     (sym (ap (λ w. done ++ w) (nil_atoms (numbers_from m h.left)) ∙ append-nil done) ∙ h.steps_are, put_all all h.left levels n m before now h.have.build h.put)
+
+-- as many graphs stand as the number of the next says
+pub number_at : (n : ℕ) (p : Parts) (gs : List GraphTerm) (before after : List Graph) → ArePartTerms n p gs → map graph_of after ≡ map graph_of before ++ gs → n ≡ length before
+    → length after ≡ n + count_of p
+number_at n p gs before after a e f =
+    let c = terms_count n p gs a in
+    let x = length-append (map graph_of before) gs in
+    let y = ap (λ w. length w) e in
+    let z = length-map before graph_of in
+    let t = length-map after graph_of in
+    omega arith

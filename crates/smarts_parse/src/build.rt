@@ -1,6 +1,6 @@
 //! The graphs of a text and of its recursive parts.
 
-ghost use Rattle.std.specs.Prelude.{◌≡◌, ◌≢◌, ℕ, ◌+◌, ◌<◌, ◌≤◌, List, [], ◌∷◌, ◌++◌, false, length, map, IfOk, IfErr};
+ghost use Rattle.std.specs.Prelude.{◌≡◌, ◌≢◌, ℕ, ◌+◌, ◌<◌, ◌≤◌, List, [], ◌∷◌, ◌++◌, false, length, map, All, IfOk, IfErr};
 ghost use Rattle.std.specs.List.{list_any, AllByRecursion};
 ghost use Rattle.line_walk.specs.Tree.{IsTreeOf};
 ghost use Rattle.line_walk.specs.Places.{placed_nodes};
@@ -150,8 +150,8 @@ fn read(
 
 // The bonds of a graph.
 fn bonds(alloc: Global, links: &[Link<PatternBond>]) -> Result<Vec<PatBond>, AllocError>
-    requires kinds { AllByRecursion (λ x. x.kind ≢ [] → LeaveOne 0 x.kind) links.now }
-    requires ends { AllByRecursion (λ x. (x.a < 65536) × (x.b < 65536)) links.now }
+    requires kinds { All (λ x. x.kind ≢ [] → LeaveOne 0 x.kind) links.now }
+    requires ends { All (λ x. (x.a < 65536) × (x.b < 65536)) links.now }
     ensures { IfOk result (λ bs. AreBondTerms links.now (map bond_of bs.items)) }
 {
     let mut bonds = Vec::new(alloc);
