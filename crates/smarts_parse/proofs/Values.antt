@@ -113,7 +113,7 @@ parts_joined op none f count h (x ∷ xs) =
 
 nots_parts : (n : ℕ) → parts_in (replicate n steps.Not) ≡ 0
 nots_parts zero = refl
-nots_parts (suc n) = nots_parts n
+nots_parts (suc n) = let e = nots_parts n in omega arith
 
 prim_parts : (x : prims.Prim) → part_count (steps.Prim (prims.word_of x)) ≡ length (prims.part_of x)
 prim_parts (prims.part text) = refl
@@ -182,7 +182,7 @@ charges_plain : (charge : Option prims.Signs) → AllByRecursion Plain (charge_w
 charges_plain None = tt
 charges_plain (Some signs) = (refl, tt)
 
-all-append : {X : Type 0} (Q : X → Type 0) (xs ys : List X) → AllByRecursion Q xs → AllByRecursion Q ys → AllByRecursion Q (xs ++ ys)
+pub all-append : {X : Type 0} (Q : X → Type 0) (xs ys : List X) → AllByRecursion Q xs → AllByRecursion Q ys → AllByRecursion Q (xs ++ ys)
 all-append Q [] ys a b = b
 all-append Q (x ∷ xs) ys a b = (a.0, all-append Q xs ys a.1 b)
 
