@@ -1,20 +1,25 @@
 -- Building goes on: what is left of recursive parts and atoms, and what stands already.
-use Rattle.std.proofs.Common.{◌≡◌, ℕ, ◌+◌, ◌-◌, ◌≤◌, Bool, true, false, ◌||◌, List, [], ◌∷◌, ◌++◌, length, map, drop, refl, sym, ◌∙◌, ap, subst, arith, append_assoc, length-append}
-use Rattle.std.proofs.lemmas.List.{append-nil, length-map}
+use Rattle.std.proofs.Common.{◌≡◌, ℕ, ◌+◌, ◌-◌, ◌≤◌, Bool, true, false, ◌||◌, List, [], ◌∷◌, ◌++◌, length, map, drop, get_or, ◌<◌, refl, sym, ◌∙◌, ap, subst, arith, append_assoc, length-append}
+use Rattle.std.proofs.lemmas.List.{append-nil, length-map, drop_all, drop_more}
 use Rattle.std.proofs.lemmas.List.Folds.{list_any-append}
 use Rattle.std.specs.List.{list_any, AllByRecursion}
-use Rattle.line_walk.specs.Places.{placed_nodes}
+use Rattle.line_walk.specs.Places.{placed_nodes, atoms_by}
+use Rattle.line_walk.specs.declared.pairs.Link.{Link}
+use Rattle.smarts_words.specs.declared.word.AtomWord.{AtomWord}
+use Rattle.smarts_words.specs.declared.word.BondWord.{BondWord}
+use Rattle.smarts_words.specs.Words.{smarts_words}
 use Rattle.smarts_words.specs.declared.word.Step.{Step}
 use Rattle.smarts_words.specs.Bracket.{AtomValue}
 use Rattle.smarts_parse.specs.declared.pattern.AtomPrim.{AtomPrim}
 use Rattle.smarts_parse.specs.declared.pattern.Graph.{Graph}
 use Rattle.smarts_parse.specs.Pattern.{GraphTerm, graph_of}
-use Rattle.smarts_parse.specs.Whole.{Tree, Parts, none, part, part_texts, tree_atoms, AreParts, parts_atoms, count_of}
+use Rattle.smarts_parse.specs.Whole.{Tree, Nodes, Parts, none, part, part_texts, tree_atoms, AreParts, parts_atoms, count_of}
 use Rattle.smarts_parse.specs.Meaning.{postfix, atom_steps, atoms_steps, numbers_from, ArePartTerms, IsGraphTerm}
 use Rattle.smarts_parse.specs.Reading.{is_stereo}
-use Rattle.smarts_parse.specs.Steps.{IsValue}
+use Rattle.smarts_parse.specs.Steps.{IsValue, AreAtomSteps}
 use Rattle.smarts_parse.specs.Build.{IsBuildable, AreBuildable, HaveBuildable, ArePut}
 use Rattle.smarts_parse.proofs.Parts.{join, Split, split, numbers-join, terms-join, terms_count, numbers_count, or_false, none_in, mine_buildable, others_buildable, steps_first, drop_first}
+use Rattle.smarts_parse.proofs.Values.{atom_is_value}
 
 -- Of all parts, the first of which has the number n, those of these texts are left, and m graphs stand.
 pub record PartsLeft (texts : List (List ℕ)) (all : Parts) (levels n m : ℕ) (numbers : List ℕ) (before now : List GraphTerm) : Type 0 where
@@ -26,14 +31,10 @@ pub record PartsLeft (texts : List (List ℕ)) (all : Parts) (levels n m : ℕ) 
 pub parts_none : (texts : List (List ℕ)) (all : Parts) (levels n : ℕ) (before : List GraphTerm) → AreBuildable texts all levels n → PartsLeft texts all levels n n [] before before
 parts_none texts all levels n before h = record { left = all; build = h; numbers_are = refl; put = λ gs a. (gs, a, refl) }
 
--- what a part leaves
-pub record PartPut (tree : Tree) (inner : Parts) (n k : ℕ) (before now : List GraphTerm) : Type 0 where
-  pub number : k ≡ n + count_of inner
-  pub graph : GraphTerm
-  pub graphs : List GraphTerm
-  pub is : IsGraphTerm (placed_nodes tree) (numbers_from n inner) graph
-  pub are : ArePartTerms n inner graphs
-  pub put : now ≡ before ++ (graphs ++ graph ∷ [])
+-- what a part leaves: its number, its graph, and the graphs of its own parts before that
+abbrev pub PartPut : Tree → Parts → ℕ → ℕ → List GraphTerm → List GraphTerm → Type 0
+PartPut tree inner n k before now =
+    (k ≡ n + count_of inner) × (g : GraphTerm) × (gs : List GraphTerm) × IsGraphTerm (placed_nodes tree) (numbers_from n inner) g × ArePartTerms n inner gs × (now ≡ before ++ (gs ++ g ∷ []))
 
 -- the first of the parts that are left
 pub record FirstPart (text : List ℕ) (levels m : ℕ) : Type 0 where
@@ -87,20 +88,20 @@ step_at : (text : List ℕ) (texts : List (List ℕ)) (all left : Parts) (levels
 step_at text texts all none levels n m k l numbers before now after build are put done e f = absurd build.of_texts
 step_at text texts all (part tree inner others) levels n m k l numbers before now after build are put done e f =
     let d = done tree inner (first_of text texts tree inner others levels m build) in
-    let c = terms_count m inner d.graphs d.are in
-    let x = length-append now (d.graphs ++ d.graph ∷ []) in
-    let y = length-append d.graphs (d.graph ∷ []) in
-    let z = ap (λ w. length w) d.put in
+    let c = terms_count m inner d.2 d.4 in
+    let x = length-append now (d.2 ++ d.1 ∷ []) in
+    let y = length-append d.2 (d.1 ∷ []) in
+    let z = ap (λ w. length w) d.5 in
     let at : m + count_of inner + 1 ≡ l = omega arith in
-    let number = d.number in
+    let number = d.0 in
     record {
       left = others;
       build = subst (λ (w : ℕ). AreBuildable texts others levels w) at (others_of text texts tree inner others levels m build);
       numbers_are = append_assoc numbers (k ∷ []) (numbers_from l others) ∙ ap (λ w. numbers ++ k ∷ numbers_from w others) (sym at) ∙ ap (λ w. numbers ++ w ∷ numbers_from (m + count_of inner + 1) others) number ∙ are;
       put = λ gs a.
-          let p = put (d.graphs ++ d.graph ∷ gs) (d.graphs, d.graph, gs, refl, d.are, d.is, subst (λ (w : ℕ). ArePartTerms w others gs) (sym at) a) in
-          let q : after ++ gs ≡ now ++ (d.graphs ++ d.graph ∷ gs) =
-          ap (λ w. w ++ gs) d.put ∙ append_assoc now (d.graphs ++ d.graph ∷ []) gs ∙ ap (λ w. now ++ w) (append_assoc d.graphs (d.graph ∷ []) gs) in
+          let p = put (d.2 ++ d.1 ∷ gs) (d.2, d.1, gs, refl, d.4, d.3, subst (λ (w : ℕ). ArePartTerms w others gs) (sym at) a) in
+          let q : after ++ gs ≡ now ++ (d.2 ++ d.1 ∷ gs) =
+          ap (λ w. w ++ gs) d.5 ∙ append_assoc now (d.2 ++ d.1 ∷ []) gs ∙ ap (λ w. now ++ w) (append_assoc d.2 (d.1 ∷ []) gs) in
           (p.0, p.1, q ∙ p.2);
     }
 
@@ -212,3 +213,79 @@ number_at n p gs before after a e f =
     let z = length-map before graph_of in
     let t = length-map after graph_of in
     omega arith
+
+-- the element of a loop's turn
+drop_at : {X : Type 0} (xs : List X) (i : ℕ) (x : X) → i < length xs → x ≡ get_or xs i x → drop i xs ≡ x ∷ drop (i + 1) xs
+drop_at xs i x lt e = drop_more xs i x lt ∙ ap (λ w. w ∷ drop (i + 1) xs) (sym e)
+
+module _ {V : Type 0} (f : V → List ℕ) (vs : List V) (i : ℕ) (x : V) (text : List ℕ) (all : Parts) (levels n m : ℕ) (numbers : List ℕ) (before now : List GraphTerm) (lt : i < length vs) (at : x ≡ get_or vs i x)
+    (e : text ≡ f x) (h : PartsLeft (map f (drop i vs)) all levels n m numbers before now) where
+  turn : PartsLeft (text ∷ map f (drop (i + 1) vs)) all levels n m numbers before now
+  turn = subst (λ (w : List (List ℕ)). PartsLeft w all levels n m numbers before now) (ap (λ w. map f w) (drop_at vs i x lt at) ∙ ap (λ w. w ∷ map f (drop (i + 1) vs)) (sym e)) h
+
+  pub parts_at : FirstPart text levels m
+  parts_at = first_part text (map f (drop (i + 1) vs)) turn.left levels m turn.build
+
+  pub parts_turn : (k l : ℕ) (after : List GraphTerm) → ((tree : Tree) (inner : Parts) → IsBuildable text tree inner (levels - 1) m → PartPut tree inner m k now after) → m ≡ length now → l ≡ length after
+      → PartsLeft (map f (drop (i + 1) vs)) all levels n l (numbers ++ k ∷ []) before after
+  parts_turn k l after done p q = parts_step text (map f (drop (i + 1) vs)) all levels n m k l numbers before now after turn done p q
+
+pub parts_stop : {V : Type 0} (f : V → List ℕ) (vs : List V) (i : ℕ) (all : Parts) (levels n m : ℕ) (numbers : List ℕ) (before now : List GraphTerm) → length vs ≤ i
+    → PartsLeft (map f (drop i vs)) all levels n m numbers before now → (numbers ≡ numbers_from n all) × ArePut n all before now
+parts_stop f vs i all levels n m numbers before now le h =
+    parts_end all levels n m numbers before now (subst (λ (w : List (List ℕ)). PartsLeft w all levels n m numbers before now) (ap (λ w. map f w) (drop_all i vs le)) h)
+
+module _ (vs : List AtomValue) (i : ℕ) (x : AtomValue) (all : Parts) (levels n m : ℕ) (done : List (List (Step AtomPrim))) (before now : List GraphTerm) (lt : i < length vs) (at : x ≡ get_or vs i x)
+    (h : AtomsLeft (drop i vs) vs all levels n m done before now) where
+  atoms_here : AtomsLeft (x ∷ drop (i + 1) vs) vs all levels n m done before now
+  atoms_here = subst (λ (w : List AtomValue). AtomsLeft w vs all levels n m done before now) (drop_at vs i x lt at) h
+
+  pub atoms_at : FirstAtom x levels m
+  atoms_at = first_atom x (drop (i + 1) vs) atoms_here.left levels m atoms_here.have
+
+  pub atoms_turn : (l : ℕ) (ss : List (Step AtomPrim)) (after : List GraphTerm) → ((mine : Parts) → AreBuildable x.parts mine levels m → (ss ≡ atom_steps (numbers_from m mine) x.steps) × ArePut m mine now after)
+      → m ≡ length now → l ≡ length after → AtomsLeft (drop (i + 1) vs) vs all levels n l (done ++ ss ∷ []) before after
+  atoms_turn l ss after put p q = atoms_step x (drop (i + 1) vs) vs all levels n m l done ss before now after atoms_here put p q
+
+pub atoms_stop : (vs : List AtomValue) (i : ℕ) (all : Parts) (levels n m : ℕ) (done : List (List (Step AtomPrim))) (before now : List GraphTerm) → length vs ≤ i
+    → AtomsLeft (drop i vs) vs all levels n m done before now → (done ≡ atoms_steps (numbers_from n all) vs) × ArePut n all before now
+atoms_stop vs i all levels n m done before now le h =
+    atoms_end vs all levels n m done before now (subst (λ (w : List AtomValue). AtomsLeft w vs all levels n m done before now) (drop_all i vs le) h)
+
+-- an atom's steps, and numbers for its recursive parts
+pub steps_of : (value : AtomValue) (p : Parts) (levels n : ℕ) (ss : List (Step AtomWord)) (numbers : List ℕ) → IsValue value → list_any is_stereo value.steps ≡ false → AreBuildable value.parts p levels n
+    → ss ≡ value.steps → numbers ≡ numbers_from n p → AreAtomSteps ss numbers
+steps_of value p levels n ss numbers is plain build e f =
+    let c = numbers_count n value.parts p build.of_texts in
+    let d = is.parts in
+    let g = ap (λ w. length w) f in
+    let whole : AreAtomSteps value.steps numbers = record { one = is.one; parts = omega arith; plain = plain } in
+    subst (λ (w : List (Step AtomWord)). AreAtomSteps w numbers) (sym e) whole
+
+-- the atoms of nodes
+pub values_all : (nodes : Nodes) → AllByRecursion IsValue (atoms_by smarts_words nodes)
+values_all [] = tt
+values_all (x ∷ nodes) = (atom_is_value x.node.atom, values_all nodes)
+
+pub have_of : (text : List ℕ) (tree : Tree) (p : Parts) (levels n : ℕ) (values : List AtomValue) → IsBuildable text tree p levels n → values ≡ tree_atoms tree → HaveBuildable values p levels n
+have_of text tree p levels n values h e =
+    let t = none_in (tree_atoms tree) (parts_atoms p) h.plain in
+    let c = length-append (tree_atoms tree) (parts_atoms p) in
+    let d = h.few_atoms in
+    let whole : HaveBuildable (tree_atoms tree) p levels n = record {
+      are = values_all (placed_nodes tree);
+      plain = t.0;
+      build = record { of_texts = h.parts_of_atoms; pair = h.parts_pair; plain = t.1; nesting = h.nesting; few_parts = h.few_parts; few_atoms = omega arith };
+    } in
+    subst (λ (w : List AtomValue). HaveBuildable w p levels n) (sym e) whole
+
+-- there are few atoms, so the ends of bonds are small
+pub ends_small : (text : List ℕ) (tree : Tree) (p : Parts) (levels n : ℕ) (values : List AtomValue) (links : List (Link (List (Step BondWord)))) → IsBuildable text tree p levels n → values ≡ tree_atoms tree
+    → AllByRecursion (λ x. (x.a < x.b) × (x.b < length values)) links → AllByRecursion (λ x. (x.a < 65536) × (x.b < 65536)) links
+ends_small text tree p levels n values [] h e ends = tt
+ends_small text tree p levels n values (x ∷ links) h e ends =
+    let c = length-append (tree_atoms tree) (parts_atoms p) in
+    let d = h.few_atoms in
+    let f = ap (λ w. length w) e in
+    let g = ends.0.0 in let i = ends.0.1 in
+    ((omega arith, omega arith), ends_small text tree p levels n values links h e ends.1)
