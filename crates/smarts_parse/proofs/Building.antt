@@ -1,18 +1,17 @@
 -- Building goes on: what is left of recursive parts and atoms, and what stands already.
 use Rattle.std.proofs.Common.{◌≡◌, ℕ, ◌+◌, ◌-◌, ◌≤◌, Bool, true, false, ◌||◌, List, [], ◌∷◌, ◌++◌, length, map, drop, get_or, ◌<◌, refl, sym, ◌∙◌, ap, subst, arith, append_assoc, length-append}
-use Rattle.std.proofs.lemmas.List.{append-nil, length-map, drop_all, drop_more}
+use Rattle.std.proofs.lemmas.List.{append-nil, map-append, length-map, drop_all, drop_more}
 use Rattle.std.proofs.lemmas.List.Folds.{list_any-append}
 use Rattle.std.specs.List.{list_any, AllByRecursion}
 use Rattle.line_walk.specs.Places.{placed_nodes, atoms_by}
-use Rattle.line_walk.specs.declared.pairs.Link.{Link}
 use Rattle.smarts_words.specs.declared.word.AtomWord.{AtomWord}
-use Rattle.smarts_words.specs.declared.word.BondWord.{BondWord}
 use Rattle.smarts_words.specs.Words.{smarts_words}
 use Rattle.smarts_words.specs.declared.word.Step.{Step}
 use Rattle.smarts_words.specs.Bracket.{AtomValue}
 use Rattle.smarts_parse.specs.declared.pattern.AtomPrim.{AtomPrim}
+use Rattle.smarts_parse.specs.declared.pattern.Expr.{Expr}
 use Rattle.smarts_parse.specs.declared.pattern.Graph.{Graph}
-use Rattle.smarts_parse.specs.Pattern.{GraphTerm, graph_of}
+use Rattle.smarts_parse.specs.Pattern.{GraphTerm, term_of, graph_of}
 use Rattle.smarts_parse.specs.Whole.{Tree, Nodes, Parts, none, part, part_texts, tree_atoms, AreParts, parts_atoms, count_of}
 use Rattle.smarts_parse.specs.Meaning.{postfix, atom_steps, atoms_steps, numbers_from, ArePartTerms, IsGraphTerm}
 use Rattle.smarts_parse.specs.Reading.{is_stereo}
@@ -279,13 +278,12 @@ have_of text tree p levels n values h e =
     } in
     subst (λ (w : List AtomValue). HaveBuildable w p levels n) (sym e) whole
 
--- there are few atoms, so the ends of bonds are small
-pub ends_small : (text : List ℕ) (tree : Tree) (p : Parts) (levels n : ℕ) (values : List AtomValue) (links : List (Link (List (Step BondWord)))) → IsBuildable text tree p levels n → values ≡ tree_atoms tree
-    → AllByRecursion (λ x. (x.a < x.b) × (x.b < length values)) links → AllByRecursion (λ x. (x.a < 65536) × (x.b < 65536)) links
-ends_small text tree p levels n values [] h e ends = tt
-ends_small text tree p levels n values (x ∷ links) h e ends =
-    let c = length-append (tree_atoms tree) (parts_atoms p) in
-    let d = h.few_atoms in
-    let f = ap (λ w. length w) e in
-    let g = ends.0.0 in let i = ends.0.1 in
-    ((omega arith, omega arith), ends_small text tree p levels n values links h e ends.1)
+-- one more expression
+pub exprs_push : (before after : List (Expr AtomPrim)) (x : Expr AtomPrim) → after ≡ before ++ x ∷ [] → map postfix (map term_of after) ≡ map postfix (map term_of before) ++ postfix (term_of x) ∷ []
+exprs_push before after x e =
+    ap (λ w. map postfix (map term_of w)) e ∙ ap (λ w. map postfix w) (map-append term_of before (x ∷ [])) ∙ map-append postfix (map term_of before) (term_of x ∷ [])
+
+-- one more graph
+pub put_push : (before mid after : List Graph) (g : Graph) (gs : List GraphTerm) → map graph_of mid ≡ map graph_of before ++ gs → after ≡ mid ++ g ∷ [] → map graph_of after ≡ map graph_of before ++ (gs ++ graph_of g ∷ [])
+put_push before mid after g gs e f =
+    ap (λ w. map graph_of w) f ∙ map-append graph_of mid (g ∷ []) ∙ ap (λ w. w ++ graph_of g ∷ []) e ∙ append_assoc (map graph_of before) gs (graph_of g ∷ [])
