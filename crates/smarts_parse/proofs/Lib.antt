@@ -6,3 +6,4 @@ pub mod Building
 pub mod Links
 pub mod Arity
 pub mod Bonds
+pub mod Soundness
