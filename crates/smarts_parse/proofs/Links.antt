@@ -129,9 +129,11 @@ module _ (c : ℕ) where
   tail_below : (at n : ℕ) (tail : Tail Atom (Expression BondPrim)) → at < c → n + size_of tail ≤ c → AllByRecursion Below (placed_from at n tail)
   tail_below at n stop h e = tt
   tail_below at n (next joint node tail) h e = (joined_below at joint h, tail_below n (n + 1) tail (omega arith) (omega arith))
-  tail_below at n (branch joint node inner tail) h e =
-      (joined_below at joint h, all-append Below (placed_from n (n + 1) inner) (placed_from at (n + 1 + size_of inner) tail)
-        (tail_below n (n + 1) inner (omega arith) (omega arith)) (tail_below at (n + 1 + size_of inner) tail h (omega arith)))
+  tail_below at n (branch joint node inner tail) h e = (
+    joined_below at joint h,
+    all-append Below (placed_from n (n + 1) inner) (placed_from at (n + 1 + size_of inner) tail)
+        (tail_below n (n + 1) inner (omega arith) (omega arith)) (tail_below at (n + 1 + size_of inner) tail h (omega arith)),
+  )
 
   abbrev EndsEntry : Entry (List (Step BondWord)) → Type 0
   EndsEntry = EntryIs agreed_bond (λ x. (x.a < c) × (x.b < c)) (λ x. x.atom < c)

@@ -39,7 +39,7 @@ atoms-loop-atom-preserved t c = λ all h.
     subst (λ (w : List (List (Step AtomPrim))). AtomsLeft (drop (i + 1) vs) vs all c.args.levels (length c.args.recs.now.items) (length after) w (map graph_of c.args.recs.now.items) (map graph_of after))
     (sym (exprs_push c.loop-atom.exprs.items c.push.new.self.items x e))
     (atoms_turn vs i c.atom-item.result all c.args.levels _ _ _ _ _ (omega arith) c.atom-item.is inv (length after) (postfix (term_of x)) (map graph_of after)
-      (λ mine b. c.in_ok-atom_graphs.ensures.built mine b) (sym (length-map c.loop-atom.recs.items graph_of)) (sym (length-map after graph_of)))
+    (λ mine b. c.in_ok-atom_graphs.ensures.built mine b) (sym (length-map c.loop-atom.recs.items graph_of)) (sym (length-map after graph_of)))
 
 pub atoms-returns-clause-built : goal.atoms-returns-clause-built
 atoms-returns-clause-built t c = λ all h.
@@ -100,7 +100,7 @@ parts_graphs-loop-text-preserved t c = λ all h.
     let e : c.push.new.self.items ≡ c.loop-text.numbers.items ++ k ∷ [] = grind (arith, common_steps) in
     subst (λ (w : List ℕ). PartsLeft (map f (drop (i + 1) vs)) all c.args.levels (length c.args.recs.now.items) (length after) w (map graph_of c.args.recs.now.items) (map graph_of after)) (sym e)
     (parts_turn f vs i c.text-item.result c.deref.result.now all c.args.levels _ _ _ _ _ (omega arith) c.text-item.is c.deref.ensures.value inv k (length after) (map graph_of after)
-      (λ tree inner b. c.in_ok-part_graphs.ensures.built tree inner b) (sym (length-map c.loop-text.recs.items graph_of)) (sym (length-map after graph_of)))
+    (λ tree inner b. c.in_ok-part_graphs.ensures.built tree inner b) (sym (length-map c.loop-text.recs.items graph_of)) (sym (length-map after graph_of)))
 
 pub parts_graphs-returns-clause-built : goal.parts_graphs-returns-clause-built
 parts_graphs-returns-clause-built t c = λ all h.

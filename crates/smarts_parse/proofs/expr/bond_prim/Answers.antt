@@ -1,6 +1,4 @@
-use Rattle.std.proofs.Common.{rules}
-use Rattle.smarts_parse.proofs.OnePattern.{one_pattern}
-use Rattle.smarts_parse.proofs.Values.{atom_is_value}
+use Rattle.smarts_parse.proofs.OneAnswer.{one_answer}
+use Rattle.smarts_parse.proofs.Answer.{ready}
 use Rattle.smarts_parse.proofs.Soundness.{sound_pattern}
-use Rattle.smarts_parse.proofs.Links.{ends_all}
 use Rattle.smarts_parse.proofs.expr.bond_prim.Goals as goal
