@@ -1,5 +1,5 @@
 -- The answer to a text without groups: what is built of it is its reading.
-use Rattle.std.proofs.Common.{◌≡◌, ◌≢◌, ◌⊎◌, inl, inr, ℕ, ◌+◌, ◌≤◌, Bool, true, false, List, [], ◌∷◌, ◌++◌, length, refl, sym, ◌∙◌, ap, subst, arith, Ok}
+use Rattle.std.proofs.Common.{◌≡◌, inl, ℕ, Bool, true, false, List, [], ◌∷◌, ◌++◌, length, refl, sym, ◌∙◌, ap, subst, arith, Ok}
 use Rattle.std.proofs.lemmas.List.{append-nil}
 use Rattle.std.specs.List.{list_any}
 use Rattle.line_walk.specs.Tree as walk
@@ -57,7 +57,9 @@ module _ (text : List ℕ) (whole : Whole) (none : NoLimit text whole) (ungroupe
       let parts = none.1.parts in
       record {
         tree_of_text = (tree_is, text_is);
-        parts_of_atoms = subst (λ (w : Nodes). AreParts (part_texts (atoms_by smarts_words w)) whole.parts) nodes_are none.0.0.0.0.is.parts;
+        parts_of_atoms =
+            subst (λ (w : Nodes). AreParts (part_texts (atoms_by smarts_words w)) whole.parts) nodes_are
+            none.0.0.0.0.is.parts;
         pair = subst (λ (w : Nodes). DoPair w) nodes_are none.0.1.0;
         parts_pair = none.0.1.1;
         plain = ap (λ w. list_any (λ a. list_any is_stereo a.steps) w) (sym same) ∙ atoms;
@@ -70,8 +72,10 @@ module _ (text : List ℕ) (whole : Whole) (none : NoLimit text whole) (ungroupe
   ready = (item.tree, whole.parts, buildable)
 
   -- and are the pattern that the text means
-  pub answered : (g : GraphTerm) (recs : List GraphTerm) → ((tree : Tree) (parts : Parts) → IsBuildable text tree parts 8 0
-      → IsGraphTerm (placed_nodes tree) (numbers_from 0 parts) g × (gs : List GraphTerm) × ArePartTerms 0 parts gs × (recs ≡ gs))
+  pub answered : (g : GraphTerm) (recs : List GraphTerm)
+      → ((tree : Tree) (parts : Parts) → IsBuildable text tree parts 8 0
+      → IsGraphTerm (placed_nodes tree) (numbers_from 0 parts) g × (gs : List GraphTerm) × ArePartTerms 0 parts gs
+      × (recs ≡ gs))
       → IsReading text (Ok (record { top = g; recs = recs }))
   answered g recs built =
       let b = built item.tree whole.parts buildable in

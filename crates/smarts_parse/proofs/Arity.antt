@@ -1,6 +1,5 @@
 -- Steps that are given a meaning are said of as many expressions as before.
-use Rattle.std.proofs.Common.{◌≡◌, ℕ, ◌+◌, ◌-◌, ◌≤◌, List, [], ◌∷◌, ◌++◌, length, map, drop, refl, sym, ◌∙◌, ap, subst, arith}
-use Rattle.std.proofs.lemmas.List.{append-nil}
+use Rattle.std.proofs.Common.{◌≡◌, ℕ, ◌+◌, ◌-◌, List, [], ◌∷◌, map, refl, sym, subst, arith}
 use Rattle.smarts_words.specs.declared.word.Step.{Step}
 use Rattle.smarts_words.specs.declared.word.Step.TheVariants as steps
 use Rattle.smarts_words.specs.declared.word.AtomWord.{AtomWord}
@@ -20,8 +19,11 @@ operands_bond steps.Or = refl
 pub leave_bonds : (n : ℕ) (ss : List (Step BondWord)) → LeaveOne n ss → LeaveOne n (map bond_step ss)
 leave_bonds n [] h = h
 leave_bonds n (s ∷ ss) h =
-    let e = operands_bond s in let le = h.0 in
-    (omega arith, subst (λ (w : ℕ). LeaveOne (n - w + 1) (map bond_step ss)) (sym e) (leave_bonds (n - operands s + 1) ss h.1))
+    let e = operands_bond s in let le = h.0 in (
+      omega arith,
+      subst (λ (w : ℕ). LeaveOne (n - w + 1) (map bond_step ss)) (sym e)
+          (leave_bonds (n - operands s + 1) ss h.1),
+    )
 
 -- what one step of an atom becomes
 record Headed (ns : List ℕ) (s : Step AtomWord) (ss : List (Step AtomWord)) : Type 0 where
@@ -32,8 +34,18 @@ record Headed (ns : List ℕ) (s : Step AtomWord) (ss : List (Step AtomWord)) : 
 
 headed : (ns : List ℕ) (s : Step AtomWord) (ss : List (Step AtomWord)) → Headed ns s ss
 headed [] (steps.Prim word) ss = record { head = steps.Prim (atom_prim 0 word); left = []; is = refl; same = refl }
-headed (n ∷ ns) (steps.Prim words.Part) ss = record { head = steps.Prim (atoms.Rec n); left = ns; is = refl; same = refl }
-headed (n ∷ ns) (steps.Prim word) ss = record { head = steps.Prim (atom_prim 0 word); left = n ∷ ns; is = refl; same = refl }
+headed (n ∷ ns) (steps.Prim words.Part) ss = record {
+  head = steps.Prim (atoms.Rec n);
+  left = ns;
+  is = refl;
+  same = refl;
+}
+headed (n ∷ ns) (steps.Prim word) ss = record {
+  head = steps.Prim (atom_prim 0 word);
+  left = n ∷ ns;
+  is = refl;
+  same = refl;
+}
 headed [] steps.Not ss = record { head = steps.Not; left = []; is = refl; same = refl }
 headed [] steps.And ss = record { head = steps.And; left = []; is = refl; same = refl }
 headed [] steps.Or ss = record { head = steps.Or; left = []; is = refl; same = refl }
@@ -50,5 +62,8 @@ leave_atoms n ns [] h = subst (λ (w : List (Step AtomPrim)). LeaveOne n w) (sym
 leave_atoms n ns (s ∷ ss) h =
     let d = headed ns s ss in
     let e = d.same in let le = h.0 in
-    subst (λ (w : List (Step AtomPrim)). LeaveOne n w) (sym d.is)
-    (omega arith, subst (λ (w : ℕ). LeaveOne (n - w + 1) (atom_steps d.left ss)) (sym e) (leave_atoms (n - operands s + 1) d.left ss h.1))
+    subst (λ (w : List (Step AtomPrim)). LeaveOne n w) (sym d.is) (
+      omega arith,
+      subst (λ (w : ℕ). LeaveOne (n - w + 1) (atom_steps d.left ss)) (sym e)
+          (leave_atoms (n - operands s + 1) d.left ss h.1),
+    )

@@ -1,5 +1,5 @@
 -- A text has one answer, where it has one tree.
-use Rattle.std.proofs.Common.{◌≡◌, ◌≢◌, ◌⊎◌, inl, inr, ℕ, zero, suc, ◌+◌, ◌<◌, ◌≤◌, List, length, Contains, Result, Ok, Err, refl, sym, ◌∙◌, ap, subst, arith}
+use Rattle.std.proofs.Common.{◌≡◌, ◌≢◌, inl, inr, ℕ, zero, suc, ◌<◌, ◌≤◌, List, length, Contains, Result, Ok, Err, refl, sym, ◌∙◌, ap, subst, arith}
 use Rattle.std.proofs.lemmas.Bool.{cases_lt}
 use Rattle.smarts_parse.specs.declared.fault.SmartsFault.{SmartsFault}
 use Rattle.smarts_parse.specs.declared.fault.SmartsFault.TheVariants.{Reaction, Syntax, Stereo, RingSet, Ring, Limit, Grouping, NoMemory}
@@ -79,7 +79,8 @@ record Found (text : List ℕ) (r : Result PatternTerm SmartsFault) : Type 0 whe
   before : NoneOf text place
   gives : Gives text (nth_cause place) r
 
-same_place : (text : List ℕ) (m n : ℕ) → Holds text (nth_cause m) → NoneOf text m → Holds text (nth_cause n) → NoneOf text n → m ≡ n
+same_place : (text : List ℕ) (m n : ℕ) → Holds text (nth_cause m) → NoneOf text m → Holds text (nth_cause n)
+    → NoneOf text n → m ≡ n
 same_place text m n hm before hn none = elim (cases_lt m n) [
   | inl lt ↦ absurd (refute text n m none lt hm)
   | inr le ↦ elim (cases_lt n m) [ inl lt ↦ absurd (refute text m n before lt hn) | inr ge ↦ omega arith ]
@@ -132,11 +133,31 @@ module _ (text : List ℕ) (one_whole : (v w : Whole) → IsWholeOf text v → I
   found (Err Reaction) h may = record { place = 1; holds = h.1; before = short h.0; gives = refl }
   found (Err Syntax) h may = record { place = 2; holds = h.2; before = (short h.0, h.1); gives = refl }
   found (Err Stereo) h may = record { place = 3; holds = (h.0, h.1.is, h.2); before = read h.0 h.1; gives = refl }
-  found (Err RingSet) h may = record { place = 4; holds = (h.0, h.1.0.is, h.2); before = no_stereo h.0 h.1; gives = refl }
-  found (Err Ring) h may = record { place = 5; holds = (h.0, h.1.0.0.is, h.2); before = no_ring_set h.0 h.1; gives = refl }
+  found (Err RingSet) h may = record {
+    place = 4;
+    holds = (h.0, h.1.0.is, h.2);
+    before = no_stereo h.0 h.1;
+    gives = refl;
+  }
+  found (Err Ring) h may = record {
+    place = 5;
+    holds = (h.0, h.1.0.0.is, h.2);
+    before = no_ring_set h.0 h.1;
+    gives = refl;
+  }
   found (Err Limit) (inl h) may = record { place = 0; holds = h; before = tt; gives = refl }
-  found (Err Limit) (inr h) may = record { place = 6; holds = (h.0, h.1.0.0.0.is, h.2); before = no_ring h.0 h.1; gives = refl }
-  found (Err Grouping) h may = record { place = 7; holds = (h.0, h.1.0.0.0.0.is, h.2); before = no_limit h.0 h.1; gives = refl }
+  found (Err Limit) (inr h) may = record {
+    place = 6;
+    holds = (h.0, h.1.0.0.0.is, h.2);
+    before = no_ring h.0 h.1;
+    gives = refl;
+  }
+  found (Err Grouping) h may = record {
+    place = 7;
+    holds = (h.0, h.1.0.0.0.0.is, h.2);
+    before = no_limit h.0 h.1;
+    gives = refl;
+  }
   found (Err NoMemory) h may = absurd (may refl)
 
   one_found : (r s : Result PatternTerm SmartsFault) → Found text r → Found text s → r ≡ s
@@ -144,5 +165,6 @@ module _ (text : List ℕ) (one_whole : (v w : Whole) → IsWholeOf text v → I
       let e = same_place text p.place q.place p.holds p.before q.holds q.before in
       one_given (nth_cause q.place) r s (subst (λ (n : ℕ). Gives text (nth_cause n) r) e p.gives) q.gives
 
-  pub one_answer : (r s : Result PatternTerm SmartsFault) → IsReading text r → IsReading text s → r ≢ Err NoMemory → s ≢ Err NoMemory → r ≡ s
+  pub one_answer : (r s : Result PatternTerm SmartsFault) → IsReading text r → IsReading text s → r ≢ Err NoMemory
+      → s ≢ Err NoMemory → r ≡ s
   one_answer r s p q may might = one_found r s (found r p may) (found s q might)

@@ -27,7 +27,8 @@ one_bond x b c p q =
     ap (λ n. record { a = n; b = b.b; expr = b.expr }) e ∙ ap (λ n. record { a = c.a; b = n; expr = b.expr }) f
     ∙ ap (λ t. record { a = c.a; b = c.b; expr = t }) g
 
-one_bonds : (xs : List (Link (List (Step BondWord)))) (bs cs : List BondTerm) → AreBondTerms xs bs → AreBondTerms xs cs → bs ≡ cs
+one_bonds : (xs : List (Link (List (Step BondWord)))) (bs cs : List BondTerm) → AreBondTerms xs bs → AreBondTerms xs cs
+    → bs ≡ cs
 one_bonds [] [] [] p q = refl
 one_bonds [] [] (c ∷ cs) p q = absurd q
 one_bonds [] (b ∷ bs) cs p q = absurd p
@@ -38,14 +39,17 @@ one_bonds (x ∷ xs) (b ∷ bs) (c ∷ cs) p q =
     let f = one_bonds xs bs cs p.1 q.1 in
     cc
 
-pub one_graph_term : (nodes : Nodes) (numbers : List ℕ) (g h : GraphTerm) → IsGraphTerm nodes numbers g → IsGraphTerm nodes numbers h → g ≡ h
+pub one_graph_term : (nodes : Nodes) (numbers : List ℕ) (g h : GraphTerm) → IsGraphTerm nodes numbers g
+    → IsGraphTerm nodes numbers h → g ≡ h
 one_graph_term nodes numbers g h p q =
     let links = somes_injective p.links q.links (sym p.pair.agree ∙ q.pair.agree) in
     let atoms = postfixes_injective g.atoms h.atoms (p.atoms ∙ sym q.atoms) in
-    let bonds = one_bonds q.links g.bonds h.bonds (subst (λ (w : List (Link (List (Step BondWord)))). AreBondTerms w g.bonds) links p.bonds) q.bonds in
+    let bonds = one_bonds q.links g.bonds h.bonds
+    (subst (λ (w : List (Link (List (Step BondWord)))). AreBondTerms w g.bonds) links p.bonds) q.bonds in
     ap (λ w. record { atoms = w; bonds = g.bonds }) atoms ∙ ap (λ w. record { atoms = h.atoms; bonds = w }) bonds
 
-pub one_part_terms : (n : ℕ) (parts : Parts) (gs hs : List GraphTerm) → ArePartTerms n parts gs → ArePartTerms n parts hs → gs ≡ hs
+pub one_part_terms : (n : ℕ) (parts : Parts) (gs hs : List GraphTerm) → ArePartTerms n parts gs
+    → ArePartTerms n parts hs → gs ≡ hs
 one_part_terms n none gs hs p q = p ∙ sym q
 one_part_terms n (part tree inner others) gs hs p q =
     let before = one_part_terms n inner p.0 q.0 p.4 q.4 in

@@ -1,18 +1,16 @@
 -- Recursive parts one after another.
-use Rattle.std.proofs.Common.{◌≡◌, ℕ, ◌+◌, ◌≤◌, max, zero, suc, Bool, true, false, ◌||◌, List, [], ◌∷◌, ◌++◌, length, map, drop, refl, sym, ◌∙◌, ap, subst, arith, append_assoc, length-append}
-use Rattle.std.proofs.lemmas.List.{append-nil}
+use Rattle.std.proofs.Common.{◌≡◌, ℕ, ◌+◌, ◌≤◌, max, Bool, true, false, ◌||◌, List, [], ◌∷◌, ◌++◌, length, drop, refl, sym, ◌∙◌, ap, subst, arith, append_assoc, length-append}
 use Rattle.std.proofs.lemmas.List.Folds.{list_any-append}
-use Rattle.std.specs.List.{flat_map, list_any}
+use Rattle.std.specs.List.{list_any}
 use Rattle.smarts_words.specs.declared.word.Step.TheVariants as steps
 use Rattle.smarts_words.specs.declared.word.Step.{Step}
 use Rattle.smarts_words.specs.declared.word.AtomWord.{AtomWord}
 use Rattle.smarts_words.specs.declared.word.AtomWord.TheVariants as words
 use Rattle.smarts_words.specs.Bracket.{AtomValue}
-use Rattle.line_walk.specs.Places.{placed_nodes}
 use Rattle.smarts_parse.specs.declared.pattern.AtomPrim.{AtomPrim}
 use Rattle.smarts_parse.specs.declared.pattern.AtomPrim.TheVariants as atoms
 use Rattle.smarts_parse.specs.Pattern.{GraphTerm}
-use Rattle.smarts_parse.specs.Whole.{Parts, none, part, part_texts, tree_atoms, AreParts, parts_atoms, count_of, nesting_of}
+use Rattle.smarts_parse.specs.Whole.{Parts, none, part, tree_atoms, AreParts, parts_atoms, count_of, nesting_of}
 use Rattle.smarts_parse.specs.Meaning.{atom_prim, atom_steps, numbers_from, ArePartTerms}
 use Rattle.smarts_parse.specs.Reading.{is_stereo, DoPartsPair}
 use Rattle.smarts_parse.specs.Steps.{part_count, parts_in}
@@ -35,7 +33,13 @@ split [] ys p h = record { mine = none; others = p; is = refl; mine_of = tt; oth
 split (x ∷ xs) ys none h = absurd h
 split (x ∷ xs) ys (part tree inner others) h =
     let s = split xs ys others h.2 in
-    record { mine = part tree inner s.mine; others = s.others; is = ap (λ w. part tree inner w) s.is; mine_of = (h.0, h.1, s.mine_of); others_of = s.others_of }
+    record {
+      mine = part tree inner s.mine;
+      others = s.others;
+      is = ap (λ w. part tree inner w) s.is;
+      mine_of = (h.0, h.1, s.mine_of);
+      others_of = s.others_of;
+    }
 
 pub count-join : (p q : Parts) → count_of (join p q) ≡ count_of p + count_of q
 count-join none q = omega arith
@@ -56,20 +60,30 @@ pair-join : (p q : Parts) → DoPartsPair (join p q) → DoPartsPair p × DoPart
 pair-join none q h = (tt, h)
 pair-join (part tree inner others) q h = let e = pair-join others q h.2 in ((h.0, h.1, e.0), e.1)
 
-pub numbers-join : (n : ℕ) (p q : Parts) → numbers_from n (join p q) ≡ numbers_from n p ++ numbers_from (n + count_of p) q
+pub numbers-join : (n : ℕ) (p q : Parts) → numbers_from n (join p q) ≡ numbers_from n p ++ numbers_from
+    (n + count_of p) q
 numbers-join n none q = let e : n ≡ n + 0 = omega arith in ap (λ w. numbers_from w q) e
 numbers-join n (part tree inner others) q =
     let e : n + count_of inner + 1 + count_of others ≡ n + (count_of inner + 1 + count_of others) = omega arith in
-    ap (λ w. (n + count_of inner) ∷ w) (numbers-join (n + count_of inner + 1) others q ∙ ap (λ w. numbers_from (n + count_of inner + 1) others ++ numbers_from w q) e)
+    ap (λ w. (n + count_of inner) ∷ w) (numbers-join (n + count_of inner + 1) others q
+    ∙ ap (λ w. numbers_from (n + count_of inner + 1) others ++ numbers_from w q) e)
 
-pub terms-join : (n : ℕ) (p q : Parts) (gs hs : List GraphTerm) → ArePartTerms n p gs → ArePartTerms (n + count_of p) q hs → ArePartTerms n (join p q) (gs ++ hs)
+pub terms-join : (n : ℕ) (p q : Parts) (gs hs : List GraphTerm) → ArePartTerms n p gs
+    → ArePartTerms (n + count_of p) q hs → ArePartTerms n (join p q) (gs ++ hs)
 terms-join n none q gs hs a b =
     let e : n + 0 ≡ n = omega arith in
     subst (λ (w : List GraphTerm). ArePartTerms n q (w ++ hs)) (sym a) (subst (λ (w : ℕ). ArePartTerms w q hs) e b)
 terms-join n (part tree inner others) q gs hs a b =
     let m = n + count_of inner + 1 in
-    let e : n + (count_of inner + 1 + count_of others) ≡ m + count_of others = omega arith in
-    (a.0, a.1, a.2 ++ hs, ap (λ w. w ++ hs) a.3 ∙ append_assoc a.0 (a.1 ∷ a.2) hs, a.4, a.5, terms-join m others q a.2 hs a.6 (subst (λ (w : ℕ). ArePartTerms w q hs) e b))
+    let e : n + (count_of inner + 1 + count_of others) ≡ m + count_of others = omega arith in (
+      a.0,
+      a.1,
+      a.2 ++ hs,
+      ap (λ w. w ++ hs) a.3 ∙ append_assoc a.0 (a.1 ∷ a.2) hs,
+      a.4,
+      a.5,
+      terms-join m others q a.2 hs a.6 (subst (λ (w : ℕ). ArePartTerms w q hs) e b),
+    )
 
 -- there are as many graphs as parts
 pub terms_count : (n : ℕ) (p : Parts) (gs : List GraphTerm) → ArePartTerms n p gs → length gs ≡ count_of p
@@ -81,11 +95,13 @@ terms_count n (part tree inner others) gs a =
     let e = ap (λ w. length w) a.3 in
     omega arith
 
-pub numbers_count : (n : ℕ) (texts : List (List ℕ)) (p : Parts) → AreParts texts p → length (numbers_from n p) ≡ length texts
+pub numbers_count : (n : ℕ) (texts : List (List ℕ)) (p : Parts) → AreParts texts p
+    → length (numbers_from n p) ≡ length texts
 numbers_count n [] none h = refl
 numbers_count n [] (part tree inner others) h = absurd h
 numbers_count n (text ∷ texts) none h = absurd h
-numbers_count n (text ∷ texts) (part tree inner others) h = let e = numbers_count (n + count_of inner + 1) texts others h.2 in omega arith
+numbers_count n (text ∷ texts) (part tree inner others) h = let e =
+    numbers_count (n + count_of inner + 1) texts others h.2 in omega arith
 
 pub or_false : (a b : Bool) → (a || b) ≡ false → (a ≡ false) × (b ≡ false)
 or_false true b h = absurd (cc)
@@ -98,7 +114,8 @@ none_in xs ys h =
     or_false (list_any t xs) (list_any t ys) (sym (list_any-append t xs ys) ∙ h)
 
 -- what can be built together can be built one after the other
-pub mine_buildable : (xs ys : List (List ℕ)) (p : Parts) (levels n : ℕ) (s : Split xs ys p) → AreBuildable (xs ++ ys) p levels n → AreBuildable xs s.mine levels n
+pub mine_buildable : (xs ys : List (List ℕ)) (p : Parts) (levels n : ℕ) (s : Split xs ys p)
+    → AreBuildable (xs ++ ys) p levels n → AreBuildable xs s.mine levels n
 mine_buildable xs ys p levels n s h =
     let f = subst (λ (w : Parts). AreBuildable (xs ++ ys) w levels n) s.is h in
     let a = count-join s.mine s.others in
@@ -109,13 +126,15 @@ mine_buildable xs ys p levels n s h =
     record {
       of_texts = s.mine_of;
       pair = (pair-join s.mine s.others f.pair).0;
-      plain = (none_in (parts_atoms s.mine) (parts_atoms s.others) (ap (λ w. list_any (λ a. list_any is_stereo a.steps) w) (sym c) ∙ f.plain)).0;
+      plain = (none_in (parts_atoms s.mine) (parts_atoms s.others)
+          (ap (λ w. list_any (λ a. list_any is_stereo a.steps) w) (sym c) ∙ f.plain)).0;
       nesting = omega arith;
       few_parts = omega arith;
       few_atoms = omega arith;
     }
 
-pub others_buildable : (xs ys : List (List ℕ)) (p : Parts) (levels n : ℕ) (s : Split xs ys p) → AreBuildable (xs ++ ys) p levels n → AreBuildable ys s.others levels (n + count_of s.mine)
+pub others_buildable : (xs ys : List (List ℕ)) (p : Parts) (levels n : ℕ) (s : Split xs ys p)
+    → AreBuildable (xs ++ ys) p levels n → AreBuildable ys s.others levels (n + count_of s.mine)
 others_buildable xs ys p levels n s h =
     let f = subst (λ (w : Parts). AreBuildable (xs ++ ys) w levels n) s.is h in
     let a = count-join s.mine s.others in
@@ -126,7 +145,8 @@ others_buildable xs ys p levels n s h =
     record {
       of_texts = s.others_of;
       pair = (pair-join s.mine s.others f.pair).1;
-      plain = (none_in (parts_atoms s.mine) (parts_atoms s.others) (ap (λ w. list_any (λ a. list_any is_stereo a.steps) w) (sym c) ∙ f.plain)).1;
+      plain = (none_in (parts_atoms s.mine) (parts_atoms s.others)
+          (ap (λ w. list_any (λ a. list_any is_stereo a.steps) w) (sym c) ∙ f.plain)).1;
       nesting = omega arith;
       few_parts = omega arith;
       few_atoms = omega arith;
@@ -143,20 +163,26 @@ plain_step steps.Not = steps.Not
 plain_step steps.And = steps.And
 plain_step steps.Or = steps.Or
 
-pub steps_plain : (ns : List ℕ) (s : Step AtomWord) (ss : List (Step AtomWord)) → part_count s ≡ 0 → atom_steps ns (s ∷ ss) ≡ plain_step s ∷ atom_steps ns ss
+pub steps_plain : (ns : List ℕ) (s : Step AtomWord) (ss : List (Step AtomWord)) → part_count s ≡ 0
+    → atom_steps ns (s ∷ ss) ≡ plain_step s ∷ atom_steps ns ss
 steps_plain ns (steps.Prim words.Part) ss h = absurd (omega arith)
 steps_plain [] s ss h = refl
 steps_plain (n ∷ ns) s ss h = refl
 
 -- an atom takes the first numbers
-first_step : (ns ms : List ℕ) (s : Step AtomWord) (ss : List (Step AtomWord)) → ((ns : List ℕ) → parts_in ss ≤ length ns → atom_steps (ns ++ ms) ss ≡ atom_steps ns ss) → parts_in (s ∷ ss) ≤ length ns
+first_step : (ns ms : List ℕ) (s : Step AtomWord) (ss : List (Step AtomWord))
+    → ((ns : List ℕ) → parts_in ss ≤ length ns → atom_steps (ns ++ ms) ss ≡ atom_steps ns ss)
+    → parts_in (s ∷ ss) ≤ length ns
     → atom_steps (ns ++ ms) (s ∷ ss) ≡ atom_steps ns (s ∷ ss)
 first_step [] ms (steps.Prim words.Part) ss more h = absurd (omega arith)
-first_step (n ∷ ns) ms (steps.Prim words.Part) ss more h = ap (λ w. steps.Prim (atoms.Rec n) ∷ w) (more ns (omega arith))
+first_step (n ∷ ns) ms (steps.Prim words.Part) ss more h =
+    ap (λ w. steps.Prim (atoms.Rec n) ∷ w) (more ns (omega arith))
 first_step ns ms s ss more h =
-    steps_plain (ns ++ ms) s ss refl ∙ ap (λ w. plain_step s ∷ w) (more ns (omega arith)) ∙ sym (steps_plain ns s ss refl)
+    steps_plain (ns ++ ms) s ss refl ∙ ap (λ w. plain_step s ∷ w) (more ns (omega arith))
+    ∙ sym (steps_plain ns s ss refl)
 
-pub steps_first : (ns ms : List ℕ) (ss : List (Step AtomWord)) → parts_in ss ≤ length ns → atom_steps (ns ++ ms) ss ≡ atom_steps ns ss
+pub steps_first : (ns ms : List ℕ) (ss : List (Step AtomWord)) → parts_in ss ≤ length ns
+    → atom_steps (ns ++ ms) ss ≡ atom_steps ns ss
 steps_first ns ms [] h = nil_steps (ns ++ ms) ∙ sym (nil_steps ns)
 steps_first ns ms (s ∷ ss) h = first_step ns ms s ss (λ ns k. steps_first ns ms ss k) h
 

@@ -1,6 +1,6 @@
 //! The graphs of a text and of its recursive parts.
 
-ghost use Rattle.std.specs.Prelude.{◌≡◌, ◌≢◌, ℕ, ◌+◌, ◌<◌, ◌≤◌, List, [], ◌∷◌, ◌++◌, false, length, map, All, IfOk, IfErr};
+ghost use Rattle.std.specs.Prelude.{◌≡◌, ◌≢◌, ◌+◌, ◌<◌, List, [], ◌∷◌, ◌++◌, false, length, map, All, IfOk, IfErr};
 ghost use Rattle.std.specs.List.{list_any, AllByRecursion};
 ghost use Rattle.line_walk.specs.Tree.{IsTreeOf};
 ghost use Rattle.line_walk.specs.Places.{placed_nodes};
@@ -30,7 +30,8 @@ pub fn graph(
     levels: u8,
     recs: &mut Vec<Graph>,
 ) -> Result<Graph, SmartsFault>
-    requires { (tree : Tree) × (parts : Parts) × IsBuildable text.now tree parts levels (length recs.old.items) }
+    requires { (tree : Tree) × (parts : Parts)
+        × IsBuildable text.now tree parts levels (length recs.old.items) }
     ensures built { IfOk result (λ g. (tree : Tree) (parts : Parts)
         → IsBuildable text.now tree parts levels (length recs.old.items)
         → IsGraphTerm (placed_nodes tree) (numbers_from (length recs.old.items) parts) (graph_of g)
@@ -57,7 +58,8 @@ fn atoms(
         → HaveBuildable atoms.now parts levels (length recs.old.items)
         → (map postfix (map term_of xs.items)
         ≡ atoms_steps (numbers_from (length recs.old.items) parts) atoms.now)
-        × ArePut (length recs.old.items) parts (map graph_of recs.old.items) (map graph_of recs.new.items)) }
+        × ArePut (length recs.old.items) parts (map graph_of recs.old.items)
+        (map graph_of recs.new.items)) }
     ensures faults { IfErr result (λ e. e ≡ NoMemory) }
 {
     let mut exprs = Vec::new(alloc);
@@ -77,11 +79,14 @@ fn atom_graphs(
 ) -> Result<Expr<AtomPrim>, SmartsFault>
     requires is { IsValue atom.now }
     requires plain { list_any is_stereo atom.now.steps ≡ false }
-    requires build { (parts : Parts) × AreBuildable atom.now.parts parts levels (length recs.old.items) }
+    requires build { (parts : Parts)
+        × AreBuildable atom.now.parts parts levels (length recs.old.items) }
     ensures built { IfOk result (λ x. (parts : Parts)
         → AreBuildable atom.now.parts parts levels (length recs.old.items)
-        → (postfix (term_of x) ≡ atom_steps (numbers_from (length recs.old.items) parts) atom.now.steps)
-        × ArePut (length recs.old.items) parts (map graph_of recs.old.items) (map graph_of recs.new.items)) }
+        → (postfix (term_of x)
+        ≡ atom_steps (numbers_from (length recs.old.items) parts) atom.now.steps)
+        × ArePut (length recs.old.items) parts (map graph_of recs.old.items)
+        (map graph_of recs.new.items)) }
     ensures faults { IfErr result (λ e. e ≡ NoMemory) }
 {
     let numbers = parts_graphs(alloc, atom.parts(), levels, recs)?;
@@ -96,11 +101,13 @@ fn parts_graphs(
     levels: u8,
     recs: &mut Vec<Graph>,
 ) -> Result<Vec<u16>, SmartsFault>
-    requires { (parts : Parts) × AreBuildable (map (λ v. v.items) texts.now) parts levels (length recs.old.items) }
+    requires { (parts : Parts)
+        × AreBuildable (map (λ v. v.items) texts.now) parts levels (length recs.old.items) }
     ensures built { IfOk result (λ ns. (parts : Parts)
         → AreBuildable (map (λ v. v.items) texts.now) parts levels (length recs.old.items)
         → (ns.items ≡ numbers_from (length recs.old.items) parts)
-        × ArePut (length recs.old.items) parts (map graph_of recs.old.items) (map graph_of recs.new.items)) }
+        × ArePut (length recs.old.items) parts (map graph_of recs.old.items)
+        (map graph_of recs.new.items)) }
     ensures faults { IfErr result (λ e. e ≡ NoMemory) }
 {
     let mut numbers = Vec::new(alloc);
@@ -118,7 +125,8 @@ fn part_graphs(
     levels: u8,
     recs: &mut Vec<Graph>,
 ) -> Result<u16, SmartsFault>
-    requires { (tree : Tree) × (parts : Parts) × IsBuildable text.now tree parts levels (length recs.old.items) }
+    requires { (tree : Tree) × (parts : Parts)
+        × IsBuildable text.now tree parts levels (length recs.old.items) }
     ensures built { IfOk result (λ k. (tree : Tree) (parts : Parts)
         → IsBuildable text.now tree parts levels (length recs.old.items)
         → (k ≡ length recs.old.items + count_of parts) × (g : GraphTerm) × (gs : List GraphTerm)
@@ -141,7 +149,8 @@ fn read(
     requires { (tree : Tree) × IsTreeOf smarts_words text.now tree × DoPair (placed_nodes tree) }
     ensures found { IfOk result (λ g. (tree : Tree) → IsTreeOf smarts_words text.now tree
         → IsGraphOf smarts_words tree g.atoms.items g.links.items) }
-    ensures ends { IfOk result (λ g. AllByRecursion (λ x. (x.a < x.b) × (x.b < length g.atoms.items)) g.links.items) }
+    ensures ends { IfOk result (λ g. AllByRecursion (λ x. (x.a < x.b)
+        × (x.b < length g.atoms.items)) g.links.items) }
     ensures faults { IfErr result (λ e. e ≡ NoMemory) }
 {
     one_tree::<Smarts>();

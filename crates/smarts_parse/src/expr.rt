@@ -1,6 +1,6 @@
 //! From steps in postfix order to expressions.
 
-ghost use Rattle.std.specs.Prelude.{◌≡◌, ◌≢◌, ◌⊎◌, ℕ, ◌+◌, ◌≤◌, List, [], ◌∷◌, ◌++◌, length, IfOk};
+ghost use Rattle.std.specs.Prelude.{◌≡◌, ◌≢◌, ◌+◌, ◌≤◌, List, [], ◌∷◌, ◌++◌, length, IfOk};
 ghost use Rattle.smarts_words.specs.declared.word.AtomWord.{AtomWord as Word};
 ghost use Rattle.smarts_words.specs.declared.word.AtomWord.TheVariants as words;
 ghost use Rattle.smarts_words.specs.declared.word.Step.{Step as WordStep};
@@ -68,8 +68,10 @@ fn taken_by<P: Copy>(
     step: Step<P>,
 ) -> Result<Expr<P>, AllocError>
     requires { operands step ≤ length stack.old.items }
-    ensures steps { IfOk result (λ x. stacked stack.new.items ++ postfix (term_of x) ≡ stacked stack.old.items ++ step ∷ []) }
-    ensures count { IfOk result (λ x. length stack.new.items + operands step ≡ length stack.old.items) }
+    ensures steps { IfOk result (λ x.
+        stacked stack.new.items ++ postfix (term_of x) ≡ stacked stack.old.items ++ step ∷ []) }
+    ensures count { IfOk result (λ x.
+        length stack.new.items + operands step ≡ length stack.old.items) }
 {
     match step {
         Step::Prim(prim) => Ok(Expr::Prim(prim)),

@@ -5,5 +5,7 @@ use Rattle.smarts_parse.proofs.build.bonds.Goals as goal
 
 pub loop-link-preserved : goal.loop-link-preserved
 loop-link-preserved c =
-    let e : c.push.new.self.items ≡ c.loop-link.bonds.items ++ c.in_ok-bond.field-0 ∷ [] = grind (arith, common_steps) in
-    bonds_more c.args.links.now c.loop-link.link-index c.link-item.result c.loop-link.bonds.items c.push.new.self.items c.in_ok-bond.field-0 (omega arith) c.link-item.is e c.loop-link.invariant c.in_ok-bond.ensures
+    let e : c.push.new.self.items ≡ c.loop-link.bonds.items ++ c.in_ok-bond.field-0 ∷ [] =
+    grind (arith, common_steps) in
+    bonds_more c.args.links.now c.loop-link.link-index c.link-item.result c.loop-link.bonds.items c.push.new.self.items
+    c.in_ok-bond.field-0 (omega arith) c.link-item.is e c.loop-link.invariant c.in_ok-bond.ensures

@@ -8,4 +8,5 @@ pub returns-clause-found : goal.returns-clause-found
 returns-clause-found c = λ tree is.
     let g = c.in_ok-read_graph.field-0 in
     let r = c.in_ok-read_graph.ensures.reading in
-    subst (λ (t : Tree). IsGraphOf smarts_words t g.atoms.items g.links.items) (c.one_tree.ensures c.args.text.now r.0 tree r.1 is) r.2
+    subst (λ (t : Tree). IsGraphOf smarts_words t g.atoms.items g.links.items)
+    (c.one_tree.ensures c.args.text.now r.0 tree r.1 is) r.2
