@@ -7,5 +7,3 @@ pub mod Links
 pub mod Arity
 pub mod Bonds
 pub mod Soundness
-pub mod Answer
-pub mod OneAnswer
