@@ -8,3 +8,4 @@ pub mod Meaning
 pub mod Reading
 pub mod Steps
 pub mod Build
+pub mod Survey

@@ -1,6 +1,6 @@
 //! Reading a pattern.
 
-ghost use Rattle.std.specs.Prelude.{◌≡◌, ◌≢◌, ℕ, List, IfOk, Result, Err};
+ghost use Rattle.std.specs.Prelude.{◌≡◌, ◌≢◌, ◌⊎◌, ◌↔◌, ℕ, true, List, Contains, IsTrue, IfOk, Result, Err};
 ghost use Rattle.smarts_parse.specs.Pattern.{pattern_of, PatternTerm};
 ghost use Rattle.smarts_parse.specs.Sound.{IsSoundPattern};
 ghost use Rattle.smarts_parse.specs.Whole.{Whole, IsWholeOf};
@@ -11,7 +11,7 @@ ghost use Rattle.smarts_parse.specs.declared.fault.SmartsFault.TheVariants.{NoMe
 use crate::build::graph;
 use crate::fault::SmartsFault;
 use crate::pattern::Pattern;
-use crate::survey::look_over;
+use crate::survey::{Survey, look_over};
 use std::alloc::Global;
 
 /// The longest text that is looked at, in bytes.
@@ -30,11 +30,11 @@ pub fn parse(alloc: Global, text: &[u8]) -> Result<Pattern, SmartsFault>
     if text.len() > MOST_BYTES {
         return Err(SmartsFault::Limit);
     }
-    if text.contains(&b'>') {
+    if has_byte(text, b'>') {
         return Err(SmartsFault::Reaction);
     }
     let survey = look_over(alloc, text)?;
-    if survey.stereo || text.contains(&b'/') || text.contains(&b'\\') {
+    if has_stereo(&survey, text) {
         return Err(SmartsFault::Stereo);
     }
     if survey.ring_set {
@@ -64,3 +64,16 @@ pub fn one_answer()
     ensures { (text : List ℕ) (r s : Result PatternTerm SmartsFault) → IsReading text r → IsReading text s
         → r ≢ Err NoMemory → s ≢ Err NoMemory → r ≡ s }
 {}
+
+// Whether a configuration stands at an atom or at a bond.
+fn has_stereo(survey: &Survey, text: &[u8]) -> bool
+    ensures { IsTrue result ↔ ((survey.now.stereo ≡ true) ⊎ Contains text.now 47 ⊎ Contains text.now 92) }
+{
+    survey.stereo || has_byte(text, b'/') || has_byte(text, b'\\')
+}
+
+fn has_byte(text: &[u8], byte: u8) -> bool
+    ensures { IsTrue result ↔ Contains text.now byte }
+{
+    text.contains(&byte)
+}
