@@ -5,7 +5,14 @@ pub mod OneWhole
 pub mod Weights
 pub mod Joined
 pub mod Worklist
-pub mod Soundness
+pub mod Postfix
+pub mod Arity
+pub mod Values
+pub mod Parts
+pub mod Building
+pub mod Links
+pub mod Bonds
 pub mod OnePattern
+pub mod Soundness
 pub mod Readings
 pub mod OneAnswer

@@ -152,9 +152,7 @@ module _ (text : List ℕ) (s : Survey) (l : Looked text s) (marks : ¬ HasMark 
   pattern old new g e built = let P : List Graph → Type 0 = λ v. Built v new g in pattern_by new g (subst P e built)
 
   pub sound : (p : PatternTerm) → IsPatternOf l.whole p → IsSoundPattern p
-  sound p is =
-      let plain_stereo : s.stereo ≡ false = not_true s.stereo (λ e. marks (inl e)) in
-      sound_pattern text l.whole p l.read (l.survey.pair rings) (within text s l small) (no_group text s l groups) (sym l.survey.stereo ∙ plain_stereo) (no_ring_set text s l marks ring_set).1 is
+  sound p is = sound_pattern text l.whole p l.read.is (within text s l small) is
 
 pub looked : (text : List ℕ) (s : Survey) → length text ≤ 4096 → ¬ Contains text 62
     → (whole : Whole) × IsWholeOf text whole × IsSurveyOf whole s → Looked text s
