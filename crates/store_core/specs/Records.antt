@@ -3,7 +3,7 @@ use Rattle.std.specs.Prelude.{Bool, List, map, ℕ}
 use Rattle.std.specs.Arc.{arc_value}
 use Rattle.std.specs.declared.alloc.Global.{Global}
 use Rattle.std.specs.declared.sync.Arc.{Arc}
-use Rattle.chem_core.specs.Molecule.{Molecule}
+use Rattle.chem_core.specs.Molecule.{IsMolecule, Molecule}
 use Rattle.mol_finish.specs.Structure.{HasMolecule}
 use Rattle.mol_finish.specs.declared.fault.Format.{Format}
 use Rattle.store_machine.specs.History.{IsId}
@@ -17,10 +17,11 @@ pub record RecordTerm : Type 0 where
   pub mol : Molecule
   pub print : List Bool
 
--- the identifier is in range, the structure is the text's, and the print the structure's
+-- the identifier is in range, the structure is the text's and within the limits, and the print the structure's
 pub record IsRecord (r : RecordTerm) : Type 0 where
   pub id : IsId r.id
   pub structure : HasMolecule r.format r.text r.mol
+  pub molecule : IsMolecule r.mol
   pub print : IsPrintOf r.mol r.print
 
 -- records that are shared

@@ -1,6 +1,7 @@
 //! A record: a text under its identifier, with its structure and print.
 ghost use Rattle.std.specs.Prelude.{◌≡◌, ◌↔◌, ◌≤◌, Err, IfErr, IfOk, IsTrue};
 ghost use Rattle.std.specs.Arc.{arc_value};
+ghost use Rattle.chem_core.specs.Molecule.{IsMolecule};
 ghost use Rattle.mol_finish.specs.Structure.{HasMolecule, IsAnswer};
 ghost use Rattle.store_machine.specs.History.{IsId};
 ghost use Rattle.store_machine.specs.Structures.{IsPrintOf, IsScreened};
@@ -8,6 +9,7 @@ ghost use Rattle.store_core.specs.Records.{IsRecord};
 
 use chem_core::{Mol, Print};
 use mol_finish::{Format, TextFault, one_structure, structure};
+use path_print::print;
 use std::alloc::Global;
 use std::marker::Model;
 use std::sync::Arc;
@@ -48,12 +50,13 @@ impl Record {
     {
         let mol = structure(alloc, format, text)?;
         let text = Vec::from_slice(alloc, text)?;
+        let print = print_of(&mol);
         let record = Record {
             id,
             format,
             text,
             mol,
-            print: Print::empty(),
+            print,
         };
         match Arc::new(alloc, record) {
             Ok(record) => Ok(record),
@@ -103,4 +106,13 @@ impl Record {
         one_structure();
         self.print.holds(want)
     }
+}
+
+// The print of a structure, which is within the limits of one.
+fn print_of(mol: &Mol) -> Print
+    ensures print { IsPrintOf mol.now result }
+    ensures molecule { IsMolecule mol.now }
+{
+    let _ = mol.atoms();
+    print(mol)
 }

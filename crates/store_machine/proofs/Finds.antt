@@ -2,6 +2,9 @@
 use Rattle.std.proofs.Common.{◌≡◌, ◌+◌, ◌<◌, ◌≤◌, ◌∙◌, add-one, ap, arith, Bool, Contains, inl, inr, List, [], ◌∷◌, refl, slice_index, Some, subst, suc, sym, zero, ℕ}
 use Rattle.std.specs.FinMap.{get}
 use Rattle.std.specs.List.Sorted.{IsStrictlyIncreasing}
+use Rattle.chem_core.specs.Molecule.{IsMolecule, Molecule}
+use Rattle.mol_finish.specs.Structure.{HasMolecule}
+use Rattle.mol_finish.specs.declared.fault.Format.{Format}
 use Rattle.smarts_parse.specs.Pattern.{PatternTerm}
 use Rattle.store_machine.specs.Answers.{AreFound, AreHits, AreMatched, AreTried, ids}
 use Rattle.store_machine.specs.History.{IsHistory, Snapshot, snapshot}
@@ -10,7 +13,7 @@ use Rattle.store_machine.specs.declared.machine.Change.{Change}
 use Rattle.store_machine.specs.declared.machine.Found.{Found}
 use Rattle.store_machine.specs.declared.machine.Status.TheVariants.{Live}
 use Rattle.store_machine.proofs.Ascending.{Ascends}
-use Rattle.store_machine.proofs.Made.{state-valid}
+use Rattle.store_machine.proofs.Made.{state-text, state-valid}
 use Rattle.store_machine.proofs.Members.{contains-here, contains-split, contains-there}
 
 -- ascending from an identifier on, and strictly increasing
@@ -179,9 +182,22 @@ matched-all pattern (q ∷ qs) hits r (inr m) c is =
       | inr d ↦ matched-all pattern qs hits r m.1 d is
     ]
 
-pub found-hits : (pattern : PatternTerm) (want : List Bool) (h : List Change) (v : ℕ) (rs : List Found) (hits : List ℕ)
-    → Screens pattern want → AreFound (IsScreened want) (snapshot h v) rs → AreMatched pattern rs hits → AreHits h v pattern hits
-found-hits pattern want h v rs hits screens f m = record {
+-- a text has one structure
+abbrev pub OneStructure : Type 0
+OneStructure = (format : Format) (text : List ℕ) (m n : Molecule)
+    → HasMolecule format text m → HasMolecule format text n → m ≡ n
+
+-- the structure of a text that was committed is within the limits
+within-limits : OneStructure → (h : List Change) (v id version : ℕ) (format : Format) (text : List ℕ) (m : Molecule)
+    → IsHistory h → get (snapshot h v) id ≡ Some (Live version format text) → HasMolecule format text m → IsMolecule m
+within-limits one h v id version format text m good e has =
+    let t = state-text h v id (Live version format text) good e in
+    subst IsMolecule (one format text t.0 m t.1 has) t.2
+
+pub found-hits : OneStructure → (pattern : PatternTerm) (want : List Bool) (h : List Change) (v : ℕ)
+    → (rs : List Found) (hits : List ℕ) → IsHistory h → Screens pattern want
+    → AreFound (IsScreened want) (snapshot h v) rs → AreMatched pattern rs hits → AreHits h v pattern hits
+found-hits one pattern want h v rs hits good screens f m = record {
   ascending = Rising-increasing 0 hits (Ascends-matched pattern 0 rs hits (found-ascends want (snapshot h v) rs f) m);
   only = λ id c.
       let w = matched-only pattern rs hits id m c in
@@ -189,5 +205,7 @@ found-hits pattern want h v rs hits screens f m = record {
       record { version = o.0.0; format = w.0.record-of.format; text = w.0.record-of.text; state = subst (λ k. get (snapshot h v) k ≡ Some (Live o.0.0 w.0.record-of.format w.0.record-of.text)) w.0.is o.0.1; asked = w.1 };
   all = λ id a.
       let r : Found = record { id = id; format = a.format; text = a.text } in
-      matched-all pattern rs hits r m (f.all r (a.version, a.state) (a.asked.0, a.asked.1, screens a.asked.0 a.asked.2)) a.asked;
+      let molecule = within-limits one h v id a.version a.format a.text a.asked.0 good a.state a.asked.1 in
+      matched-all pattern rs hits r m
+      (f.all r (a.version, a.state) (a.asked.0, a.asked.1, screens a.asked.0 molecule a.asked.2)) a.asked;
 }

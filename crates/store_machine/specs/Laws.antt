@@ -10,7 +10,7 @@ use Rattle.store_machine.specs.Made.{KeepsMade, ReadsKept}
 use Rattle.store_machine.specs.Machine.{Holds, SlotsApart, now}
 use Rattle.store_machine.specs.Runs.{IsCalm, IsRun, calls_of}
 use Rattle.store_machine.specs.Searches.{ArePieces, At, End, IsSearch, KeepsPin, Place, ahead, fetched, records_of}
-use Rattle.store_machine.specs.Structures.{IsScreened, Screens}
+use Rattle.store_machine.specs.Structures.{IsNeedOf, IsScreened, Screens}
 use Rattle.store_machine.specs.declared.machine.Change.{Change}
 use Rattle.store_machine.specs.declared.machine.Event.TheVariants.{Pin}
 use Rattle.store_machine.specs.declared.machine.Found.{Found}
@@ -95,3 +95,7 @@ PagesAreTheAnswer = (own : ℕ → Bool) (pin : Step) (steps : List Step) (slot 
     × AreTried pin.before.history version want (ids (records_of (fetched slot (calls_of own steps))))
     × ((pattern : PatternTerm) (hits : List ℕ) → Screens pattern want → AreMatched pattern (records_of (fetched slot (calls_of own steps))) hits
     → AreHits pin.before.history version pattern hits)
+
+-- the need of a pattern rules out no structure that it matches
+abbrev pub NeedsScreen : Type 0
+NeedsScreen = (pattern : PatternTerm) (want : List Bool) → IsNeedOf pattern want → Screens pattern want

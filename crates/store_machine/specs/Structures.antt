@@ -1,18 +1,21 @@
 -- What a text is: its structure, the structure's print, and whether a pattern matches it.
 use Rattle.std.specs.Prelude.{◌↔◌, Bool, List, ℕ}
 use Rattle.chem_core.specs.Bits.{HasBit}
-use Rattle.chem_core.specs.Molecule.{Molecule}
+use Rattle.chem_core.specs.Molecule.{Molecule, IsMolecule}
 use Rattle.mol_finish.specs.Structure.{HasMolecule}
 use Rattle.mol_finish.specs.declared.fault.Format.{Format}
+use Rattle.path_print.specs.Path.{Family, IsPathBit}
+use Rattle.path_print.specs.Prints.{IsNeed, molecule_view}
 use Rattle.smarts_parse.specs.Embedding.{Matches}
 use Rattle.smarts_parse.specs.Pattern.{PatternTerm}
 
+-- the text has a structure, within the limits of one
 abbrev pub IsText : Format → List ℕ → Type 0
-IsText format text = (m : Molecule) × HasMolecule format text m
+IsText format text = (m : Molecule) × HasMolecule format text m × IsMolecule m
 
--- a bit of the structure's print. There are no prints yet
+-- a bit of the structure's print: that of one of its paths, in one of the two families
 abbrev pub HasPrintBit : Molecule → ℕ → Type 0
-HasPrintBit m bit = ⊥
+HasPrintBit m bit = (family : Family) × IsPathBit (molecule_view m family) bit
 
 abbrev pub IsPrintOf : Molecule → List Bool → Type 0
 IsPrintOf m print = (bit : ℕ) → HasBit print bit ↔ HasPrintBit m bit
@@ -29,6 +32,10 @@ IsScreened want format text = (m : Molecule) × HasMolecule format text m × Has
 abbrev pub IsMatched : PatternTerm → Format → List ℕ → Type 0
 IsMatched pattern format text = (m : Molecule) × HasMolecule format text m × Matches pattern m
 
+-- what a pattern needs of a print
+abbrev pub IsNeedOf : PatternTerm → List Bool → Type 0
+IsNeedOf pattern want = IsNeed pattern want
+
 -- whatever the pattern matches has what is wanted
 abbrev pub Screens : PatternTerm → List Bool → Type 0
-Screens pattern want = (m : Molecule) → Matches pattern m → HasAll m want
+Screens pattern want = (m : Molecule) → IsMolecule m → Matches pattern m → HasAll m want

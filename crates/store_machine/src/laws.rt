@@ -1,6 +1,6 @@
-//! The laws of runs, each on a function that does nothing.
+//! The laws of runs, each on a function that does nothing but cite others.
 ghost use Rattle.store_machine.specs.ByCalls.{CallsGivePages};
-ghost use Rattle.store_machine.specs.Laws.{AnswersAreOne, CommitsChange, KeptIsRead, PagesAreAPrefix, PagesArePieces, PagesAreTheAnswer, PinsStay, RunsStaySound, SnapshotsStay, StatesStay};
+ghost use Rattle.store_machine.specs.Laws.{AnswersAreOne, CommitsChange, KeptIsRead, NeedsScreen, PagesAreAPrefix, PagesArePieces, PagesAreTheAnswer, PinsStay, RunsStaySound, SnapshotsStay, StatesStay};
 
 /// Later commits change no snapshot.
 pub fn snapshots_stay()
@@ -50,9 +50,20 @@ pub fn pages_are_pieces()
 /// The pages of a search that ended are the answer at the Pin, and those that match are the hits.
 pub fn pages_are_the_answer()
     ensures { PagesAreTheAnswer }
-{}
+{
+    mol_finish::one_structure();
+}
 
 /// The same by an owner's calls in a run, and by the history at the run's end.
 pub fn calls_give_pages()
     ensures { CallsGivePages }
-{}
+{
+    mol_finish::one_structure();
+}
+
+/// The need of a pattern rules out no structure that it matches.
+pub fn needs_screen()
+    ensures { NeedsScreen }
+{
+    path_print::path_is_carried();
+}

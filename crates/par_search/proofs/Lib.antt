@@ -1,0 +1,6 @@
+pub mod Cuts
+pub mod Flagged
+pub mod LastOne
+pub mod Matched
+pub mod Rooming
+pub mod Shares

@@ -1,0 +1,29 @@
+-- Flags of records: whether a pattern matches each, in order; and the pieces into which records are cut.
+use Rattle.std.specs.Prelude.{◌≡◌, ◌*◌, ◌↔◌, Bool, List, [], ◌∷◌, Some, drop, length, slice_get, take, true, ℕ}
+use Rattle.std.specs.Arc.{arc_value}
+use Rattle.std.specs.Int.{div_ceil}
+use Rattle.smarts_parse.specs.Embedding.{Matches}
+use Rattle.smarts_parse.specs.Pattern.{PatternTerm}
+use Rattle.store_core.specs.Records.{Shared}
+
+-- its flags, and for how many there is room
+pub record WorkerTerm : Type 0 where
+  pub flags : List Bool
+  pub room : ℕ
+
+-- for each record, in order, whether the pattern matches it
+abbrev pub AreFlags : PatternTerm → List Shared → List Bool → Type 0
+AreFlags pattern [] flags = flags ≡ []
+AreFlags pattern (r ∷ rs) [] = ⊥
+AreFlags pattern (r ∷ rs) (flag ∷ flags) =
+    ((flag ≡ true) ↔ Matches pattern (arc_value r).mol) × AreFlags pattern rs flags
+
+-- the records of a piece, where all are of this size but the last, and those behind it are empty
+abbrev pub piece_of : ℕ → ℕ → List Shared → List Shared
+piece_of size k records = take size (drop (k * size) records)
+
+-- each worker has the flags of its piece, where each takes an equal share of the records
+abbrev pub AreFlagged : PatternTerm → List Shared → List WorkerTerm → Type 0
+AreFlagged pattern records workers =
+    (k : ℕ) (worker : WorkerTerm) → slice_get workers k ≡ Some worker
+    → AreFlags pattern (piece_of (div_ceil (length records) (length workers)) k records) worker.flags

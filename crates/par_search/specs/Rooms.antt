@@ -1,0 +1,30 @@
+-- The room of a search. For private clauses alone.
+use Rattle.std.specs.Prelude.{◌≡◌, ◌≤◌, [], All, length, map, true, vec_capacity, ℕ}
+use Rattle.std.specs.Int.{div_ceil}
+use Rattle.par_search.specs.Flags.{WorkerTerm}
+use Rattle.par_search.specs.declared.pieces.TheConstants.{MOST_WORKERS}
+use Rattle.par_search.specs.declared.room.PageHits.{PageHits}
+use Rattle.par_search.specs.declared.room.Room.{Room}
+use Rattle.par_search.specs.declared.worker.TheConstants.{MOST_RECORDS}
+
+-- room for pages of its size, with 1 to 16 workers that have room for an equal share of them each
+pub record IsRoom (room : Room) : Type 0 where
+  pub some : 1 ≤ room.size
+  pub few : room.size ≤ MOST_RECORDS
+  pub some_workers : 1 ≤ length room.workers.items
+  pub few_workers : length room.workers.items ≤ MOST_WORKERS
+  pub page : room.size ≤ room.page.room
+  pub hits : room.size ≤ vec_capacity room.hits
+  pub workers : All (λ w. div_ceil room.size (length room.workers.items) ≤ w.room) room.workers.items
+
+-- as much room as before
+pub record SameRoom (old new : Room) : Type 0 where
+  pub size : new.size ≡ old.size
+  pub room : IsRoom new
+
+-- no records and no hits, behind the last page
+pub record HasNothing (p : PageHits) : Type 0 where
+  pub records : p.records.now ≡ []
+  pub hits : p.hits.now ≡ []
+  pub tried : p.tried ≡ 0
+  pub last : p.last ≡ true

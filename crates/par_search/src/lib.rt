@@ -1,0 +1,26 @@
+//! Searches over a service: a pin, pages of records whose print holds what the pattern needs, and of each page the
+//! records that the pattern matches.
+//!
+//! A search takes all its memory before its pin, so that only a fetch can fail later. The records of a page are cut
+//! into pieces, one for each worker. That the pages of a pin are together the hits is a law of the machine.
+#![tactic(auto)]
+
+mod fault;
+mod fetch;
+mod laws;
+mod meter;
+mod pieces;
+mod room;
+mod search;
+mod worker;
+
+pub use fault::SearchFault;
+pub use laws::pages_are_hits;
+pub use meter::{Meter, NoMeter};
+pub use pieces::match_pieces;
+pub use room::PageHits;
+pub use search::Search;
+pub use worker::Worker;
+
+#[cfg(test)]
+mod tests;

@@ -1,0 +1,103 @@
+//! The pieces of a page, each matched by its worker.
+ghost use Rattle.std.specs.Prelude.{◌≡◌, ◌≤◌, ◌+◌, ◌++◌, ◌*◌, All, List, drop, false, length, map, slice_index_or, take, vec_capacity, ℕ};
+ghost use Rattle.std.specs.Int.{div_ceil};
+ghost use Rattle.smarts_parse.specs.Pattern.{PatternTerm, pattern_of};
+ghost use Rattle.smarts_parse.specs.Sound.{IsSoundPattern};
+ghost use Rattle.store_machine.specs.Answers.{AreMatched};
+ghost use Rattle.store_machine.specs.declared.machine.Found.{Found};
+ghost use Rattle.store_core.specs.Records.{founds};
+ghost use Rattle.par_search.specs.Flags.{AreFlagged, AreFlags, WorkerTerm};
+ghost use Rattle.par_search.specs.declared.pieces.TheConstants.{MOST_WORKERS};
+
+use crate::meter::Meter;
+use crate::worker::Worker;
+use mol_finish::one_structure;
+use smarts_parse::Pattern;
+use std::sync::Arc;
+use std::thread::Threads;
+use store_core::Record;
+
+/// The most workers of a search.
+pub const MOST_WORKERS: usize = 16;
+
+/// Matches records. They are cut into pieces of one size, one for each worker, the last ones shorter or empty; the
+/// meter is told of each piece that has records. Takes no memory.
+pub fn match_pieces<R: Threads + Sync, M: Meter>(
+    _rt: &R,
+    records: &[Arc<Record>],
+    pattern: &Pattern,
+    workers: &mut [Worker],
+    meter: &M,
+)
+    requires some { 1 ≤ length workers.old }
+    requires few { length workers.old ≤ MOST_WORKERS }
+    requires room { All (λ (w : WorkerTerm). div_ceil (length records.now) (length workers.old) ≤ w.room) workers.old }
+    requires sound { IsSoundPattern (pattern_of pattern.now) }
+    ensures flags { AreFlagged (pattern_of pattern.now) records.now workers.new }
+    ensures room { map {B = ℕ} (λ w. w.room) workers.new ≡ map {B = ℕ} (λ w. w.room) workers.old }
+{
+    let size = records.len().div_ceil(workers.len());
+    let mut rest = records;
+    for number in 0..workers.len() {
+        let (piece, behind) = cut(rest, size);
+        if !piece.is_empty() {
+            meter.begin(number as u32);
+        }
+        workers[number].mark(piece, pattern);
+        rest = behind;
+    }
+}
+
+// The first piece of this size, and the records behind it.
+fn cut(records: &[Arc<Record>], size: usize) -> (&[Arc<Record>], &[Arc<Record>])
+    ensures piece { result.0.now ≡ take size records.now }
+    ensures behind { result.1.now ≡ drop size records.now }
+{
+    let end = size.min(records.len());
+    (&records[..end], &records[end..])
+}
+
+/// The identifiers of the records that are flagged, in order.
+pub fn list_hits(records: &[Arc<Record>], workers: &[Worker], hits: &mut Vec<u32>)
+    requires some { 1 ≤ length workers.now }
+    requires room { length records.now ≤ vec_capacity hits.old }
+    ensures matched { (pattern : PatternTerm) → AreFlagged pattern records.now workers.now
+        → AreMatched pattern (founds records.now) hits.new.items }
+    ensures capacity { vec_capacity hits.new ≡ vec_capacity hits.old }
+{
+    hits.clear();
+    let size = records.len().div_ceil(workers.len());
+    let mut rest = records;
+    for worker in workers {
+        let (piece, behind) = cut(rest, size);
+        list_piece(piece, worker.flags(), hits);
+        rest = behind;
+    }
+}
+
+// Those of a piece.
+fn list_piece(piece: &[Arc<Record>], flags: &[bool], hits: &mut Vec<u32>)
+    requires room { length hits.old.items + length piece.now ≤ vec_capacity hits.old }
+    ensures matched { (pattern : PatternTerm) (before : List Found) → AreFlags pattern piece.now flags.now
+        → AreMatched pattern before hits.old.items → AreMatched pattern (before ++ founds piece.now) hits.new.items }
+    ensures few { length hits.new.items ≤ length hits.old.items + length piece.now }
+    ensures capacity { vec_capacity hits.new ≡ vec_capacity hits.old }
+{
+    one_structure();
+    for (place, record) in piece.iter().enumerate() {
+        let id = record.id();
+        if is_set(flags, place) {
+            hits.push_reserved(id);
+        }
+    }
+}
+
+// The flag at a place. None is set behind the last.
+fn is_set(flags: &[bool], place: usize) -> bool
+    ensures { result ≡ slice_index_or flags.now place false }
+{
+    match flags.get(place) {
+        Some(flag) => *flag,
+        None => false,
+    }
+}

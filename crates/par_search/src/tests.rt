@@ -1,0 +1,64 @@
+//! A search over a store.
+ghost use Rattle.store_machine.specs.History.{IsId};
+ghost use Rattle.store_core.specs.Stored.{HoldsPin};
+
+use crate::{NoMeter, Search};
+use mol_finish::Format;
+use smarts_parse::{is_short, parse};
+use std::alloc::Global;
+use std::test::Fail;
+use std::thread::Threads;
+use store_core::{Change, Record, Service, Store};
+
+fn register(alloc: Global, store: &mut Store, id: u32, text: &[u8]) -> bool
+    requires { IsId id }
+{
+    match Record::make(alloc, id, Format::Smiles, text) {
+        Ok(record) => store.commit(Change::Register(record)).is_ok(),
+        Err(_) => false,
+    }
+}
+
+// Whether the next page has these hits, tried as many, and is the last.
+fn is_next<R: Threads + Sync>(
+    rt: &R,
+    store: &mut Store,
+    search: &mut Search,
+    hits: &[u32],
+    tried: u32,
+    last: bool,
+) -> bool
+    requires { HoldsPin store.old search.old.slot search.old.version }
+    ensures { HoldsPin store.new search.new.slot search.new.version }
+{
+    match search.next(rt, store, &NoMeter) {
+        Ok(page) => page.hits == hits && page.tried == tried && page.last == last,
+        Err(_) => false,
+    }
+}
+
+// Pentane has each path of hexane of up to five atoms: it is tried, and not hit.
+#[test]
+fn three_records_come_by_pages_of_two(rt: HostRuntime) -> Result<(), Fail> {
+    let alloc = rt.alloc();
+    let mut store = Store::fresh(alloc, 10);
+    assert!(rt; register(alloc, &mut store, 1, b"CCCCCC"));
+    assert!(rt; register(alloc, &mut store, 2, b"CCCCC"));
+    assert!(rt; register(alloc, &mut store, 3, b"OCCCCCC"));
+    let hexane = b"CCCCCC";
+    assert!(rt; is_short(hexane));
+    let Ok(pattern) = parse(alloc, hexane) else {
+        assert!(rt; false);
+        return Ok(());
+    };
+    let Ok(mut search) = Search::start(alloc, &mut store, pattern, 2, 2) else {
+        assert!(rt; false);
+        return Ok(());
+    };
+    assert_eq!(rt; search.version(), 3);
+    assert!(rt; is_next(&rt, &mut store, &mut search, &[1], 2, false));
+    assert!(rt; is_next(&rt, &mut store, &mut search, &[3], 1, true));
+    assert!(rt; is_next(&rt, &mut store, &mut search, &[], 0, true));
+    assert!(rt; search.close(&mut store).is_ok());
+    Ok(())
+}
