@@ -7,3 +7,4 @@ pub mod Near
 pub mod PartsHeld
 pub mod Pigeons
 pub mod Refusals
+pub mod Chains

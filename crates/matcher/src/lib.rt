@@ -15,3 +15,6 @@ mod search;
 
 pub use answer::{Embedding, first, has};
 pub use scratch::Scratch;
+
+#[cfg(test)]
+mod tests;
