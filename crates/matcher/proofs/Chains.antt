@@ -1,5 +1,5 @@
 -- A chain of three atoms: a simple graph with no ring. For tests alone.
-use Rattle.std.proofs.Common.{lit≤, lit<, eqb, ◌||◌, map, sum_by, ◌≡◌, ◌≢◌, ◌⊎◌, ◌↔◌, ℕ, zero, suc, ◌+◌, ◌*◌, ◌%◌, ◌<◌, ◌≤◌, Bool, true, false, List, [], ◌∷◌, length, get_or, slice_index, slice_get, Some, All, Contains, refl, sym, ap, ◌∙◌, subst, arith, inl, inr}
+use Rattle.std.proofs.Common.{lit≤, lit<, eqb, ◌||◌, map, sum_by, ◌≡◌, ◌≢◌, ◌⊎◌, ◌↔◌, ℕ, zero, suc, ◌+◌, ◌*◌, ◌%◌, ◌<◌, ◌≤◌, Bool, true, false, List, [], ◌∷◌, length, get_or, slice_index, slice_get, Some, All, Contains, refl, sym, ap, ◌∙◌, subst, arith, inl, inr, mod-eq_of_lt}
 use Rattle.std.proofs.lemmas.Bool.{cases_eq, cases_lt, false≢true}
 use Rattle.std.proofs.lemmas.List.Sums.{count_by-le-length}
 use Rattle.std.proofs.lemmas.Option.{none-some, same_Some}
@@ -136,6 +136,7 @@ simple = record {
 -- a pattern of two atoms that are joined
 pub sound_pair : (one other : Term AtomPrim) (expr : Term BondPrim) → NamesBelow 0 one → NamesBelow 0 other
     → IsSoundPattern (record { top = record { atoms = one ∷ other ∷ []; bonds = record { a = 0; b = 1; expr = expr } ∷ [] }; recs = [] })
+unfolding pair
 sound_pair one other expr h k = record {
   top = record {
     some = lit< tt;

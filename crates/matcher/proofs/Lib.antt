@@ -8,3 +8,4 @@ pub mod PartsHeld
 pub mod Pigeons
 pub mod Refusals
 pub mod Chains
+pub mod Classes

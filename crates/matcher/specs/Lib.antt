@@ -1,3 +1,4 @@
+pub mod Class
 pub mod Least
 pub mod Partial
 pub mod Plan

@@ -7,14 +7,18 @@ ghost use Rattle.matcher.specs.Least.{IsLeast};
 ghost use Rattle.matcher.specs.Task.{Completes, IsReadyTask};
 
 use crate::choices::Choices;
+use crate::class::lacks_atom;
 use crate::fit::Task;
 use crate::parts::note_parts;
 use crate::plan::plan;
-use crate::refusal::{has_bond, has_candidate};
+use crate::refusal::has_bond;
 use crate::scratch::Scratch;
 use crate::search::extend;
 use chem_core::Mol;
 use smarts_parse::Pattern;
+
+/// As many places of a graph are few.
+const FEW_PLACES: usize = 8;
 
 /// An embedding of a pattern: for each atom of its top graph the atom of the molecule where it stands.
 #[derive(Debug, Drop)]
@@ -56,6 +60,9 @@ fn find(pattern: &Pattern, mol: &Mol, scratch: &mut Scratch) -> bool
         (take (length pattern.now.top.atoms.items) scratch.new.image.items) }
     ensures none { result ≡ false → ¬ Matches (pattern_of pattern.now) mol.now }
 {
+    if lacks_atom(pattern, mol) {
+        return false;
+    }
     note_parts(&pattern.recs, mol, scratch);
     plan(&pattern.top, &mut scratch.steps);
     let task = Task {
@@ -70,7 +77,8 @@ fn find(pattern: &Pattern, mol: &Mol, scratch: &mut Scratch) -> bool
     extend(&task, &mut scratch.image, &mut scratch.choices, 0)
 }
 
-// Whether it is found before any search that the graph has no embedding.
+// Whether it is found before any search that the graph has no embedding. A few places that bonds join are searched for
+// sooner than they are refused.
 fn is_refused(task: &Task, choices: &mut Choices) -> bool
     requires { IsReadyTask task.now }
     ensures { IsTrue result → ¬ Completes task.now [] }
@@ -78,12 +86,15 @@ fn is_refused(task: &Task, choices: &mut Choices) -> bool
     if is_loose(task) {
         return choices.refuse(task, &[]);
     }
+    if task.graph.atoms.len() <= FEW_PLACES {
+        return false;
+    }
     for place in 0..task.graph.bonds.len() {
         if !has_bond(task, place) {
             return true;
         }
     }
-    task.graph.atoms.len() == 1 && !has_candidate(task, 0)
+    false
 }
 
 // Whether an atom other than the first has no bond to an earlier one.

@@ -7,6 +7,7 @@ ghost use Rattle.smarts_parse.specs.Pattern.{bond_of, term_of};
 ghost use Rattle.smarts_parse.specs.Truth.{BondTrue};
 ghost use Rattle.matcher.specs.Task.{FirstEmbeds, IsPlaced, IsReadyTask};
 
+use crate::class::may_be;
 use crate::plan::Step;
 use chem_core::Mol;
 use smarts_mean::{RecTable, atom_true, bond_true};
@@ -31,7 +32,11 @@ pub fn fits(task: &Task, front: &[u16], atom: u16) -> bool
     requires first { FirstEmbeds task.now (length front.now) front.now atom }
     ensures { IsTrue result ↔ IsPlaced task.now (front.now ++ atom ∷ []) }
 {
-    let others = task.steps[front.len()].others(&task.graph.bonds);
+    let step = task.steps[front.len()];
+    let others = step.others(&task.graph.bonds);
+    if !may_be(step.classes, task.mol.atoms()[usize::from(atom)]) {
+        return false;
+    }
     if !is_new(front, atom) {
         return false;
     }

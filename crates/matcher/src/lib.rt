@@ -6,6 +6,7 @@
 
 mod answer;
 mod choices;
+mod class;
 mod fit;
 mod parts;
 mod plan;

@@ -62,20 +62,6 @@ fn stays_within(task: &Task, front: &[u16], atoms: &[bool], place: usize) -> boo
     true
 }
 
-/// Whether a place may stand at some atom. If not, the graph has no embedding.
-pub fn has_candidate(task: &Task, place: usize) -> bool
-    requires ready { IsReadyTask task.now }
-    requires place { place < length task.now.graph.now.atoms.items }
-    ensures { result ≡ false → ¬ Completes task.now [] }
-{
-    for atom in 0..task.mol.atoms().len() as u16 {
-        if may_stand(task, &[], place, atom) {
-            return true;
-        }
-    }
-    false
-}
-
 /// Whether a bond of the graph may lie at some bond with both its ends. If not, the graph has no embedding.
 pub fn has_bond(task: &Task, place: usize) -> bool
     requires ready { IsReadyTask task.now }
