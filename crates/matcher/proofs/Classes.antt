@@ -76,3 +76,12 @@ stands_next parts g m steps front atom ready few within p =
     let e : Term AtomPrim = get_or g.atoms (length front) (Prim atoms.Any) in
     let last = IsPartial-last parts g m front atom p in
     stands_in parts m atom (step_at steps (length front)).classes e (ready.covered (length front) few (Prim atoms.Any)) within (last.1 e (slice_get-get_or g.atoms (length front) (Prim atoms.Any) few))
+
+-- the same of any place of an embedding
+pub stands_at : (parts : Parts) (g : GraphTerm) (m : Molecule) (steps : List Step) (image : List ℕ) (place atom : ℕ) → IsReady g steps → place < length g.atoms → IsEmbedding parts g m image → slice_index image place ≡ atom
+    → bit_at (step_at steps place).classes (class_of (get_or m.atoms atom no_element)) ≡ 1
+stands_at parts g m steps image place atom ready few h is =
+    let e : Term AtomPrim = get_or g.atoms place (Prim atoms.Any) in
+    let within : slice_index image place < length m.atoms = h.in_range place 0 (omega (arith, h.one_each)) in
+    subst (λ a. bit_at (step_at steps place).classes (class_of (get_or m.atoms a no_element)) ≡ 1) is
+    (stands_in parts m (slice_index image place) (step_at steps place).classes e (ready.covered place few (Prim atoms.Any)) within (h.atoms place e (slice_get-get_or g.atoms place (Prim atoms.Any) few)))

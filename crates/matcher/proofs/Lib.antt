@@ -9,3 +9,4 @@ pub mod Pigeons
 pub mod Refusals
 pub mod Chains
 pub mod Classes
+pub mod Hunts

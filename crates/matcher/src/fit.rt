@@ -46,6 +46,36 @@ pub fn fits(task: &Task, front: &[u16], atom: u16) -> bool
     bonds_embed(others, task.mol, front, atom)
 }
 
+/// Whether the next atom may stand at that one after the atoms in front.
+pub fn begins(task: &Task, front: &[u16], atom: u16) -> bool
+    requires ready { IsReadyTask task.now }
+    requires few { length front.now < length task.now.graph.now.atoms.items }
+    requires partial { IsPlaced task.now front.now }
+    ensures { IsTrue result → IsPlaced task.now (front.now ++ atom ∷ []) }
+{
+    if usize::from(atom) >= task.mol.atoms().len() {
+        return false;
+    }
+    if !first_embeds(task, front, atom) {
+        return false;
+    }
+    fits(task, front, atom)
+}
+
+// Whether the first bond of the next atom to an earlier one, if there is one, embeds with it there.
+fn first_embeds(task: &Task, front: &[u16], atom: u16) -> bool
+    requires ready { IsReadyTask task.now }
+    requires few { length front.now < length task.now.graph.now.atoms.items }
+    requires partial { IsPlaced task.now front.now }
+    ensures { IsTrue result → FirstEmbeds task.now (length front.now) front.now atom }
+{
+    let step = task.steps[front.len()];
+    if step.from >= step.to {
+        return true;
+    }
+    bond_embeds(&task.graph.bonds[step.from], task.mol, front, atom)
+}
+
 /// Whether the atom is none of those in front.
 pub fn is_new(front: &[u16], atom: u16) -> bool
     ensures { IsTrue result ↔ ¬ Contains front.now atom }
@@ -84,8 +114,8 @@ fn bond_embeds(bond: &PatBond, mol: &Mol, front: &[u16], atom: u16) -> bool
     )
 }
 
-// Whether a bond joins the two atoms at which the expression is true.
-fn are_joined_by(expr: &Expr<BondPrim>, mol: &Mol, from: u16, to: u16) -> bool
+/// Whether a bond joins the two atoms at which the expression is true.
+pub fn are_joined_by(expr: &Expr<BondPrim>, mol: &Mol, from: u16, to: u16) -> bool
     requires { from < length mol.now.atoms }
     ensures { IsTrue result
         ↔ ((b : ℕ) × JoinsAt (ends_of mol.now) b from to × BondTrue (term_of expr.now) mol.now b) }

@@ -8,6 +8,8 @@ mod answer;
 mod choices;
 mod class;
 mod fit;
+mod hunt;
+mod lay;
 mod parts;
 mod plan;
 mod refusal;
