@@ -1,9 +1,9 @@
 -- A chain of three atoms: a simple graph with no ring. For tests alone.
-use Rattle.std.proofs.Common.{lit≤, lit<, eqb, ◌||◌, map, sum_by, ◌≡◌, ◌≢◌, ◌⊎◌, ◌↔◌, ℕ, zero, suc, ◌+◌, ◌*◌, ◌%◌, ◌<◌, ◌≤◌, Bool, true, false, List, [], ◌∷◌, length, get_or, slice_index, slice_get, Some, All, Contains, refl, sym, ap, ◌∙◌, subst, arith, inl, inr, mod-eq_of_lt}
+use Rattle.std.proofs.Common.{lit≤, lit<, eqb, ◌||◌, ◌≡◌, ◌⊎◌, ℕ, zero, suc, ◌+◌, ◌*◌, ◌%◌, ◌<◌, ◌≤◌, true, false, List, [], ◌∷◌, length, get_or, slice_index, refl, sym, ap, ◌∙◌, subst, arith, inl, inr, mod-eq_of_lt}
 use Rattle.std.proofs.lemmas.Bool.{cases_eq, cases_lt, false≢true}
 use Rattle.std.proofs.lemmas.List.Sums.{count_by-le-length}
 use Rattle.std.proofs.lemmas.Option.{none-some, same_Some}
-use Rattle.chem_core.specs.Graph.{Ends, IsRingBond, IsSimpleCycle, IsSimpleGraph, IsSmallestRing, Joined, JoinsAt, degree, next_place}
+use Rattle.chem_core.specs.Graph.{Ends, IsSimpleCycle, IsSimpleGraph, JoinsAt, degree, next_place}
 use Rattle.smarts_parse.specs.declared.pattern.AtomPrim.{AtomPrim}
 use Rattle.smarts_parse.specs.declared.pattern.BondPrim.{BondPrim}
 use Rattle.smarts_parse.specs.Pattern.{Term}

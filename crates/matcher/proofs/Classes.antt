@@ -1,5 +1,5 @@
 -- An expression is true only at atoms of its classes.
-use Rattle.std.proofs.Common.{◌≡◌, ◌⊎◌, ℕ, ◌+◌, ◌*◌, ◌%◌, ◌<◌, ◌++◌, ◌∷◌, [], Bool, true, false, bit_and, bit_or, List, length, get_or, slice_index, All, pos, Some, slice_get, sym, ap, ◌∙◌, subst, arith, inl, inr, refl}
+use Rattle.std.proofs.Common.{◌≡◌, ◌⊎◌, ℕ, ◌<◌, ◌++◌, ◌∷◌, [], Bool, true, false, bit_and, bit_or, List, length, get_or, slice_index, All, pos, Some, slice_get, sym, ap, ◌∙◌, subst, arith, inl, inr, refl}
 use Rattle.std.specs.Int.{bit_at}
 use Rattle.std.proofs.lemmas.Nat.Bits.{bit_at_and, bit_at_or, bit_at_ones, bit_at-lt, bit_at-zero}
 use Rattle.std.proofs.lemmas.Option.{same_Some, slice_get-get_or, slice_get_within}

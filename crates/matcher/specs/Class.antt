@@ -1,5 +1,5 @@
 -- For private clauses alone: classes of atoms, and those at which an expression may be true.
-use Rattle.std.specs.Prelude.{◌≡◌, ◌⊎◌, ℕ, ◌+◌, ◌*◌, ◌/◌, ◌%◌, ◌<◌, Bool, true, false}
+use Rattle.std.specs.Prelude.{◌≡◌, ◌⊎◌, ℕ, ◌+◌, ◌*◌, ◌%◌, ◌<◌, Bool, true, false}
 use Rattle.std.specs.Int.{bit_at}
 use Rattle.chem_core.specs.declared.mol.Atom.{Atom}
 use Rattle.smarts_parse.specs.declared.pattern.AtomPrim.{AtomPrim}

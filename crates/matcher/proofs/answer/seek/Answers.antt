@@ -1,7 +1,7 @@
-use Rattle.std.proofs.Common.{◌≡◌, ◌∙◌, ap, arith, length, sym}
+use Rattle.std.proofs.Common.{◌≡◌, ◌∙◌, arith, length, sym}
 use Rattle.std.proofs.lemmas.Bool.{false≢true}
 use Rattle.std.proofs.lemmas.List.{length-map}
-use Rattle.smarts_parse.specs.Pattern.{graph_of, term_of}
+use Rattle.smarts_parse.specs.Pattern.{term_of}
 use Rattle.matcher.proofs.Hunts.{none_taken}
 use Rattle.matcher.proofs.answer.seek.Goals as goal
 

@@ -1,9 +1,9 @@
 -- Each atom is tried in turn.
-use Rattle.std.proofs.Common.{◌≡◌, ◌<◌, ◌∙◌, ap, arith, below_more, get_or, length, rules, set, subst, sym}
+use Rattle.std.proofs.Common.{◌≡◌, ◌∙◌, ap, arith, below_more, get_or, length, rules, set, subst, sym}
 use Rattle.std.proofs.lemmas.Bool.{iff_false}
 use Rattle.std.proofs.lemmas.List.{set-get_or, set-set}
 use Rattle.matcher.specs.Hunt.{IsFree}
-use Rattle.matcher.proofs.Hunts.{not_near, nowhere_near, taken_more}
+use Rattle.matcher.proofs.Hunts.{not_near, nowhere_near}
 use Rattle.matcher.proofs.Joins.{joins_in_range, neighbour_joined}
 use Rattle.matcher.proofs.hunt.+hunt.Goals as goal
 
