@@ -29,7 +29,8 @@ prim_may_be parts (atoms.Symbol number lower) m a x h = ap (λ n. class_at n x.a
 prim_may_be parts (atoms.Number number) m a x h = subst (λ n. (class_at n x.aromatic ≡ class_at number false) ⊎ (class_at n x.aromatic ≡ class_at number true)) (sym h) (either_class number x.aromatic)
 prim_may_be parts _ m a x h = tt
 
-pub may_be_true : (parts : Parts) (e : Term AtomPrim) (m : Molecule) (a : ℕ) (x : Atom) → slice_get m.atoms a ≡ Some x → AtomTrue parts e m a → MayBe e (class_of x)
+pub may_be_true : (parts : Parts) (e : Term AtomPrim) (m : Molecule) (a : ℕ) (x : Atom) → slice_get m.atoms a ≡ Some x
+    → AtomTrue parts e m a → MayBe e (class_of x)
 may_be_true parts (Prim p) m a x get h = subst (λ y. PrimMayBe p (class_of y)) (same_Some h.0 x (sym h.1 ∙ get)) (prim_may_be parts p m a h.0 h.2)
 may_be_true parts (Not e) m a x get h = tt
 may_be_true parts (And e f) m a x get h = (may_be_true parts e m a x get h.0, may_be_true parts f m a x get h.1)
@@ -53,13 +54,15 @@ abbrev pub no_element : Atom
 no_element = record { number = 0; isotope = 0; charge = pos 0; hydrogens = 0; aromatic = false; valence = 0 }
 
 -- an atom that stands where its expression is true is of one of its classes
-pub stands_in : (parts : Parts) (m : Molecule) (a classes : ℕ) (e : Term AtomPrim) → Covers classes e → a < length m.atoms → AtomTrue parts e m a → bit_at classes (class_of (get_or m.atoms a no_element)) ≡ 1
+pub stands_in : (parts : Parts) (m : Molecule) (a classes : ℕ) (e : Term AtomPrim) → Covers classes e
+    → a < length m.atoms → AtomTrue parts e m a → bit_at classes (class_of (get_or m.atoms a no_element)) ≡ 1
 stands_in parts m a classes e covers within h =
     let x = get_or m.atoms a no_element in
     covers (class_of x) (class_below x.number x.aromatic) (may_be_true parts e m a x (slice_get-get_or m.atoms a no_element within) h)
 
 -- no embedding, where none of the molecule's atoms is of a class of the expression
-pub no_atom : (parts : Parts) (g : GraphTerm) (m : Molecule) (k : ℕ) (e : Term AtomPrim) (classes present : ℕ) → slice_get g.atoms k ≡ Some e → Covers classes e → All (λ x. bit_at present (class_of x) ≡ 1) m.atoms
+pub no_atom : (parts : Parts) (g : GraphTerm) (m : Molecule) (k : ℕ) (e : Term AtomPrim) (classes present : ℕ)
+    → slice_get g.atoms k ≡ Some e → Covers classes e → All (λ x. bit_at present (class_of x) ≡ 1) m.atoms
     → bit_and classes present ≡ 0 → (image : List ℕ) → IsEmbedding parts g m image → ⊥
 no_atom parts g m k e classes present get covers all none image h =
     let place = slice_get_within g.atoms k e get in
@@ -70,7 +73,9 @@ no_atom parts g m k e classes present get covers all none image h =
     omega arith
 
 -- and one that stands at the next place of a graph is of the classes of its step
-pub stands_next : (parts : Parts) (g : GraphTerm) (m : Molecule) (steps : List Step) (front : List ℕ) (atom : ℕ) → IsReady g steps → length front < length g.atoms → atom < length m.atoms → IsPartial parts g m (front ++ atom ∷ [])
+pub stands_next : (parts : Parts) (g : GraphTerm) (m : Molecule) (steps : List Step) (front : List ℕ) (atom : ℕ)
+    → IsReady g steps → length front < length g.atoms → atom < length m.atoms
+    → IsPartial parts g m (front ++ atom ∷ [])
     → bit_at (step_at steps (length front)).classes (class_of (get_or m.atoms atom no_element)) ≡ 1
 stands_next parts g m steps front atom ready few within p =
     let e : Term AtomPrim = get_or g.atoms (length front) (Prim atoms.Any) in
@@ -78,7 +83,8 @@ stands_next parts g m steps front atom ready few within p =
     stands_in parts m atom (step_at steps (length front)).classes e (ready.covered (length front) few (Prim atoms.Any)) within (last.1 e (slice_get-get_or g.atoms (length front) (Prim atoms.Any) few))
 
 -- the same of any place of an embedding
-pub stands_at : (parts : Parts) (g : GraphTerm) (m : Molecule) (steps : List Step) (image : List ℕ) (place atom : ℕ) → IsReady g steps → place < length g.atoms → IsEmbedding parts g m image → slice_index image place ≡ atom
+pub stands_at : (parts : Parts) (g : GraphTerm) (m : Molecule) (steps : List Step) (image : List ℕ) (place atom : ℕ)
+    → IsReady g steps → place < length g.atoms → IsEmbedding parts g m image → slice_index image place ≡ atom
     → bit_at (step_at steps place).classes (class_of (get_or m.atoms atom no_element)) ≡ 1
 stands_at parts g m steps image place atom ready few h is =
     let e : Term AtomPrim = get_or g.atoms place (Prim atoms.Any) in

@@ -20,8 +20,10 @@ read_bond : (bonds : List PatBond) (k : ℕ) (b : PatBond) → k < length bonds 
 read_bond bonds k b l is d = get_or-map bond_of bonds k b d l ∙ ap bond_of (sym is)
 
 -- what a bond to a place that is taken asks
-pub asks_bond : (task : Task) (taken : List ℕ) (place bond other : ℕ) (b : PatBond) → IsReadyTask task → bond < length task.graph.now.bonds.items → b ≡ get_or task.graph.now.bonds.items bond b
-    → ((b.a ≡ place) × (b.b ≡ other)) ⊎ ((b.a ≡ other) × (b.b ≡ place)) → slice_index taken other < length task.mol.now.atoms → Asks task taken place (slice_index taken other) bond
+pub asks_bond : (task : Task) (taken : List ℕ) (place bond other : ℕ) (b : PatBond) → IsReadyTask task
+    → bond < length task.graph.now.bonds.items → b ≡ get_or task.graph.now.bonds.items bond b
+    → ((b.a ≡ place) × (b.b ≡ other)) ⊎ ((b.a ≡ other) × (b.b ≡ place))
+    → slice_index taken other < length task.mol.now.atoms → Asks task taken place (slice_index taken other) bond
 asks_bond task taken place bond other b ready l is ends at d whole h =
     let bonds = task.graph.now.bonds.items in
     let g = graph_of task.graph.now in
@@ -43,8 +45,11 @@ asks_bond task taken place bond other b ready l is ends at d whole h =
     ]
 
 -- the bond that is asked for, where the place stands at an atom
-pub asked_at : (task : Task) (taken whole : List ℕ) (place from bond atom : ℕ) (b : PatBond) → Asks task taken place from bond → bond < length task.graph.now.bonds.items → b ≡ get_or task.graph.now.bonds.items bond b
-    → Continues task taken whole → slice_index whole place ≡ atom → (x : ℕ) × JoinsAt (ends_of task.mol.now) x from atom × BondTrue (term_of b.expr) task.mol.now x
+pub asked_at : (task : Task) (taken whole : List ℕ) (place from bond atom : ℕ) (b : PatBond)
+    → Asks task taken place from bond → bond < length task.graph.now.bonds.items
+    → b ≡ get_or task.graph.now.bonds.items bond b
+    → Continues task taken whole → slice_index whole place ≡ atom
+    → (x : ℕ) × JoinsAt (ends_of task.mol.now) x from atom × BondTrue (term_of b.expr) task.mol.now x
 asked_at task taken whole place from bond atom b asks l is h e =
     let w = asks (bond_of b) whole h in (
       w.0,
@@ -53,8 +58,11 @@ asked_at task taken whole place from bond atom b asks l is h e =
     )
 
 -- not at a neighbour by a bond that is not as asked
-pub not_near : (task : Task) (taken whole : List ℕ) (place from bond : ℕ) (b : PatBond) (pairs : List (ℕ × ℕ)) (k : ℕ) → Asks task taken place from bond → bond < length task.graph.now.bonds.items → b ≡ get_or task.graph.now.bonds.items bond b
-    → AreNeighbours (ends_of task.mol.now) from pairs → k < length pairs → (BondTrue (term_of b.expr) task.mol.now (get_or pairs k (0, 0)).1 → ⊥)
+pub not_near : (task : Task) (taken whole : List ℕ) (place from bond : ℕ) (b : PatBond) (pairs : List (ℕ × ℕ)) (k : ℕ)
+    → Asks task taken place from bond → bond < length task.graph.now.bonds.items
+    → b ≡ get_or task.graph.now.bonds.items bond b
+    → AreNeighbours (ends_of task.mol.now) from pairs → k < length pairs
+    → (BondTrue (term_of b.expr) task.mol.now (get_or pairs k (0, 0)).1 → ⊥)
     → Continues task taken whole → slice_index whole place ≡ (get_or pairs k (0, 0)).0 → ⊥
 not_near task taken whole place from bond b pairs k asks l is near kl lacks h e =
     let w = asked_at task taken whole place from bond (get_or pairs k (0, 0)).0 b asks l is h e in
@@ -65,15 +73,18 @@ abbrev any_bond : BondTerm
 any_bond = record { a = 0; b = 0; expr = Prim prims.Any }
 
 -- nowhere, where at none of the neighbours
-pub nowhere_near : (task : Task) (taken : List ℕ) (place from bond : ℕ) (pairs : List (ℕ × ℕ)) → Asks task taken place from bond → AreNeighbours (ends_of task.mol.now) from pairs
-    → ((k : ℕ) → k < length pairs → (whole : List ℕ) → Continues task taken whole → slice_index whole place ≡ (get_or pairs k (0, 0)).0 → ⊥) → (whole : List ℕ) → Continues task taken whole → ⊥
+pub nowhere_near : (task : Task) (taken : List ℕ) (place from bond : ℕ) (pairs : List (ℕ × ℕ))
+    → Asks task taken place from bond → AreNeighbours (ends_of task.mol.now) from pairs
+    → ((k : ℕ) → k < length pairs → (whole : List ℕ) → Continues task taken whole → slice_index whole place ≡ (get_or pairs k (0, 0)).0 → ⊥)
+    → (whole : List ℕ) → Continues task taken whole → ⊥
 nowhere_near task taken place from bond pairs asks near none whole h =
     let w = asks any_bond whole h in
     let at = among_neighbours (ends_of task.mol.now) from (slice_index whole place) w.0 pairs near w.1 in
     none at.0 at.1 whole h (sym (ap (λ (e : ℕ × ℕ). e.0) at.2))
 
 -- one place more is taken
-pub taken_more : (task : Task) (taken whole : List ℕ) (place atom : ℕ) → place < length taken → Continues task taken whole → slice_index whole place ≡ atom → Continues task (set taken place atom) whole
+pub taken_more : (task : Task) (taken whole : List ℕ) (place atom : ℕ) → place < length taken
+    → Continues task taken whole → slice_index whole place ≡ atom → Continues task (set taken place atom) whole
 taken_more task taken whole place atom l h e = record {
   embeds = h.embeds;
   agrees = λ q lq at. elim (cases_eq q place) [
@@ -85,7 +96,9 @@ taken_more task taken whole place atom l h e = record {
 }
 
 -- a place that is not taken does not stand where one that is taken stands
-pub taken_twice : (task : Task) (taken whole : List ℕ) (place atom n : ℕ) → n ≡ length whole → n ≤ length taken → place < n → atom < length task.mol.now.atoms → length task.mol.now.atoms ≤ slice_index taken place → Contains (take n taken) atom
+pub taken_twice : (task : Task) (taken whole : List ℕ) (place atom n : ℕ) → n ≡ length whole → n ≤ length taken
+    → place < n → atom < length task.mol.now.atoms → length task.mol.now.atoms ≤ slice_index taken place
+    → Contains (take n taken) atom
     → Continues task taken whole → slice_index whole place ≡ atom → ⊥
 taken_twice task taken whole place atom n size room few in_range free w h e =
     let q : ℕ = w.0 in
@@ -102,7 +115,9 @@ taken_twice task taken whole place atom n size room few in_range free w h e =
     ]
 
 -- no place is taken yet
-pub none_taken : (task : Task) (taken whole : List ℕ) (n : ℕ) → n ≡ length (graph_of task.graph.now).atoms → ((k : ℕ) → k < n → slice_index taken k ≡ length task.mol.now.atoms) → Embeds task whole → Continues task taken whole
+pub none_taken : (task : Task) (taken whole : List ℕ) (n : ℕ) → n ≡ length (graph_of task.graph.now).atoms
+    → ((k : ℕ) → k < n → slice_index taken k ≡ length task.mol.now.atoms) → Embeds task whole
+    → Continues task taken whole
 none_taken task taken whole n all none h = record {
   embeds = h;
   agrees = λ q l at. let free = none q (omega (arith, h.one_each)) in absurd (omega arith);

@@ -20,9 +20,11 @@ pub record IsFree (task : Task) (stops : List Stop) (k : ℕ) (taken : List ℕ)
 -- an embedding that has at each place that is taken the atom there
 pub record Continues (task : Task) (taken image : List ℕ) : Type 0 where
   pub embeds : Embeds task image
-  pub agrees : (q : ℕ) → q < length image → slice_index taken q < length task.mol.now.atoms → slice_index image q ≡ slice_index taken q
+  pub agrees : (q : ℕ) → q < length image → slice_index taken q < length task.mol.now.atoms
+      → slice_index image q ≡ slice_index taken q
 
 -- each such embedding has a bond of the molecule, where the bond of the graph is true, between the place and an atom
 abbrev pub Asks : Task → List ℕ → ℕ → ℕ → ℕ → Type 0
 Asks task taken place from bond = (d : BondTerm) (image : List ℕ) → Continues task taken image
-    → (b : ℕ) × JoinsAt (ends_of task.mol.now) b from (slice_index image place) × BondTrue (slice_index_or (graph_of task.graph.now).bonds bond d).expr task.mol.now b
+    → (b : ℕ) × JoinsAt (ends_of task.mol.now) b from (slice_index image place)
+    × BondTrue (slice_index_or (graph_of task.graph.now).bonds bond d).expr task.mol.now b

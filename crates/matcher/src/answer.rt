@@ -137,6 +137,9 @@ fn is_refused(task: &Task, choices: &mut Choices) -> bool
     if task.graph.atoms.len() <= FEW_PLACES {
         return false;
     }
+    if choices.are_crowded(task) {
+        return true;
+    }
     for place in 0..task.graph.bonds.len() {
         if !has_bond(task, place) {
             return true;
