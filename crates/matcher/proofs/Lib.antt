@@ -7,3 +7,6 @@ pub mod Near
 pub mod PartsHeld
 pub mod Pigeons
 pub mod Refusals
+pub mod Chains
+pub mod Classes
+pub mod Hunts

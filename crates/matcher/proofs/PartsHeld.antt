@@ -211,3 +211,6 @@ least_of p m table whole sound noted h = record {
 pub none_of : (p : PatternTerm) (m : Molecule) (table : Table) → IsSoundPattern p → AreNoted p.recs m (length p.recs) table → (CanComplete (HoldsIn table) p.top m [] → ⊥) → Matches p m → ⊥
 none_of p m table sound noted none w =
     none (w.0, parts_embedding (PartsHold p.recs m (length p.recs)) (HoldsIn table) (length p.recs) p.top m w.0 sound.top.names (λ k a l r. let s = noted k a l r in (s.1, s.0)) w.1)
+
+pub some_of : (p : PatternTerm) (m : Molecule) (table : Table) → IsSoundPattern p → AreNoted p.recs m (length p.recs) table → CanComplete (HoldsIn table) p.top m [] → Matches p m
+some_of p m table sound noted w = (w.0, parts_embedding (HoldsIn table) (PartsHold p.recs m (length p.recs)) (length p.recs) p.top m w.0 sound.top.names noted w.1)

@@ -4,21 +4,23 @@ use Rattle.std.proofs.lemmas.Bool.{cases_eq}
 use Rattle.std.proofs.lemmas.List.{get_or-drop, get_or-map, get_or-set_other, get_or-set_same, get_or-take, length-map, length-set, take-map, drop-map, length-take, length-drop}
 use Rattle.std.proofs.lemmas.List.Elements.{All-drop, All-take}
 use Rattle.smarts_parse.specs.declared.pattern.PatBond.{PatBond}
-use Rattle.smarts_parse.specs.Pattern.{BondTerm, GraphTerm, bond_of}
+use Rattle.smarts_parse.specs.declared.pattern.AtomPrim.{AtomPrim}
+use Rattle.smarts_parse.specs.Pattern.{BondTerm, GraphTerm, Term, bond_of}
 use Rattle.smarts_parse.specs.Sound.{pattern_ends}
 use Rattle.matcher.specs.declared.plan.Step.{Step}
-use Rattle.matcher.specs.Plan.{ArePlanned, IsReady, step_at}
+use Rattle.matcher.specs.Class.{Covers}
+use Rattle.matcher.specs.Plan.{ArePlanned, AreCovered, IsReady, step_at}
 
 abbrev pub empty : Step
-empty = record { from = 0; to = 0 }
+empty = record { from = 0; to = 0; classes = 0 }
 
-pub planned_none : (bonds : List BondTerm) (atoms : ℕ) (steps : List Step) → atoms ≤ length steps → ((k : ℕ) → k < atoms → step_at steps k ≡ empty) → ArePlanned bonds 0 atoms steps
+pub planned_none : (bonds : List BondTerm) (atoms : ℕ) (steps : List Step) → atoms ≤ length steps → ((k : ℕ) → k < atoms → (step_at steps k).to ≡ 0) → ArePlanned bonds 0 atoms steps
 planned_none bonds atoms steps room none = record {
   room = room;
   within = λ k d l. absurd (omega arith);
-  ends = λ k l. let e : (step_at steps k).to ≡ 0 = ap (λ (s : Step). s.to) (none k l) in omega arith;
-  proper = λ k l. inl (ap (λ (s : Step). s.to) (none k l));
-  first = λ k d l lt. let e : (step_at steps k).to ≡ 0 = ap (λ (s : Step). s.to) (none k l) in absurd (omega arith);
+  ends = λ k l. let e = none k l in omega arith;
+  proper = λ k l. inl (none k l);
+  first = λ k d l lt. let e = none k l in absurd (omega arith);
 }
 
 -- one bond more
@@ -152,3 +154,28 @@ pub planned_next : (bonds : List PatBond) (g : GraphTerm) (n : ℕ) (steps : Lis
 planned_next bonds g n steps h next bond same before short is high lt fresh again to =
     let size : length g.bonds ≡ length bonds = ap length same ∙ length-map bonds bond_of in
     planned_more g.bonds n (length g.atoms) steps h next (bond_of bond) before (omega arith) (λ d. ap (λ bs. get_or bs n d) same ∙ get_or-map bond_of bonds n bond d short ∙ ap bond_of (sym is)) (sym high) lt fresh again to
+
+-- classes are kept where a step with the same is written
+pub covered_set : (atoms : List (Term AtomPrim)) (n : ℕ) (steps : List Step) (h : ℕ) (next : Step) → AreCovered atoms n steps → h < length steps → next.classes ≡ (step_at steps h).classes → AreCovered atoms n (set steps h next)
+covered_set atoms n steps h next before lt same k l d = elim (cases_eq k h) [
+  | inl at ↦
+      let read : (step_at (set steps h next) k).classes ≡ (step_at steps k).classes =
+      ap (λ (s : Step). s.classes) (ap (step_at (set steps h next)) at ∙ get_or-set_same steps h next empty lt) ∙ same ∙ ap (λ i. (step_at steps i).classes) (sym at) in
+      subst (λ (c : ℕ). Covers c (get_or atoms k d)) (sym read) (before k l d)
+  | inr apart ↦ subst (λ (s : Step). Covers s.classes (get_or atoms k d)) (sym (get_or-set_other steps h k next empty apart)) (before k l d)
+]
+
+-- and those of one step more
+pub covered_more : (atoms : List (Term AtomPrim)) (n : ℕ) (steps : List Step) (next : Step) → AreCovered atoms n steps → n < length steps → ((d : Term AtomPrim) → Covers next.classes (get_or atoms n d)) → AreCovered atoms (n + 1) (set steps n next)
+covered_more atoms n steps next before lt here k l d = elim (cases_eq k n) [
+  | inl at ↦ subst (λ i. Covers (step_at (set steps n next) i).classes (get_or atoms i d)) (sym at)
+      (subst (λ (s : Step). Covers s.classes (get_or atoms n d)) (sym (get_or-set_same steps n next empty lt)) (here d))
+  | inr apart ↦ subst (λ (s : Step). Covers s.classes (get_or atoms k d)) (sym (get_or-set_other steps n k next empty apart)) (before k (omega arith) d)
+]
+
+-- no bond yet, of one step more
+pub none_more : (steps : List Step) (n : ℕ) (next : Step) → ((k : ℕ) → k < n → (step_at steps k).to ≡ 0) → n < length steps → next.to ≡ 0 → (k : ℕ) → k < n + 1 → (step_at (set steps n next) k).to ≡ 0
+none_more steps n next before lt none k l = elim (cases_eq k n) [
+  | inl at ↦ ap (λ (s : Step). s.to) (ap (step_at (set steps n next)) at ∙ get_or-set_same steps n next empty lt) ∙ none
+  | inr apart ↦ ap (λ (s : Step). s.to) (get_or-set_other steps n k next empty apart) ∙ before k (omega arith)
+]

@@ -1,3 +1,5 @@
+pub mod Class
+pub mod Hunt
 pub mod Least
 pub mod Partial
 pub mod Plan

@@ -1,12 +1,14 @@
 -- For private clauses alone: where each atom's bonds to earlier atoms stand among the bonds of a graph.
 use Rattle.std.specs.Prelude.{◌≡◌, ◌⊎◌, ℕ, ◌<◌, ◌≤◌, List, length, max, slice_index_or}
-use Rattle.smarts_parse.specs.Pattern.{BondTerm, GraphTerm}
+use Rattle.smarts_parse.specs.declared.pattern.AtomPrim.{AtomPrim}
+use Rattle.smarts_parse.specs.Pattern.{BondTerm, GraphTerm, Term}
+use Rattle.matcher.specs.Class.{Covers}
 use Rattle.matcher.specs.declared.plan.Step.{Step}
 use Rattle.matcher.specs.Partial.{IsSearchable}
 
 -- the step at a place; past the list's end an empty one
 abbrev pub step_at : List Step → ℕ → Step
-step_at steps k = slice_index_or steps k (record { from = 0; to = 0 })
+step_at steps k = slice_index_or steps k (record { from = 0; to = 0; classes = 0 })
 
 -- Each of the first n bonds stands in the step of its higher end, and a step that is not empty begins with a bond whose higher end is its atom.
 pub record ArePlanned (bonds : List BondTerm) (n atoms : ℕ) (steps : List Step) : Type 0 where
@@ -16,7 +18,12 @@ pub record ArePlanned (bonds : List BondTerm) (n atoms : ℕ) (steps : List Step
   pub proper : (k : ℕ) → k < atoms → ((step_at steps k).to ≡ 0) ⊎ ((step_at steps k).from < (step_at steps k).to)
   pub first : (k : ℕ) (d : BondTerm) → k < atoms → (step_at steps k).from < (step_at steps k).to → let bond = slice_index_or bonds (step_at steps k).from d in max bond.a bond.b ≡ k
 
+-- each step has the classes of the atoms at which its atom may stand
+abbrev pub AreCovered : List (Term AtomPrim) → ℕ → List Step → Type 0
+AreCovered atoms n steps = (k : ℕ) → k < n → (d : Term AtomPrim) → Covers (step_at steps k).classes (slice_index_or atoms k d)
+
 -- a graph that can be searched for, and its steps
 pub record IsReady (g : GraphTerm) (steps : List Step) : Type 0 where
   pub searchable : IsSearchable g
   pub planned : ArePlanned g.bonds (length g.bonds) (length g.atoms) steps
+  pub covered : AreCovered g.atoms (length g.atoms) steps

@@ -7,6 +7,7 @@ ghost use Rattle.smarts_parse.specs.Pattern.{bond_of, term_of};
 ghost use Rattle.smarts_parse.specs.Truth.{BondTrue};
 ghost use Rattle.matcher.specs.Task.{FirstEmbeds, IsPlaced, IsReadyTask};
 
+use crate::class::may_be;
 use crate::plan::Step;
 use chem_core::Mol;
 use smarts_mean::{RecTable, atom_true, bond_true};
@@ -31,7 +32,11 @@ pub fn fits(task: &Task, front: &[u16], atom: u16) -> bool
     requires first { FirstEmbeds task.now (length front.now) front.now atom }
     ensures { IsTrue result ↔ IsPlaced task.now (front.now ++ atom ∷ []) }
 {
-    let others = task.steps[front.len()].others(&task.graph.bonds);
+    let step = task.steps[front.len()];
+    let others = step.others(&task.graph.bonds);
+    if !may_be(step.classes, task.mol.atoms()[usize::from(atom)]) {
+        return false;
+    }
     if !is_new(front, atom) {
         return false;
     }
@@ -39,6 +44,36 @@ pub fn fits(task: &Task, front: &[u16], atom: u16) -> bool
         return false;
     }
     bonds_embed(others, task.mol, front, atom)
+}
+
+/// Whether the next atom may stand at that one after the atoms in front.
+pub fn begins(task: &Task, front: &[u16], atom: u16) -> bool
+    requires ready { IsReadyTask task.now }
+    requires few { length front.now < length task.now.graph.now.atoms.items }
+    requires partial { IsPlaced task.now front.now }
+    ensures { IsTrue result → IsPlaced task.now (front.now ++ atom ∷ []) }
+{
+    if usize::from(atom) >= task.mol.atoms().len() {
+        return false;
+    }
+    if !first_embeds(task, front, atom) {
+        return false;
+    }
+    fits(task, front, atom)
+}
+
+// Whether the first bond of the next atom to an earlier one, if there is one, embeds with it there.
+fn first_embeds(task: &Task, front: &[u16], atom: u16) -> bool
+    requires ready { IsReadyTask task.now }
+    requires few { length front.now < length task.now.graph.now.atoms.items }
+    requires partial { IsPlaced task.now front.now }
+    ensures { IsTrue result → FirstEmbeds task.now (length front.now) front.now atom }
+{
+    let step = task.steps[front.len()];
+    if step.from >= step.to {
+        return true;
+    }
+    bond_embeds(&task.graph.bonds[step.from], task.mol, front, atom)
 }
 
 /// Whether the atom is none of those in front.
@@ -79,8 +114,8 @@ fn bond_embeds(bond: &PatBond, mol: &Mol, front: &[u16], atom: u16) -> bool
     )
 }
 
-// Whether a bond joins the two atoms at which the expression is true.
-fn are_joined_by(expr: &Expr<BondPrim>, mol: &Mol, from: u16, to: u16) -> bool
+/// Whether a bond joins the two atoms at which the expression is true.
+pub fn are_joined_by(expr: &Expr<BondPrim>, mol: &Mol, from: u16, to: u16) -> bool
     requires { from < length mol.now.atoms }
     ensures { IsTrue result
         ↔ ((b : ℕ) × JoinsAt (ends_of mol.now) b from to × BondTrue (term_of expr.now) mol.now b) }

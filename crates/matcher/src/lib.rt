@@ -1,12 +1,17 @@
 //! Where a SMARTS pattern embeds in a molecule (Daylight Theory Manual, chapter SMARTS): the least of its embeddings.
 //!
-//! The pattern's atoms are placed in turn. One that a bond joins to an earlier one goes along the bonds of the molecule
-//! from there; any other goes anywhere. The number of tries is not bounded.
+//! A molecule that lacks atoms of a class that the pattern asks for is refused at once. Then the pattern's atoms are
+//! placed in turn. One that a bond joins to an earlier one goes along the bonds of the molecule from there; any other goes
+//! anywhere. Where any embedding serves, the first placed is one that few atoms can take. The number of tries is not
+//! bounded.
 #![tactic(auto)]
 
 mod answer;
 mod choices;
+mod class;
 mod fit;
+mod hunt;
+mod lay;
 mod parts;
 mod plan;
 mod refusal;
@@ -15,3 +20,6 @@ mod search;
 
 pub use answer::{Embedding, first, has};
 pub use scratch::Scratch;
+
+#[cfg(test)]
+mod tests;

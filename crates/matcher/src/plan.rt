@@ -1,9 +1,11 @@
-//! Steps: for each atom of a graph where its bonds to earlier atoms stand, so that they are found at once.
+//! Steps: for each atom of a graph where its bonds to earlier atoms stand, so that they are found at once, and of what
+//! classes it may be.
 ghost use Rattle.std.specs.Prelude.{◌≡◌, ◌≢◌, ◌+◌, ◌-◌, ◌<◌, ◌≤◌, drop, length, take};
 ghost use Rattle.smarts_parse.specs.Pattern.{graph_of};
 ghost use Rattle.matcher.specs.Partial.{IsSearchable};
 ghost use Rattle.matcher.specs.Plan.{IsReady};
 
+use crate::class::classes_of;
 use smarts_parse::{Graph, PatBond};
 
 /// Where an atom's bonds to earlier atoms stand among the bonds of a graph: none before `from`, none from `to` on.
@@ -12,10 +14,16 @@ use smarts_parse::{Graph, PatBond};
 pub struct Step {
     pub from: usize,
     pub to: usize,
+    /// The classes of the atoms at which the atom may stand.
+    pub classes: u64,
 }
 
 /// The step of an atom that has no bond to an earlier one.
-pub const NO_STEP: Step = Step { from: 0, to: 0 };
+pub const NO_STEP: Step = Step {
+    from: 0,
+    to: 0,
+    classes: 0,
+};
 
 impl Step {
     /// The step with one more bond of its atom, at a place after those before.
@@ -24,10 +32,12 @@ impl Step {
         ensures fresh { self.to ≡ 0 → result.from ≡ place }
         ensures again { self.to ≢ 0 → result.from ≡ self.from }
         ensures to { result.to ≡ place + 1 }
+        ensures classes { result.classes ≡ self.classes }
     {
         Step {
             from: if self.to == 0 { place } else { self.from },
             to: place + 1,
+            classes: self.classes,
         }
     }
 
@@ -51,7 +61,10 @@ pub fn plan(graph: &Graph, steps: &mut [Step])
     ensures { IsReady (graph_of graph.now) steps.new }
 {
     for atom in 0..graph.atoms.len() {
-        steps[atom] = NO_STEP;
+        steps[atom] = Step {
+            classes: classes_of(&graph.atoms[atom]),
+            ..NO_STEP
+        };
     }
     for (place, bond) in graph.bonds.iter().enumerate() {
         let high = usize::from(bond.a.max(bond.b));

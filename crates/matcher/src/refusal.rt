@@ -6,6 +6,7 @@ ghost use Rattle.smarts_parse.specs.Pattern.{term_of};
 ghost use Rattle.smarts_parse.specs.Truth.{BondTrue};
 ghost use Rattle.matcher.specs.Task.{Completes, Embeds, IsReadyTask};
 
+use crate::class::may_be;
 use crate::fit::{Task, is_new};
 use smarts_mean::{atom_true, bond_true};
 use smarts_parse::PatBond;
@@ -60,20 +61,6 @@ fn stays_within(task: &Task, front: &[u16], atoms: &[bool], place: usize) -> boo
         }
     }
     true
-}
-
-/// Whether a place may stand at some atom. If not, the graph has no embedding.
-pub fn has_candidate(task: &Task, place: usize) -> bool
-    requires ready { IsReadyTask task.now }
-    requires place { place < length task.now.graph.now.atoms.items }
-    ensures { result ≡ false → ¬ Completes task.now [] }
-{
-    for atom in 0..task.mol.atoms().len() as u16 {
-        if may_stand(task, &[], place, atom) {
-            return true;
-        }
-    }
-    false
 }
 
 /// Whether a bond of the graph may lie at some bond with both its ends. If not, the graph has no embedding.
@@ -135,5 +122,11 @@ pub fn may_stand(task: &Task, front: &[u16], place: usize, atom: u16) -> bool
         → Embeds task.now (front.now ++ rest)
         → slice_index (front.now ++ rest) place ≡ atom → ⊥ }
 {
+    if !may_be(
+        task.steps[place].classes,
+        task.mol.atoms()[usize::from(atom)],
+    ) {
+        return false;
+    }
     is_new(front, atom) && atom_true(&task.graph.atoms[place], task.mol, atom, task.table)
 }

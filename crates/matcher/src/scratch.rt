@@ -2,6 +2,7 @@
 ghost use Rattle.std.specs.Prelude.{◌≤◌, vec_len};
 
 use crate::choices::Choices;
+use crate::lay::{NO_STOP, Stop};
 use crate::plan::{NO_STEP, Step};
 use smarts_mean::RecTable;
 use std::alloc::{AllocError, Global};
@@ -18,6 +19,7 @@ pub struct Scratch {
     pub(crate) steps: Vec<Step>,
     pub(crate) table: RecTable,
     pub(crate) choices: Choices,
+    pub(crate) stops: Vec<Stop>,
     ghost image_room: { 256 ≤ vec_len image },
     ghost steps_room: { 256 ≤ vec_len steps },
 }
@@ -30,6 +32,7 @@ impl Scratch {
             steps: vec![in alloc; NO_STEP; MOST_PLACES]?,
             table: RecTable::reserve(alloc)?,
             choices: Choices::reserve(alloc)?,
+            stops: vec![in alloc; NO_STOP; MOST_PLACES]?,
         })
     }
 }

@@ -4,6 +4,7 @@ use Rattle.smarts_parse.specs.Pattern.{graph_of, term_of}
 use Rattle.smarts_parse.specs.Sound.{NamesBelow}
 use Rattle.std.proofs.lemmas.List.{length-map}
 use Rattle.std.proofs.Common.{◌<◌, ◌++◌, subst, sym}
+use Rattle.matcher.proofs.Classes.{stands_at}
 use Rattle.matcher.proofs.Joins.{All-image}
 use Rattle.matcher.proofs.Places.{get_map}
 use Rattle.matcher.proofs.Refusals.{cannot_stand, stands_before}
@@ -11,6 +12,13 @@ use Rattle.matcher.proofs.refusal.may_stand.Goals as goal
 
 pub atom_true-requires-clause-named : goal.atom_true-requires-clause-named
 atom_true-requires-clause-named c = All-image (NamesBelow 64) term_of c.args.task.now.graph.now.atoms.items c.args.place c.index.result.now c.requires.place c.index.ensures c.requires.ready.searchable.names
+
+pub returns-then-not-may_be : goal.returns-then-not-may_be
+returns-then-not-may_be c = λ _ few rest e is.
+    let task = c.args.task.now in
+    let within = subst (λ n. c.args.place < n) (sym (length-map task.graph.now.atoms.items term_of)) c.requires.place in
+    iff_false (rw (c.atoms.ensures.value, c.from.ensures) at c.may_be.ensures) c.if-not-may_be.true
+    (stands_at (HoldsIn task.table.now) (graph_of task.graph.now) task.mol.now task.steps.now (c.args.front.now ++ rest) c.args.place c.args.atom c.requires.ready within e is)
 
 pub returns-then-is_new : goal.returns-then-is_new
 returns-then-is_new c = λ f few rest e is.

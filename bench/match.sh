@@ -1,0 +1,66 @@
+#!/usr/bin/env bash
+# Registers some drug-like structures and hydrocarbons in memory and searches them many times for one pattern each; prints
+# nanoseconds for each pair of a pattern and a structure, more than the same script takes without the searches, and how
+# many structures are hits. The last patterns are the hopeless ones: more places than atoms, in many parts that no bond joins.
+# Usage: bench/match.sh [SEARCHES]
+set -euo pipefail
+cd "$(dirname "${BASH_SOURCE[0]}")/.."
+./chemdb mem </dev/null   # builds it
+python3 - "${1:-200}" <<'PY'
+import subprocess
+import sys
+import time
+
+DRUGS = [
+    "CC(C)Cc1ccc(cc1)C(C)C(=O)NCCN1CCOCC1",
+    "Cc1ccc(NC(=O)c2ccc(CN3CCN(C)CC3)cc2)cc1Nc1nccc(-c2cccnc2)n1",  # imatinib
+    "CCCc1nn(C)c2c1nc([nH]c2=O)-c1cc(ccc1OCC)S(=O)(=O)N1CCN(C)CC1",  # sildenafil
+    "CC(C)c1c(C(=O)Nc2ccccc2)c(-c2ccccc2)c(-c2ccc(F)cc2)n1CCC(O)CC(O)CC(=O)O",  # atorvastatin
+    "CN(C)CCCN1c2ccccc2Sc2ccc(Cl)cc21",  # chlorpromazine
+    "COc1ccc2nc(S(=O)Cc3ncc(C)c(OC)c3C)[nH]c2c1",  # omeprazole
+    "CC1(C)SC2C(NC(=O)C(N)c3ccccc3)C(=O)N2C1C(=O)O",  # ampicillin
+    "OC(=O)COCCN1CCN(CC1)C(c1ccccc1)c1ccc(Cl)cc1",  # cetirizine
+    "Fc1ccc(cc1)C(=O)C1CCN(CCN2C(=O)Nc3ccccc3C2=O)CC1",  # ketanserin
+    "CN1CCC(=C2c3ccccc3CCc3cccnc32)CC1",  # azatadine
+    "COc1cc(Cc2cnc(N)nc2N)cc(OC)c1OC",  # trimethoprim
+    "O=C(O)c1cn(C2CC2)c2cc(N3CCNCC3)c(F)cc2c1=O",  # ciprofloxacin
+]
+GROUPS = ["CO", "CC=O", "OCC=O", "CF", "CCl", "CBr", "SC", "C#N", "NCCN", "NCCO", "OCCN", "CCCN", "C=C", "CCCCCCCCCCCCCCCCCCCC"]
+
+
+def parts(part, count):
+    return ".".join([part] * count)
+
+
+HOPELESS = [
+    (parts("C", 30), ["C" * 29]),
+    (parts("CC", 30), ["C" * 59]),
+    (parts("C", 60) + ".F", ["C" * 60]),
+    (parts("CC", 29) + ".CF", ["C" * 60]),
+]
+
+
+def seconds(structures, pattern, searches):
+    script = "".join(f"register {i + 1} {text}\n" for i, text in enumerate(structures)) + f"search {pattern}\n" * searches
+    start = time.monotonic()
+    done = subprocess.run(["crates/chemdb/out/chemdb", "mem"], input=script.encode(), capture_output=True)
+    taken = time.monotonic() - start
+    assert done.returncode in (0, 1), done.stderr
+    return taken, done.stdout.decode().splitlines()[-1]
+
+
+def measure(structures, pattern, searches):
+    many, answer = min(seconds(structures, pattern, searches) for _ in range(3))
+    one, _ = min(seconds(structures, pattern, 1) for _ in range(3))
+    name = pattern if len(pattern) <= 24 else pattern[:21] + "..."
+    each = (many - one) / (searches - 1) / len(structures)
+    print(f"{name:24} {each * 1e9:12,.0f} ns a pair   {answer[:40]}")
+
+
+searches = int(sys.argv[1])
+copies = [DRUGS[i % len(DRUGS)] for i in range(1200)]
+for pattern in GROUPS:
+    measure(copies, pattern, searches)
+for pattern, structures in HOPELESS:
+    measure(structures * 10, pattern, max(2, searches // 10))
+PY

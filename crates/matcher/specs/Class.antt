@@ -1,0 +1,32 @@
+-- For private clauses alone: classes of atoms, and those at which an expression may be true.
+use Rattle.std.specs.Prelude.{◌≡◌, ◌⊎◌, ℕ, ◌+◌, ◌*◌, ◌%◌, ◌<◌, Bool, true, false}
+use Rattle.std.specs.Int.{bit_at}
+use Rattle.chem_core.specs.declared.mol.Atom.{Atom}
+use Rattle.smarts_parse.specs.declared.pattern.AtomPrim.{AtomPrim}
+use Rattle.smarts_parse.specs.declared.pattern.AtomPrim.TheVariants as atoms
+use Rattle.smarts_parse.specs.Pattern.{Term, Prim, Not, And, Or}
+
+-- the class of an atom of that number: one for aromatic atoms and one for others, for each number modulo 32
+abbrev pub class_at : ℕ → Bool → ℕ
+class_at number true = number % 32 * 2 + 1
+class_at number false = number % 32 * 2
+
+abbrev pub class_of : Atom → ℕ
+class_of x = class_at x.number x.aromatic
+
+-- a primitive that is true at no atom of another class
+abbrev pub PrimMayBe : AtomPrim → ℕ → Type 0
+PrimMayBe (atoms.Symbol number lower) c = c ≡ class_at number lower
+PrimMayBe (atoms.Number number) c = (c ≡ class_at number false) ⊎ (c ≡ class_at number true)
+PrimMayBe _ c = Unit {0}
+
+-- an expression that is true at no atom of another class
+abbrev pub MayBe : Term AtomPrim → ℕ → Type 0
+MayBe (Prim p) c = PrimMayBe p c
+MayBe (Not e) c = Unit {0}
+MayBe (And e f) c = MayBe e c × MayBe f c
+MayBe (Or e f) c = MayBe e c ⊎ MayBe f c
+
+-- the bits of a word have each class at which the expression may be true
+abbrev pub Covers : ℕ → Term AtomPrim → Type 0
+Covers classes e = (c : ℕ) → c < 64 → MayBe e c → bit_at classes c ≡ 1

@@ -1,0 +1,80 @@
+//! Classes of atoms, by which most atoms are seen at once not to be what an expression asks: the atomic number and
+//! whether the atom is aromatic, modulo 64. A set of classes is a word with a bit for each.
+ghost use Rattle.std.specs.Prelude.{◌≡◌, ◌<◌, ℕ, ◌↔◌, length, slice_index_or, All, IsTrue};
+ghost use Rattle.std.specs.Int.{bit_at};
+ghost use Rattle.chem_core.specs.declared.mol.Atom.{Atom};
+ghost use Rattle.smarts_parse.specs.Embedding.{Matches};
+ghost use Rattle.smarts_parse.specs.Pattern.{pattern_of, term_of};
+ghost use Rattle.matcher.specs.Class.{class_at, class_of, Covers, PrimMayBe};
+
+use chem_core::{Atom, Mol};
+use smarts_parse::{AtomPrim, Expr, Pattern};
+
+/// Whether an atom of the pattern may stand at no atom of the molecule, as far as classes show.
+pub fn lacks_atom(pattern: &Pattern, mol: &Mol) -> bool
+    ensures { IsTrue result → ¬ Matches (pattern_of pattern.now) mol.now }
+{
+    let present = classes_in(mol.atoms());
+    for expr in &pattern.top.atoms {
+        if classes_of(expr) & present == 0 {
+            return true;
+        }
+    }
+    false
+}
+
+/// Whether the atom is of one of the classes.
+pub fn may_be(classes: u64, atom: Atom) -> bool
+    ensures { IsTrue result ↔ bit_at classes (class_of atom) ≡ 1 }
+{
+    (classes >> class(u16::from(atom.number), atom.aromatic)) & 1 == 1
+}
+
+/// The classes of the atoms at which the expression may be true, and maybe others.
+pub fn classes_of(expr: &Expr<AtomPrim>) -> u64
+    ensures { Covers result (term_of expr.now) }
+{
+    match expr {
+        Expr::Prim(prim) => prim_classes(*prim),
+        Expr::Not(_) => u64::MAX,
+        Expr::And(left, right) => classes_of(left) & classes_of(right),
+        Expr::Or(left, right) => classes_of(left) | classes_of(right),
+    }
+}
+
+// The same of a primitive.
+fn prim_classes(prim: AtomPrim) -> u64
+    ensures { (c : ℕ) → c < 64 → PrimMayBe prim c → bit_at result c ≡ 1 }
+{
+    match prim {
+        AtomPrim::Symbol { number, lower } => only(u16::from(number), lower),
+        AtomPrim::Number(number) => only(number, false) | only(number, true),
+        _ => u64::MAX,
+    }
+}
+
+// The classes of the atoms.
+fn classes_in(atoms: &[Atom]) -> u64
+    ensures { All (λ x. bit_at result (class_of x) ≡ 1) atoms.now }
+{
+    let mut all = 0;
+    for atom in atoms {
+        all |= only(u16::from(atom.number), atom.aromatic);
+    }
+    all
+}
+
+// The class alone of the atoms of that number.
+fn only(number: u16, aromatic: bool) -> u64
+    ensures { bit_at result (class_at number aromatic) ≡ 1 }
+{
+    1 << class(number, aromatic)
+}
+
+// The class of an atom of that number.
+fn class(number: u16, aromatic: bool) -> u16
+    ensures value { result ≡ class_at number aromatic }
+    ensures few { result < 64 }
+{
+    number % 32 * 2 + u16::from(aromatic)
+}

@@ -1,0 +1,204 @@
+//! A search for any embedding of a graph, in an order of its own. An image says by the places of the graph where they
+//! stand; a place is taken where the image has an atom of the molecule.
+//!
+//! Nothing is promised where the search comes to its end, but where it does not, there is no embedding.
+ghost use Rattle.std.specs.Prelude.{◌≡◌, ◌<◌, ◌≤◌, ◌⊎◌, [], ℕ, List, false, length, slice_index, IfSome, IsTrue};
+ghost use Rattle.matcher.specs.Hunt.{Asks, Continues, IsFree, stop_at};
+ghost use Rattle.matcher.specs.Task.{Completes, IsReadyTask};
+
+use crate::fit::{Task, are_joined_by, begins};
+use crate::lay::Stop;
+use crate::refusal::may_stand;
+use smarts_mean::bond_true;
+use smarts_parse::PatBond;
+
+/// Whether the stops that are left may be placed. If not, the image is as before.
+///
+/// The calls go as deep as there are stops.
+#[cycle(hunt)]
+pub fn may_continue(task: &Task, stops: &[Stop], image: &mut [u16], placed: usize) -> bool
+    requires ready { IsReadyTask task.now }
+    requires room { length task.now.graph.now.atoms.items ≤ length image.old }
+    requires placed { placed ≤ length stops.now }
+    ensures kept { result ≡ false → image.new ≡ image.old }
+    ensures none { result ≡ false → (whole : List ℕ) → ¬ Continues task.now image.old whole }
+{
+    if placed == stops.len() {
+        return true;
+    }
+    let stop = stops[placed];
+    let place = usize::from(stop.place);
+    if place >= task.graph.atoms.len() || usize::from(image[place]) < task.mol.atoms().len() {
+        return true;
+    }
+    match atom_before(task, image, stop) {
+        Some(from) => continues_near(task, stops, image, placed, from),
+        None => continues_anywhere(task, stops, image, placed),
+    }
+}
+
+// The same where the next place may stand anywhere.
+#[cycle(hunt)]
+fn continues_anywhere(task: &Task, stops: &[Stop], image: &mut [u16], placed: usize) -> bool
+    requires ready { IsReadyTask task.now }
+    requires room { length task.now.graph.now.atoms.items ≤ length image.old }
+    requires placed { placed < length stops.now }
+    requires free { IsFree task.now stops.now placed image.old }
+    ensures kept { result ≡ false → image.new ≡ image.old }
+    ensures none { result ≡ false → (whole : List ℕ) → ¬ Continues task.now image.old whole }
+{
+    for atom in 0..task.mol.atoms().len() as u16 {
+        if continues_at(task, stops, image, placed, atom) {
+            return true;
+        }
+    }
+    false
+}
+
+// The same where the bond of the stop joins the next place to one that stands at that atom.
+#[cycle(hunt)]
+fn continues_near(task: &Task, stops: &[Stop], image: &mut [u16], placed: usize, from: u16) -> bool
+    requires ready { IsReadyTask task.now }
+    requires room { length task.now.graph.now.atoms.items ≤ length image.old }
+    requires placed { placed < length stops.now }
+    requires free { IsFree task.now stops.now placed image.old }
+    requires from { from < length task.now.mol.now.atoms }
+    requires bond { (stop_at stops.now placed).bond < length task.now.graph.now.bonds.items }
+    requires asks { Asks task.now image.old (stop_at stops.now placed).place from (stop_at stops.now placed).bond }
+    ensures kept { result ≡ false → image.new ≡ image.old }
+    ensures none { result ≡ false → (whole : List ℕ) → ¬ Continues task.now image.old whole }
+{
+    let bond = &task.graph.bonds[usize::from(stops[placed].bond)];
+    let neighbours = task.mol.neighbours(from);
+    for (atom, by) in neighbours {
+        if !bond_true(&bond.expr, task.mol, *by) {
+            continue;
+        }
+        if continues_at(task, stops, image, placed, *atom) {
+            return true;
+        }
+    }
+    false
+}
+
+// The same with the next place at that atom.
+#[cycle(hunt)]
+fn continues_at(task: &Task, stops: &[Stop], image: &mut [u16], placed: usize, atom: u16) -> bool
+    requires ready { IsReadyTask task.now }
+    requires room { length task.now.graph.now.atoms.items ≤ length image.old }
+    requires placed { placed < length stops.now }
+    requires free { IsFree task.now stops.now placed image.old }
+    requires atom { atom < length task.now.mol.now.atoms }
+    ensures kept { result ≡ false → image.new ≡ image.old }
+    ensures none { result ≡ false → (whole : List ℕ) → Continues task.now image.old whole
+        → slice_index whole (stop_at stops.now placed).place ≡ atom → ⊥ }
+{
+    let stop = stops[placed];
+    if !may_take(task, image, stop, atom) {
+        return false;
+    }
+    let place = usize::from(stop.place);
+    let before = image[place];
+    image[place] = atom;
+    if may_continue(task, stops, image, placed + 1) {
+        return true;
+    }
+    image[place] = before;
+    false
+}
+
+// Whether the place of a stop may stand at that atom.
+fn may_take(task: &Task, image: &[u16], stop: Stop, atom: u16) -> bool
+    requires ready { IsReadyTask task.now }
+    requires room { length task.now.graph.now.atoms.items ≤ length image.now }
+    requires place { stop.place < length task.now.graph.now.atoms.items }
+    requires free { length task.now.mol.now.atoms ≤ slice_index image.now stop.place }
+    requires atom { atom < length task.now.mol.now.atoms }
+    ensures { result ≡ false → (whole : List ℕ) → Continues task.now image.now whole
+        → slice_index whole stop.place ≡ atom → ⊥ }
+{
+    if !may_stand(task, &[], usize::from(stop.place), atom) {
+        return false;
+    }
+    if image[..task.graph.atoms.len()].contains(&atom) {
+        return false;
+    }
+    closes(task, image, stop, atom)
+}
+
+// Whether each bond of the place of a stop to one that is taken, but for the stop's own, may lie so.
+fn closes(task: &Task, image: &[u16], stop: Stop, atom: u16) -> bool
+    requires ready { IsReadyTask task.now }
+    requires room { length task.now.graph.now.atoms.items ≤ length image.now }
+    ensures { result ≡ false → (whole : List ℕ) → Continues task.now image.now whole
+        → slice_index whole stop.place ≡ atom → ⊥ }
+{
+    let count = task.graph.bonds.len().min(usize::from(u16::MAX)) as u16;
+    for place in 0..count {
+        if place == stop.bond {
+            continue;
+        }
+        let own = Stop {
+            place: stop.place,
+            bond: place,
+        };
+        if let Some(from) = atom_before(task, image, own) {
+            let bond = &task.graph.bonds[usize::from(place)];
+            if !are_joined_by(&bond.expr, task.mol, from, atom) {
+                return false;
+            }
+        }
+    }
+    true
+}
+
+// The atom at which the other end of the stop's bond stands, if it is taken.
+fn atom_before(task: &Task, image: &[u16], stop: Stop) -> Option<u16>
+    requires { IsReadyTask task.now }
+    ensures from { IfSome result (λ from. from < length task.now.mol.now.atoms) }
+    ensures bond { IfSome result (λ from. stop.bond < length task.now.graph.now.bonds.items) }
+    ensures asks { IfSome result (λ from. Asks task.now image.now stop.place from stop.bond) }
+{
+    let bonds = &task.graph.bonds;
+    if usize::from(stop.bond) >= bonds.len() {
+        return None;
+    }
+    let other = other_end(&bonds[usize::from(stop.bond)], stop.place)?;
+    if usize::from(other) >= image.len() {
+        return None;
+    }
+    let from = image[usize::from(other)];
+    if usize::from(from) < task.mol.atoms().len() {
+        Some(from)
+    } else {
+        None
+    }
+}
+
+// The other end of a bond that ends at the place.
+fn other_end(bond: &PatBond, place: u16) -> Option<u16>
+    ensures { IfSome result (λ other. ((bond.now.a ≡ place) × (bond.now.b ≡ other))
+        ⊎ ((bond.now.a ≡ other) × (bond.now.b ≡ place))) }
+{
+    if bond.a == place {
+        Some(bond.b)
+    } else if bond.b == place {
+        Some(bond.a)
+    } else {
+        None
+    }
+}
+
+/// Whether the atoms at the front of an image are an embedding.
+pub fn is_whole(task: &Task, image: &[u16]) -> bool
+    requires ready { IsReadyTask task.now }
+    requires room { length task.now.graph.now.atoms.items ≤ length image.now }
+    ensures { IsTrue result → Completes task.now [] }
+{
+    for placed in 0..task.graph.atoms.len() {
+        if !begins(task, &image[..placed], image[placed]) {
+            return false;
+        }
+    }
+    true
+}

@@ -1,0 +1,106 @@
+//! An order of the places of a graph, for a search from a place that few atoms can take: each other place after one to
+//! which a bond joins it. Nothing is promised of it.
+ghost use Rattle.std.specs.Prelude.{◌≤◌, length};
+
+use crate::plan::Step;
+use smarts_parse::PatBond;
+
+/// A place of a graph, and the bond of the graph, if there is one, that joins it to a place before.
+#[derive(Clone, Copy, Debug)]
+pub struct Stop {
+    pub place: u16,
+    pub bond: u16,
+}
+
+/// Stands for a bond that there is not.
+const NO_BOND: u16 = u16::MAX;
+
+/// No stop.
+pub const NO_STOP: Stop = Stop {
+    place: 0,
+    bond: NO_BOND,
+};
+
+// The classes of carbon, and those of nitrogen and oxygen.
+const CARBON: u64 = 0x3000;
+
+const COMMON: u64 = 0x3c000;
+
+/// A place where few atoms stand: no carbon, and if there is such a one, none of nitrogen and oxygen.
+pub fn rare_place(steps: &[Step]) -> Option<u16> {
+    let mut found = None;
+    for (place, step) in steps.iter().enumerate() {
+        if step.classes & (CARBON | COMMON) == 0 {
+            return u16::try_from(place).ok();
+        }
+        if step.classes & CARBON == 0 && found.is_none() {
+            found = u16::try_from(place).ok();
+        }
+    }
+    found
+}
+
+/// Lays the places of a graph of at most 64 in an order from that one. How many they are.
+pub fn lay(bonds: &[PatBond], start: u16, stops: &mut [Stop]) -> usize
+    ensures { result ≤ length stops.old }
+{
+    let first = Stop {
+        place: start,
+        bond: NO_BOND,
+    };
+    let mut count = put(stops, 0, first);
+    let mut seen = bit(start);
+    for round in 0..64 {
+        let before = count;
+        for step in 0..bonds.len() {
+            let place = if round % 2 == 0 {
+                step
+            } else {
+                bonds.len() - 1 - step
+            };
+            if let Some(next) = next_place(&bonds[place], seen) {
+                seen |= bit(next);
+                let stop = Stop {
+                    place: next,
+                    bond: u16::try_from(place).unwrap_or(NO_BOND),
+                };
+                count = put(stops, count, stop);
+            }
+        }
+        if count == before {
+            return count;
+        }
+    }
+    count
+}
+
+// The end of a bond that is not seen, where the other is.
+fn next_place(bond: &PatBond, seen: u64) -> Option<u16> {
+    let one = seen & bit(bond.a) != 0;
+    let other = seen & bit(bond.b) != 0;
+    if one == other {
+        None
+    } else if one {
+        Some(bond.b)
+    } else {
+        Some(bond.a)
+    }
+}
+
+fn bit(place: u16) -> u64 {
+    1 << (place % 64)
+}
+
+// Puts a stop at the end, if there is room. The new end.
+fn put(stops: &mut [Stop], count: usize, stop: Stop) -> usize
+    requires { count ≤ length stops.old }
+    ensures { result ≤ length stops.old }
+{
+    match stops.get_mut(count) {
+        Some(slot) => {
+            *slot = stop;
+            count + 1
+        }
+        None => count,
+    }
+}
