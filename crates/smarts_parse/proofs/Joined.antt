@@ -1,6 +1,6 @@
 -- Recursive parts, and then others.
 use Rattle.std.proofs.Common.{◌≡◌, ℕ, ◌+◌, max, List, [], ◌∷◌, ◌++◌, refl, sym, ◌∙◌, ap, arith, append_assoc}
-use Rattle.smarts_parse.specs.Whole.{Parts, none, part, tree_atoms, AreParts, parts_atoms, count_of, nesting_of, parts_depth}
+use Rattle.smarts_parse.specs.Whole.{Parts, none, part, tree_atoms, AreParts, parts_atoms, count_of, parts_depth}
 use Rattle.smarts_parse.specs.Reading.{DoPartsPair}
 
 abbrev pub join : Parts → Parts → Parts

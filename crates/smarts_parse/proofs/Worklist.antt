@@ -1,5 +1,5 @@
 -- Recursive parts that are left to read.
-use Rattle.std.proofs.Common.{◌≡◌, ◌⊎◌, inl, inr, ℕ, ◌+◌, ◌≤◌, max, Bool, true, false, ◌||◌, List, [], ◌∷◌, ◌++◌, length, map, refl, sym, ◌∙◌, ap, subst, arith}
+use Rattle.std.proofs.Common.{◌≡◌, inl, inr, ℕ, ◌+◌, ◌≤◌, max, Bool, true, false, ◌||◌, List, [], ◌∷◌, ◌++◌, length, map, refl, sym, ◌∙◌, ap, subst, arith}
 use Rattle.std.proofs.lemmas.List.{length-append, map-append}
 use Rattle.std.proofs.lemmas.List.Folds.{list_any-append}
 use Rattle.std.specs.List.{list_any}
@@ -9,11 +9,11 @@ use Rattle.smarts_words.specs.Bracket.{AtomValue}
 use Rattle.smarts_words.specs.Words.{smarts_words}
 use Rattle.smarts_parse.specs.declared.survey.Survey.{Survey}
 use Rattle.smarts_parse.specs.Whole.{Tree, Item, item_text, others_text, AreItems, Parts, none, part, part_texts, tree_atoms, AreParts, Whole, IsWholeOf, nodes_from, items_depth, all_atoms, parts_atoms, count_of, nesting_of, parts_depth, whole_depth}
-use Rattle.smarts_parse.specs.Reading.{is_group, is_stereo, is_ring_set, DoPair, DoPartsPair, DoRingsPair}
+use Rattle.smarts_parse.specs.Reading.{is_group, is_stereo, is_ring_set, DoPartsPair, DoRingsPair}
 use Rattle.smarts_parse.specs.Survey.{IsSurveyOf, IsTaken, Left, at_level}
 use Rattle.smarts_parse.proofs.ItemsRead.{or_false}
 use Rattle.smarts_parse.proofs.OneWhole.{same_tree, same_items, same_list}
-use Rattle.smarts_parse.proofs.Weights.{weight, weight-append, total, text_weight, items_weight}
+use Rattle.smarts_parse.proofs.Weights.{weight, weight-append, text_weight, items_weight}
 use Rattle.smarts_parse.proofs.Joined.{join, split, are-join, count-join, depth-join, atoms-join, pair-split, pair-join}
 
 abbrev pub texts_of : List Left → List (List ℕ)
