@@ -1,13 +1,13 @@
 -- Items, one after another.
-use Rattle.std.proofs.Common.{◌≡◌, ◌≢◌, ℕ, inl, inr, true, false, List, [], ◌∷◌, ◌++◌, refl, sym, ◌∙◌, ap, arith, append_assoc}
+use Rattle.std.proofs.Common.{◌≡◌, ◌≢◌, ℕ, inl, true, false, List, [], ◌∷◌, ◌++◌, refl, sym, ◌∙◌, ap, append_assoc}
 use Rattle.line_walk.specs.Tree as walk
-use Rattle.line_walk.specs.Follow.{Begins, Stops, IsWalkByte}
+use Rattle.line_walk.specs.Follow.{Begins, Stops}
 use Rattle.line_walk.specs.Walk.{IsPartRead}
 use Rattle.line_walk.proofs.Follow.{begins-append, begins_clash}
-use Rattle.line_walk.proofs.Unique.{heads, tails}
+use Rattle.line_walk.proofs.Unique.{tails}
 use Rattle.smarts_words.specs.Words.{smarts_words, BeginsAtom}
 use Rattle.smarts_words.specs.Apart.{smarts_apart}
-use Rattle.smarts_parse.specs.Whole.{Tree, Nodes, Item, plain, group, tree_of, item_text}
+use Rattle.smarts_parse.specs.Whole.{Tree, Nodes, Item, plain, group, item_text}
 use Rattle.smarts_parse.specs.Survey.{Read, IsItemOf, IsItemRead}
 
 -- what a tree is spelled as begins as an atom

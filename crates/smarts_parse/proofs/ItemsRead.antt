@@ -4,14 +4,13 @@ use Rattle.std.proofs.lemmas.List.{append-nil, length-append, nil_from_length}
 use Rattle.std.proofs.lemmas.List.Folds.{list_any-append}
 use Rattle.std.specs.List.{list_any}
 use Rattle.line_walk.specs.Tree as walk
-use Rattle.line_walk.specs.Follow.{Begins, Stops}
 use Rattle.line_walk.specs.Places.{placed_at}
 use Rattle.line_walk.specs.Walk.{Holds, IsBetween}
 use Rattle.line_walk.proofs.Follow.{begins_clash}
 use Rattle.line_walk.proofs.Unique.{tails}
 use Rattle.smarts_words.specs.Words.{smarts_words, BeginsAtom}
 use Rattle.smarts_words.specs.Apart.{smarts_apart}
-use Rattle.smarts_parse.specs.Whole.{Tree, Nodes, Item, plain, group, tree_of, item_text, others_text, MayMeet, AreItems, nodes_from, items_depth}
+use Rattle.smarts_parse.specs.Whole.{Nodes, Item, plain, group, tree_of, item_text, others_text, MayMeet, AreItems, nodes_from, items_depth}
 use Rattle.smarts_parse.specs.Reading.{is_group}
 use Rattle.smarts_parse.specs.Survey.{Read, StopsAfter, IsItemOf, IsItemRead, AreItemsRead}
 use Rattle.smarts_parse.proofs.ItemRead.{tree_begins}

@@ -1,5 +1,5 @@
 -- A text has one answer: the fault of the first test that it fails, or its pattern.
-use Rattle.std.proofs.Common.{◌≡◌, ◌≢◌, ◌⊎◌, inl, inr, ℕ, ◌<◌, ◌≤◌, List, length, Contains, Result, Ok, Err, refl, sym, ◌∙◌, ap, subst, arith}
+use Rattle.std.proofs.Common.{◌≡◌, ◌≢◌, ◌⊎◌, inl, inr, ℕ, ◌≤◌, List, length, Contains, Result, Ok, Err, refl, sym, ◌∙◌, ap, subst, arith}
 use Rattle.smarts_parse.specs.declared.fault.SmartsFault.{SmartsFault}
 use Rattle.smarts_parse.specs.declared.fault.SmartsFault.TheVariants.{Reaction, Syntax, Stereo, RingSet, Ring, Limit, Grouping, NoMemory}
 use Rattle.smarts_parse.specs.Pattern.{PatternTerm}

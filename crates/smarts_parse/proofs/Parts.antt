@@ -49,14 +49,14 @@ nesting-join : (p q : Parts) → nesting_of (join p q) ≡ max (nesting_of p) (n
 nesting-join none q = omega arith
 nesting-join (part tree inner others) q = let e = nesting-join others q in omega arith
 
-atoms-join : (p q : Parts) → parts_atoms (join p q) ≡ parts_atoms p ++ parts_atoms q
+pub atoms-join : (p q : Parts) → parts_atoms (join p q) ≡ parts_atoms p ++ parts_atoms q
 atoms-join none q = refl
 atoms-join (part tree inner others) q =
     ap (λ w. tree_atoms tree ++ (parts_atoms inner ++ w)) (atoms-join others q)
     ∙ ap (λ w. tree_atoms tree ++ w) (sym (append_assoc (parts_atoms inner) (parts_atoms others) (parts_atoms q)))
     ∙ sym (append_assoc (tree_atoms tree) (parts_atoms inner ++ parts_atoms others) (parts_atoms q))
 
-pair-join : (p q : Parts) → DoPartsPair (join p q) → DoPartsPair p × DoPartsPair q
+pub pair-join : (p q : Parts) → DoPartsPair (join p q) → DoPartsPair p × DoPartsPair q
 pair-join none q h = (tt, h)
 pair-join (part tree inner others) q h = let e = pair-join others q h.2 in ((h.0, h.1, e.0), e.1)
 

@@ -1,18 +1,17 @@
 -- What a survey says of the answer to a text.
-use Rattle.std.proofs.Common.{◌≡◌, ◌⊎◌, ◌↔◌, inl, inr, ℕ, ◌+◌, ◌≤◌, Bool, true, false, ◌||◌, List, [], ◌∷◌, ◌++◌, length, map, Contains, IsTrue, Result, Ok, Err, refl, sym, ◌∙◌, ap, subst, arith}
+use Rattle.std.proofs.Common.{◌≡◌, ◌⊎◌, ◌↔◌, inl, inr, ℕ, ◌≤◌, Bool, true, false, List, [], ◌∷◌, ◌++◌, length, map, Contains, IsTrue, refl, sym, ◌∙◌, ap, subst, arith}
 use Rattle.std.proofs.lemmas.List.{append-nil}
 use Rattle.std.specs.List.{list_any}
 use Rattle.line_walk.specs.Tree as walk
 use Rattle.line_walk.specs.Places.{placed_nodes, atoms_by}
 use Rattle.smarts_words.specs.Words.{smarts_words}
-use Rattle.smarts_parse.specs.declared.fault.SmartsFault.TheVariants.{Stereo, RingSet, Ring, Limit, Grouping}
 use Rattle.smarts_parse.specs.declared.pattern.Graph.{Graph}
 use Rattle.smarts_parse.specs.declared.survey.Survey.{Survey}
 use Rattle.smarts_parse.specs.Pattern.{GraphTerm, PatternTerm, graph_of}
 use Rattle.smarts_parse.specs.Sound.{IsSoundPattern}
-use Rattle.smarts_parse.specs.Whole.{Tree, Nodes, Item, plain, group, AreItems, Parts, part_texts, AreParts, parts_atoms, Whole, IsWholeOf, nodes_of, all_atoms}
+use Rattle.smarts_parse.specs.Whole.{Tree, Nodes, Item, plain, group, AreItems, Parts, part_texts, AreParts, parts_atoms, Whole, IsWholeOf, nodes_of}
 use Rattle.smarts_parse.specs.Meaning.{IsGraphTerm, numbers_from, ArePartTerms, IsPatternOf}
-use Rattle.smarts_parse.specs.Reading.{is_group, is_stereo, HasStereo, HasRingSet, DoPair, DoRingsPair, IsWithinLimits, HasGroup, IsRead, NoStereo, NoRingSet, NoRing, NoLimit, IsReading}
+use Rattle.smarts_parse.specs.Reading.{is_group, is_stereo, HasStereo, HasRingSet, DoPair, IsWithinLimits, HasGroup, IsRead, NoStereo, NoRingSet, NoRing, NoLimit}
 use Rattle.smarts_parse.specs.Build.{IsBuildable}
 use Rattle.smarts_parse.specs.Survey.{IsSurveyOf}
 use Rattle.smarts_parse.proofs.Soundness.{sound_pattern}

@@ -1,5 +1,5 @@
 -- Results and tests.
-use Rattle.std.proofs.Common.{◌≡◌, Bool, true, false, ◌||◌, Result, Ok, Err, refl, sym, ◌∙◌, ap, subst}
+use Rattle.std.proofs.Common.{◌≡◌, Bool, true, false, ◌||◌, Result, Ok, Err, sym, ◌∙◌, ap, subst}
 use Rattle.std.specs.Result.{IfErr}
 
 pub if_err : {X Y : Type 0} (Q : Y → Type 0) (r : Result X Y) (e : Y) → r ≡ Err e → Q e → IfErr r Q

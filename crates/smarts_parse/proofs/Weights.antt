@@ -1,12 +1,12 @@
 -- How much of a text its atoms and their recursive parts take.
-use Rattle.std.proofs.Common.{◌≡◌, ℕ, ◌+◌, ◌≤◌, List, [], ◌∷◌, ◌++◌, length, map, replicate, Option, None, refl, sym, ◌∙◌, ap, subst, arith}
+use Rattle.std.proofs.Common.{◌≡◌, ℕ, ◌+◌, ◌≤◌, List, [], ◌∷◌, ◌++◌, length, replicate, None, ap, arith}
 use Rattle.std.proofs.lemmas.List.{length-append}
 use Rattle.std.specs.List.{flat_map}
 use Rattle.line_walk.specs.Tree as walk
 use Rattle.line_walk.specs.Tree.{Node, Joint, Tail, stop, next, branch}
 use Rattle.line_walk.specs.Follow.{Begins}
 use Rattle.line_walk.specs.Places.{Placed, placed_from, placed_at, placed_nodes, joined_to, size_of, atoms_by}
-use Rattle.smarts_words.specs.Bracket.{Atom, star, aromatic, aliphatic, organic, small, bracket, atom_text, IsAtom, value_of_atom, Inside, hydro, low, end_text, Bracket, bracket_text, inside_text, expression_text}
+use Rattle.smarts_words.specs.Bracket.{Atom, star, aromatic, aliphatic, organic, small, bracket, atom_text, IsAtom, value_of_atom, Inside, hydro, low, end_text, bracket_text, expression_text}
 use Rattle.smarts_words.specs.Prims.{Prim, prim_text, IsPrim, FollowsPrim, word_of, part_of}
 use Rattle.smarts_words.specs.Prims as prims
 use Rattle.smarts_words.specs.Bonds.{BondPrim}
@@ -15,7 +15,6 @@ use Rattle.smarts_words.specs.Expression as expression
 use Rattle.smarts_words.specs.Words.{smarts_words, BeginsAtom}
 use Rattle.smarts_words.specs.Apart.{smarts_apart}
 use Rattle.smarts_parse.specs.Whole.{Tree, Nodes, Item, plain, group, tree_of, item_text, others_text, AreItems, nodes_from, part_texts}
-use Rattle.smarts_parse.proofs.ItemsRead.{first_tree}
 
 -- texts, each with one byte more
 abbrev pub weight : List (List ℕ) → ℕ

@@ -1,5 +1,5 @@
 -- Recursive parts that are left to read.
-use Rattle.std.proofs.Common.{◌≡◌, ◌⊎◌, inl, inr, ℕ, ◌+◌, ◌≤◌, max, Bool, true, false, ◌||◌, List, [], ◌∷◌, ◌++◌, length, map, refl, sym, ◌∙◌, ap, subst, arith}
+use Rattle.std.proofs.Common.{◌≡◌, inl, inr, ℕ, ◌+◌, ◌≤◌, max, Bool, true, false, ◌||◌, List, [], ◌∷◌, ◌++◌, length, map, refl, sym, ◌∙◌, ap, subst, arith}
 use Rattle.std.proofs.lemmas.List.{length-append, map-append}
 use Rattle.std.proofs.lemmas.List.Folds.{list_any-append}
 use Rattle.std.specs.List.{list_any}
@@ -9,12 +9,13 @@ use Rattle.smarts_words.specs.Bracket.{AtomValue}
 use Rattle.smarts_words.specs.Words.{smarts_words}
 use Rattle.smarts_parse.specs.declared.survey.Survey.{Survey}
 use Rattle.smarts_parse.specs.Whole.{Tree, Item, item_text, others_text, AreItems, Parts, none, part, part_texts, tree_atoms, AreParts, Whole, IsWholeOf, nodes_from, items_depth, all_atoms, parts_atoms, count_of, nesting_of, parts_depth, whole_depth}
-use Rattle.smarts_parse.specs.Reading.{is_group, is_stereo, is_ring_set, DoPair, DoPartsPair, DoRingsPair}
+use Rattle.smarts_parse.specs.Reading.{is_group, is_stereo, is_ring_set, DoPartsPair, DoRingsPair}
 use Rattle.smarts_parse.specs.Survey.{IsSurveyOf, IsTaken, Left, at_level}
 use Rattle.smarts_parse.proofs.ItemsRead.{or_false}
 use Rattle.smarts_parse.proofs.OneWhole.{same_tree, same_items, same_list}
-use Rattle.smarts_parse.proofs.Weights.{weight, weight-append, total, text_weight, items_weight}
-use Rattle.smarts_parse.proofs.Joined.{join, split, are-join, count-join, depth-join, atoms-join, pair-split, pair-join}
+use Rattle.smarts_parse.proofs.Weights.{weight, weight-append, text_weight, items_weight}
+use Rattle.smarts_parse.proofs.Parts.{join, split, count-join, atoms-join, pair-join}
+use Rattle.smarts_parse.proofs.Joined.{are-join, depth-join, pair_both}
 
 abbrev pub texts_of : List Left → List (List ℕ)
 texts_of left = map (λ x. x.text) left
@@ -220,9 +221,9 @@ module _ (text : List ℕ) (s t : Survey) (init : List Left) (x : Left) (tree : 
       record {
         stereo = i.stereo ∙ any_moved HasStereo s.stereo q r tree ∙ ap (λ v. v || list_any HasStereo (parts_atoms (join q r))) (sym taken.stereo);
         ring_set = i.ring_set ∙ any_moved HasRingSet s.ring_set q r tree ∙ ap (λ v. v || list_any HasRingSet (parts_atoms (join q r))) (sym taken.ring_set);
-        pair = λ e j. let v = pair-split q r j in let y = taken.pair e in i.pair y.0 (pair-join q one v.0 (y.1, v.1, tt));
-        inner = λ j. let v = pair-split q one (i.inner j) in pair-join q r v.0 v.1.1;
-        apart = λ e j. elim (taken.apart e) [ inl f ↦ i.apart f j | inr f ↦ f (pair-split q one (i.inner j)).1.0 ];
+        pair = λ e j. let v = pair-join q r j in let y = taken.pair e in i.pair y.0 (pair_both q one v.0 (y.1, v.1, tt));
+        inner = λ j. let v = pair-join q one (i.inner j) in pair_both q r v.0 v.1.1;
+        apart = λ e j. elim (taken.apart e) [ inl f ↦ i.apart f j | inr f ↦ f (pair-join q one (i.inner j)).1.0 ];
         grouped = taken.grouped ∙ i.grouped;
         atoms = omega (arith, length-append (parts_atoms q) (parts_atoms one), length-append (tree_atoms tree) (parts_atoms r ++ []), length-append (parts_atoms r) [], length-append (parts_atoms q) (parts_atoms r));
         parts = omega (arith, count-join q one, count-join q r);

@@ -1,5 +1,5 @@
 -- What a pattern's text means: its graphs, with the numbers of recursive parts and the numbers that are not written. For callers.
-use Rattle.std.specs.Prelude.{◌≡◌, ℕ, zero, suc, ◌+◌, List, [], ◌∷◌, ◌++◌, length, map, drop, Option, None, Some, unwrap_or, slice_index_or}
+use Rattle.std.specs.Prelude.{◌≡◌, ℕ, zero, suc, ◌+◌, List, [], ◌∷◌, ◌++◌, length, map, drop, Option, None, Some, unwrap_or}
 use Rattle.line_walk.specs.Places.{placed_nodes, entries_from, atoms_by}
 use Rattle.line_walk.specs.Partners.{IsGraph}
 use Rattle.line_walk.specs.declared.pairs.Link.{Link}

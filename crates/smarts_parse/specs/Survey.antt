@@ -1,5 +1,5 @@
 -- What is read of a text and of its recursive parts: for private clauses only.
-use Rattle.std.specs.Prelude.{◌≡◌, ◌⊎◌, ℕ, ◌+◌, max, Bool, true, false, ◌||◌, List, [], ◌∷◌, ◌++◌, length, map}
+use Rattle.std.specs.Prelude.{◌≡◌, ◌⊎◌, ℕ, ◌+◌, max, Bool, true, false, ◌||◌, List, ◌∷◌, ◌++◌, length, map}
 use Rattle.std.specs.List.{list_any}
 use Rattle.line_walk.specs.Tree as walk
 use Rattle.line_walk.specs.Places.{placed_at, atoms_by}

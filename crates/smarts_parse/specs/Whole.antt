@@ -1,13 +1,11 @@
 -- The whole grammar of patterns: items, and in their atoms recursive parts (Daylight Theory Manual, sections 4.4 and 4.5). A text is a pattern's exactly
 -- where some Whole that is one is spelled so. For callers.
-use Rattle.std.specs.Prelude.{◌≡◌, ℕ, ◌+◌, ◌≤◌, max, List, [], ◌∷◌, ◌++◌, length, map}
+use Rattle.std.specs.Prelude.{◌≡◌, ℕ, ◌+◌, max, List, [], ◌∷◌, ◌++◌, length}
 use Rattle.std.specs.List.{flat_map}
 use Rattle.line_walk.specs.Tree as walk
 use Rattle.line_walk.specs.Places.{Placed, placed_at, placed_nodes, atoms_by}
-use Rattle.smarts_words.specs.declared.word.Step.{Step}
-use Rattle.smarts_words.specs.declared.word.BondWord.{BondWord}
 use Rattle.smarts_words.specs.Expression.{Expression}
-use Rattle.smarts_words.specs.Bracket.{Atom, AtomValue, value_of_atom}
+use Rattle.smarts_words.specs.Bracket.{Atom, AtomValue}
 use Rattle.smarts_words.specs.Bonds.{BondPrim}
 use Rattle.smarts_words.specs.Words.{smarts_words}
 

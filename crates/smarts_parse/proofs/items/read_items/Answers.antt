@@ -1,4 +1,4 @@
-use Rattle.std.proofs.Common.{◌≡◌, ◌≢◌, ℕ, ◌||◌, [], ◌∷◌, length, get_or, take, drop, ◌-◌, sym, ◌∙◌, subst, arith}
+use Rattle.std.proofs.Common.{◌≡◌, ◌≢◌, ◌||◌, length, get_or, take, drop, ◌-◌, sym, ◌∙◌, subst, arith}
 use Rattle.std.proofs.lemmas.Result.{err_from_is_err_and}
 use Rattle.line_walk.proofs.Steps.{front_is}
 use Rattle.smarts_parse.specs.declared.fault.SmartsFault.TheVariants.{NoMemory}

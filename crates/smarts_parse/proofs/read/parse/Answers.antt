@@ -1,4 +1,4 @@
-use Rattle.std.proofs.Common.{◌≡◌, inl, inr, refl, sym, arith}
+use Rattle.std.proofs.Common.{inr, arith}
 use Rattle.smarts_parse.proofs.Readings.{looked, not_by, no_ring_set, no_ring, no_limit, has_group, within_only, needs, pattern, no_group, sound}
 use Rattle.smarts_parse.proofs.read.parse.Goals as goal
 
