@@ -17,7 +17,7 @@ use crate::refusal::has_bond;
 use crate::scratch::Scratch;
 use crate::search::extend;
 use chem_core::Mol;
-use smarts_parse::Pattern;
+use smarts_parse::{BondPrim, Expr, PatBond, Pattern};
 
 /// As many places of a graph are few.
 const FEW_PLACES: usize = 8;
@@ -63,11 +63,11 @@ pub fn has(pattern: &Pattern, mol: &Mol, scratch: &mut Scratch) -> bool
         table: &scratch.table,
         steps: &scratch.steps,
     };
-    if let Some(found) = seek(&task, &mut scratch.stops, &mut scratch.image) {
-        return found;
-    }
     if is_refused(&task, &mut scratch.choices) {
         return false;
+    }
+    if let Some(found) = seek(&task, &mut scratch.stops, &mut scratch.image) {
+        return found;
     }
     extend(&task, &mut scratch.image, &mut scratch.choices, 0)
 }
@@ -125,8 +125,8 @@ fn find(pattern: &Pattern, mol: &Mol, scratch: &mut Scratch) -> bool
     extend(&task, &mut scratch.image, &mut scratch.choices, 0)
 }
 
-// Whether it is found before any search that the graph has no embedding. A few places that bonds join are searched for
-// sooner than they are refused.
+// Whether it is found before any search that the graph has no embedding. Of a few places that bonds join only rare
+// bonds are asked for: the others are sooner searched for.
 fn is_refused(task: &Task, choices: &mut Choices) -> bool
     requires { IsReadyTask task.now }
     ensures { IsTrue result → ¬ Completes task.now [] }
@@ -134,18 +134,27 @@ fn is_refused(task: &Task, choices: &mut Choices) -> bool
     if is_loose(task) {
         return choices.refuse(task, &[]);
     }
-    if task.graph.atoms.len() <= FEW_PLACES {
-        return false;
-    }
-    if choices.are_crowded(task) {
+    let is_long = task.graph.atoms.len() > FEW_PLACES;
+    if is_long && choices.are_crowded(task) {
         return true;
     }
     for place in 0..task.graph.bonds.len() {
+        if !is_long && !is_rare(&task.graph.bonds[place]) {
+            continue;
+        }
         if !has_bond(task, place) {
             return true;
         }
     }
     false
+}
+
+// Whether few bonds are what a bond of a graph asks.
+fn is_rare(bond: &PatBond) -> bool {
+    match bond.expr {
+        Expr::Prim(prim) => prim == BondPrim::Double || prim == BondPrim::Triple,
+        _ => false,
+    }
 }
 
 // Whether an atom other than the first has no bond to an earlier one.
