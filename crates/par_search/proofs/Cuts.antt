@@ -1,5 +1,5 @@
 -- Records cut into pieces, each with its worker's flags.
-use Rattle.std.proofs.Common.{◌≡◌, ◌≢◌, ◌+◌, ◌*◌, ◌++◌, ◌<◌, ◌≤◌, ◌∙◌, ap, ap₂, arith, Bool, drop, get_or, inl, inr, length, length-append, List, map, take-append-drop, slice_get, Some, subst, sym, take, ℕ}
+use Rattle.std.proofs.Common.{◌≡◌, ◌≢◌, ◌+◌, ◌*◌, ◌++◌, ◌<◌, ◌≤◌, ◌∙◌, ap, ap₂, arith, Bool, drop, get_or, inl, inr, length, length-append, List, take-append-drop, subst, sym, take, ℕ}
 use Rattle.std.proofs.Math.ListN.{set}
 use Rattle.std.proofs.Math.Nat.{mul-le-mul_right}
 use Rattle.std.proofs.Math.Seq.{take-add, take_all}
@@ -9,8 +9,6 @@ use Rattle.std.proofs.lemmas.Option.{get_or_from_slice_get, slice_get-get_or, sl
 use Rattle.std.specs.Arc.{arc_value}
 use Rattle.std.specs.Int.{div_ceil}
 use Rattle.smarts_parse.specs.Pattern.{PatternTerm}
-use Rattle.store_machine.specs.Answers.{AreMatched}
-use Rattle.store_machine.specs.declared.machine.Found.{Found}
 use Rattle.store_core.specs.Records.{Shared, found_of, founds}
 use Rattle.par_search.specs.Flags.{AreFlagged, AreFlags, WorkerTerm, piece_of}
 use Rattle.par_search.proofs.Shares.{shares-cover}

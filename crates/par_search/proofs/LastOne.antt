@@ -1,5 +1,5 @@
 -- One past the last record of a page.
-use Rattle.std.proofs.Common.{◌≡◌, ◌+◌, ◌-◌, ap, arith, length, List, [], ◌∷◌, None, Option, refl, slice_get, Some, subst, suc, ℕ}
+use Rattle.std.proofs.Common.{◌≡◌, ◌+◌, ◌-◌, ap, arith, length, List, [], ◌∷◌, None, Option, slice_get, Some, subst, suc, ℕ}
 use Rattle.std.specs.Arc.{arc_value}
 use Rattle.store_machine.specs.Searches.{past}
 use Rattle.store_core.specs.Records.{Shared, founds}

@@ -1,11 +1,10 @@
 -- Matching leaves the room as it was.
-use Rattle.std.proofs.Common.{◌≡◌, ◌+◌, ◌<◌, ◌≤◌, ◌∙◌, All, ap, arith, get_or, length, List, map, subst, sym, vec_capacity, ℕ}
+use Rattle.std.proofs.Common.{◌≡◌, ◌<◌, ◌≤◌, ◌∙◌, All, ap, arith, get_or, length, List, map, subst, sym, vec_capacity, ℕ}
 use Rattle.std.proofs.lemmas.List.{get_or-map, length-map}
 use Rattle.std.specs.Int.{div_ceil}
 use Rattle.par_search.specs.Flags.{WorkerTerm}
 use Rattle.par_search.specs.Rooms.{IsRoom, SameRoom}
 use Rattle.par_search.specs.declared.room.Room.{Room}
-use Rattle.par_search.proofs.Shares.{share-grows}
 
 abbrev pub rooms : List WorkerTerm → List ℕ
 rooms ws = map {B = ℕ} (λ w. w.room) ws

@@ -1,7 +1,6 @@
 -- The room of a search. For private clauses alone.
-use Rattle.std.specs.Prelude.{◌≡◌, ◌≤◌, [], All, length, map, true, vec_capacity, ℕ}
+use Rattle.std.specs.Prelude.{◌≡◌, ◌≤◌, [], All, length, true, vec_capacity}
 use Rattle.std.specs.Int.{div_ceil}
-use Rattle.par_search.specs.Flags.{WorkerTerm}
 use Rattle.par_search.specs.declared.pieces.TheConstants.{MOST_WORKERS}
 use Rattle.par_search.specs.declared.room.PageHits.{PageHits}
 use Rattle.par_search.specs.declared.room.Room.{Room}

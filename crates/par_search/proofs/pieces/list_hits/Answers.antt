@@ -1,4 +1,4 @@
-use Rattle.std.proofs.Common.{◌≡◌, ◌*◌, ◌∙◌, ap, arith, get_or, length, subst, sym, take}
+use Rattle.std.proofs.Common.{◌*◌, ◌∙◌, ap, arith, get_or, length, subst, sym, take}
 use Rattle.store_machine.specs.Answers.{AreMatched}
 use Rattle.store_core.specs.Records.{founds}
 use Rattle.par_search.specs.Flags.{AreFlags, WorkerTerm}

@@ -1,4 +1,4 @@
-use Rattle.std.proofs.Common.{◌+◌, ◌≤◌, ◌∙◌, All, [], ◌∷◌, ap, subst, sym}
+use Rattle.std.proofs.Common.{◌+◌, ◌≤◌, ◌∙◌, All, ap, subst, sym}
 use Rattle.std.proofs.lemmas.List.Elements.{All-push}
 use Rattle.par_search.specs.Flags.{WorkerTerm}
 use Rattle.par_search.proofs.room.reserve_workers.Goals as goal

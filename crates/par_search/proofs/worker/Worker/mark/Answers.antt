@@ -1,4 +1,4 @@
-use Rattle.std.proofs.Common.{◌≡◌, ◌↔◌, ◌+◌, ◌++◌, ◌∙◌, [], ◌∷◌, ap, arith, get_or, length, length-append, subst, sym, take, true}
+use Rattle.std.proofs.Common.{◌≡◌, ◌↔◌, ◌+◌, ◌++◌, ◌∙◌, [], ◌∷◌, ap, arith, length, length-append, subst, sym, take, true}
 use Rattle.std.proofs.lemmas.List.{take_more}
 use Rattle.chem_core.specs.Molecule.{Molecule}
 use Rattle.smarts_parse.specs.Embedding.{Matches}
