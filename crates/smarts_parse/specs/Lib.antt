@@ -2,5 +2,10 @@ pub mod Pattern
 pub mod Sound
 pub mod Truth
 pub mod Embedding
-pub mod Chain
-pub mod Tree
+pub mod Faults
+pub mod Whole
+pub mod Meaning
+pub mod Reading
+pub mod Steps
+pub mod Build
+pub mod Survey

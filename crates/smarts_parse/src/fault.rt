@@ -2,11 +2,13 @@
 
 ghost use Rattle.std.specs.Prelude.{◌≡◌};
 ghost use Rattle.smarts_parse.specs.declared.fault.SmartsFault.TheVariants.{NoMemory};
+ghost use Rattle.smarts_parse.specs.Faults.{fault_of};
 
+use line_walk::Fault;
 use std::alloc::{AllocError, AllocFailed};
 use thiserror::Error;
 
-/// Why a text is no pattern. Today `Syntax` and `NoMemory` come alone.
+/// Why a text is no pattern.
 #[derive(Clone, Copy, Debug, PartialEq, Eq, Error)]
 pub enum SmartsFault {
     /// `>`: reactions are not read.
@@ -24,7 +26,8 @@ pub enum SmartsFault {
     /// A ring closure that is open at the end, has two bonds that differ, or joins atoms that are one or bonded.
     #[error("a ring closure")]
     Ring,
-    /// More than 256 atoms, 64 recursive parts, or a number above its limit.
+    /// More than 4,096 bytes; or more than 256 atoms, 64 recursive parts, 8 of these within one another, or 256 branches
+    /// open at once.
     #[error("above a limit")]
     Limit,
     /// Parentheses round components: which molecule of several an atom is in is not asked.
@@ -48,5 +51,17 @@ impl<T: Drop> From<AllocFailed<T>> for SmartsFault {
 
     fn from(_e: AllocFailed<T>) -> SmartsFault {
         SmartsFault::NoMemory
+    }
+}
+
+impl From<Fault> for SmartsFault {
+    ghost from_gives = { λ e f. f ≡ fault_of e };
+
+    fn from(e: Fault) -> SmartsFault {
+        match e {
+            Fault::Syntax => SmartsFault::Syntax,
+            Fault::Ring => SmartsFault::Ring,
+            Fault::NoMemory => SmartsFault::NoMemory,
+        }
     }
 }

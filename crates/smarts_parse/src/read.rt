@@ -1,122 +1,79 @@
-//! Reading a pattern: from its text to a tree, and from the tree to the pattern.
+//! Reading a pattern.
 
-ghost use Rattle.std.specs.Prelude.{◌≡◌, ◌≢◌, ◌⊎◌, ◌↔◌, IfOk, IfErr, MatchResult, IsErrOf, IsTrue, All, Contains};
-ghost use Rattle.smarts_parse.specs.Pattern.{pattern_of};
+ghost use Rattle.std.specs.Prelude.{◌≡◌, ◌≢◌, ◌⊎◌, ◌↔◌, ℕ, true, List, Contains, IsTrue, IfOk, Result, Err};
+ghost use Rattle.smarts_parse.specs.Pattern.{pattern_of, PatternTerm};
 ghost use Rattle.smarts_parse.specs.Sound.{IsSoundPattern};
-ghost use Rattle.smarts_parse.specs.Chain.{Chain, spelling, chain_pattern, IsChainByte, IsShortText};
-ghost use Rattle.smarts_parse.specs.declared.fault.SmartsFault.TheVariants.{Syntax, NoMemory};
+ghost use Rattle.smarts_parse.specs.Whole.{Whole, IsWholeOf};
+ghost use Rattle.smarts_parse.specs.Reading.{IsReading, answer_of};
+ghost use Rattle.smarts_parse.specs.declared.fault.SmartsFault.{SmartsFault};
+ghost use Rattle.smarts_parse.specs.declared.fault.SmartsFault.TheVariants.{NoMemory};
 
+use crate::build::graph;
 use crate::fault::SmartsFault;
 use crate::pattern::Pattern;
-use crate::{parser, translate};
+use crate::survey::{Survey, look_over};
 use std::alloc::Global;
 
-fn is_among(byte: u8, set: &[u8]) -> bool
-    ensures { IsTrue result ↔ Contains set.now byte }
-{
-    set.contains(&byte)
-}
-
-fn are_chain_bytes(text: &[u8]) -> bool
-    ensures { IsTrue result ↔ All IsChainByte text.now }
-{
-    for byte in text {
-        if !is_among(*byte, b"BCNOPSFIlr-=#") {
-            return false;
-        }
-    }
-    true
-}
-
-/// Whether `parse` takes the text today: 1 to 32 bytes, each of them one of `BCNOPSFIlr-=#`.
-pub fn is_short(text: &[u8]) -> bool
-    ensures { IsTrue result ↔ IsShortText text.now }
-{
-    (1..=32).contains(&text.len()) && are_chain_bytes(text)
-}
+/// The longest text that is looked at, in bytes.
+const MOST_BYTES: usize = 4096;
 
 /// Reads a SMARTS pattern (Daylight Theory Manual, chapter SMARTS).
 ///
-/// Today a text has 1 to 32 bytes, and a pattern is a chain of symbols of the organic subset in upper case, each bonded to the one before. The bond
-/// primitives `-`, `=` and `#` may stand between two symbols, and several of them side by side. Any other text is `Syntax`.
+/// Of several faults the first of this order is answered: more than 4,096 bytes is `Limit`; a `>` is `Reaction`; a text
+/// that is not in the grammar is `Syntax`; a configuration is `Stereo`; `R` with a number above 0 is `RingSet`; ring
+/// numbers that do not pair are `Ring`; more than 256 atoms, 64 recursive parts, 8 of these within one another, or 256
+/// branches open at once is `Limit`; parentheses round an item are `Grouping`. `NoMemory` may come at any text.
 pub fn parse(alloc: Global, text: &[u8]) -> Result<Pattern, SmartsFault>
-    requires { IsShortText text.now }
-    // What is read is spelled so.
-    ensures ok { IfOk result (λ p. (chain : Chain) × (text.now ≡ spelling chain) × (pattern_of p ≡ chain_pattern chain)) }
-    // What is spelled so is read, unless memory runs out.
-    ensures accepts { (chain : Chain) → text.now ≡ spelling chain
-        → MatchResult result (λ p. pattern_of p ≡ chain_pattern chain) (λ e. e ≡ NoMemory) }
-    // Where no chain is spelled so, and nowhere else, it is `Syntax`, unless memory runs out.
-    ensures refuses { ((chain : Chain) → text.now ≢ spelling chain)
-        → IsErrOf result SmartsFault.Syntax ⊎ IsErrOf result SmartsFault.NoMemory }
-    ensures syntax { IsErrOf result SmartsFault.Syntax → (chain : Chain) → text.now ≢ spelling chain }
-    ensures faults { IfErr result (λ e. (e ≡ Syntax) ⊎ (e ≡ NoMemory)) }
-
+    ensures reading { IsReading text.now (answer_of result) }
     ensures sound { IfOk result (λ p. IsSoundPattern (pattern_of p)) }
 {
-    let chain = parser::chain(alloc, text)?;
-    Ok(translate::pattern(alloc, &chain)?)
+    if text.len() > MOST_BYTES {
+        return Err(SmartsFault::Limit);
+    }
+    if has_byte(text, b'>') {
+        return Err(SmartsFault::Reaction);
+    }
+    let survey = look_over(alloc, text)?;
+    if has_stereo(&survey, text) {
+        return Err(SmartsFault::Stereo);
+    }
+    if survey.ring_set {
+        return Err(SmartsFault::RingSet);
+    }
+    if survey.rings {
+        return Err(SmartsFault::Ring);
+    }
+    if !survey.is_small() {
+        return Err(SmartsFault::Limit);
+    }
+    if survey.grouped {
+        return Err(SmartsFault::Grouping);
+    }
+    let mut recs = Vec::new(alloc);
+    let top = graph(alloc, text, 8, &mut recs)?;
+    Ok(Pattern { top, recs })
 }
 
-#[cfg(test)]
-mod tests {
-    use super::*;
-    use crate::pattern::{AtomPrim, BondPrim, Expr};
-    use std::test::Fail;
+/// A law: a text has at most one tree.
+pub fn one_tree()
+    ensures { (text : List ℕ) (v w : Whole) → IsWholeOf text v → IsWholeOf text w → v ≡ w }
+{}
 
-    #[test]
-    fn chains_are_read_and_nothing_else(rt: HostRuntime) -> Result<(), Fail> {
-        let texts = [
-            ("C", true),
-            ("CCO", true),
-            ("C=O", true),
-            ("C-=C", true),
-            ("ClCBr", true),
-            ("BrI", true),
-            ("FCl", true),
-            ("=", false),
-            ("C=", false),
-            ("=C", false),
-            ("Cr", false),
-            ("l", false),
-            ("CC-", false),
-            ("lC", false),
-        ];
-        for (text, is_chain) in texts {
-            assert!(rt; is_short(text.as_bytes()), "at {text}");
-            match parse(rt.alloc(), text.as_bytes()) {
-                Ok(_) => assert!(rt; is_chain, "at {text}"),
-                Err(fault) => assert_eq!(rt;
-                    (is_chain, fault),
-                    (false, SmartsFault::Syntax),
-                    "at {text}"
-                ),
-            }
-        }
-        Ok(())
-    }
+/// A law: a text has one answer, but for want of memory.
+pub fn one_answer()
+    ensures { (text : List ℕ) (r s : Result PatternTerm SmartsFault) → IsReading text r → IsReading text s
+        → r ≢ Err NoMemory → s ≢ Err NoMemory → r ≡ s }
+{}
 
-    #[test]
-    fn a_double_bond_to_oxygen(rt: HostRuntime) -> Result<(), Fail> {
-        assert!(rt; is_short(b"C=O"));
-        let pattern = parse(rt.alloc(), b"C=O")?;
-        let atoms = &pattern.top.atoms;
-        assert_eq!(rt; atoms.len(), 2);
-        for (atom, number) in atoms.iter().zip([6, 8]) {
-            let symbol = AtomPrim::Symbol {
-                number,
-                lower: false,
-            };
-            assert!(rt;
-                matches!(atom, Expr::Prim(prim) if *prim == symbol),
-                "at {number}"
-            );
-        }
-        let bonds = &pattern.top.bonds;
-        assert_eq!(rt; bonds.len(), 1);
-        assert_eq!(rt; (bonds[0].a, bonds[0].b), (0, 1));
-        assert!(rt; matches!(&bonds[0].expr, Expr::Prim(BondPrim::Double)));
-        assert!(rt; pattern.recs.is_empty());
-        Ok(())
-    }
+// Whether a configuration stands at an atom or at a bond.
+fn has_stereo(survey: &Survey, text: &[u8]) -> bool
+    ensures { IsTrue result ↔ ((survey.now.stereo ≡ true) ⊎ Contains text.now 47 ⊎ Contains text.now 92) }
+{
+    survey.stereo || has_byte(text, b'/') || has_byte(text, b'\\')
+}
+
+fn has_byte(text: &[u8], byte: u8) -> bool
+    ensures { IsTrue result ↔ Contains text.now byte }
+{
+    text.contains(&byte)
 }
