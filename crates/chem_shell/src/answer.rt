@@ -6,7 +6,7 @@ ghost use Rattle.shell_lang.specs.CommandView.{command_of, reading_of};
 ghost use Rattle.shell_lang.specs.Reply.{text_of, reply_line};
 ghost use Rattle.shell_lang.specs.declared.reply.Reply.{Reply};
 ghost use Rattle.shell_lang.specs.declared.reply.Reply.TheVariants.{Hit, Refused};
-ghost use Rattle.chem_shell.specs.Answer.{Answers, RegisterAnswer, SearchLineAnswer};
+ghost use Rattle.chem_shell.specs.Answer.{Answers, RegisterAnswer, SearchAnswer};
 ghost use Rattle.chem_shell.specs.Answered.{AnswersRequest};
 ghost use Rattle.chem_shell.specs.Requests.{molfile_text};
 
@@ -14,7 +14,7 @@ use crate::store::{CommitFault, Store};
 use matcher::Scratch;
 use mol_finish::{Format, TextFault, structure};
 use shell_lang::{Command, LineRefusal, Refusal, Reply, read_command, reply_text};
-use smarts_parse::{SmartsFault, is_short, parse};
+use smarts_parse::{SmartsFault, parse};
 use std::alloc::{AllocError, Global};
 
 /// What answers lines: the store, and buffers that are reused for each line.
@@ -181,17 +181,13 @@ fn search(
     text: &[u8],
     out: &mut Vec<u8>,
 ) -> Result<(), AllocError>
-    ensures { OnOk result ((replies : List Reply) × SearchLineAnswer store.now text.now replies
+    ensures { OnOk result ((replies : List Reply) × SearchAnswer store.now text.now replies
         × (out.new.items ≡ out.old.items ++ text_of replies)) }
 {
-    if !is_short(text) {
-        return refuse(Refusal::NotYet, out);
-    }
     let pattern = match parse(alloc, text) {
         Ok(pattern) => pattern,
-        Err(SmartsFault::Syntax) => return refuse(Refusal::Pattern(SmartsFault::Syntax), out),
         Err(SmartsFault::NoMemory) => return Err(AllocError),
-        Err(_) => unreachable!(),
+        Err(fault) => return refuse(Refusal::Pattern(fault), out),
     };
     let ids = store.hits(alloc, &pattern, scratch)?;
     push_hits(&ids, out)?;

@@ -14,7 +14,7 @@ mod survey;
 
 pub use fault::SmartsFault;
 pub use pattern::{AtomPrim, BondPrim, Expr, Graph, PatBond, Pattern};
-pub use read::parse;
+pub use read::{one_answer, one_tree, parse};
 
 #[cfg(test)]
 mod tests;
