@@ -96,7 +96,7 @@ impl Responder {
 
     // Answers a command, behind what stands in `out`. An `Err` leaves the store as it was.
     fn execute(&mut self, alloc: Global, command: Command<'_>) -> Result<(), AllocError>
-        requires { (line : List ℕ) × Spells line (command_of command) }
+        requires { (line : List ℕ) × Spells line (command_of command) × ¬ StartsMolfile line }
         ensures ok { OnOk result ((replies : List Reply) × Answers self.old.store (reading_of (Ok command.entry)) replies self.new.store
             × (self.new.out.items ≡ self.old.out.items ++ text_of replies)) }
         ensures err { OnErr result (self.new.store ≡ self.old.store) }
@@ -111,7 +111,7 @@ impl Responder {
                 search(alloc, &self.store, &mut self.scratch, pattern, out)
             }
             Command::Revise { .. } => refuse(Refusal::NotYet, out),
-            Command::RegisterMol { .. } => refuse(Refusal::NotYet, out),
+            Command::RegisterMol { .. } => unreachable!(),
             Command::ReviseMol { .. } => refuse(Refusal::NotYet, out),
             Command::Withdraw { .. } => refuse(Refusal::NotYet, out),
             Command::Show { .. } => refuse(Refusal::NotYet, out),
