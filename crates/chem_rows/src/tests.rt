@@ -71,7 +71,7 @@ fn scripts_and_replies(rt: HostRuntime) -> Result<(), Fail> {
         // identifiers, blanks, an empty line, ends with CR LF, a last line without LF
         (
             "register 0 C\nregister 1000000000 C\nregister 01 C\nregister 1  C\nregister 1 \nregister 1\nsearch\nsearch \n",
-            "refused notyet\nrefused notyet\nrefused notyet\nrefused smiles syntax\nrefused smiles syntax\nrefused notyet\nrefused notyet\nrefused notyet\n",
+            "refused notyet\nrefused notyet\nrefused notyet\nrefused smiles syntax\nrefused smiles syntax\nrefused notyet\nrefused notyet\nrefused smarts syntax\n",
         ),
         (
             "\r\n\nregister 999999999 ClCBr\r\nregister 3 ClCBr\nregister 3 C\nsearch BrC",
@@ -95,7 +95,7 @@ fn scripts_and_replies(rt: HostRuntime) -> Result<(), Fail> {
         // brackets, charges, parts, hydrogen atoms, marks that are dropped
         (
             "register 1 [13CH3][C@@H](O)C(=O)[O-].[Na+]\nregister 2 [H]C([H])([H])[H]\nregister 3 C/C=C\\C\nsearch C\nsearch C=C\nsearch C=O\nsearch CCCCCCCCCCCCCCCCCCCCCCCCCCCCCCCC\nsearch CCCCCCCCCCCCCCCCCCCCCCCCCCCCCCCCC\n",
-            "ok 1\nok 2\nok 3\nhit 1\nhit 2\nhit 3\nend at 3 hits 3\nhit 3\nend at 3 hits 1\nhit 1\nend at 3 hits 1\nend at 3 hits 0\nrefused notyet\n",
+            "ok 1\nok 2\nok 3\nhit 1\nhit 2\nhit 3\nend at 3 hits 3\nhit 3\nend at 3 hits 1\nhit 1\nend at 3 hits 1\nend at 3 hits 0\nend at 3 hits 0\n",
         ),
         // A molfile belongs to its line, whatever that is answered, up to `M  END` or the end. The charge of a CHG line stands
         // in place of those of the atom lines.
@@ -106,6 +106,40 @@ fn scripts_and_replies(rt: HostRuntime) -> Result<(), Fail> {
         (
             "register-mol\nregister 1 C\nM  END\nregister-mol 01\nM  END of it\nregister-mols 1\nrevise-mol 1\nregister 1 C\nregister-mol 2\n\n\n\n",
             "refused syntax\nrefused id\nrefused notyet\nrefused notyet\nok 1\nrefused molfile cut\n",
+        ),
+        // rings in lower case and in Kekulé form; the bond that two aromatic rings share; hydrogen atoms; recursive parts
+        (
+            "register 1 c1ccccc1\nregister 2 C1=CC=CC=C1\nsearch c1ccccc1\n",
+            "ok 1\nok 2\nhit 1\nhit 2\nend at 2 hits 2\n",
+        ),
+        (
+            "register 1 Cn1cnc2c1c(=O)n(C)c(=O)n2C\nregister 2 c1ccc2cccc2cc1\nsearch [nX3]\nsearch c:c\nsearch c-c\n",
+            "ok 1\nok 2\nhit 1\nend at 2 hits 1\nhit 1\nhit 2\nend at 2 hits 2\nhit 2\nend at 2 hits 1\n",
+        ),
+        (
+            "register 1 [2H]C\nregister 2 [H]C\nsearch [#1]\nsearch [#1][#1]\n",
+            "ok 1\nok 2\nhit 1\nend at 2 hits 1\nend at 2 hits 0\n",
+        ),
+        (
+            "register 1 CC(=O)N\nregister 2 CN=O\nregister 3 CO\nsearch [C,N]=O\nsearch [!C;!N]=O\nsearch [C,N;H1]=O\n",
+            "ok 1\nok 2\nok 3\nhit 1\nhit 2\nend at 3 hits 2\nend at 3 hits 0\nend at 3 hits 0\n",
+        ),
+        (
+            "register 1 Oc1ccccc1\nregister 2 COc1ccccc1\nregister 3 [Sc]\nsearch [$(c[OX2H])]\nsearch [$([$(O[CH3])])]c\nsearch [Sc]\nsearch [Sc&Ra]\n",
+            "ok 1\nok 2\nok 3\nhit 1\nend at 3 hits 1\nhit 2\nend at 3 hits 1\nhit 3\nend at 3 hits 1\nend at 3 hits 0\n",
+        ),
+        // each refusal of a pattern; the first in order is answered
+        (
+            "register 1 c1ccccc1\nsearch [R2]\nsearch [r6;R0]\nsearch F/C=C/F\nsearch C>>O\nsearch [C\nsearch C1CC\nsearch (C).(C)\nsearch ()\n",
+            "ok 1\nrefused smarts ringset\nend at 1 hits 0\nrefused smarts stereo\nrefused smarts reaction\nrefused smarts syntax\nrefused smarts ring\nrefused smarts grouping\nrefused smarts syntax\n",
+        ),
+        (
+            "search &\nsearch [,C]\nsearch [C;]\nsearch [!]\nsearch [H0\nsearch [#]\nsearch [#1000]\nsearch C%1\nsearch C-1CC=1\nsearch [$(C]\nsearch [C\0]\n",
+            "refused smarts syntax\nrefused smarts syntax\nrefused smarts syntax\nrefused smarts syntax\nrefused smarts syntax\nrefused smarts syntax\nrefused smarts syntax\nrefused smarts syntax\nrefused smarts ring\nrefused smarts syntax\nrefused smarts syntax\n",
+        ),
+        (
+            "search [$([$([$([$([$([$([$([$(C)])])])])])])])]\nsearch [$([$([$([$([$([$([$([$([$(C)])])])])])])])])]\n",
+            "end at 0 hits 0\nrefused smarts limit\n",
         ),
         // a NUL, and symbols of no element
         (
@@ -238,12 +272,16 @@ fn long_lines_and_bytes_that_are_no_text(rt: HostRuntime) -> Result<(), Fail> {
     script.extend_from_slice(&chain)?;
     script.extend_from_slice(b"\nregister 1 ")?;
     script.extend_from_slice(&chain[..999])?;
+    script.extend_from_slice(b"\nsearch ")?;
+    script.extend_from_slice(&chain[..257])?;
+    script.extend_from_slice(b"\nsearch ")?;
+    script.extend_from_slice(&chain[..256])?;
     script.extend_from_slice(b"\n")?;
     let outcome = mem(&rt, alloc, &script, 1000, &[], &[])?;
     assert_eq!(rt; outcome.status, 0);
     assert_eq!(rt;
         put_by(&outcome),
-        b"refused long\nrefused smiles syntax\nrefused smiles limit\nok 1\n".as_slice()
+        b"refused long\nrefused smiles syntax\nrefused smiles limit\nok 1\nrefused smarts limit\nhit 1\nend at 1 hits 1\n".as_slice()
     );
     Ok(())
 }

@@ -14,17 +14,17 @@ use Rattle.shell_lang.specs.declared.command.LineRefusal.{LineRefusal}
 use Rattle.shell_lang.specs.declared.reply.Reply.{Reply}
 use Rattle.shell_lang.specs.declared.reply.Reply.TheVariants.{Accepted, Hit, End, Refused}
 use Rattle.shell_lang.specs.declared.reply.Refusal.TheVariants.{Long, NotYet, Line, Text, Pattern, Known, Full}
-use Rattle.smarts_parse.specs.Chain as smarts
+use Rattle.smarts_parse.specs.Reading.{IsReading}
 use Rattle.smarts_parse.specs.Pattern.{PatternTerm}
 use Rattle.smarts_parse.specs.declared.fault.SmartsFault.{SmartsFault}
-use Rattle.smarts_parse.specs.declared.fault.SmartsFault.TheVariants as patterns
+use Rattle.smarts_parse.specs.declared.fault.SmartsFault.TheVariants.{NoMemory}
 use Rattle.chem_shell.specs.declared.store.TheConstants.{MOST_COMMITS}
 use Rattle.chem_shell.specs.History as history
 use Rattle.chem_shell.specs.History.{History, head}
 use Rattle.chem_shell.specs.Hits.{AreHits}
-use Rattle.chem_shell.specs.Structures.{IsText, IsPatternOf, IsPatternFault}
+use Rattle.chem_shell.specs.Structures.{IsText}
 use Rattle.chem_shell.specs.Requests.{Request, TakesMolfile, BeginWithMolfile, BeginWith, BeginWithAll, molfile_text}
-use Rattle.chem_shell.specs.Answer.{RegisterAnswer, SearchAnswer, SearchLineAnswer, Answers, MolfileAnswer, LineAnswer, RequestAnswer}
+use Rattle.chem_shell.specs.Answer.{RegisterAnswer, SearchAnswer, Answers, MolfileAnswer, LineAnswer, RequestAnswer}
 use Rattle.chem_shell.specs.Transcript.{AreReplies, IsTranscript}
 use Rattle.chem_shell.proofs.HitsLemmas.{same_hits}
 
@@ -36,8 +36,9 @@ abbrev OneAnswer : Type 0
 OneAnswer = (format : Format) (text : List ℕ) (a b : Result Molecule TextFault) → IsAnswer format text a → IsAnswer format text b
     → (a ≡ b) ⊎ (a ≡ Err faults.NoMemory) ⊎ (b ≡ Err faults.NoMemory)
 
-abbrev OneChain : Type 0
-OneChain = (c d : smarts.Chain) → smarts.spelling c ≡ smarts.spelling d → c ≡ d
+abbrev OnePattern : Type 0
+OnePattern = (text : List ℕ) (r s : Result PatternTerm SmartsFault) → IsReading text r → IsReading text s
+    → r ≢ Err NoMemory → s ≢ Err NoMemory → r ≡ s
 
 -- the ways of a registration
 data Way (h : History) (format : Format) (id : ℕ) (text : List ℕ) (reply : Reply) (h' : History) : Type 0 where
@@ -92,41 +93,23 @@ same_way one h format id text r s i j (full t a b e k) (made u c f d l) = absurd
 same_way one h format id text r s i j (made t a b e k) (full u c f d l) = absurd (omega (arith, b, f))
 same_way one h format id text r s i j (made t a b e k) (made u c f d l) = (e ∙ sym d, k ∙ sym l)
 
--- the one fault of a pattern text of today
-pattern_fault : (text : List ℕ) (fault : SmartsFault) → IsPatternFault text fault → (fault ≡ patterns.Syntax) × ((p : PatternTerm) → IsPatternOf text p → ⊥)
-pattern_fault text patterns.Syntax h = (refl, h)
-pattern_fault text patterns.Reaction h = absurd h
-pattern_fault text patterns.Stereo h = absurd h
-pattern_fault text patterns.RingSet h = absurd h
-pattern_fault text patterns.Ring h = absurd h
-pattern_fault text patterns.Limit h = absurd h
-pattern_fault text patterns.Grouping h = absurd h
-pattern_fault text patterns.NoMemory h = absurd h
-
-same_pattern : OneChain → (text : List ℕ) (p q : PatternTerm) → IsPatternOf text p → IsPatternOf text q → p ≡ q
-same_pattern one text p q a b = a.2 ∙ (ap smarts.chain_pattern (one a.0 b.0 (sym a.1 ∙ b.1)) ∙ sym b.2)
-
-same_search : OneChain → (h : History) (text : List ℕ) (r s : List Reply) → SearchAnswer h text r → SearchAnswer h text s → r ≡ s
+same_search : OnePattern → (h : History) (text : List ℕ) (r s : List Reply) → SearchAnswer h text r → SearchAnswer h text s → r ≡ s
 same_search one h text r s (inl a) (inl b) =
-    a.2 ∙ (ap (λ f. Refused (Pattern f) ∷ []) ((pattern_fault text a.0 a.1).0 ∙ sym (pattern_fault text b.0 b.1).0) ∙ sym b.2)
-same_search one h text r s (inl a) (inr b) = absurd ((pattern_fault text a.0 a.1).1 b.0 b.2)
-same_search one h text r s (inr a) (inl b) = absurd ((pattern_fault text b.0 b.1).1 a.0 a.2)
+    let f : Err a.0 ≡ Err b.0 = one text (Err a.0) (Err b.0) a.1.1 b.1.1 (λ e. a.1.0 (cc e)) (λ e. b.1.0 (cc e)) in
+    a.2 ∙ (ap (λ f. Refused (Pattern f) ∷ []) (cc f) ∙ sym b.2)
+same_search one h text r s (inl a) (inr b) = cc (one text (Err a.0) (Ok b.0) a.1.1 b.2 (λ e. a.1.0 (cc e)) (λ e. cc e))
+same_search one h text r s (inr a) (inl b) = cc (one text (Ok a.0) (Err b.0) a.2 b.1.1 (λ e. cc e) (λ e. b.1.0 (cc e)))
 same_search one h text r s (inr a) (inr b) =
-    let p : a.0 ≡ b.0 = same_pattern one text a.0 b.0 a.2 b.2 in
+    let q : Ok a.0 ≡ Ok b.0 = one text (Ok a.0) (Ok b.0) a.2 b.2 (λ e. cc e) (λ e. cc e) in
+    let p : a.0 ≡ b.0 = cc q in
     let ids : a.1 ≡ b.1 = same_hits h (length h) b.0 a.1 b.1 (subst (λ (x : PatternTerm). AreHits h (length h) x a.1) p a.3) b.3 in
     a.4 ∙ (ap (λ xs. map Hit xs ++ End (length h) (length xs) ∷ []) ids ∙ sym b.4)
 
-same_search_line : OneChain → (h : History) (text : List ℕ) (r s : List Reply) → SearchLineAnswer h text r → SearchLineAnswer h text s → r ≡ s
-same_search_line one h text r s (inl a) (inl b) = same_search one h text r s a.1 b.1
-same_search_line one h text r s (inl a) (inr b) = absurd (b.0 a.0)
-same_search_line one h text r s (inr a) (inl b) = absurd (a.0 b.0)
-same_search_line one h text r s (inr a) (inr b) = a.1 ∙ sym b.1
-
-same_answer : OneAnswer → OneChain → (h : History) (read : Result Command LineRefusal) (r s : List Reply) (i j : History) → Answers h read r i → Answers h read s j → (r ≡ s) × (i ≡ j)
+same_answer : OneAnswer → OnePattern → (h : History) (read : Result Command LineRefusal) (r s : List Reply) (i j : History) → Answers h read r i → Answers h read s j → (r ≡ s) × (i ≡ j)
 same_answer one chain h (Ok (Register id text)) r s i j a b =
     let w = same_way one h Smiles id text a.0 b.0 i j (way h Smiles id text a.0 i a.2) (way h Smiles id text b.0 j b.2) in
     (a.1 ∙ (ap (λ x. x ∷ []) w.0 ∙ sym b.1), w.1)
-same_answer one chain h (Ok (Search text)) r s i j a b = (same_search_line chain h text r s a.0 b.0, a.1 ∙ sym b.1)
+same_answer one chain h (Ok (Search text)) r s i j a b = (same_search chain h text r s a.0 b.0, a.1 ∙ sym b.1)
 same_answer one chain h read r s i j a b = (a.0 ∙ sym b.0, a.1 ∙ sym b.1)
 
 -- the ways of a line that takes a molfile
@@ -136,7 +119,7 @@ same_molfile one h (Ok (RegisterMol id)) text r s i j a b =
 same_molfile one h (Err refusal) text r s i j a b = (a.0 ∙ sym b.0, a.1 ∙ sym b.1)
 same_molfile one h (Ok _) text r s i j a b = absurd a
 
-same_line : OneReading → OneAnswer → OneChain → (h : History) (line : List ℕ) (request : Request) (r s : List Reply) (i j : History) → LineAnswer h line request r i → LineAnswer h line request s j → (r ≡ s) × (i ≡ j)
+same_line : OneReading → OneAnswer → OnePattern → (h : History) (line : List ℕ) (request : Request) (r s : List Reply) (i j : History) → LineAnswer h line request r i → LineAnswer h line request s j → (r ≡ s) × (i ≡ j)
 same_line reading one chain h line request r s i j (a, is, inl x) (b, is', inl y) =
     same_answer one chain h b r s i j (subst (λ (x : Result Command LineRefusal). Answers h x r i) (reading line a b is is') x.1) y.1
 same_line reading one chain h line request r s i j (a, is, inl x) (b, is', inr y) = absurd (x.0 y.0)
@@ -148,14 +131,14 @@ same_line reading one chain h line request r s i j (a, is, inr x) (b, is', inr y
 whole_injective : {x y : List ℕ} → Whole x ≡ Whole y → x ≡ y
 whole_injective e = cc
 
-same_request : OneReading → OneAnswer → OneChain → (h : History) (request : Request) (r s : List Reply) (i j : History) → RequestAnswer h request r i → RequestAnswer h request s j → (r ≡ s) × (i ≡ j)
+same_request : OneReading → OneAnswer → OnePattern → (h : History) (request : Request) (r s : List Reply) (i j : History) → RequestAnswer h request r i → RequestAnswer h request s j → (r ≡ s) × (i ≡ j)
 same_request reading one chain h request r s i j (inl a) (inl b) = (a.1 ∙ sym b.1, a.2 ∙ sym b.2)
 same_request reading one chain h request r s i j (inl a) (inr b) = absurd (b.0 a.0)
 same_request reading one chain h request r s i j (inr a) (inl b) = absurd (a.0 b.0)
 same_request reading one chain h request r s i j (inr a) (inr b) =
     same_line reading one chain h b.1 request r s i j (subst (λ (l : List ℕ). LineAnswer h l request r i) (whole_injective (sym a.2 ∙ b.2)) a.3) b.3
 
-same_replies : OneReading → OneAnswer → OneChain → (h : History) (requests : List Request) (s t : List ℕ) → AreReplies h requests s → AreReplies h requests t → s ≡ t
+same_replies : OneReading → OneAnswer → OnePattern → (h : History) (requests : List Request) (s t : List ℕ) → AreReplies h requests s → AreReplies h requests t → s ≡ t
 same_replies reading one chain h [] s t a b = a ∙ sym b
 same_replies reading one chain h (request ∷ requests) s t a b =
     let first = same_request reading one chain h request a.0 b.0 a.1 b.1 a.3 b.3 in
@@ -209,6 +192,6 @@ one_split lines (x ∷ xs) (y ∷ ys) (more, takes, a) (more', takes', b) =
     let rest = one_split more' xs ys (subst (λ (l : List TextLine). BeginWithAll l xs []) first.2 a) b in
     same_requests x y xs ys first.0 first.1 rest
 
-pub same_transcript : OneReading → OneAnswer → OneChain → (h : History) (lines : List TextLine) (s t : List ℕ) → IsTranscript h lines s → IsTranscript h lines t → s ≡ t
+pub same_transcript : OneReading → OneAnswer → OnePattern → (h : History) (lines : List TextLine) (s t : List ℕ) → IsTranscript h lines s → IsTranscript h lines t → s ≡ t
 same_transcript reading one chain h lines s t a b =
     same_replies reading one chain h b.0 s t (subst (λ (requests : List Request). AreReplies h requests s) (one_split lines a.0 b.0 a.1 b.1) a.2) b.2

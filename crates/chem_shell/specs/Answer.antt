@@ -4,7 +4,6 @@ use Rattle.io_edge.specs.Lines.{Whole}
 use Rattle.mol_finish.specs.declared.fault.Format.{Format}
 use Rattle.mol_finish.specs.declared.fault.Format.TheVariants.{Smiles, Molfile}
 use Rattle.smarts_parse.specs.Pattern.{PatternTerm}
-use Rattle.smarts_parse.specs.Chain.{IsShortText}
 use Rattle.smarts_parse.specs.declared.fault.SmartsFault.{SmartsFault}
 use Rattle.shell_lang.specs.declared.command.LineRefusal.{LineRefusal}
 use Rattle.shell_lang.specs.declared.reply.Reply.{Reply}
@@ -34,16 +33,11 @@ SearchAnswer h text replies =
     ⊎ ((p : PatternTerm) × (ids : List ℕ) × IsPatternOf text p × AreHits h (length h) p ids
     × (replies ≡ map Hit ids ++ End (length h) (length ids) ∷ []))
 
--- patterns of other texts are not read yet
-abbrev pub SearchLineAnswer : History → List ℕ → List Reply → Type 0
-SearchLineAnswer h text replies =
-    (IsShortText text × SearchAnswer h text replies) ⊎ (¬ IsShortText text × (replies ≡ Refused NotYet ∷ []))
-
 -- a line that takes no molfile, by what it is read as; only a registration changes the history. Other lines are not answered yet
 abbrev pub Answers : History → Result Command LineRefusal → List Reply → History → Type 0
 Answers h (Ok Empty) replies h' = (replies ≡ []) × (h' ≡ h)
 Answers h (Ok (Register id text)) replies h' = (reply : Reply) × (replies ≡ reply ∷ []) × RegisterAnswer h Smiles id text reply h'
-Answers h (Ok (Search text)) replies h' = SearchLineAnswer h text replies × (h' ≡ h)
+Answers h (Ok (Search text)) replies h' = SearchAnswer h text replies × (h' ≡ h)
 Answers h _ replies h' = (replies ≡ Refused NotYet ∷ []) × (h' ≡ h)
 
 -- a line and its molfile, by what the line is read as

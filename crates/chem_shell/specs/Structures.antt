@@ -1,14 +1,14 @@
 -- For callers: what the texts of a script mean.
-use Rattle.std.specs.Prelude.{◌≡◌, ℕ, List, Err}
+use Rattle.std.specs.Prelude.{◌≢◌, ℕ, List, Ok, Err}
 use Rattle.chem_core.specs.Molecule.{Molecule}
 use Rattle.mol_finish.specs.Structure.{HasMolecule, IsAnswer}
 use Rattle.mol_finish.specs.declared.fault.Format.{Format}
 use Rattle.mol_finish.specs.declared.fault.TextFault.{TextFault}
 use Rattle.mol_finish.specs.declared.fault.TextFault.TheVariants as faults
 use Rattle.smarts_parse.specs.Pattern.{PatternTerm}
-use Rattle.smarts_parse.specs.Chain as smarts
+use Rattle.smarts_parse.specs.Reading.{IsReading}
 use Rattle.smarts_parse.specs.declared.fault.SmartsFault.{SmartsFault}
-use Rattle.smarts_parse.specs.declared.fault.SmartsFault.TheVariants as patterns
+use Rattle.smarts_parse.specs.declared.fault.SmartsFault.TheVariants.{NoMemory}
 
 -- the text has a structure
 abbrev pub IsText : Format → List ℕ → Type 0
@@ -21,9 +21,8 @@ IsTextFault format text fault = IsAnswer format text (Err fault)
 
 -- the text is of this pattern
 abbrev pub IsPatternOf : List ℕ → PatternTerm → Type 0
-IsPatternOf text p = (chain : smarts.Chain) × (text ≡ smarts.spelling chain) × (p ≡ smarts.chain_pattern chain)
+IsPatternOf text p = IsReading text (Ok p)
 
--- the text is no pattern, for this cause
+-- the text is no pattern, for this cause. Want of memory is no cause
 abbrev pub IsPatternFault : List ℕ → SmartsFault → Type 0
-IsPatternFault text patterns.Syntax = (p : PatternTerm) → IsPatternOf text p → ⊥
-IsPatternFault text fault = ⊥
+IsPatternFault text fault = (fault ≢ NoMemory) × IsReading text (Err fault)

@@ -1,12 +1,14 @@
 //! What a line is answered.
-ghost use Rattle.std.specs.Prelude.{◌≡◌, ◌↔◌, [], ◌++◌, IfOk, OnOk, OnErr, Ok, IsTrue, Contains, ℕ, List, map};
+ghost use Rattle.std.specs.Prelude.{◌≡◌, ◌≢◌, ◌↔◌, [], ◌++◌, IfOk, OnOk, OnErr, Ok, IsTrue, Contains, ℕ, List, map};
 ghost use Rattle.io_edge.specs.Lines.{TextLine, Whole, TooLong};
 ghost use Rattle.shell_lang.specs.Command.{IsIdentifier, Spells, StartsMolfile, IsLine, registration_of};
 ghost use Rattle.shell_lang.specs.CommandView.{command_of, reading_of};
 ghost use Rattle.shell_lang.specs.Reply.{text_of, reply_line};
 ghost use Rattle.shell_lang.specs.declared.reply.Reply.{Reply};
 ghost use Rattle.shell_lang.specs.declared.reply.Reply.TheVariants.{Hit, Refused};
-ghost use Rattle.chem_shell.specs.Answer.{Answers, RegisterAnswer, SearchLineAnswer};
+ghost use Rattle.shell_lang.specs.declared.reply.Refusal.TheVariants.{Pattern};
+ghost use Rattle.smarts_parse.specs.declared.fault.SmartsFault.TheVariants.{NoMemory};
+ghost use Rattle.chem_shell.specs.Answer.{Answers, RegisterAnswer, SearchAnswer};
 ghost use Rattle.chem_shell.specs.Answered.{AnswersRequest};
 ghost use Rattle.chem_shell.specs.Requests.{molfile_text};
 
@@ -14,7 +16,7 @@ use crate::store::{CommitFault, Store};
 use matcher::Scratch;
 use mol_finish::{Format, TextFault, structure};
 use shell_lang::{Command, LineRefusal, Refusal, Reply, read_command, reply_text};
-use smarts_parse::{SmartsFault, is_short, parse};
+use smarts_parse::{SmartsFault, parse};
 use std::alloc::{AllocError, Global};
 
 /// What answers lines: the store, and buffers that are reused for each line.
@@ -96,7 +98,7 @@ impl Responder {
 
     // Answers a command, behind what stands in `out`. An `Err` leaves the store as it was.
     fn execute(&mut self, alloc: Global, command: Command<'_>) -> Result<(), AllocError>
-        requires { (line : List ℕ) × Spells line (command_of command) }
+        requires { (line : List ℕ) × Spells line (command_of command) × ¬ StartsMolfile line }
         ensures ok { OnOk result ((replies : List Reply) × Answers self.old.store (reading_of (Ok command.entry)) replies self.new.store
             × (self.new.out.items ≡ self.old.out.items ++ text_of replies)) }
         ensures err { OnErr result (self.new.store ≡ self.old.store) }
@@ -111,7 +113,7 @@ impl Responder {
                 search(alloc, &self.store, &mut self.scratch, pattern, out)
             }
             Command::Revise { .. } => refuse(Refusal::NotYet, out),
-            Command::RegisterMol { .. } => refuse(Refusal::NotYet, out),
+            Command::RegisterMol { .. } => unreachable!(),
             Command::ReviseMol { .. } => refuse(Refusal::NotYet, out),
             Command::Withdraw { .. } => refuse(Refusal::NotYet, out),
             Command::Show { .. } => refuse(Refusal::NotYet, out),
@@ -173,6 +175,16 @@ fn refuse(refusal: Refusal, out: &mut Vec<u8>) -> Result<(), AllocError>
     reply_text(Reply::Refused(refusal), out)
 }
 
+/// Refuses a text that is no pattern for this cause. Want of memory is no cause.
+fn refuse_pattern(fault: SmartsFault, out: &mut Vec<u8>) -> Result<(), AllocError>
+    ensures { OnOk result ((fault ≢ NoMemory) × (out.new.items ≡ out.old.items ++ reply_line (Refused (Pattern fault)))) }
+{
+    match fault {
+        SmartsFault::NoMemory => Err(AllocError),
+        _ => refuse(Refusal::Pattern(fault), out),
+    }
+}
+
 /// Lists the hits of a text's pattern, each on a line, and the end; or says why the text is no pattern.
 fn search(
     alloc: Global,
@@ -181,17 +193,12 @@ fn search(
     text: &[u8],
     out: &mut Vec<u8>,
 ) -> Result<(), AllocError>
-    ensures { OnOk result ((replies : List Reply) × SearchLineAnswer store.now text.now replies
+    ensures { OnOk result ((replies : List Reply) × SearchAnswer store.now text.now replies
         × (out.new.items ≡ out.old.items ++ text_of replies)) }
 {
-    if !is_short(text) {
-        return refuse(Refusal::NotYet, out);
-    }
     let pattern = match parse(alloc, text) {
         Ok(pattern) => pattern,
-        Err(SmartsFault::Syntax) => return refuse(Refusal::Pattern(SmartsFault::Syntax), out),
-        Err(SmartsFault::NoMemory) => return Err(AllocError),
-        Err(_) => unreachable!(),
+        Err(fault) => return refuse_pattern(fault, out),
     };
     let ids = store.hits(alloc, &pattern, scratch)?;
     push_hits(&ids, out)?;

@@ -75,7 +75,7 @@ pub fn one_transcript()
 {
     shell_lang::one_reading();
     mol_finish::one_answer();
-    smarts_parse::one_tree();
+    smarts_parse::one_answer();
 }
 
 /// Takes the lines of a molfile, up to and with the first that ends one or to the input's end; whether a line is too long,

@@ -9,9 +9,10 @@ use Rattle.smarts_parse.specs.declared.fault.SmartsFault.TheVariants.{Syntax}
 use Rattle.shell_lang.specs.Reply.{text_of, reply_line}
 use Rattle.chem_shell.proofs.answer.search.Goals as goal
 
-pub returns-in-Err-Syntax : goal.returns-in-Err-Syntax
-returns-in-Err-Syntax c =
-    on_ok_weaker c.refuse-in-Err-Syntax.result (λ e. (Refused (Pattern Syntax) ∷ [], inl (c.if-not-is_short.ensures.0 refl, inl (Syntax, (λ p h. c.in-Err-Syntax.ensures.syntax (ap Err c.in-Err-Syntax.field-0-is) h.0 h.1), refl)), rw append-nil e)) c.refuse-in-Err-Syntax.ensures
+pub returns-in-Err : goal.returns-in-Err
+returns-in-Err c =
+    let read = c.in-Err.ensures.reading in
+    on_ok_weaker c.refuse_pattern.result (λ o. (Refused (Pattern c.in-Err.fault) ∷ [], inl (c.in-Err.fault, (o.0, read), refl), rw append-nil o.1)) c.refuse_pattern.ensures
 
 -- the lines of the hits, and one behind them
 hits_and_end : (out new last : List ℕ) (hits : List Reply) (end : Reply) → new ≡ out ++ text_of hits → last ≡ new ++ reply_line end → last ≡ out ++ text_of (hits ++ end ∷ [])
@@ -21,15 +22,11 @@ hits_and_end out new last hits end e f =
 
 pub returns : goal.returns
 returns c =
-    let p = c.in-Ok.ensures.ok in
+    let p = c.in-Ok.ensures.reading in
     let ids = c.in_ok-ids.ids.items in
     let count : c.len.result ≡ length ids = c.len.ensures ∙ c.in_ok-ids.ids.ok.0 in
     let ends : map Hit ids ++ End c.version.result c.len.result ∷ [] ≡ map Hit ids ++ End (length c.args.store.now) (length ids) ∷ [] = rw (c.version.ensures.version, count) refl in
     let hits : c.push_hits.new.out.items ≡ c.args.out.now.items ++ text_of (map Hit ids) = rw c.deref.ensures.value at c.in_ok-push_hits.ensures in
     on_ok_weaker c.reply_text.result (λ e.
-    (map Hit c.in_ok-ids.ids.items ++ End c.version.result c.len.result ∷ [], inl (c.if-not-is_short.ensures.0 refl, inr (pattern_of c.in-Ok.pattern, c.in_ok-ids.ids.items, (p.0, p.1, p.2), c.in_ok-ids.ensures.hits, ends)), hits_and_end _ _ _ (map Hit c.in_ok-ids.ids.items) (End c.version.result c.len.result) hits e))
+    (map Hit c.in_ok-ids.ids.items ++ End c.version.result c.len.result ∷ [], inr (pattern_of c.in-Ok.pattern, c.in_ok-ids.ids.items, p, c.in_ok-ids.ensures.hits, ends), hits_and_end _ _ _ (map Hit c.in_ok-ids.ids.items) (End c.version.result c.len.result) hits e))
     c.reply_text.ensures.ok
-
-pub returns-then-not-is_short : goal.returns-then-not-is_short
-returns-then-not-is_short c =
-    on_ok_weaker c.refuse.result (λ e. (Refused NotYet ∷ [], inr (λ is. let t = c.if-not-is_short.ensures.1 is in cc, refl), rw append-nil e)) c.refuse.ensures
