@@ -5,6 +5,7 @@ ghost use Rattle.chem_shell.specs.declared.request.Plan.{Plan as ThePlan};
 ghost use Rattle.chem_shell.specs.Words.{chemdb_app, Asks, AsksFor, IsMem, IsSetting};
 
 use crate::request::{Plan, PlanFault, Verb};
+use crate::store::MOST_COMMITS;
 use chem_text::decimal;
 use clap::error::ErrorKind;
 use clap::{Arg, ArgMatches, Command};
@@ -30,6 +31,7 @@ fn command<'w>(alloc: Global) -> Result<Command<'w>, AllocError>
     let args = Arg::new(alloc, "args").num_args(..);
     let workers = Arg::new(alloc, "workers").long("workers");
     let page = Arg::new(alloc, "page").long("page");
+    let commits = Arg::new(alloc, "commits").long("commits");
     Command::new(alloc, "chemdb")
         .no_binary_name(true)
         .disable_help_flag(true)
@@ -37,7 +39,8 @@ fn command<'w>(alloc: Global) -> Result<Command<'w>, AllocError>
         .arg(command)?
         .arg(args)?
         .arg(workers)?
-        .arg(page)
+        .arg(page)?
+        .arg(commits)
 }
 
 /// What that command finds in the words.
@@ -63,6 +66,7 @@ fn mem<'w>(alloc: Global, found: &ArgMatches<'w>) -> Option<Plan<'w>>
     }
     let workers = setting(found.get_str("workers"), 16, 1)?;
     let page = setting(found.get_str("page"), 256, 256)?;
+    let commits = setting(found.get_str("commits"), MOST_COMMITS, MOST_COMMITS)?;
     Some(Plan {
         command: Verb::Mem,
         file: None,
@@ -70,7 +74,7 @@ fn mem<'w>(alloc: Global, found: &ArgMatches<'w>) -> Option<Plan<'w>>
         ends: 1,
         workers,
         page,
-        commits: 16_777_215,
+        commits,
         seed: 0,
         count: 0,
     })

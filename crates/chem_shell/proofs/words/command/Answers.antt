@@ -32,8 +32,9 @@ returns c =
     ap rule_of c.num_args-args.ensures.0 ∙ ap₂ (λ (r : Rule) range. record r { range = range }) c.new-2.ensures.rule any in
     let workers_is : rule_of c.long-workers.result ≡ option_rule (codes "workers") = search rules in
     let page_is : rule_of c.long-page.result ≡ option_rule (codes "page") = search rules in
+    let commits_is : rule_of c.long-commits.result ≡ option_rule (codes "commits") = search rules in
     let unnamed : app_of c.no_binary_name.result ≡ on_top no_name (new_app (codes "chemdb")) =
-    ap app_of_fields c.no_binary_name.ensures ∙ ap (on_top no_name) c.new-5.ensures.app in
+    ap app_of_fields c.no_binary_name.ensures ∙ ap (on_top no_name) c.new-6.ensures.app in
     let unhelped : app_of c.disable_help_flag.result ≡ on_top help_off (on_top no_name (new_app (codes "chemdb"))) =
     ap app_of_fields c.disable_help_flag.ensures ∙ ap (on_top help_off) unnamed in
     let bare : app_of c.disable_version_flag.result ≡ on_top version_off (on_top help_off (on_top no_name (new_app (codes "chemdb")))) =
@@ -41,5 +42,6 @@ returns c =
     let one = c.in_ok-arg.ensures.shape (search rules) ∙ ap₂ with_rule bare command_is in
     let two = c.in_ok-arg-2.ensures.shape (search rules) ∙ ap₂ with_rule one args_is in
     let three = c.in_ok-arg-3.ensures.shape (search rules) ∙ ap₂ with_rule two workers_is in
-    let local : c.long-page.result.global ≡ false = search rules in
-    IfOk-weaker c.arg-4.result _ _ (λ r adds. adds.shape local ∙ ap₂ with_rule three page_is) c.arg-4.ensures
+    let four = c.in_ok-arg-4.ensures.shape (search rules) ∙ ap₂ with_rule three page_is in
+    let local : c.long-commits.result.global ≡ false = search rules in
+    IfOk-weaker c.arg-5.result _ _ (λ r adds. adds.shape local ∙ ap₂ with_rule four commits_is) c.arg-5.ensures

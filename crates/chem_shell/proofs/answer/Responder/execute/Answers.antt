@@ -16,10 +16,6 @@ pub returns-in-Revise-clause-ok : goal.returns-in-Revise-clause-ok
 returns-in-Revise-clause-ok c =
     rw c.in-Revise.is (on_ok_weaker c.refuse.result (λ e. (Refused NotYet ∷ [], (refl, refl), rw append-nil e)) c.refuse.ensures)
 
-pub returns-in-RegisterMol-clause-ok : goal.returns-in-RegisterMol-clause-ok
-returns-in-RegisterMol-clause-ok c =
-    rw c.in-RegisterMol.is (on_ok_weaker c.refuse-in-RegisterMol.result (λ e. (Refused NotYet ∷ [], (refl, refl), rw append-nil e)) c.refuse-in-RegisterMol.ensures)
-
 pub returns-in-ReviseMol-clause-ok : goal.returns-in-ReviseMol-clause-ok
 returns-in-ReviseMol-clause-ok c =
     rw c.in-ReviseMol.is (on_ok_weaker c.refuse-in-ReviseMol.result (λ e. (Refused NotYet ∷ [], (refl, refl), rw append-nil e)) c.refuse-in-ReviseMol.ensures)
