@@ -319,7 +319,11 @@ fn words_and_statuses(rt: HostRuntime) -> Result<(), Fail> {
         (&["mem", "--workers", "16", "--page=1"], 0, all),
         (&["mem", "--"], 0, all),
         (&["mem", "--commits", "16777215"], 0, all),
-        (&["mem", "--commits", "1"], 0, "ok 1\nrefused known\nrefused full\n"),
+        (
+            &["mem", "--commits", "1"],
+            0,
+            "ok 1\nrefused known\nrefused full\n",
+        ),
         (&[], 2, ""),
         (&[""], 2, ""),
         (&["Mem"], 2, ""),

@@ -116,7 +116,15 @@ impl Responder {
         match command {
             Command::Empty => Ok(()),
             Command::Register { id, text } => {
-                register(alloc, self.commits, &mut self.store, Format::Smiles, id, text, out)
+                register(
+                    alloc,
+                    self.commits,
+                    &mut self.store,
+                    Format::Smiles,
+                    id,
+                    text,
+                    out,
+                )
             }
             Command::Search { pattern } => {
                 search(alloc, &self.store, &mut self.scratch, pattern, out)
