@@ -8,4 +8,5 @@ use Rattle.chem_shell.specs.Answer.{RequestAnswer}
 
 -- the request was answered with this text
 abbrev pub AnswersRequest : ℕ → History → Request → List ℕ → History → Type 0
-AnswersRequest commits h request text h' = (replies : List Reply) × RequestAnswer commits h request replies h' × (text ≡ text_of replies)
+AnswersRequest commits h request text h' =
+    (replies : List Reply) × RequestAnswer commits h request replies h' × (text ≡ text_of replies)

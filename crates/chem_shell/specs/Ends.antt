@@ -11,7 +11,8 @@ use Rattle.chem_shell.specs.Status.{IsEndStatus}
 abbrev pub with_status : {S K : Type 0} → ℕ → End S K → End S K
 with_status status end = record end { status = status }
 
--- What serving an end by a session over an empty store, which may have so many commits, leaves of it. What a source has left and a sink was given, and their counts of faults, are told by the four functions.
+-- What serving an end by a session over an empty store, which may have so many commits, leaves of it. What a source has
+-- left and a sink was given, and their counts of faults, are told by the four functions.
 pub record IsServed {S K : Type 0} (commits : ℕ) (left : S → Option (List ℕ)) (source_faults : S → ℕ) (written : K → Option (List ℕ)) (sink_faults : K → ℕ) (old new : End S K) : Type 0 where
   pub status : IsEndStatus new.status
   pub prefix : WritesPrefix commits (left old.source) (written old.sink) (written new.sink)

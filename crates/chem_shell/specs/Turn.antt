@@ -42,10 +42,13 @@ abbrev pub TakesNone : Reading → Option (List ℕ) → Type 0
 TakesNone old before = (l : List ℕ) → before ≡ Some l → (IsTrue old.ended → l ≡ []) → lines_left old l ≡ []
 
 -- What a turn put, by its answer: the reply to the next request, or a prefix of it, or nothing.
-abbrev pub TurnPuts : ℕ → Result Bool SessionFault → History → History → Reading → Reading → Option (List ℕ) → Option (List ℕ) → Option (List ℕ) → Option (List ℕ) → Type 0
+abbrev pub TurnPuts : ℕ → Result Bool SessionFault → History → History → Reading → Reading
+    → Option (List ℕ) → Option (List ℕ) → Option (List ℕ) → Option (List ℕ) → Type 0
 TurnPuts commits (Ok true) h h' old new before after put put' =
-    (request : Request) × (text : List ℕ) × TakesRequest old new before after request × AnswersRequest commits h request text h' × Appends put put' text
+    (request : Request) × (text : List ℕ) × TakesRequest old new before after request
+    × AnswersRequest commits h request text h' × Appends put put' text
 TurnPuts commits (Ok false) h h' old new before after put put' = TakesNone old before × Appends put put' []
 TurnPuts commits (Err Sink) h h' old new before after put put' =
-    (request : Request) × (text : List ℕ) × TakesRequest old new before after request × AnswersRequest commits h request text h' × AppendsPrefix put put' text
+    (request : Request) × (text : List ℕ) × TakesRequest old new before after request
+    × AnswersRequest commits h request text h' × AppendsPrefix put put' text
 TurnPuts commits (Err _) h h' old new before after put put' = Appends put put' []
