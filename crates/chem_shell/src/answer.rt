@@ -1,11 +1,13 @@
 //! What a line is answered.
-ghost use Rattle.std.specs.Prelude.{◌≡◌, ◌≤◌, ◌↔◌, [], ◌++◌, IfOk, OnOk, OnErr, Ok, IsTrue, Contains, ℕ, List, map};
+ghost use Rattle.std.specs.Prelude.{◌≡◌, ◌≢◌, ◌≤◌, ◌↔◌, [], ◌++◌, IfOk, OnOk, OnErr, Ok, IsTrue, Contains, ℕ, List, map};
 ghost use Rattle.io_edge.specs.Lines.{TextLine, Whole, TooLong};
 ghost use Rattle.shell_lang.specs.Command.{IsIdentifier, Spells, StartsMolfile, IsLine, registration_of};
 ghost use Rattle.shell_lang.specs.CommandView.{command_of, reading_of};
 ghost use Rattle.shell_lang.specs.Reply.{text_of, reply_line};
 ghost use Rattle.shell_lang.specs.declared.reply.Reply.{Reply};
 ghost use Rattle.shell_lang.specs.declared.reply.Reply.TheVariants.{Hit, Refused};
+ghost use Rattle.shell_lang.specs.declared.reply.Refusal.TheVariants.{Pattern};
+ghost use Rattle.smarts_parse.specs.declared.fault.SmartsFault.TheVariants.{NoMemory};
 ghost use Rattle.chem_shell.specs.Answer.{Answers, RegisterAnswer, SearchAnswer};
 ghost use Rattle.chem_shell.specs.Answered.{AnswersRequest};
 ghost use Rattle.chem_shell.specs.Requests.{molfile_text};
@@ -194,6 +196,16 @@ fn refuse(refusal: Refusal, out: &mut Vec<u8>) -> Result<(), AllocError>
     reply_text(Reply::Refused(refusal), out)
 }
 
+/// Refuses a text that is no pattern for this cause. Want of memory is no cause.
+fn refuse_pattern(fault: SmartsFault, out: &mut Vec<u8>) -> Result<(), AllocError>
+    ensures { OnOk result ((fault ≢ NoMemory) × (out.new.items ≡ out.old.items ++ reply_line (Refused (Pattern fault)))) }
+{
+    match fault {
+        SmartsFault::NoMemory => Err(AllocError),
+        _ => refuse(Refusal::Pattern(fault), out),
+    }
+}
+
 /// Lists the hits of a text's pattern, each on a line, and the end; or says why the text is no pattern.
 fn search(
     alloc: Global,
@@ -207,8 +219,7 @@ fn search(
 {
     let pattern = match parse(alloc, text) {
         Ok(pattern) => pattern,
-        Err(SmartsFault::NoMemory) => return Err(AllocError),
-        Err(fault) => return refuse(Refusal::Pattern(fault), out),
+        Err(fault) => return refuse_pattern(fault, out),
     };
     let ids = store.hits(alloc, &pattern, scratch)?;
     push_hits(&ids, out)?;

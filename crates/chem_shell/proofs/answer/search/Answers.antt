@@ -11,7 +11,8 @@ use Rattle.chem_shell.proofs.answer.search.Goals as goal
 
 pub returns-in-Err : goal.returns-in-Err
 returns-in-Err c =
-    on_ok_weaker c.refuse.result (λ e. (Refused (Pattern c.in-Err.field-0) ∷ [], inl (c.in-Err.field-0, (c.in-Err.not, c.in-Err.ensures.reading), refl), rw append-nil e)) c.refuse.ensures
+    let read = c.in-Err.ensures.reading in
+    on_ok_weaker c.refuse_pattern.result (λ o. (Refused (Pattern c.in-Err.fault) ∷ [], inl (c.in-Err.fault, (o.0, read), refl), rw append-nil o.1)) c.refuse_pattern.ensures
 
 -- the lines of the hits, and one behind them
 hits_and_end : (out new last : List ℕ) (hits : List Reply) (end : Reply) → new ≡ out ++ text_of hits → last ≡ new ++ reply_line end → last ≡ out ++ text_of (hits ++ end ∷ [])

@@ -1,8 +1,19 @@
-use Rattle.std.proofs.Common.{[], ◌∷◌, refl, append-nil}
+use Rattle.std.proofs.Common.{◌≡◌, ℕ, List, [], ◌∷◌, refl, inr, append-nil, decimal}
 use Rattle.std.proofs.lemmas.Result.{on_ok_weaker}
+use Rattle.shell_lang.specs.Command.{Spells, StartsMolfile}
+use Rattle.shell_lang.specs.CommandView.{command_of}
+use Rattle.shell_lang.specs.declared.command.Command.{Command}
+use Rattle.shell_lang.specs.declared.command.Command.TheVariants.{RegisterMol}
 use Rattle.shell_lang.specs.declared.reply.Reply.TheVariants.{Refused}
 use Rattle.shell_lang.specs.declared.reply.Refusal.TheVariants.{NotYet}
 use Rattle.chem_shell.proofs.answer.Responder.execute.Goals as goal
+
+-- a line that spells a molfile's registration starts one
+starts : (line : List ℕ) (command : Command) (id : ℕ) → command ≡ RegisterMol id → Spells line (command_of command) → StartsMolfile line
+starts line command id is spells = let s : Spells line (command_of (RegisterMol id)) = rw is at spells in inr (decimal id, s.1)
+
+pub unreachable-requires : goal.unreachable-requires
+unreachable-requires c = c.requires.2 (starts c.requires.0 _ _ c.in-RegisterMol.is c.requires.1)
 
 pub returns-in-Register-clause-ok : goal.returns-in-Register-clause-ok
 returns-in-Register-clause-ok c =
