@@ -8,11 +8,12 @@ ghost use Rattle.shell_lang.specs.declared.reply.Reply.{Reply};
 ghost use Rattle.shell_lang.specs.declared.reply.Reply.TheVariants.{Hit, Refused};
 ghost use Rattle.shell_lang.specs.declared.reply.Refusal.TheVariants.{Pattern};
 ghost use Rattle.smarts_parse.specs.declared.fault.SmartsFault.TheVariants.{NoMemory};
+ghost use Rattle.chem_shell.specs.declared.store.TheConstants.{MOST_COMMITS};
 ghost use Rattle.chem_shell.specs.Answer.{Answers, RegisterAnswer, SearchAnswer};
 ghost use Rattle.chem_shell.specs.Answered.{AnswersRequest};
 ghost use Rattle.chem_shell.specs.Requests.{molfile_text};
 
-use crate::store::{CommitFault, MOST_COMMITS, Store};
+use crate::store::{CommitFault, Store};
 use matcher::Scratch;
 use mol_finish::{Format, TextFault, structure};
 use shell_lang::{Command, LineRefusal, Refusal, Reply, read_command, reply_text};

@@ -1,8 +1,8 @@
 //! The words of the command line.
-ghost use Rattle.std.specs.Prelude.{◌≡◌, ◌≢◌, ℕ, [], None, map, option_map, IfOk, IfSome, IfNone, IsErrOf};
-ghost use Rattle.clap.specs.Words.{app_of, fault_of, found_of, matches_of, rows_of};
+ghost use Rattle.std.specs.Prelude.{◌≡◌, ◌≢◌, ℕ, [], None, false, map, option_map, IfOk, IfSome, IfNone, IsErrOf};
+ghost use Rattle.clap.specs.Words.{app_of, fault_of, found_of, matches_of, rows_of, rule_of};
 ghost use Rattle.chem_shell.specs.declared.request.Plan.{Plan as ThePlan};
-ghost use Rattle.chem_shell.specs.Words.{chemdb_app, Asks, AsksFor, IsMem, IsSetting};
+ghost use Rattle.chem_shell.specs.Words.{chemdb_app, option_rule, Asks, AsksFor, IsMem, IsSetting};
 
 use crate::request::{Plan, PlanFault, Verb};
 use crate::store::MOST_COMMITS;
@@ -29,18 +29,23 @@ fn command<'w>(alloc: Global) -> Result<Command<'w>, AllocError>
 {
     let command = Arg::new(alloc, "command").required(true);
     let args = Arg::new(alloc, "args").num_args(..);
-    let workers = Arg::new(alloc, "workers").long("workers");
-    let page = Arg::new(alloc, "page").long("page");
-    let commits = Arg::new(alloc, "commits").long("commits");
     Command::new(alloc, "chemdb")
         .no_binary_name(true)
         .disable_help_flag(true)
         .disable_version_flag(true)
         .arg(command)?
         .arg(args)?
-        .arg(workers)?
-        .arg(page)?
-        .arg(commits)
+        .arg(option(alloc, "workers"))?
+        .arg(option(alloc, "page"))?
+        .arg(option(alloc, "commits"))
+}
+
+/// An option of one value, by its long name.
+fn option<'w>(alloc: Global, name: &'w str) -> Arg<'w>
+    ensures rule { rule_of result ≡ option_rule name.now }
+    ensures local { result.global ≡ false }
+{
+    Arg::new(alloc, name).long(name)
 }
 
 /// What that command finds in the words.

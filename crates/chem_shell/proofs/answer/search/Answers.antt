@@ -1,11 +1,10 @@
-use Rattle.std.proofs.Common.{◌≡◌, ℕ, length, List, [], ◌∷◌, ◌++◌, map, refl, sym, ap, ◌∙◌, inl, inr, Err, append_assoc, append-nil}
+use Rattle.std.proofs.Common.{◌≡◌, ℕ, length, List, [], ◌∷◌, ◌++◌, map, refl, sym, ap, ◌∙◌, inl, inr, append_assoc, append-nil}
 use Rattle.std.proofs.lemmas.Result.{on_ok_weaker}
 use Rattle.std.proofs.lemmas.Grind.{flat_map-append}
 use Rattle.smarts_parse.specs.Pattern.{pattern_of}
 use Rattle.shell_lang.specs.declared.reply.Reply.{Reply}
 use Rattle.shell_lang.specs.declared.reply.Reply.TheVariants.{Hit, End, Refused}
-use Rattle.shell_lang.specs.declared.reply.Refusal.TheVariants.{NotYet, Pattern}
-use Rattle.smarts_parse.specs.declared.fault.SmartsFault.TheVariants.{Syntax}
+use Rattle.shell_lang.specs.declared.reply.Refusal.TheVariants.{Pattern}
 use Rattle.shell_lang.specs.Reply.{text_of, reply_line}
 use Rattle.chem_shell.proofs.answer.search.Goals as goal
 
