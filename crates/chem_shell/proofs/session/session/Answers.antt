@@ -1,7 +1,8 @@
-use Rattle.std.proofs.Common.{◌≡◌, ◌∙◌, Result, ap, Err, arith}
+use Rattle.std.proofs.Common.{◌≡◌, ◌∙◌, ℕ, Result, ap, subst, Err, arith}
 use Rattle.std.proofs.lemmas.Result.{err_from_is_err_and}
 use Rattle.chem_shell.proofs.SessionLemmas.{IsUnderWay-start, IsUnderWay-request, prefix_unmoved, prefix_after_fault, prefix_after_nothing, whole_at_end, takes_all, Rose-since}
 use Rattle.chem_shell.specs.declared.session.SessionFault.{SessionFault}
+use Rattle.chem_shell.specs.Turn.{TurnPuts}
 use Rattle.chem_shell.proofs.session.session.Goals as goal
 
 -- the fault that is handed on
@@ -24,8 +25,11 @@ loop-responder-init g c = record {
 
 pub returns-in_err-turn-clause-prefix : goal.returns-in_err-turn-clause-prefix
 returns-in_err-turn-clause-prefix g c =
+    let puts = subst (λ (commits : ℕ). TurnPuts commits (Err c.in_err-turn.field-0.0) c.loop-responder.responder.store c.turn.new.responder.store
+    c.loop-responder.lines c.turn.new.lines (g.S.Source.left c.loop-responder.source) (g.S.Source.left c.turn.new.source)
+    (g.K.Sink.written c.loop-responder.sink) (g.K.Sink.written c.turn.new.sink)) c.loop-responder.invariant.limit c.in_err-turn.ensures.puts in
     let b = c.in_err-turn.ensures.bytes in
-    prefix_after_fault _ _ _ _ _ _ _ c.loop-responder.lines c.turn.new.lines c.loop-responder.responder.store c.turn.new.responder.store b.0 c.in_err-turn.field-0.0 b.1 (rw c.loop-responder.invariant.limit at c.in_err-turn.ensures.puts) c.loop-responder.invariant.under_way
+    prefix_after_fault _ _ _ _ _ _ _ c.loop-responder.lines c.turn.new.lines c.loop-responder.responder.store c.turn.new.responder.store b.0 c.in_err-turn.field-0.0 b.1 puts c.loop-responder.invariant.under_way
 
 pub returns-in_err-turn-clause-source_fault : goal.returns-in_err-turn-clause-source_fault
 returns-in_err-turn-clause-source_fault g c = λ e.

@@ -1,4 +1,4 @@
-use Rattle.std.proofs.Common.{refl, ◌∙◌, inl, inr}
+use Rattle.std.proofs.Common.{refl, ap, ◌∙◌, inl, inr, Err}
 use Rattle.std.proofs.lemmas.Bool.{eqb-false}
 use Rattle.chem_shell.specs.Ends.{with_status, IsServed}
 use Rattle.chem_shell.specs.Status.{IsEndStatus}
@@ -15,6 +15,12 @@ returns-in-Err-Usage-clause-sink_fault g c = zip_mapped _ (with_status 2) (λ e 
 
 pub returns-in-Err-Usage-clause-input_too_long : goal.returns-in-Err-Usage-clause-input_too_long
 returns-in-Err-Usage-clause-input_too_long g c = zip_mapped _ (with_status 2) (λ e q. absurd (eqb-false 2 9 refl q)) _ _ c.unserved.ensures.ends
+
+pub returns-in-Err-Usage-clause-mem_prefix : goal.returns-in-Err-Usage-clause-mem_prefix
+returns-in-Err-Usage-clause-mem_prefix g c = λ plan asks. absurd (c.in-Err-Usage.ensures.usage (ap Err c.in-Err-Usage.field-0-is) (plan, asks))
+
+pub returns-in-Err-Usage-clause-mem_all : goal.returns-in-Err-Usage-clause-mem_all
+returns-in-Err-Usage-clause-mem_all g c = λ plan asks. absurd (c.in-Err-Usage.ensures.usage (ap Err c.in-Err-Usage.field-0-is) (plan, asks))
 
 pub returns-in-Err-NoMemory-clause-statuses : goal.returns-in-Err-NoMemory-clause-statuses
 returns-in-Err-NoMemory-clause-statuses g c = λ asks. all_mapped (λ end. IsEndStatus end.status) (with_status 8) (λ e. inr (inr (inr (inl refl)))) _ _ c.unserved-in-Err-NoMemory.ensures.ends
