@@ -305,41 +305,50 @@ fn faults_of_the_ends(rt: HostRuntime) -> Result<(), Fail> {
     Ok(())
 }
 
-// The status of the words, and what was put, where the script registers one structure.
+// The status of the words, and what was put, where the script registers a structure, the same again and another.
 #[test]
 fn words_and_statuses(rt: HostRuntime) -> Result<(), Fail> {
     let alloc = rt.alloc();
-    let rows: [(&[&str], u8); 24] = [
-        (&["mem"], 0),
-        (&["mem", "--page", "3"], 0),
-        (&["mem", "--page=256"], 0),
-        (&["--page", "3", "mem"], 0),
-        (&["mem", "--workers", "16", "--page=1"], 0),
-        (&["mem", "--"], 0),
-        (&[], 2),
-        (&[""], 2),
-        (&["Mem"], 2),
-        (&["mem", "x"], 2),
-        (&["mem", "--", "x"], 2),
-        (&["mem", "mem"], 2),
-        (&["init", "f"], 2),
-        (&["bulk", "0", "1"], 2),
-        (&["mem", "--workers", "17"], 2),
-        (&["mem", "--workers=0"], 2),
-        (&["mem", "--page", "257"], 2),
-        (&["mem", "--page", "0"], 2),
-        (&["mem", "--page", "01"], 2),
-        (&["mem", "--page="], 2),
-        (&["mem", "--page"], 2),
-        (&["mem", "--page", "3", "--page", "3"], 2),
-        (&["mem", "--commits", "5"], 2),
-        (&["mem", "--help"], 2),
+    let script = b"register 1 C\nregister 1 C\nregister 2 C\n";
+    let all = "ok 1\nrefused known\nok 2\n";
+    let rows: [(&[&str], u8, &str); 28] = [
+        (&["mem"], 0, all),
+        (&["mem", "--page", "3"], 0, all),
+        (&["mem", "--page=256"], 0, all),
+        (&["--page", "3", "mem"], 0, all),
+        (&["mem", "--workers", "16", "--page=1"], 0, all),
+        (&["mem", "--"], 0, all),
+        (&["mem", "--commits", "16777215"], 0, all),
+        (
+            &["mem", "--commits", "1"],
+            0,
+            "ok 1\nrefused known\nrefused full\n",
+        ),
+        (&[], 2, ""),
+        (&[""], 2, ""),
+        (&["Mem"], 2, ""),
+        (&["mem", "x"], 2, ""),
+        (&["mem", "--", "x"], 2, ""),
+        (&["mem", "mem"], 2, ""),
+        (&["init", "f"], 2, ""),
+        (&["bulk", "0", "1"], 2, ""),
+        (&["mem", "--workers", "17"], 2, ""),
+        (&["mem", "--workers=0"], 2, ""),
+        (&["mem", "--page", "257"], 2, ""),
+        (&["mem", "--page", "0"], 2, ""),
+        (&["mem", "--page", "01"], 2, ""),
+        (&["mem", "--page="], 2, ""),
+        (&["mem", "--page"], 2, ""),
+        (&["mem", "--page", "3", "--page", "3"], 2, ""),
+        (&["mem", "--commits", "0"], 2, ""),
+        (&["mem", "--commits", "16777216"], 2, ""),
+        (&["mem", "--commits", "x"], 2, ""),
+        (&["mem", "--help"], 2, ""),
     ];
-    for (words, status) in rows {
-        let ends = ends_over(alloc, b"register 1 C\n", 1000, &[], &[])?;
+    for (words, status, put) in rows {
+        let ends = ends_over(alloc, script, 1000, &[], &[])?;
         let outcome = chemdb(&rt, alloc, words, (), (), ends);
         assert_eq!(rt; outcome.status, status, "at {words:?}");
-        let put = if status == 0 { "ok 1\n" } else { "" };
         assert_eq!(rt; put_by(&outcome), put.as_bytes(), "at {words:?}");
     }
     Ok(())

@@ -21,21 +21,22 @@ none_long line molfile none c =
       first (zero, lt, e) = cc
       first (suc n, lt, e) = omega (arith, lt)
 
--- a line that takes no molfile
-pub line_answered : (h h' : History) (line : List ℕ) (replies : List Reply) (text : List ℕ) (read : Result Command LineRefusal) → ¬ StartsMolfile line → IsLine line read → Answers h read replies h' → text ≡ text_of replies
-    → AnswersRequest h (record { line = Whole line; molfile = [] }) text h'
-line_answered h h' line replies text read none is answers e = (replies, inr (none_long line [] (λ c. omega (arith, c.1)), line, refl, (read, is, inl (none, answers))), e)
-
--- a request with a long line
-pub long_answered : (h : History) (request : Request) (text : List ℕ) → IsLong request → text ≡ text_of (Refused Long ∷ []) → AnswersRequest h request text h
-long_answered h request text long e = (Refused Long ∷ [], inl (long, refl, refl), e)
-
--- a line that takes a molfile
-pub molfile_answered : (h h' : History) (line : List ℕ) (molfile : List TextLine) (reply : Reply) (text : List ℕ) (read : Result Command LineRefusal) → StartsMolfile line → IsLine line read → ¬ Contains molfile TooLong
-    → MolfileAnswer h read (molfile_text molfile) reply h' → text ≡ text_of (reply ∷ []) → AnswersRequest h (record { line = Whole line; molfile = molfile }) text h'
-molfile_answered h h' line molfile reply text read starts is none answers e =
-    (reply ∷ [], inr (none_long line molfile none, line, refl, (read, is, inr (starts, reply, refl, answers))), e)
-
 -- a molfile with a long line
 pub long_molfile : (line : List ℕ) (molfile : List TextLine) → Contains molfile TooLong → IsLong (record { line = Whole line; molfile = molfile })
 long_molfile line molfile c = Contains-append_right (Whole line ∷ []) molfile TooLong c
+
+module _ (commits : ℕ) where
+  -- a line that takes no molfile
+  pub line_answered : (h h' : History) (line : List ℕ) (replies : List Reply) (text : List ℕ) (read : Result Command LineRefusal) → ¬ StartsMolfile line → IsLine line read → Answers commits h read replies h' → text ≡ text_of replies
+      → AnswersRequest commits h (record { line = Whole line; molfile = [] }) text h'
+  line_answered h h' line replies text read none is answers e = (replies, inr (none_long line [] (λ c. omega (arith, c.1)), line, refl, (read, is, inl (none, answers))), e)
+
+  -- a request with a long line
+  pub long_answered : (h : History) (request : Request) (text : List ℕ) → IsLong request → text ≡ text_of (Refused Long ∷ []) → AnswersRequest commits h request text h
+  long_answered h request text long e = (Refused Long ∷ [], inl (long, refl, refl), e)
+
+  -- a line that takes a molfile
+  pub molfile_answered : (h h' : History) (line : List ℕ) (molfile : List TextLine) (reply : Reply) (text : List ℕ) (read : Result Command LineRefusal) → StartsMolfile line → IsLine line read → ¬ Contains molfile TooLong
+      → MolfileAnswer commits h read (molfile_text molfile) reply h' → text ≡ text_of (reply ∷ []) → AnswersRequest commits h (record { line = Whole line; molfile = molfile }) text h'
+  molfile_answered h h' line molfile reply text read starts is none answers e =
+      (reply ∷ [], inr (none_long line molfile none, line, refl, (read, is, inr (starts, reply, refl, answers))), e)

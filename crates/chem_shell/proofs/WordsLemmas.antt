@@ -1,8 +1,11 @@
 -- Options, and settings, in other words.
-use Rattle.std.proofs.Common.{◌≡◌, ◌<◌, ◌^◌, ◌∙◌, ℕ, List, Option, Some, None, is_some, false, refl, sym, ap, arith, decimal, option_map, Result}
+use Rattle.std.proofs.Common.{◌≡◌, ◌<◌, ◌≤◌, ◌^◌, ◌∙◌, ℕ, List, Option, Some, None, is_some, false, refl, sym, ap, arith, codes, decimal, option_map, Result}
 use Rattle.std.specs.Prelude.{IfOk, IfSome, IfNone, ok_or, unwrap_or}
 use Rattle.std.proofs.lemmas.Fmt.{decimal_injective}
-use Rattle.chem_shell.specs.Words.{IsSetting}
+use Rattle.clap.specs.Words.{Text, first_of, matches_of}
+use Rattle.chem_shell.specs.declared.request.Plan.{Plan}
+use Rattle.chem_shell.specs.declared.store.TheConstants.{MOST_COMMITS}
+use Rattle.chem_shell.specs.Words.{AsksFor, IsSetting, chemdb_app}
 
 pub none_of_image : {X Y : Type 0} (f : X → Y) (o : Option X) (v : Option Y) → option_map f o ≡ v → v ≡ None → is_some o ≡ false
 none_of_image f None v same none = refl
@@ -34,3 +37,21 @@ none_holds (Some x) A h = tt
 
 pub some_same : {X : Type 0} (x y : X) → Some x ≡ Some y → x ≡ y
 some_same x y same = ap (λ o. unwrap_or o x) same
+
+-- an option gives one number
+pub one_setting : (o : Option Text) (most default n m : ℕ) → most < 2 ^ 32 → IsSetting o most default n → IsSetting o most default m → n ≡ m
+one_setting None most default n m small a b = a ∙ sym b
+one_setting (Some text) most default n m small a b =
+    decimal_injective n m (omega (arith, a.2, small)) (omega (arith, b.2, small)) (sym a.0 ∙ b.0)
+
+-- the words ask for one number of commits
+pub one_limit : (words : List Text) (p q : Plan) → AsksFor words p → AsksFor words q → p.commits ≡ q.commits
+one_limit words p q a b =
+    one_setting (first_of (codes "commits") (matches_of chemdb_app words)) 16777215 16777215 p.commits q.commits (omega arith) a.row.commits b.row.commits
+
+-- which is no more than any store may have
+pub few_commits : (words : List Text) (p : Plan) → AsksFor words p → p.commits ≤ MOST_COMMITS
+few_commits words p a = few (first_of (codes "commits") (matches_of chemdb_app words)) a.row.commits where
+  few : (o : Option Text) → IsSetting o 16777215 16777215 p.commits → p.commits ≤ 16777215
+  few None e = omega (arith, e)
+  few (Some text) s = s.2

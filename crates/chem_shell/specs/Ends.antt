@@ -11,11 +11,12 @@ use Rattle.chem_shell.specs.Status.{IsEndStatus}
 abbrev pub with_status : {S K : Type 0} → ℕ → End S K → End S K
 with_status status end = record end { status = status }
 
--- What serving an end by a session over an empty store leaves of it. What a source has left and a sink was given, and their counts of faults, are told by the four functions.
-pub record IsServed {S K : Type 0} (left : S → Option (List ℕ)) (source_faults : S → ℕ) (written : K → Option (List ℕ)) (sink_faults : K → ℕ) (old new : End S K) : Type 0 where
+-- What serving an end by a session over an empty store, which may have so many commits, leaves of it. What a source has
+-- left and a sink was given, and their counts of faults, are told by the four functions.
+pub record IsServed {S K : Type 0} (commits : ℕ) (left : S → Option (List ℕ)) (source_faults : S → ℕ) (written : K → Option (List ℕ)) (sink_faults : K → ℕ) (old new : End S K) : Type 0 where
   pub status : IsEndStatus new.status
-  pub prefix : WritesPrefix (left old.source) (written old.sink) (written new.sink)
-  pub all : new.status ≡ DONE → WritesAll (left old.source) (written old.sink) (written new.sink)
+  pub prefix : WritesPrefix commits (left old.source) (written old.sink) (written new.sink)
+  pub all : new.status ≡ DONE → WritesAll commits (left old.source) (written old.sink) (written new.sink)
   pub source_fault : new.status ≡ SOURCE_FAULT → Rose (source_faults old.source) (source_faults new.source)
   pub sink_fault : new.status ≡ SINK_FAULT → Rose (sink_faults old.sink) (sink_faults new.sink)
   pub input_too_long : new.status ≡ INPUT_TOO_LONG → TakesExactly (left old.source) (left new.source) INPUT_LIMIT

@@ -1,4 +1,4 @@
--- What one turn of a session does: the next request is read and answered.
+-- What one turn of a session does: the next request is read and answered, over a store that may have so many commits.
 use Rattle.std.specs.Prelude.{◌≡◌, ◌≤◌, ℕ, IsTrue, Bool, true, false, Option, Some, Result, Ok, Err, List, []}
 use Rattle.std.specs.Io.KnownBytes.{Appends}
 use Rattle.io_edge.specs.Sink.{AppendsPrefix}
@@ -42,10 +42,13 @@ abbrev pub TakesNone : Reading → Option (List ℕ) → Type 0
 TakesNone old before = (l : List ℕ) → before ≡ Some l → (IsTrue old.ended → l ≡ []) → lines_left old l ≡ []
 
 -- What a turn put, by its answer: the reply to the next request, or a prefix of it, or nothing.
-abbrev pub TurnPuts : Result Bool SessionFault → History → History → Reading → Reading → Option (List ℕ) → Option (List ℕ) → Option (List ℕ) → Option (List ℕ) → Type 0
-TurnPuts (Ok true) h h' old new before after put put' =
-    (request : Request) × (text : List ℕ) × TakesRequest old new before after request × AnswersRequest h request text h' × Appends put put' text
-TurnPuts (Ok false) h h' old new before after put put' = TakesNone old before × Appends put put' []
-TurnPuts (Err Sink) h h' old new before after put put' =
-    (request : Request) × (text : List ℕ) × TakesRequest old new before after request × AnswersRequest h request text h' × AppendsPrefix put put' text
-TurnPuts (Err _) h h' old new before after put put' = Appends put put' []
+abbrev pub TurnPuts : ℕ → Result Bool SessionFault → History → History → Reading → Reading
+    → Option (List ℕ) → Option (List ℕ) → Option (List ℕ) → Option (List ℕ) → Type 0
+TurnPuts commits (Ok true) h h' old new before after put put' =
+    (request : Request) × (text : List ℕ) × TakesRequest old new before after request
+    × AnswersRequest commits h request text h' × Appends put put' text
+TurnPuts commits (Ok false) h h' old new before after put put' = TakesNone old before × Appends put put' []
+TurnPuts commits (Err Sink) h h' old new before after put put' =
+    (request : Request) × (text : List ℕ) × TakesRequest old new before after request
+    × AnswersRequest commits h request text h' × AppendsPrefix put put' text
+TurnPuts commits (Err _) h h' old new before after put put' = Appends put put' []

@@ -22,7 +22,7 @@ option_rule name = record (new_rule name) { long = Some name }
 abbrev pub chemdb_app : App
 chemdb_app = record {
   top = record (new_shape (codes "chemdb")) {
-    rules = command_rule ∷ args_rule ∷ option_rule (codes "workers") ∷ option_rule (codes "page") ∷ [];
+    rules = command_rule ∷ args_rule ∷ option_rule (codes "workers") ∷ option_rule (codes "page") ∷ option_rule (codes "commits") ∷ [];
     no_binary_name = true;
     disable_help_flag = true;
     disable_version_flag = true;
@@ -35,14 +35,14 @@ abbrev pub IsSetting : Option Text → ℕ → ℕ → ℕ → Type 0
 IsSetting None most default n = n ≡ default
 IsSetting (Some text) most default n = (text ≡ decimal n) × (1 ≤ n) × (n ≤ most)
 
--- `mem`: no args, 1 to 16 workers, pages of 1 to 256 records, one end
+-- `mem`: no args, 1 to 16 workers, pages of 1 to 256 records, 1 to 16,777,215 commits, one end
 pub record IsMem (found : List Row) (plan : Plan) : Type 0 where
   pub args : all_of (codes "args") found ≡ None
   pub workers : IsSetting (first_of (codes "workers") found) 16 1 plan.workers
   pub page : IsSetting (first_of (codes "page") found) 256 256 plan.page
+  pub commits : IsSetting (first_of (codes "commits") found) 16777215 16777215 plan.commits
   pub command : plan.command ≡ Mem
   pub ends : plan.ends ≡ 1
-  pub commits : plan.commits ≡ 16777215
   pub file : plan.file ≡ None
   pub scripts : plan.scripts.items ≡ []
   pub seed : plan.seed ≡ 0

@@ -1,5 +1,5 @@
 //! What a line is answered.
-ghost use Rattle.std.specs.Prelude.{◌≡◌, ◌≢◌, ◌↔◌, [], ◌++◌, IfOk, OnOk, OnErr, Ok, IsTrue, Contains, ℕ, List, map};
+ghost use Rattle.std.specs.Prelude.{◌≡◌, ◌≢◌, ◌≤◌, ◌↔◌, [], ◌++◌, IfOk, OnOk, OnErr, Ok, IsTrue, Contains, ℕ, List, map};
 ghost use Rattle.io_edge.specs.Lines.{TextLine, Whole, TooLong};
 ghost use Rattle.shell_lang.specs.Command.{IsIdentifier, Spells, StartsMolfile, IsLine, registration_of};
 ghost use Rattle.shell_lang.specs.CommandView.{command_of, reading_of};
@@ -8,6 +8,7 @@ ghost use Rattle.shell_lang.specs.declared.reply.Reply.{Reply};
 ghost use Rattle.shell_lang.specs.declared.reply.Reply.TheVariants.{Hit, Refused};
 ghost use Rattle.shell_lang.specs.declared.reply.Refusal.TheVariants.{Pattern};
 ghost use Rattle.smarts_parse.specs.declared.fault.SmartsFault.TheVariants.{NoMemory};
+ghost use Rattle.chem_shell.specs.declared.store.TheConstants.{MOST_COMMITS};
 ghost use Rattle.chem_shell.specs.Answer.{Answers, RegisterAnswer, SearchAnswer};
 ghost use Rattle.chem_shell.specs.Answered.{AnswersRequest};
 ghost use Rattle.chem_shell.specs.Requests.{molfile_text};
@@ -19,23 +20,29 @@ use shell_lang::{Command, LineRefusal, Refusal, Reply, read_command, reply_text}
 use smarts_parse::{SmartsFault, parse};
 use std::alloc::{AllocError, Global};
 
-/// What answers lines: the store, and buffers that are reused for each line.
+/// What answers lines: the store, how many commits it may have, and buffers that are reused for each line.
 #[derive(Drop)]
 pub struct Responder {
     pub store: Store,
+    /// The most commits that the store may have, 1 to `MOST_COMMITS`.
+    pub commits: u32,
     scratch: Scratch,
     /// The text of the molfile that the request under way has.
     pub molfile: Vec<u8>,
     pub out: Vec<u8>,
+    ghost few: { commits ≤ MOST_COMMITS },
 }
 
 impl Responder {
-    /// An empty store. Takes the memory for matching.
-    pub fn new(alloc: Global) -> Result<Responder, AllocError>
-        ensures { IfOk result (λ responder. responder.store ≡ []) }
+    /// An empty store, which may have so many commits. Takes the memory for matching.
+    pub fn new(alloc: Global, commits: u32) -> Result<Responder, AllocError>
+        requires { commits ≤ MOST_COMMITS }
+        ensures store { IfOk result (λ responder. responder.store ≡ []) }
+        ensures limit { IfOk result (λ responder. responder.commits ≡ commits) }
     {
         Ok(Responder {
             store: Store::new(alloc),
+            commits,
             scratch: Scratch::reserve(alloc)?,
             molfile: Vec::new(alloc),
             out: Vec::new(alloc),
@@ -44,8 +51,9 @@ impl Responder {
 
     /// Answers a line that is too long; the answer is then in `out`. An `Err` leaves the store as it was.
     pub fn refuse_long(&mut self) -> Result<(), AllocError>
-        ensures ok { OnOk result (AnswersRequest self.old.store (record { line = TooLong; molfile = [] }) self.new.out.items self.new.store) }
+        ensures ok { OnOk result (AnswersRequest self.old.commits self.old.store (record { line = TooLong; molfile = [] }) self.new.out.items self.new.store) }
         ensures err { OnErr result (self.new.store ≡ self.old.store) }
+        ensures limit { self.new.commits ≡ self.old.commits }
     {
         self.out.clear();
         reply_text(Reply::Refused(Refusal::Long), &mut self.out)
@@ -55,7 +63,8 @@ impl Responder {
     pub fn answer(&mut self, alloc: Global, line: &[u8]) -> Result<(), AllocError>
         requires { ¬ StartsMolfile line.now }
         ensures err { OnErr result (self.new.store ≡ self.old.store) }
-        ensures ok { OnOk result (AnswersRequest self.old.store (record { line = Whole line.now; molfile = [] }) self.new.out.items self.new.store) }
+        ensures limit { self.new.commits ≡ self.old.commits }
+        ensures ok { OnOk result (AnswersRequest self.old.commits self.old.store (record { line = Whole line.now; molfile = [] }) self.new.out.items self.new.store) }
     {
         self.out.clear();
         match read_command(line) {
@@ -74,9 +83,10 @@ impl Responder {
     ) -> Result<(), AllocError>
         requires { (line : List ℕ) × StartsMolfile line × IsLine line (registration_of read) }
         ensures err { OnErr result (self.new.store ≡ self.old.store) }
+        ensures limit { self.new.commits ≡ self.old.commits }
         ensures ok { OnOk result ((line : List ℕ) (molfile : List TextLine) → StartsMolfile line → IsLine line (registration_of read)
             → self.old.molfile.items ≡ molfile_text molfile → (IsTrue is_long ↔ Contains molfile TooLong)
-            → AnswersRequest self.old.store (record { line = Whole line; molfile = molfile }) self.new.out.items self.new.store) }
+            → AnswersRequest self.old.commits self.old.store (record { line = Whole line; molfile = molfile }) self.new.out.items self.new.store) }
     {
         let out = &mut self.out;
         out.clear();
@@ -86,6 +96,7 @@ impl Responder {
         match read {
             Ok(id) => register(
                 alloc,
+                self.commits,
                 &mut self.store,
                 Format::Molfile,
                 id,
@@ -99,15 +110,24 @@ impl Responder {
     // Answers a command, behind what stands in `out`. An `Err` leaves the store as it was.
     fn execute(&mut self, alloc: Global, command: Command<'_>) -> Result<(), AllocError>
         requires { (line : List ℕ) × Spells line (command_of command) × ¬ StartsMolfile line }
-        ensures ok { OnOk result ((replies : List Reply) × Answers self.old.store (reading_of (Ok command.entry)) replies self.new.store
+        ensures ok { OnOk result ((replies : List Reply) × Answers self.old.commits self.old.store (reading_of (Ok command.entry)) replies self.new.store
             × (self.new.out.items ≡ self.old.out.items ++ text_of replies)) }
         ensures err { OnErr result (self.new.store ≡ self.old.store) }
+        ensures limit { self.new.commits ≡ self.old.commits }
     {
         let out = &mut self.out;
         match command {
             Command::Empty => Ok(()),
             Command::Register { id, text } => {
-                register(alloc, &mut self.store, Format::Smiles, id, text, out)
+                register(
+                    alloc,
+                    self.commits,
+                    &mut self.store,
+                    Format::Smiles,
+                    id,
+                    text,
+                    out,
+                )
             }
             Command::Search { pattern } => {
                 search(alloc, &self.store, &mut self.scratch, pattern, out)
@@ -126,18 +146,20 @@ impl Responder {
     }
 }
 
-/// Registers the structure of a text under an identifier, or says why not. The reply's room is taken before the commit,
-/// so an `Err` leaves the store as it was.
+/// Registers the structure of a text under an identifier in a store that may have so many commits, or says why not. The
+/// reply's room is taken before the commit, so an `Err` leaves the store as it was.
 fn register(
     alloc: Global,
+    commits: u32,
     store: &mut Store,
     format: Format,
     id: u32,
     text: &[u8],
     out: &mut Vec<u8>,
 ) -> Result<(), AllocError>
-    requires { IsIdentifier id }
-    ensures ok { OnOk result ((reply : Reply) × RegisterAnswer store.old format id text.now reply store.new
+    requires few { commits ≤ MOST_COMMITS }
+    requires id { IsIdentifier id }
+    ensures ok { OnOk result ((reply : Reply) × RegisterAnswer commits store.old format id text.now reply store.new
         × (out.new.items ≡ out.old.items ++ reply_line reply)) }
     ensures err { OnErr result (store.new ≡ store.old) }
 {
@@ -155,7 +177,7 @@ fn register(
     let len = out.len();
     let version = store.version() + 1;
     reply_text(Reply::Accepted { version }, out)?;
-    match store.register(alloc, format, id, text, mol) {
+    match store.register(alloc, commits, format, id, text, mol) {
         Ok(_) => Ok(()),
         Err(CommitFault::Known) => {
             out.truncate(len);

@@ -12,6 +12,7 @@ ghost use Rattle.chem_shell.specs.History.{History};
 ghost use Rattle.chem_shell.specs.Transcript.{IsTranscript};
 
 use crate::answer::Responder;
+use crate::store::MOST_COMMITS;
 use io_edge::{Line, LineFault, Lines, PutFault, Sink, Source};
 use shell_lang::{ends_molfile, molfile_registration};
 use std::alloc::{AllocError, Global};
@@ -69,9 +70,10 @@ impl From<PutFault> for SessionFault {
     }
 }
 
-/// A law: from a history on, the lines of a script have one transcript.
+/// A law: from a history on, the lines of a script have one transcript at each number of commits that a store may have.
 pub fn one_transcript()
-    ensures { (h : History) (lines : List TextLine) (s t : List ℕ) → IsTranscript h lines s → IsTranscript h lines t → s ≡ t }
+    ensures { (commits : ℕ) (h : History) (lines : List TextLine) (s t : List ℕ)
+        → IsTranscript commits h lines s → IsTranscript commits h lines t → s ≡ t }
 {
     shell_lang::one_reading();
     mol_finish::one_answer();
@@ -118,8 +120,9 @@ fn answer_next<S: Source>(
     responder: &mut Responder,
     source: &mut S,
 ) -> Result<bool, SessionFault>
+    ensures limit { responder.new.commits ≡ responder.old.commits }
     ensures some { result ≡ Ok true → (request : Request) × TakesRequest lines.old lines.new (S.left source.old) (S.left source.new) request
-        × AnswersRequest responder.old.store request responder.new.out.items responder.new.store }
+        × AnswersRequest responder.old.commits responder.old.store request responder.new.out.items responder.new.store }
     ensures none { result ≡ Ok false → TakesNone lines.old (S.left source.old) }
     ensures bytes { (got : List ℕ) × Leaves (S.left source.old) got (S.left source.new) × Counts lines.old got lines.new }
     ensures met { (l l' : List ℕ) → S.left source.old ≡ Some l → S.left source.new ≡ Some l'
@@ -158,7 +161,8 @@ fn turn<S: Source, K: Sink>(
     source: &mut S,
     sink: &mut K,
 ) -> Result<bool, SessionFault>
-    ensures puts { TurnPuts result responder.old.store responder.new.store lines.old lines.new (S.left source.old) (S.left source.new) (K.written sink.old) (K.written sink.new) }
+    ensures limit { responder.new.commits ≡ responder.old.commits }
+    ensures puts { TurnPuts responder.old.commits result responder.old.store responder.new.store lines.old lines.new (S.left source.old) (S.left source.new) (K.written sink.old) (K.written sink.new) }
     ensures bytes { (got : List ℕ) × Leaves (S.left source.old) got (S.left source.new) × Counts lines.old got lines.new }
     ensures met { (l l' : List ℕ) → S.left source.old ≡ Some l → S.left source.new ≡ Some l'
         → (IsTrue lines.old.ended → l ≡ []) → IsTrue lines.new.ended → l' ≡ [] }
@@ -177,21 +181,23 @@ fn turn<S: Source, K: Sink>(
     }
 }
 
-/// Answers the requests of a source into a sink, each before more is read, over a store that begins empty. `Ok` where the
-/// input's end was met and every request was answered.
+/// Answers the requests of a source into a sink, each before more is read, over a store that begins empty and may have so
+/// many commits. `Ok` where the input's end was met and every request was answered.
 pub fn session<S: Source, K: Sink>(
     alloc: Global,
+    commits: u32,
     source: &mut S,
     sink: &mut K,
 ) -> Result<(), SessionFault>
-    ensures prefix { WritesPrefix (S.left source.old) (K.written sink.old) (K.written sink.new) }
-    ensures all { OnOk result (WritesAll (S.left source.old) (K.written sink.old) (K.written sink.new)) }
+    requires { commits ≤ MOST_COMMITS }
+    ensures prefix { WritesPrefix commits (S.left source.old) (K.written sink.old) (K.written sink.new) }
+    ensures all { OnOk result (WritesAll commits (S.left source.old) (K.written sink.old) (K.written sink.new)) }
     ensures source_fault { IsErrOf result SessionFault.Source → Rose (S.faults source.old) (S.faults source.new) }
     ensures sink_fault { IsErrOf result SessionFault.Sink → Rose (K.faults sink.old) (K.faults sink.new) }
     ensures too_long { IsErrOf result SessionFault.InputTooLong → TakesExactly (S.left source.old) (S.left source.new) INPUT_LIMIT }
 {
     let mut lines = Lines::new(alloc, INPUT_LIMIT)?;
-    let mut responder = Responder::new(alloc)?;
+    let mut responder = Responder::new(alloc, commits)?;
     while turn(alloc, &mut lines, &mut responder, source, sink)? {}
     Ok(())
 }

@@ -20,8 +20,8 @@ use std::alloc::{AllocError, Global};
 use std::collections::BTreeMap;
 use std::marker::Model;
 
-/// The most commits that a store may have.
-pub const MOST_COMMITS: usize = 16_777_215;
+/// The most commits that any store may have.
+pub const MOST_COMMITS: u32 = 16_777_215;
 
 /// A structure that was registered under an identifier.
 #[derive(Debug, Drop)]
@@ -80,29 +80,31 @@ impl Store {
         self.commits.len() as u32
     }
 
-    /// Registers a structure under an identifier, and answers the version that the commit made. The structure is that of the text.
-    /// An `Err` changes nothing.
+    /// Registers a structure under an identifier in a store that may have so many commits, and answers the version that the
+    /// commit made. The structure is that of the text. An `Err` changes nothing.
     pub fn register(
         &mut self,
         alloc: Global,
+        commits: u32,
         format: Format,
         id: u32,
         text: &[u8],
         mol: Mol,
     ) -> Result<u32, CommitFault>
+        requires few { commits ≤ MOST_COMMITS }
         requires id { IsIdentifier id }
         requires structure { HasMolecule format text.now mol }
         ensures version { IfOk result (λ version. version ≡ length self.old + 1) }
         ensures commit { OnOk result (self.new ≡ self.old ++ Register id format text.now ∷ []) }
-        ensures allowed { OnOk result ((head self.old id ≡ None) × (length self.old < MOST_COMMITS)) }
+        ensures allowed { OnOk result ((head self.old id ≡ None) × (length self.old < commits)) }
         ensures known { IsErrOf result CommitFault.Known ↔ (head self.old id ≢ None) }
-        ensures full { IsErrOf result CommitFault.Full ↔ ((head self.old id ≡ None) × (MOST_COMMITS ≤ length self.old)) }
+        ensures full { IsErrOf result CommitFault.Full ↔ ((head self.old id ≡ None) × (commits ≤ length self.old)) }
         ensures err { OnErr result (self.new ≡ self.old) }
     {
         if self.is_known(id) {
             return Err(CommitFault::Known);
         }
-        if self.version() as usize >= MOST_COMMITS {
+        if self.version() >= commits {
             return Err(CommitFault::Full);
         }
         self.commit(alloc, format, id, text, mol)?;

@@ -1,14 +1,16 @@
 //! The top call: the words, the ends and the disks in, and what became of them out.
-ghost use Rattle.std.specs.Prelude.{◌≡◌, ◌⊎◌, All, length, map};
+ghost use Rattle.std.specs.Prelude.{◌≡◌, ◌≤◌, ◌⊎◌, All, length, map};
 ghost use Rattle.std.specs.List.{AllZip};
 ghost use Rattle.io_edge.specs.Faults.{Rose};
-ghost use Rattle.chem_shell.specs.Words.{Asks};
+ghost use Rattle.chem_shell.specs.declared.request.Plan.{Plan};
+ghost use Rattle.chem_shell.specs.Words.{Asks, AsksFor};
 ghost use Rattle.chem_shell.specs.Served.{WritesPrefix, WritesAll, TakesExactly};
 ghost use Rattle.chem_shell.specs.Ends.{with_status, IsServed};
 ghost use Rattle.chem_shell.specs.Status.{IsEndStatus, first_fault};
 
 use crate::request::PlanFault;
 use crate::session::{INPUT_LIMIT, SessionFault, session};
+use crate::store::MOST_COMMITS;
 use crate::words::plan;
 use io_edge::{Sink, Source};
 use std::alloc::Global;
@@ -68,25 +70,31 @@ impl SessionFault {
     }
 }
 
-/// Serves one end: a session over a store in memory, made by the call.
-fn serve<S: Source + Drop, K: Sink + Drop>(alloc: Global, end: &mut End<S, K>)
-    ensures { IsServed S.left S.faults K.written K.faults end.old end.new }
+/// Serves one end: a session over a store in memory, made by the call, that may have so many commits.
+fn serve<S: Source + Drop, K: Sink + Drop>(alloc: Global, commits: u32, end: &mut End<S, K>)
+    requires { commits ≤ MOST_COMMITS }
+    ensures { IsServed commits S.left S.faults K.written K.faults end.old end.new }
 {
-    match session(alloc, &mut end.source, &mut end.sink) {
+    match session(alloc, commits, &mut end.source, &mut end.sink) {
         Ok(()) => end.status = DONE,
         Err(fault) => end.status = fault.status(),
     }
 }
 
 /// Serves the one end, and answers its status.
-fn serve_one<S: Source + Drop, K: Sink + Drop>(alloc: Global, ends: &mut Vec<End<S, K>>) -> u8
-    requires { length ends.old.items ≡ 1 }
-    ensures served { AllZip (IsServed S.left S.faults K.written K.faults) ends.old.items ends.new.items }
+fn serve_one<S: Source + Drop, K: Sink + Drop>(
+    alloc: Global,
+    commits: u32,
+    ends: &mut Vec<End<S, K>>,
+) -> u8
+    requires few { commits ≤ MOST_COMMITS }
+    requires one_end { length ends.old.items ≡ 1 }
+    ensures served { AllZip (IsServed commits S.left S.faults K.written K.faults) ends.old.items ends.new.items }
     ensures overall { result ≡ first_fault (map (λ end. end.status) ends.new.items) }
     ensures status { IsEndStatus result }
 {
     let end = &mut ends[0];
-    serve(alloc, end);
+    serve(alloc, commits, end);
     ends[0].status
 }
 
@@ -149,18 +157,19 @@ pub fn chemdb<
     ensures sink_fault { AllZip (λ old new. new.status ≡ SINK_FAULT → Rose (K.faults old.sink) (K.faults new.sink)) ends.items result.ends.items }
     ensures input_too_long { AllZip (λ old new. new.status ≡ INPUT_TOO_LONG → TakesExactly (S.left old.source) (S.left new.source) INPUT_LIMIT) ends.items result.ends.items }
 
-    // `mem`: what was written is a prefix of the transcript of the source's bytes, and all of it where the status is 0.
-    ensures mem_prefix { Asks (map (λ w. w.now) words.now)
-        → AllZip (λ old new. WritesPrefix (S.left old.source) (K.written old.sink) (K.written new.sink)) ends.items result.ends.items }
-    ensures mem_all { Asks (map (λ w. w.now) words.now)
-        → AllZip (λ old new. new.status ≡ DONE → WritesAll (S.left old.source) (K.written old.sink) (K.written new.sink)) ends.items result.ends.items }
+    // `mem`: what was written is a prefix of the transcript of the source's bytes over a store that may have the plan's
+    // commits, and all of it where the status is 0.
+    ensures mem_prefix { (plan : Plan) → AsksFor (map (λ w. w.now) words.now) plan
+        → AllZip (λ old new. WritesPrefix plan.commits (S.left old.source) (K.written old.sink) (K.written new.sink)) ends.items result.ends.items }
+    ensures mem_all { (plan : Plan) → AsksFor (map (λ w. w.now) words.now) plan
+        → AllZip (λ old new. new.status ≡ DONE → WritesAll plan.commits (S.left old.source) (K.written old.sink) (K.written new.sink)) ends.items result.ends.items }
 {
-    match plan(alloc, words) {
+    let commits = match plan(alloc, words) {
         Err(PlanFault::Usage) => return unserved(USAGE, a, b, ends),
         Err(PlanFault::NoMemory) => return unserved(NO_MEMORY, a, b, ends),
-        Ok(_) => {}
-    }
-    let status = serve_one(alloc, &mut ends);
+        Ok(plan) => plan.commits,
+    };
+    let status = serve_one(alloc, commits, &mut ends);
     Outcome {
         status,
         place: 0,

@@ -1,10 +1,11 @@
 //! The words of the command line.
-ghost use Rattle.std.specs.Prelude.{◌≡◌, ◌≢◌, ℕ, [], None, map, option_map, IfOk, IfSome, IfNone, IsErrOf};
-ghost use Rattle.clap.specs.Words.{app_of, fault_of, found_of, matches_of, rows_of};
+ghost use Rattle.std.specs.Prelude.{◌≡◌, ◌≢◌, ℕ, [], None, false, map, option_map, IfOk, IfSome, IfNone, IsErrOf};
+ghost use Rattle.clap.specs.Words.{app_of, fault_of, found_of, matches_of, rows_of, rule_of};
 ghost use Rattle.chem_shell.specs.declared.request.Plan.{Plan as ThePlan};
-ghost use Rattle.chem_shell.specs.Words.{chemdb_app, Asks, AsksFor, IsMem, IsSetting};
+ghost use Rattle.chem_shell.specs.Words.{chemdb_app, option_rule, Asks, AsksFor, IsMem, IsSetting};
 
 use crate::request::{Plan, PlanFault, Verb};
+use crate::store::MOST_COMMITS;
 use chem_text::decimal;
 use clap::error::ErrorKind;
 use clap::{Arg, ArgMatches, Command};
@@ -28,16 +29,23 @@ fn command<'w>(alloc: Global) -> Result<Command<'w>, AllocError>
 {
     let command = Arg::new(alloc, "command").required(true);
     let args = Arg::new(alloc, "args").num_args(..);
-    let workers = Arg::new(alloc, "workers").long("workers");
-    let page = Arg::new(alloc, "page").long("page");
     Command::new(alloc, "chemdb")
         .no_binary_name(true)
         .disable_help_flag(true)
         .disable_version_flag(true)
         .arg(command)?
         .arg(args)?
-        .arg(workers)?
-        .arg(page)
+        .arg(option(alloc, "workers"))?
+        .arg(option(alloc, "page"))?
+        .arg(option(alloc, "commits"))
+}
+
+/// An option of one value, by its long name.
+fn option<'w>(alloc: Global, name: &'w str) -> Arg<'w>
+    ensures rule { rule_of result ≡ option_rule name.now }
+    ensures local { result.global ≡ false }
+{
+    Arg::new(alloc, name).long(name)
 }
 
 /// What that command finds in the words.
@@ -63,6 +71,7 @@ fn mem<'w>(alloc: Global, found: &ArgMatches<'w>) -> Option<Plan<'w>>
     }
     let workers = setting(found.get_str("workers"), 16, 1)?;
     let page = setting(found.get_str("page"), 256, 256)?;
+    let commits = setting(found.get_str("commits"), MOST_COMMITS, MOST_COMMITS)?;
     Some(Plan {
         command: Verb::Mem,
         file: None,
@@ -70,7 +79,7 @@ fn mem<'w>(alloc: Global, found: &ArgMatches<'w>) -> Option<Plan<'w>>
         ends: 1,
         workers,
         page,
-        commits: 16_777_215,
+        commits,
         seed: 0,
         count: 0,
     })

@@ -23,9 +23,10 @@ commands
 options of mem
   --workers N  threads for matching, 1 to 16; 1 if left out
   --page N     records in a page, 1 to 256; 256 if left out
+  --commits N  the most commits of the store, 1 to 16777215; 16777215 if left out
 
 Options stand before or behind the command, as --page 3 or --page=3.
-Today they are read and have no effect.
+Today --workers and --page are read and have no effect.
 example: printf 'register 1 CCO\\nsearch CO\\n' | chemdb mem --page=64";
 
 fn main(rt: HostRuntime) -> ExitCode {

@@ -1,4 +1,4 @@
-use Rattle.std.proofs.Common.{◌-◌, ◌≤◌}
+use Rattle.std.proofs.Common.{◌≡◌, ◌-◌, ◌≤◌}
 use Rattle.io_edge.specs.Lines.{done_bytes}
 use Rattle.chem_shell.proofs.SessionLemmas.{IsUnderWay}
 use Rattle.chem_shell.proofs.session.session.Given as goal
@@ -6,7 +6,8 @@ use Rattle.chem_shell.proofs.session.session.Given as goal
 abbrev pub invariant-loop-responder : goal.invariant-loop-responder
 invariant-loop-responder g l =
     record {
-      under_way : IsUnderWay (g.S.Source.left l.fn.source) (g.S.Source.left l.source) (g.K.Sink.written l.fn.sink) (g.K.Sink.written l.sink) l.lines l.responder.store;
+      limit : l.responder.commits ≡ l.fn.commits;
+      under_way : IsUnderWay l.fn.commits (g.S.Source.left l.fn.source) (g.S.Source.left l.source) (g.K.Sink.written l.fn.sink) (g.K.Sink.written l.sink) l.lines l.responder.store;
       source_count : g.S.Source.faults l.fn.source ≤ g.S.Source.faults l.source;
       sink_count : g.K.Sink.faults l.fn.sink ≤ g.K.Sink.faults l.sink;
     }

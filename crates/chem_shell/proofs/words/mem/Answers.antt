@@ -24,18 +24,25 @@ returns-in_err-page-clause-none c =
     let none : (n : ℕ) → IsSetting (option_map (λ t. t.now) c.get_str-2.result) 256 256 n → ⊥ = c.in_err-page.ensures.none in
     none_holds c.from_residual-in_err-page.result _ (λ plan row. none plan.page (subst (λ (o : Option Text). IsSetting o 256 256 plan.page) (sym text) row.page))
 
+pub returns-in_err-commits-clause-none : goal.returns-in_err-commits-clause-none
+returns-in_err-commits-clause-none c =
+    let text = c.get_str-3.ensures ∙ first_value-rows (found_of c.args.found.now) (codes "commits") in
+    let none : (n : ℕ) → IsSetting (option_map (λ t. t.now) c.get_str-3.result) 16777215 16777215 n → ⊥ = c.in_err-commits.ensures.none in
+    none_holds c.from_residual-in_err-commits.result _ (λ plan row. none plan.commits (subst (λ (o : Option Text). IsSetting o 16777215 16777215 plan.commits) (sym text) row.commits))
+
 pub returns-clause-some : goal.returns-clause-some
 returns-clause-some c =
     let none : is_some c.get_raw.result ≡ false = search rules in
     let workers = c.get_str.ensures ∙ first_value-rows (found_of c.args.found.now) (codes "workers") in
     let page = c.get_str-2.ensures ∙ first_value-rows (found_of c.args.found.now) (codes "page") in
+    let commits = c.get_str-3.ensures ∙ first_value-rows (found_of c.args.found.now) (codes "commits") in
     record {
       args = image_of_none _ c.get_raw.result _ (c.get_raw.ensures ∙ raw_values-rows (found_of c.args.found.now) (codes "args")) none;
       workers = subst (λ (o : Option Text). IsSetting o 16 1 c.in_ok-workers.workers) workers c.in_ok-workers.ensures.some;
       page = subst (λ (o : Option Text). IsSetting o 256 256 c.in_ok-page.page) page c.in_ok-page.ensures.some;
+      commits = subst (λ (o : Option Text). IsSetting o 16777215 16777215 c.in_ok-commits.commits) commits c.in_ok-commits.ensures.some;
       command = refl;
       ends = refl;
-      commits = refl;
       file = refl;
       scripts = search rules;
       seed = refl;

@@ -8,8 +8,8 @@ use Rattle.chem_shell.proofs.answer.Responder.answer.Goals as goal
 
 pub returns-in-Err-clause-ok : goal.returns-in-Err-clause-ok
 returns-in-Err-clause-ok c =
-    on_ok_weaker c.refuse.result (λ e. line_answered _ _ _ (Refused NotYet ∷ []) _ (Err c.in-Err.field-0) c.requires c.in-Err.ensures (refl, refl) (rw append-nil (rw c.clear.ensures.items at e))) c.refuse.ensures
+    on_ok_weaker c.refuse.result (λ e. line_answered _ _ _ _ (Refused NotYet ∷ []) _ (Err c.in-Err.field-0) c.requires c.in-Err.ensures (refl, refl) (rw append-nil (rw c.clear.ensures.items at e))) c.refuse.ensures
 
 pub returns-in-Ok-clause-ok : goal.returns-in-Ok-clause-ok
 returns-in-Ok-clause-ok c =
-    on_ok_weaker c.execute.result (λ o. line_answered _ _ _ o.0 _ (Ok (command_of c.in-Ok.command)) c.requires c.in-Ok.ensures o.1 (rw c.clear.ensures.items at o.2)) c.execute.ensures.ok
+    on_ok_weaker c.execute.result (λ o. line_answered _ _ _ _ o.0 _ (Ok (command_of c.in-Ok.command)) c.requires c.in-Ok.ensures o.1 (rw c.clear.ensures.items at o.2)) c.execute.ensures.ok

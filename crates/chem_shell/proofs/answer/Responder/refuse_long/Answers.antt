@@ -6,4 +6,4 @@ use Rattle.chem_shell.proofs.answer.Responder.refuse_long.Goals as goal
 
 pub returns-clause-ok : goal.returns-clause-ok
 returns-clause-ok c =
-    on_ok_weaker c.reply_text.result (λ e. long_answered _ (record { line = TooLong; molfile = [] }) _ (0, omega arith, refl) (rw append-nil (rw c.clear.ensures.items at e))) c.reply_text.ensures.ok
+    on_ok_weaker c.reply_text.result (λ e. long_answered _ _ (record { line = TooLong; molfile = [] }) _ (0, omega arith, refl) (rw append-nil (rw c.clear.ensures.items at e))) c.reply_text.ensures.ok
