@@ -269,7 +269,8 @@ fn push_chain(script: &mut Vec<u8>, words: &[u8], atoms: usize) -> Result<(), Al
     for _ in 0..atoms {
         script.push(b'C')?;
     }
-    script.push(b'\n')
+    script.push(b'\n')?;
+    Ok(())
 }
 
 #[test]
