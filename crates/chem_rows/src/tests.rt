@@ -263,20 +263,25 @@ fn patterns_embed(rt: HostRuntime) -> Result<(), Fail> {
     Ok(())
 }
 
+// Appends a line: words, and a chain of so many carbon atoms.
+fn push_chain(script: &mut Vec<u8>, words: &[u8], atoms: usize) -> Result<(), AllocError> {
+    script.extend_from_slice(words)?;
+    for _ in 0..atoms {
+        script.push(b'C')?;
+    }
+    script.push(b'\n')?;
+    Ok(())
+}
+
 #[test]
 fn long_lines_and_bytes_that_are_no_text(rt: HostRuntime) -> Result<(), Fail> {
     let alloc = rt.alloc();
     let mut script = vec![in alloc; b'x'; 65_537]?;
-    script.extend_from_slice(b"\nregister 1 \xff\nregister 1 ")?;
-    let chain = vec![in alloc; b'C'; 1000]?;
-    script.extend_from_slice(&chain)?;
-    script.extend_from_slice(b"\nregister 1 ")?;
-    script.extend_from_slice(&chain[..999])?;
-    script.extend_from_slice(b"\nsearch ")?;
-    script.extend_from_slice(&chain[..257])?;
-    script.extend_from_slice(b"\nsearch ")?;
-    script.extend_from_slice(&chain[..256])?;
-    script.extend_from_slice(b"\n")?;
+    script.extend_from_slice(b"\nregister 1 \xff\n")?;
+    push_chain(&mut script, b"register 1 ", 1000)?;
+    push_chain(&mut script, b"register 1 ", 999)?;
+    push_chain(&mut script, b"search ", 257)?;
+    push_chain(&mut script, b"search ", 256)?;
     let outcome = mem(&rt, alloc, &script, 1000, &[], &[])?;
     assert_eq!(rt; outcome.status, 0);
     assert_eq!(rt;
