@@ -4,7 +4,7 @@ ghost use Rattle.store_core.specs.Stored.{HoldsPin};
 
 use crate::{NoMeter, Search};
 use mol_finish::Format;
-use smarts_parse::{is_short, parse};
+use smarts_parse::parse;
 use std::alloc::Global;
 use std::test::Fail;
 use std::thread::Threads;
@@ -45,9 +45,7 @@ fn three_records_come_by_pages_of_two(rt: HostRuntime) -> Result<(), Fail> {
     assert!(rt; register(alloc, &mut store, 1, b"CCCCCC"));
     assert!(rt; register(alloc, &mut store, 2, b"CCCCC"));
     assert!(rt; register(alloc, &mut store, 3, b"OCCCCCC"));
-    let hexane = b"CCCCCC";
-    assert!(rt; is_short(hexane));
-    let Ok(pattern) = parse(alloc, hexane) else {
+    let Ok(pattern) = parse(alloc, b"CCCCCC") else {
         assert!(rt; false);
         return Ok(());
     };
