@@ -100,8 +100,8 @@ fn scripts_and_replies(rt: HostRuntime) -> Result<(), Fail> {
         // A molfile belongs to its line, whatever that is answered, up to `M  END` or the end. The charge of a CHG line stands
         // in place of those of the atom lines.
         (
-            "register-mol 1\nacetate\n\n\n  4  3  0  0  0  0  0  0  0  0999 V2000\n    0.0000    0.0000    0.0000 C   0  0  0  0  0  0\n    1.5000    0.0000    0.0000 C   0  0  0  0  0  0\n    2.2000    1.2000    0.0000 O   0  5  0  0  0  0\n    2.2000   -1.2000    0.0000 O   0  0  0  0  0  0\n  1  2  1  0\n  2  3  2  0\n  2  4  1  0\nM  CHG  1   4  -1\nM  END\nsearch C=O\nregister 1 C\n",
-            "ok 1\nhit 1\nend at 1 hits 1\nrefused known\n",
+            "register-mol 1\nacetate\n\n\n  4  3  0  0  0  0  0  0  0  0999 V2000\n    0.0000    0.0000    0.0000 C   0  0  0  0  0  0\n    1.5000    0.0000    0.0000 C   0  0  0  0  0  0\n    2.2000    1.2000    0.0000 O   0  5  0  0  0  0\n    2.2000   -1.2000    0.0000 O   0  0  0  0  0  0\n  1  2  1  0\n  2  3  2  0\n  2  4  1  0\nM  CHG  1   4  -1\nM  END\nsearch C=O\nsearch [O-]\nsearch [O+0]=C\nregister 1 C\n",
+            "ok 1\nhit 1\nend at 1 hits 1\nhit 1\nend at 1 hits 1\nhit 1\nend at 1 hits 1\nrefused known\n",
         ),
         (
             "register-mol\nregister 1 C\nM  END\nregister-mol 01\nM  END of it\nregister-mols 1\nrevise-mol 1\nregister 1 C\nregister-mol 2\n\n\n\n",
@@ -316,7 +316,7 @@ fn words_and_statuses(rt: HostRuntime) -> Result<(), Fail> {
     let alloc = rt.alloc();
     let script = b"register 1 C\nregister 1 C\nregister 2 C\n";
     let all = "ok 1\nrefused known\nok 2\n";
-    let rows: [(&[&str], u8, &str); 28] = [
+    let rows: [(&[&str], u8, &str); 29] = [
         (&["mem"], 0, all),
         (&["mem", "--page", "3"], 0, all),
         (&["mem", "--page=256"], 0, all),
@@ -336,6 +336,7 @@ fn words_and_statuses(rt: HostRuntime) -> Result<(), Fail> {
         (&["mem", "--", "x"], 2, ""),
         (&["mem", "mem"], 2, ""),
         (&["init", "f"], 2, ""),
+        (&["init", "f", "--page", "2"], 2, ""),
         (&["bulk", "0", "1"], 2, ""),
         (&["mem", "--workers", "17"], 2, ""),
         (&["mem", "--workers=0"], 2, ""),
