@@ -25,7 +25,28 @@ DRUGS = [
     "COc1cc(Cc2cnc(N)nc2N)cc(OC)c1OC",  # trimethoprim
     "O=C(O)c1cn(C2CC2)c2cc(N3CCNCC3)c(F)cc2c1=O",  # ciprofloxacin
 ]
-GROUPS = ["CO", "CC=O", "OCC=O", "CF", "CCl", "CBr", "SC", "C#N", "NCCN", "NCCO", "OCCN", "CCCN", "C=C", "CCCCCCCCCCCCCCCCCCCC"]
+GROUPS = [
+    "C(=O)[OX2H]",
+    "[CX3](=O)[NX3]",
+    "[NX3;H2]",
+    "[OX2H]",
+    "C#N",
+    "C=C",
+    "S(=O)(=O)N",
+    "[F]",
+    "[Cl,Br,I]",
+    "C(F)(F)F",
+    "[#7;+]",
+    "c1ccccc1",
+    "c1ccncc1",
+    "c1ccccc1-c1ccccc1",
+    "n1cc[nH]c1",
+    "N1CCNCC1",
+    "N1CCOCC1",
+    "C1CC1",
+    "[$(c[OX2H])]",
+    "CCCCCCCCCCCCCCCCCCCC",
+]
 
 
 def parts(part, count):
@@ -35,7 +56,7 @@ def parts(part, count):
 HOPELESS = [
     (parts("C", 30), ["C" * 29]),
     (parts("CC", 30), ["C" * 59]),
-    (parts("C", 60) + ".F", ["C" * 60]),
+    (parts("[#6]", 60) + ".[#9]", ["C" * 60]),
     (parts("CC", 29) + ".CF", ["C" * 60]),
 ]
 
