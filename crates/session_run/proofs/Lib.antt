@@ -1,0 +1,15 @@
+pub mod Joined
+pub mod Held
+pub mod Taking
+pub mod Scripts
+pub mod Lines
+pub mod Pages
+pub mod Listings
+pub mod Listed
+pub mod Ending
+pub mod Moved
+pub mod Opening
+pub mod Responses
+pub mod Turning
+pub mod Named
+pub mod Closing
