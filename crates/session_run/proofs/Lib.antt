@@ -13,3 +13,11 @@ pub mod Responses
 pub mod Turning
 pub mod Named
 pub mod Closing
+pub mod Growing
+pub mod Parting
+pub mod Passing
+pub mod Kinds
+pub mod Pinned
+pub mod Followed
+pub mod Truth
+pub mod Told

@@ -11,3 +11,5 @@ pub mod Walks
 pub mod Responds
 pub mod Serving
 pub mod Searched
+pub mod Dialogue
+pub mod Truths

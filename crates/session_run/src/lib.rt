@@ -7,6 +7,7 @@
 
 mod change;
 mod cursors;
+mod laws;
 mod listing;
 mod look;
 mod request;
@@ -17,5 +18,6 @@ mod settings;
 mod stop;
 mod texts;
 
+pub use laws::{dialogues_are_true, searches_are_hits, transcripts_are_true};
 pub use run::session;
 pub use settings::{EndStatus, Settings};
