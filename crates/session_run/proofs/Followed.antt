@@ -28,7 +28,10 @@ OneReading = (text : List ℕ) (a b : Result Command LineRefusal) → IsLine tex
 one_text : (a b : List ℕ) → Whole a ≡ Whole b → a ≡ b
 one_text a b e = cc
 
-one_order : (a b : Command) → Ok {E = LineRefusal} a ≡ Ok b → a ≡ b
+abbrev read_as : Command → Result Command LineRefusal
+read_as order = Ok order
+
+one_order : (a b : Command) → read_as a ≡ read_as b → a ≡ b
 one_order a b e = cc
 
 pub one_command : OneReading → (request : Request) (a b : Command) → IsCommand request a → IsCommand request b → a ≡ b
@@ -176,7 +179,7 @@ search_passes size slot pattern calls lines s apart = subst (PassBy slot) (sym s
   refl,
   refl,
   passes-append slot s.pages ((events.Unpin s.slot, replies.Unpinned) ∷ [])
-  (fetches_pass s.slot size slot s.searched.want s.pages (λ e. apart (sym e)) s.searched.fetches) (ne_eqb s.slot slot (λ e. apart (sym e)), refl, tt),
+      (fetches_pass s.slot size slot s.searched.want s.pages (λ e. apart (sym e)) s.searched.fetches) (ne_eqb s.slot slot (λ e. apart (sym e)), refl, tt),
 )
 
 module _ (reading : OneReading) (whole : Calls) (free : AreFree whole) (size : ℕ) (name : List ℕ) (pattern : PatternTerm) (version : ℕ) where
@@ -246,6 +249,7 @@ module _ (reading : OneReading) (whole : Calls) (free : AreFree whole) (size : �
     where
       other_order : command.Start named text ≡ command.Next name → ⊥
       other_order e = cc
+
       at_name : (xs ys : List Cursor) (c : Cursor) → IsNoName (xs ++ c ∷ ys) named → c.name ≢ named
       at_name [] ys c n = All-head (λ (x : Cursor). x.name ≢ named) c ys n
       at_name (x ∷ xs) ys c n = at_name xs ys c (All-tail (λ (y : Cursor). y.name ≢ named) x (xs ++ c ∷ ys) n)
@@ -277,24 +281,24 @@ module _ (reading : OneReading) (whole : Calls) (free : AreFree whole) (size : �
   pub follow_all : (xs : List Exchange) (calls its later : Calls) (cursors cursors' : List Cursor) (hits more : List ℕ) → whole ≡ calls ++ (its ++ later)
       → AreExchanged size cursors xs its cursors' → StaysOpen name xs → AreListed name xs more
       → Follows calls cursors name pattern version hits → Follows (calls ++ its) cursors' name pattern version (hits ++ more)
-  follow_all [] calls its later cursors cursors' hits more w a open listed f =
+  follow_all [] calls its later cursors cursors' hits more w a kept listed f =
       let same : calls ++ its ≡ calls = ap (λ (l : Calls). calls ++ l) a.0 ∙ append-nil calls in
       subst (λ (l : Calls). Follows l cursors' name pattern version (hits ++ more)) (sym same)
       (subst (λ (l : List ℕ). Follows calls cursors' name pattern version l) (sym (ap (λ (l : List ℕ). hits ++ l) listed ∙ append-nil hits))
       (subst (λ (l : List Cursor). Follows calls l name pattern version hits) (sym a.1) f))
-  follow_all (x ∷ xs) calls its later cursors cursors' hits more w a open listed f =
+  follow_all (x ∷ xs) calls its later cursors cursors' hits more w a kept listed f =
       let n = next_calls whole calls its a.0 a.1 later w a.4 in
       let did : Kind size cursors x.request a.0 x.lines a.2 = kind size cursors x.request a.0 x.lines a.2 a.3 in
       elim listed [
         | inl k ↦
-            let one = follow calls a.0 (a.1 ++ later) cursors a.2 x.request x.lines hits (hits_in x.lines) n.0 did open.0 (inl (k.0, refl)) f in
-            let rest = follow_all xs (calls ++ a.0) a.1 later a.2 cursors' (hits ++ hits_in x.lines) k.1 n.1 a.5 open.1 k.3 one in
+            let one = follow calls a.0 (a.1 ++ later) cursors a.2 x.request x.lines hits (hits_in x.lines) n.0 did kept.0 (inl (k.0, refl)) f in
+            let rest = follow_all xs (calls ++ a.0) a.1 later a.2 cursors' (hits ++ hits_in x.lines) k.1 n.1 a.5 kept.1 k.3 one in
             subst (λ (l : Calls). Follows l cursors' name pattern version (hits ++ more)) (grouped calls its a.0 a.1 a.4)
             (subst (λ (l : List ℕ). Follows ((calls ++ a.0) ++ a.1) cursors' name pattern version l)
             (append_assoc hits (hits_in x.lines) k.1 ∙ ap (λ (l : List ℕ). hits ++ l) (sym k.2)) rest)
         | inr k ↦
-            let one = follow calls a.0 (a.1 ++ later) cursors a.2 x.request x.lines hits [] n.0 did open.0 (inr (k.0, refl)) f in
-            let rest = follow_all xs (calls ++ a.0) a.1 later a.2 cursors' (hits ++ []) more n.1 a.5 open.1 k.1 one in
+            let one = follow calls a.0 (a.1 ++ later) cursors a.2 x.request x.lines hits [] n.0 did kept.0 (inr (k.0, refl)) f in
+            let rest = follow_all xs (calls ++ a.0) a.1 later a.2 cursors' (hits ++ []) more n.1 a.5 kept.1 k.1 one in
             subst (λ (l : Calls). Follows l cursors' name pattern version (hits ++ more)) (grouped calls its a.0 a.1 a.4)
             (subst (λ (l : List ℕ). Follows ((calls ++ a.0) ++ a.1) cursors' name pattern version (l ++ more)) (append-nil hits) rest)
       ]

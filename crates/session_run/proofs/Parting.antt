@@ -108,9 +108,9 @@ both_own own x e = second (is_call x.event) (own x.owner) e
     second true b e = e
     second false b e = absurd (true≢false (sym e))
 
-first : (own : ℕ → Bool) (steps : List Step) (c : Event × Reply) (later : Calls) → calls_of own steps ≡ c ∷ later → First own steps c later
-first own [] c later e = absurd (nothing_left c later e)
-first own (s ∷ ss) c later e =
+first_step : (own : ℕ → Bool) (steps : List Step) (c : Event × Reply) (later : Calls) → calls_of own steps ≡ c ∷ later → First own steps c later
+first_step own [] c later e = absurd (nothing_left c later e)
+first_step own (s ∷ ss) c later e =
     elim (is_own own s) as (λ b. is_own own s ≡ b → cond b ((s.event, s.reply) ∷ calls_of own ss) (calls_of own ss) ≡ c ∷ later → First own (s ∷ ss) c later) [
       | true ↦ λ o i.
           let same : (s.event, s.reply) ≡ c = one_call (s.event, s.reply) c (calls_of own ss) later i in
@@ -126,7 +126,7 @@ first own (s ∷ ss) c later e =
             later_is = same_rest (s.event, s.reply) c (calls_of own ss) later i;
           }
       | false ↦ λ o i.
-          let k = first own ss c later i in
+          let k = first_step own ss c later i in
           record {
             skip = s ∷ k.skip;
             step = k.step;
@@ -186,7 +186,7 @@ record Begins (own : ℕ → Bool) (s t : State) (c : Event × Reply) (later : C
 
 begins : (own : ℕ → Bool) (s t : State) (steps : List Step) (c : Event × Reply) (later : Calls) → IsRun s steps t → IsCalm steps → calls_of own steps ≡ c ∷ later → Begins own s t c later
 begins own s t steps c later run calm e =
-    let k = first own steps c later e in
+    let k = first_step own steps c later e in
     let r = run_parts s t k.skip (k.step ∷ k.rest) (subst (λ (l : List Step). IsRun s l t) k.is run) in
     let q = calm_parts k.skip (k.step ∷ k.rest) (subst IsCalm k.is calm) in
     record {

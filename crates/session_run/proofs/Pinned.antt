@@ -143,7 +143,7 @@ pub search_keeps : (size slot : ℕ) (pattern : PatternTerm) (calls : Calls) (li
 search_keeps size slot pattern calls lines s apart = subst (KeepsPin slot) (sym s.made) (
   refl,
   keeps-append slot s.pages ((events.Unpin s.slot, replies.Unpinned) ∷ []) (fetches_keep s.slot size slot s.searched.want s.pages s.searched.fetches)
-  (ne_eqb s.slot slot (λ e. apart (sym e)), tt),
+      (ne_eqb s.slot slot (λ e. apart (sym e)), tt),
 )
 
 -- the first of some calls is a Pin
@@ -173,7 +173,7 @@ module _ (whole : Calls) (free : AreFree whole) (size : ℕ) where
       subst (AreHeld (IsPinned (calls ++ its))) (sym same)
       (held_as (IsPinned calls) (IsPinned (calls ++ its)) (λ slot. KeepsPin slot its) cursors (λ slot v p k. pinned_more calls its slot v k p)
       (λ slot v k p. search_keeps size slot pattern its lines s
-          (new_slot whole calls _ slot v s.slot s.version free (pin_first whole calls its later (s.pages ++ (events.Unpin s.slot, replies.Unpinned) ∷ []) s.slot s.version w s.made) p)) h)
+      (new_slot whole calls _ slot v s.slot s.version free (pin_first whole calls its later (s.pages ++ (events.Unpin s.slot, replies.Unpinned) ∷ []) s.slot s.version w s.made) p)) h)
   pins_then calls its later cursors cursors' request lines w (Opened name text pattern is reads new o) h =
       let c : Cursor = record { name = name; pattern = pattern; want = o.want; slot = o.slot; version = o.version; place = At 0; tried = 0; hits = 0 } in
       let begin = pin_first whole calls its later [] o.slot o.version w o.made in

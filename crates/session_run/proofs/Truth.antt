@@ -40,10 +40,10 @@ searches-are-hits laws s t steps own size pattern before its after lines sound r
     let unpin : Event × Reply = (events.Unpin search.slot, replies.Unpinned) in
     let made : calls_of own steps ≡ before ++ (pin ∷ (search.pages ++ unpin ∷ [])) ++ after = e ∙ ap (λ (l : Calls). before ++ l ++ after) search.made in (
       whole_pages laws own s t steps before search.pages (unpin ∷ after) search.slot search.version search.tried pattern search.searched.want search.hits
-      sound run calm (made ∙ cut_calls before search.pages after pin unpin)
-      (fetches_keep search.slot size search.slot search.searched.want search.pages search.searched.fetches)
-      (subst (λ (p : Place). IsSearch search.searched.want (At 0) (fetched search.slot search.pages) p) ended search.searched.search)
-      search.searched.need search.searched.matched search.searched.count,
+          sound run calm (made ∙ cut_calls before search.pages after pin unpin)
+          (fetches_keep search.slot size search.slot search.searched.want search.pages search.searched.fetches)
+          (subst (λ (p : Place). IsSearch search.searched.want (At 0) (fetched search.slot search.pages) p) ended search.searched.search)
+          search.searched.need search.searched.matched search.searched.count,
       pin_new laws own s t steps before ((search.pages ++ unpin ∷ []) ++ after) search.slot search.version sound run calm made,
     )
 
@@ -75,8 +75,10 @@ same_end : (version tried hits version' tried' hits' : ℕ) → line.End version
 same_end version tried hits version' tried' hits' e = record { version_is = a; tried_is = b; hits_is = c } where
   a : version ≡ version'
   a = cc
+
   b : tried ≡ tried'
   b = cc
+
   c : hits ≡ hits'
   c = cc
 
@@ -168,6 +170,7 @@ one_start : (a b c d : List ℕ) → command.Start a b ≡ command.Start c d →
 one_start a b c d e = (x, y) where
   x : a ≡ c
   x = cc
+
   y : b ≡ d
   y = cc
 
@@ -240,7 +243,7 @@ module _ (laws : Laws) (reading : OneReading) (s t : State) (steps : List Step) 
   free before pages later slot v v' e keeps = slot_free laws own s t steps before pages later slot v v' run calm e keeps
 
   -- an exchange of the dialogue, with the calls before it
-  record At (before after : List Exchange) (x : Exchange) : Type 0 where
+  record Spot (before after : List Exchange) (x : Exchange) : Type 0 where
     first : Calls
     its : Calls
     rest : Calls
@@ -252,8 +255,8 @@ module _ (laws : Laws) (reading : OneReading) (s t : State) (steps : List Step) 
     calls_are : calls_of own steps ≡ first ++ (its ++ (rest ++ more))
     behind : calls_of own steps ≡ (first ++ its) ++ (rest ++ more)
 
-  at : (before after : List Exchange) (x : Exchange) → exchanges ≡ before ++ x ∷ after → At before after x
-  at before after x e =
+  spot : (before after : List Exchange) (x : Exchange) → exchanges ≡ before ++ x ∷ after → Spot before after x
+  spot before after x e =
       let p = exchanged_parts size [] cursors before (x ∷ after) calls (subst (λ (l : List Exchange). AreExchanged size [] l calls cursors) e said) in
       let b = p.5 in
       let w : calls_of own steps ≡ p.0 ++ (p.1 ++ more) = made ∙ (ap (λ (l : Calls). l ++ more) p.3 ∙ append_assoc p.0 p.1 more) in
@@ -272,11 +275,11 @@ module _ (laws : Laws) (reading : OneReading) (s t : State) (steps : List Step) 
       }
 
   -- no version that was shown before is newer
-  no_older : (before after : List Exchange) (x : Exchange) (a : At before after x) (version : ℕ) → IsUpToDate t.history a.first version → (v : ℕ) → IsShown before v → v ≤ version
+  no_older : (before after : List Exchange) (x : Exchange) (a : Spot before after x) (version : ℕ) → IsUpToDate t.history a.first version → (v : ℕ) → IsShown before v → v ≤ version
   no_older before after x a version fresh v shown =
       fresh.1 v ((dialogue_pins (calls_of own steps) free size before [] a.first (a.its ++ (a.rest ++ more)) [] a.here a.calls_are a.to tt).1 v shown)
 
-  searched : (before after : List Exchange) (x : Exchange) (text : List ℕ) (version tried count : ℕ) (a : At before after x)
+  searched : (before after : List Exchange) (x : Exchange) (text : List ℕ) (version tried count : ℕ) (a : Spot before after x)
       → Kind size a.here x.request a.its x.lines a.then → IsCommand x.request (command.Search text) → Contains x.lines (line.End version tried count)
       → IsTrueList t.history text version tried count (hits_in x.lines) × ((v : ℕ) → IsShown before v → v ≤ version)
   searched before after x text version tried count a (Other pass plain same) is k = absurd (plain.ends version tried count k)
@@ -299,7 +302,7 @@ module _ (laws : Laws) (reading : OneReading) (s t : State) (steps : List Step) 
       )
 
   searches_true : SearchesAreTrue t.history exchanges
-  searches_true before after x text version tried count e is k = let a = at before after x e in searched before after x text version tried count a a.did is k
+  searches_true before after x text version tried count e is k = let a = spot before after x e in searched before after x text version tried count a a.did is k
 
   -- the calls of a whole listing
   listed : (calls' later : Calls) (pattern : PatternTerm) (opened : ℕ) (hits : List ℕ) (version tried count : ℕ) → calls_of own steps ≡ calls' ++ later
@@ -316,35 +319,35 @@ module _ (laws : Laws) (reading : OneReading) (s t : State) (steps : List Step) 
       → calls_of own steps ≡ first ++ (rest ++ more) → AreExchanged size here (between ++ y ∷ after) rest cursors → StaysOpen name between
       → IsCommand y.request (command.Next name) → Contains y.lines (line.End version tried count) → AreListed name (between ++ y ∷ []) hits
       → Follows first here name pattern opened [] → AreAllHits t.history version pattern tried hits × (version ≡ opened) × (count ≡ length hits)
-  last_page between after y name hits pattern opened version tried count first rest here w a open is k list f =
+  last_page between after y name hits pattern opened version tried count first rest here w a kept is k list f =
       let p = exchanged_parts size here cursors between (y ∷ after) rest a in
       let b = p.5 in
       let n = next_calls (calls_of own steps) first rest p.0 p.1 more w p.3 in
       let parts = listed_parts name between y hits list is in
-      let g = follow_all reading (calls_of own steps) free size name pattern opened between first p.0 (p.1 ++ more) here p.2 [] parts.0 n.0 p.4 open parts.1 f in
+      let g = follow_all reading (calls_of own steps) free size name pattern opened between first p.0 (p.1 ++ more) here p.2 [] parts.0 n.0 p.4 kept parts.1 f in
       let m = next_calls (calls_of own steps) (first ++ p.0) p.1 b.0 b.1 more n.1 b.4 in
       let e : Ended ((first ++ p.0) ++ b.0) pattern opened (parts.0 ++ hits_in y.lines) version tried count =
       ends reading size name (first ++ p.0) b.0 p.2 b.2 y.request y.lines pattern opened parts.0 version tried count
       (kind size p.2 y.request b.0 y.lines b.2 b.3) is k g in (
         subst (λ (l : List ℕ). AreAllHits t.history version pattern tried l) (sym parts.2)
-        (listed ((first ++ p.0) ++ b.0) (b.1 ++ more) pattern opened (parts.0 ++ hits_in y.lines) version tried count m.1 e),
+            (listed ((first ++ p.0) ++ b.0) (b.1 ++ more) pattern opened (parts.0 ++ hits_in y.lines) version tried count m.1 e),
         sym e.numbers.version_is ∙ e.opened_at,
         sym e.numbers.hits_is ∙ (e.open_since.count ∙ ap (λ (l : List ℕ). length l) (sym parts.2)),
       )
 
-  opened : (before between after : List Exchange) (x y : Exchange) (name text hits : List ℕ) (version0 version tried count : ℕ) (a : At before (between ++ y ∷ after) x)
+  opened : (before between after : List Exchange) (x y : Exchange) (name text hits : List ℕ) (version0 version tried count : ℕ) (a : Spot before (between ++ y ∷ after) x)
       → Kind size a.here x.request a.its x.lines a.then
       → IsCommand x.request (command.Start name text) → Contains x.lines (line.Opened version0) → StaysOpen name between
       → IsCommand y.request (command.Next name) → Contains y.lines (line.End version tried count) → AreListed name (between ++ y ∷ []) hits
       → IsTrueList t.history text version tried count hits × (version ≡ version0) × ((v : ℕ) → IsShown before v → v ≤ version)
-  opened before between after x y name text hits version0 version tried count a (Other pass plain same) start k open next end list = absurd (plain.opens version0 k)
-  opened before between after x y name text hits version0 version tried count a (Searched other p was reads search same) start k open next end list =
+  opened before between after x y name text hits version0 version tried count a (Other pass plain same) start k kept next end list = absurd (plain.opens version0 k)
+  opened before between after x y name text hits version0 version tried count a (Searched other p was reads search same) start k kept next end list =
       absurd (search_or_start other text name (one_command reading x.request (command.Search other) (command.Start name text) was start))
-  opened before between after x y name text hits version0 version tried count a (Moved other front back d d' was at advances now) start k open next end list =
+  opened before between after x y name text hits version0 version tried count a (Moved other front back d d' was at advances now) start k kept next end list =
       absurd (next_or_start other name text (one_command reading x.request (command.Next other) (command.Start name text) was start))
-  opened before between after x y name text hits version0 version tried count a (Closed other front back d was at made said now) start k open next end list =
+  opened before between after x y name text hits version0 version tried count a (Closed other front back d was at made said now) start k kept next end list =
       absurd (close_or_start other name text (one_command reading x.request (command.Close other) (command.Start name text) was start))
-  opened before between after x y name text hits version0 version tried count a (Opened name' text' p was reads new o) start k open next end list =
+  opened before between after x y name text hits version0 version tried count a (Opened name' text' p was reads new o) start k kept next end list =
       let same = one_start name' text' name text (one_command reading x.request (command.Start name' text') (command.Start name text) was start) in
       let at0 : o.version ≡ version0 = one_opened o.version version0 (one_in (line.Opened o.version) (line.Opened version0) (subst (λ (l : Lines). Contains l (line.Opened version0)) o.said k)) in
       let pins = (dialogue_pins (calls_of own steps) free size before [] a.first (a.its ++ (a.rest ++ more)) [] a.here a.calls_are a.to tt).0 in
@@ -353,7 +356,7 @@ module _ (laws : Laws) (reading : OneReading) (s t : State) (steps : List Step) 
       subst (λ (l : List ℕ). (q : Opens l p a.here a.its x.lines a.then) × (q.version ≡ o.version)) same.0 (o, refl) in
       let f : Follows (a.first ++ a.its) a.then name p version0 [] =
       follow_new reading (calls_of own steps) free size name p version0 a.first a.its (a.rest ++ more) a.here a.then x.lines a.calls_are pins new_name opens.0 (opens.1 ∙ at0) in
-      let r = last_page between after y name hits p version0 version tried count (a.first ++ a.its) a.rest a.then a.behind a.from open next end list f in
+      let r = last_page between after y name hits p version0 version tried count (a.first ++ a.its) a.rest a.then a.behind a.from kept next end list f in
       let fresh : IsUpToDate t.history a.first o.version =
       pin_new laws own s t steps a.first (a.rest ++ more) o.slot o.version sound run calm (pin_first (calls_of own steps) a.first a.its (a.rest ++ more) [] o.slot o.version a.calls_are o.made) in (
         record {
@@ -367,9 +370,9 @@ module _ (laws : Laws) (reading : OneReading) (s t : State) (steps : List Step) 
       )
 
   cursors_true : CursorsAreTrue t.history exchanges
-  cursors_true before between after x y name text hits version0 version tried count e start k open next end list =
-      let a = at before (between ++ y ∷ after) x e in
-      opened before between after x y name text hits version0 version tried count a a.did start k open next end list
+  cursors_true before between after x y name text hits version0 version tried count e start k kept next end list =
+      let a = spot before (between ++ y ∷ after) x e in
+      opened before between after x y name text hits version0 version tried count a a.did start k kept next end list
 
   pub both_true : SearchesAreTrue t.history exchanges × CursorsAreTrue t.history exchanges
   both_true = (searches_true, cursors_true)

@@ -2,7 +2,9 @@
 ghost use Rattle.session_run.specs.Truths.{DialoguesAreTrue, SearchesAreHits, TranscriptsAreTrue};
 
 use shell_lang::one_reading;
-use store_machine::{calls_give_pages, needs_screen, pins_stay, runs_stay_sound, snapshots_stay, states_stay};
+use store_machine::{
+    calls_give_pages, needs_screen, pins_stay, runs_stay_sound, snapshots_stay, states_stay,
+};
 
 /// A search that came to its end listed exactly the hits of its pattern in the history, at a version no older than any
 /// that its caller was told before.
