@@ -49,7 +49,8 @@ pin-grows s owner NoPin s' g = becomes s s s' refl g.1
 pin-grows s owner (Pinned slot version) s' g = becomes s (pinned s slot owner) s' refl g.4
 pin-grows s owner _ s' g = absurd g
 
-fetch-grows : (s : State) (owner slot : ℕ) (want : List Bool) (from limit : ℕ) (r : Reply) (s' : State) → FetchGives s owner slot want from limit r s' → Grows s s'
+fetch-grows : (s : State) (owner slot : ℕ) (want : List Bool) (from limit : ℕ) (r : Reply) (s' : State)
+    → FetchGives s owner slot want from limit r s' → Grows s s'
 fetch-grows s owner slot want from limit (Page records last) s' g = becomes s s s' refl g.3
 fetch-grows s owner slot want from limit NoMemory s' g = becomes s s s' refl g.2
 fetch-grows s owner slot want from limit _ s' g = absurd g
@@ -98,14 +99,19 @@ pub run-grows : (s t : State) (steps : List Step) → IsRun s steps t → Grows 
 run-grows s t [] run = alike s t (ap (λ (x : State). x.history) run)
 run-grows s t (x ∷ xs) run =
     let one = grows x.before x.owner x.event x.reply x.after run.1 in
-    let rest = run-grows x.after t xs run.2 in
-    (one.0 ++ rest.0, rest.1 ∙ (ap (λ h. h ++ rest.0) (one.1 ∙ ap (λ (b : State). b.history ++ one.0) run.0) ∙ append_assoc s.history one.0 rest.0))
+    let rest = run-grows x.after t xs run.2 in (
+      one.0 ++ rest.0,
+      rest.1
+          ∙ (ap (λ h. h ++ rest.0) (one.1 ∙ ap (λ (b : State). b.history ++ one.0) run.0)
+          ∙ append_assoc s.history one.0 rest.0),
+    )
 
 pub longer : (s t : State) → Grows s t → head s.history ≤ head t.history
 longer s t g = omega (arith, ap length g.1, length-append s.history g.0)
 
 -- Versions that replies tell
-commit-told : (s : State) (c : Change) (r : Reply) (s' : State) (v : ℕ) → CommitGives s c r s' → TellsVersion r v → v ≤ head s'.history
+commit-told : (s : State) (c : Change) (r : Reply) (s' : State) (v : ℕ) → CommitGives s c r s' → TellsVersion r v
+    → v ≤ head s'.history
 commit-told s c (Committed version) s' v g e =
     let now_is : length s'.history ≡ length (s.history ++ c ∷ []) = ap (λ (x : State). length x.history) g.2 in
     let more : length (s.history ++ c ∷ []) ≡ length s.history + 1 = length-append s.history (c ∷ []) in
@@ -115,7 +121,8 @@ commit-told s c (Counted version live withdrawn kept pins) s' v g e = absurd g
 commit-told s c (Looked (Some status)) s' v g e = absurd g
 commit-told s c _ s' v g e = absurd e
 
-pin-told : (s : State) (owner : ℕ) (r : Reply) (s' : State) (v : ℕ) → PinGives s owner r s' → TellsVersion r v → v ≤ head s'.history
+pin-told : (s : State) (owner : ℕ) (r : Reply) (s' : State) (v : ℕ) → PinGives s owner r s' → TellsVersion r v
+    → v ≤ head s'.history
 pin-told s owner (Pinned slot version) s' v g e =
     let same : length s'.history ≡ length s.history = ap (λ (x : State). length x.history) g.4 in
     omega (arith, e, g.3, same)
@@ -133,7 +140,8 @@ stats-told s (Pinned slot version) s' v g e = absurd g
 stats-told s (Looked (Some status)) s' v g e = absurd g
 stats-told s _ s' v g e = absurd e
 
-look-told : StatesStay → (s : State) (id : ℕ) (r : Reply) (s' : State) (v : ℕ) → IsHistory s.history → LookGives s id r s' → TellsVersion r v → v ≤ head s'.history
+look-told : StatesStay → (s : State) (id : ℕ) (r : Reply) (s' : State) (v : ℕ) → IsHistory s.history
+    → LookGives s id r s' → TellsVersion r v → v ≤ head s'.history
 look-told stay s id (Looked (Some status)) s' v h g e =
     let then = stay s.history (head s.history) id status h (sym g.0) in
     let same : length s'.history ≡ length s.history = ap (λ (x : State). length x.history) g.1 in
@@ -145,14 +153,16 @@ look-told stay s id (Counted version live withdrawn kept pins) s' v h g e = absu
 look-told stay s id _ s' v h g e = absurd e
 
 -- the other events' replies tell none
-fetch-untold : (s : State) (owner slot : ℕ) (want : List Bool) (from limit : ℕ) (r : Reply) (s' : State) (v : ℕ) → FetchGives s owner slot want from limit r s' → ¬ TellsVersion r v
+fetch-untold : (s : State) (owner slot : ℕ) (want : List Bool) (from limit : ℕ) (r : Reply) (s' : State) (v : ℕ)
+    → FetchGives s owner slot want from limit r s' → ¬ TellsVersion r v
 fetch-untold s owner slot want from limit (Committed version) s' v g e = g
 fetch-untold s owner slot want from limit (Pinned other version) s' v g e = g
 fetch-untold s owner slot want from limit (Counted version live withdrawn kept pins) s' v g e = g
 fetch-untold s owner slot want from limit (Looked (Some status)) s' v g e = g
 fetch-untold s owner slot want from limit _ s' v g e = e
 
-unpin-untold : (s : State) (owner slot : ℕ) (r : Reply) (s' : State) (v : ℕ) → UnpinGives s owner slot r s' → ¬ TellsVersion r v
+unpin-untold : (s : State) (owner slot : ℕ) (r : Reply) (s' : State) (v : ℕ) → UnpinGives s owner slot r s'
+    → ¬ TellsVersion r v
 unpin-untold s owner slot (Committed version) s' v g e = g
 unpin-untold s owner slot (Pinned other version) s' v g e = g
 unpin-untold s owner slot (Counted version live withdrawn kept pins) s' v g e = g
@@ -180,10 +190,12 @@ open-untold s (Counted version live withdrawn kept pins) s' v g e = g
 open-untold s (Looked (Some status)) s' v g e = g
 open-untold s _ s' v g e = e
 
-told : StatesStay → (s : State) (owner : ℕ) (e : Event) (r : Reply) (s' : State) (v : ℕ) → IsHistory s.history → Gives s owner e r s' → TellsVersion r v → v ≤ head s'.history
+told : StatesStay → (s : State) (owner : ℕ) (e : Event) (r : Reply) (s' : State) (v : ℕ) → IsHistory s.history
+    → Gives s owner e r s' → TellsVersion r v → v ≤ head s'.history
 told stay s owner (Commit c) r s' v h g t = commit-told s c r s' v g.1 t
 told stay s owner Pin r s' v h g t = pin-told s owner r s' v g.1 t
-told stay s owner (Fetch slot want from limit) r s' v h g t = absurd (fetch-untold s owner slot want from limit r s' v g.1 t)
+told stay s owner (Fetch slot want from limit) r s' v h g t =
+    absurd (fetch-untold s owner slot want from limit r s' v g.1 t)
 told stay s owner (Unpin slot) r s' v h g t = absurd (unpin-untold s owner slot r s' v g.1 t)
 told stay s owner Prune r s' v h g t = absurd (prune-untold s r s' v g.1 t)
 told stay s owner (Look id) r s' v h g t = look-told stay s id r s' v h g.1 t
@@ -200,7 +212,14 @@ run-told stay sounds s t (x ∷ xs) own v k run is =
     let next : IsSound x.after = sounds x.before x.after (x ∷ []) (refl, run.1, refl) there in
     let later = run-told stay sounds x.after t xs own v next run.2 in
     let up = longer x.after t (run-grows x.after t xs run.2) in
-    elim (is_own own x) as (λ b. IsTold (cond b ((x.event, x.reply) ∷ calls_of own xs) (calls_of own xs)) v → v ≤ head t.history) [
-      | true ↦ λ i. elim i [ inl one ↦ (let le : v ≤ head x.after.history = told stay x.before x.owner x.event x.reply x.after v there.history run.1 one in omega (arith, le, up)) | inr rest ↦ later rest ]
+    elim (is_own own x) as (λ b. IsTold (cond b ((x.event, x.reply) ∷ calls_of own xs) (calls_of own xs)) v
+    → v ≤ head t.history) [
+      | true ↦ λ i. elim i [
+        | inl one ↦
+            (let le : v ≤ head x.after.history =
+            told stay x.before x.owner x.event x.reply x.after v there.history run.1 one in
+            omega (arith, le, up))
+        | inr rest ↦ later rest
+      ]
       | false ↦ λ i. later i
     ] is

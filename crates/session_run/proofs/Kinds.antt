@@ -34,17 +34,25 @@ pub record ArePlain (calls : Calls) (lines : Lines) : Type 0 where
   pub opens : (version : ℕ) → ¬ Contains lines (line.Opened version)
   pub shows : (v : ℕ) → IsShownIn lines v → IsTold calls v
 
-pub data Kind (size : ℕ) (cursors : List Cursor) (request : Request) (calls : Calls) (lines : Lines) (cursors' : List Cursor) : Type 0 where
-  Other : (pass : (slot : ℕ) → PassBy slot calls) (plain : ArePlain calls lines) (same : cursors' ≡ cursors) → Kind size cursors request calls lines cursors'
-  Searched : (text : List ℕ) (pattern : PatternTerm) (is : IsCommand request (command.Search text)) (reads : IsPatternOf text pattern)
-      (search : Searches size pattern calls lines) (same : cursors' ≡ cursors) → Kind size cursors request calls lines cursors'
-  Opened : (name text : List ℕ) (pattern : PatternTerm) (is : IsCommand request (command.Start name text)) (reads : IsPatternOf text pattern)
-      (new : IsNoName cursors name) (opens : Opens name pattern cursors calls lines cursors') → Kind size cursors request calls lines cursors'
+pub data Kind (size : ℕ) (cursors : List Cursor) (request : Request) (calls : Calls) (lines : Lines)
+    (cursors' : List Cursor) : Type 0 where
+  Other : (pass : (slot : ℕ) → PassBy slot calls) (plain : ArePlain calls lines) (same : cursors' ≡ cursors)
+      → Kind size cursors request calls lines cursors'
+  Searched : (text : List ℕ) (pattern : PatternTerm) (is : IsCommand request (command.Search text))
+      (reads : IsPatternOf text pattern)
+      (search : Searches size pattern calls lines) (same : cursors' ≡ cursors)
+      → Kind size cursors request calls lines cursors'
+  Opened : (name text : List ℕ) (pattern : PatternTerm) (is : IsCommand request (command.Start name text))
+      (reads : IsPatternOf text pattern)
+      (new : IsNoName cursors name) (opens : Opens name pattern cursors calls lines cursors')
+      → Kind size cursors request calls lines cursors'
   Moved : (name : List ℕ) (before after : List Cursor) (c c' : Cursor) (is : IsCommand request (command.Next name))
-      (named : IsNamed name cursors before c after) (advances : Advances size c.place c calls lines c') (now : cursors' ≡ before ++ c' ∷ after)
+      (named : IsNamed name cursors before c after) (advances : Advances size c.place c calls lines c')
+      (now : cursors' ≡ before ++ c' ∷ after)
       → Kind size cursors request calls lines cursors'
   Closed : (name : List ℕ) (before after : List Cursor) (c : Cursor) (is : IsCommand request (command.Close name))
-      (named : IsNamed name cursors before c after) (made : calls ≡ (events.Unpin c.slot, replies.Unpinned) ∷ []) (said : lines ≡ line.Closed ∷ [])
+      (named : IsNamed name cursors before c after) (made : calls ≡ (events.Unpin c.slot, replies.Unpinned) ∷ [])
+      (said : lines ≡ line.Closed ∷ [])
       (now : cursors' ≡ before ++ after) → Kind size cursors request calls lines cursors'
 
 -- Plain lines
@@ -74,7 +82,8 @@ plain_opened : (said : line.Reply) (version : ℕ) → IsPlainLine said → ¬ (
 plain_opened said version p e = subst IsPlainLine e p
 
 -- one line
-plain_one : (calls : Calls) (said : line.Reply) → IsPlainLine said → ((v : ℕ) → ShowsVersion said v → IsTold calls v) → ArePlain calls (said ∷ [])
+plain_one : (calls : Calls) (said : line.Reply) → IsPlainLine said → ((v : ℕ) → ShowsVersion said v → IsTold calls v)
+    → ArePlain calls (said ∷ [])
 plain_one calls said p told = record {
   hits = plain_hits said p;
   ends = λ version tried hits k. plain_end said version tried hits p (one_in said (line.End version tried hits) k);
@@ -83,14 +92,22 @@ plain_one calls said p told = record {
 }
 
 plain_none : (calls : Calls) → ArePlain calls []
-plain_none calls = record { hits = refl; ends = λ version tried hits k. none_in (line.End version tried hits) k; opens = λ version k. none_in (line.Opened version) k; shows = λ v k. absurd k }
+plain_none calls = record {
+  hits = refl;
+  ends = λ version tried hits k. none_in (line.End version tried hits) k;
+  opens =
+      λ version k. none_in (line.Opened version) k;
+  shows = λ v k. absurd k;
+}
 
-module _ (size : ℕ) (cursors : List Cursor) (request : Request) (calls : Calls) (lines : Lines) (cursors' : List Cursor) where
+module _ (size : ℕ) (cursors : List Cursor) (request : Request) (calls : Calls) (lines : Lines)
+    (cursors' : List Cursor) where
   abbrev Is : Type 0
   Is = Kind size cursors request calls lines cursors'
 
   -- nothing was called
-  says : (said : line.Reply) → IsPlainLine said → ((v : ℕ) → ¬ ShowsVersion said v) → Says said calls lines → cursors' ≡ cursors → Is
+  says : (said : line.Reply) → IsPlainLine said → ((v : ℕ) → ¬ ShowsVersion said v) → Says said calls lines
+      → cursors' ≡ cursors → Is
   says said p shows s same = Other
       (λ slot. subst (PassBy slot) (sym s.0) tt)
       (subst (λ (l : Lines). ArePlain calls l) (sym s.1) (plain_one calls said p (λ v k. absurd (shows v k))))
@@ -103,8 +120,10 @@ module _ (size : ℕ) (cursors : List Cursor) (request : Request) (calls : Calls
   no_memory s same = says line.MemoryFault tt (λ v k. k) s same
 
   -- one call was made, and one line said
-  asked : (event : Event) (IsLineOf : Reply → line.Reply → Type 0) → ((slot : ℕ) → unpins slot event ≡ false) → ((slot : ℕ) (r : Reply) → page_in slot event r ≡ None)
-      → ((r : Reply) (said : line.Reply) → IsLineOf r said → IsPlainLine said) → ((r : Reply) (said : line.Reply) (v : ℕ) → IsLineOf r said → ShowsVersion said v → TellsVersion r v)
+  asked : (event : Event) (IsLineOf : Reply → line.Reply → Type 0) → ((slot : ℕ) → unpins slot event ≡ false)
+      → ((slot : ℕ) (r : Reply) → page_in slot event r ≡ None)
+      → ((r : Reply) (said : line.Reply) → IsLineOf r said → IsPlainLine said)
+      → ((r : Reply) (said : line.Reply) (v : ℕ) → IsLineOf r said → ShowsVersion said v → TellsVersion r v)
       → Asks event IsLineOf calls lines → cursors' ≡ cursors → Is
   asked event IsLineOf keeps pages plain told a same = Other
       (λ slot. subst (PassBy slot) (sym a.2) (keeps slot, pages slot a.0, tt))
@@ -115,7 +134,8 @@ module _ (size : ℕ) (cursors : List Cursor) (request : Request) (calls : Calls
   no_pin : FindsNoPin calls lines → cursors' ≡ cursors → Is
   no_pin a same = Other
       (λ slot. subst (PassBy slot) (sym a.0) (refl, refl, tt))
-      (subst (λ (l : Lines). ArePlain calls l) (sym a.1) (plain_one calls (line.Refused refusals.Pins) tt (λ v k. absurd k)))
+      (subst (λ (l : Lines). ArePlain calls l) (sym a.1)
+      (plain_one calls (line.Refused refusals.Pins) tt (λ v k. absurd k)))
       same
 
   commit_plain : (r : Reply) (said : line.Reply) → IsCommitLine r said → IsPlainLine said
@@ -143,7 +163,8 @@ module _ (size : ℕ) (cursors : List Cursor) (request : Request) (calls : Calls
   shown_plain id (Some (status.Live version format text)) = tt
   shown_plain id (Some (status.Withdrawn version)) = tt
 
-  shown_told : (id : ℕ) (state : Option Status) (v : ℕ) → ShowsVersion (shown id state) v → TellsVersion (replies.Looked state) v
+  shown_told : (id : ℕ) (state : Option Status) (v : ℕ) → ShowsVersion (shown id state) v
+      → TellsVersion (replies.Looked state) v
   shown_told id None v k = k
   shown_told id (Some (status.Live version format text)) v k = k
   shown_told id (Some (status.Withdrawn version)) v k = k
@@ -154,8 +175,10 @@ module _ (size : ℕ) (cursors : List Cursor) (request : Request) (calls : Calls
   look_plain id replies.NoMemory said e = subst IsPlainLine (sym e) tt
   look_plain id _ said e = absurd e
 
-  look_told : (id : ℕ) (r : Reply) (said : line.Reply) (v : ℕ) → IsLookLine id r said → ShowsVersion said v → TellsVersion r v
-  look_told id (replies.Looked state) said v (inl e) k = shown_told id state v (subst (λ (l : line.Reply). ShowsVersion l v) e k)
+  look_told : (id : ℕ) (r : Reply) (said : line.Reply) (v : ℕ) → IsLookLine id r said → ShowsVersion said v
+      → TellsVersion r v
+  look_told id (replies.Looked state) said v (inl e) k =
+      shown_told id state v (subst (λ (l : line.Reply). ShowsVersion l v) e k)
   look_told id (replies.Looked state) said v (inr e) k = absurd (subst (λ (l : line.Reply). ShowsVersion l v) e k)
   look_told id replies.NoMemory said v e k = subst (λ (l : line.Reply). ShowsVersion l v) e k
   look_told id _ said v e k = absurd e
@@ -173,14 +196,17 @@ module _ (size : ℕ) (cursors : List Cursor) (request : Request) (calls : Calls
   stats_plain _ said e = absurd e
 
   stats_told : (r : Reply) (said : line.Reply) (v : ℕ) → IsStatsLine r said → ShowsVersion said v → TellsVersion r v
-  stats_told (replies.Counted version live withdrawn kept pins) said v e k = subst (λ (l : line.Reply). ShowsVersion l v) e k
+  stats_told (replies.Counted version live withdrawn kept pins) said v e k =
+      subst (λ (l : line.Reply). ShowsVersion l v) e k
   stats_told _ said v e k = absurd e
 
   commits : (change : Change) → Commits change calls lines → cursors' ≡ cursors → Is
   commits change (inl s) same = no_memory s same
-  commits change (inr a) same = asked (events.Commit change) IsCommitLine (λ slot. refl) (λ slot r. refl) commit_plain commit_told a same
+  commits change (inr a) same =
+      asked (events.Commit change) IsCommitLine (λ slot. refl) (λ slot r. refl) commit_plain commit_told a same
 
-  texts : (change : Change) (format : Format) (text : List ℕ) → TextAnswer change format text calls lines → cursors' ≡ cursors → Is
+  texts : (change : Change) (format : Format) (text : List ℕ) → TextAnswer change format text calls lines
+      → cursors' ≡ cursors → Is
   texts change format text (inl a) same = refuses (refusals.Text a.0) a.2 same
   texts change format text (inr (inl s)) same = no_memory s same
   texts change format text (inr (inr a)) same = commits change a.1 same
@@ -188,20 +214,23 @@ module _ (size : ℕ) (cursors : List Cursor) (request : Request) (calls : Calls
   no_pattern : (text : List ℕ) → IsNoPattern text calls lines → cursors' ≡ cursors → Is
   no_pattern text a same = refuses (refusals.Pattern a.0) a.2 same
 
-  searches : (text : List ℕ) → IsCommand request (command.Search text) → SearchAnswer size text calls lines → cursors' ≡ cursors → Is
+  searches : (text : List ℕ) → IsCommand request (command.Search text) → SearchAnswer size text calls lines
+      → cursors' ≡ cursors → Is
   searches text is (inl a) same = no_pattern text a same
   searches text is (inr (inl s)) same = no_memory s same
   searches text is (inr (inr (pattern, reads, inl a))) same = no_pin a same
   searches text is (inr (inr (pattern, reads, inr a))) same = Searched text pattern is reads a same
 
-  opens : (name text : List ℕ) → IsCommand request (command.Start name text) → OpenAnswer name text cursors calls lines cursors' → Is
+  opens : (name text : List ℕ) → IsCommand request (command.Start name text)
+      → OpenAnswer name text cursors calls lines cursors' → Is
   opens name text is (inl (inl a, same)) = no_pattern text a same
   opens name text is (inl (inr s, same)) = no_memory s same
   opens name text is (inr (pattern, reads, inl a)) = refuses refusals.Cursor a.1 a.2
   opens name text is (inr (pattern, reads, inr (new, inl a))) = no_pin a.0 a.1
   opens name text is (inr (pattern, reads, inr (new, inr a))) = Opened name text pattern is reads new a
 
-  nexts : (name : List ℕ) → IsCommand request (command.Next name) → NextAnswer size name cursors calls lines cursors' → Is
+  nexts : (name : List ℕ) → IsCommand request (command.Next name) → NextAnswer size name cursors calls lines cursors'
+      → Is
   nexts name is (inl a) = refuses refusals.Cursor a.1 a.2
   nexts name is (inr (inl a)) = no_memory a.0 a.1
   nexts name is (inr (inr a)) = Moved name a.0 a.1 a.2 a.3 is a.4 a.5 a.6
@@ -210,26 +239,33 @@ module _ (size : ℕ) (cursors : List Cursor) (request : Request) (calls : Calls
   closes name is (inl a) = refuses refusals.Cursor a.1 a.2
   closes name is (inr a) = Closed name a.0 a.1 a.2 is a.3 a.4 a.5 a.6
 
-  by_line : (read : Result Command LineRefusal) → ((order : Command) → read ≡ Ok order → IsCommand request order) → Answers size cursors read calls lines cursors' → Is
+  by_line : (read : Result Command LineRefusal) → ((order : Command) → read ≡ Ok order → IsCommand request order)
+      → Answers size cursors read calls lines cursors' → Is
   by_line (Err refusal) is a = refuses (refusals.Line refusal) a.0 a.1
-  by_line (Ok command.Empty) is a = Other (λ slot. subst (PassBy slot) (sym a.0) tt) (subst (λ (l : Lines). ArePlain calls l) (sym a.1) (plain_none calls)) a.2
+  by_line (Ok command.Empty) is a =
+      Other (λ slot. subst (PassBy slot) (sym a.0) tt)
+      (subst (λ (l : Lines). ArePlain calls l) (sym a.1) (plain_none calls)) a.2
   by_line (Ok (command.Register id text)) is a = texts (changes.Register id Smiles text) Smiles text a.0 a.1
   by_line (Ok (command.Revise id text)) is a = texts (changes.Revise id Smiles text) Smiles text a.0 a.1
   by_line (Ok (command.Withdraw id)) is a = commits (changes.Withdraw id) a.0 a.1
   by_line (Ok (command.Show id)) is (inl s, same) = no_memory s same
-  by_line (Ok (command.Show id)) is (inr a, same) = asked (events.Look id) (IsLookLine id) (λ slot. refl) (λ slot r. refl) (look_plain id) (look_told id) a same
+  by_line (Ok (command.Show id)) is (inr a, same) =
+      asked (events.Look id) (IsLookLine id) (λ slot. refl) (λ slot r. refl) (look_plain id) (look_told id) a same
   by_line (Ok (command.Search text)) is a = searches text (is (command.Search text) refl) a.0 a.1
   by_line (Ok (command.Start name text)) is a = opens name text (is (command.Start name text) refl) a
   by_line (Ok (command.Next name)) is a = nexts name (is (command.Next name) refl) a
   by_line (Ok (command.Close name)) is a = closes name (is (command.Close name) refl) a
   by_line (Ok command.Prune) is (inl s, same) = no_memory s same
-  by_line (Ok command.Prune) is (inr a, same) = asked events.Prune IsPruneLine (λ slot. refl) (λ slot r. refl) prune_plain prune_told a same
+  by_line (Ok command.Prune) is (inr a, same) =
+      asked events.Prune IsPruneLine (λ slot. refl) (λ slot r. refl) prune_plain prune_told a same
   by_line (Ok command.Stats) is (inl s, same) = no_memory s same
-  by_line (Ok command.Stats) is (inr a, same) = asked events.Stats IsStatsLine (λ slot. refl) (λ slot r. refl) stats_plain stats_told a same
+  by_line (Ok command.Stats) is (inr a, same) =
+      asked events.Stats IsStatsLine (λ slot. refl) (λ slot r. refl) stats_plain stats_told a same
   by_line (Ok (command.RegisterMol id)) is a = absurd a
   by_line (Ok (command.ReviseMol id)) is a = absurd a
 
-  by_molfile : (read : Result Command LineRefusal) (text : List ℕ) → MolfileAnswer read text calls lines → cursors' ≡ cursors → Is
+  by_molfile : (read : Result Command LineRefusal) (text : List ℕ) → MolfileAnswer read text calls lines
+      → cursors' ≡ cursors → Is
   by_molfile (Err refusal) text a same = refuses (refusals.Line refusal) a same
   by_molfile (Ok (command.RegisterMol id)) text a same = texts (changes.Register id Molfile text) Molfile text a same
   by_molfile (Ok (command.ReviseMol id)) text a same = texts (changes.Revise id Molfile text) Molfile text a same

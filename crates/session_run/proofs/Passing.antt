@@ -43,25 +43,38 @@ fetch_keeps : (slot size other : ℕ) (want : List Bool) (e : Event) → IsFetch
 fetch_keeps slot size other want (Fetch pin asked from limit) h = refl
 fetch_keeps slot size other want _ h = absurd h
 
-no_page : (other pin : ℕ) (asked : List Bool) (from limit : ℕ) (r : Reply) → (pin == other) ≡ false → page_in other (Fetch pin asked from limit) r ≡ None
+no_page : (other pin : ℕ) (asked : List Bool) (from limit : ℕ) (r : Reply) → (pin == other) ≡ false
+    → page_in other (Fetch pin asked from limit) r ≡ None
 no_page other pin asked from limit (replies.Page records last) h =
-    cond-false (pin == other) (Some (let f : Fetched = record { want = asked; from = from; limit = limit; records = records; last = last } in f)) None h
+    cond-false (pin == other)
+    (Some (let f : Fetched = record { want = asked; from = from; limit = limit; records = records; last = last } in
+    f)) None h
 no_page other pin asked from limit _ h = refl
 
-fetch_none : (slot size other : ℕ) (want : List Bool) (e : Event) (r : Reply) → slot ≢ other → IsFetch slot size want e → page_in other e r ≡ None
-fetch_none slot size other want (Fetch pin asked from limit) r apart h = no_page other pin asked from limit r (ne_eqb pin other (λ e. apart (sym h.0 ∙ e)))
+fetch_none : (slot size other : ℕ) (want : List Bool) (e : Event) (r : Reply) → slot ≢ other → IsFetch slot size want e
+    → page_in other e r ≡ None
+fetch_none slot size other want (Fetch pin asked from limit) r apart h =
+    no_page other pin asked from limit r (ne_eqb pin other (λ e. apart (sym h.0 ∙ e)))
 fetch_none slot size other want _ r apart h = absurd h
 
-pub fetches_keep : (slot size other : ℕ) (want : List Bool) (cs : Calls) → AreFetches slot size want cs → KeepsPin other cs
+pub fetches_keep : (slot size other : ℕ) (want : List Bool) (cs : Calls) → AreFetches slot size want cs
+    → KeepsPin other cs
 fetches_keep slot size other want [] h = tt
-fetches_keep slot size other want (c ∷ cs) h = (fetch_keeps slot size other want c.0 h.0, fetches_keep slot size other want cs h.1)
+fetches_keep slot size other want (c ∷ cs) h =
+    (fetch_keeps slot size other want c.0 h.0, fetches_keep slot size other want cs h.1)
 
-pub fetches_pass : (slot size other : ℕ) (want : List Bool) (cs : Calls) → slot ≢ other → AreFetches slot size want cs → PassBy other cs
+pub fetches_pass : (slot size other : ℕ) (want : List Bool) (cs : Calls) → slot ≢ other → AreFetches slot size want cs
+    → PassBy other cs
 fetches_pass slot size other want [] apart h = tt
-fetches_pass slot size other want (c ∷ cs) apart h =
-    (fetch_keeps slot size other want c.0 h.0, fetch_none slot size other want c.0 c.1 apart h.0, fetches_pass slot size other want cs apart h.1)
+fetches_pass slot size other want (c ∷ cs) apart h = (
+  fetch_keeps slot size other want c.0 h.0,
+  fetch_none slot size other want c.0 c.1 apart h.0,
+  fetches_pass slot size
+      other want cs apart h.1,
+)
 
--- By these calls the cursor's pin was taken and not given back, its pages brought its search to where it stands, and these are its hits
+-- By these calls the cursor's pin was taken and not given back, its pages brought its search to where it stands, and
+-- these are its hits
 pub record IsOpen (calls : Calls) (c : Cursor) (hits : List ℕ) : Type 0 where
   pub before : Calls
   pub pages : Calls
@@ -73,7 +86,8 @@ pub record IsOpen (calls : Calls) (c : Cursor) (hits : List ℕ) : Type 0 where
   pub matched : AreMatched c.pattern (records_of (fetched c.slot pages)) hits
   pub count : c.hits ≡ length hits
 
-matched-append : (p : PatternTerm) (rs ss : List Found) (hits more : List ℕ) → AreMatched p rs hits → AreMatched p ss more → AreMatched p (rs ++ ss) (hits ++ more)
+matched-append : (p : PatternTerm) (rs ss : List Found) (hits more : List ℕ) → AreMatched p rs hits
+    → AreMatched p ss more → AreMatched p (rs ++ ss) (hits ++ more)
 matched-append p [] ss hits more m n = subst (λ (h : List ℕ). AreMatched p ss (h ++ more)) (sym m) n
 matched-append p (r ∷ rs) ss hits more (inl m) n =
     inl (m.0, m.1 ++ more, ap (λ h. h ++ more) m.2, matched-append p rs ss m.1 more m.3 n)
@@ -81,9 +95,11 @@ matched-append p (r ∷ rs) ss hits more (inr m) n = inr (m.0, matched-append p 
 
 records-append : (fs gs : List Fetched) → records_of (fs ++ gs) ≡ records_of fs ++ records_of gs
 records-append [] gs = refl
-records-append (f ∷ fs) gs = ap (λ l. f.records ++ l) (records-append fs gs) ∙ sym (append_assoc f.records (records_of fs) (records_of gs))
+records-append (f ∷ fs) gs = ap (λ l. f.records ++ l) (records-append fs gs)
+    ∙ sym (append_assoc f.records (records_of fs) (records_of gs))
 
-search-append : (want : List Bool) (a b d : Place) (fs gs : List Fetched) → IsSearch want a fs b → IsSearch want b gs d → IsSearch want a (fs ++ gs) d
+search-append : (want : List Bool) (a b d : Place) (fs gs : List Fetched) → IsSearch want a fs b → IsSearch want b gs d
+    → IsSearch want a (fs ++ gs) d
 search-append want a b d [] gs s t = subst (λ (p : Place). IsSearch want p gs d) s t
 search-append want a b d (f ∷ fs) gs s t = (s.0, s.1, search-append want (place_after f) b d fs gs s.2 t)
 
@@ -91,14 +107,18 @@ fetched-append : (slot : ℕ) (xs ys : Calls) → fetched slot (xs ++ ys) ≡ fe
 fetched-append slot xs ys = filter_map-append (λ (c : Event × Reply). page_in slot c.0 c.1) xs ys
 
 -- other calls
-pub open_passes : (calls its : Calls) (c : Cursor) (hits : List ℕ) → PassBy c.slot its → IsOpen calls c hits → IsOpen (calls ++ its) c hits
+pub open_passes : (calls its : Calls) (c : Cursor) (hits : List ℕ) → PassBy c.slot its → IsOpen calls c hits
+    → IsOpen (calls ++ its) c hits
 open_passes calls its c hits pass o =
     let same : fetched c.slot (o.pages ++ its) ≡ fetched c.slot o.pages =
-    fetched-append c.slot o.pages its ∙ (ap (λ (fs : List Fetched). fetched c.slot o.pages ++ fs) (passes_none c.slot its pass) ∙ append-nil (fetched c.slot o.pages)) in
+    fetched-append c.slot o.pages its
+    ∙ (ap (λ (fs : List Fetched). fetched c.slot o.pages ++ fs) (passes_none c.slot its pass)
+    ∙ append-nil (fetched c.slot o.pages)) in
     record {
       before = o.before;
       pages = o.pages ++ its;
-      own = ap (λ (l : Calls). l ++ its) o.own ∙ append_assoc o.before ((Pin, replies.Pinned c.slot c.version) ∷ o.pages) its;
+      own = ap (λ (l : Calls). l ++ its) o.own
+          ∙ append_assoc o.before ((Pin, replies.Pinned c.slot c.version) ∷ o.pages) its;
       keeps = keeps-append c.slot o.pages its o.keeps (passes_keep c.slot its pass);
       search = subst (λ (fs : List Fetched). IsSearch c.want (At 0) fs c.place) (sym same) o.search;
       need = o.need;
@@ -108,34 +128,45 @@ open_passes calls its c hits pass o =
     }
 
 -- a page of the pin
-page_more : (calls : Calls) (c : Cursor) (hits more : List ℕ) (size from : ℕ) (records : List Found) (last : Bool) → c.place ≡ At from → AreMatched c.pattern records more
-    → IsOpen calls c hits → IsOpen (calls ++ (Fetch c.slot c.want from size, replies.Page records last) ∷ []) (after_page c from records last more) (hits ++ more)
+page_more : (calls : Calls) (c : Cursor) (hits more : List ℕ) (size from : ℕ) (records : List Found) (last : Bool)
+    → c.place ≡ At from → AreMatched c.pattern records more
+    → IsOpen calls c hits
+    → IsOpen (calls ++ (Fetch c.slot c.want from size, replies.Page records last) ∷ [])
+    (after_page c from records last more) (hits ++ more)
 page_more calls c hits more size from records last e m o =
     let f : Fetched = record { want = c.want; from = from; limit = size; records = records; last = last } in
     let call : Event × Reply = (Fetch c.slot c.want from size, replies.Page records last) in
-    let page : page_in c.slot call.0 call.1 ≡ Some f = cond-true (c.slot == c.slot) (Some f) None (eq-eqb c.slot c.slot refl) in
+    let page : page_in c.slot call.0 call.1 ≡ Some f =
+    cond-true (c.slot == c.slot) (Some f) None (eq-eqb c.slot c.slot refl) in
     let one : fetched c.slot (call ∷ []) ≡ f ∷ [] = ap (λ (o : Option Fetched). cons_option o []) page in
     let all : fetched c.slot (o.pages ++ call ∷ []) ≡ fetched c.slot o.pages ++ f ∷ [] =
     fetched-append c.slot o.pages (call ∷ []) ∙ ap (λ (l : List Fetched). fetched c.slot o.pages ++ l) one in
-    let records_are : records_of (fetched c.slot (o.pages ++ call ∷ [])) ≡ records_of (fetched c.slot o.pages) ++ records =
-    ap records_of all ∙ (records-append (fetched c.slot o.pages) (f ∷ []) ∙ ap (λ (l : List Found). records_of (fetched c.slot o.pages) ++ l) (append-nil records)) in
+    let records_are : records_of (fetched c.slot (o.pages ++ call ∷ [])) ≡ records_of
+    (fetched c.slot o.pages) ++ records =
+    ap records_of all ∙ (records-append (fetched c.slot o.pages) (f ∷ [])
+    ∙ ap (λ (l : List Found). records_of (fetched c.slot o.pages) ++ l) (append-nil records)) in
     record {
       before = o.before;
       pages = o.pages ++ call ∷ [];
-      own = ap (λ (l : Calls). l ++ call ∷ []) o.own ∙ append_assoc o.before ((Pin, replies.Pinned c.slot c.version) ∷ o.pages) (call ∷ []);
+      own = ap (λ (l : Calls). l ++ call ∷ []) o.own
+          ∙ append_assoc o.before ((Pin, replies.Pinned c.slot c.version) ∷ o.pages) (call ∷ []);
       keeps = keeps-append c.slot o.pages (call ∷ []) o.keeps (refl, tt);
-      search = subst (λ (fs : List Fetched). IsSearch c.want (At 0) fs (cond last End (At (past from records)))) (sym all)
-          (search-append c.want (At 0) c.place (cond last End (At (past from records))) (fetched c.slot o.pages) (f ∷ []) o.search (e, refl, refl));
+      search = subst (λ (fs : List Fetched). IsSearch c.want (At 0) fs (cond last End (At (past from records))))
+          (sym all)
+          (search-append c.want (At 0) c.place (cond last End (At (past from records))) (fetched c.slot o.pages)
+          (f ∷ []) o.search (e, refl, refl));
       need = o.need;
       tried = ap (λ (n : ℕ). n + length records) o.tried
-          ∙ (sym (length-append (records_of (fetched c.slot o.pages)) records) ∙ sym (ap (λ (l : List Found). length l) records_are));
+          ∙ (sym (length-append (records_of (fetched c.slot o.pages)) records)
+          ∙ sym (ap (λ (l : List Found). length l) records_are));
       matched = subst (λ (rs : List Found). AreMatched c.pattern rs (hits ++ more)) (sym records_are)
           (matched-append c.pattern (records_of (fetched c.slot o.pages)) records hits more o.matched m);
       count = ap (λ (n : ℕ). n + length more) o.count ∙ sym (length-append hits more);
     }
 
 -- the hits in the lines of a page
-pub hits_listed : (hits : List ℕ) (said : line.Reply) → hits_in (said ∷ []) ≡ [] → hits_in (map line.Hit hits ++ said ∷ []) ≡ hits
+pub hits_listed : (hits : List ℕ) (said : line.Reply) → hits_in (said ∷ []) ≡ []
+    → hits_in (map line.Hit hits ++ said ∷ []) ≡ hits
 hits_listed [] said e = e
 hits_listed (h ∷ hs) said e = ap (λ (l : List ℕ). h ∷ l) (hits_listed hs said e)
 
@@ -153,32 +184,44 @@ pub record IsSame (c c' : Cursor) : Type 0 where
 same_after : (c c' d : Cursor) → c' ≡ d → IsSame c d → IsSame c c'
 same_after c c' d e s = subst (λ (x : Cursor). IsSame c x) (sym e) s
 
-pub advances_same : (size : ℕ) (place : Place) (c : Cursor) (calls : Calls) (lines : Lines) (c' : Cursor) → Advances size place c calls lines c' → IsSame c c'
-advances_same size End c calls lines c' a = same_after c c' c a.1 (record { name = refl; pattern = refl; slot = refl; version = refl })
+pub advances_same : (size : ℕ) (place : Place) (c : Cursor) (calls : Calls) (lines : Lines) (c' : Cursor)
+    → Advances size place c calls lines c' → IsSame c c'
+advances_same size End c calls lines c' a =
+    same_after c c' c a.1 (record { name = refl; pattern = refl; slot = refl; version = refl })
 advances_same size (At from) c calls lines c' (inl t) =
-    same_after c c' (after_page c from t.records t.last t.hits) t.moved (record { name = refl; pattern = refl; slot = refl; version = refl })
-advances_same size (At from) c calls lines c' (inr a) = same_after c c' c a.2 (record { name = refl; pattern = refl; slot = refl; version = refl })
+    same_after c c' (after_page c from t.records t.last t.hits) t.moved
+    (record { name = refl; pattern = refl; slot = refl; version = refl })
+advances_same size (At from) c calls lines c' (inr a) =
+    same_after c c' c a.2 (record { name = refl; pattern = refl; slot = refl; version = refl })
 
 -- its calls are fetches of its pin
-pub advances_fetch : (size : ℕ) (place : Place) (c : Cursor) (calls : Calls) (lines : Lines) (c' : Cursor) → Advances size place c calls lines c' → AreFetches c.slot size c.want calls
+pub advances_fetch : (size : ℕ) (place : Place) (c : Cursor) (calls : Calls) (lines : Lines) (c' : Cursor)
+    → Advances size place c calls lines c' → AreFetches c.slot size c.want calls
 advances_fetch size End c calls lines c' a = subst (λ (l : Calls). AreFetches c.slot size c.want l) (sym a.0.0) tt
-advances_fetch size (At from) c calls lines c' (inl t) = subst (λ (l : Calls). AreFetches c.slot size c.want l) (sym t.made) ((refl, refl, refl), tt)
-advances_fetch size (At from) c calls lines c' (inr a) = subst (λ (l : Calls). AreFetches c.slot size c.want l) (sym a.0) ((refl, refl, refl), tt)
+advances_fetch size (At from) c calls lines c' (inl t) =
+    subst (λ (l : Calls). AreFetches c.slot size c.want l) (sym t.made) ((refl, refl, refl), tt)
+advances_fetch size (At from) c calls lines c' (inr a) =
+    subst (λ (l : Calls). AreFetches c.slot size c.want l) (sym a.0) ((refl, refl, refl), tt)
 
 -- the cursor goes on, and lists the hits among its lines
-pub open_advances : (size : ℕ) (place : Place) (calls its : Calls) (lines : Lines) (c c' : Cursor) (hits : List ℕ) → c.place ≡ place
+pub open_advances : (size : ℕ) (place : Place) (calls its : Calls) (lines : Lines) (c c' : Cursor) (hits : List ℕ)
+    → c.place ≡ place
     → Advances size place c its lines c' → IsOpen calls c hits → IsOpen (calls ++ its) c' (hits ++ hits_in lines)
 open_advances size End calls its lines c c' hits e a o =
     let none : hits_in lines ≡ [] = ap hits_in a.0.1 in
     let same : IsOpen (calls ++ []) c hits = open_passes calls [] c hits tt o in
     subst (λ (x : Cursor). IsOpen (calls ++ its) x (hits ++ hits_in lines)) (sym a.1)
     (subst (λ (l : Calls). IsOpen (calls ++ l) c (hits ++ hits_in lines)) (sym a.0.0)
-    (subst (λ (l : List ℕ). IsOpen (calls ++ []) c l) (sym (ap (λ (l : List ℕ). hits ++ l) none ∙ append-nil hits)) same))
+    (subst (λ (l : List ℕ). IsOpen (calls ++ []) c l)
+    (sym (ap (λ (l : List ℕ). hits ++ l) none ∙ append-nil hits)) same))
 open_advances size (At from) calls its lines c c' hits e (inl t) o =
-    let listed : hits_in lines ≡ t.hits = ap hits_in t.said ∙ hits_listed t.hits (page_end t.last c') (no_hit t.last c') in
+    let listed : hits_in lines ≡ t.hits =
+    ap hits_in t.said ∙ hits_listed t.hits (page_end t.last c') (no_hit t.last c') in
     subst (λ (x : Cursor). IsOpen (calls ++ its) x (hits ++ hits_in lines)) (sym t.moved)
-    (subst (λ (l : Calls). IsOpen (calls ++ l) (after_page c from t.records t.last t.hits) (hits ++ hits_in lines)) (sym t.made)
-    (subst (λ (l : List ℕ). IsOpen (calls ++ (Fetch c.slot c.want from size, replies.Page t.records t.last) ∷ []) (after_page c from t.records t.last t.hits) (hits ++ l)) (sym listed)
+    (subst (λ (l : Calls). IsOpen (calls ++ l) (after_page c from t.records t.last t.hits) (hits ++ hits_in lines))
+    (sym t.made)
+    (subst (λ (l : List ℕ). IsOpen (calls ++ (Fetch c.slot c.want from size, replies.Page t.records t.last) ∷ [])
+    (after_page c from t.records t.last t.hits) (hits ++ l)) (sym listed)
     (page_more calls c hits t.hits size from t.records t.last e t.matched o)))
 open_advances size (At from) calls its lines c c' hits e (inr a) o =
     let none : hits_in lines ≡ [] = ap hits_in a.1 in
@@ -186,4 +229,5 @@ open_advances size (At from) calls its lines c c' hits e (inr a) o =
     open_passes calls ((Fetch c.slot c.want from size, replies.NoMemory) ∷ []) c hits (refl, refl, tt) o in
     subst (λ (x : Cursor). IsOpen (calls ++ its) x (hits ++ hits_in lines)) (sym a.2)
     (subst (λ (l : Calls). IsOpen (calls ++ l) c (hits ++ hits_in lines)) (sym a.0)
-    (subst (λ (l : List ℕ). IsOpen (calls ++ (Fetch c.slot c.want from size, replies.NoMemory) ∷ []) c l) (sym (ap (λ (l : List ℕ). hits ++ l) none ∙ append-nil hits)) same))
+    (subst (λ (l : List ℕ). IsOpen (calls ++ (Fetch c.slot c.want from size, replies.NoMemory) ∷ []) c l)
+    (sym (ap (λ (l : List ℕ). hits ++ l) none ∙ append-nil hits)) same))

@@ -2,6 +2,7 @@
 use Rattle.std.proofs.Common.{◌≡◌, ◌⊎◌, ◌++◌, ◌∙◌, ap, ap₂, append-nil, append_assoc, inl, inr, List, [], ◌∷◌, map, refl, subst, sym, ℕ}
 use Rattle.io_edge.specs.Lines.{TextLine}
 use Rattle.shell_lang.specs.Reply.{text_of}
+use Rattle.store_machine.specs.Runs.{calls_of}
 use Rattle.store_machine.specs.declared.machine.Change.{Change}
 use Rattle.session_run.specs.Answer.{Lines, RequestAnswer}
 use Rattle.session_run.specs.Cursors.{Calls, Cursor, unpins}
@@ -12,15 +13,18 @@ use Rattle.session_run.specs.Truths.{CursorsAreTrue, DialoguesAreTrue, IsInRun, 
 use Rattle.session_run.proofs.Scripts.{answers_more, begin_more}
 
 -- the exchanges of requests that were answered
-record Spoken (size : ℕ) (cursors : List Cursor) (requests : List Request) (calls : Calls) (text : List ℕ) (cursors' : List Cursor) : Type 0 where
+record Spoken (size : ℕ) (cursors : List Cursor) (requests : List Request) (calls : Calls) (text : List ℕ)
+    (cursors' : List Cursor) : Type 0 where
   exchanges : List Exchange
   exchanged : AreExchanged size cursors exchanges calls cursors'
   requests_are : requests_of exchanges ≡ requests
   text_is : text ≡ replies_of exchanges
 
-spoken : (size : ℕ) (cursors : List Cursor) (requests : List Request) (calls : Calls) (text : List ℕ) (cursors' : List Cursor)
+spoken : (size : ℕ) (cursors : List Cursor) (requests : List Request) (calls : Calls) (text : List ℕ)
+    (cursors' : List Cursor)
     → AreAnswered size cursors requests calls text cursors' → Spoken size cursors requests calls text cursors'
-spoken size cursors [] calls text cursors' a = record { exchanges = []; exchanged = (a.0, a.2); requests_are = refl; text_is = a.1 }
+spoken size cursors [] calls text cursors' a =
+    record { exchanges = []; exchanged = (a.0, a.2); requests_are = refl; text_is = a.1 }
 spoken size cursors (r ∷ rs) calls text cursors' a =
     let rest = spoken size a.4 rs a.1 a.3 cursors' a.8 in
     let x : Exchange = record { request = r; lines = a.2 } in
@@ -31,56 +35,75 @@ spoken size cursors (r ∷ rs) calls text cursors' a =
       text_is = a.7 ∙ ap (λ (l : List ℕ). text_of a.2 ++ l) rest.text_is;
     }
 
-module _ (law : DialoguesAreTrue) (size : ℕ) (lines : List TextLine) (h : List Change) where
-  -- answers in a run
-  answered_true : (requests : List Request) (left : List TextLine) (own more : Calls) (text said : List ℕ) (cursors : List Cursor) → IsInRun (own ++ more) h
-      → BeginWithAll lines requests left → AreAnswered size [] requests own said cursors → IsPrefixOf text said → IsTrueBeginning h lines text
-  answered_true requests left own more text said cursors r begin a part =
+module _ (law : DialoguesAreTrue) (size : ℕ) (lines : List TextLine) (h : List Change) (calls : Calls)
+    (r : IsInRun calls h) where
+  -- the laws of a dialogue whose calls are the first ones
+  both : (exchanges : List Exchange) (own more : Calls) (cursors : List Cursor) → calls ≡ own ++ more
+      → AreExchanged size [] exchanges own cursors → SearchesAreTrue h exchanges × CursorsAreTrue h exchanges
+  both exchanges own more cursors e a =
+      let made : calls_of r.own r.steps ≡ own ++ (more ++ r.more) =
+      r.made ∙ (ap (λ (l : Calls). l ++ r.more) e ∙ append_assoc own more r.more) in
+      subst (λ (g : List Change). SearchesAreTrue g exchanges × CursorsAreTrue g exchanges) (sym r.is)
+      (law r.before r.after r.steps r.own size exchanges own (more ++ r.more) cursors r.sound r.run r.calm made a)
+
+  transcript_true : (text : List ℕ) → IsTranscript size lines calls text → IsTrueTranscript h size lines calls text
+  transcript_true text (requests, own, cursors, begin, a, all) =
+      let k = spoken size [] requests own text cursors a in
+      let truths = both k.exchanges own (unpins cursors) cursors all k.exchanged in
+      record {
+        exchanges = k.exchanges;
+        begin = subst (λ (l : List Request). BeginWithAll lines l []) (sym k.requests_are) begin;
+        said = k.text_is;
+        own = own;
+        left_open = cursors;
+        exchanged = k.exchanged;
+        made = (unpins cursors, sym all);
+        searches = truths.0;
+        cursors = truths.1;
+      }
+
+  -- requests that were answered by the first calls
+  answered_true : (requests : List Request) (left : List TextLine) (own more : Calls) (text said : List ℕ)
+      (cursors : List Cursor) → calls ≡ own ++ more → BeginWithAll lines requests left
+      → AreAnswered size [] requests own said cursors → IsPrefixOf text said → IsTrueBeginning h size lines calls text
+  answered_true requests left own more text said cursors all begin a part =
       let k = spoken size [] requests own said cursors a in
-      let made = r.made ∙ append_assoc own more r.more in
-      let both = law r.before r.after r.steps r.own size k.exchanges own (more ++ r.more) cursors r.sound r.run r.calm made k.exchanged in
+      let truths = both k.exchanges own more cursors all k.exchanged in
       record {
         exchanges = k.exchanges;
         left = left;
         begin = subst (λ (l : List Request). BeginWithAll lines l left) (sym k.requests_are) begin;
         said = (part.0, part.1 ∙ k.text_is);
-        searches = subst (λ (g : List Change). SearchesAreTrue g k.exchanges) (sym r.is) both.0;
-        cursors = subst (λ (g : List Change). CursorsAreTrue g k.exchanges) (sym r.is) both.1;
+        own = own;
+        left_open = cursors;
+        exchanged = k.exchanged;
+        made = (more, sym all);
+        searches = truths.0;
+        cursors = truths.1;
       }
 
-  transcript_true : (calls : Calls) (text : List ℕ) → IsInRun calls h → IsTranscript size lines calls text → IsTrueTranscript h lines text
-  transcript_true calls text r (requests, own, cursors, begin, a, all) =
-      let in_run : IsInRun (own ++ unpins cursors) h = subst (λ (l : Calls). IsInRun l h) all r in
-      let made = in_run.made ∙ append_assoc own (unpins cursors) in_run.more in
-      let k = spoken size [] requests own text cursors a in
-      let both = law in_run.before in_run.after in_run.steps in_run.own size k.exchanges own (unpins cursors ++ in_run.more) cursors in_run.sound in_run.run in_run.calm made k.exchanged in
-      record {
-        exchanges = k.exchanges;
-        begin = subst (λ (l : List Request). BeginWithAll lines l []) (sym k.requests_are) begin;
-        said = k.text_is;
-        searches = subst (λ (g : List Change). SearchesAreTrue g k.exchanges) (sym in_run.is) both.0;
-        cursors = subst (λ (g : List Change). CursorsAreTrue g k.exchanges) (sym in_run.is) both.1;
-      }
-
-  stops_true : (calls own : Calls) (cursors : List Cursor) (text : List ℕ) → IsInRun (own ++ unpins cursors) h → Stops size lines own text cursors → IsTrueBeginning h lines text
-  stops_true calls own cursors text r stops = by stops.last where
+  stops_true : (own : Calls) (cursors : List Cursor) (text : List ℕ) → calls ≡ own ++ unpins cursors
+      → Stops size lines own text cursors → IsTrueBeginning h size lines calls text
+  stops_true own cursors text all stops = by stops.last where
     by : ((own ≡ stops.own) × (text ≡ stops.replies) × (cursors ≡ stops.cursors_open))
         ⊎ ((request : Request) × (more : List TextLine) × BeginWith stops.left request more
         × (its : Calls) × (said : Lines) × (part : List ℕ) × RequestAnswer size stops.cursors_open request its said cursors
-        × (own ≡ stops.own ++ its) × IsPrefixOf part (text_of said) × (text ≡ stops.replies ++ part)) → IsTrueBeginning h lines text
+        × (own ≡ stops.own ++ its) × IsPrefixOf part (text_of said) × (text ≡ stops.replies ++ part))
+        → IsTrueBeginning h size lines calls text
     by (inl e) = answered_true stops.requests stops.left stops.own (unpins cursors) text stops.replies stops.cursors_open
-        (subst (λ (l : Calls). IsInRun (l ++ unpins cursors) h) e.0 r) stops.begin stops.answered ([], append-nil text ∙ e.1)
+        (all ∙ ap (λ (l : Calls). l ++ unpins cursors) e.0) stops.begin stops.answered ([], append-nil text ∙ e.1)
     by (inr e) =
         let part : (stops.replies ++ e.5) ++ e.8.0 ≡ stops.replies ++ text_of e.4 =
         append_assoc stops.replies e.5 e.8.0 ∙ ap (λ (l : List ℕ). stops.replies ++ l) e.8.1 in
-        answered_true (stops.requests ++ e.0 ∷ []) e.1 (stops.own ++ e.3) (unpins cursors) text (stops.replies ++ text_of e.4) cursors
-        (subst (λ (l : Calls). IsInRun (l ++ unpins cursors) h) e.7 r)
+        answered_true (stops.requests ++ e.0 ∷ []) e.1 (stops.own ++ e.3) (unpins cursors) text
+        (stops.replies ++ text_of e.4) cursors (all ∙ ap (λ (l : Calls). l ++ unpins cursors) e.7)
         (begin_more lines stops.left e.1 stops.requests e.0 stops.begin e.2)
         (answers_more size [] stops.cursors_open cursors stops.requests e.0 stops.own e.3 stops.replies e.4 stops.answered e.6)
         (e.8.0, ap (λ (l : List ℕ). l ++ e.8.0) e.9 ∙ part)
 
-  prefix_true : (calls : Calls) (text : List ℕ) → IsInRun calls h → IsTranscriptPrefix size lines calls text → IsTrueBeginning h lines text
-  prefix_true calls text r (own, cursors, stops, all) = stops_true calls own cursors text (subst (λ (l : Calls). IsInRun l h) all r) stops
+  prefix_true : (text : List ℕ) → IsTranscriptPrefix size lines calls text → IsTrueBeginning h size lines calls text
+  prefix_true text (own, cursors, stops, all) = stops_true own cursors text all stops
 
 pub transcripts-are-true : DialoguesAreTrue → TranscriptsAreTrue
-transcripts-are-true law size lines calls text h r = (transcript_true law size lines h calls text r, prefix_true law size lines h calls text r)
+transcripts-are-true law size lines calls text h r =
+    (transcript_true law size lines h calls r text, prefix_true law size lines h calls r text)

@@ -47,7 +47,8 @@ hits_in (_ ∷ lines) = hits_in lines
 abbrev pub AreListed : List ℕ → List Exchange → List ℕ → Type 0
 AreListed name [] hits = hits ≡ []
 AreListed name (x ∷ xs) hits =
-    (IsCommand x.request (command.Next name) × (more : List ℕ) × (hits ≡ hits_in x.lines ++ more) × AreListed name xs more)
+    (IsCommand x.request (command.Next name) × (more : List ℕ) × (hits ≡ hits_in x.lines ++ more)
+    × AreListed name xs more)
     ⊎ (¬ IsCommand x.request (command.Next name) × AreListed name xs hits)
 
 -- no request closes the cursor of the name

@@ -1,4 +1,5 @@
--- For callers: the laws of what a session lists. Its searches and cursors list the hits that the history has, whatever others did meanwhile.
+-- For callers: the laws of what a session lists. Its searches and cursors list the hits that the history has, whatever
+-- others did meanwhile.
 use Rattle.std.specs.Prelude.{◌≡◌, ◌≤◌, ℕ, Bool, Contains, List, [], ◌∷◌, ◌++◌, length}
 use Rattle.io_edge.specs.Lines.{TextLine}
 use Rattle.shell_lang.specs.Command as command
@@ -20,7 +21,8 @@ use Rattle.session_run.specs.Requests.{BeginWithAll}
 use Rattle.session_run.specs.Texts.{IsPatternOf}
 use Rattle.session_run.specs.Transcript.{IsPrefixOf, IsTranscript, IsTranscriptPrefix}
 
--- These are the hits of the pattern at a version of the history, each once, ascending; and so many records have in their print what the pattern needs
+-- These are the hits of the pattern at a version of the history, each once, ascending; and so many records have in
+-- their print what the pattern needs
 pub record AreAllHits (h : List Change) (version : ℕ) (pattern : PatternTerm) (tried : ℕ) (hits : List ℕ) : Type 0 where
   pub are : AreHits h version pattern hits
   pub want : List Bool
@@ -33,10 +35,12 @@ pub record AreAllHits (h : List Change) (version : ℕ) (pattern : PatternTerm) 
 abbrev pub IsUpToDate : List Change → Calls → ℕ → Type 0
 IsUpToDate h before version = (version ≤ head h) × ((v : ℕ) → IsTold before v → v ≤ version)
 
--- A search that came to its end listed the hits of the history, at a version no older than any that its caller was told before
+-- A search that came to its end listed the hits of the history, at a version no older than any that its caller was told
+-- before
 abbrev pub SearchesAreHits : Type 0
 SearchesAreHits =
-    (s t : State) (steps : List Step) (own : ℕ → Bool) (size : ℕ) (pattern : PatternTerm) (before its after : Calls) (lines : Lines)
+    (s t : State) (steps : List Step) (own : ℕ → Bool) (size : ℕ) (pattern : PatternTerm) (before its after : Calls)
+    (lines : Lines)
     → IsSound s → IsRun s steps t → IsCalm steps → calls_of own steps ≡ before ++ its ++ after
     → (search : Searches size pattern its lines) → search.place ≡ End
     → AreAllHits t.history search.version pattern search.tried search.hits × IsUpToDate t.history before search.version
@@ -56,8 +60,8 @@ SearchesAreTrue h exchanges =
     → IsCommand x.request (command.Search text) → Contains x.lines (line.End version tried count)
     → IsTrueList h text version tried count (hits_in x.lines) × ((v : ℕ) → IsShown before v → v ≤ version)
 
--- Each cursor that was opened, and whose pages came to their end before it was closed, listed the hits at the version of its opening;
--- and that is no older than any version that a line before shows
+-- Each cursor that was opened, and whose pages came to their end before it was closed, listed the hits at the version
+-- of its opening; and that is no older than any version that a line before the opening shows
 abbrev pub CursorsAreTrue : List Change → List Exchange → Type 0
 CursorsAreTrue h exchanges =
     (before between after : List Exchange) (x y : Exchange) (name text hits : List ℕ) (opened version tried count : ℕ)
@@ -71,28 +75,41 @@ CursorsAreTrue h exchanges =
 -- a dialogue over a part of a run that begins at a sound state
 abbrev pub DialoguesAreTrue : Type 0
 DialoguesAreTrue =
-    (s t : State) (steps : List Step) (own : ℕ → Bool) (size : ℕ) (exchanges : List Exchange) (calls more : Calls) (cursors : List Cursor)
-    → IsSound s → IsRun s steps t → IsCalm steps → calls_of own steps ≡ calls ++ more → AreExchanged size [] exchanges calls cursors
+    (s t : State) (steps : List Step) (own : ℕ → Bool) (size : ℕ) (exchanges : List Exchange) (calls more : Calls)
+    (cursors : List Cursor)
+    → IsSound s → IsRun s steps t → IsCalm steps → calls_of own steps ≡ calls ++ more
+    → AreExchanged size [] exchanges calls cursors
     → SearchesAreTrue t.history exchanges × CursorsAreTrue t.history exchanges
 
--- the text is the replies of a dialogue over all the lines, in which every search and every cursor that came to its end listed the hits of the history
-pub record IsTrueTranscript (h : List Change) (lines : List TextLine) (text : List ℕ) : Type 0 where
+-- A transcript in which every search and every cursor that came to its end listed the hits of the history: the text is
+-- the replies of a dialogue over all the lines, and the calls of the dialogue are the first of these
+pub record IsTrueTranscript (h : List Change) (size : ℕ) (lines : List TextLine) (calls : Calls) (text : List ℕ)
+    : Type 0 where
   pub exchanges : List Exchange
   pub begin : BeginWithAll lines (requests_of exchanges) []
   pub said : text ≡ replies_of exchanges
+  pub own : Calls
+  pub left_open : List Cursor
+  pub exchanged : AreExchanged size [] exchanges own left_open
+  pub made : IsPrefixOf own calls
   pub searches : SearchesAreTrue h exchanges
   pub cursors : CursorsAreTrue h exchanges
 
--- the same where a session stopped early: the text is a beginning of such replies
-pub record IsTrueBeginning (h : List Change) (lines : List TextLine) (text : List ℕ) : Type 0 where
+-- The same of a session that stopped early: the text is a beginning of the replies of a dialogue over the first lines
+pub record IsTrueBeginning (h : List Change) (size : ℕ) (lines : List TextLine) (calls : Calls) (text : List ℕ)
+    : Type 0 where
   pub exchanges : List Exchange
   pub left : List TextLine
   pub begin : BeginWithAll lines (requests_of exchanges) left
   pub said : IsPrefixOf text (replies_of exchanges)
+  pub own : Calls
+  pub left_open : List Cursor
+  pub exchanged : AreExchanged size [] exchanges own left_open
+  pub made : IsPrefixOf own calls
   pub searches : SearchesAreTrue h exchanges
   pub cursors : CursorsAreTrue h exchanges
 
--- a run from a sound state in which these are among the caller's own calls, from the first on
+-- a run from a sound state in which these are the caller's own calls, perhaps with others behind them
 pub record IsInRun (calls : Calls) (h : List Change) : Type 0 where
   pub before : State
   pub after : State
@@ -105,9 +122,9 @@ pub record IsInRun (calls : Calls) (h : List Change) : Type 0 where
   pub made : calls_of own steps ≡ calls ++ more
   pub is : h ≡ after.history
 
--- A transcript over such a run is true by the history at the run's end, and so is the beginning of one
+-- a transcript over such a run is true by the history at the run's end, and so is the beginning of one
 abbrev pub TranscriptsAreTrue : Type 0
 TranscriptsAreTrue =
     (size : ℕ) (lines : List TextLine) (calls : Calls) (text : List ℕ) (h : List Change) → IsInRun calls h
-    → (IsTranscript size lines calls text → IsTrueTranscript h lines text)
-    × (IsTranscriptPrefix size lines calls text → IsTrueBeginning h lines text)
+    → (IsTranscript size lines calls text → IsTrueTranscript h size lines calls text)
+    × (IsTranscriptPrefix size lines calls text → IsTrueBeginning h size lines calls text)
