@@ -17,7 +17,7 @@ use Rattle.session_run.specs.Cursors.{Calls, Cursor, IsNoName}
 use Rattle.session_run.specs.Dialogue.{AreExchanged, AreListed, Exchange, IsCommand, StaysOpen, hits_in}
 use Rattle.session_run.specs.Made.{AreHeld, HasSlot}
 use Rattle.session_run.specs.Requests.{Request}
-use Rattle.session_run.proofs.Kinds.{Closed, Kind, Moved, Opened, Other, Searched, first_or_rest, kind, none_in}
+use Rattle.session_run.proofs.Acts.{Closed, Kind, Moved, Opened, Other, Searched, first_or_rest, kind, none_in}
 use Rattle.session_run.proofs.Passing.{IsOpen, IsSame, PassBy, advances_fetch, advances_same, fetches_pass, open_advances, open_passes, passes-append}
 use Rattle.session_run.proofs.Pinned.{AreFree, IsPinned, grouped, new_slot, next_calls, pin_first}
 

@@ -16,7 +16,7 @@ pub mod Closing
 pub mod Growing
 pub mod Parting
 pub mod Passing
-pub mod Kinds
+pub mod Acts
 pub mod Pinned
 pub mod Followed
 pub mod Truth

@@ -14,7 +14,7 @@ use Rattle.session_run.specs.Dialogue.{AreExchanged, Exchange, IsShown, IsShownI
 use Rattle.session_run.specs.Made.{AreHeld, HasSlot}
 use Rattle.session_run.specs.Requests.{Request}
 use Rattle.session_run.proofs.Held.{held-at, held-moved}
-use Rattle.session_run.proofs.Kinds.{Closed, Kind, Moved, Opened, Other, Searched, kind}
+use Rattle.session_run.proofs.Acts.{Closed, Kind, Moved, Opened, Other, Searched, kind}
 use Rattle.session_run.proofs.Passing.{PassBy, advances_fetch, advances_same, fetches_keep, keeps-append, passes_keep}
 
 -- the pin was taken and not given back

@@ -24,33 +24,33 @@ use Rattle.session_run.specs.Requests.{Request}
 use Rattle.session_run.specs.Texts.{IsPatternOf}
 use Rattle.session_run.specs.Truths.{AreAllHits, CursorsAreTrue, DialoguesAreTrue, IsTrueList, IsUpToDate, SearchesAreHits, SearchesAreTrue}
 use Rattle.session_run.proofs.Followed.{Follows, OneReading, follow, follow_all, follow_new, one_command, places}
-use Rattle.session_run.proofs.Kinds.{Closed, Kind, Moved, Opened, Other, Searched, first_or_rest, kind, one_in}
+use Rattle.session_run.proofs.Acts.{Closed, Kind, Moved, Opened, Other, Searched, first_or_rest, kind, one_in}
 use Rattle.session_run.proofs.Parting.{Laws, pin_new, slot_free, whole_pages}
 use Rattle.session_run.proofs.Passing.{IsOpen, advances_same, fetches_keep, hits_listed, open_advances}
 use Rattle.session_run.proofs.Pinned.{AreFree, dialogue_pins, next_calls, pin_first}
 
 -- A search
 cut_calls : (before pages after : Calls) (pin unpin : Event × Reply)
-    → before ++ (pin ∷ (pages ++ unpin ∷ [])) ++ after ≡ (before ++ pin ∷ pages) ++ unpin ∷ after
+    → before ++ ((pin ∷ (pages ++ unpin ∷ [])) ++ after) ≡ (before ++ pin ∷ pages) ++ unpin ∷ after
 cut_calls before pages after pin unpin =
     ap (λ (l : Calls). before ++ pin ∷ l) (append_assoc pages (unpin ∷ []) after)
     ∙ sym (append_assoc before (pin ∷ pages) (unpin ∷ after))
 
 pub searches-are-hits : Laws → SearchesAreHits
-searches-are-hits laws s t steps own size pattern before its after lines sound run calm e search ended =
-    let pin : Event × Reply = (events.Pin, replies.Pinned search.slot search.version) in
-    let unpin : Event × Reply = (events.Unpin search.slot, replies.Unpinned) in
-    let made : calls_of own steps ≡ before ++ (pin ∷ (search.pages ++ unpin ∷ [])) ++ after =
-    e ∙ ap (λ (l : Calls). before ++ l ++ after) search.made in (
-      whole_pages laws own s t steps before search.pages
-          (unpin ∷ after) search.slot search.version search.tried pattern search.searched.want search.hits
-          sound run calm (made ∙ cut_calls before search.pages after pin unpin)
-          (fetches_keep search.slot size search.slot search.searched.want search.pages search.searched.fetches)
-          (subst (λ (p : Place). IsSearch search.searched.want (At 0) (fetched search.slot search.pages) p) ended
-          search.searched.search)
-          search.searched.need search.searched.matched search.searched.count,
+searches-are-hits laws s t steps own size pattern before its after lines sound run calm e found ended =
+    let pin : Event × Reply = (events.Pin, replies.Pinned found.slot found.version) in
+    let unpin : Event × Reply = (events.Unpin found.slot, replies.Unpinned) in
+    let made : calls_of own steps ≡ before ++ ((pin ∷ (found.pages ++ unpin ∷ [])) ++ after) =
+    e ∙ ap (λ (l : Calls). before ++ (l ++ after)) found.made in (
+      whole_pages laws own s t steps before found.pages
+          (unpin ∷ after) found.slot found.version found.tried pattern found.searched.want found.hits
+          sound run calm (made ∙ cut_calls before found.pages after pin unpin)
+          (fetches_keep found.slot size found.slot found.searched.want found.pages found.searched.fetches)
+          (subst (λ (p : Place). IsSearch found.searched.want (At 0) (fetched found.slot found.pages) p) ended
+          found.searched.search)
+          found.searched.need found.searched.matched found.searched.count,
       pin_new laws own s t steps before
-          ((search.pages ++ unpin ∷ []) ++ after) search.slot search.version sound run calm made,
+          ((found.pages ++ unpin ∷ []) ++ after) found.slot found.version sound run calm made,
     )
 
 -- The end among lines
@@ -347,17 +347,17 @@ module _ (laws : Laws) (reading : OneReading) (s t : State) (steps : List Step) 
   searched before after x text version tried count a (Closed name front back d was at made said now) is k =
       absurd (close_or_search name text
       (one_command reading x.request (command.Close name) (command.Search text) was is))
-  searched before after x text version tried count a (Searched other p was reads search same) is k =
-      let e = search_end search.place search.version search.tried search.hits x.lines version tried count search.lists k
+  searched before after x text version tried count a (Searched other p was reads found same) is k =
+      let e = search_end found.place found.version found.tried found.hits x.lines version tried count found.lists k
       in
       let true_all = searches-are-hits laws s t steps own size p a.first a.its
-      (a.rest ++ more) x.lines sound run calm a.calls_are search e.place_is in (
+      (a.rest ++ more) x.lines sound run calm a.calls_are found e.place_is in (
         record {
           pattern = p;
           is = subst (λ (l : List ℕ). IsPatternOf l p)
               (one_search other text
               (one_command reading x.request (command.Search other) (command.Search text) was is)) reads;
-          all = same_hits t.history search.version version search.tried tried p p search.hits
+          all = same_hits t.history found.version version found.tried tried p p found.hits
               (hits_in x.lines) e.numbers.version_is e.numbers.tried_is refl (sym e.listed) true_all.0;
           length_is = sym e.numbers.hits_is ∙ ap (λ (l : List ℕ). length l) (sym e.listed);
         },
@@ -421,7 +421,7 @@ module _ (laws : Laws) (reading : OneReading) (s t : State) (steps : List Step) 
   opened before between after x y name text hits version0 version tried count a
       (Other pass plain same) start k kept next end list = absurd (plain.opens version0 k)
   opened before between after x y name text hits version0 version tried count a
-      (Searched other p was reads search same) start k kept next end list =
+      (Searched other p was reads found same) start k kept next end list =
       absurd (search_or_start other text name
       (one_command reading x.request (command.Search other) (command.Start name text) was start))
   opened before between after x y name text hits version0 version tried count a

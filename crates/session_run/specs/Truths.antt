@@ -41,7 +41,7 @@ abbrev pub SearchesAreHits : Type 0
 SearchesAreHits =
     (s t : State) (steps : List Step) (own : ℕ → Bool) (size : ℕ) (pattern : PatternTerm) (before its after : Calls)
     (lines : Lines)
-    → IsSound s → IsRun s steps t → IsCalm steps → calls_of own steps ≡ before ++ its ++ after
+    → IsSound s → IsRun s steps t → IsCalm steps → calls_of own steps ≡ before ++ (its ++ after)
     → (search : Searches size pattern its lines) → search.place ≡ End
     → AreAllHits t.history search.version pattern search.tried search.hits × IsUpToDate t.history before search.version
 
