@@ -1,7 +1,7 @@
 -- What a request did: its command, its calls, what its lines say, and the cursors after it.
-use Rattle.std.proofs.Common.{◌≡◌, ◌⊎◌, ◌++◌, ◌∙◌, ap, arith, Contains, Err, false, inl, inr, length, List, [], ◌∷◌, map, None, Ok, Option, refl, Result, Some, subst, sym, true, ℕ, Bool}
+use Rattle.std.proofs.Common.{◌≡◌, ◌⊎◌, ◌++◌, arith, Contains, Err, false, inl, inr, List, [], ◌∷◌, None, Ok, Option, refl, Result, Some, subst, sym, ℕ}
 use Rattle.std.proofs.lemmas.List.Elements.{Contains-append_cases, Contains-push_cases}
-use Rattle.io_edge.specs.Lines.{TextLine, Whole}
+use Rattle.io_edge.specs.Lines.{Whole}
 use Rattle.mol_finish.specs.declared.fault.Format.{Format}
 use Rattle.mol_finish.specs.declared.fault.Format.TheVariants.{Smiles, Molfile}
 use Rattle.shell_lang.specs.Command as command

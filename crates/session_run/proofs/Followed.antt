@@ -1,24 +1,21 @@
 -- One cursor followed through a dialogue, from its opening on: what it listed, whatever is asked between its pages.
-use Rattle.std.proofs.Common.{◌≡◌, ◌≢◌, ◌⊎◌, ◌++◌, ◌==◌, ◌∙◌, All, ap, ap₂, append-nil, append_assoc, arith, Bool, Contains, Err, false, inl, inr, length, List, [], ◌∷◌, map, ne_eqb, None, Ok, refl, Result, Some, subst, sym, true, ℕ}
-use Rattle.std.proofs.lemmas.List.Elements.{All-head, All-tail, Contains-append_cases}
-use Rattle.io_edge.specs.Lines.{TextLine, Whole}
+use Rattle.std.proofs.Common.{◌≡◌, ◌≢◌, ◌⊎◌, ◌++◌, ◌∙◌, ap, ap₂, append-nil, append_assoc, inl, inr, List, [], ◌∷◌, ne_eqb, Ok, refl, Result, subst, sym, ℕ}
+use Rattle.std.proofs.lemmas.List.Elements.{All-head, All-tail}
+use Rattle.io_edge.specs.Lines.{Whole}
 use Rattle.shell_lang.specs.Command as command
 use Rattle.shell_lang.specs.Command.{Command, IsLine}
-use Rattle.shell_lang.specs.Reply as line
 use Rattle.shell_lang.specs.declared.command.LineRefusal.{LineRefusal}
 use Rattle.smarts_parse.specs.Pattern.{PatternTerm}
-use Rattle.store_machine.specs.Searches.{At, End, KeepsPin, Place, page_in, unpins}
-use Rattle.store_machine.specs.declared.machine.Event.{Event}
+use Rattle.store_machine.specs.Searches.{At}
 use Rattle.store_machine.specs.declared.machine.Event.TheVariants as events
-use Rattle.store_machine.specs.declared.machine.Reply.{Reply}
 use Rattle.store_machine.specs.declared.machine.Reply.TheVariants as replies
-use Rattle.session_run.specs.Answer.{Advances, IsNamed, Lines, Opens, Searches, page_end}
+use Rattle.session_run.specs.Answer.{Advances, Lines, Opens, Searches}
 use Rattle.session_run.specs.Cursors.{Calls, Cursor, IsNoName}
 use Rattle.session_run.specs.Dialogue.{AreExchanged, AreListed, Exchange, IsCommand, StaysOpen, hits_in}
-use Rattle.session_run.specs.Made.{AreHeld, HasSlot}
+use Rattle.session_run.specs.Made.{AreHeld}
 use Rattle.session_run.specs.Requests.{Request}
-use Rattle.session_run.proofs.Acts.{Closed, Kind, Moved, Opened, Other, Searched, first_or_rest, kind, none_in}
-use Rattle.session_run.proofs.Passing.{IsOpen, IsSame, PassBy, advances_fetch, advances_same, fetches_pass, open_advances, open_passes, passes-append}
+use Rattle.session_run.proofs.Acts.{Closed, Kind, Moved, Opened, Other, Searched, kind}
+use Rattle.session_run.proofs.Passing.{IsOpen, PassBy, advances_fetch, advances_same, fetches_pass, open_advances, open_passes, passes-append}
 use Rattle.session_run.proofs.Pinned.{AreFree, IsPinned, grouped, new_slot, next_calls, pin_first}
 
 -- a line has one reading

@@ -1,10 +1,8 @@
 -- A run's history grows, and no reply tells a version that the history does not have.
-use Rattle.std.proofs.Common.{◌≡◌, ◌⊎◌, ◌&&◌, ◌++◌, ◌+◌, ◌≤◌, ◌∙◌, ap, append-nil, append_assoc, arith, Bool, cond, false, inl, inr, length, length-append, List, [], ◌∷◌, None, Option, refl, Some, subst, sym, true, ℕ}
-use Rattle.std.specs.FinMap.{get}
-use Rattle.std.proofs.lemmas.Bool.{true≢false}
+use Rattle.std.proofs.Common.{◌≡◌, ◌++◌, ◌+◌, ◌≤◌, ◌∙◌, ap, append-nil, append_assoc, arith, Bool, cond, false, inl, inr, length, length-append, List, [], ◌∷◌, None, refl, Some, subst, sym, true, ℕ}
 use Rattle.store_machine.specs.History.{IsHistory, head, made_at}
 use Rattle.store_machine.specs.Laws.{IsSound, RunsStaySound, StatesStay}
-use Rattle.store_machine.specs.Machine.{Becomes, CommitGives, CrashGives, DoubtAfter, EndsDoubt, FetchGives, Gives, LookGives, OpenGives, PinGives, PruneGives, Recovers, StatsGives, UnpinGives, committed, now, pinned, unpinned}
+use Rattle.store_machine.specs.Machine.{Becomes, CommitGives, CrashGives, DoubtAfter, EndsDoubt, FetchGives, Gives, LookGives, OpenGives, PinGives, PruneGives, Recovers, StatsGives, UnpinGives, pinned, unpinned}
 use Rattle.store_machine.specs.Runs.{IsRun, calls_of, is_own}
 use Rattle.store_machine.specs.declared.machine.Change.{Change}
 use Rattle.store_machine.specs.declared.machine.Event.{Event}
@@ -12,7 +10,6 @@ use Rattle.store_machine.specs.declared.machine.Event.TheVariants.{Commit, Crash
 use Rattle.store_machine.specs.declared.machine.Reply.{Reply}
 use Rattle.store_machine.specs.declared.machine.Reply.TheVariants.{Absent, Committed, Counted, Crashed, DiskFault, Full, Known, Looked, NoMemory, NoPin, Opened, Page, Pinned, Pruned, Unpinned, Withdrawn}
 use Rattle.store_machine.specs.declared.machine.State.{State}
-use Rattle.store_machine.specs.declared.machine.Status.{Status}
 use Rattle.store_machine.specs.declared.machine.Step.{Step}
 use Rattle.session_run.specs.Dialogue.{IsTold, TellsVersion}
 

@@ -1,10 +1,10 @@
 -- A run cut at its caller's calls: where a pin is taken its slot was free, and what the pages of a pin are together.
-use Rattle.std.proofs.Common.{◌≡◌, ◌⊎◌, ◌&&◌, ◌++◌, ◌+◌, ◌==◌, ◌≤◌, ◌∙◌, ap, ap₂, append-nil, append_assoc, arith, Bool, cond, Contains, eq-eqb, false, inl, inr, length, List, [], ◌∷◌, map, None, Option, refl, Some, subst, suc, sym, true, ℕ}
+use Rattle.std.proofs.Common.{◌≡◌, ◌&&◌, ◌++◌, ◌==◌, ◌≤◌, ◌∙◌, ap, ap₂, arith, Bool, cond, eq-eqb, false, length, List, [], ◌∷◌, None, refl, Some, subst, suc, sym, true, ℕ}
 use Rattle.std.specs.FinMap.{get}
 use Rattle.std.proofs.lemmas.Bool.{cond-false, cond-true, true≢false}
 use Rattle.mol_finish.specs.declared.fault.Format.{Format}
 use Rattle.smarts_parse.specs.Pattern.{PatternTerm}
-use Rattle.store_machine.specs.Answers.{AreAnswers, AreMatched, AreTried, IsAnswer, ids}
+use Rattle.store_machine.specs.Answers.{AreAnswers, AreMatched, IsAnswer, ids}
 use Rattle.store_machine.specs.ByCalls.{CallsGivePages, Pages}
 use Rattle.store_machine.specs.History.{Snapshot, head, snapshot}
 use Rattle.store_machine.specs.Laws.{IsSound, NeedsScreen, PinsStay, RunsStaySound, SnapshotsStay, StatesStay}
@@ -252,8 +252,11 @@ is_held s s' slot owner version g =
     ∙ (pin_in-new slot (record { slot = slot; owner = owner; version = head s.history }) s.pins refl g.2
     ∙ ap (λ (v : ℕ). Some (let p : Held = record { slot = slot; owner = owner; version = v } in p)) (sym g.3))
 
-none_some : (p : Held) → None ≡ Some p → ⊥
-none_some p e = cc
+not_both : (slot : ℕ) (ps : List Held) (p : Held) → pin_in slot ps ≡ None → pin_in slot ps ≡ Some p → ⊥
+not_both slot ps p free held = cc
+
+keeps_as : (slot : ℕ) (xs ys : Calls) → xs ≡ ys → KeepsPin slot ys → KeepsPin slot xs
+keeps_as slot xs ys e k = subst (KeepsPin slot) (sym e) k
 
 -- a pin that was not given back is in its slot, so that no other is taken there
 pub slot_free : Laws → (own : ℕ → Bool) (s t : State) (steps : List Step) (before pages later : Calls) (slot v v' : ℕ)
@@ -269,13 +272,13 @@ slot_free laws own s t steps before pages later slot v v' run calm e keeps =
     let c = halves own b.step.after t b.rest pages ((Pin, Pinned slot v') ∷ later) b.from b.calm_from b.later_is in
     let still : Holds c.middle slot b.step.owner v =
     laws.pins b.step.after c.middle c.front own slot b.step.owner v c.to c.calm_to b.by held
-    (subst (KeepsPin slot) (sym c.first_calls) keeps) in
+    (keeps_as slot (calls_of own c.front) pages c.first_calls keeps) in
     let d = begins own c.middle t c.back (Pin, Pinned slot v') later c.from c.calm_from c.last_calls in
     let then : Holds d.step.before slot b.step.owner v =
     laws.pins c.middle d.step.before d.skip own slot b.step.owner v d.to d.calm_to b.by still
-    (subst (KeepsPin slot) (sym d.none) tt) in
+    (keeps_as slot (calls_of own d.skip) [] d.none tt) in
     let free = pin_given d.step slot v' d.event d.reply d.is in
-    none_some (record { slot = slot; owner = b.step.owner; version = v }) (sym free.2 ∙ then)
+    not_both slot d.step.before.pins (record { slot = slot; owner = b.step.owner; version = v }) free.2 then
 
 -- a pin is at the head, and so at no version older than its caller was told
 pub pin_new : Laws → (own : ℕ → Bool) (s t : State) (steps : List Step) (before later : Calls) (slot version : ℕ)

@@ -1,5 +1,5 @@
 -- What is known of an open cursor by the calls so far, how it goes on by its pages, and calls that pass its pin by.
-use Rattle.std.proofs.Common.{◌≡◌, ◌≢◌, ◌⊎◌, ◌++◌, ◌+◌, ◌==◌, ◌∙◌, ap, append-nil, append_assoc, arith, Bool, cond, eq-eqb, false, inl, inr, length, length-append, List, [], ◌∷◌, map, ne_eqb, None, Option, refl, Some, subst, sym, true, ℕ}
+use Rattle.std.proofs.Common.{◌≡◌, ◌≢◌, ◌++◌, ◌+◌, ◌==◌, ◌∙◌, ap, append-nil, append_assoc, Bool, cond, eq-eqb, false, inl, inr, length, length-append, List, [], ◌∷◌, map, ne_eqb, None, Option, refl, Some, subst, sym, true, ℕ}
 use Rattle.std.proofs.lemmas.Bool.{cond-false, cond-true}
 use Rattle.std.proofs.lemmas.List.Elements.{filter_map-append}
 use Rattle.std.specs.List.{cons_option}
@@ -9,11 +9,11 @@ use Rattle.store_machine.specs.Answers.{AreMatched}
 use Rattle.store_machine.specs.Searches.{At, End, Fetched, IsSearch, KeepsPin, Place, fetched, page_in, past, place_after, records_of, unpins}
 use Rattle.store_machine.specs.Structures.{IsNeedOf}
 use Rattle.store_machine.specs.declared.machine.Event.{Event}
-use Rattle.store_machine.specs.declared.machine.Event.TheVariants.{Commit, Crash, Fetch, Look, Open, Pin, Prune, Stats, Unpin}
+use Rattle.store_machine.specs.declared.machine.Event.TheVariants.{Fetch, Pin}
 use Rattle.store_machine.specs.declared.machine.Found.{Found}
 use Rattle.store_machine.specs.declared.machine.Reply.{Reply}
 use Rattle.store_machine.specs.declared.machine.Reply.TheVariants as replies
-use Rattle.session_run.specs.Answer.{Advances, Lines, Turns, after_page, page_end}
+use Rattle.session_run.specs.Answer.{Advances, Lines, after_page, page_end}
 use Rattle.session_run.specs.Cursors.{AreFetches, Calls, Cursor, IsFetch}
 use Rattle.session_run.specs.Dialogue.{hits_in}
 

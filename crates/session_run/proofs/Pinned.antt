@@ -1,21 +1,19 @@
 -- The pins of all open cursors by the calls so far: each was taken and not given back, in a slot of its own; and the
 -- versions that lines show were told.
-use Rattle.std.proofs.Common.{◌≡◌, ◌≢◌, ◌⊎◌, ◌++◌, ◌==◌, ◌∙◌, ap, append-nil, append_assoc, arith, Bool, false, inl, inr, length, List, [], ◌∷◌, map, ne_eqb, refl, subst, sym, true, ℕ}
+use Rattle.std.proofs.Common.{◌≡◌, ◌⊎◌, ◌++◌, ◌∙◌, ap, append-nil, append_assoc, Bool, false, inl, inr, length, List, [], ◌∷◌, map, ne_eqb, refl, subst, sym, true, ℕ}
 use Rattle.shell_lang.specs.Reply as line
 use Rattle.smarts_parse.specs.Pattern.{PatternTerm}
-use Rattle.store_machine.specs.Searches.{At, End, KeepsPin, Place, unpins}
-use Rattle.store_machine.specs.declared.machine.Event.{Event}
+use Rattle.store_machine.specs.Searches.{At, End, KeepsPin, Place}
 use Rattle.store_machine.specs.declared.machine.Event.TheVariants as events
-use Rattle.store_machine.specs.declared.machine.Reply.{Reply}
 use Rattle.store_machine.specs.declared.machine.Reply.TheVariants as replies
-use Rattle.session_run.specs.Answer.{Advances, IsCutShort, IsNamed, Lines, Lists, Opens, Searches, page_end}
+use Rattle.session_run.specs.Answer.{Advances, IsCutShort, Lines, Lists, Searches, page_end}
 use Rattle.session_run.specs.Cursors.{Calls, Cursor}
-use Rattle.session_run.specs.Dialogue.{AreExchanged, Exchange, IsShown, IsShownIn, IsTold, ShowsVersion}
+use Rattle.session_run.specs.Dialogue.{AreExchanged, Exchange, IsShown, IsShownIn, IsTold}
 use Rattle.session_run.specs.Made.{AreHeld, HasSlot}
 use Rattle.session_run.specs.Requests.{Request}
 use Rattle.session_run.proofs.Held.{held-at, held-moved}
 use Rattle.session_run.proofs.Acts.{Closed, Kind, Moved, Opened, Other, Searched, kind}
-use Rattle.session_run.proofs.Passing.{PassBy, advances_fetch, advances_same, fetches_keep, keeps-append, passes_keep}
+use Rattle.session_run.proofs.Passing.{advances_fetch, advances_same, fetches_keep, keeps-append, passes_keep}
 
 -- the pin was taken and not given back
 pub record IsPinned (calls : Calls) (slot version : ℕ) : Type 0 where

@@ -1,5 +1,5 @@
 -- A transcript as the replies of a dialogue.
-use Rattle.std.proofs.Common.{◌≡◌, ◌⊎◌, ◌++◌, ◌∙◌, ap, ap₂, append-nil, append_assoc, inl, inr, List, [], ◌∷◌, map, refl, subst, sym, ℕ}
+use Rattle.std.proofs.Common.{◌≡◌, ◌⊎◌, ◌++◌, ◌∙◌, ap, append-nil, append_assoc, inl, inr, List, [], ◌∷◌, refl, subst, sym, ℕ}
 use Rattle.io_edge.specs.Lines.{TextLine}
 use Rattle.shell_lang.specs.Reply.{text_of}
 use Rattle.store_machine.specs.Runs.{calls_of}
@@ -8,8 +8,10 @@ use Rattle.session_run.specs.Answer.{Lines, RequestAnswer}
 use Rattle.session_run.specs.Cursors.{Calls, Cursor, unpins}
 use Rattle.session_run.specs.Dialogue.{AreExchanged, Exchange, replies_of, requests_of}
 use Rattle.session_run.specs.Requests.{Request, BeginWith, BeginWithAll}
-use Rattle.session_run.specs.Transcript.{AreAnswered, IsPrefixOf, IsTranscript, IsTranscriptPrefix, Stops}
-use Rattle.session_run.specs.Truths.{CursorsAreTrue, DialoguesAreTrue, IsInRun, IsTrueBeginning, IsTrueTranscript, SearchesAreTrue, TranscriptsAreTrue}
+use Rattle.session_run.specs.Transcript.{AreAnswered, IsPrefixOf, IsTranscript, IsTranscriptPrefix, IsWornPrefix, Stops}
+use Rattle.session_run.specs.Truths.{CursorsAreTrue, DialoguesAreTrue, IsInRun, IsTrueBeginning, IsTruePart, IsTrueTranscript, SearchesAreTrue, ServicesAreTrue}
+use Rattle.session_run.specs.declared.settings.EndStatus.{EndStatus}
+use Rattle.session_run.specs.declared.settings.EndStatus.TheVariants.{Done, SourceFault, SinkFault, NoMemory, InputTooLong, Worn}
 use Rattle.session_run.proofs.Scripts.{answers_more, begin_more}
 
 -- the exchanges of requests that were answered
@@ -35,19 +37,70 @@ spoken size cursors (r ∷ rs) calls text cursors' a =
       text_is = a.7 ∙ ap (λ (l : List ℕ). text_of a.2 ++ l) rest.text_is;
     }
 
+-- what a session that stopped early told, with the calls of its dialogue
+record Telling (size : ℕ) (lines : List TextLine) (calls : Calls) (text : List ℕ) : Type 0 where
+  exchanges : List Exchange
+  left : List TextLine
+  begin : BeginWithAll lines (requests_of exchanges) left
+  said : IsPrefixOf text (replies_of exchanges)
+  own : Calls
+  left_open : List Cursor
+  exchanged : AreExchanged size [] exchanges own left_open
+  rest : Calls
+  made : calls ≡ own ++ rest
+
+-- requests that were answered by the first calls
+telling : (size : ℕ) (lines : List TextLine) (calls : Calls) (requests : List Request) (left : List TextLine)
+    (own rest : Calls) (text said : List ℕ) (cursors : List Cursor) → calls ≡ own ++ rest
+    → BeginWithAll lines requests left → AreAnswered size [] requests own said cursors → IsPrefixOf text said
+    → Telling size lines calls text
+telling size lines calls requests left own rest text said cursors all begin a part =
+    let k = spoken size [] requests own said cursors a in
+    record {
+      exchanges = k.exchanges;
+      left = left;
+      begin = subst (λ (l : List Request). BeginWithAll lines l left) (sym k.requests_are) begin;
+      said = (part.0, part.1 ∙ k.text_is);
+      own = own;
+      left_open = cursors;
+      exchanged = k.exchanged;
+      rest = rest;
+      made = all;
+    }
+
+tells : (size : ℕ) (lines : List TextLine) (calls own : Calls) (cursors : List Cursor) (text : List ℕ)
+    → calls ≡ own ++ unpins cursors → Stops size lines own text cursors → Telling size lines calls text
+tells size lines calls own cursors text all stops = by stops.last where
+  by : ((own ≡ stops.own) × (text ≡ stops.replies) × (cursors ≡ stops.cursors_open))
+      ⊎ ((request : Request) × (more : List TextLine) × BeginWith stops.left request more
+      × (its : Calls) × (said : Lines) × (part : List ℕ) × RequestAnswer size stops.cursors_open request its said cursors
+      × (own ≡ stops.own ++ its) × IsPrefixOf part (text_of said) × (text ≡ stops.replies ++ part))
+      → Telling size lines calls text
+  by (inl e) = telling size lines calls stops.requests stops.left stops.own (unpins cursors) text stops.replies
+      stops.cursors_open (all ∙ ap (λ (l : Calls). l ++ unpins cursors) e.0) stops.begin stops.answered
+      ([], append-nil text ∙ e.1)
+  by (inr e) =
+      let part : (stops.replies ++ e.5) ++ e.8.0 ≡ stops.replies ++ text_of e.4 =
+      append_assoc stops.replies e.5 e.8.0 ∙ ap (λ (l : List ℕ). stops.replies ++ l) e.8.1 in
+      telling size lines calls (stops.requests ++ e.0 ∷ []) e.1 (stops.own ++ e.3) (unpins cursors) text
+      (stops.replies ++ text_of e.4) cursors (all ∙ ap (λ (l : Calls). l ++ unpins cursors) e.7)
+      (begin_more lines stops.left e.1 stops.requests e.0 stops.begin e.2)
+      (answers_more size [] stops.cursors_open cursors stops.requests e.0 stops.own e.3 stops.replies e.4 stops.answered e.6)
+      (e.8.0, ap (λ (l : List ℕ). l ++ e.8.0) e.9 ∙ part)
+
 module _ (law : DialoguesAreTrue) (size : ℕ) (lines : List TextLine) (h : List Change) (calls : Calls)
     (r : IsInRun calls h) where
-  -- the laws of a dialogue whose calls are the first ones
-  both : (exchanges : List Exchange) (own more : Calls) (cursors : List Cursor) → calls ≡ own ++ more
+  -- the law of a dialogue whose calls are the first ones
+  both : (exchanges : List Exchange) (own rest : Calls) (cursors : List Cursor) → calls ≡ own ++ rest
       → AreExchanged size [] exchanges own cursors → SearchesAreTrue h exchanges × CursorsAreTrue h exchanges
-  both exchanges own more cursors e a =
-      let made : calls_of r.own r.steps ≡ own ++ (more ++ r.more) =
-      r.made ∙ (ap (λ (l : Calls). l ++ r.more) e ∙ append_assoc own more r.more) in
+  both exchanges own rest cursors e a =
+      let made : calls_of r.own r.steps ≡ own ++ (rest ++ r.more) =
+      r.made ∙ (ap (λ (l : Calls). l ++ r.more) e ∙ append_assoc own rest r.more) in
       subst (λ (g : List Change). SearchesAreTrue g exchanges × CursorsAreTrue g exchanges) (sym r.is)
-      (law r.before r.after r.steps r.own size exchanges own (more ++ r.more) cursors r.sound r.run r.calm made a)
+      (law r.before r.after r.steps r.own size exchanges own (rest ++ r.more) cursors r.sound r.run r.calm made a)
 
-  transcript_true : (text : List ℕ) → IsTranscript size lines calls text → IsTrueTranscript h size lines calls text
-  transcript_true text (requests, own, cursors, begin, a, all) =
+  whole_true : (text : List ℕ) → IsTranscript size lines calls text → IsTrueTranscript h size lines calls text
+  whole_true text (requests, own, cursors, begin, a, all) =
       let k = spoken size [] requests own text cursors a in
       let truths = both k.exchanges own (unpins cursors) cursors all k.exchanged in
       record {
@@ -62,48 +115,44 @@ module _ (law : DialoguesAreTrue) (size : ℕ) (lines : List TextLine) (h : List
         cursors = truths.1;
       }
 
-  -- requests that were answered by the first calls
-  answered_true : (requests : List Request) (left : List TextLine) (own more : Calls) (text said : List ℕ)
-      (cursors : List Cursor) → calls ≡ own ++ more → BeginWithAll lines requests left
-      → AreAnswered size [] requests own said cursors → IsPrefixOf text said → IsTrueBeginning h size lines calls text
-  answered_true requests left own more text said cursors all begin a part =
-      let k = spoken size [] requests own said cursors a in
-      let truths = both k.exchanges own more cursors all k.exchanged in
+  beginning_true : (text : List ℕ) → IsTranscriptPrefix size lines calls text → IsTrueBeginning h size lines calls text
+  beginning_true text (own, cursors, stops, all) =
+      let k = tells size lines calls own cursors text all stops in
+      let truths = both k.exchanges k.own k.rest k.left_open k.made k.exchanged in
       record {
         exchanges = k.exchanges;
-        left = left;
-        begin = subst (λ (l : List Request). BeginWithAll lines l left) (sym k.requests_are) begin;
-        said = (part.0, part.1 ∙ k.text_is);
-        own = own;
-        left_open = cursors;
+        left = k.left;
+        begin = k.begin;
+        said = k.said;
+        own = k.own;
+        left_open = k.left_open;
         exchanged = k.exchanged;
-        made = (more, sym all);
+        made = (k.rest, sym k.made);
         searches = truths.0;
         cursors = truths.1;
       }
 
-  stops_true : (own : Calls) (cursors : List Cursor) (text : List ℕ) → calls ≡ own ++ unpins cursors
-      → Stops size lines own text cursors → IsTrueBeginning h size lines calls text
-  stops_true own cursors text all stops = by stops.last where
-    by : ((own ≡ stops.own) × (text ≡ stops.replies) × (cursors ≡ stops.cursors_open))
-        ⊎ ((request : Request) × (more : List TextLine) × BeginWith stops.left request more
-        × (its : Calls) × (said : Lines) × (part : List ℕ) × RequestAnswer size stops.cursors_open request its said cursors
-        × (own ≡ stops.own ++ its) × IsPrefixOf part (text_of said) × (text ≡ stops.replies ++ part))
-        → IsTrueBeginning h size lines calls text
-    by (inl e) = answered_true stops.requests stops.left stops.own (unpins cursors) text stops.replies stops.cursors_open
-        (all ∙ ap (λ (l : Calls). l ++ unpins cursors) e.0) stops.begin stops.answered ([], append-nil text ∙ e.1)
-    by (inr e) =
-        let part : (stops.replies ++ e.5) ++ e.8.0 ≡ stops.replies ++ text_of e.4 =
-        append_assoc stops.replies e.5 e.8.0 ∙ ap (λ (l : List ℕ). stops.replies ++ l) e.8.1 in
-        answered_true (stops.requests ++ e.0 ∷ []) e.1 (stops.own ++ e.3) (unpins cursors) text
-        (stops.replies ++ text_of e.4) cursors (all ∙ ap (λ (l : Calls). l ++ unpins cursors) e.7)
-        (begin_more lines stops.left e.1 stops.requests e.0 stops.begin e.2)
-        (answers_more size [] stops.cursors_open cursors stops.requests e.0 stops.own e.3 stops.replies e.4 stops.answered e.6)
-        (e.8.0, ap (λ (l : List ℕ). l ++ e.8.0) e.9 ∙ part)
+  part_true : (text : List ℕ) → IsWornPrefix size lines calls text → IsTruePart h size lines calls text
+  part_true text (whole, among, (own, cursors, stops, all)) =
+      let k = tells size lines whole own cursors text all stops in
+      record {
+        exchanges = k.exchanges;
+        left = k.left;
+        begin = k.begin;
+        said = k.said;
+        own = k.own;
+        left_open = k.left_open;
+        exchanged = k.exchanged;
+        whole = whole;
+        made = (k.rest, sym k.made);
+        among = among;
+        truths = λ front back first between e a inside. both front first inside.0 between (sym inside.1) a;
+      }
 
-  prefix_true : (text : List ℕ) → IsTranscriptPrefix size lines calls text → IsTrueBeginning h size lines calls text
-  prefix_true text (own, cursors, stops, all) = stops_true own cursors text all stops
-
-pub transcripts-are-true : DialoguesAreTrue → TranscriptsAreTrue
-transcripts-are-true law size lines calls text h r =
-    (transcript_true law size lines h calls r text, prefix_true law size lines h calls r text)
+pub services-are-true : DialoguesAreTrue → ServicesAreTrue
+services-are-true law Done size lines calls text h r is = whole_true law size lines h calls r text is
+services-are-true law Worn size lines calls text h r is = part_true law size lines h calls r text is
+services-are-true law SourceFault size lines calls text h r is = beginning_true law size lines h calls r text is
+services-are-true law SinkFault size lines calls text h r is = beginning_true law size lines h calls r text is
+services-are-true law NoMemory size lines calls text h r is = beginning_true law size lines h calls r text is
+services-are-true law InputTooLong size lines calls text h r is = beginning_true law size lines h calls r text is

@@ -1,12 +1,10 @@
 -- Dialogues over a run: what their searches and cursors listed is the history's answer.
-use Rattle.std.proofs.Common.{◌≡◌, ◌≢◌, ◌⊎◌, ◌++◌, ◌≤◌, ◌∙◌, ap, ap₂, append-nil, append_assoc, arith, Bool, cond, Contains, false, inl, inr, length, List, [], ◌∷◌, map, refl, subst, sym, true, ℕ}
-use Rattle.io_edge.specs.Lines.{TextLine}
+use Rattle.std.proofs.Common.{◌≡◌, ◌++◌, ◌≤◌, ◌∙◌, ap, append-nil, append_assoc, Bool, cond, Contains, false, inl, inr, length, List, [], ◌∷◌, map, refl, subst, sym, true, ℕ}
 use Rattle.shell_lang.specs.Command as command
 use Rattle.shell_lang.specs.Command.{Command}
 use Rattle.shell_lang.specs.Reply as line
 use Rattle.shell_lang.specs.Reply.{text_of}
 use Rattle.smarts_parse.specs.Pattern.{PatternTerm}
-use Rattle.store_machine.specs.History.{head}
 use Rattle.store_machine.specs.Laws.{IsSound}
 use Rattle.store_machine.specs.Runs.{IsCalm, IsRun, calls_of}
 use Rattle.store_machine.specs.Searches.{At, End, IsSearch, Place, fetched, past}
@@ -17,13 +15,13 @@ use Rattle.store_machine.specs.declared.machine.Reply.{Reply}
 use Rattle.store_machine.specs.declared.machine.Reply.TheVariants as replies
 use Rattle.store_machine.specs.declared.machine.State.{State}
 use Rattle.store_machine.specs.declared.machine.Step.{Step}
-use Rattle.session_run.specs.Answer.{Advances, IsCutShort, Lines, Lists, Opens, RequestAnswer, Searches, page_end}
+use Rattle.session_run.specs.Answer.{Advances, IsCutShort, Lines, Lists, Opens, page_end}
 use Rattle.session_run.specs.Cursors.{Calls, Cursor, IsNoName}
-use Rattle.session_run.specs.Dialogue.{AreExchanged, AreListed, Exchange, IsCommand, IsShown, IsTold, StaysOpen, hits_in}
+use Rattle.session_run.specs.Dialogue.{AreExchanged, AreListed, Exchange, IsCommand, IsShown, StaysOpen, hits_in}
 use Rattle.session_run.specs.Requests.{Request}
 use Rattle.session_run.specs.Texts.{IsPatternOf}
 use Rattle.session_run.specs.Truths.{AreAllHits, CursorsAreTrue, DialoguesAreTrue, IsTrueList, IsUpToDate, SearchesAreHits, SearchesAreTrue}
-use Rattle.session_run.proofs.Followed.{Follows, OneReading, follow, follow_all, follow_new, one_command, places}
+use Rattle.session_run.proofs.Followed.{Follows, OneReading, follow_all, follow_new, one_command, places}
 use Rattle.session_run.proofs.Acts.{Closed, Kind, Moved, Opened, Other, Searched, first_or_rest, kind, one_in}
 use Rattle.session_run.proofs.Parting.{Laws, pin_new, slot_free, whole_pages}
 use Rattle.session_run.proofs.Passing.{IsOpen, advances_same, fetches_keep, hits_listed, open_advances}

@@ -18,8 +18,11 @@ use Rattle.session_run.specs.Answer.{Lines, Searches}
 use Rattle.session_run.specs.Cursors.{Calls, Cursor}
 use Rattle.session_run.specs.Dialogue.{AreExchanged, AreListed, Exchange, IsCommand, IsShown, IsTold, StaysOpen, hits_in, replies_of, requests_of}
 use Rattle.session_run.specs.Requests.{BeginWithAll}
+use Rattle.session_run.specs.Served.{IsServed}
 use Rattle.session_run.specs.Texts.{IsPatternOf}
-use Rattle.session_run.specs.Transcript.{IsPrefixOf, IsTranscript, IsTranscriptPrefix}
+use Rattle.session_run.specs.Transcript.{IsPrefixOf}
+use Rattle.session_run.specs.declared.settings.EndStatus.{EndStatus}
+use Rattle.session_run.specs.declared.settings.EndStatus.TheVariants.{Done, Worn}
 
 -- These are the hits of the pattern at a version of the history, each once, ascending; and so many records have in
 -- their print what the pattern needs
@@ -109,6 +112,30 @@ pub record IsTrueBeginning (h : List Change) (size : ℕ) (lines : List TextLine
   pub searches : SearchesAreTrue h exchanges
   pub cursors : CursorsAreTrue h exchanges
 
+-- The same of a session whose service was worn, by the calls that were made: the exchanges from the first on whose
+-- calls are among these listed the hits of the history
+pub record IsTruePart (h : List Change) (size : ℕ) (lines : List TextLine) (calls : Calls) (text : List ℕ)
+    : Type 0 where
+  pub exchanges : List Exchange
+  pub left : List TextLine
+  pub begin : BeginWithAll lines (requests_of exchanges) left
+  pub said : IsPrefixOf text (replies_of exchanges)
+  pub own : Calls
+  pub left_open : List Cursor
+  pub exchanged : AreExchanged size [] exchanges own left_open
+  pub whole : Calls
+  pub made : IsPrefixOf own whole
+  pub among : IsPrefixOf calls whole
+  pub truths : (front back : List Exchange) (first : Calls) (between : List Cursor) → exchanges ≡ front ++ back
+      → AreExchanged size [] front first between → IsPrefixOf first calls
+      → SearchesAreTrue h front × CursorsAreTrue h front
+
+-- what is true of what was served of a script, by how the session ended
+abbrev pub IsTrueService : EndStatus → List Change → ℕ → List TextLine → Calls → List ℕ → Type 0
+IsTrueService Done h size lines calls text = IsTrueTranscript h size lines calls text
+IsTrueService Worn h size lines calls text = IsTruePart h size lines calls text
+IsTrueService _ h size lines calls text = IsTrueBeginning h size lines calls text
+
 -- a run from a sound state in which these are the caller's own calls, perhaps with others behind them
 pub record IsInRun (calls : Calls) (h : List Change) : Type 0 where
   pub before : State
@@ -122,9 +149,8 @@ pub record IsInRun (calls : Calls) (h : List Change) : Type 0 where
   pub made : calls_of own steps ≡ calls ++ more
   pub is : h ≡ after.history
 
--- a transcript over such a run is true by the history at the run's end, and so is the beginning of one
-abbrev pub TranscriptsAreTrue : Type 0
-TranscriptsAreTrue =
-    (size : ℕ) (lines : List TextLine) (calls : Calls) (text : List ℕ) (h : List Change) → IsInRun calls h
-    → (IsTranscript size lines calls text → IsTrueTranscript h size lines calls text)
-    × (IsTranscriptPrefix size lines calls text → IsTrueBeginning h size lines calls text)
+-- what a session served over such a run is true by the history at the run's end
+abbrev pub ServicesAreTrue : Type 0
+ServicesAreTrue =
+    (end : EndStatus) (size : ℕ) (lines : List TextLine) (calls : Calls) (text : List ℕ) (h : List Change)
+    → IsInRun calls h → IsServed end size lines calls text → IsTrueService end h size lines calls text

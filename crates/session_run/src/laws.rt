@@ -1,5 +1,5 @@
 //! The laws of what a session lists: joined with a run of the store's machine, its hits are the history's.
-ghost use Rattle.session_run.specs.Truths.{DialoguesAreTrue, SearchesAreHits, TranscriptsAreTrue};
+ghost use Rattle.session_run.specs.Truths.{DialoguesAreTrue, SearchesAreHits, ServicesAreTrue};
 
 use shell_lang::one_reading;
 use store_machine::{
@@ -32,9 +32,9 @@ pub fn dialogues_are_true()
     one_reading();
 }
 
-/// A transcript is the replies of such a dialogue.
-pub fn transcripts_are_true()
-    ensures { TranscriptsAreTrue }
+/// What a session served of a script, the contract of `session`, is the replies of such a dialogue.
+pub fn services_are_true()
+    ensures { ServicesAreTrue }
 {
     dialogues_are_true();
 }

@@ -18,6 +18,6 @@ mod settings;
 mod stop;
 mod texts;
 
-pub use laws::{dialogues_are_true, searches_are_hits, transcripts_are_true};
+pub use laws::{dialogues_are_true, searches_are_hits, services_are_true};
 pub use run::session;
 pub use settings::{EndStatus, Settings};
