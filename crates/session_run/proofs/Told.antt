@@ -10,7 +10,6 @@ use Rattle.session_run.specs.Dialogue.{AreExchanged, Exchange, replies_of, reque
 use Rattle.session_run.specs.Requests.{Request, BeginWith, BeginWithAll}
 use Rattle.session_run.specs.Transcript.{AreAnswered, IsPrefixOf, IsTranscript, IsTranscriptPrefix, IsWornPrefix, Stops}
 use Rattle.session_run.specs.Truths.{CursorsAreTrue, DialoguesAreTrue, IsInRun, IsTrueBeginning, IsTruePart, IsTrueTranscript, SearchesAreTrue, ServicesAreTrue}
-use Rattle.session_run.specs.declared.settings.EndStatus.{EndStatus}
 use Rattle.session_run.specs.declared.settings.EndStatus.TheVariants.{Done, SourceFault, SinkFault, NoMemory, InputTooLong, Worn}
 use Rattle.session_run.proofs.Scripts.{answers_more, begin_more}
 
@@ -73,7 +72,8 @@ tells : (size : ℕ) (lines : List TextLine) (calls own : Calls) (cursors : List
 tells size lines calls own cursors text all stops = by stops.last where
   by : ((own ≡ stops.own) × (text ≡ stops.replies) × (cursors ≡ stops.cursors_open))
       ⊎ ((request : Request) × (more : List TextLine) × BeginWith stops.left request more
-      × (its : Calls) × (said : Lines) × (part : List ℕ) × RequestAnswer size stops.cursors_open request its said cursors
+      × (its : Calls) × (said : Lines) × (part : List ℕ)
+      × RequestAnswer size stops.cursors_open request its said cursors
       × (own ≡ stops.own ++ its) × IsPrefixOf part (text_of said) × (text ≡ stops.replies ++ part))
       → Telling size lines calls text
   by (inl e) = telling size lines calls stops.requests stops.left stops.own (unpins cursors) text stops.replies
@@ -85,7 +85,8 @@ tells size lines calls own cursors text all stops = by stops.last where
       telling size lines calls (stops.requests ++ e.0 ∷ []) e.1 (stops.own ++ e.3) (unpins cursors) text
       (stops.replies ++ text_of e.4) cursors (all ∙ ap (λ (l : Calls). l ++ unpins cursors) e.7)
       (begin_more lines stops.left e.1 stops.requests e.0 stops.begin e.2)
-      (answers_more size [] stops.cursors_open cursors stops.requests e.0 stops.own e.3 stops.replies e.4 stops.answered e.6)
+      (answers_more size [] stops.cursors_open cursors stops.requests e.0 stops.own e.3 stops.replies e.4 stops.answered
+          e.6)
       (e.8.0, ap (λ (l : List ℕ). l ++ e.8.0) e.9 ∙ part)
 
 module _ (law : DialoguesAreTrue) (size : ℕ) (lines : List TextLine) (h : List Change) (calls : Calls)
