@@ -40,7 +40,7 @@ pub data Kind (size : ℕ) (cursors : List Cursor) (request : Request) (calls : 
       → Kind size cursors request calls lines cursors'
   Searched : (text : List ℕ) (pattern : PatternTerm) (is : IsCommand request (command.Search text))
       (reads : IsPatternOf text pattern)
-      (search : Searches size pattern calls lines) (same : cursors' ≡ cursors)
+      (found : Searches size pattern calls lines) (same : cursors' ≡ cursors)
       → Kind size cursors request calls lines cursors'
   Opened : (name text : List ℕ) (pattern : PatternTerm) (is : IsCommand request (command.Start name text))
       (reads : IsPatternOf text pattern)

@@ -86,7 +86,7 @@ tells size lines calls own cursors text all stops = by stops.last where
       (stops.replies ++ text_of e.4) cursors (all ∙ ap (λ (l : Calls). l ++ unpins cursors) e.7)
       (begin_more lines stops.left e.1 stops.requests e.0 stops.begin e.2)
       (answers_more size [] stops.cursors_open cursors stops.requests e.0 stops.own e.3 stops.replies e.4 stops.answered
-          e.6)
+      e.6)
       (e.8.0, ap (λ (l : List ℕ). l ++ e.8.0) e.9 ∙ part)
 
 module _ (law : DialoguesAreTrue) (size : ℕ) (lines : List TextLine) (h : List Change) (calls : Calls)

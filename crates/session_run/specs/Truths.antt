@@ -45,8 +45,8 @@ SearchesAreHits =
     (s t : State) (steps : List Step) (own : ℕ → Bool) (size : ℕ) (pattern : PatternTerm) (before its after : Calls)
     (lines : Lines)
     → IsSound s → IsRun s steps t → IsCalm steps → calls_of own steps ≡ before ++ (its ++ after)
-    → (search : Searches size pattern its lines) → search.place ≡ End
-    → AreAllHits t.history search.version pattern search.tried search.hits × IsUpToDate t.history before search.version
+    → (listed : Searches size pattern its lines) → listed.place ≡ End
+    → AreAllHits t.history listed.version pattern listed.tried listed.hits × IsUpToDate t.history before listed.version
 
 -- what was listed for the text of a pattern, with the numbers of its end
 pub record IsTrueList (h : List Change) (text : List ℕ) (version tried count : ℕ) (hits : List ℕ) : Type 0 where
