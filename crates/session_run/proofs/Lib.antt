@@ -13,3 +13,6 @@ pub mod Responses
 pub mod Turning
 pub mod Named
 pub mod Closing
+pub mod Placed
+pub mod Begun
+pub mod Unpinned
