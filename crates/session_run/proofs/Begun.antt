@@ -50,6 +50,14 @@ added_worn name (Err faults.Pins) items items' (Err w) P a h = absurd a.1
 added_worn name (Err faults.NoMemory) items items' (Err w) P a h = absurd a.1
 added_worn name (Err faults.Worn) items items' (Err w) P a h = h refl
 
+-- by another name of the name, and of the cursors
+pub added_as : (own name : List ℕ) (begun : Result Walk SearchFault) (old items items' : List rust.Cursor)
+    (result : Result written.Reply Worn) → own ≡ name → old ≡ items → Adds own begun old items' result
+    → Adds name begun items items' result
+added_as own name begun old items items' result n i a =
+    subst (λ (m : List ℕ). Adds m begun items items' result) n
+    (subst (λ (l : List rust.Cursor). Adds own begun l items' result) i a)
+
 -- where the search did not begin, the cursors stay
 pub unadded : (name : List ℕ) (fault : SearchFault) (items items' : List rust.Cursor)
     (result : Result written.Reply Worn) → Adds name (Err fault) items items' result → items' ≡ items

@@ -18,7 +18,7 @@ calls-append : (own : ℕ → Bool) (xs ys : List Step) → calls_of own (xs ++ 
 calls-append own [] ys = refl
 calls-append own (x ∷ xs) ys =
     chosen (is_own own x) (x.event, x.reply) (calls_of own xs) (calls_of own ys) (calls_of own (xs ++ ys))
-        (calls-append own xs ys)
+    (calls-append own xs ys)
 
 chosen_alike : (a b : Bool) (c : Event × Reply) (xs ys : Calls) → a ≡ b → xs ≡ ys
     → (if a then c ∷ xs else xs) ≡ (if b then c ∷ ys else ys)
@@ -54,7 +54,7 @@ module _ {S : Type 0} (at : S → State → Type 0) (owns : S → ℕ → Bool)
           stands = joins a b c s k.after m.after k.steps m.steps k.stands m.stands;
           own = calls-append (owns a) k.steps m.steps
               ∙ ap₂ (λ xs ys. xs ++ ys) k.own (calls-same (owns b) (owns a)
-                  (λ n. sym_of (same a b s k.after k.steps n k.stands)) m.steps ∙ m.own);
+              (λ n. sym_of (same a b s k.after k.steps n k.stands)) m.steps ∙ m.own);
         };
   }
     where

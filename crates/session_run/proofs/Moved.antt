@@ -32,18 +32,22 @@ module _ (First Next All : Calls → Type 0) (joins : (xs ys : Calls) → First 
   pin = (events.Pin, replies.Pinned s.slot s.version)
 
   to_search : (calls : Calls) (lines : Lines) → PinAnswer s calls lines → SearchAnswer size text (pin ∷ calls) lines
-  to_search calls lines p = inr (inr (pattern_of s.pattern, is, inr (record {
-    slot = s.slot;
-    version = s.version;
-    place = p.place;
-    pages = p.pages;
-    tried = p.tried;
-    hits = p.hits;
-    made = ap (λ (c : Calls). pin ∷ c) p.made;
-    searched = subst (λ (n : ℕ). IsSearched (pattern_of s.pattern) s.slot n p.place p.pages p.tried p.hits) size_is
-        p.searched;
-    lists = p.lists;
-  })))
+  to_search calls lines p = inr (inr (
+    pattern_of s.pattern,
+    is,
+    inr (record {
+      slot = s.slot;
+      version = s.version;
+      place = p.place;
+      pages = p.pages;
+      tried = p.tried;
+      hits = p.hits;
+      made = ap (λ (c : Calls). pin ∷ c) p.made;
+      searched = subst (λ (n : ℕ). IsSearched (pattern_of s.pattern) s.slot n p.place p.pages p.tried p.hits) size_is
+          p.searched;
+      lists = p.lists;
+    }),
+  ))
 
   pub searched_from : (out out' : List ℕ) (stop : Result (Unit {0}) Stop)
       → Answered Next (alone (PinAnswer s)) out out' tt stop
@@ -144,7 +148,7 @@ module _ (Made : Calls → Type 0) (c c' : rust.Cursor) (out out' out'' : List �
   ended shown p t h =
       let same = stays p.same (omega (arith, t, p.tried)) (omega (arith, h, p.count)) in
       let said = ap (λ (b : Bool). page_end b (cursor_of c') ∷ []) p.last
-          ∙ ap (λ (x : Cursor). page_end true x ∷ []) same in
+      ∙ ap (λ (x : Cursor). page_end true x ∷ []) same in
       from_place End [] (page_end shown.last (cursor_of c') ∷ []) p.place ((refl, said), same)
 
   -- a page was shown, and its end was said

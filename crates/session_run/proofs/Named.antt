@@ -14,7 +14,7 @@ pub split : (items : List rust.Cursor) (i : ℕ) (x : rust.Cursor) → i < lengt
     → cursors_of items ≡ cursors_of (take i items) ++ cursor_of x ∷ cursors_of (drop (suc i) items)
 split items i x lt e =
     ap (λ (l : List rust.Cursor). map cursor_of l) (sym (take-append-drop i items)
-        ∙ ap (λ (l : List rust.Cursor). take i items ++ l)
+    ∙ ap (λ (l : List rust.Cursor). take i items ++ l)
     (drop-cons items i x lt ∙ ap (λ (y : rust.Cursor). y ∷ drop (suc i) items) (sym e)))
     ∙ map-append cursor_of (take i items) (x ∷ drop (suc i) items)
 
@@ -39,7 +39,7 @@ sized-removed size items i h =
     let whole : take i items ++ drop i items ≡ items = take-append-drop i items in
     let parts : AreSized size (take i items ++ drop i items) = subst (AreSized size) (sym whole) h in
     sized-both size (take i items) (drop (suc i) items) (sized-left size (take i items) (drop i items) parts)
-        (behind items i h)
+    (behind items i h)
   where
     behind : (l : List rust.Cursor) (j : ℕ) → AreSized size l → AreSized size (drop (suc j) l)
     behind [] j h = tt
@@ -112,7 +112,7 @@ not_none [] name place n h = absurd (omega (arith, n.within))
 not_none (x ∷ xs) name zero n h = h zero (cursor_of x) (omega arith) (n.named x)
 not_none (x ∷ xs) name (suc k) n h =
     not_none xs name k (record { within = omega (arith, n.within); named = λ any. n.named any })
-        (λ j any lt. h (suc j) any (omega (arith, lt)))
+    (λ j any lt. h (suc j) any (omega (arith, lt)))
 
 -- the cursor at a place is another
 pub set-split : (items : List rust.Cursor) (i : ℕ) (x : rust.Cursor) → i < length items

@@ -17,27 +17,33 @@ returns-clause-answered g c =
 
 pub returns-clause-size : goal.returns-clause-size
 returns-clause-size g c =
-    let kept = page_kept (Makes g.S.Service.at g.S.Service.owns g.S.Service.stretch c.args.service.now c.page-page.new.service)
-        c.args.self.now.walk.search c.page-page.new.self.search c.args.out.now.items c.page-page.new.out.items
-        c.page-page.result c.page-page.ensures.pages in
+    let old = c.args.self.now.walk.search in
+    let new = c.page-page.new.self.search in
+    let kept = page_kept
+    (Makes g.S.Service.at g.S.Service.owns g.S.Service.stretch c.args.service.now c.page-page.new.service) old new
+    c.args.out.now.items c.page-page.new.out.items c.page-page.result c.page-page.ensures.pages in
     ap (λ (s : SearchTerm). s.size) kept.1
 
 pub returns-clause-slot : goal.returns-clause-slot
 returns-clause-slot g c =
-    let kept = page_kept (Makes g.S.Service.at g.S.Service.owns g.S.Service.stretch c.args.service.now c.page-page.new.service)
-        c.args.self.now.walk.search c.page-page.new.self.search c.args.out.now.items c.page-page.new.out.items
-        c.page-page.result c.page-page.ensures.pages in
+    let old = c.args.self.now.walk.search in
+    let new = c.page-page.new.self.search in
+    let kept = page_kept
+    (Makes g.S.Service.at g.S.Service.owns g.S.Service.stretch c.args.service.now c.page-page.new.service) old new
+    c.args.out.now.items c.page-page.new.out.items c.page-page.result c.page-page.ensures.pages in
     ap (λ (s : SearchTerm). s.slot) kept.1
 
 pub returns-clause-version : goal.returns-clause-version
 returns-clause-version g c =
-    let kept = page_kept (Makes g.S.Service.at g.S.Service.owns g.S.Service.stretch c.args.service.now c.page-page.new.service)
-        c.args.self.now.walk.search c.page-page.new.self.search c.args.out.now.items c.page-page.new.out.items
-        c.page-page.result c.page-page.ensures.pages in
+    let old = c.args.self.now.walk.search in
+    let new = c.page-page.new.self.search in
+    let kept = page_kept
+    (Makes g.S.Service.at g.S.Service.owns g.S.Service.stretch c.args.service.now c.page-page.new.service) old new
+    c.args.out.now.items c.page-page.new.out.items c.page-page.result c.page-page.ensures.pages in
     ap (λ (s : SearchTerm). s.version) kept.1
 
 pub returns-clause-worn : goal.returns-clause-worn
 returns-clause-worn g c =
     let new : rust.Cursor = record c.args.self.now { walk = c.page-page.new.self } in
     λ e. c.page-page.ensures.worn (page_worn (cursor_of new) c.page-page.result c.page-page.new.out.items
-        c.say_page.new.out.items c.say_page.result c.say_page.ensures e)
+    c.say_page.new.out.items c.say_page.result c.say_page.ensures e)

@@ -13,7 +13,11 @@ pub loop-cursor-init : goal.loop-cursor-init
 loop-cursor-init g c =
     let held = g.S.Service.holds c.args.service.now in
     record {
-      made = ([], makes_none g.S.Service.at g.S.Service.owns g.S.Service.stretch g.met.S.Service.stays c.args.service.now, refl);
+      made = (
+        [],
+        makes_none g.S.Service.at g.S.Service.owns g.S.Service.stretch g.met.S.Service.stays c.args.service.now,
+        refl,
+      );
       held = c.requires.held;
       others = same_others held held (cursors_of c.args.self.now.list.items) (same_held held);
       bounds = not_raised-same (g.S.Service.bounds c.args.service.now);
@@ -48,8 +52,8 @@ loop-cursor-preserved g c =
           inv.held;
       others = rest_others items left cursor some (g.S.Service.holds first) (g.S.Service.holds middle)
           (g.S.Service.holds last) (cursors_of c.args.self.now.list.items) c.in-Ok.ensures.held inv.others;
-      bounds = not_raised-more (g.S.Service.bounds first) (g.S.Service.bounds middle) (g.S.Service.bounds last) inv.bounds
-          c.close.ensures.bounds;
+      bounds = not_raised-more (g.S.Service.bounds first) (g.S.Service.bounds middle) (g.S.Service.bounds last)
+          inv.bounds c.close.ensures.bounds;
     }
 
 pub returns-in-Err-clause-err : goal.returns-in-Err-clause-err

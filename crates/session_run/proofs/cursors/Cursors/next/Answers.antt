@@ -50,7 +50,8 @@ returns-in-None-clause-answered g c =
     let s = c.args.service.now in
     next_refused (Makes g.S.Service.at g.S.Service.owns g.S.Service.stretch s s) c.args.self.now.size c.args.name.now
     (cursors_of c.args.self.now.list.items) c.args.out.now.items c.say.new.out.items c.say.result
-    (makes_none g.S.Service.at g.S.Service.owns g.S.Service.stretch g.met.S.Service.stays s) c.in-None.ensures.none c.say.ensures
+    (makes_none g.S.Service.at g.S.Service.owns g.S.Service.stretch g.met.S.Service.stays s) c.in-None.ensures.none
+    c.say.ensures
 
 pub returns-in-None-clause-worn : goal.returns-in-None-clause-worn
 returns-in-None-clause-worn g c =

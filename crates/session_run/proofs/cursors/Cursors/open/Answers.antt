@@ -2,9 +2,9 @@ use Rattle.std.proofs.Common.{[], ◌∷◌, ap, inl, inr, List, refl, Result, s
 use Rattle.shell_lang.specs.Reply.{reply_of}
 use Rattle.smarts_parse.specs.Pattern.{pattern_of}
 use Rattle.session_run.specs.Made.{AreHeld, Makes, SameOthers}
-use Rattle.session_run.specs.Walks.{Adds, AreSized, cursors_of}
+use Rattle.session_run.specs.Walks.{AreSized, cursors_of}
 use Rattle.session_run.specs.declared.cursors.Cursor as rust
-use Rattle.session_run.proofs.Begun.{added, added_held, added_others, added_sized, added_worn, free, taken}
+use Rattle.session_run.proofs.Begun.{added, added_as, added_held, added_others, added_sized, added_worn, free, taken}
 use Rattle.session_run.proofs.Held.{same_held, same_others}
 use Rattle.session_run.proofs.Joined.{makes_none}
 use Rattle.session_run.proofs.Lines.{on_ok, pattern_refused}
@@ -24,7 +24,7 @@ returns-in-Err-clause-call g c = (
 pub returns-then-is_some-clause-call : goal.returns-then-is_some-clause-call
 returns-then-is_some-clause-call g c =
     let named = taken c.find.result c.args.self.now.list.items c.args.name.now
-        (sym c.is_some.ensures ∙ c.if-is_some.true) c.find.ensures.named in (
+    (sym c.is_some.ensures ∙ c.if-is_some.true) c.find.ensures.named in (
       [],
       makes_none g.S.Service.at g.S.Service.owns g.S.Service.stretch g.met.S.Service.stays c.args.service.now,
       inr (pattern_of c.in-Ok.pattern, c.in-Ok.ensures.pattern, inl (named, (refl, refl), refl)),
@@ -56,51 +56,51 @@ returns-in_default-clause-others g c =
 
 pub returns-clause-call : goal.returns-clause-call
 returns-clause-call g c =
-    let items = c.args.self.now.list.items in
     let name = c.args.name.now in
-    let begun = c.begin-begun.result in
-    let adds = subst (λ (n : List ℕ). Adds n begun items c.add.new.self.list.items c.add.result) c.in-Ok-room_for.ensures.name
-        (subst (λ (l : List rust.Cursor).
-        Adds c.in-Ok-room_for.own_name.items begun l c.add.new.self.list.items c.add.result) c.room_for.ensures.items
-        c.add.ensures.adds) in
+    let items = c.args.self.now.list.items in
+    let adds = added_as c.in-Ok-room_for.own_name.items name c.begin-begun.result c.room_for.new.self.list.items items
+    c.add.new.self.list.items c.add.result c.in-Ok-room_for.ensures.name c.room_for.ensures.items c.add.ensures.adds in
+    let begun = c.begin-begun.ensures in
     added (Makes g.S.Service.at g.S.Service.owns g.S.Service.stretch c.args.service.now c.begin-begun.new.service)
     c.in-Ok.pattern c.args.settings.now.page name c.args.text.now items c.add.new.self.list.items c.in-Ok.ensures.pattern
     (free c.find.result _ (sym c.is_some.ensures ∙ c.if-is_some.false) c.find.ensures.none)
-    begun c.add.result c.begin-begun.ensures.call c.begin-begun.ensures.begun c.begin-begun.ensures.tried
-    c.begin-begun.ensures.hits adds
+    c.begin-begun.result c.add.result begun.call begun.begun begun.tried begun.hits adds
 
 pub returns-clause-sized : goal.returns-clause-sized
 returns-clause-sized g c =
-    let adds = subst (λ (l : List rust.Cursor).
-        Adds c.in-Ok-room_for.own_name.items c.begin-begun.result l c.add.new.self.list.items c.add.result)
-        c.room_for.ensures.items c.add.ensures.adds in
+    let name = c.args.name.now in
+    let items = c.args.self.now.list.items in
+    let adds = added_as c.in-Ok-room_for.own_name.items name c.begin-begun.result c.room_for.new.self.list.items items
+    c.add.new.self.list.items c.add.result c.in-Ok-room_for.ensures.name c.room_for.ensures.items c.add.ensures.adds in
     subst (λ (n : ℕ). AreSized n c.add.new.self.list.items) (sym (c.add.ensures.size ∙ c.room_for.ensures.size))
-    (added_sized c.in-Ok-room_for.own_name.items c.in-Ok.pattern c.args.settings.now.page c.args.self.now.size
-    c.begin-begun.result c.args.self.now.list.items c.add.new.self.list.items c.add.result c.requires.size
-    c.begin-begun.ensures.begun c.requires.sized adds)
+    (added_sized name c.in-Ok.pattern c.args.settings.now.page c.args.self.now.size c.begin-begun.result items
+    c.add.new.self.list.items c.add.result c.requires.size c.begin-begun.ensures.begun c.requires.sized adds)
 
 pub returns-clause-worn : goal.returns-clause-worn
 returns-clause-worn g c =
-    added_worn c.in-Ok-room_for.own_name.items c.begin-begun.result c.room_for.new.self.list.items
-    c.add.new.self.list.items c.add.result (g.S.Service.worn c.begin-begun.new.service) c.add.ensures.adds
-    c.begin-begun.ensures.worn
+    let name = c.args.name.now in
+    let items = c.args.self.now.list.items in
+    let adds = added_as c.in-Ok-room_for.own_name.items name c.begin-begun.result c.room_for.new.self.list.items items
+    c.add.new.self.list.items c.add.result c.in-Ok-room_for.ensures.name c.room_for.ensures.items c.add.ensures.adds in
+    added_worn name c.begin-begun.result items c.add.new.self.list.items c.add.result
+    (g.S.Service.worn c.begin-begun.new.service) adds c.begin-begun.ensures.worn
 
 pub returns-clause-held : goal.returns-clause-held
 returns-clause-held g c =
-    let adds = subst (λ (l : List rust.Cursor).
-        Adds c.in-Ok-room_for.own_name.items c.begin-begun.result l c.add.new.self.list.items c.add.result)
-        c.room_for.ensures.items c.add.ensures.adds in
+    let name = c.args.name.now in
+    let items = c.args.self.now.list.items in
+    let adds = added_as c.in-Ok-room_for.own_name.items name c.begin-begun.result c.room_for.new.self.list.items items
+    c.add.new.self.list.items c.add.result c.in-Ok-room_for.ensures.name c.room_for.ensures.items c.add.ensures.adds in
     on_ok c.add.result _ (added_held (g.S.Service.holds c.args.service.now)
-    (g.S.Service.holds c.begin-begun.new.service) c.in-Ok-room_for.own_name.items c.begin-begun.result
-    c.args.self.now.list.items c.add.new.self.list.items c.add.result
-    (c.begin-begun.ensures.held, c.begin-begun.ensures.apart) adds c.requires.held)
+    (g.S.Service.holds c.begin-begun.new.service) name c.begin-begun.result items c.add.new.self.list.items
+    c.add.result (c.begin-begun.ensures.held, c.begin-begun.ensures.apart) adds c.requires.held)
 
 pub returns-clause-others : goal.returns-clause-others
 returns-clause-others g c =
-    let adds = subst (λ (l : List rust.Cursor).
-        Adds c.in-Ok-room_for.own_name.items c.begin-begun.result l c.add.new.self.list.items c.add.result)
-        c.room_for.ensures.items c.add.ensures.adds in
+    let name = c.args.name.now in
+    let items = c.args.self.now.list.items in
+    let adds = added_as c.in-Ok-room_for.own_name.items name c.begin-begun.result c.room_for.new.self.list.items items
+    c.add.new.self.list.items c.add.result c.in-Ok-room_for.ensures.name c.room_for.ensures.items c.add.ensures.adds in
     on_ok c.add.result _ (added_others (g.S.Service.holds c.args.service.now)
-    (g.S.Service.holds c.begin-begun.new.service) c.in-Ok-room_for.own_name.items c.begin-begun.result
-    c.args.self.now.list.items c.add.new.self.list.items c.add.result
-    (c.begin-begun.ensures.held, c.begin-begun.ensures.apart) adds)
+    (g.S.Service.holds c.begin-begun.new.service) name c.begin-begun.result items c.add.new.self.list.items
+    c.add.result (c.begin-begun.ensures.held, c.begin-begun.ensures.apart) adds)

@@ -4,7 +4,8 @@ use Rattle.session_run.proofs.cursors.Cursors.take_first.Goals as goal
 
 pub returns-then-is_empty-clause-none : goal.returns-then-is_empty-clause-none
 returns-then-is_empty-clause-none c =
-    none_is c.args.self.now.list.items c.is_empty.result _ c.if-is_empty.true c.is_empty.ensures c.args.self.now.list.ok.0
+    let old = c.args.self.now.list in
+    none_is old.items c.is_empty.result _ c.if-is_empty.true c.is_empty.ensures old.ok.0
 
 pub returns-clause-some : goal.returns-clause-some
 returns-clause-some c =
