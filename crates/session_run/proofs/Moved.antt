@@ -1,4 +1,4 @@
--- What `search` and `next` answer, by the pages of their search.
+-- What `next` answers, by the page of its search.
 use Rattle.std.proofs.Common.{◌≡◌, ◌⊎◌, ◌++◌, ◌+◌, ◌∙◌, ap, append-nil, arith, Bool, Err, IfErr, inl, inr, length, List, [], ◌∷◌, map, Ok, OnOk, refl, Result, subst, sym, true, ℕ}
 use Rattle.par_search.specs.Searches.{SearchTerm, place_after}
 use Rattle.par_search.specs.declared.fault.SearchFault.{SearchFault}
@@ -7,15 +7,12 @@ use Rattle.shell_lang.specs.Reply as line
 use Rattle.shell_lang.specs.Reply.{reply_line}
 use Rattle.smarts_parse.specs.Pattern.{pattern_of}
 use Rattle.store_machine.specs.Searches.{Place, At, End}
-use Rattle.store_machine.specs.declared.machine.Event.{Event}
 use Rattle.store_machine.specs.declared.machine.Event.TheVariants as events
 use Rattle.store_machine.specs.declared.machine.Reply.{Reply}
 use Rattle.store_machine.specs.declared.machine.Reply.TheVariants as replies
-use Rattle.session_run.specs.Answer.{Advances, Lines, SearchAnswer, page_end}
-use Rattle.session_run.specs.Cursors.{Calls, Cursor, IsSearched}
+use Rattle.session_run.specs.Answer.{Advances, Lines, page_end}
+use Rattle.session_run.specs.Cursors.{Calls, Cursor}
 use Rattle.session_run.specs.Made.{Answered, Tells, WornIn}
-use Rattle.session_run.specs.Searched.{PinAnswer, alone}
-use Rattle.session_run.specs.Texts.{IsPatternOf}
 use Rattle.session_run.specs.Walks.{AreWritten, Counts, CursorAnswer, EndsPage, IsLost, IsNoPage, IsPage, Pages, cursor_of}
 use Rattle.session_run.specs.declared.cursors.Cursor as rust
 use Rattle.session_run.specs.declared.listing.Shown.{Shown}
@@ -23,59 +20,6 @@ use Rattle.session_run.specs.declared.stop.Stop.{Stop}
 use Rattle.session_run.specs.declared.stop.Stop.TheVariants as stops
 use Rattle.session_run.proofs.Ending.{text_more}
 use Rattle.session_run.proofs.Lines.{said_answered}
-
--- a search behind its pin
-module _ (First Next All : Calls → Type 0) (joins : (xs ys : Calls) → First xs → Next ys → All (xs ++ ys))
-    (size : ℕ) (text : List ℕ) (s : SearchTerm) (is : IsPatternOf text (pattern_of s.pattern)) (size_is : s.size ≡ size)
-    (begun : First ((events.Pin, replies.Pinned s.slot s.version) ∷ [])) where
-  abbrev pin : Event × Reply
-  pin = (events.Pin, replies.Pinned s.slot s.version)
-
-  to_search : (calls : Calls) (lines : Lines) → PinAnswer s calls lines → SearchAnswer size text (pin ∷ calls) lines
-  to_search calls lines p = inr (inr (
-    pattern_of s.pattern,
-    is,
-    inr (record {
-      slot = s.slot;
-      version = s.version;
-      place = p.place;
-      pages = p.pages;
-      tried = p.tried;
-      hits = p.hits;
-      made = ap (λ (c : Calls). pin ∷ c) p.made;
-      searched = subst (λ (n : ℕ). IsSearched (pattern_of s.pattern) s.slot n p.place p.pages p.tried p.hits) size_is
-          p.searched;
-      lists = p.lists;
-    }),
-  ))
-
-  pub searched_from : (out out' : List ℕ) (stop : Result (Unit {0}) Stop)
-      → Answered Next (alone (PinAnswer s)) out out' tt stop
-      → Answered All (alone (SearchAnswer size text)) out out' tt stop
-  searched_from out out' (Ok _) a = (
-    record {
-      calls = pin ∷ a.0.calls;
-      lines = a.0.lines;
-      made = joins (pin ∷ []) a.0.calls begun a.0.made;
-      is = to_search a.0.calls a.0.lines a.0.is;
-    },
-    a.1,
-  )
-  searched_from out out' (Err stops.NoMemory) a = record {
-    calls = pin ∷ a.calls;
-    lines = a.lines;
-    made = joins (pin ∷ []) a.calls begun a.made;
-    is = to_search a.calls a.lines a.is;
-  }
-  searched_from out out' (Err stops.Worn) a = record {
-    calls = pin ∷ a.calls;
-    whole = pin ∷ a.whole;
-    lines = a.lines;
-    after = tt;
-    made = joins (pin ∷ []) a.calls begun a.made;
-    begins = (a.begins.0, ap (λ (c : Calls). pin ∷ c) a.begins.1);
-    is = to_search a.whole a.lines a.is;
-  }
 
 -- a cursor, by its search and its counts
 abbrev with_search : List ℕ → SearchTerm → ℕ → ℕ → Cursor

@@ -80,6 +80,6 @@ module _ (items : List rust.Cursor) (place : ℕ) (x : rust.Cursor) (lt : place 
 abbrev pub unreturned : SearchFault → Result (Unit {0}) SearchFault
 unreturned fault = Err fault
 
-pub worn_close : (fault : SearchFault) (before worn : Type 0) → fault ≡ faults.Worn
-    → WornAs before worn (is_worn (unreturned fault)) → worn
-worn_close fault before worn e w = w.1 (ap (λ (f : SearchFault). is_worn (unreturned f)) e)
+pub worn_close : (fault : SearchFault) (was worn : Type 0) → fault ≡ faults.Worn
+    → WornAs was worn (is_worn (unreturned fault)) → worn
+worn_close fault was worn e w = w.1 (ap (λ (f : SearchFault). is_worn (unreturned f)) e)

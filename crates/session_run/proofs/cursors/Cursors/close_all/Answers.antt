@@ -23,8 +23,8 @@ loop-cursor-init g c =
       bounds = not_raised-same (g.S.Service.bounds c.args.service.now);
     }
 
-pub close-requires-clause-held : goal.close-requires-clause-held
-close-requires-clause-held g c =
+pub close-requires : goal.close-requires
+close-requires g c =
     first_pin c.loop-cursor.self.list.items c.take_first.new.self.list.items c.in-Some.cursor c.in-Some.ensures.some
     (g.S.Service.holds c.loop-cursor.service) c.loop-cursor.invariant.held
 
