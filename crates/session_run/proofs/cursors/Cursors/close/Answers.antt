@@ -23,9 +23,10 @@ pub remove-cursor-requires : goal.remove-cursor-requires
 remove-cursor-requires g c = omega (arith, c.in-Some.ensures.named.within, c.args.self.now.list.ok.0)
 
 pub close-requires : goal.close-requires
-close-requires g c =
-    pin_at c.args.self.now.list.items c.in-Some.place c.remove-cursor.result c.in-Some.ensures.named.within
-    c.remove-cursor.ensures.value (g.S.Service.holds c.args.service.now) c.requires.held
+close-requires g c = record {
+  held = pin_at c.args.self.now.list.items c.in-Some.place c.remove-cursor.result c.in-Some.ensures.named.within
+      c.remove-cursor.ensures.value (g.S.Service.holds c.args.service.now) c.requires.held;
+}
 
 pub returns-in-Ok-clause-call : goal.returns-in-Ok-clause-call
 returns-in-Ok-clause-call g c =

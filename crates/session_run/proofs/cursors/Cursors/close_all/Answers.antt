@@ -24,9 +24,10 @@ loop-cursor-init g c =
     }
 
 pub close-requires : goal.close-requires
-close-requires g c =
-    first_pin c.loop-cursor.self.list.items c.take_first.new.self.list.items c.in-Some.cursor c.in-Some.ensures.some
-    (g.S.Service.holds c.loop-cursor.service) c.loop-cursor.invariant.held
+close-requires g c = record {
+  held = first_pin c.loop-cursor.self.list.items c.take_first.new.self.list.items c.in-Some.cursor
+      c.in-Some.ensures.some (g.S.Service.holds c.loop-cursor.service) c.loop-cursor.invariant.held;
+}
 
 pub loop-cursor-smaller : goal.loop-cursor-smaller
 loop-cursor-smaller g c = omega (arith, ap (λ (l : List rust.Cursor). length l) c.in-Some.ensures.some)

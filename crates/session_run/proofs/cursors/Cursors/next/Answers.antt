@@ -14,7 +14,7 @@ pub index_mut-requires : goal.index_mut-requires
 index_mut-requires g c = omega (arith, c.in-Some.ensures.named.within, c.args.self.now.list.ok.0)
 
 pub next-requires-clause-held : goal.next-requires-clause-held
-next-requires-clause-held g c = λ κs.
+next-requires-clause-held g c = λ κs outlives.
     pin_at c.args.self.now.list.items c.in-Some.place c.index_mut.result.now c.in-Some.ensures.named.within
     c.index_mut.ensures.value (g.S.Service.holds c.args.service.now) c.requires.held
 
