@@ -222,7 +222,7 @@ or_true false e = e
 -- a search that is listed no further
 pub listed_done : (Made : Calls → Type 0) (old new : Walk) (out out' : List ℕ) (shown : Shown) (tried count : ℕ)
     → Listing Made old.search new.search tried count out shown.whole out' → new.tried ≡ tried → new.hits ≡ count
-    → (shown.last || not shown.whole) ≡ true → (shown.last ≡ true → new.search.place ≡ End)
+    → true ≡ (shown.last || not shown.whole) → (shown.last ≡ true → new.search.place ≡ End)
     → Listed Made old new out out' (Ok shown.whole)
 listed_done Made old new out out' shown tried count l t h e end = by shown.whole refl where
   by : (w : Bool) → shown.whole ≡ w → Listed Made old new out out' (Ok w)
@@ -230,7 +230,7 @@ listed_done Made old new out out' shown tried count l t h e end = by shown.whole
     subst (λ (n : ℕ). Listing Made old.search new.search n new.hits out true out') (sym t)
         (subst (λ (n : ℕ). Listing Made old.search new.search tried n out true out') (sym h)
         (subst (λ (b : Bool). Listing Made old.search new.search tried count out b out') q l)),
-    end (or_true shown.last (subst (λ (b : Bool). (shown.last || not b) ≡ true) q e)),
+    end (or_true shown.last (subst (λ (b : Bool). (shown.last || not b) ≡ true) q (sym e))),
   )
   by false q = (tried, count, subst (λ (b : Bool). Listing Made old.search new.search tried count out b out') q l)
 
@@ -245,8 +245,8 @@ whole_on true b e = absurd (apart e) where
 pub listed_on : (Made : Calls → Type 0) (begun new : SearchTerm) (out out' : List ℕ) (shown : Shown)
     (tried count tried' count' : ℕ)
     → Listing Made begun new tried count out shown.whole out' → tried' ≡ tried → count' ≡ count
-    → (shown.last || not shown.whole) ≡ false → Listing Made begun new tried' count' out true out'
+    → false ≡ (shown.last || not shown.whole) → Listing Made begun new tried' count' out true out'
 listed_on Made begun new out out' shown tried count tried' count' l t h e =
     subst (λ (n : ℕ). Listing Made begun new n count' out true out') (sym t)
     (subst (λ (n : ℕ). Listing Made begun new tried n out true out') (sym h)
-    (subst (λ (b : Bool). Listing Made begun new tried count out b out') (whole_on shown.last shown.whole e) l))
+    (subst (λ (b : Bool). Listing Made begun new tried count out b out') (whole_on shown.last shown.whole (sym e)) l))

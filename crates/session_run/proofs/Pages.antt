@@ -44,7 +44,7 @@ unwritten out out' false p = p.3
       none [] others e = refl
       none (x ∷ xs) others e = cc
 
-founds-length : (records : List Shared) → length (founds records) ≡ length records
+pub founds-length : (records : List Shared) → length (founds records) ≡ length records
 founds-length [] = refl
 founds-length (r ∷ rs) = ap suc (founds-length rs)
 
@@ -135,3 +135,10 @@ module _ (Made : Calls → Type 0) (old new : SearchTerm) (out out' : List ℕ) 
 pub lost_none : (Made : Calls → Type 0) (s : SearchTerm) (out out' : List ℕ) → Made [] → out' ≡ out
     → IsLost Made s s out out'
 lost_none Made s out out' m e = record { calls = []; made = m; by = inl refl; same = refl; unwritten = e }
+
+-- no memory was found for a text
+pub lost_exit : (Made : Calls → Type 0) (s : SearchTerm) (out out' : List ℕ) (r : Result Shown SearchFault)
+    → (y : SearchFault) × (r ≡ unshown y) × (y ≡ faults.NoMemory) → Made [] → out' ≡ out → Pages Made s s out out' r
+lost_exit Made s out out' r p m e =
+    subst (λ (x : Result Shown SearchFault). Pages Made s s out out' x) (sym (p.1 ∙ ap unshown p.2))
+    (lost_none Made s out out' m e)

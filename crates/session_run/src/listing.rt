@@ -105,7 +105,8 @@ impl Walk {
                     }
                 }
                 Err(SearchFault::Worn) => return Err(Worn),
-                Err(SearchFault::NoMemory) | Err(SearchFault::Pins) => return Ok(false),
+                Err(SearchFault::NoMemory) => return Ok(false),
+                Err(SearchFault::Pins) => return Ok(false),
             }
         }
         Ok(false)

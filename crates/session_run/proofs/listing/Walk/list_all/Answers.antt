@@ -1,4 +1,4 @@
-use Rattle.std.proofs.Common.{◌≡◌, ◌+◌, ap, false, List, Ok, refl, subst, sym, true, ℕ}
+use Rattle.std.proofs.Common.{◌≡◌, ◌+◌, ap, false, List, Ok, refl, rules, subst, sym, true, ℕ}
 use Rattle.par_search.specs.Searches.{SearchTerm}
 use Rattle.session_run.specs.Cursors.{Calls}
 use Rattle.session_run.specs.Made.{Makes}
@@ -26,8 +26,11 @@ loop-init g c =
 pub page-requires-clause-held : goal.page-requires-clause-held
 page-requires-clause-held g c =
     let old = c.args.self.now.search in
+    let now = c.loop.self.search in
+    let held : g.S.Service.holds c.loop.service now.slot now.version =
     subst (λ (s : SearchTerm). g.S.Service.holds c.loop.service s.slot s.version) (sym c.loop.invariant.listing.moved)
-    ((c.loop.invariant.held old.slot old.version).1 c.requires.held)
+    ((c.loop.invariant.held old.slot old.version).1 c.requires.held) in
+    search rules
 
 pub loop-preserved : goal.loop-preserved
 loop-preserved g c =
@@ -47,7 +50,7 @@ loop-preserved g c =
     record {
       listing = listed_on (made first last) old.search new.search out c.page.new.out.items c.in-Ok.shown
           (now.tried + c.in-Ok.shown.tried) (now.hits + c.in-Ok.shown.hits) new.tried new.hits listing
-          c.in-Ok.ensures.counts.0 c.in-Ok.ensures.counts.1 (sym c.if-ends.ensures);
+          c.in-Ok.ensures.counts.0 c.in-Ok.ensures.counts.1 c.if-ends.ensures;
       held = same_held-more (g.S.Service.holds first) (g.S.Service.holds middle) (g.S.Service.holds last)
           c.loop.invariant.held c.page.ensures.held;
       bounds = not_raised-more (g.S.Service.bounds first) (g.S.Service.bounds middle) (g.S.Service.bounds last)
@@ -71,7 +74,7 @@ returns-then-ends-clause-listed g c =
     c.loop.invariant.listing c.in-Ok.shown c.in-Ok.ensures.pages in
     listed_done (made first last) old new out c.page.new.out.items c.in-Ok.shown
     (now.tried + c.in-Ok.shown.tried) (now.hits + c.in-Ok.shown.hits) listing
-    c.in-Ok.ensures.counts.0 c.in-Ok.ensures.counts.1 (sym c.if-ends.ensures)
+    c.in-Ok.ensures.counts.0 c.in-Ok.ensures.counts.1 c.if-ends.ensures
     (at_end (made middle last) now.search new.search c.loop.out.items c.page.new.out.items c.in-Ok.shown
     c.in-Ok.ensures.pages)
 
@@ -143,6 +146,19 @@ returns-in-Err-Worn-clause-held g c =
 
 pub returns-in-Err-Worn-clause-bounds : goal.returns-in-Err-Worn-clause-bounds
 returns-in-Err-Worn-clause-bounds g c =
+    not_raised-more (g.S.Service.bounds c.args.service.now) (g.S.Service.bounds c.loop.service)
+    (g.S.Service.bounds c.page.new.service) c.loop.invariant.bounds c.page.ensures.bounds
+
+pub returns-in-Err-Pins-clause-listed : goal.returns-in-Err-Pins-clause-listed
+returns-in-Err-Pins-clause-listed g c = absurd (rw c.in-Err-Pins.field-0-is at c.in-Err-Pins.ensures.pages)
+
+pub returns-in-Err-Pins-clause-held : goal.returns-in-Err-Pins-clause-held
+returns-in-Err-Pins-clause-held g c =
+    same_held-more (g.S.Service.holds c.args.service.now) (g.S.Service.holds c.loop.service)
+    (g.S.Service.holds c.page.new.service) c.loop.invariant.held c.page.ensures.held
+
+pub returns-in-Err-Pins-clause-bounds : goal.returns-in-Err-Pins-clause-bounds
+returns-in-Err-Pins-clause-bounds g c =
     not_raised-more (g.S.Service.bounds c.args.service.now) (g.S.Service.bounds c.loop.service)
     (g.S.Service.bounds c.page.new.service) c.loop.invariant.bounds c.page.ensures.bounds
 
