@@ -1,4 +1,4 @@
-use Rattle.std.proofs.Common.{[], ◌∷◌, refl, subst, sym, ℕ}
+use Rattle.std.proofs.Common.{[], ◌∷◌, refl, rules, subst, sym, ℕ}
 use Rattle.shell_lang.specs.Reply.{reply_of}
 use Rattle.store_machine.specs.declared.machine.Event.TheVariants as events
 use Rattle.store_machine.specs.declared.machine.Reply.TheVariants as replies
@@ -8,16 +8,18 @@ use Rattle.session_run.proofs.Held.{not_raised-more}
 use Rattle.session_run.proofs.Joined.{makes_more}
 use Rattle.session_run.proofs.search.list.Goals as goal
 
-pub close-requires-clause-held : goal.close-requires-clause-held
-close-requires-clause-held g c =
+pub close-requires : goal.close-requires
+close-requires g c =
     let middle = c.list_all-listed.new.service in
     let old = c.args.walk in
     let new = c.list_all-listed.new.self in
     let kept = pin_kept (Makes g.S.Service.at g.S.Service.owns g.S.Service.stretch c.args.service.now middle) old new
-    c.args.out.now.items c.list_all-listed.new.out.items c.list_all-listed.result c.list_all-listed.ensures.listed in
+        c.args.out.now.items c.list_all-listed.new.out.items c.list_all-listed.result c.list_all-listed.ensures.listed in
+    let held : g.S.Service.holds middle new.search.slot new.search.version =
     subst (λ (n : ℕ). g.S.Service.holds middle n new.search.version) (sym kept.0)
     (subst (λ (v : ℕ). g.S.Service.holds middle old.search.slot v) (sym kept.1)
-    ((c.list_all-listed.ensures.held old.search.slot old.search.version).1 c.requires.held))
+    ((c.list_all-listed.ensures.held old.search.slot old.search.version).1 c.requires.held)) in
+    search rules
 
 pub returns-in-Ok-clause-answered : goal.returns-in-Ok-clause-answered
 returns-in-Ok-clause-answered g c =

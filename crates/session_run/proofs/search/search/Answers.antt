@@ -102,44 +102,44 @@ returns-in-Err-Worn-clause-answered g c =
 -- a search
 pub list-requires-clause-held : goal.list-requires-clause-held
 list-requires-clause-held g c =
-    (c.in-Ok-2.ensures.held c.in-Ok-2.walk.search.slot c.in-Ok-2.walk.search.version).1 (inr (refl, refl))
+    (c.in-Ok-begin.ensures.held c.in-Ok-begin.walk.search.slot c.in-Ok-begin.walk.search.version).1 (inr (refl, refl))
 
 pub list-requires-clause-need : goal.list-requires-clause-need
 list-requires-clause-need g c =
-    let begun = c.in-Ok-2.ensures.begun in
-    subst (λ (p : Pattern). IsNeedOf (pattern_of p) c.in-Ok-2.walk.search.want) (sym begun.pattern_is) begun.need
+    let begun = c.in-Ok-begin.ensures.begun in
+    subst (λ (p : Pattern). IsNeedOf (pattern_of p) c.in-Ok-begin.walk.search.want) (sym begun.pattern_is) begun.need
 
-pub returns-in-Ok-2-clause-answered : goal.returns-in-Ok-2-clause-answered
-returns-in-Ok-2-clause-answered g c =
+pub returns-in-Ok-begin-clause-answered : goal.returns-in-Ok-begin-clause-answered
+returns-in-Ok-begin-clause-answered g c =
     let first = c.args.service.now in
     let middle = c.begin.new.service in
     let last = c.list.new.service in
-    let begun = c.in-Ok-2.ensures.begun in
+    let begun = c.in-Ok-begin.ensures.begun in
     let made = Makes g.S.Service.at g.S.Service.owns g.S.Service.stretch in
     let joins = makes_more g.S.Service.at g.S.Service.owns g.S.Service.stretch g.met.S.Service.joins
     g.met.S.Service.lands g.met.S.Service.same first middle last in
     searched_from (made first middle) (made middle last) (made first last) joins
-    c.args.settings.now.page c.args.text.now c.in-Ok-2.walk.search
+    c.args.settings.now.page c.args.text.now c.in-Ok-begin.walk.search
     (subst (λ (p : Pattern). IsPatternOf c.args.text.now (pattern_of p)) (sym begun.pattern_is) c.in-Ok.ensures.pattern)
-    begun.size_is c.in-Ok-2.ensures.call c.args.out.now.items c.list.new.out.items c.list.result c.list.ensures.answered
+    begun.size_is c.in-Ok-begin.ensures.call c.args.out.now.items c.list.new.out.items c.list.result c.list.ensures.answered
 
-pub returns-in-Ok-2-clause-held : goal.returns-in-Ok-2-clause-held
-returns-in-Ok-2-clause-held g c =
-    let s = c.in-Ok-2.walk.search in
+pub returns-in-Ok-begin-clause-held : goal.returns-in-Ok-begin-clause-held
+returns-in-Ok-begin-clause-held g c =
+    let s = c.in-Ok-begin.walk.search in
     ok_unless c.list.result _ (λ on. held_returned (g.S.Service.holds c.args.service.now)
     (g.S.Service.holds c.begin.new.service) (g.S.Service.holds c.list.new.service) s.slot s.version
-    (record { now = c.in-Ok-2.ensures.held; apart = λ o. c.in-Ok-2.ensures.apart s.slot s.version o (refl, refl) })
+    (record { now = c.in-Ok-begin.ensures.held; apart = λ o. c.in-Ok-begin.ensures.apart s.slot s.version o (refl, refl) })
     (c.list.ensures.held on))
 
-pub returns-in-Ok-2-clause-kept : goal.returns-in-Ok-2-clause-kept
-returns-in-Ok-2-clause-kept g c =
-    let s = c.in-Ok-2.walk.search in
+pub returns-in-Ok-begin-clause-kept : goal.returns-in-Ok-begin-clause-kept
+returns-in-Ok-begin-clause-kept g c =
+    let s = c.in-Ok-begin.walk.search in
     kept_unless c.list.result _ (λ on. held_returned (g.S.Service.holds c.args.service.now)
     (g.S.Service.holds c.begin.new.service) (g.S.Service.holds c.list.new.service) s.slot s.version
-    (record { now = c.in-Ok-2.ensures.held; apart = λ o. c.in-Ok-2.ensures.apart s.slot s.version o (refl, refl) })
+    (record { now = c.in-Ok-begin.ensures.held; apart = λ o. c.in-Ok-begin.ensures.apart s.slot s.version o (refl, refl) })
     (c.list.ensures.held on))
 
-pub returns-in-Ok-2-clause-bounds : goal.returns-in-Ok-2-clause-bounds
-returns-in-Ok-2-clause-bounds g c =
+pub returns-in-Ok-begin-clause-bounds : goal.returns-in-Ok-begin-clause-bounds
+returns-in-Ok-begin-clause-bounds g c =
     not_raised-more (g.S.Service.bounds c.args.service.now) (g.S.Service.bounds c.begin.new.service)
     (g.S.Service.bounds c.list.new.service) c.begin.ensures.bounds c.list.ensures.bounds
