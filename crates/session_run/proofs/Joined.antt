@@ -53,8 +53,8 @@ module _ {S : Type 0} (at : S → State → Type 0) (owns : S → ℕ → Bool)
           after = m.after;
           stands = joins a b c s k.after m.after k.steps m.steps k.stands m.stands;
           own = calls-append (owns a) k.steps m.steps
-              ∙ ap₂ (λ xs ys. xs ++ ys) k.own (calls-same (owns b) (owns a)
-              (λ n. sym_of (same a b s k.after k.steps n k.stands)) m.steps ∙ m.own);
+              ∙ ap₂ (λ xs ys. xs ++ ys) k.own
+              (calls-same (owns b) (owns a) (λ n. sym_of (same a b s k.after k.steps n k.stands)) m.steps ∙ m.own);
         };
   }
     where

@@ -7,6 +7,7 @@ pub mod Pages
 pub mod Listings
 pub mod Listed
 pub mod Ending
+pub mod Searching
 pub mod Moved
 pub mod Opening
 pub mod Responses

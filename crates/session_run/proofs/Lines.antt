@@ -36,9 +36,8 @@ use Rattle.session_run.specs.declared.stop.Worn.{Worn}
 
 -- a text that is refused
 pub text_refused : (Made : Calls → Type 0) (change : Change) (format : Format) (text : List ℕ) (fault : TextFault)
-    (said : line.Reply)
-    → Made [] → IsAnswer format text (Err fault) → IsTextRefusal fault said → (calls : Calls) × Made calls
-    × TextAnswer change format text calls (said ∷ [])
+    (said : line.Reply) → Made [] → IsAnswer format text (Err fault) → IsTextRefusal fault said
+    → (calls : Calls) × Made calls × TextAnswer change format text calls (said ∷ [])
 text_refused Made change format text faults.NoMemory said m is e =
     ([], m, inr (inl (refl, ap (λ (x : line.Reply). x ∷ []) e)))
 text_refused Made change format text (faults.Smiles f) said m is e =
@@ -111,30 +110,29 @@ answered_as Made Is As to f out out' x (Err stops.Worn) a =
 pub said_answered : {X : Type 0} (Made : Calls → Type 0) (Is : Calls → Lines → X → Type 0) (out out' : List ℕ) (x : X)
     (calls : Calls) (said : line.Reply) (stop : Result (Unit {0}) Stop)
     → Made calls → Is calls (said ∷ []) x → Tells said out out' stop → Answered Made Is out out' x stop
-said_answered Made Is out out' x calls said (Ok _) m is e =
-    let text = ap (λ (t : List ℕ). out ++ t) (sym (append-nil (reply_line said))) in
-    (record { calls = calls; lines = said ∷ []; made = m; is = is }, e ∙ text)
+said_answered Made Is out out' x calls said (Ok _) m is e = (
+  record { calls = calls; lines = said ∷ []; made = m; is = is },
+  e ∙ ap (λ t. out ++ t) (sym (append-nil (reply_line said))),
+)
 said_answered Made Is out out' x calls said (Err stops.NoMemory) m is e =
     record { calls = calls; lines = said ∷ []; made = m; is = is }
 said_answered Made Is out out' x calls said (Err stops.Worn) m is e = absurd e
 
 -- a service that is worn before the first call
 pub worn_answered : {X : Type 0} (Made : Calls → Type 0) (Is : Calls → Lines → X → Type 0) (x : X) (whole : Calls)
-    (lines : Lines)
-    → Made [] → Is whole lines x → WornIn Made Is
+    (lines : Lines) → Made [] → Is whole lines x → WornIn Made Is
 worn_answered Made Is x whole lines m is =
     record { calls = []; whole = whole; lines = lines; after = x; made = m; begins = (whole, refl); is = is }
 
 -- a line that was written, by whether the service was worn
-pub line_answered : {X : Type 0} (Made : Calls → Type 0) (Is : Calls → Lines → Type 0)
-    (As : Calls → Lines → X → Type 0) (out out' : List ℕ) (x : X) (reply : Result written.Reply Worn)
-    (result : Result (Unit {0}) Stop)
+pub line_answered : {X : Type 0} (Made : Calls → Type 0) (Is : Calls → Lines → Type 0) (As : Calls → Lines → X → Type 0)
+    (out out' : List ℕ) (x : X) (reply : Result written.Reply Worn) (result : Result (Unit {0}) Stop)
     → ((calls : Calls) (lines : Lines) → Is calls lines → As calls lines x) → (whole : Calls) (said : Lines)
-    → Is whole said
-    → OneLine Made Is reply → Said reply out out' result → Answered Made As out out' x result
-line_answered Made Is As out out' x (Ok reply) (Ok _) f whole said is o e =
-    let text = ap (λ (t : List ℕ). out ++ t) (sym (append-nil (reply_line (reply_of reply)))) in
-    (record { calls = o.0; lines = reply_of reply ∷ []; made = o.1; is = f _ _ o.2 }, e ∙ text)
+    → Is whole said → OneLine Made Is reply → Said reply out out' result → Answered Made As out out' x result
+line_answered Made Is As out out' x (Ok reply) (Ok _) f whole said is o e = (
+  record { calls = o.0; lines = reply_of reply ∷ []; made = o.1; is = f _ _ o.2 },
+  e ∙ ap (λ t. out ++ t) (sym (append-nil (reply_line (reply_of reply)))),
+)
 line_answered Made Is As out out' x (Ok reply) (Err stops.NoMemory) f whole said is o e =
     record { calls = o.0; lines = reply_of reply ∷ []; made = o.1; is = f _ _ o.2 }
 line_answered Made Is As out out' x (Ok reply) (Err stops.Worn) f whole said is o e = absurd e
@@ -147,9 +145,10 @@ line_answered Made Is As out out' x (Err w) (Err stops.Worn) f whole said is o e
 pub line_in_answered : {X : Type 0} (Made : Calls → Type 0) (Is : Calls → Lines → X → Type 0) (out out' : List ℕ)
     (x : X) (reply : Result written.Reply Worn) (result : Result (Unit {0}) Stop)
     → OneLineIn Made Is x reply → Said reply out out' result → Answered Made Is out out' x result
-line_in_answered Made Is out out' x (Ok reply) (Ok _) o e =
-    let text = ap (λ (t : List ℕ). out ++ t) (sym (append-nil (reply_line (reply_of reply)))) in
-    (record { calls = o.0; lines = reply_of reply ∷ []; made = o.1; is = o.2 }, e ∙ text)
+line_in_answered Made Is out out' x (Ok reply) (Ok _) o e = (
+  record { calls = o.0; lines = reply_of reply ∷ []; made = o.1; is = o.2 },
+  e ∙ ap (λ t. out ++ t) (sym (append-nil (reply_line (reply_of reply)))),
+)
 line_in_answered Made Is out out' x (Ok reply) (Err stops.NoMemory) o e =
     record { calls = o.0; lines = reply_of reply ∷ []; made = o.1; is = o.2 }
 line_in_answered Made Is out out' x (Ok reply) (Err stops.Worn) o e = absurd e
@@ -159,8 +158,7 @@ line_in_answered Made Is out out' x (Err w) (Err stops.Worn) o e = o
 
 -- what a record is made of
 pub change_same : (verb : Verb) (r : RecordTerm) (id : ℕ) (format : Format) (text : List ℕ) → r.id ≡ id
-    → r.format ≡ format → r.text ≡ text
-    → change_by verb r.id r.format r.text ≡ change_by verb id format text
+    → r.format ≡ format → r.text ≡ text → change_by verb r.id r.format r.text ≡ change_by verb id format text
 change_same verb r id format text a b d = cc
 
 pub text_same : (r : RecordTerm) (format : Format) (text : List ℕ) → r.format ≡ format → r.text ≡ text
@@ -180,8 +178,7 @@ on_err (Err e) P p = p
 
 -- a change to a molfile's text
 pub molfile_answer : (change : MolfileChange) (verb : Verb) (id : ℕ) (text : List ℕ) (calls : Calls) (lines : Lines)
-    → IsChange change verb id
-    → TextAnswer (change_by verb id formats.Molfile text) formats.Molfile text calls lines
+    → IsChange change verb id → TextAnswer (change_by verb id formats.Molfile text) formats.Molfile text calls lines
     → MolfileAnswer (molfile_command (Ok change)) text calls lines
 molfile_answer (molfile.Register n) verb id text calls lines is a =
     subst (λ (v : Verb). TextAnswer (change_by v n formats.Molfile text) formats.Molfile text calls lines) is.0
