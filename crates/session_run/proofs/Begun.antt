@@ -1,5 +1,5 @@
 -- A cursor that is opened: its answer, and what is held, by how its search began.
-use Rattle.std.proofs.Common.{◌≡◌, ◌↔◌, ◌⊎◌, ◌++◌, ◌∙◌, ap, Err, false, IfNone, IfOk, IfSome, inl, inr, is_some, List, [], ◌∷◌, None, Ok, OnErr, OnOk, Option, refl, Result, Some, subst, sym, true, ℕ}
+use Rattle.std.proofs.Common.{◌≡◌, ◌↔◌, ◌⊎◌, ◌++◌, ◌∙◌, ap, Err, false, IfNone, IfOk, IfSome, inl, inr, is_some, List, [], ◌∷◌, None, Ok, OnErr, Option, refl, Result, Some, subst, sym, true, ℕ}
 use Rattle.par_search.specs.Searches.{HasBegun}
 use Rattle.par_search.specs.declared.fault.SearchFault.{SearchFault}
 use Rattle.par_search.specs.declared.fault.SearchFault.TheVariants as faults

@@ -5,7 +5,7 @@ use Rattle.std.proofs.lemmas.Bool.Decides.{nat_tests}
 use Rattle.std.proofs.lemmas.List.Quantifiers.{position-Some}
 use Rattle.std.proofs.lemmas.Slice.Eq.{bytes_eq-Decides}
 use Rattle.std.specs.List.{position_or_len, remove}
-use Rattle.session_run.specs.Cursors.{Calls, Cursor, IsNoName, unpins}
+use Rattle.session_run.specs.Cursors.{Cursor, IsNoName}
 use Rattle.session_run.specs.Walks.{AreSized, IsNamedAt, cursor_of, cursors_of}
 use Rattle.session_run.specs.declared.cursors.Cursor as rust
 

@@ -1,5 +1,5 @@
 -- What `open`, `next` and `close` answer, by the cursor of a name.
-use Rattle.std.proofs.Common.{◌≡◌, ◌⊎◌, ◌++◌, ◌∙◌, ap, Bool, drop, get_or, inl, inr, List, [], ◌∷◌, refl, Result, set, subst, suc, sym, take, ℕ}
+use Rattle.std.proofs.Common.{◌≡◌, ◌++◌, ◌∙◌, ap, Bool, drop, get_or, inl, inr, List, [], ◌∷◌, refl, Result, set, subst, suc, sym, take, ℕ}
 use Rattle.std.specs.List.{remove}
 use Rattle.par_search.specs.Searches.{HasBegun, SearchTerm}
 use Rattle.shell_lang.specs.Reply as line

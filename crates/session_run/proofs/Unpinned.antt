@@ -1,5 +1,5 @@
 -- How the pins of all cursors are given back, one after another.
-use Rattle.std.proofs.Common.{◌≡◌, ◌<◌, ◌++◌, ◌∙◌, ◌==◌, ap, append-nil, append_assoc, arith, Bool, get_or, length, List, [], ◌∷◌, refl, subst, suc, sym, true, zero, ℕ}
+use Rattle.std.proofs.Common.{◌≡◌, ◌<◌, ◌++◌, ◌∙◌, ◌==◌, ap, append-nil, append_assoc, arith, Bool, get_or, length, List, [], ◌∷◌, subst, sym, true, ℕ}
 use Rattle.std.proofs.lemmas.Bool.{eqb-true}
 use Rattle.std.proofs.lemmas.List.{nil_from_length}
 use Rattle.std.specs.List.{remove}

@@ -1,4 +1,3 @@
-use Rattle.std.proofs.Common.{Ok}
 use Rattle.session_run.specs.Walks.{cursor_of}
 use Rattle.session_run.proofs.Moved.{end_said}
 use Rattle.session_run.proofs.cursors.Cursor.say_page.Goals as goal

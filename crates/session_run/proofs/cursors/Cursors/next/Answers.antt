@@ -1,4 +1,4 @@
-use Rattle.std.proofs.Common.{arith, refl, sym, ◌∙◌}
+use Rattle.std.proofs.Common.{arith}
 use Rattle.shell_lang.specs.Reply as line
 use Rattle.shell_lang.specs.declared.reply.Refusal.TheVariants as refusals
 use Rattle.session_run.specs.Made.{Makes}

@@ -1,4 +1,4 @@
-use Rattle.std.proofs.Common.{[], ◌∷◌, ap, inl, inr, List, refl, Result, subst, sym, ◌∙◌, ℕ}
+use Rattle.std.proofs.Common.{[], ap, inl, inr, List, refl, subst, sym, ◌∙◌, ℕ}
 use Rattle.shell_lang.specs.Reply.{reply_of}
 use Rattle.smarts_parse.specs.Pattern.{pattern_of}
 use Rattle.session_run.specs.Made.{AreHeld, Makes, SameOthers}

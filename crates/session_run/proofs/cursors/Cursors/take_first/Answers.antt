@@ -1,4 +1,4 @@
-use Rattle.std.proofs.Common.{arith, sym, ◌∙◌}
+use Rattle.std.proofs.Common.{arith}
 use Rattle.session_run.proofs.Unpinned.{first_is, none_is}
 use Rattle.session_run.proofs.cursors.Cursors.take_first.Goals as goal
 
