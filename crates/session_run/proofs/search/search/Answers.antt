@@ -1,4 +1,4 @@
-use Rattle.std.proofs.Common.{Err, ap, [], ◌∷◌, inl, inr, refl, subst, sym}
+use Rattle.std.proofs.Common.{Err, ap, [], ◌∷◌, inl, inr, refl, rules, subst, sym}
 use Rattle.par_search.specs.declared.fault.SearchFault.{SearchFault}
 use Rattle.shell_lang.specs.Reply as line
 use Rattle.shell_lang.specs.Reply.{reply_of}
@@ -102,12 +102,18 @@ returns-in-Err-Worn-clause-answered g c =
 -- a search
 pub list-requires-clause-held : goal.list-requires-clause-held
 list-requires-clause-held g c =
-    (c.in-Ok-begin.ensures.held c.in-Ok-begin.walk.search.slot c.in-Ok-begin.walk.search.version).1 (inr (refl, refl))
+    let s = c.in-Ok-begin.walk.search in
+    let held : g.S.Service.holds c.begin.new.service s.slot s.version =
+    (c.in-Ok-begin.ensures.held s.slot s.version).1 (inr (refl, refl)) in
+    search rules
 
 pub list-requires-clause-need : goal.list-requires-clause-need
 list-requires-clause-need g c =
+    let s = c.in-Ok-begin.walk.search in
     let begun = c.in-Ok-begin.ensures.begun in
-    subst (λ (p : Pattern). IsNeedOf (pattern_of p) c.in-Ok-begin.walk.search.want) (sym begun.pattern_is) begun.need
+    let need : IsNeedOf (pattern_of s.pattern) s.want =
+    subst (λ (p : Pattern). IsNeedOf (pattern_of p) s.want) (sym begun.pattern_is) begun.need in
+    search rules
 
 pub returns-in-Ok-begin-clause-answered : goal.returns-in-Ok-begin-clause-answered
 returns-in-Ok-begin-clause-answered g c =
