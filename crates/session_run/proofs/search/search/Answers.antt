@@ -127,22 +127,25 @@ returns-in-Ok-begin-clause-answered g c =
     searched_from (made first middle) (made middle last) (made first last) joins
     c.args.settings.now.page c.args.text.now c.in-Ok-begin.walk.search
     (subst (λ (p : Pattern). IsPatternOf c.args.text.now (pattern_of p)) (sym begun.pattern_is) c.in-Ok.ensures.pattern)
-    begun.size_is c.in-Ok-begin.ensures.call c.args.out.now.items c.list.new.out.items c.list.result c.list.ensures.answered
+    begun.size_is c.in-Ok-begin.ensures.call c.args.out.now.items c.list.new.out.items c.list.result
+    c.list.ensures.answered
 
 pub returns-in-Ok-begin-clause-held : goal.returns-in-Ok-begin-clause-held
 returns-in-Ok-begin-clause-held g c =
     let s = c.in-Ok-begin.walk.search in
+    let begun = c.in-Ok-begin.ensures in
     ok_unless c.list.result _ (λ on. held_returned (g.S.Service.holds c.args.service.now)
     (g.S.Service.holds c.begin.new.service) (g.S.Service.holds c.list.new.service) s.slot s.version
-    (record { now = c.in-Ok-begin.ensures.held; apart = λ o. c.in-Ok-begin.ensures.apart s.slot s.version o (refl, refl) })
+    (record { now = begun.held; apart = λ o. begun.apart s.slot s.version o (refl, refl) })
     (c.list.ensures.held on))
 
 pub returns-in-Ok-begin-clause-kept : goal.returns-in-Ok-begin-clause-kept
 returns-in-Ok-begin-clause-kept g c =
     let s = c.in-Ok-begin.walk.search in
+    let begun = c.in-Ok-begin.ensures in
     kept_unless c.list.result _ (λ on. held_returned (g.S.Service.holds c.args.service.now)
     (g.S.Service.holds c.begin.new.service) (g.S.Service.holds c.list.new.service) s.slot s.version
-    (record { now = c.in-Ok-begin.ensures.held; apart = λ o. c.in-Ok-begin.ensures.apart s.slot s.version o (refl, refl) })
+    (record { now = begun.held; apart = λ o. begun.apart s.slot s.version o (refl, refl) })
     (c.list.ensures.held on))
 
 pub returns-in-Ok-begin-clause-bounds : goal.returns-in-Ok-begin-clause-bounds
