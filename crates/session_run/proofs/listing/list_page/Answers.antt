@@ -11,7 +11,7 @@ pub overflow_cast-result : goal.overflow_cast-result
 overflow_cast-result g c =
     let page = c.in-Ok.page in
     let few = matched_few (pattern_of c.args.search.now.pattern) (founds page.records.now) page.hits.now
-        c.in-Ok.ensures.hits in
+    c.in-Ok.ensures.hits in
     let same = founds-length page.records.now in
     let fits : Fits w32 page.tried = search rules in
     record { fits = omega (arith, few, same, c.in-Ok.ensures.tried, fits.fits) }

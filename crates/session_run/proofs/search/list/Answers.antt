@@ -14,7 +14,7 @@ close-requires g c =
     let old = c.args.walk in
     let new = c.list_all-listed.new.self in
     let kept = pin_kept (Makes g.S.Service.at g.S.Service.owns g.S.Service.stretch c.args.service.now middle) old new
-        c.args.out.now.items c.list_all-listed.new.out.items c.list_all-listed.result c.list_all-listed.ensures.listed in
+    c.args.out.now.items c.list_all-listed.new.out.items c.list_all-listed.result c.list_all-listed.ensures.listed in
     let held : g.S.Service.holds middle new.search.slot new.search.version =
     subst (λ (n : ℕ). g.S.Service.holds middle n new.search.version) (sym kept.0)
     (subst (λ (v : ℕ). g.S.Service.holds middle old.search.slot v) (sym kept.1)

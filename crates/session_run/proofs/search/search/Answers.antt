@@ -1,4 +1,4 @@
-use Rattle.std.proofs.Common.{Err, ap, [], ◌∷◌, inl, inr, refl, subst, sym}
+use Rattle.std.proofs.Common.{Err, ap, [], ◌∷◌, inl, inr, refl, rules, subst, sym}
 use Rattle.par_search.specs.declared.fault.SearchFault.{SearchFault}
 use Rattle.shell_lang.specs.Reply as line
 use Rattle.shell_lang.specs.Reply.{reply_of}
@@ -102,12 +102,18 @@ returns-in-Err-Worn-clause-answered g c =
 -- a search
 pub list-requires-clause-held : goal.list-requires-clause-held
 list-requires-clause-held g c =
-    (c.in-Ok-begin.ensures.held c.in-Ok-begin.walk.search.slot c.in-Ok-begin.walk.search.version).1 (inr (refl, refl))
+    let s = c.in-Ok-begin.walk.search in
+    let held : g.S.Service.holds c.begin.new.service s.slot s.version =
+    (c.in-Ok-begin.ensures.held s.slot s.version).1 (inr (refl, refl)) in
+    search rules
 
 pub list-requires-clause-need : goal.list-requires-clause-need
 list-requires-clause-need g c =
+    let s = c.in-Ok-begin.walk.search in
     let begun = c.in-Ok-begin.ensures.begun in
-    subst (λ (p : Pattern). IsNeedOf (pattern_of p) c.in-Ok-begin.walk.search.want) (sym begun.pattern_is) begun.need
+    let need : IsNeedOf (pattern_of s.pattern) s.want =
+    subst (λ (p : Pattern). IsNeedOf (pattern_of p) s.want) (sym begun.pattern_is) begun.need in
+    search rules
 
 pub returns-in-Ok-begin-clause-answered : goal.returns-in-Ok-begin-clause-answered
 returns-in-Ok-begin-clause-answered g c =
@@ -121,22 +127,25 @@ returns-in-Ok-begin-clause-answered g c =
     searched_from (made first middle) (made middle last) (made first last) joins
     c.args.settings.now.page c.args.text.now c.in-Ok-begin.walk.search
     (subst (λ (p : Pattern). IsPatternOf c.args.text.now (pattern_of p)) (sym begun.pattern_is) c.in-Ok.ensures.pattern)
-    begun.size_is c.in-Ok-begin.ensures.call c.args.out.now.items c.list.new.out.items c.list.result c.list.ensures.answered
+    begun.size_is c.in-Ok-begin.ensures.call c.args.out.now.items c.list.new.out.items c.list.result
+    c.list.ensures.answered
 
 pub returns-in-Ok-begin-clause-held : goal.returns-in-Ok-begin-clause-held
 returns-in-Ok-begin-clause-held g c =
     let s = c.in-Ok-begin.walk.search in
+    let begun = c.in-Ok-begin.ensures in
     ok_unless c.list.result _ (λ on. held_returned (g.S.Service.holds c.args.service.now)
     (g.S.Service.holds c.begin.new.service) (g.S.Service.holds c.list.new.service) s.slot s.version
-    (record { now = c.in-Ok-begin.ensures.held; apart = λ o. c.in-Ok-begin.ensures.apart s.slot s.version o (refl, refl) })
+    (record { now = begun.held; apart = λ o. begun.apart s.slot s.version o (refl, refl) })
     (c.list.ensures.held on))
 
 pub returns-in-Ok-begin-clause-kept : goal.returns-in-Ok-begin-clause-kept
 returns-in-Ok-begin-clause-kept g c =
     let s = c.in-Ok-begin.walk.search in
+    let begun = c.in-Ok-begin.ensures in
     kept_unless c.list.result _ (λ on. held_returned (g.S.Service.holds c.args.service.now)
     (g.S.Service.holds c.begin.new.service) (g.S.Service.holds c.list.new.service) s.slot s.version
-    (record { now = c.in-Ok-begin.ensures.held; apart = λ o. c.in-Ok-begin.ensures.apart s.slot s.version o (refl, refl) })
+    (record { now = begun.held; apart = λ o. begun.apart s.slot s.version o (refl, refl) })
     (c.list.ensures.held on))
 
 pub returns-in-Ok-begin-clause-bounds : goal.returns-in-Ok-begin-clause-bounds
