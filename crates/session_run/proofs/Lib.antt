@@ -7,6 +7,7 @@ pub mod Pages
 pub mod Listings
 pub mod Listed
 pub mod Ending
+pub mod Searching
 pub mod Moved
 pub mod Opening
 pub mod Responses
@@ -21,3 +22,6 @@ pub mod Pinned
 pub mod Followed
 pub mod Truth
 pub mod Told
+pub mod Placed
+pub mod Begun
+pub mod Unpinned
