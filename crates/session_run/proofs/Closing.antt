@@ -1,5 +1,5 @@
 -- How a session is closed: the pins of its open cursors are given back.
-use Rattle.std.proofs.Common.{◌≡◌, ◌++◌, ◌∙◌, ap, append_assoc, IfSome, inl, List, [], ◌∷◌, None, Option, refl, Some, sym, ℕ}
+use Rattle.std.proofs.Common.{◌≡◌, ◌++◌, ◌∙◌, ap, append-nil, append_assoc, IfSome, inl, List, [], ◌∷◌, None, Option, refl, Some, sym, ℕ}
 use Rattle.io_edge.specs.Lines.{TextLine, lines_of}
 use Rattle.session_run.specs.Cursors.{Calls, Cursor, unpins}
 use Rattle.session_run.specs.Served.{IsServed, Writes}
@@ -70,3 +70,28 @@ pub served-closing : (end : EndStatus) (size : ℕ) (input put put' : Option (Li
     → Serves end size input put put' calls cursors → IfSome input (λ bytes. Writes put put' (IsServed Worn size (lines_of bytes) (calls ++ some)))
 served-closing end size input put put' calls some cursors n p = writes_as input put put' (λ bytes text. Ends end size (lines_of bytes) calls cursors text) (λ bytes text. IsServed Worn size (lines_of bytes) (calls ++ some) text)
     (λ bytes text e. worn-end end size (lines_of bytes) calls some cursors text n p e)
+
+-- nothing was read
+pub served-none : (size : ℕ) (input put : Option (List ℕ))
+    → IfSome input (λ bytes. Writes put put (IsServed NoMemory size (lines_of bytes) []))
+served-none size None put = tt
+served-none size (Some bytes) None = tt
+served-none size (Some bytes) (Some old) = (
+  [],
+  ap Some (sym (append-nil old)),
+  (
+    [],
+    [],
+    record {
+      requests = [];
+      left = lines_of bytes;
+      begin = refl;
+      own = [];
+      replies = [];
+      cursors_open = [];
+      answered = (refl, refl, refl);
+      last = inl (refl, refl, refl);
+    },
+    refl,
+  ),
+)

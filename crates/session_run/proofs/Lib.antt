@@ -9,6 +9,7 @@ pub mod Listed
 pub mod Ending
 pub mod Moved
 pub mod Opening
+pub mod Keeping
 pub mod Responses
 pub mod Turning
 pub mod Named

@@ -59,6 +59,16 @@ pub record IsUnderWay (size limit : ℕ) (before now put0 put : Option (List ℕ
 false_is_not_true : IsTrue false → ⊥
 false_is_not_true h = cc
 
+-- new lines
+pub fresh : (r : Reading) (limit : ℕ)
+    → r ≡ record { pending = []; long = false; taken = 0; limit = limit; ended = false; text = [] } → IsFresh r
+fresh r limit e = record {
+  none = ap (λ (x : Reading). x.pending) e;
+  short = ap (λ (x : Reading). x.long) e;
+  untaken = ap (λ (x : Reading). x.taken) e;
+  unended = ap (λ (x : Reading). x.ended) e;
+}
+
 -- the start
 pub under_way-start : (size : ℕ) (before put : Option (List ℕ)) (r : Reading) (cursors : List Cursor) → IsFresh r → cursors ≡ []
     → IsUnderWay size r.limit before before put put r [] cursors
