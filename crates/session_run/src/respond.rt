@@ -211,7 +211,15 @@ impl Responder {
         ensures keeps { Keeps S.holds S.worn S.bounds service.old service.new self.old self.new result }
     {
         let settings = &self.settings;
-        search(rt, self.alloc, service, meter, settings, pattern, &mut self.out)
+        search(
+            rt,
+            self.alloc,
+            service,
+            meter,
+            settings,
+            pattern,
+            &mut self.out,
+        )
     }
 
     // Answers `open`.
@@ -227,7 +235,9 @@ impl Responder {
         ensures keeps { Keeps S.holds S.worn S.bounds service.old service.new self.old self.new result }
     {
         let settings = &self.settings;
-        let reply = self.cursors.open(self.alloc, service, settings, name, pattern);
+        let reply = self
+            .cursors
+            .open(self.alloc, service, settings, name, pattern);
         say_line(reply, &mut self.out)
     }
 

@@ -25,9 +25,12 @@ returns-in-Worn-clause-serves g c =
     let input = g.I.Source.left c.args.source.now in
     let put = g.O.Sink.written c.args.sink.now in
     let put' = g.O.Sink.written c.serve-end.new.sink in
-    let cursors = cursors_of c.serve-end.new.responder.cursors.list.items in
-    (u.0, u.1, served-worn size input put put' u.0 cursors
-    (subst (λ (e : EndStatus). Serves e size input put put' u.0 cursors) c.in-Worn.is u.2))
+    let cursors = cursors_of c.serve-end.new.responder.cursors.list.items in (
+      u.0,
+      u.1,
+      served-worn size input put put' u.0 cursors
+          (subst (λ (e : EndStatus). Serves e size input put put' u.0 cursors) c.in-Worn.is u.2),
+    )
 
 pub returns-in-Worn-clause-worn : goal.returns-in-Worn-clause-worn
 returns-in-Worn-clause-worn g c = λ e. c.serve-end.ensures.worn c.in-Worn.is

@@ -34,10 +34,13 @@ returns-in_default-2-clause-serves g c = (
 
 pub returns-clause-serves : goal.returns-clause-serves
 returns-clause-serves g c =
-    let u = c.serve_to_end.ensures.serves in
-    (u.0, u.1, subst (λ (n : ℕ). IfSome (g.I.Source.left c.args.source.now) (λ (bytes : List ℕ).
-    Writes (g.O.Sink.written c.args.sink.now) (g.O.Sink.written c.serve_to_end.new.sink)
-    (IsServed c.serve_to_end.result n (lines_of bytes) u.0))) c.in-Ok-2.ensures.size u.2)
+    let u = c.serve_to_end.ensures.serves in (
+      u.0,
+      u.1,
+      subst (λ (n : ℕ). IfSome (g.I.Source.left c.args.source.now) (λ (bytes : List ℕ).
+          Writes (g.O.Sink.written c.args.sink.now) (g.O.Sink.written c.serve_to_end.new.sink)
+          (IsServed c.serve_to_end.result n (lines_of bytes) u.0))) c.in-Ok-2.ensures.size u.2,
+    )
 
 pub returns-clause-too_long : goal.returns-clause-too_long
 returns-clause-too_long g c = λ e.

@@ -60,7 +60,7 @@ answer_and_put-requires-clause-ready g c = record { fit = c.requires.fit; held =
 pub answer_and_put-requires-clause-request : goal.answer_and_put-requires-clause-request
 answer_and_put-requires-clause-request g c =
     let t = takes_request c.in-Ok.next c.args.lines.now c.next_request.new.lines (g.I.Source.left c.args.source.now)
-        (g.I.Source.left c.next_request.new.source) c.next_request.new.text.items c.in-Ok.not-End c.in-Ok.ensures.takes in
+    (g.I.Source.left c.next_request.new.source) c.next_request.new.text.items c.in-Ok.not-End c.in-Ok.ensures.takes in
     (t.0, rw c.text.ensures t.2)
 
 pub returns-in-Ok-clause-turns : goal.returns-in-Ok-clause-turns
@@ -70,7 +70,7 @@ returns-in-Ok-clause-turns g c =
     let before = g.I.Source.left c.args.source.now in
     let after = g.I.Source.left c.next_request.new.source in
     let t = takes_request c.in-Ok.next c.args.lines.now c.next_request.new.lines before after
-        c.next_request.new.text.items c.in-Ok.not-End c.in-Ok.ensures.takes in
+    c.next_request.new.text.items c.in-Ok.not-End c.in-Ok.ensures.takes in
     turn_replied now.cursors.size
     (Makes g.S.Service.at g.S.Service.owns g.S.Service.stretch s c.answer_and_put.new.service) t.0
     (cursors_of now.cursors.list.items) (cursors_of c.answer_and_put.new.responder.cursors.list.items)
@@ -89,11 +89,11 @@ returns-in-Ok-clause-progress g c = λ e. c.in-Ok.ensures.progress c.in-Ok.not-E
 pub returns-in-Ok-clause-source_fault : goal.returns-in-Ok-clause-source_fault
 returns-in-Ok-clause-source_fault g c = λ e.
     let t = takes_request c.in-Ok.next c.args.lines.now c.next_request.new.lines (g.I.Source.left c.args.source.now)
-        (g.I.Source.left c.next_request.new.source) c.next_request.new.text.items c.in-Ok.not-End c.in-Ok.ensures.takes in
+    (g.I.Source.left c.next_request.new.source) c.next_request.new.text.items c.in-Ok.not-End c.in-Ok.ensures.takes in
     absurd (rw e at (c.answer_and_put.ensures.replies t.0 (rw c.text.ensures t.2)))
 
 pub returns-in-Ok-clause-too_long : goal.returns-in-Ok-clause-too_long
 returns-in-Ok-clause-too_long g c = λ e.
     let t = takes_request c.in-Ok.next c.args.lines.now c.next_request.new.lines (g.I.Source.left c.args.source.now)
-        (g.I.Source.left c.next_request.new.source) c.next_request.new.text.items c.in-Ok.not-End c.in-Ok.ensures.takes in
+    (g.I.Source.left c.next_request.new.source) c.next_request.new.text.items c.in-Ok.not-End c.in-Ok.ensures.takes in
     absurd (rw e at (c.answer_and_put.ensures.replies t.0 (rw c.text.ensures t.2)))
