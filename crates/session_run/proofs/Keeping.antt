@@ -23,14 +23,16 @@ abbrev stopped : Stop → Result (Unit {0}) Stop
 stopped s = Err s
 
 -- Where an answer says that the service is worn, it is
-pub said_worn : (reply : Result written.Reply stopped_by.Worn) (out out' : List ℕ) (result : Result (Unit {0}) Stop) (P : Type 0)
+pub said_worn : (reply : Result written.Reply stopped_by.Worn) (out out' : List ℕ) (result : Result (Unit {0}) Stop)
+    (P : Type 0)
     → Said reply out out' result → OnErr reply P → result ≡ stopped stops.Worn → P
 said_worn (Ok r) out out' (Ok x) P s w e = cc
 said_worn (Ok r) out out' (Err stops.NoMemory) P s w e = cc
 said_worn (Ok r) out out' (Err stops.Worn) P s w e = absurd s
 said_worn (Err x) out out' result P s w e = w
 
-pub short_worn : (reply : Result written.Reply stopped_by.Worn) (out out' : List ℕ) (result : Result (Unit {0}) Stop) (P : Type 0)
+pub short_worn : (reply : Result written.Reply stopped_by.Worn) (out out' : List ℕ) (result : Result (Unit {0}) Stop)
+    (P : Type 0)
     → SaidShort reply out out' result → OnErr reply P → result ≡ stopped stops.Worn → P
 short_worn (Ok r) out out' (Ok x) P s w e = cc
 short_worn (Ok r) out out' (Err stops.NoMemory) P s w e = cc
@@ -52,7 +54,8 @@ pins_moved a b cursors cursors' (Err stops.Worn) h o = tt
 
 pub pins_said : (a b : ℕ → ℕ → Type 0) (cursors cursors' : List Cursor) (reply : Result written.Reply stopped_by.Worn)
     (out out' : List ℕ) (result : Result (Unit {0}) Stop) → Said reply out out' result
-    → OnOk reply (AreHeld b cursors') → OnOk reply (SameOthers a cursors b cursors') → MovesPins a cursors b cursors' result
+    → OnOk reply (AreHeld b cursors') → OnOk reply (SameOthers a cursors b cursors')
+    → MovesPins a cursors b cursors' result
 pins_said a b cursors cursors' (Ok r) out out' result s h o = pins_moved a b cursors cursors' result h o
 pins_said a b cursors cursors' (Err x) out out' (Ok _) s h o = absurd s
 pins_said a b cursors cursors' (Err x) out out' (Err stops.NoMemory) s h o = absurd s
@@ -63,7 +66,8 @@ pub keeps_pins : (a b : ℕ → ℕ → Type 0) (cursors : List Cursor) → AreH
 keeps_pins a b cursors h k = record { are_held = held-same a b cursors k h; others = same_others a b cursors k }
 
 pub pins_searched : (a b : ℕ → ℕ → Type 0) (cursors : List Cursor) (result : Result (Unit {0}) Stop) → AreHeld a cursors
-    → OnOk result (SameHeld a b) → (result ≡ stopped stops.NoMemory → SameHeld a b) → MovesPins a cursors b cursors result
+    → OnOk result (SameHeld a b) → (result ≡ stopped stops.NoMemory → SameHeld a b)
+    → MovesPins a cursors b cursors result
 pins_searched a b cursors (Ok x) h k n = keeps_pins a b cursors h k
 pins_searched a b cursors (Err stops.NoMemory) h k n = keeps_pins a b cursors h (n refl)
 pins_searched a b cursors (Err stops.Worn) h k n = tt
@@ -80,7 +84,8 @@ held-all a b h slot version =
 
 module _ {S : Type 0} (Holds : S → ℕ → ℕ → Type 0) (IsWorn : S → Type 0) (bounds_of : S → Option ℕ × Option ℕ)
     (a b : S) (old new : Responder) (ready : IsReady Holds a old) (result : Result (Unit {0}) Stop) where
-  same_fit : new.settings ≡ old.settings → new.cursors ≡ old.cursors → IsFit new.settings new.cursors.size new.cursors.list.items
+  same_fit : new.settings ≡ old.settings → new.cursors ≡ old.cursors
+      → IsFit new.settings new.cursors.size new.cursors.list.items
   same_fit e f = subst (λ (k : Cursors). IsFit new.settings k.size k.list.items) (sym f)
       (subst (λ (s : Settings). IsFit s old.cursors.size old.cursors.list.items) (sym e) ready.fit)
 
@@ -136,7 +141,8 @@ pub keeps_on : {S : Type 0} (Holds : S → ℕ → ℕ → Type 0) (IsWorn : S �
     (s : S) (old new : Responder) → IsReady Holds s old → new.settings ≡ old.settings → new.cursors ≡ old.cursors
     → (result : Option EndStatus) → (result ≡ Some Worn → ⊥) → KeepsOn Holds IsWorn bounds_of s s old new result
 keeps_on Holds IsWorn bounds_of s old new ready e f result n =
-    let k = keeps_all Holds IsWorn bounds_of s s old new ready (Ok tt) e f (λ q. cc) (same_held (Holds s)) (not_raised-same (bounds_of s)) in
+    let k = keeps_all Holds IsWorn bounds_of s s old new ready (Ok tt) e f (λ q. cc) (same_held (Holds s))
+        (not_raised-same (bounds_of s)) in
     record { fit = k.fit; size = k.size; worn = λ q. absurd (n q); pins = λ _. k.pins; bounds = k.bounds }
 
 -- at the start

@@ -25,7 +25,8 @@ loop-end-init g c =
         under_way-start size (g.I.Source.left c.args.source.now) (g.O.Sink.written c.args.sink.now) c.args.lines.now
             (cursors_of c.args.responder.now.cursors.list.items) c.requires.fresh none,
       );
-      pins = subst (λ (l : List Cursor). KeepsPins (g.S.Service.holds s) [] (g.S.Service.holds s) l) (sym none) (record {
+      pins = subst (λ (l : List Cursor). KeepsPins (g.S.Service.holds s) [] (g.S.Service.holds s) l) (sym none)
+          (record {
         are_held = tt;
         others = same_others (g.S.Service.holds s) (g.S.Service.holds s) [] (same_held (g.S.Service.holds s));
       });
@@ -57,7 +58,8 @@ loop-end-preserved g c =
           (g.I.Source.left c.turn.new.source) (g.O.Sink.written c.turn.new.sink) c.turn.new.lines _ _
           (cursors_of c.turn.new.responder.cursors.list.items) reads
           (subst (λ (n : ℕ). Turns n (Makes g.S.Service.at g.S.Service.owns g.S.Service.stretch middle last)
-          (TakesRequest c.loop-end.lines c.turn.new.lines (g.I.Source.left c.loop-end.source) (g.I.Source.left c.turn.new.source))
+          (TakesRequest c.loop-end.lines c.turn.new.lines (g.I.Source.left c.loop-end.source)
+              (g.I.Source.left c.turn.new.source))
           (TakesNone c.loop-end.lines (g.I.Source.left c.loop-end.source))
           (cursors_of c.loop-end.responder.cursors.list.items) (cursors_of c.turn.new.responder.cursors.list.items)
           (g.O.Sink.written c.loop-end.sink) (g.O.Sink.written c.turn.new.sink) None)
@@ -93,7 +95,8 @@ returns-in-Some-clause-serves g c =
     (g.I.Source.left c.turn.new.source) (g.O.Sink.written c.turn.new.sink) c.turn.new.lines _ _
     (cursors_of c.turn.new.responder.cursors.list.items) c.in-Some.ensures.reads c.in-Some.end
     (subst (λ (n : ℕ). Turns n (Makes g.S.Service.at g.S.Service.owns g.S.Service.stretch middle last)
-    (TakesRequest c.loop-end.lines c.turn.new.lines (g.I.Source.left c.loop-end.source) (g.I.Source.left c.turn.new.source))
+    (TakesRequest c.loop-end.lines c.turn.new.lines (g.I.Source.left c.loop-end.source)
+        (g.I.Source.left c.turn.new.source))
     (TakesNone c.loop-end.lines (g.I.Source.left c.loop-end.source))
     (cursors_of c.loop-end.responder.cursors.list.items) (cursors_of c.turn.new.responder.cursors.list.items)
     (g.O.Sink.written c.loop-end.sink) (g.O.Sink.written c.turn.new.sink) (Some c.in-Some.end))

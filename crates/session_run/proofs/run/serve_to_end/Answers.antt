@@ -44,7 +44,8 @@ returns-in-Ok-clause-serves g c =
           g.met.S.Service.same c.args.service.now c.serve-end.new.service c.close_all.new.service u.0 (unpins cursors)
           u.1 c.in-Ok.ensures.ok,
       served-closed c.serve-end.result c.args.responder.now.cursors.size (g.I.Source.left c.args.source.now)
-          (g.O.Sink.written c.args.sink.now) (g.O.Sink.written c.serve-end.new.sink) u.0 cursors c.in_default.not-Worn u.2,
+          (g.O.Sink.written c.args.sink.now) (g.O.Sink.written c.serve-end.new.sink) u.0 cursors c.in_default.not-Worn
+              u.2,
     )
 
 pub returns-in-Ok-clause-pins : goal.returns-in-Ok-clause-pins
