@@ -142,7 +142,7 @@ pub keeps_on : {S : Type 0} (Holds : S → ℕ → ℕ → Type 0) (IsWorn : S �
     → (result : Option EndStatus) → (result ≡ Some Worn → ⊥) → KeepsOn Holds IsWorn bounds_of s s old new result
 keeps_on Holds IsWorn bounds_of s old new ready e f result n =
     let k = keeps_all Holds IsWorn bounds_of s s old new ready (Ok tt) e f (λ q. cc) (same_held (Holds s))
-        (not_raised-same (bounds_of s)) in
+    (not_raised-same (bounds_of s)) in
     record { fit = k.fit; size = k.size; worn = λ q. absurd (n q); pins = λ _. k.pins; bounds = k.bounds }
 
 -- at the start

@@ -85,7 +85,7 @@ molfile_request size cursors request read molfiles.Text text first e starts is m
 -- the reply was empty before
 pub behind_nothing : {X : Type 0} (Made : Calls → Type 0) (Is : Calls → Lines → X → Type 0) (out out' : List ℕ) (x : X)
     (result : Result (Unit {0}) Stop) → out ≡ [] → Answered Made Is out out' x result
-        → Answered Made Is [] out' x result
+    → Answered Made Is [] out' x result
 behind_nothing Made Is out out' x result e a = subst (λ (l : List ℕ). Answered Made Is l out' x result) e a
 
 -- a command that takes a molfile is no other line

@@ -80,8 +80,16 @@ pub under_way-start : (size : ℕ) (before put : Option (List ℕ)) (r : Reading
     → cursors ≡ []
     → IsUnderWay size r.limit before before put put r [] cursors
 under_way-start size before put r cursors fresh none = record {
-  told = λ input old p q. (input, [], [], p, q ∙ ap Some (sym (append-nil old)), left input, (refl, refl, none),
-      λ ended. absurd (false_is_not_true (rw fresh.unended at ended)));
+  told = λ input old p q. (
+    input,
+    [],
+    [],
+    p,
+    q ∙ ap Some (sym (append-nil old)),
+    left input,
+    (refl, refl, none),
+    λ ended. absurd (false_is_not_true (rw fresh.unended at ended)),
+  );
   taken = λ input p. ([], input, refl, p, sym fresh.untaken);
   limit_is = refl;
   within = omega (arith, fresh.untaken);
@@ -109,7 +117,7 @@ module _ (size limit : ℕ) (before now put0 put : Option (List ℕ)) (r : Readi
         let t = u.told input old p q in
         let k = leaves t.0 reads.got now now' t.3 reads.leaves in
         let a : put' ≡ Some ((old ++ t.1) ++ text_of lines) = appended (old ++ t.1) (text_of lines) put put' t.4
-            appends in (
+        appends in (
           k.0,
           t.1 ++ text_of lines,
           t.2 ++ request ∷ [],
@@ -122,9 +130,13 @@ module _ (size limit : ℕ) (before now put0 put : Option (List ℕ)) (r : Readi
         );
     taken = λ input p.
         let t = u.taken input p in
-        let k = leaves t.1 reads.got now now' t.3 reads.leaves in
-        (t.0 ++ reads.got, k.0, t.2 ∙ (ap (λ x. t.0 ++ x) k.2 ∙ sym (append_assoc t.0 reads.got k.0)), k.1,
-            omega (arith, length-append t.0 reads.got, t.4, reads.counts.taken));
+        let k = leaves t.1 reads.got now now' t.3 reads.leaves in (
+          t.0 ++ reads.got,
+          k.0,
+          t.2 ∙ (ap (λ x. t.0 ++ x) k.2 ∙ sym (append_assoc t.0 reads.got k.0)),
+          k.1,
+          omega (arith, length-append t.0 reads.got, t.4, reads.counts.taken),
+        );
     limit_is = reads.counts.limit ∙ u.limit_is;
     within = reads.counts.within;
   }
@@ -144,9 +156,11 @@ module _ (size limit : ℕ) (before now put0 put : Option (List ℕ)) (r : Readi
       → Serves Done size before put0 put' calls cursors
   serves-done put' none appends = serves_told Done put' calls cursors (λ input old p q.
       let t = u.told input old p q in
-      let a : put' ≡ Some ((old ++ t.1) ++ []) = appended (old ++ t.1) [] put put' t.4 appends in
-      (t.1, a ∙ ap Some (append-nil (old ++ t.1)),
-          (t.2, subst (BeginWithAll (lines_of input) t.2) (none t.0 t.3 t.7) t.5, t.6)))
+      let a : put' ≡ Some ((old ++ t.1) ++ []) = appended (old ++ t.1) [] put put' t.4 appends in (
+        t.1,
+        a ∙ ap Some (append-nil (old ++ t.1)),
+        (t.2, subst (BeginWithAll (lines_of input) t.2) (none t.0 t.3 t.7) t.5, t.6),
+      ))
 
   -- nothing more was asked
   stops-here : (put' : Option (List ℕ)) → Appends put put' [] → (input old : List ℕ) → before ≡ Some input
@@ -198,8 +212,18 @@ module _ (size limit : ℕ) (before now put0 put : Option (List ℕ)) (r : Readi
           replies = t.1;
           cursors_open = cursors;
           answered = t.6;
-          last = inr (request, lines_left r' k.0, takes t.0 k.0 t.3 k.1 t.7, its, lines, part.0, answers, refl,
-              (part.1, sym part.2), refl);
+          last = inr (
+            request,
+            lines_left r' k.0,
+            takes t.0 k.0 t.3 k.1 t.7,
+            its,
+            lines,
+            part.0,
+            answers,
+            refl,
+            (part.1, sym part.2),
+            refl,
+          );
         },
       )
 
@@ -210,7 +234,7 @@ module _ (size limit : ℕ) (before now put0 put : Option (List ℕ)) (r : Readi
       → Serves SinkFault size before put0 put' (calls ++ its) cursors'
   serves-sink_fault now' put' r' f f' request its lines cursors' reads takes answers part =
       serves_told SinkFault put' (calls ++ its) cursors'
-          (stops-part now' put' r' f f' request its lines cursors' reads takes answers part)
+      (stops-part now' put' r' f f' request its lines cursors' reads takes answers part)
 
   pub serves-no_memory : (now' put' : Option (List ℕ)) (r' : Reading) (f f' : ℕ) (request : Request) (its : Calls)
       (lines : Lines) (cursors' : List Cursor)
@@ -219,7 +243,7 @@ module _ (size limit : ℕ) (before now put0 put : Option (List ℕ)) (r : Readi
       → Serves NoMemory size before put0 put' (calls ++ its) cursors'
   serves-no_memory now' put' r' f f' request its lines cursors' reads takes answers part =
       serves_told NoMemory put' (calls ++ its) cursors'
-          (stops-part now' put' r' f f' request its lines cursors' reads takes answers part)
+      (stops-part now' put' r' f f' request its lines cursors' reads takes answers part)
 
   -- in the answer to a request the service was worn
   pub serves-worn : (now' put' : Option (List ℕ)) (r' : Reading) (f f' : ℕ) (request : Request) (some whole : Calls)
@@ -230,9 +254,19 @@ module _ (size limit : ℕ) (before now put0 put : Option (List ℕ)) (r : Readi
   serves-worn now' put' r' f f' request some whole lines after cursors' reads takes begins answers appends =
       serves_told Worn put' (calls ++ some) cursors' (λ input old p q.
       let s = stops-part now' put' r' f f' request whole lines after reads takes answers
-          ([], text_of lines, refl, appends) input old p q in
-      (s.0, s.1, ((calls ++ whole) ++ unpins after, (begins.0 ++ unpins after, longer begins.0 begins.1
-          (unpins after)), (calls ++ whole, after, s.2, refl)))) where
+      ([], text_of lines, refl, appends) input old p q in (
+        s.0,
+        s.1,
+        (
+          (calls ++ whole) ++ unpins after,
+          (
+            begins.0 ++ unpins after,
+            longer begins.0 begins.1
+                (unpins after),
+          ),
+          (calls ++ whole, after, s.2, refl),
+        ),
+      )) where
         longer : (rest : Calls) → some ++ rest ≡ whole → (more : Calls)
             → (calls ++ some) ++ (rest ++ more) ≡ (calls ++ whole) ++ more
         longer rest e more = append_assoc calls some (rest ++ more)
@@ -247,9 +281,13 @@ module _ (size limit : ℕ) (before now put0 put : Option (List ℕ)) (r : Readi
     by None e = tt
     by (Some input) e =
         let t = u.taken input e in
-        let k = leaves t.1 reads.got now now' t.3 reads.leaves in
-        (t.0 ++ reads.got, k.0, t.2 ∙ (ap (λ x. t.0 ++ x) k.2 ∙ sym (append_assoc t.0 reads.got k.0)), k.1,
-            omega (arith, length-append t.0 reads.got, t.4, reads.counts.taken, reads.counts.limit, u.limit_is, full))
+        let k = leaves t.1 reads.got now now' t.3 reads.leaves in (
+          t.0 ++ reads.got,
+          k.0,
+          t.2 ∙ (ap (λ x. t.0 ++ x) k.2 ∙ sym (append_assoc t.0 reads.got k.0)),
+          k.1,
+          omega (arith, length-append t.0 reads.got, t.4, reads.counts.taken, reads.counts.limit, u.limit_is, full),
+        )
 
 -- a count that rose since a later moment rose since an earlier one
 pub Rose-since : (a b c : ℕ) → a ≤ b → Rose b c → Rose a c
@@ -259,7 +297,7 @@ Rose-since a b c le (inr top) = inr top
 module _ (size limit : ℕ) (before now put0 put : Option (List ℕ)) (r : Reading) (calls : Calls)
     (cursors : List Cursor) (u : IsUnderWay size limit before now put0 put r calls cursors)
     (Made More : Calls → Type 0) (more : (its : Calls) → Made its → More (calls ++ its)) (now' put' : Option (List ℕ))
-        (r' : Reading) (f f' : ℕ) (cursors' : List Cursor) (reads : ReadsOn now now' f f' r r') where
+    (r' : Reading) (f f' : ℕ) (cursors' : List Cursor) (reads : ReadsOn now now' f f' r r') where
   -- a turn with which the session ends
   pub serves-turn : (end : EndStatus) → Turns size Made (TakesRequest r r' now now') (TakesNone r now) cursors
       cursors' put put' (Some end)
@@ -269,21 +307,21 @@ module _ (size limit : ℕ) (before now put0 put : Option (List ℕ)) (r : Readi
     more [] t.1,
     subst (λ (l : Calls). Serves Done size before put0 put' l cursors') (sym (append-nil calls))
         (subst (λ (c : List Cursor). Serves Done size before put0 put' calls c) (sym t.2)
-            (serves-done size limit before now put0 put r calls cursors u put' t.0 t.3)),
+        (serves-done size limit before now put0 put r calls cursors u put' t.0 t.3)),
   )
   serves-turn SourceFault t = (
     calls ++ [],
     more [] t.0,
     subst (λ (l : Calls). Serves SourceFault size before put0 put' l cursors') (sym (append-nil calls))
         (subst (λ (c : List Cursor). Serves SourceFault size before put0 put' calls c) (sym t.1)
-            (serves-source_fault size limit before now put0 put r calls cursors u put' t.2)),
+        (serves-source_fault size limit before now put0 put r calls cursors u put' t.2)),
   )
   serves-turn InputTooLong t = (
     calls ++ [],
     more [] t.0,
     subst (λ (l : Calls). Serves InputTooLong size before put0 put' l cursors') (sym (append-nil calls))
         (subst (λ (c : List Cursor). Serves InputTooLong size before put0 put' calls c) (sym t.1)
-            (serves-too_long size limit before now put0 put r calls cursors u put' t.2)),
+        (serves-too_long size limit before now put0 put r calls cursors u put' t.2)),
   )
   serves-turn SinkFault t = let a = t.0 in (
     calls ++ a.did.calls,

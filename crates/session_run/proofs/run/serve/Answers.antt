@@ -27,9 +27,9 @@ loop-end-init g c =
       );
       pins = subst (λ (l : List Cursor). KeepsPins (g.S.Service.holds s) [] (g.S.Service.holds s) l) (sym none)
           (record {
-        are_held = tt;
-        others = same_others (g.S.Service.holds s) (g.S.Service.holds s) [] (same_held (g.S.Service.holds s));
-      });
+            are_held = tt;
+            others = same_others (g.S.Service.holds s) (g.S.Service.holds s) [] (same_held (g.S.Service.holds s));
+          });
       source_count = omega arith;
       sink_count = omega arith;
       bounds = not_raised-same (g.S.Service.bounds s);
@@ -59,7 +59,7 @@ loop-end-preserved g c =
           (cursors_of c.turn.new.responder.cursors.list.items) reads
           (subst (λ (n : ℕ). Turns n (Makes g.S.Service.at g.S.Service.owns g.S.Service.stretch middle last)
           (TakesRequest c.loop-end.lines c.turn.new.lines (g.I.Source.left c.loop-end.source)
-              (g.I.Source.left c.turn.new.source))
+          (g.I.Source.left c.turn.new.source))
           (TakesNone c.loop-end.lines (g.I.Source.left c.loop-end.source))
           (cursors_of c.loop-end.responder.cursors.list.items) (cursors_of c.turn.new.responder.cursors.list.items)
           (g.O.Sink.written c.loop-end.sink) (g.O.Sink.written c.turn.new.sink) None)
@@ -96,7 +96,7 @@ returns-in-Some-clause-serves g c =
     (cursors_of c.turn.new.responder.cursors.list.items) c.in-Some.ensures.reads c.in-Some.end
     (subst (λ (n : ℕ). Turns n (Makes g.S.Service.at g.S.Service.owns g.S.Service.stretch middle last)
     (TakesRequest c.loop-end.lines c.turn.new.lines (g.I.Source.left c.loop-end.source)
-        (g.I.Source.left c.turn.new.source))
+    (g.I.Source.left c.turn.new.source))
     (TakesNone c.loop-end.lines (g.I.Source.left c.loop-end.source))
     (cursors_of c.loop-end.responder.cursors.list.items) (cursors_of c.turn.new.responder.cursors.list.items)
     (g.O.Sink.written c.loop-end.sink) (g.O.Sink.written c.turn.new.sink) (Some c.in-Some.end))

@@ -45,7 +45,7 @@ returns-in-Ok-clause-serves g c =
           u.1 c.in-Ok.ensures.ok,
       served-closed c.serve-end.result c.args.responder.now.cursors.size (g.I.Source.left c.args.source.now)
           (g.O.Sink.written c.args.sink.now) (g.O.Sink.written c.serve-end.new.sink) u.0 cursors c.in_default.not-Worn
-              u.2,
+          u.2,
     )
 
 pub returns-in-Ok-clause-pins : goal.returns-in-Ok-clause-pins

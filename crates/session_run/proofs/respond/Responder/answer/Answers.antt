@@ -58,10 +58,10 @@ returns-in-Line-clause-answered g c request next =
     let cursors = cursors_of now.cursors.list.items in
     let out = c.answer_line.new.self.out.items in
     behind_nothing (Makes g.S.Service.at g.S.Service.owns g.S.Service.stretch c.args.service.now
-        c.answer_line.new.service)
+    c.answer_line.new.service)
     (RequestAnswer now.cursors.size cursors request) _ out _ c.answer_line.result c.clear.ensures.items
     (answered_as (Makes g.S.Service.at g.S.Service.owns g.S.Service.stretch c.args.service.now
-        c.answer_line.new.service)
+    c.answer_line.new.service)
     (LineIsAnswered now.cursors.size cursors c.args.line.now) (RequestAnswer now.cursors.size cursors request) (λ x. x)
     (line_request now.cursors.size cursors request c.args.line.now (rw c.in-Line.is at next))
     _ out _ c.answer_line.result c.answer_line.ensures.answered)

@@ -14,12 +14,12 @@ returns-clause-answered g c =
     let now = c.args.self.now in
     let cursors = cursors_of now.cursors.list.items in
     line_answered (Makes g.S.Service.at g.S.Service.owns g.S.Service.stretch c.args.service.now
-        c.prune-reply.new.service)
+    c.prune-reply.new.service)
     (λ calls lines. FindsNoMemory calls lines ⊎ Asks events.Prune IsPruneLine calls lines)
-        (Answers now.cursors.size cursors (Ok asked.Prune))
+    (Answers now.cursors.size cursors (Ok asked.Prune))
     now.out.items c.say_line.new.out.items cursors c.prune-reply.result c.say_line.result
     (λ calls lines a. (a, refl)) [] (line.MemoryFault ∷ []) (inl (refl, refl)) c.prune-reply.ensures.call
-        c.say_line.ensures
+    c.say_line.ensures
 
 pub returns-clause-keeps : goal.returns-clause-keeps
 returns-clause-keeps g c =

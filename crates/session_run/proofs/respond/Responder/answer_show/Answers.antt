@@ -12,7 +12,7 @@ returns-clause-answered g c =
     let now = c.args.self.now in
     let cursors = cursors_of now.cursors.list.items in
     shown_answered (Makes g.S.Service.at g.S.Service.owns g.S.Service.stretch c.args.service.now
-        c.show-reply.new.service)
+    c.show-reply.new.service)
     c.args.id (Answers now.cursors.size cursors (Ok (asked.Show c.args.id)))
     now.out.items c.say_shown.new.out.items cursors c.show-reply.result c.say_shown.result
     (λ calls lines a. (a, refl)) c.show-reply.ensures.call c.say_shown.ensures

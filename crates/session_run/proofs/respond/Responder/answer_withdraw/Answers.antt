@@ -14,11 +14,11 @@ returns-clause-answered g c =
     let now = c.args.self.now in
     let cursors = cursors_of now.cursors.list.items in
     line_answered (Makes g.S.Service.at g.S.Service.owns g.S.Service.stretch c.args.service.now
-        c.commit-reply.new.service)
+    c.commit-reply.new.service)
     (Commits (changes.Withdraw c.args.id)) (Answers now.cursors.size cursors (Ok (asked.Withdraw c.args.id)))
     now.out.items c.say_line.new.out.items cursors c.commit-reply.result c.say_line.result
     (λ calls lines a. (a, refl)) [] (line.MemoryFault ∷ []) (inl (refl, refl)) c.commit-reply.ensures.call
-        c.say_line.ensures
+    c.say_line.ensures
 
 pub returns-clause-keeps : goal.returns-clause-keeps
 returns-clause-keeps g c =

@@ -24,7 +24,7 @@ pub returns-in-Empty-clause-keeps : goal.returns-in-Empty-clause-keeps
 returns-in-Empty-clause-keeps g c =
     let s = c.args.service.now in
     keeps_all g.S.Service.holds g.S.Service.worn g.S.Service.bounds s s c.args.self.now c.args.self.now
-        c.requires.ready (Ok tt)
+    c.requires.ready (Ok tt)
     refl refl (λ e. cc) (same_held (g.S.Service.holds s)) (not_raised-same (g.S.Service.bounds s))
 
 pub returns-in-Register-clause-answered : goal.returns-in-Register-clause-answered
