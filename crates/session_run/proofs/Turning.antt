@@ -23,7 +23,8 @@ module _ (size : ℕ) (Made : Calls → Type 0) (request : Request) (cursors cur
     (put put' : Option (List ℕ)) where
   -- a reply that was put, or not
   pub replied : (out : List ℕ) (faults faults' : ℕ) (end : Option EndStatus)
-      → Answered Made (RequestAnswer size cursors request) [] out cursors' (Ok tt) → Puts put put' out faults faults' end
+      → Answered Made (RequestAnswer size cursors request) [] out cursors' (Ok tt)
+      → Puts put put' out faults faults' end
       → Replies size Made request cursors cursors' put put' end
   replied out f f' None a p = (a.0, subst (λ (t : List ℕ). Appends put put' t) a.1 p)
   replied out f f' (Some SinkFault) a p = (a.0, subst (λ (t : List ℕ). AppendsPrefix put put' t) a.1 p.0)
