@@ -50,7 +50,8 @@ answers_more size first between after (r ∷ rs) request calls its text lines h 
   answers_more size h.4 between after rs request h.1 its h.3 lines h.8 a,
 )
 
--- A session under way: what was left and put at its start and is now, how far its source was read, its calls and open cursors
+-- A session under way: what was left and put at its start and is now, how far its source was read, its calls and its
+-- open cursors
 pub record IsUnderWay (size limit : ℕ) (before now put0 put : Option (List ℕ)) (reading : Reading) (calls : Calls)
     (cursors : List Cursor) : Type 0 where
   pub told : (input old : List ℕ) → before ≡ Some input → put0 ≡ Some old
