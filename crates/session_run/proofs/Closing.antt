@@ -2,9 +2,10 @@
 use Rattle.std.proofs.Common.{◌≡◌, ◌++◌, ◌∙◌, ap, append-nil, append_assoc, IfSome, inl, List, [], ◌∷◌, None, Option, refl, Some, sym, ℕ}
 use Rattle.io_edge.specs.Lines.{TextLine, lines_of}
 use Rattle.session_run.specs.Cursors.{Calls, Cursor, unpins}
+use Rattle.session_run.specs.Requests.{Request, BeginWithAll}
 use Rattle.session_run.specs.Served.{IsServed, Writes}
 use Rattle.session_run.specs.Serving.{Ends, Serves}
-use Rattle.session_run.specs.Transcript.{IsPrefixOf, IsTranscriptPrefix, IsWornPrefix}
+use Rattle.session_run.specs.Transcript.{AreAnswered, IsPrefixOf, IsTranscriptPrefix, IsWornPrefix, Stops}
 use Rattle.session_run.specs.declared.settings.EndStatus.{EndStatus}
 use Rattle.session_run.specs.declared.settings.EndStatus.TheVariants.{Done, SourceFault, SinkFault, NoMemory, InputTooLong, Worn}
 
@@ -21,47 +22,48 @@ closed-end : (end : EndStatus) (size : ℕ) (lines : List TextLine) (calls : Cal
     → (end ≡ Worn → ⊥) → Ends end size lines calls cursors text → IsServed end size lines (calls ++ unpins cursors) text
 closed-end Done size lines calls cursors text n e = (e.0, calls, cursors, e.1, e.2, refl)
 closed-end Worn size lines calls cursors text n e = absurd (n refl)
-closed-end SourceFault size lines calls cursors text n e = (calls, cursors, e, refl)
+closed-end SourceFault size lines calls cursors text n e = (e.0, e.1, calls, cursors, e.2, e.3, refl)
 closed-end SinkFault size lines calls cursors text n e = (calls, cursors, e, refl)
 closed-end NoMemory size lines calls cursors text n e = (calls, cursors, e, refl)
-closed-end InputTooLong size lines calls cursors text n e = (calls, cursors, e, refl)
+closed-end InputTooLong size lines calls cursors text n e = (e.0, e.1, calls, cursors, e.2, e.3, refl)
 
 some-closed : (calls some : Calls) (cursors : List Cursor) → IsPrefixOf some (unpins cursors)
     → IsPrefixOf (calls ++ some) (calls ++ unpins cursors)
 some-closed calls some cursors p = (p.0, append_assoc calls some p.0 ∙ ap (λ l. calls ++ l) p.1)
 
-worn-end : (end : EndStatus) (size : ℕ) (lines : List TextLine) (calls some : Calls) (cursors : List Cursor)
-    (text : List ℕ)
-    → (end ≡ Worn → ⊥) → IsPrefixOf some (unpins cursors) → Ends end size lines calls cursors text
+-- some first requests were answered whole
+stops-whole : (size : ℕ) (lines : List TextLine) (calls : Calls) (cursors : List Cursor) (text : List ℕ)
+    (requests : List Request) (left : List TextLine) → BeginWithAll lines requests left
+    → AreAnswered size [] requests calls text cursors → Stops size lines calls text cursors
+stops-whole size lines calls cursors text requests left b a = record {
+  requests = requests;
+  left = left;
+  begin = b;
+  own = calls;
+  replies = text;
+  cursors_open = cursors;
+  answered = a;
+  last = inl (refl, refl, refl);
+}
+
+worn-prefix : (size : ℕ) (lines : List TextLine) (calls some : Calls) (cursors : List Cursor) (text : List ℕ)
+    → IsPrefixOf some (unpins cursors) → Stops size lines calls text cursors
     → IsWornPrefix size lines (calls ++ some) text
-worn-end Done size lines calls some cursors text n p e = (
-  calls ++ unpins cursors,
-  some-closed calls some cursors p,
-  (
-    calls,
-    cursors,
-    record {
-      requests = e.0;
-      left = [];
-      begin = e.1;
-      own = calls;
-      replies = text;
-      cursors_open = cursors;
-      answered = e.2;
-      last = inl (refl, refl, refl);
-    },
-    refl,
-  ),
-)
+worn-prefix size lines calls some cursors text p s =
+    (calls ++ unpins cursors, some-closed calls some cursors p, (calls, cursors, s, refl))
+
+worn-end : (end : EndStatus) (size : ℕ) (lines : List TextLine) (calls some : Calls) (cursors : List Cursor)
+    (text : List ℕ) → (end ≡ Worn → ⊥) → IsPrefixOf some (unpins cursors) → Ends end size lines calls cursors text
+    → IsWornPrefix size lines (calls ++ some) text
+worn-end Done size lines calls some cursors text n p e =
+    worn-prefix size lines calls some cursors text p (stops-whole size lines calls cursors text e.0 [] e.1 e.2)
 worn-end Worn size lines calls some cursors text n p e = absurd (n refl)
 worn-end SourceFault size lines calls some cursors text n p e =
-    (calls ++ unpins cursors, some-closed calls some cursors p, (calls, cursors, e, refl))
-worn-end SinkFault size lines calls some cursors text n p e =
-    (calls ++ unpins cursors, some-closed calls some cursors p, (calls, cursors, e, refl))
-worn-end NoMemory size lines calls some cursors text n p e =
-    (calls ++ unpins cursors, some-closed calls some cursors p, (calls, cursors, e, refl))
+    worn-prefix size lines calls some cursors text p (stops-whole size lines calls cursors text e.0 e.1 e.2 e.3)
 worn-end InputTooLong size lines calls some cursors text n p e =
-    (calls ++ unpins cursors, some-closed calls some cursors p, (calls, cursors, e, refl))
+    worn-prefix size lines calls some cursors text p (stops-whole size lines calls cursors text e.0 e.1 e.2 e.3)
+worn-end SinkFault size lines calls some cursors text n p e = worn-prefix size lines calls some cursors text p e
+worn-end NoMemory size lines calls some cursors text n p e = worn-prefix size lines calls some cursors text p e
 
 -- all pins were given back
 pub served-closed : (end : EndStatus) (size : ℕ) (input put put' : Option (List ℕ)) (calls : Calls)
@@ -101,16 +103,7 @@ served-none size (Some bytes) (Some old) = (
   (
     [],
     [],
-    record {
-      requests = [];
-      left = lines_of bytes;
-      begin = refl;
-      own = [];
-      replies = [];
-      cursors_open = [];
-      answered = (refl, refl, refl);
-      last = inl (refl, refl, refl);
-    },
+    stops-whole size (lines_of bytes) [] [] [] [] (lines_of bytes) refl (refl, refl, refl),
     refl,
   ),
 )

@@ -9,7 +9,7 @@ use Rattle.session_run.specs.Answer.{Lines, RequestAnswer}
 use Rattle.session_run.specs.Cursors.{Calls, Cursor, unpins}
 use Rattle.session_run.specs.Requests.{Request, BeginWith, BeginWithAll}
 use Rattle.session_run.specs.Served.{TakesExactly, Writes}
-use Rattle.session_run.specs.Serving.{Ends, IsFresh, Serves}
+use Rattle.session_run.specs.Serving.{AnswersWhole, Ends, IsFresh, Serves}
 use Rattle.session_run.specs.Transcript.{AreAnswered, IsPrefixOf, IsTranscriptPrefix, IsWornPrefix, Stops}
 use Rattle.session_run.specs.Turn.{ReadsOn, TakesNone, TakesRequest, Turns}
 use Rattle.session_run.specs.declared.settings.EndStatus.{EndStatus}
@@ -164,33 +164,20 @@ module _ (size limit : ℕ) (before now put0 put : Option (List ℕ)) (r : Readi
       ))
 
   -- nothing more was asked
-  stops-here : (put' : Option (List ℕ)) → Appends put put' [] → (input old : List ℕ) → before ≡ Some input
-      → put0 ≡ Some old
-      → (t : List ℕ) × (put' ≡ Some (old ++ t)) × Stops size (lines_of input) calls t cursors
-  stops-here put' appends input old p q =
+  answered-here : (put' : Option (List ℕ)) → Appends put put' [] → (input old : List ℕ) → before ≡ Some input
+      → put0 ≡ Some old → (t : List ℕ) × (put' ≡ Some (old ++ t)) × AnswersWhole size (lines_of input) calls cursors t
+  answered-here put' appends input old p q =
       let t = u.told input old p q in
-      let a : put' ≡ Some ((old ++ t.1) ++ []) = appended (old ++ t.1) [] put put' t.4 appends in (
-        t.1,
-        a ∙ ap Some (append-nil (old ++ t.1)),
-        record {
-          requests = t.2;
-          left = lines_left r t.0;
-          begin = t.5;
-          own = calls;
-          replies = t.1;
-          cursors_open = cursors;
-          answered = t.6;
-          last = inl (refl, refl, refl);
-        },
-      )
+      let a : put' ≡ Some ((old ++ t.1) ++ []) = appended (old ++ t.1) [] put put' t.4 appends in
+      (t.1, a ∙ ap Some (append-nil (old ++ t.1)), (t.2, lines_left r t.0, t.5, t.6))
 
   pub serves-source_fault : (put' : Option (List ℕ)) → Appends put put' []
       → Serves SourceFault size before put0 put' calls cursors
-  serves-source_fault put' appends = serves_told SourceFault put' calls cursors (stops-here put' appends)
+  serves-source_fault put' appends = serves_told SourceFault put' calls cursors (answered-here put' appends)
 
   pub serves-too_long : (put' : Option (List ℕ)) → Appends put put' []
       → Serves InputTooLong size before put0 put' calls cursors
-  serves-too_long put' appends = serves_told InputTooLong put' calls cursors (stops-here put' appends)
+  serves-too_long put' appends = serves_told InputTooLong put' calls cursors (answered-here put' appends)
 
   -- a request was answered, and a part of its reply was put
   stops-part : (now' put' : Option (List ℕ)) (r' : Reading) (f f' : ℕ) (request : Request) (its : Calls)

@@ -10,12 +10,19 @@ use Rattle.session_run.specs.Transcript.{AreAnswered, IsWornPrefix, Stops}
 use Rattle.session_run.specs.Walks.{cursors_of}
 use Rattle.session_run.specs.declared.respond.Responder.{Responder}
 use Rattle.session_run.specs.declared.settings.EndStatus.{EndStatus}
-use Rattle.session_run.specs.declared.settings.EndStatus.TheVariants.{Done, Worn}
+use Rattle.session_run.specs.declared.settings.EndStatus.TheVariants.{Done, InputTooLong, SourceFault, Worn}
+
+-- some first requests were answered, and nothing of the next one was called or written
+abbrev pub AnswersWhole : ℕ → List TextLine → Calls → List Cursor → List ℕ → Type 0
+AnswersWhole size lines calls cursors text = (requests : List Request) × (left : List TextLine)
+    × BeginWithAll lines requests left × AreAnswered size [] requests calls text cursors
 
 abbrev pub Ends : EndStatus → ℕ → List TextLine → Calls → List Cursor → List ℕ → Type 0
 Ends Done size lines calls cursors text =
     (requests : List Request) × BeginWithAll lines requests [] × AreAnswered size [] requests calls text cursors
 Ends Worn size lines calls cursors text = IsWornPrefix size lines calls text
+Ends SourceFault size lines calls cursors text = AnswersWhole size lines calls cursors text
+Ends InputTooLong size lines calls cursors text = AnswersWhole size lines calls cursors text
 Ends _ size lines calls cursors text = Stops size lines calls text cursors
 
 -- what was written of a script, where the source and the sink tell
