@@ -67,10 +67,10 @@ answer_change-requires-2-clause-id g c =
     let s = rw c.in-Revise.is at c.requires.line.1 in
     s.0
 
-pub prove-unreachable-requires : goal.prove-unreachable-requires
-prove-unreachable-requires g c =
+pub unreachable-requires : goal.prove-unreachable-requires
+unreachable-requires g c =
     spells_register_mol c.requires.line.0 c.args.command _ c.in-RegisterMol.is c.requires.line.1 c.requires.line.2
 
-pub prove-unreachable-requires-2 : goal.prove-unreachable-requires-2
-prove-unreachable-requires-2 g c =
+pub unreachable-requires-2 : goal.unreachable-requires-2
+unreachable-requires-2 g c =
     spells_revise_mol c.requires.line.0 c.args.command _ c.in-ReviseMol.is c.requires.line.1 c.requires.line.2
