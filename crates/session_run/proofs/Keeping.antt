@@ -1,5 +1,5 @@
 -- What an answer keeps, by how it went.
-use Rattle.std.proofs.Common.{◌≡◌, ◌≤◌, ◌∙◌, ap, Err, List, [], Ok, OnErr, OnOk, Option, refl, Result, Some, subst, sym, ℕ}
+use Rattle.std.proofs.Common.{◌≡◌, ◌≤◌, ◌∙◌, ap, Err, List, [], None, Ok, OnErr, OnOk, Option, refl, Result, Some, subst, sym, ℕ}
 use Rattle.shell_lang.specs.Reply as line
 use Rattle.shell_lang.specs.declared.reply.Reply as written
 use Rattle.store_core.specs.Calls.{NotRaised, SameHeld}
@@ -16,11 +16,33 @@ use Rattle.session_run.specs.declared.stop.Stop.{Stop}
 use Rattle.session_run.specs.declared.stop.Stop.TheVariants as stops
 use Rattle.session_run.specs.declared.stop.Worn as stopped_by
 use Rattle.session_run.specs.declared.settings.EndStatus.{EndStatus}
-use Rattle.session_run.specs.declared.settings.EndStatus.TheVariants.{Worn}
+use Rattle.session_run.specs.declared.settings.EndStatus.TheVariants.{Done, InputTooLong, NoMemory, SourceFault, Worn}
 use Rattle.session_run.proofs.Held.{held-same, not_raised-same, same_held, same_others, same_others-more}
 
 abbrev stopped : Stop → Result (Unit {0}) Stop
 stopped s = Err s
+
+abbrev answered_ok : Result (Unit {0}) Stop
+answered_ok = Ok tt
+
+pub ok_lives : (P : Type 0) → answered_ok ≡ stopped stops.Worn → P
+ok_lives P e = cc
+
+-- a session that ends otherwise, or goes on
+pub goes_on : None ≡ Some Worn → ⊥
+goes_on e = cc
+
+pub done_lives : Some Done ≡ Some Worn → ⊥
+done_lives e = cc
+
+pub source_lives : Some SourceFault ≡ Some Worn → ⊥
+source_lives e = cc
+
+pub limit_lives : Some InputTooLong ≡ Some Worn → ⊥
+limit_lives e = cc
+
+pub memory_lives : (P : Type 0) → Some NoMemory ≡ Some Worn → P
+memory_lives P e = cc
 
 -- Where an answer says that the service is worn, it is
 pub said_worn : (reply : Result written.Reply stopped_by.Worn) (out out' : List ℕ) (result : Result (Unit {0}) Stop)

@@ -149,11 +149,14 @@ fn turn<R: Threads + Sync, S: Service, I: Source, O: Sink, M: Meter>(
     ensures sink_count { O.faults sink.old ≤ O.faults sink.new }
     ensures too_long { result ≡ Some EndStatus.InputTooLong → lines.new.taken ≡ lines.new.limit }
 {
-    match next_request(lines, &mut responder.molfile, source) {
-        Ok(Next::End) => Some(EndStatus::Done),
-        Ok(next) => answer_and_put(rt, service, sink, meter, next, lines.text(), responder),
-        Err(LineFault::Source) => Some(EndStatus::SourceFault),
-        Err(LineFault::TooLong) => Some(EndStatus::InputTooLong),
+    let next = match next_request(lines, &mut responder.molfile, source) {
+        Ok(next) => next,
+        Err(LineFault::Source) => return Some(EndStatus::SourceFault),
+        Err(LineFault::TooLong) => return Some(EndStatus::InputTooLong),
+    };
+    match next {
+        Next::End => Some(EndStatus::Done),
+        _ => answer_and_put(rt, service, sink, meter, next, lines.text(), responder),
     }
 }
 

@@ -2,6 +2,7 @@ use Rattle.std.proofs.Common.{◌≡◌, ap, arith, Err, refl, Some}
 use Rattle.std.proofs.KnownBytes.{Appends-nil}
 use Rattle.session_run.specs.Made.{Makes}
 use Rattle.session_run.specs.Walks.{cursors_of}
+use Rattle.session_run.proofs.Keeping.{memory_lives}
 use Rattle.session_run.proofs.Turning.{replied, unsaid}
 use Rattle.session_run.proofs.run.answer_and_put.Goals as goal
 
@@ -46,7 +47,7 @@ returns-in-Err-NoMemory-clause-keeps g c =
     record {
       fit = k.fit;
       size = k.size;
-      worn = λ e. cc;
+      worn = memory_lives (g.S.Service.worn c.answer.new.service);
       pins = λ n. rw c.in-Err-NoMemory.field-0-is at k.pins;
       bounds = k.bounds;
     }

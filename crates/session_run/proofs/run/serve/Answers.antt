@@ -7,7 +7,7 @@ use Rattle.session_run.specs.Walks.{cursors_of}
 use Rattle.session_run.specs.declared.settings.EndStatus.{EndStatus}
 use Rattle.session_run.proofs.Held.{not_raised-more, not_raised-same, same_held, same_others}
 use Rattle.session_run.proofs.Joined.{makes_more, makes_none}
-use Rattle.session_run.proofs.Keeping.{keeps_pins-more}
+use Rattle.session_run.proofs.Keeping.{goes_on, keeps_pins-more}
 use Rattle.session_run.proofs.Scripts.{Rose-since, serves-turn, takes_all, under_way-start, under_way-turn}
 use Rattle.session_run.proofs.run.serve.Goals as goal
 
@@ -41,9 +41,9 @@ loop-end-preserved g c =
     let middle = c.loop-end.service in
     let last = c.turn.new.service in
     let u = c.loop-end.invariant.under_way in
-    let k = c.in-None.ensures.keeps in
-    let reads = c.in-None.ensures.reads in
-    let p = k.pins (λ e. cc) in
+    let k = c.in_default.ensures.keeps in
+    let reads = c.in_default.ensures.reads in
+    let p = k.pins goes_on in
     record {
       fit = k.fit;
       size = k.size ∙ c.loop-end.invariant.size;
@@ -63,20 +63,20 @@ loop-end-preserved g c =
           (TakesNone c.loop-end.lines (g.I.Source.left c.loop-end.source))
           (cursors_of c.loop-end.responder.cursors.list.items) (cursors_of c.turn.new.responder.cursors.list.items)
           (g.O.Sink.written c.loop-end.sink) (g.O.Sink.written c.turn.new.sink) None)
-          c.loop-end.invariant.size c.in-None.ensures.turns);
+          c.loop-end.invariant.size c.in_default.ensures.turns);
       pins = keeps_pins-more (g.S.Service.holds first) (g.S.Service.holds middle) (g.S.Service.holds last) []
           (cursors_of c.loop-end.responder.cursors.list.items) (cursors_of c.turn.new.responder.cursors.list.items)
           c.loop-end.invariant.pins p;
       source_count = omega (arith, c.loop-end.invariant.source_count, reads.count);
-      sink_count = omega (arith, c.loop-end.invariant.sink_count, c.in-None.ensures.sink_count);
+      sink_count = omega (arith, c.loop-end.invariant.sink_count, c.in_default.ensures.sink_count);
       bounds = not_raised-more (g.S.Service.bounds first) (g.S.Service.bounds middle) (g.S.Service.bounds last)
           c.loop-end.invariant.bounds k.bounds;
     }
 
 pub loop-end-smaller : goal.loop-end-smaller
 loop-end-smaller g c =
-    let reads = c.in-None.ensures.reads in
-    omega (arith, c.in-None.ensures.progress refl, reads.counts.limit, reads.counts.within)
+    let reads = c.in_default.ensures.reads in
+    omega (arith, c.in_default.ensures.progress refl, reads.counts.limit, reads.counts.within)
 
 pub returns-in-Some-clause-serves : goal.returns-in-Some-clause-serves
 returns-in-Some-clause-serves g c =

@@ -9,14 +9,14 @@ use Rattle.session_run.proofs.Scripts.{fresh}
 use Rattle.session_run.proofs.run.session.Goals as goal
 
 pub serve_to_end-requires-clause-fit : goal.serve_to_end-requires-clause-fit
-serve_to_end-requires-clause-fit g c =
-    let r = c.in-Ok-2.responder in
-    let made = c.in-Ok-2.ensures in
+serve_to_end-requires-clause-fit g c _ =
+    let r = c.in-Ok-new.responder in
+    let made = c.in-Ok-new.ensures in
     fit_new c.args.settings.now r c.requires.some_workers c.requires.few_workers c.requires.some c.requires.few
     made.settings made.size made.none
 
 pub serve_to_end-requires-clause-fresh : goal.serve_to_end-requires-clause-fresh
-serve_to_end-requires-clause-fresh g c = fresh c.in-Ok.lines c.args.settings.now.input_limit c.in-Ok.ensures
+serve_to_end-requires-clause-fresh g c _ = fresh c.in-Ok.lines c.args.settings.now.input_limit c.in-Ok.ensures
 
 pub returns-in_default-clause-serves : goal.returns-in_default-clause-serves
 returns-in_default-clause-serves g c = (
@@ -25,8 +25,8 @@ returns-in_default-clause-serves g c = (
   served-none c.args.settings.now.page (g.I.Source.left c.args.source.now) (g.O.Sink.written c.args.sink.now),
 )
 
-pub returns-in_default-2-clause-serves : goal.returns-in_default-2-clause-serves
-returns-in_default-2-clause-serves g c = (
+pub returns-in_default-new-clause-serves : goal.returns-in_default-new-clause-serves
+returns-in_default-new-clause-serves g c = (
   [],
   makes_none g.S.Service.at g.S.Service.owns g.S.Service.stretch g.met.S.Service.stays c.args.service.now,
   served-none c.args.settings.now.page (g.I.Source.left c.args.source.now) (g.O.Sink.written c.args.sink.now),
@@ -39,7 +39,7 @@ returns-clause-serves g c =
       u.1,
       subst (λ (n : ℕ). IfSome (g.I.Source.left c.args.source.now) (λ (bytes : List ℕ).
           Writes (g.O.Sink.written c.args.sink.now) (g.O.Sink.written c.serve_to_end.new.sink)
-          (IsServed c.serve_to_end.result n (lines_of bytes) u.0))) c.in-Ok-2.ensures.size u.2,
+          (IsServed c.serve_to_end.result n (lines_of bytes) u.0))) c.in-Ok-new.ensures.size u.2,
     )
 
 pub returns-clause-too_long : goal.returns-clause-too_long

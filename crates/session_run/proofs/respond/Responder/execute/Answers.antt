@@ -3,7 +3,7 @@ use Rattle.session_run.specs.Made.{Makes}
 use Rattle.session_run.specs.Walks.{cursors_of}
 use Rattle.session_run.proofs.Held.{not_raised-same, same_held}
 use Rattle.session_run.proofs.Joined.{makes_none}
-use Rattle.session_run.proofs.Keeping.{keeps_all}
+use Rattle.session_run.proofs.Keeping.{keeps_all, ok_lives}
 use Rattle.session_run.proofs.Responses.{spells_register_mol, spells_revise_mol}
 use Rattle.session_run.proofs.respond.Responder.execute.Goals as goal
 
@@ -25,7 +25,7 @@ returns-in-Empty-clause-keeps g c =
     let s = c.args.service.now in
     keeps_all g.S.Service.holds g.S.Service.worn g.S.Service.bounds s s c.args.self.now c.args.self.now
     c.requires.ready (Ok tt)
-    refl refl (λ e. cc) (same_held (g.S.Service.holds s)) (not_raised-same (g.S.Service.bounds s))
+    refl refl (ok_lives (g.S.Service.worn s)) (same_held (g.S.Service.holds s)) (not_raised-same (g.S.Service.bounds s))
 
 pub returns-in-Register-clause-answered : goal.returns-in-Register-clause-answered
 returns-in-Register-clause-answered g c = rw c.in-Register.is c.answer_change.ensures.answered
@@ -62,15 +62,15 @@ answer_change-requires-clause-id g c =
     let s = rw c.in-Register.is at c.requires.line.1 in
     s.0
 
-pub answer_change-requires-2-clause-id : goal.answer_change-requires-2-clause-id
-answer_change-requires-2-clause-id g c =
+pub answer_change-requires-in-Revise-clause-id : goal.answer_change-requires-in-Revise-clause-id
+answer_change-requires-in-Revise-clause-id g c =
     let s = rw c.in-Revise.is at c.requires.line.1 in
     s.0
 
-pub unreachable-requires : goal.prove-unreachable-requires
+pub unreachable-requires : goal.unreachable-requires
 unreachable-requires g c =
     spells_register_mol c.requires.line.0 c.args.command _ c.in-RegisterMol.is c.requires.line.1 c.requires.line.2
 
-pub unreachable-requires-2 : goal.unreachable-requires-2
-unreachable-requires-2 g c =
+pub unreachable-requires-in-ReviseMol : goal.unreachable-requires-in-ReviseMol
+unreachable-requires-in-ReviseMol g c =
     spells_revise_mol c.requires.line.0 c.args.command _ c.in-ReviseMol.is c.requires.line.1 c.requires.line.2
