@@ -10,6 +10,7 @@ pub mod Ending
 pub mod Searching
 pub mod Moved
 pub mod Opening
+pub mod Keeping
 pub mod Responses
 pub mod Turning
 pub mod Named

@@ -12,7 +12,8 @@ use Rattle.session_run.specs.declared.request.Molfile.{Molfile}
 use Rattle.session_run.specs.declared.request.Molfile.TheVariants.{Text, Long, Lost}
 
 -- what is left after these bytes were taken, where it is told
-pub leaves : (l got : List ℕ) (now next : Option (List ℕ)) → now ≡ Some l → Consumes now next got → (l' : List ℕ) × (next ≡ Some l') × (l ≡ got ++ l')
+pub leaves : (l got : List ℕ) (now next : Option (List ℕ)) → now ≡ Some l → Consumes now next got → (l' : List ℕ)
+    × (next ≡ Some l') × (l ≡ got ++ l')
 leaves l got None next p h = cc
 leaves l got (Some m) None p h = absurd h
 leaves l got (Some m) (Some l') p h = (l', refl, rw (sym (some_injective p)) h) where
@@ -20,7 +21,8 @@ leaves l got (Some m) (Some l') p h = (l', refl, rw (sym (some_injective p)) h) 
   some_injective e = cc
 
 -- nothing was read
-pub reads_none : (before : Option (List ℕ)) (faults : ℕ) (r : Reading) → r.taken ≤ r.limit → ReadsOn before before faults faults r r
+pub reads_none : (before : Option (List ℕ)) (faults : ℕ) (r : Reading) → r.taken ≤ r.limit
+    → ReadsOn before before faults faults r r
 reads_none before faults r within = record {
   got = [];
   leaves = Consumes-nil before;
@@ -53,7 +55,8 @@ reads_more before now next f f' f'' old r r' u v = record {
 molfile_text-append : (xs ys : List TextLine) → molfile_text (xs ++ ys) ≡ molfile_text xs ++ molfile_text ys
 molfile_text-append [] ys = refl
 molfile_text-append (Whole line ∷ xs) ys =
-    ap (λ t. line ++ 10 ∷ t) (molfile_text-append xs ys) ∙ sym (append_assoc line (10 ∷ molfile_text xs) (molfile_text ys))
+    ap (λ t. line ++ 10 ∷ t) (molfile_text-append xs ys)
+    ∙ sym (append_assoc line (10 ∷ molfile_text xs) (molfile_text ys))
 molfile_text-append (TooLong ∷ xs) ys = molfile_text-append xs ys
 
 -- a line more is long where one was, or it is
@@ -67,9 +70,11 @@ long_before xs line c =
 pub molfile_long : (xs : List TextLine) (text : List ℕ) → IsMolfile Long (xs ++ TooLong ∷ []) text
 molfile_long xs text = Contains-append_right xs (TooLong ∷ []) TooLong (0, omega arith, refl)
 
-pub molfile_line : (xs : List TextLine) (line text text' : List ℕ) (taken taken' : Molfile) → IsMolfile taken xs text → AddsLine taken line text taken' text' → IsMolfile taken' (xs ++ Whole line ∷ []) text'
+pub molfile_line : (xs : List TextLine) (line text text' : List ℕ) (taken taken' : Molfile) → IsMolfile taken xs text
+    → AddsLine taken line text taken' text' → IsMolfile taken' (xs ++ Whole line ∷ []) text'
 molfile_line xs line text text' Text Text m a = (
-  a ∙ (append_assoc text line (10 ∷ []) ∙ (ap (λ t. t ++ (line ++ 10 ∷ [])) m.0 ∙ sym (molfile_text-append xs (Whole line ∷ [])))),
+  a ∙ (append_assoc text line (10 ∷ [])
+      ∙ (ap (λ t. t ++ (line ++ 10 ∷ [])) m.0 ∙ sym (molfile_text-append xs (Whole line ∷ [])))),
   λ c. m.1 (long_before xs line c),
 )
 molfile_line xs line text text' Text Lost m a = λ c. m.1 (long_before xs line c)
@@ -86,13 +91,16 @@ pub record IsTaking (before now : Option (List ℕ)) (old new : Reading) (text :
   pub lines : List TextLine
   pub is : IsMolfile taken lines text
   pub told : (l l' : List ℕ) → before ≡ Some l → now ≡ Some l' → (IsTrue old.ended → l ≡ [])
-      → (more rest : List TextLine) → BeginWithMolfile (lines_left new l') more rest → BeginWithMolfile (lines_left old l) (lines ++ more) rest
+      → (more rest : List TextLine) → BeginWithMolfile (lines_left new l') more rest
+      → BeginWithMolfile (lines_left old l) (lines ++ more) rest
 
-pub taking_none : (before : Option (List ℕ)) (r : Reading) (text : List ℕ) → text ≡ [] → IsTaking before before r r text Text
+pub taking_none : (before : Option (List ℕ)) (r : Reading) (text : List ℕ) → text ≡ []
+    → IsTaking before before r r text Text
 taking_none before r text e = record {
   lines = [];
   is = (e, λ h. absurd (omega (arith, h.1)));
-  told = λ l l' p q h more rest b. subst (λ (x : List ℕ). BeginWithMolfile (lines_left r x) more rest) (some_one l' l (sym q ∙ p)) b;
+  told = λ l l' p q h more rest b. subst (λ (x : List ℕ). BeginWithMolfile (lines_left r x) more rest)
+      (some_one l' l (sym q ∙ p)) b;
 } where
   some_one : (x y : List ℕ) → Some x ≡ Some y → x ≡ y
   some_one x y e = cc
@@ -100,11 +108,14 @@ taking_none before r text e = record {
 -- where the next line was this one
 abbrev pub NextIs : Reading → Reading → Option (List ℕ) → Option (List ℕ) → TextLine → Type 0
 NextIs old new before after line =
-    (l l' : List ℕ) → before ≡ Some l → after ≡ Some l' → (IsTrue old.ended → l ≡ []) → lines_left old l ≡ line ∷ lines_left new l'
+    (l l' : List ℕ) → before ≡ Some l → after ≡ Some l' → (IsTrue old.ended → l ≡ [])
+    → lines_left old l ≡ line ∷ lines_left new l'
 
 -- a line more that is not the last
-pub taking_line : (before now next : Option (List ℕ)) (f f' : ℕ) (old r r' : Reading) (text text' : List ℕ) (taken taken' : Molfile) (line : TextLine)
-    → (u : IsTaking before now old r text taken) → ReadsOn before now f f' old r → ¬ IsLast line → NextIs r r' now next line
+pub taking_line : (before now next : Option (List ℕ)) (f f' : ℕ) (old r r' : Reading) (text text' : List ℕ)
+    (taken taken' : Molfile) (line : TextLine)
+    → (u : IsTaking before now old r text taken) → ReadsOn before now f f' old r → ¬ IsLast line
+    → NextIs r r' now next line
     → IsMolfile taken' (u.lines ++ line ∷ []) text' → IsTaking before next old r' text' taken'
 taking_line before now next f f' old r r' text text' taken taken' line u reads other is m = record {
   lines = u.lines ++ line ∷ [];
@@ -112,17 +123,23 @@ taking_line before now next f f' old r r' text text' taken taken' line u reads o
   told = λ l l' p q h more rest b.
       let k = leaves l reads.got before now p reads.leaves in
       let left : lines_left r k.0 ≡ line ∷ lines_left r' l' = is k.0 l' k.1 q (reads.met l k.0 p k.1 h) in
-      subst (λ (x : List TextLine). BeginWithMolfile (lines_left old l) x rest) (sym (append_assoc u.lines (line ∷ []) more))
-      (u.told l k.0 p k.1 h (line ∷ more) rest (subst (λ (x : List TextLine). BeginWithMolfile x (line ∷ more) rest) (sym left) (inr (other, more, refl, b))));
+      subst (λ (x : List TextLine). BeginWithMolfile (lines_left old l) x rest)
+      (sym (append_assoc u.lines (line ∷ []) more))
+      (u.told l k.0 p k.1 h (line ∷ more) rest
+      (subst (λ (x : List TextLine). BeginWithMolfile x (line ∷ more) rest) (sym left)
+      (inr (other, more, refl, b))));
 }
 
 -- what was taken of a molfile
 abbrev pub Taken : Option (List ℕ) → Option (List ℕ) → Reading → Reading → List ℕ → Molfile → Type 0
-Taken before after old new text taken = (molfile : List TextLine) × IsMolfile taken molfile text × TakesMolfileLines old new before after molfile
+Taken before after old new text taken =
+    (molfile : List TextLine) × IsMolfile taken molfile text × TakesMolfileLines old new before after molfile
 
 -- its last line was taken
-pub taken_last : (before now next : Option (List ℕ)) (f f' : ℕ) (old r r' : Reading) (text text' : List ℕ) (taken taken' : Molfile) (line : List ℕ)
-    → (u : IsTaking before now old r text taken) → ReadsOn before now f f' old r → IsLast (Whole line) → NextIs r r' now next (Whole line)
+pub taken_last : (before now next : Option (List ℕ)) (f f' : ℕ) (old r r' : Reading) (text text' : List ℕ)
+    (taken taken' : Molfile) (line : List ℕ)
+    → (u : IsTaking before now old r text taken) → ReadsOn before now f f' old r → IsLast (Whole line)
+    → NextIs r r' now next (Whole line)
     → IsMolfile taken' (u.lines ++ Whole line ∷ []) text' → Taken before next old r' text' taken'
 taken_last before now next f f' old r r' text text' taken taken' line u reads last is m = (
   u.lines ++ Whole line ∷ [],
@@ -130,7 +147,9 @@ taken_last before now next f f' old r r' text text' taken taken' line u reads la
   λ l l' p q h.
       let k = leaves l reads.got before now p reads.leaves in
       let left : lines_left r k.0 ≡ Whole line ∷ lines_left r' l' = is k.0 l' k.1 q (reads.met l k.0 p k.1 h) in
-      u.told l k.0 p k.1 h (Whole line ∷ []) (lines_left r' l') (subst (λ (x : List TextLine). BeginWithMolfile x (Whole line ∷ []) (lines_left r' l')) (sym left) (inl (last, refl, refl))),
+      u.told l k.0 p k.1 h (Whole line ∷ []) (lines_left r' l')
+      (subst (λ (x : List TextLine). BeginWithMolfile x (Whole line ∷ []) (lines_left r' l')) (sym left)
+      (inl (last, refl, refl))),
 )
 
 -- the input's end was met
@@ -145,7 +164,9 @@ taken_end before now next f f' old r r' text taken u reads end is = (
       let k = leaves l reads.got before now p reads.leaves in
       let left = is k.0 l' k.1 q (reads.met l k.0 p k.1 h) in
       subst (λ (x : List TextLine). BeginWithMolfile (lines_left old l) x (lines_left r' l')) (append-nil u.lines)
-      (u.told l k.0 p k.1 h [] (lines_left r' l') (subst (λ (x : List TextLine). BeginWithMolfile x [] (lines_left r' l')) (sym left.0) (refl, none_left l' left.1))),
+      (u.told l k.0 p k.1 h [] (lines_left r' l')
+      (subst (λ (x : List TextLine). BeginWithMolfile x [] (lines_left r' l')) (sym left.0)
+      (refl, none_left l' left.1))),
 ) where
   none_left : (l' : List ℕ) → l' ≡ [] → lines_left r' l' ≡ []
   none_left l' e = rw (e, end.none, end.short) refl

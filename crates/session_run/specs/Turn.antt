@@ -39,7 +39,8 @@ pub record ReadsOn (before after : Option (List ℕ)) (faults faults' : ℕ) (ol
 -- the request was the next, where the source tells what is left, and has nothing left once its end was met
 abbrev pub TakesRequest : Reading → Reading → Option (List ℕ) → Option (List ℕ) → Request → Type 0
 TakesRequest old new before after request =
-    (l l' : List ℕ) → before ≡ Some l → after ≡ Some l' → (IsTrue old.ended → l ≡ []) → BeginWith (lines_left old l) request (lines_left new l')
+    (l l' : List ℕ) → before ≡ Some l → after ≡ Some l' → (IsTrue old.ended → l ≡ [])
+    → BeginWith (lines_left old l) request (lines_left new l')
 
 -- no line was left
 abbrev pub TakesNone : Reading → Option (List ℕ) → Type 0
@@ -70,15 +71,18 @@ IsNext nexts.End request line text = ⊥
 IsNext nexts.Long request line text = IsLong request
 IsNext nexts.Line request line text = (request ≡ record { line = Whole line; molfile = [] }) × ¬ StartsMolfile line
 IsNext (nexts.WithMolfile read molfile) request line text =
-    (first : List ℕ) × (request.line ≡ Whole first) × StartsMolfile first × IsLine first (molfile_command read) × IsMolfile molfile request.molfile text
+    (first : List ℕ) × (request.line ≡ Whole first) × StartsMolfile first × IsLine first (molfile_command read)
+    × IsMolfile molfile request.molfile text
 
 -- the request that was read, or none where the input's end was met
 abbrev pub Takes : Next → Reading → Reading → Option (List ℕ) → Option (List ℕ) → List ℕ → Type 0
 Takes nexts.End old new before after text = TakesNone old before
-Takes next old new before after text = (request : Request) × TakesRequest old new before after request × IsNext next request new.text text
+Takes next old new before after text =
+    (request : Request) × TakesRequest old new before after request × IsNext next request new.text text
 
 -- a request was read and answered
-pub record Answers (size : ℕ) (Made : Calls → Type 0) (Taken : Request → Type 0) (cursors cursors' : List Cursor) : Type 0 where
+pub record Answers (size : ℕ) (Made : Calls → Type 0) (Taken : Request → Type 0)
+    (cursors cursors' : List Cursor) : Type 0 where
   pub request : Request
   pub taken : Taken request
   pub did : Did Made (RequestAnswer size cursors request) cursors'
@@ -90,14 +94,35 @@ pub record Breaks (size : ℕ) (Made : Calls → Type 0) (Taken : Request → Ty
   pub worn : WornIn Made (RequestAnswer size cursors request)
 
 -- What a turn does, by how the session ends with it, if it does
-abbrev pub Turns : ℕ → (Calls → Type 0) → (Request → Type 0) → Type 0 → List Cursor → List Cursor → Option (List ℕ) → Option (List ℕ) → Option EndStatus → Type 0
-Turns size Made Taken AtEnd cursors cursors' put put' None = (a : Answers size Made Taken cursors cursors') × Appends put put' (text_of a.did.lines)
-Turns size Made Taken AtEnd cursors cursors' put put' (Some Done) = AtEnd × Made [] × (cursors' ≡ cursors) × Appends put put' []
-Turns size Made Taken AtEnd cursors cursors' put put' (Some SourceFault) = Made [] × (cursors' ≡ cursors) × Appends put put' []
-Turns size Made Taken AtEnd cursors cursors' put put' (Some InputTooLong) = Made [] × (cursors' ≡ cursors) × Appends put put' []
-Turns size Made Taken AtEnd cursors cursors' put put' (Some SinkFault) = (a : Answers size Made Taken cursors cursors') × AppendsPrefix put put' (text_of a.did.lines)
-Turns size Made Taken AtEnd cursors cursors' put put' (Some NoMemory) = (a : Answers size Made Taken cursors cursors') × AppendsPrefix put put' (text_of a.did.lines)
-Turns size Made Taken AtEnd cursors cursors' put put' (Some Worn) = Breaks size Made Taken cursors × Appends put put' []
+abbrev pub Turns : ℕ → (Calls → Type 0) → (Request → Type 0) → Type 0 → List Cursor → List Cursor
+    → Option (List ℕ) → Option (List ℕ) → Option EndStatus → Type 0
+Turns size Made Taken AtEnd cursors cursors' put put' None =
+    (a : Answers size Made Taken cursors cursors') × Appends put put' (text_of a.did.lines)
+Turns size Made Taken AtEnd cursors cursors' put put' (Some Done) =
+    AtEnd × Made [] × (cursors' ≡ cursors) × Appends put put' []
+Turns size Made Taken AtEnd cursors cursors' put put' (Some SourceFault) =
+    Made [] × (cursors' ≡ cursors) × Appends put put' []
+Turns size Made Taken AtEnd cursors cursors' put put' (Some InputTooLong) =
+    Made [] × (cursors' ≡ cursors) × Appends put put' []
+Turns size Made Taken AtEnd cursors cursors' put put' (Some SinkFault) =
+    (a : Answers size Made Taken cursors cursors') × AppendsPrefix put put' (text_of a.did.lines)
+Turns size Made Taken AtEnd cursors cursors' put put' (Some NoMemory) =
+    (a : Answers size Made Taken cursors cursors') × AppendsPrefix put put' (text_of a.did.lines)
+Turns size Made Taken AtEnd cursors cursors' put put' (Some Worn) =
+    Breaks size Made Taken cursors × Appends put put' []
+
+-- What the answer to a request does and what is put of it, by how the session ends with it, if it does
+abbrev pub Replies : ℕ → (Calls → Type 0) → Request → List Cursor → List Cursor → Option (List ℕ) → Option (List ℕ)
+    → Option EndStatus → Type 0
+Replies size Made request cursors cursors' put put' None =
+    (did : Did Made (RequestAnswer size cursors request) cursors') × Appends put put' (text_of did.lines)
+Replies size Made request cursors cursors' put put' (Some SinkFault) =
+    (did : Did Made (RequestAnswer size cursors request) cursors') × AppendsPrefix put put' (text_of did.lines)
+Replies size Made request cursors cursors' put put' (Some NoMemory) =
+    (did : Did Made (RequestAnswer size cursors request) cursors') × AppendsPrefix put put' (text_of did.lines)
+Replies size Made request cursors cursors' put put' (Some Worn) =
+    WornIn Made (RequestAnswer size cursors request) × Appends put put' []
+Replies size Made request cursors cursors' put put' (Some _) = ⊥
 
 -- what was put of a reply
 abbrev pub Puts : Option (List ℕ) → Option (List ℕ) → List ℕ → ℕ → ℕ → Option EndStatus → Type 0

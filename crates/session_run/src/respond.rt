@@ -1,13 +1,15 @@
 //! What a request is answered.
 ghost use Rattle.std.specs.Prelude.{◌≡◌, [], ℕ, Err, IfOk, List, Ok};
+ghost use Rattle.shell_lang.specs.Command as asked;
 ghost use Rattle.shell_lang.specs.Command.{IsLine, Spells, StartsMolfile, molfile_command};
-ghost use Rattle.shell_lang.specs.CommandView.{command_of, reading_of};
+ghost use Rattle.shell_lang.specs.CommandView.{command_of};
 ghost use Rattle.shell_lang.specs.Reply.{reply_of};
 ghost use Rattle.store_core.specs.Calls.{NotRaised, SameHeld};
-ghost use Rattle.session_run.specs.Answer.{Answers, MolfileAnswer, RequestAnswer};
+ghost use Rattle.store_machine.specs.History.{IsId};
+ghost use Rattle.session_run.specs.Answer.{MolfileAnswer, RequestAnswer};
 ghost use Rattle.session_run.specs.Made.{AreHeld, Answered, Makes, Said};
 ghost use Rattle.session_run.specs.Requests.{Request};
-ghost use Rattle.session_run.specs.Responds.{IsChange, IsFit, IsLostLine, LineIsAnswered, MolfileIsAnswered, MovesPins, SaidShort};
+ghost use Rattle.session_run.specs.Responds.{CommandIsAnswered, IsChange, IsLostLine, IsReady, Keeps, LineIsAnswered, MolfileIsAnswered, SaidShort, text_command};
 ghost use Rattle.session_run.specs.Searched.{alone};
 ghost use Rattle.session_run.specs.Turn.{IsNext};
 ghost use Rattle.session_run.specs.Walks.{cursors_of};
@@ -64,17 +66,13 @@ impl Responder {
         next: Next,
         line: &[u8],
     ) -> Result<(), Stop>
-        requires settings { IsFit self.old.settings self.old.cursors.size self.old.cursors.list.items }
+        requires ready { IsReady S.holds service.old self.old }
         requires request { (request : Request) × IsNext next request line.now self.old.molfile.items }
-        requires held { AreHeld (S.holds service.old) (cursors_of self.old.cursors.list.items) }
         ensures answered { (request : Request) → IsNext next request line.now self.old.molfile.items
-            → Answered (Makes S.at S.owns S.stretch service.old service.new) (RequestAnswer self.old.cursors.size (cursors_of self.old.cursors.list.items) request)
+            → Answered (Makes S.at S.owns S.stretch service.old service.new)
+            (RequestAnswer self.old.cursors.size (cursors_of self.old.cursors.list.items) request)
             [] self.new.out.items (cursors_of self.new.cursors.list.items) result }
-        ensures fit { IsFit self.new.settings self.new.cursors.size self.new.cursors.list.items }
-        ensures size { self.new.cursors.size ≡ self.old.cursors.size }
-        ensures worn { result ≡ Err Stop.Worn → S.worn service.new }
-        ensures pins { MovesPins (S.holds service.old) (cursors_of self.old.cursors.list.items) (S.holds service.new) (cursors_of self.new.cursors.list.items) result }
-        ensures bounds { NotRaised (S.bounds service.old) (S.bounds service.new) }
+        ensures keeps { Keeps S.holds S.worn S.bounds service.old service.new self.old self.new result }
     {
         self.out.clear();
         match next {
@@ -93,17 +91,12 @@ impl Responder {
         meter: &M,
         line: &[u8],
     ) -> Result<(), Stop>
-        requires settings { IsFit self.old.settings self.old.cursors.size self.old.cursors.list.items }
+        requires ready { IsReady S.holds service.old self.old }
         requires line { ¬ StartsMolfile line.now }
-        requires held { AreHeld (S.holds service.old) (cursors_of self.old.cursors.list.items) }
         ensures answered { Answered (Makes S.at S.owns S.stretch service.old service.new)
             (LineIsAnswered self.old.cursors.size (cursors_of self.old.cursors.list.items) line.now)
             self.old.out.items self.new.out.items (cursors_of self.new.cursors.list.items) result }
-        ensures fit { IsFit self.new.settings self.new.cursors.size self.new.cursors.list.items }
-        ensures size { self.new.cursors.size ≡ self.old.cursors.size }
-        ensures worn { result ≡ Err Stop.Worn → S.worn service.new }
-        ensures pins { MovesPins (S.holds service.old) (cursors_of self.old.cursors.list.items) (S.holds service.new) (cursors_of self.new.cursors.list.items) result }
-        ensures bounds { NotRaised (S.bounds service.old) (S.bounds service.new) }
+        ensures keeps { Keeps S.holds S.worn S.bounds service.old service.new self.old self.new result }
     {
         match read_command(line) {
             Ok(command) => self.execute(rt, service, meter, command),
@@ -119,46 +112,160 @@ impl Responder {
         meter: &M,
         command: Command<'_>,
     ) -> Result<(), Stop>
-        requires settings { IsFit self.old.settings self.old.cursors.size self.old.cursors.list.items }
+        requires ready { IsReady S.holds service.old self.old }
         requires line { (line : List ℕ) × Spells line (command_of command) × ¬ StartsMolfile line }
-        requires held { AreHeld (S.holds service.old) (cursors_of self.old.cursors.list.items) }
-        ensures answered { Answered (Makes S.at S.owns S.stretch service.old service.new)
-            (Answers self.old.cursors.size (cursors_of self.old.cursors.list.items) (reading_of (Ok command.entry)))
-            self.old.out.items self.new.out.items (cursors_of self.new.cursors.list.items) result }
-        ensures fit { IsFit self.new.settings self.new.cursors.size self.new.cursors.list.items }
-        ensures size { self.new.cursors.size ≡ self.old.cursors.size }
-        ensures worn { result ≡ Err Stop.Worn → S.worn service.new }
-        ensures pins { MovesPins (S.holds service.old) (cursors_of self.old.cursors.list.items) (S.holds service.new) (cursors_of self.new.cursors.list.items) result }
-        ensures bounds { NotRaised (S.bounds service.old) (S.bounds service.new) }
+        ensures answered { CommandIsAnswered (Makes S.at S.owns S.stretch service.old service.new)
+            self.old self.new (command_of command.entry) result }
+        ensures keeps { Keeps S.holds S.worn S.bounds service.old service.new self.old self.new result }
     {
-        let alloc = self.alloc;
-        let settings = &self.settings;
-        let out = &mut self.out;
         match command {
             Command::Empty => Ok(()),
-            Command::Register { id, text } => say_line(
-                change_text(alloc, service, Verb::Register, id, Format::Smiles, text),
-                out,
-            ),
-            Command::Revise { id, text } => say_line(
-                change_text(alloc, service, Verb::Revise, id, Format::Smiles, text),
-                out,
-            ),
-            Command::Withdraw { id } => say_line(commit(service, Change::Withdraw(id)), out),
-            Command::Show { id } => say_shown(show(service, id), out),
-            Command::Search { pattern } => {
-                search(rt, alloc, service, meter, settings, pattern, out)
-            }
-            Command::Start { name, pattern } => say_line(
-                self.cursors.open(alloc, service, settings, name, pattern),
-                out,
-            ),
-            Command::Next { name } => self.cursors.next(rt, service, meter, name, out),
-            Command::Close { name } => say_line(self.cursors.close(service, name), out),
-            Command::Prune => say_line(prune(service), out),
-            Command::Stats => say_line(stats(service), out),
-            Command::RegisterMol { .. } | Command::ReviseMol { .. } => unreachable!(),
+            Command::Register { id, text } => self.answer_change(service, Verb::Register, id, text),
+            Command::Revise { id, text } => self.answer_change(service, Verb::Revise, id, text),
+            Command::Withdraw { id } => self.answer_withdraw(service, id),
+            Command::Show { id } => self.answer_show(service, id),
+            Command::Search { pattern } => self.answer_search(rt, service, meter, pattern),
+            Command::Start { name, pattern } => self.answer_open(service, name, pattern),
+            Command::Next { name } => self.answer_next(rt, service, meter, name),
+            Command::Close { name } => self.answer_close(service, name),
+            Command::Prune => self.answer_prune(service),
+            Command::Stats => self.answer_stats(service),
+            Command::RegisterMol { .. } => unreachable!(),
+            Command::ReviseMol { .. } => unreachable!(),
         }
+    }
+
+    // Answers `register` and `revise`.
+    fn answer_change<S: Service>(
+        &mut self,
+        service: &mut S,
+        verb: Verb,
+        id: u32,
+        text: &[u8],
+    ) -> Result<(), Stop>
+        requires ready { IsReady S.holds service.old self.old }
+        requires id { IsId id }
+        ensures answered { CommandIsAnswered (Makes S.at S.owns S.stretch service.old service.new)
+            self.old self.new (text_command verb id text.now) result }
+        ensures keeps { Keeps S.holds S.worn S.bounds service.old service.new self.old self.new result }
+    {
+        let reply = change_text(self.alloc, service, verb, id, Format::Smiles, text);
+        say_line(reply, &mut self.out)
+    }
+
+    // Answers `withdraw`.
+    fn answer_withdraw<S: Service>(&mut self, service: &mut S, id: u32) -> Result<(), Stop>
+        requires { IsReady S.holds service.old self.old }
+        ensures answered { CommandIsAnswered (Makes S.at S.owns S.stretch service.old service.new)
+            self.old self.new (asked.Withdraw id) result }
+        ensures keeps { Keeps S.holds S.worn S.bounds service.old service.new self.old self.new result }
+    {
+        let reply = commit(service, Change::Withdraw(id));
+        say_line(reply, &mut self.out)
+    }
+
+    // Answers `prune`.
+    fn answer_prune<S: Service>(&mut self, service: &mut S) -> Result<(), Stop>
+        requires { IsReady S.holds service.old self.old }
+        ensures answered { CommandIsAnswered (Makes S.at S.owns S.stretch service.old service.new)
+            self.old self.new asked.Prune result }
+        ensures keeps { Keeps S.holds S.worn S.bounds service.old service.new self.old self.new result }
+    {
+        let reply = prune(service);
+        say_line(reply, &mut self.out)
+    }
+
+    // Answers `stats`.
+    fn answer_stats<S: Service>(&mut self, service: &mut S) -> Result<(), Stop>
+        requires { IsReady S.holds service.old self.old }
+        ensures answered { CommandIsAnswered (Makes S.at S.owns S.stretch service.old service.new)
+            self.old self.new asked.Stats result }
+        ensures keeps { Keeps S.holds S.worn S.bounds service.old service.new self.old self.new result }
+    {
+        let reply = stats(service);
+        say_line(reply, &mut self.out)
+    }
+
+    // Answers `show`.
+    fn answer_show<S: Service>(&mut self, service: &mut S, id: u32) -> Result<(), Stop>
+        requires { IsReady S.holds service.old self.old }
+        ensures answered { CommandIsAnswered (Makes S.at S.owns S.stretch service.old service.new)
+            self.old self.new (asked.Show id) result }
+        ensures keeps { Keeps S.holds S.worn S.bounds service.old service.new self.old self.new result }
+    {
+        let reply = show(service, id);
+        say_shown(reply, &mut self.out)
+    }
+
+    // Answers `search`.
+    fn answer_search<R: Threads + Sync, S: Service, M: Meter>(
+        &mut self,
+        rt: &R,
+        service: &mut S,
+        meter: &M,
+        pattern: &[u8],
+    ) -> Result<(), Stop>
+        requires { IsReady S.holds service.old self.old }
+        ensures answered { CommandIsAnswered (Makes S.at S.owns S.stretch service.old service.new)
+            self.old self.new (asked.Search pattern.now) result }
+        ensures keeps { Keeps S.holds S.worn S.bounds service.old service.new self.old self.new result }
+    {
+        let settings = &self.settings;
+        search(
+            rt,
+            self.alloc,
+            service,
+            meter,
+            settings,
+            pattern,
+            &mut self.out,
+        )
+    }
+
+    // Answers `open`.
+    fn answer_open<S: Service>(
+        &mut self,
+        service: &mut S,
+        name: &[u8],
+        pattern: &[u8],
+    ) -> Result<(), Stop>
+        requires { IsReady S.holds service.old self.old }
+        ensures answered { CommandIsAnswered (Makes S.at S.owns S.stretch service.old service.new)
+            self.old self.new (asked.Start name.now pattern.now) result }
+        ensures keeps { Keeps S.holds S.worn S.bounds service.old service.new self.old self.new result }
+    {
+        let settings = &self.settings;
+        let reply = self
+            .cursors
+            .open(self.alloc, service, settings, name, pattern);
+        say_line(reply, &mut self.out)
+    }
+
+    // Answers `next`.
+    fn answer_next<R: Threads + Sync, S: Service, M: Meter>(
+        &mut self,
+        rt: &R,
+        service: &mut S,
+        meter: &M,
+        name: &[u8],
+    ) -> Result<(), Stop>
+        requires { IsReady S.holds service.old self.old }
+        ensures answered { CommandIsAnswered (Makes S.at S.owns S.stretch service.old service.new)
+            self.old self.new (asked.Next name.now) result }
+        ensures keeps { Keeps S.holds S.worn S.bounds service.old service.new self.old self.new result }
+    {
+        self.cursors.next(rt, service, meter, name, &mut self.out)
+    }
+
+    // Answers `close`.
+    fn answer_close<S: Service>(&mut self, service: &mut S, name: &[u8]) -> Result<(), Stop>
+        requires { IsReady S.holds service.old self.old }
+        ensures answered { CommandIsAnswered (Makes S.at S.owns S.stretch service.old service.new)
+            self.old self.new (asked.Close name.now) result }
+        ensures keeps { Keeps S.holds S.worn S.bounds service.old service.new self.old self.new result }
+    {
+        let reply = self.cursors.close(service, name);
+        say_line(reply, &mut self.out)
     }
 
     // Answers a line with its molfile.

@@ -5,12 +5,7 @@ use Rattle.session_run.specs.Cursors.{Calls}
 use Rattle.session_run.specs.Made.{Makes}
 use Rattle.session_run.specs.Responds.{IsFit, KeepsPins}
 use Rattle.session_run.specs.Walks.{cursors_of}
-use Rattle.session_run.proofs.Closing.{served-closed}
-use Rattle.session_run.proofs.Held.{held-added}
-use Rattle.session_run.proofs.Listings.{searched_page}
-use Rattle.session_run.proofs.Named.{split}
 use Rattle.session_run.proofs.Scripts.{IsUnderWay}
-use Rattle.session_run.proofs.Turning.{turn_put}
 use Rattle.session_run.proofs.run.serve.Given as goal
 
 abbrev pub invariant-loop-end : goal.invariant-loop-end
@@ -18,9 +13,10 @@ invariant-loop-end g l = record {
   fit : IsFit l.responder.settings l.responder.cursors.size l.responder.cursors.list.items;
   size : l.responder.cursors.size ≡ l.fn.responder.cursors.size;
   under_way : (calls : Calls) × Makes g.S.Service.at g.S.Service.owns g.S.Service.stretch l.fn.service l.service calls
-      × IsUnderWay l.fn.responder.cursors.size l.fn.lines.limit (g.I.Source.left l.fn.source) (g.I.Source.left l.source) (g.O.Sink.written l.fn.sink) (g.O.Sink.written l.sink) l.lines calls
+      × IsUnderWay l.fn.responder.cursors.size l.fn.lines.limit (g.I.Source.left l.fn.source) (g.I.Source.left l.source)
+      (g.O.Sink.written l.fn.sink) (g.O.Sink.written l.sink) l.lines calls (cursors_of l.responder.cursors.list.items);
+  pins : KeepsPins (g.S.Service.holds l.fn.service) [] (g.S.Service.holds l.service)
       (cursors_of l.responder.cursors.list.items);
-  pins : KeepsPins (g.S.Service.holds l.fn.service) [] (g.S.Service.holds l.service) (cursors_of l.responder.cursors.list.items);
   source_count : g.I.Source.faults l.fn.source ≤ g.I.Source.faults l.source;
   sink_count : g.O.Sink.faults l.fn.sink ≤ g.O.Sink.faults l.sink;
   bounds : NotRaised (g.S.Service.bounds l.fn.service) (g.S.Service.bounds l.service);
