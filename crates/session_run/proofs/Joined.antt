@@ -17,9 +17,11 @@ chosen false c xs ys zs e = e
 calls-append : (own : ℕ → Bool) (xs ys : List Step) → calls_of own (xs ++ ys) ≡ calls_of own xs ++ calls_of own ys
 calls-append own [] ys = refl
 calls-append own (x ∷ xs) ys =
-    chosen (is_own own x) (x.event, x.reply) (calls_of own xs) (calls_of own ys) (calls_of own (xs ++ ys)) (calls-append own xs ys)
+    chosen (is_own own x) (x.event, x.reply) (calls_of own xs) (calls_of own ys) (calls_of own (xs ++ ys))
+    (calls-append own xs ys)
 
-chosen_alike : (a b : Bool) (c : Event × Reply) (xs ys : Calls) → a ≡ b → xs ≡ ys → (if a then c ∷ xs else xs) ≡ (if b then c ∷ ys else ys)
+chosen_alike : (a b : Bool) (c : Event × Reply) (xs ys : Calls) → a ≡ b → xs ≡ ys
+    → (if a then c ∷ xs else xs) ≡ (if b then c ∷ ys else ys)
 chosen_alike a b c xs ys e f = ap₂ (λ (u : Bool) (l : Calls). if u then c ∷ l else l) e f
 
 -- the same calls are those of numbers that are the same
@@ -29,13 +31,15 @@ calls-same own own' h (x ∷ xs) =
     chosen_alike (is_own own' x) (is_own own x) (x.event, x.reply) (calls_of own' xs) (calls_of own xs)
     (ap (λ b. is_call x.event && b) (h x.owner)) (calls-same own own' h xs)
 
-module _ {S : Type 0} (at : S → State → Type 0) (owns : S → ℕ → Bool) (stretch : S → S → State → List Step → State → Type 0) where
+module _ {S : Type 0} (at : S → State → Type 0) (owns : S → ℕ → Bool)
+    (stretch : S → S → State → List Step → State → Type 0) where
   -- no call
   pub makes_none : ((a : S) (s : State) → at a s → stretch a a s [] s) → (a : S) → Makes at owns stretch a a []
   makes_none stays a = record { made = λ s here. record { steps = []; after = s; stands = stays a s here; own = refl } }
 
   -- calls that follow calls
-  pub makes_more : ((a b c : S) (s t u : State) (xs ys : List Step) → stretch a b s xs t → stretch b c t ys u → stretch a c s (xs ++ ys) u)
+  pub makes_more : ((a b c : S) (s t u : State) (xs ys : List Step) → stretch a b s xs t → stretch b c t ys u
+      → stretch a c s (xs ++ ys) u)
       → ((a b : S) (s t : State) (xs : List Step) → stretch a b s xs t → at b t × IsRun s xs t × IsCalm xs)
       → ((a b : S) (s t : State) (xs : List Step) (n : ℕ) → stretch a b s xs t → owns b n ≡ owns a n)
       → (a b c : S) (calls more : Calls) → Makes at owns stretch a b calls → Makes at owns stretch b c more
@@ -49,7 +53,8 @@ module _ {S : Type 0} (at : S → State → Type 0) (owns : S → ℕ → Bool) 
           after = m.after;
           stands = joins a b c s k.after m.after k.steps m.steps k.stands m.stands;
           own = calls-append (owns a) k.steps m.steps
-              ∙ ap₂ (λ xs ys. xs ++ ys) k.own (calls-same (owns b) (owns a) (λ n. sym_of (same a b s k.after k.steps n k.stands)) m.steps ∙ m.own);
+              ∙ ap₂ (λ xs ys. xs ++ ys) k.own
+              (calls-same (owns b) (owns a) (λ n. sym_of (same a b s k.after k.steps n k.stands)) m.steps ∙ m.own);
         };
   }
     where

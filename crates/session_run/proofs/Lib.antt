@@ -7,6 +7,7 @@ pub mod Pages
 pub mod Listings
 pub mod Listed
 pub mod Ending
+pub mod Searching
 pub mod Moved
 pub mod Opening
 pub mod Keeping
@@ -14,3 +15,6 @@ pub mod Responses
 pub mod Turning
 pub mod Named
 pub mod Closing
+pub mod Placed
+pub mod Begun
+pub mod Unpinned

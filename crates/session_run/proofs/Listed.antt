@@ -20,21 +20,28 @@ use Rattle.session_run.specs.Walks.{ArePartlyWritten, AreWritten, IsLost, IsNoPa
 use Rattle.session_run.specs.declared.listing.Shown.{Shown}
 use Rattle.session_run.specs.declared.listing.Walk.{Walk}
 use Rattle.session_run.proofs.Listings.{searched_lost, searched_none, searched_page}
+use Rattle.session_run.proofs.Pages.{moved_to}
 
 pub text-append : (xs ys : Lines) → text_of (xs ++ ys) ≡ text_of xs ++ text_of ys
 text-append [] ys = refl
-text-append (x ∷ xs) ys = ap (λ t. reply_line x ++ t) (text-append xs ys) ∙ sym (append_assoc (reply_line x) (text_of xs) (text_of ys))
+text-append (x ∷ xs) ys = ap (λ t. reply_line x ++ t) (text-append xs ys)
+    ∙ sym (append_assoc (reply_line x) (text_of xs) (text_of ys))
 
-pub hits-append : (xs ys : List ℕ) → text_of (map line.Hit (xs ++ ys)) ≡ text_of (map line.Hit xs) ++ text_of (map line.Hit ys)
+pub hits-append : (xs ys : List ℕ)
+    → text_of (map line.Hit (xs ++ ys)) ≡ text_of (map line.Hit xs) ++ text_of (map line.Hit ys)
 hits-append xs ys = ap text_of (map-append line.Hit xs ys) ∙ text-append (map line.Hit xs) (map line.Hit ys)
 
 -- hits that are written behind hits
-behind : (out hits more : List ℕ) → (out ++ text_of (map line.Hit hits)) ++ text_of (map line.Hit more) ≡ out ++ text_of (map line.Hit (hits ++ more))
+behind : (out hits more : List ℕ)
+    → (out ++ text_of (map line.Hit hits)) ++ text_of (map line.Hit more) ≡ out ++ text_of (map line.Hit (hits ++ more))
 behind out hits more =
-    append_assoc out (text_of (map line.Hit hits)) (text_of (map line.Hit more)) ∙ ap (λ t. out ++ t) (sym (hits-append hits more))
+    append_assoc out (text_of (map line.Hit hits)) (text_of (map line.Hit more))
+    ∙ ap (λ t. out ++ t) (sym (hits-append hits more))
 
-written_more : (w : Bool) (hits more out out' out'' : List ℕ) → out' ≡ out ++ text_of (map line.Hit hits) → AreWritten w more out' out'' → AreWritten w (hits ++ more) out out''
-written_more true hits more out out' out'' e f = f ∙ (ap (λ t. t ++ text_of (map line.Hit more)) e ∙ behind out hits more)
+written_more : (w : Bool) (hits more out out' out'' : List ℕ) → out' ≡ out ++ text_of (map line.Hit hits)
+    → AreWritten w more out' out'' → AreWritten w (hits ++ more) out out''
+written_more true hits more out out' out'' e f =
+    f ∙ (ap (λ t. t ++ text_of (map line.Hit more)) e ∙ behind out hits more)
 written_more false hits more out out' out'' e p = (
   hits ++ p.0,
   p.1,
@@ -49,16 +56,21 @@ partly false hits out out' p = p
 abbrev fetch : ℕ → List Bool → ℕ → ℕ → Reply → Event × Reply
 fetch slot want from size reply = (events.Fetch slot want from size, reply)
 
-same_fetch : (slot slot' : ℕ) (want want' : List Bool) (from size size' : ℕ) (r : Reply) → slot ≡ slot' → want ≡ want' → size ≡ size'
-    → fetch slot want from size r ≡ fetch slot' want' from size' r
+same_fetch : (slot slot' : ℕ) (want want' : List Bool) (from size size' : ℕ) (r : Reply) → slot ≡ slot' → want ≡ want'
+    → size ≡ size' → fetch slot want from size r ≡ fetch slot' want' from size' r
 same_fetch slot slot' want want' from size size' r a b d = rw (a, b, d) refl
 
+-- pages of a search from its beginning to a place, that want this
+abbrev SearchedTo : SearchTerm → List Bool → Place → Calls → ℕ → List ℕ → Type 0
+SearchedTo begun want place pages tried hits =
+    (t : IsSearched (pattern_of begun.pattern) begun.slot begun.size place pages tried hits) × (t.want ≡ want)
+
 -- before the first page
-pub listing_none : (Made : Calls → Type 0) (s : SearchTerm) (out : List ℕ) → Made [] → s.place ≡ At 0 → IsNeedOf (pattern_of s.pattern) s.want
-    → Listing Made s s 0 0 out true out
+pub listing_none : (Made : Calls → Type 0) (s : SearchTerm) (out : List ℕ) → Made [] → s.place ≡ At 0
+    → IsNeedOf (pattern_of s.pattern) s.want → Listing Made s s 0 0 out true out
 listing_none Made s out m e need =
     let none = searched_none (pattern_of s.pattern) s.want s.slot s.size need in
-    let there = subst (λ (p : Place). (t : IsSearched (pattern_of s.pattern) s.slot s.size p [] 0 []) × (t.want ≡ s.want)) (sym e) none in
+    let there = subst (λ (p : Place). SearchedTo s s.want p [] 0 []) (sym e) none in
     record {
       pages = [];
       hits = [];
@@ -85,7 +97,8 @@ listing_cut Made begun now tried count out out' w l = record {
 }
 
 module _ (First Next All : Calls → Type 0) (joins : (xs ys : Calls) → First xs → Next ys → All (xs ++ ys))
-    (begun now new : SearchTerm) (tried count : ℕ) (out out' out'' : List ℕ) (l : Listing First begun now tried count out true out') where
+    (begun now new : SearchTerm) (tried count : ℕ) (out out' out'' : List ℕ)
+    (l : Listing First begun now tried count out true out') where
   slot_is : now.slot ≡ begun.slot
   slot_is = ap (λ (s : SearchTerm). s.slot) l.moved
 
@@ -103,64 +116,75 @@ module _ (First Next All : Calls → Type 0) (joins : (xs ys : Calls) → First 
     made = subst All (append-nil l.pages) (joins l.pages [] l.made m);
     searched = there.0;
     want = there.1;
-    moved = e ∙ (l.moved ∙ ap (λ (p : Place). let s : SearchTerm = record begun { place = p } in s) (sym (ap (λ (s : SearchTerm). s.place) e)));
+    moved = e ∙ (l.moved ∙ ap (λ (p : Place). moved_to begun p) (sym (ap (λ (s : SearchTerm). s.place) e)));
     length_is = l.length_is;
     written = all w;
   } where
-    there : (t : IsSearched (pattern_of begun.pattern) begun.slot begun.size new.place l.pages tried l.hits) × (t.want ≡ begun.want)
-    there = subst (λ (p : Place). (t : IsSearched (pattern_of begun.pattern) begun.slot begun.size p l.pages tried l.hits) × (t.want ≡ begun.want))
+    there : SearchedTo begun begun.want new.place l.pages tried l.hits
+    there = subst (λ (p : Place). SearchedTo begun begun.want p l.pages tried l.hits)
         (sym (ap (λ (s : SearchTerm). s.place) e)) (l.searched, l.want)
+
     all : (w : Bool) → AreWritten w l.hits out out''
     all true = o ∙ l.written
     all false = (l.hits, [], sym (append-nil l.hits), o ∙ l.written)
 
   -- a page more
-  pub listing_page : (shown : Shown) → IsPage Next now new out' out'' shown → Listing All begun new (tried + shown.tried) (count + shown.hits) out shown.whole out''
+  pub listing_page : (shown : Shown) → IsPage Next now new out' out'' shown
+      → Listing All begun new (tried + shown.tried) (count + shown.hits) out shown.whole out''
   listing_page shown p = record {
     pages = l.pages ++ call ∷ [];
     hits = l.hits ++ p.hits;
     made = joins l.pages (call ∷ []) l.made (subst (λ (c : Event × Reply). Next (c ∷ []))
-        (same_fetch now.slot begun.slot now.want l.searched.want p.from now.size begun.size (replies.Page p.records shown.last) slot_is want_is size_is) p.made);
+        (same_fetch now.slot begun.slot now.want l.searched.want p.from now.size begun.size
+        (replies.Page p.records shown.last) slot_is want_is size_is) p.made);
     searched = there.0;
     want = there.1 ∙ l.want;
-    moved = p.moved ∙ (ap (λ (s : SearchTerm). let t : SearchTerm = record s { place = place_after p.from p.records shown.last } in t) l.moved
-        ∙ ap (λ (q : Place). let s : SearchTerm = record begun { place = q } in s) (sym next));
+    moved = p.moved ∙ (ap (λ (s : SearchTerm). moved_to s (place_after p.from p.records shown.last)) l.moved
+        ∙ ap (λ (q : Place). moved_to begun q) (sym next));
     length_is = omega (arith, length-append l.hits p.hits, l.length_is, p.count);
     written = written_more shown.whole l.hits p.hits out out' out'' l.written p.written;
   } where
     call : Event × Reply
     call = fetch begun.slot l.searched.want p.from begun.size (replies.Page p.records shown.last)
+
     next : new.place ≡ place_after p.from p.records shown.last
     next = ap (λ (s : SearchTerm). s.place) p.moved
-    there : (t : IsSearched (pattern_of begun.pattern) begun.slot begun.size new.place (l.pages ++ call ∷ []) (tried + shown.tried) (l.hits ++ p.hits)) × (t.want ≡ l.searched.want)
-    there = subst (λ (n : ℕ). (t : IsSearched (pattern_of begun.pattern) begun.slot begun.size new.place (l.pages ++ call ∷ []) n (l.hits ++ p.hits)) × (t.want ≡ l.searched.want))
+
+    there : SearchedTo begun l.searched.want new.place (l.pages ++ call ∷ []) (tried + shown.tried) (l.hits ++ p.hits)
+    there = subst (λ (n : ℕ). SearchedTo begun l.searched.want new.place (l.pages ++ call ∷ []) n (l.hits ++ p.hits))
         (ap (λ n. tried + n) (sym p.tried))
-        (searched_page (pattern_of begun.pattern) begun.slot begun.size p.from now.place new.place l.pages tried l.hits p.hits p.records shown.last l.searched p.place
+        (searched_page (pattern_of begun.pattern) begun.slot begun.size p.from now.place new.place l.pages tried l.hits
+        p.hits p.records shown.last l.searched p.place
         (subst (λ (s : SearchTerm). AreMatched (pattern_of s.pattern) p.records p.hits) l.moved p.matched) next)
 
   -- a fetch that found no memory
   pub listing_lost : IsLost Next now new out' out'' → Listing All begun new tried count out false out''
   listing_lost p = by p.by where
-    by : (p.calls ≡ []) ⊎ ((from : ℕ) × (now.place ≡ At from) × (p.calls ≡ (events.Fetch now.slot now.want from now.size, replies.NoMemory) ∷ []))
+    by : (p.calls ≡ []) ⊎ ((from : ℕ) × (now.place ≡ At from)
+        × (p.calls ≡ (events.Fetch now.slot now.want from now.size, replies.NoMemory) ∷ []))
         → Listing All begun new tried count out false out''
     by (inl e) = listing_same (subst Next e p.made) p.same p.unwritten false
     by (inr e) = record {
       pages = l.pages ++ call ∷ [];
       hits = l.hits;
       made = joins l.pages (call ∷ []) l.made (subst (λ (c : Event × Reply). Next (c ∷ []))
-          (same_fetch now.slot begun.slot now.want l.searched.want e.0 now.size begun.size replies.NoMemory slot_is want_is size_is) (subst Next e.2 p.made));
+          (same_fetch now.slot begun.slot now.want l.searched.want e.0 now.size begun.size replies.NoMemory slot_is
+          want_is size_is) (subst Next e.2 p.made));
       searched = there.0;
       want = there.1 ∙ l.want;
-      moved = p.same ∙ (l.moved ∙ ap (λ (q : Place). let s : SearchTerm = record begun { place = q } in s) (sym place_is));
+      moved = p.same ∙ (l.moved ∙ ap (λ (q : Place). moved_to begun q) (sym place_is));
       length_is = l.length_is;
       written = (l.hits, [], sym (append-nil l.hits), p.unwritten ∙ l.written);
     } where
       call : Event × Reply
       call = fetch begun.slot l.searched.want e.0 begun.size replies.NoMemory
+
       place_is : new.place ≡ now.place
       place_is = ap (λ (s : SearchTerm). s.place) p.same
-      there : (t : IsSearched (pattern_of begun.pattern) begun.slot begun.size new.place (l.pages ++ call ∷ []) tried l.hits) × (t.want ≡ l.searched.want)
-      there = subst (λ (q : Place). (t : IsSearched (pattern_of begun.pattern) begun.slot begun.size q (l.pages ++ call ∷ []) tried l.hits) × (t.want ≡ l.searched.want)) (sym place_is)
+
+      there : SearchedTo begun l.searched.want new.place (l.pages ++ call ∷ []) tried l.hits
+      there = subst (λ (q : Place). SearchedTo begun l.searched.want q (l.pages ++ call ∷ []) tried l.hits)
+          (sym place_is)
           (searched_lost (pattern_of begun.pattern) begun.slot begun.size e.0 now.place l.pages tried l.hits l.searched)
 
   -- a step that was shown
@@ -168,20 +192,23 @@ module _ (First Next All : Calls → Type 0) (joins : (xs ys : Calls) → First 
       → Listing All begun new (tried + shown.tried) (count + shown.hits) out shown.whole out''
   listing_shown shown (inl p) = listing_page shown p
   listing_shown shown (inr p) =
-      subst (λ (n : ℕ). Listing All begun new n (count + shown.hits) out shown.whole out'') (omega (arith, p.tried))
-      (subst (λ (n : ℕ). Listing All begun new tried n out shown.whole out'') (omega (arith, p.count))
+      let none_tried : tried ≡ tried + shown.tried = omega (arith, p.tried) in
+      let none_hit : count ≡ count + shown.hits = omega (arith, p.count) in
+      subst (λ (n : ℕ). Listing All begun new n (count + shown.hits) out shown.whole out'') none_tried
+      (subst (λ (n : ℕ). Listing All begun new tried n out shown.whole out'') none_hit
       (listing_same p.made p.same p.unwritten shown.whole))
 
 -- after the last page the search is at its end
-pub at_end : (Made : Calls → Type 0) (old new : SearchTerm) (out out' : List ℕ) (shown : Shown) → IsPage Made old new out out' shown ⊎ IsNoPage Made old new out out' shown
+pub at_end : (Made : Calls → Type 0) (old new : SearchTerm) (out out' : List ℕ) (shown : Shown)
+    → IsPage Made old new out out' shown ⊎ IsNoPage Made old new out out' shown
     → shown.last ≡ true → new.place ≡ End
 at_end Made old new out out' shown (inl p) e =
     ap (λ (s : SearchTerm). s.place) p.moved ∙ ap (λ (b : Bool). place_after p.from p.records b) e
 at_end Made old new out out' shown (inr p) e = ap (λ (s : SearchTerm). s.place) p.same ∙ p.place
 
 -- what a page says of its search
-pub page_kept : (Made : Calls → Type 0) (old new : SearchTerm) (out out' : List ℕ) (r : Result Shown SearchFault) → Pages Made old new out out' r
-    → (place : Place) × (new ≡ record old { place = place })
+pub page_kept : (Made : Calls → Type 0) (old new : SearchTerm) (out out' : List ℕ) (r : Result Shown SearchFault)
+    → Pages Made old new out out' r → (place : Place) × (new ≡ record old { place = place })
 page_kept Made old new out out' (Ok shown) (inl p) = (place_after p.from p.records shown.last, p.moved)
 page_kept Made old new out out' (Ok shown) (inr p) = (old.place, p.same)
 page_kept Made old new out out' (Err faults.NoMemory) p = (old.place, p.same)
@@ -195,13 +222,15 @@ or_true false e = e
 -- a search that is listed no further
 pub listed_done : (Made : Calls → Type 0) (old new : Walk) (out out' : List ℕ) (shown : Shown) (tried count : ℕ)
     → Listing Made old.search new.search tried count out shown.whole out' → new.tried ≡ tried → new.hits ≡ count
-    → (shown.last || not shown.whole) ≡ true → (shown.last ≡ true → new.search.place ≡ End) → Listed Made old new out out' (Ok shown.whole)
+    → true ≡ (shown.last || not shown.whole) → (shown.last ≡ true → new.search.place ≡ End)
+    → Listed Made old new out out' (Ok shown.whole)
 listed_done Made old new out out' shown tried count l t h e end = by shown.whole refl where
   by : (w : Bool) → shown.whole ≡ w → Listed Made old new out out' (Ok w)
   by true q = (
-    subst (λ (n : ℕ). Listing Made old.search new.search n new.hits out true out') (sym t) (subst (λ (n : ℕ). Listing Made old.search new.search tried n out true out') (sym h)
+    subst (λ (n : ℕ). Listing Made old.search new.search n new.hits out true out') (sym t)
+        (subst (λ (n : ℕ). Listing Made old.search new.search tried n out true out') (sym h)
         (subst (λ (b : Bool). Listing Made old.search new.search tried count out b out') q l)),
-    end (or_true shown.last (subst (λ (b : Bool). (shown.last || not b) ≡ true) q e)),
+    end (or_true shown.last (subst (λ (b : Bool). (shown.last || not b) ≡ true) q (sym e))),
   )
   by false q = (tried, count, subst (λ (b : Bool). Listing Made old.search new.search tried count out b out') q l)
 
@@ -213,9 +242,11 @@ whole_on true b e = absurd (apart e) where
   apart e = cc
 
 -- a search that is listed on
-pub listed_on : (Made : Calls → Type 0) (begun new : SearchTerm) (out out' : List ℕ) (shown : Shown) (tried count tried' count' : ℕ)
-    → Listing Made begun new tried count out shown.whole out' → tried' ≡ tried → count' ≡ count → (shown.last || not shown.whole) ≡ false
-    → Listing Made begun new tried' count' out true out'
+pub listed_on : (Made : Calls → Type 0) (begun new : SearchTerm) (out out' : List ℕ) (shown : Shown)
+    (tried count tried' count' : ℕ)
+    → Listing Made begun new tried count out shown.whole out' → tried' ≡ tried → count' ≡ count
+    → false ≡ (shown.last || not shown.whole) → Listing Made begun new tried' count' out true out'
 listed_on Made begun new out out' shown tried count tried' count' l t h e =
-    subst (λ (n : ℕ). Listing Made begun new n count' out true out') (sym t) (subst (λ (n : ℕ). Listing Made begun new tried n out true out') (sym h)
-    (subst (λ (b : Bool). Listing Made begun new tried count out b out') (whole_on shown.last shown.whole e) l))
+    subst (λ (n : ℕ). Listing Made begun new n count' out true out') (sym t)
+    (subst (λ (n : ℕ). Listing Made begun new tried n out true out') (sym h)
+    (subst (λ (b : Bool). Listing Made begun new tried count out b out') (whole_on shown.last shown.whole (sym e)) l))

@@ -4,7 +4,9 @@ use Rattle.par_search.specs.Searches.{SearchTerm, place_after}
 use Rattle.par_search.specs.declared.fault.SearchFault.{SearchFault}
 use Rattle.par_search.specs.declared.fault.SearchFault.TheVariants as faults
 use Rattle.shell_lang.specs.Reply as line
-use Rattle.shell_lang.specs.Reply.{text_of}
+use Rattle.shell_lang.specs.Reply.{reply_line, reply_of, text_of}
+use Rattle.shell_lang.specs.declared.reply.Refusal.TheVariants as refusals
+use Rattle.shell_lang.specs.declared.reply.Reply as written
 use Rattle.smarts_parse.specs.Pattern.{pattern_of}
 use Rattle.store_machine.specs.Answers.{AreMatched}
 use Rattle.store_machine.specs.Searches.{Place, At, End}
@@ -12,11 +14,14 @@ use Rattle.store_machine.specs.Structures.{IsNeedOf}
 use Rattle.store_machine.specs.declared.machine.Event.TheVariants as events
 use Rattle.store_machine.specs.declared.machine.Found.{Found}
 use Rattle.store_machine.specs.declared.machine.Reply.TheVariants as replies
-use Rattle.session_run.specs.Answer.{Advances, FindsNoMemory, Lines}
+use Rattle.session_run.specs.Answer.{Advances, FindsNoMemory, Lines, page_end}
 use Rattle.session_run.specs.Cursors.{Calls, Cursor, IsSearched}
+use Rattle.session_run.specs.Made.{Tells}
 use Rattle.session_run.specs.declared.cursors.Cursor as rust
 use Rattle.session_run.specs.declared.listing.Shown.{Shown}
 use Rattle.session_run.specs.declared.listing.Walk.{Walk}
+use Rattle.session_run.specs.declared.stop.Stop.{Stop}
+use Rattle.session_run.specs.declared.stop.Stop.TheVariants as stops
 use Rattle.session_run.specs.declared.stop.Worn.{Worn}
 
 -- some of the hits, from the first on, were written behind a text
@@ -99,6 +104,33 @@ AreSized size (c ∷ cs) = (c.walk.search.size ≡ size) × AreSized size cs
 -- an answer to `next` by its cursor
 abbrev pub CursorAnswer : ℕ → Cursor → Calls → Lines → Cursor → Type 0
 CursorAnswer size c calls lines c' = (FindsNoMemory calls lines × (c' ≡ c)) ⊎ Advances size c.place c calls lines c'
+
+-- the line behind a page was written, or why it was not
+abbrev pub EndsPage : Cursor → Result Shown SearchFault → List ℕ → List ℕ → Result (Unit {0}) Stop → Type 0
+EndsPage c (Ok shown) out out' (Ok _) = (shown.whole ≡ true) × (out' ≡ out ++ reply_line (page_end shown.last c))
+EndsPage c (Ok shown) out out' (Err stops.NoMemory) = Unit {0}
+EndsPage c (Ok shown) out out' (Err stops.Worn) = ⊥
+EndsPage c (Err faults.NoMemory) out out' result = Tells line.MemoryFault out out' result
+EndsPage c (Err faults.Pins) out out' result = Tells line.MemoryFault out out' result
+EndsPage c (Err faults.Worn) out out' result = result ≡ Err stops.Worn
+
+-- a line that is given, or none since the service is worn
+abbrev pub GivesLine : line.Reply → Result written.Reply Worn → Type 0
+GivesLine said (Ok reply) = reply_of reply ≡ said
+GivesLine said (Err _) = ⊥
+
+abbrev pub GivesNone : Result written.Reply Worn → Type 0
+GivesNone (Ok reply) = ⊥
+GivesNone (Err _) = Unit {0}
+
+-- a cursor of this name was added for a search that began, or why none was
+abbrev pub Adds : List ℕ → Result Walk SearchFault → List rust.Cursor → List rust.Cursor → Result written.Reply Worn → Type 0
+Adds name (Ok walk) items items' result =
+    (c : rust.Cursor) × (c.name.items ≡ name) × (c.walk ≡ walk) × (items' ≡ items ++ c ∷ [])
+    × GivesLine (line.Opened walk.search.version) result
+Adds name (Err faults.Pins) items items' result = (items' ≡ items) × GivesLine (line.Refused refusals.Pins) result
+Adds name (Err faults.NoMemory) items items' result = (items' ≡ items) × GivesLine line.MemoryFault result
+Adds name (Err faults.Worn) items items' result = (items' ≡ items) × GivesNone result
 
 -- pages from the beginning on, by these calls. All their hits were written, or some
 pub record Listing (Made : Calls → Type 0) (begun now : SearchTerm) (tried count : ℕ) (out : List ℕ) (whole : Bool) (out' : List ℕ) : Type 0 where

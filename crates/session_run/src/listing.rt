@@ -31,8 +31,8 @@ pub struct Walk {
     pub hits: u64,
 }
 
-/// What a page gave: how many identifiers were tried and how many are hits, whether no page follows, and whether all hits
-/// were written.
+/// What a page gave: how many identifiers were tried and how many are hits, whether no page follows, and whether all
+/// hits were written.
 #[derive(Clone, Copy, Debug, PartialEq, Eq)]
 pub struct Shown {
     pub tried: u32,
@@ -68,9 +68,10 @@ impl Walk {
         ensures bounds { NotRaised (S.bounds service.old) (S.bounds service.new) }
     {
         let is_over = self.tried > MOST_TRIED || self.hits > MOST_TRIED;
-        if is_over || out.reserve(ROOM).is_err() {
+        if is_over {
             return Err(SearchFault::NoMemory);
         }
+        out.reserve(ROOM)?;
         let shown = list_page(&mut self.search, rt, service, meter, out)?;
         self.tried += u64::from(shown.tried);
         self.hits += u64::from(shown.hits);
@@ -104,7 +105,8 @@ impl Walk {
                     }
                 }
                 Err(SearchFault::Worn) => return Err(Worn),
-                Err(SearchFault::NoMemory) | Err(SearchFault::Pins) => return Ok(false),
+                Err(SearchFault::NoMemory) => return Ok(false),
+                Err(SearchFault::Pins) => return Ok(false),
             }
         }
         Ok(false)
@@ -112,7 +114,8 @@ impl Walk {
 
     /// The line at the search's end. `None`: a count has no line.
     pub fn end(&self) -> Option<Reply>
-        ensures { IfSome result (λ reply. reply_of reply ≡ line.End self.now.search.version self.now.tried self.now.hits) }
+        ensures { IfSome result
+            (λ reply. reply_of reply ≡ line.End self.now.search.version self.now.tried self.now.hits) }
     {
         let tried = u32::try_from(self.tried).ok()?;
         let hits = u32::try_from(self.hits).ok()?;

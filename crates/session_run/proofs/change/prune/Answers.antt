@@ -5,4 +5,5 @@ use Rattle.session_run.proofs.change.prune.Goals as goal
 
 pub returns-in-Ok-clause-call : goal.returns-in-Ok-clause-call
 returns-in-Ok-clause-call g c =
-    ((events.Prune, replies.Pruned c.in-Ok.count) ∷ [], record { made = c.in-Ok.ensures.call }, inr (replies.Pruned c.in-Ok.count, _, refl, refl, refl))
+    let reply = replies.Pruned c.in-Ok.count in
+    ((events.Prune, reply) ∷ [], record { made = c.in-Ok.ensures.call }, inr (reply, _, refl, refl, refl))

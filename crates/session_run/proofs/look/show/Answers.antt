@@ -17,11 +17,12 @@ returns-in-Ok-Absent-clause-call g c = (
 pub returns-in-Ok-Live-clause-call : goal.returns-in-Ok-Live-clause-call
 returns-in-Ok-Live-clause-call g c =
     let r = arc_value c.in-Ok-Live.entry in
-    let state = status.Live c.in-Ok-Live.version r.format r.text in
+    let version = c.in-Ok-Live.version in
+    let state = status.Live version r.format r.text in
     let same = rw c.in-Ok-Live.field-0-is at c.in-Ok-Live.ensures.entry in (
       (events.Look c.args.id, replies.Looked (Some state)) ∷ [],
       record { made = rw c.in-Ok-Live.field-0-is at c.in-Ok-Live.ensures.call },
-      inr (replies.Looked (Some state), _, refl, inl (ap (λ (n : ℕ). line.Shown n c.in-Ok-Live.version r.format r.text) same), refl),
+      inr (replies.Looked (Some state), _, refl, inl (ap (λ (n : ℕ). line.Shown n version r.format r.text) same), refl),
     )
 
 pub returns-in-Ok-Withdrawn-clause-call : goal.returns-in-Ok-Withdrawn-clause-call
