@@ -32,7 +32,8 @@ pub record ReadsOn (before after : Option (List ℕ)) (faults faults' : ℕ) (ol
   pub got : List ℕ
   pub leaves : Leaves before got after
   pub counts : Counts old got new
-  pub met : (l l' : List ℕ) → before ≡ Some l → after ≡ Some l' → (IsTrue old.ended → l ≡ []) → IsTrue new.ended → l' ≡ []
+  pub met : (l l' : List ℕ) → before ≡ Some l → after ≡ Some l' → (IsTrue old.ended → l ≡ []) → IsTrue new.ended
+      → l' ≡ []
   pub progress : done_bytes old ≤ done_bytes new
   pub count : faults ≤ faults'
 

@@ -9,14 +9,14 @@ use Rattle.session_run.proofs.Scripts.{fresh}
 use Rattle.session_run.proofs.run.session.Goals as goal
 
 pub serve_to_end-requires-clause-fit : goal.serve_to_end-requires-clause-fit
-serve_to_end-requires-clause-fit g c _ =
+serve_to_end-requires-clause-fit g c _ _ =
     let r = c.in-Ok-new.responder in
     let made = c.in-Ok-new.ensures in
     fit_new c.args.settings.now r c.requires.some_workers c.requires.few_workers c.requires.some c.requires.few
     made.settings made.size made.none
 
 pub serve_to_end-requires-clause-fresh : goal.serve_to_end-requires-clause-fresh
-serve_to_end-requires-clause-fresh g c _ = fresh c.in-Ok.lines c.args.settings.now.input_limit c.in-Ok.ensures
+serve_to_end-requires-clause-fresh g c _ _ = fresh c.in-Ok.lines c.args.settings.now.input_limit c.in-Ok.ensures
 
 pub returns-in_default-clause-serves : goal.returns-in_default-clause-serves
 returns-in_default-clause-serves g c = (

@@ -55,12 +55,13 @@ returns-in-Err-TooLong-clause-too_long g c = λ e.
     c.in-Err-TooLong.ensures.too_long (ap Err c.in-Err-TooLong.field-0-is)
 
 pub answer_and_put-requires-clause-ready : goal.answer_and_put-requires-clause-ready
-answer_and_put-requires-clause-ready g c _ = record { fit = c.requires.fit; held = c.requires.held }
+answer_and_put-requires-clause-ready g c _ _ = record { fit = c.requires.fit; held = c.requires.held }
 
 pub answer_and_put-requires-clause-request : goal.answer_and_put-requires-clause-request
-answer_and_put-requires-clause-request g c _ =
+answer_and_put-requires-clause-request g c _ _ =
     let t = takes_request c.in-Ok.next c.args.lines.now c.next_request.new.lines (g.I.Source.left c.args.source.now)
-    (g.I.Source.left c.next_request.new.source) c.next_request.new.text.items c.in_default.not-End c.in-Ok.ensures.takes in
+    (g.I.Source.left c.next_request.new.source) c.next_request.new.text.items c.in_default.not-End
+    c.in-Ok.ensures.takes in
     (t.0, rw c.text.ensures t.2)
 
 pub returns-in_default-clause-turns : goal.returns-in_default-clause-turns
@@ -89,11 +90,13 @@ returns-in_default-clause-progress g c = λ e. c.in-Ok.ensures.progress c.in_def
 pub returns-in_default-clause-source_fault : goal.returns-in_default-clause-source_fault
 returns-in_default-clause-source_fault g c = λ e.
     let t = takes_request c.in-Ok.next c.args.lines.now c.next_request.new.lines (g.I.Source.left c.args.source.now)
-    (g.I.Source.left c.next_request.new.source) c.next_request.new.text.items c.in_default.not-End c.in-Ok.ensures.takes in
+    (g.I.Source.left c.next_request.new.source) c.next_request.new.text.items c.in_default.not-End
+    c.in-Ok.ensures.takes in
     absurd (rw e at (c.answer_and_put.ensures.replies t.0 (rw c.text.ensures t.2)))
 
 pub returns-in_default-clause-too_long : goal.returns-in_default-clause-too_long
 returns-in_default-clause-too_long g c = λ e.
     let t = takes_request c.in-Ok.next c.args.lines.now c.next_request.new.lines (g.I.Source.left c.args.source.now)
-    (g.I.Source.left c.next_request.new.source) c.next_request.new.text.items c.in_default.not-End c.in-Ok.ensures.takes in
+    (g.I.Source.left c.next_request.new.source) c.next_request.new.text.items c.in_default.not-End
+    c.in-Ok.ensures.takes in
     absurd (rw e at (c.answer_and_put.ensures.replies t.0 (rw c.text.ensures t.2)))

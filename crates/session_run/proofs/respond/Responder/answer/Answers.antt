@@ -13,12 +13,12 @@ use Rattle.session_run.proofs.Responses.{behind_nothing, line_request, molfile_r
 use Rattle.session_run.proofs.respond.Responder.answer.Goals as goal
 
 pub answer_line-requires-clause-line : goal.answer_line-requires-clause-line
-answer_line-requires-clause-line g c _ =
+answer_line-requires-clause-line g c _ _ =
     let is = rw c.in-Line.is at c.requires.request.1 in
     is.1
 
 pub answer_line-requires-clause-ready : goal.answer_line-requires-clause-ready
-answer_line-requires-clause-ready g c _ = record { fit = c.requires.ready.fit; held = c.requires.ready.held }
+answer_line-requires-clause-ready g c _ _ = record { fit = c.requires.ready.fit; held = c.requires.ready.held }
 
 pub answer_molfile-requires-clause-line : goal.answer_molfile-requires-clause-line
 answer_molfile-requires-clause-line g c =
