@@ -33,11 +33,7 @@ pub fn serve_bulk<R: Threads + Sync, S: Drop, K: Sink + Drop>(
 }
 
 // The summary of a transcript of the generated script.
-fn summed<R: Threads + Sync>(
-    rt: &R,
-    alloc: Global,
-    plan: &Plan<'_>,
-) -> Result<Vec<u8>, AllocError>
+fn summed<R: Threads + Sync>(rt: &R, alloc: Global, plan: &Plan<'_>) -> Result<Vec<u8>, AllocError>
     requires { IsWithinLimits plan.now }
     ensures { IfOk result (λ text. IsSummary plan.now text.items) }
 {
@@ -52,8 +48,7 @@ fn summed<R: Threads + Sync>(
 }
 
 // Puts a text, and answers the status of its end.
-fn put<K: Sink>(text: &[u8], sink: &mut K) -> u8
-{
+fn put<K: Sink>(text: &[u8], sink: &mut K) -> u8 {
     match sink.put(text) {
         Ok(()) => DONE,
         Err(PutFault::Failed) => SINK_FAULT,

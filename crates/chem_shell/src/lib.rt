@@ -11,6 +11,5 @@ mod request;
 pub mod top;
 mod words;
 
-
 pub use request::{Plan, PlanFault, Verb};
 pub use words::{plan, word_fault};

@@ -64,10 +64,11 @@ where
         texts.push(word.as_str())?;
     }
     let status = serve(rt, alloc, &texts)?;
-    if status == top::USAGE
-        && let Some(reason) = word_fault(alloc, &texts)?
-    {
-        explain(rt, reason.as_str());
+    if status == top::USAGE {
+        match word_fault(alloc, &texts) {
+            Ok(Some(reason)) => explain(rt, reason.as_str()),
+            _ => explain(rt, "the words ask for nothing"),
+        }
     }
     Ok(status)
 }
