@@ -1,5 +1,6 @@
 -- For callers: what the words of the command line ask for.
-use Rattle.std.specs.Prelude.{◌≡◌, ◌⊎◌, ◌≤◌, ℕ, List, [], ◌∷◌, Bor, map, Option, Some, None, true, codes, decimal}
+use Rattle.std.specs.Prelude.{◌≡◌, ◌⊎◌, ◌≤◌, ℕ, List, [], ◌∷◌, map, option_map, Option, Some, None, true, codes, decimal}
+use Rattle.std.specs.Borrow.{Bor}
 use Rattle.clap.specs.Lexer.{usize_max}
 use Rattle.clap.specs.Simple.{new_shape}
 use Rattle.clap.specs.Words.{App, Row, Rule, Text, all_of, fault_of, first_of, matches_of, new_rule}
@@ -12,6 +13,10 @@ use Rattle.chem_shell.specs.declared.words.TheConstants.{LAST_SEED, MOST_STRUCTU
 -- the bytes of words
 abbrev pub texts : List (Bor Text) → List Text
 texts words = map (λ word. word.now) words
+
+-- the bytes of the values of an argument, where it has an entry
+abbrev pub args_of : Option (Bor (List (Bor Text))) → Option (List Text)
+args_of args = option_map (λ words. texts words.now) args
 
 -- the positional that must be given: the word of the command
 abbrev pub command_rule : Rule
@@ -46,11 +51,15 @@ abbrev pub IsSetting : Option Text → ℕ → ℕ → ℕ → Type 0
 IsSetting None most default n = n ≡ default
 IsSetting (Some word) most default n = IsNumber word 1 most n
 
--- `mem`: no args, 1 to 16 workers, pages of 1 to 256 records, 1 to 16,777,215 commits, one end
+-- 1 to 16 workers, pages of 1 to 256 records
+pub record AreSizes (found : List Row) (workers page : ℕ) : Type 0 where
+  pub workers : IsSetting (first_of (codes "workers") found) 16 1 workers
+  pub page : IsSetting (first_of (codes "page") found) 256 256 page
+
+-- `mem`: no args, 1 to 16,777,215 commits, one end
 pub record IsMem (found : List Row) (plan : Plan) : Type 0 where
   pub args : all_of (codes "args") found ≡ None
-  pub workers : IsSetting (first_of (codes "workers") found) 16 1 plan.workers
-  pub page : IsSetting (first_of (codes "page") found) 256 256 plan.page
+  pub sizes : AreSizes found plan.workers plan.page
   pub commits : IsSetting (first_of (codes "commits") found) MOST_COMMITS MOST_COMMITS plan.commits
   pub command : plan.command ≡ Mem
   pub ends : plan.ends ≡ 1
@@ -67,11 +76,10 @@ pub record AreSeedAndCount (args : Option (List Text)) (seed count : ℕ) : Type
   pub seed : IsNumber seed_word 1 LAST_SEED seed
   pub count : IsNumber count_word 0 MOST_STRUCTURES count
 
--- `bulk`: a seed and a count, workers and pages as for `mem`, no other option, the most commits of all, one end
+-- `bulk`: a seed and a count, no limit on commits but that of every store, one end
 pub record IsBulk (found : List Row) (plan : Plan) : Type 0 where
   pub args : AreSeedAndCount (all_of (codes "args") found) plan.seed plan.count
-  pub workers : IsSetting (first_of (codes "workers") found) 16 1 plan.workers
-  pub page : IsSetting (first_of (codes "page") found) 256 256 plan.page
+  pub sizes : AreSizes found plan.workers plan.page
   pub none : first_of (codes "commits") found ≡ None
   pub commits : plan.commits ≡ MOST_COMMITS
   pub command : plan.command ≡ Bulk

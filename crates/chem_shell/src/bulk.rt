@@ -1,6 +1,7 @@
 //! `bulk`: the summary of a generated script's transcript.
 ghost use Rattle.std.specs.Prelude.{IfOk};
 ghost use Rattle.chem_shell.specs.Ends.{ServesBulk};
+ghost use Rattle.chem_shell.specs.Serving.{Puts};
 ghost use Rattle.chem_shell.specs.Summed.{IsSummary};
 ghost use Rattle.chem_shell.specs.Words.{IsWithinLimits};
 
@@ -48,7 +49,9 @@ fn summed<R: Threads + Sync>(rt: &R, alloc: Global, plan: &Plan<'_>) -> Result<V
 }
 
 // Puts a text, and answers the status of its end.
-fn put<K: Sink>(text: &[u8], sink: &mut K) -> u8 {
+fn put<K: Sink>(text: &[u8], sink: &mut K) -> u8
+    ensures { Puts text.now (K.written sink.old) (K.written sink.new) (K.faults sink.old) (K.faults sink.new) result }
+{
     match sink.put(text) {
         Ok(()) => DONE,
         Err(PutFault::Failed) => SINK_FAULT,

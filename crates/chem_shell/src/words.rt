@@ -1,8 +1,8 @@
 //! The words of the command line: what they ask for, or which of them is wrong.
-ghost use Rattle.std.specs.Prelude.{◌≡◌, ◌≢◌, ◌≤◌, ◌⊎◌, ℕ, [], None, Some, ◌∷◌, false, map, option_map, IfErr, IfOk, IfSome, IsErr, IsErrOf, IsNone, IsSome, OnErr};
-ghost use Rattle.clap.specs.Words.{app_of, fault_of, found_of, kind_of, matches_of, rows_of, rule_of};
+ghost use Rattle.std.specs.Prelude.{◌≡◌, ◌≢◌, ◌≤◌, ◌⊎◌, ℕ, [], None, Some, ◌∷◌, false, map, option_map, IfErr, IfOk, IsErrOf, IsNone, IsSome, OnErr, OnOk};
+ghost use Rattle.clap.specs.Words.{Text, app_of, fault_of, found_of, kind_of, matches_of, rows_of, rule_of};
 ghost use Rattle.chem_shell.specs.declared.request.Plan.{Plan as ThePlan};
-ghost use Rattle.chem_shell.specs.Words.{chemdb_app, option_rule, texts, Asks, AsksFor, IsBulk, IsMem, IsNumber, IsSetting};
+ghost use Rattle.chem_shell.specs.Words.{args_of, chemdb_app, option_rule, texts, AreSizes, Asks, AsksFor, IsBulk, IsMem, IsNumber, IsSetting};
 
 use crate::fault::WordFault;
 use crate::request::{Plan, PlanFault, Verb};
@@ -120,8 +120,7 @@ fn mem<'w>(alloc: Global, found: &ArgMatches<'w>) -> Result<Plan<'w>, WordFault<
     ensures err { OnErr result ((plan : ThePlan) → ¬ IsMem (rows_of (found_of found.now)) plan) }
 {
     no_args(found.get_raw("args"))?;
-    let workers = setting("--workers", found.get_str("workers"), 16, 1)?;
-    let page = setting("--page", found.get_str("page"), 256, 256)?;
+    let (workers, page) = sizes(found)?;
     let commits = setting(
         "--commits",
         found.get_str("commits"),
@@ -146,11 +145,10 @@ fn bulk<'w>(alloc: Global, found: &ArgMatches<'w>) -> Result<Plan<'w>, WordFault
     ensures ok { IfOk result (IsBulk (rows_of (found_of found.now))) }
     ensures err { OnErr result ((plan : ThePlan) → ¬ IsBulk (rows_of (found_of found.now)) plan) }
 {
-    let (seed, count) = seed_and_count(found.get_raw("args"))?;
+    let (seed, count) = two_words(found.get_raw("args"))?;
     let seed = number("SEED", seed, 1, LAST_SEED)?;
     let count = number("COUNT", count, 0, MOST_STRUCTURES)?;
-    let workers = setting("--workers", found.get_str("workers"), 16, 1)?;
-    let page = setting("--page", found.get_str("page"), 256, 256)?;
+    let (workers, page) = sizes(found)?;
     if found.get_str("commits").is_some() {
         return Err(WordFault::Option {
             command: "bulk",
@@ -170,10 +168,20 @@ fn bulk<'w>(alloc: Global, found: &ArgMatches<'w>) -> Result<Plan<'w>, WordFault
     })
 }
 
+// How many workers, and how many records in a page.
+fn sizes<'w>(found: &ArgMatches<'w>) -> Result<(u32, u32), WordFault<'w>>
+    ensures ok { IfOk result (λ sizes. AreSizes (rows_of (found_of found.now)) sizes.0 sizes.1) }
+    ensures err { OnErr result ((workers page : ℕ) → ¬ AreSizes (rows_of (found_of found.now)) workers page) }
+{
+    let workers = setting("--workers", found.get_str("workers"), 16, 1)?;
+    let page = setting("--page", found.get_str("page"), 256, 256)?;
+    Ok((workers, page))
+}
+
 // `mem` takes no words.
 fn no_args<'w>(args: Option<&[&'w str]>) -> Result<(), WordFault<'w>>
-    ensures ok { IfOk result (λ _. IsNone args.entry) }
-    ensures err { IsErr result → IsSome args.entry }
+    ensures ok { OnOk result (args.entry ≡ None) }
+    ensures err { OnErr result (args.entry ≢ None) }
 {
     match args {
         None => Ok(()),
@@ -185,7 +193,10 @@ fn no_args<'w>(args: Option<&[&'w str]>) -> Result<(), WordFault<'w>>
 }
 
 // The two words of `bulk`.
-fn seed_and_count<'w>(args: Option<&[&'w str]>) -> Result<(&'w str, &'w str), WordFault<'w>> {
+fn two_words<'w>(args: Option<&[&'w str]>) -> Result<(&'w str, &'w str), WordFault<'w>>
+    ensures ok { IfOk result (λ words. args_of args.entry ≡ Some (words.0.now ∷ words.1.now ∷ [])) }
+    ensures err { OnErr result ((first second : Text) → args_of args.entry ≢ Some (first ∷ second ∷ [])) }
+{
     match args {
         Some([seed, count]) => Ok((*seed, *count)),
         Some([_, _, word, ..]) => Err(WordFault::Surplus {
