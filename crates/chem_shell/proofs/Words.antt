@@ -1,12 +1,12 @@
 -- Options, numbers and plans, in other words.
-use Rattle.std.proofs.Common.{◌≡◌, ◌≢◌, ◌<◌, ◌≤◌, ◌^◌, ◌∙◌, ℕ, List, [], ◌∷◌, Option, Some, None, is_some, false, refl, sym, ap, inl, inr, arith, codes, decimal, option_map, get_or}
+use Rattle.std.proofs.Common.{◌≡◌, ◌≢◌, ◌<◌, ◌≤◌, ◌^◌, ◌∙◌, ℕ, List, [], ◌∷◌, Option, Some, None, is_some, false, refl, sym, ap, subst, inl, inr, arith, codes, decimal, option_map, get_or}
 use Rattle.std.specs.Prelude.{unwrap_or}
 use Rattle.std.proofs.lemmas.Fmt.{decimal_injective}
-use Rattle.clap.specs.Words.{Row, Text, first_of, matches_of}
+use Rattle.clap.specs.Words.{Row, Text, fault_of, first_of, matches_of}
 use Rattle.store_core.specs.declared.store.TheConstants.{MOST_COMMITS}
 use Rattle.chem_shell.specs.declared.request.Plan.{Plan}
 use Rattle.chem_shell.specs.declared.words.TheConstants.{LAST_SEED, MOST_STRUCTURES}
-use Rattle.chem_shell.specs.Words.{AsksFor, IsBulk, IsMem, IsNumber, IsRow, IsSetting, IsWithinLimits, chemdb_app}
+use Rattle.chem_shell.specs.Words.{Asks, AsksFor, IsBulk, IsMem, IsNumber, IsRow, IsSetting, IsWithinLimits, chemdb_app}
 
 pub none_of_image : {X Y : Type 0} (f : X → Y) (o : Option X) (v : Option Y) → option_map f o ≡ v → v ≡ None → is_some o ≡ false
 none_of_image f None v same none = refl
@@ -123,3 +123,43 @@ one_row command found p q (inr a) (inr b) = one_bulk found p q a.1 b.1
 -- words ask for one thing
 pub one_plan : (words : List Text) (p q : Plan) → AsksFor words p → AsksFor words q → SamePlan p q
 one_plan words p q a b = one_row (first_of (codes "command") (matches_of chemdb_app words)) (matches_of chemdb_app words) p q a.row b.row
+
+-- what the words ask for, and why they ask for nothing, by what `clap` found
+pub asks_mem : (words : List Text) (rows : List Row) (p : Plan) → fault_of chemdb_app words ≡ [] → rows ≡ matches_of chemdb_app words
+    → first_of (codes "command") rows ≡ Some (codes "mem") → IsMem rows p → AsksFor words p
+asks_mem words rows p taken is command row = record {
+  taken = taken;
+  row = inl (ap (first_of (codes "command")) (sym is) ∙ command, subst (λ found. IsMem found p) is row);
+}
+
+pub asks_bulk : (words : List Text) (rows : List Row) (p : Plan) → fault_of chemdb_app words ≡ [] → rows ≡ matches_of chemdb_app words
+    → first_of (codes "command") rows ≡ Some (codes "bulk") → IsBulk rows p → AsksFor words p
+asks_bulk words rows p taken is command row = record {
+  taken = taken;
+  row = inr (ap (first_of (codes "command")) (sym is) ∙ command, subst (λ found. IsBulk found p) is row);
+}
+
+no_row : (words : List Text) (rows : List Row) → rows ≡ matches_of chemdb_app words
+    → ((p : Plan) → IsRow (first_of (codes "command") rows) rows p → ⊥) → ¬ Asks words
+no_row words rows is none asks = none asks.0 (subst (λ found. IsRow (first_of (codes "command") found) found asks.0) (sym is) asks.1.row)
+
+pub no_mem : (words : List Text) (rows : List Row) → rows ≡ matches_of chemdb_app words → first_of (codes "command") rows ≡ Some (codes "mem")
+    → ((p : Plan) → ¬ IsMem rows p) → ¬ Asks words
+no_mem words rows is command none = no_row words rows is (λ p row. elim row [
+  | inl a ↦ none p a.1
+  | inr a ↦ two_commands (first_of (codes "command") rows) command a.0
+])
+
+pub no_bulk : (words : List Text) (rows : List Row) → rows ≡ matches_of chemdb_app words → first_of (codes "command") rows ≡ Some (codes "bulk")
+    → ((p : Plan) → ¬ IsBulk rows p) → ¬ Asks words
+no_bulk words rows is command none = no_row words rows is (λ p row. elim row [
+  | inl a ↦ two_commands (first_of (codes "command") rows) a.0 command
+  | inr a ↦ none p a.1
+])
+
+pub no_command : (words : List Text) (rows : List Row) → rows ≡ matches_of chemdb_app words
+    → first_of (codes "command") rows ≢ Some (codes "mem") → first_of (codes "command") rows ≢ Some (codes "bulk") → ¬ Asks words
+no_command words rows is mem bulk = no_row words rows is (λ p row. elim row [
+  | inl a ↦ mem a.0
+  | inr a ↦ bulk a.0
+])
