@@ -26,7 +26,7 @@ whole_begins page lines calls text t = (
     answered = t.4;
     last = inl (refl, refl, refl);
   },
-  t.5
+  t.5,
 )
 
 nothing_begins : (page : ℕ) (lines : List TextLine) → script.IsTranscriptPrefix page lines [] []
@@ -43,7 +43,7 @@ nothing_begins page lines = (
     answered = (refl, refl, refl);
     last = inl (refl, refl, refl);
   },
-  refl
+  refl,
 )
 
 -- a session that is not worn put a prefix

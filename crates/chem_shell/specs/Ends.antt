@@ -1,4 +1,5 @@
--- The ends that are served. What a source has left and a sink was given, and their counts of faults, are told by functions.
+-- The ends that are served. What a source has left and a sink was given, and their counts of faults, are told by
+-- functions.
 use Rattle.std.specs.Prelude.{◌≡◌, ℕ, Option, List}
 use Rattle.io_edge.specs.Faults.{Rose}
 use Rattle.session_run.specs.Served.{TakesExactly, Writes}
@@ -16,7 +17,8 @@ abbrev pub with_status : {S K : Type 0} → ℕ → End S K → End S K
 with_status status end = record end { status = status }
 
 -- what `mem` leaves of an end
-pub record ServesMem {S K : Type 0} (plan : Plan) (left : S → Option (List ℕ)) (source_faults : S → ℕ) (written : K → Option (List ℕ)) (sink_faults : K → ℕ) (old new : End S K) : Type 0 where
+pub record ServesMem {S K : Type 0} (plan : Plan) (left : S → Option (List ℕ)) (source_faults : S → ℕ)
+    (written : K → Option (List ℕ)) (sink_faults : K → ℕ) (old new : End S K) : Type 0 where
   pub status : IsEndStatus new.status
   pub prefix : WritesPrefix plan.commits plan.page (left old.source) (written old.sink) (written new.sink)
   pub all : new.status ≡ DONE → WritesAll plan.commits plan.page (left old.source) (written old.sink) (written new.sink)
@@ -25,7 +27,8 @@ pub record ServesMem {S K : Type 0} (plan : Plan) (left : S → Option (List ℕ
   pub input_too_long : new.status ≡ INPUT_TOO_LONG → TakesExactly (left old.source) (left new.source) INPUT_LIMIT
 
 -- what `bulk` leaves of an end
-pub record ServesBulk {S K : Type 0} (plan : Plan) (written : K → Option (List ℕ)) (sink_faults : K → ℕ) (old new : End S K) : Type 0 where
+pub record ServesBulk {S K : Type 0} (plan : Plan)
+    (written : K → Option (List ℕ)) (sink_faults : K → ℕ) (old new : End S K) : Type 0 where
   pub status : IsSinkStatus new.status
   pub source : new.source ≡ old.source
   pub all : new.status ≡ DONE → Writes (written old.sink) (written new.sink) (IsSummary plan)
@@ -34,6 +37,8 @@ pub record ServesBulk {S K : Type 0} (plan : Plan) (written : K → Option (List
   pub sink_fault : new.status ≡ SINK_FAULT → Rose (sink_faults old.sink) (sink_faults new.sink)
 
 -- what the command of a plan leaves of an end
-abbrev pub Serves : {S K : Type 0} → Verb → Plan → (S → Option (List ℕ)) → (S → ℕ) → (K → Option (List ℕ)) → (K → ℕ) → End S K → End S K → Type 0
-Serves Mem plan left source_faults written sink_faults old new = ServesMem plan left source_faults written sink_faults old new
+abbrev pub Serves : {S K : Type 0} → Verb → Plan → (S → Option (List ℕ)) → (S → ℕ) → (K → Option (List ℕ)) → (K → ℕ)
+    → End S K → End S K → Type 0
+Serves Mem plan left source_faults written sink_faults old new =
+    ServesMem plan left source_faults written sink_faults old new
 Serves Bulk plan left source_faults written sink_faults old new = ServesBulk plan written sink_faults old new

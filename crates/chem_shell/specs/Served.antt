@@ -6,8 +6,10 @@ use Rattle.chem_shell.specs.Runs.{IsTranscript, IsTranscriptPrefix}
 
 -- a transcript of the source's bytes
 abbrev pub WritesAll : ℕ → ℕ → Option (List ℕ) → Option (List ℕ) → Option (List ℕ) → Type 0
-WritesAll commits page input before after = IfSome input (λ script. Writes before after (IsTranscript commits page script))
+WritesAll commits page input before after =
+    IfSome input (λ script. Writes before after (IsTranscript commits page script))
 
 -- a prefix of one
 abbrev pub WritesPrefix : ℕ → ℕ → Option (List ℕ) → Option (List ℕ) → Option (List ℕ) → Type 0
-WritesPrefix commits page input before after = IfSome input (λ script. Writes before after (IsTranscriptPrefix commits page script))
+WritesPrefix commits page input before after =
+    IfSome input (λ script. Writes before after (IsTranscriptPrefix commits page script))

@@ -7,7 +7,8 @@ use Rattle.chem_shell.specs.declared.top.TheConstants.{DONE, SOURCE_FAULT, SINK_
 -- done, a fault of the source or of the sink, want of memory, an input that is too long
 abbrev pub IsEndStatus : ℕ → Type 0
 IsEndStatus status =
-    (status ≡ DONE) ⊎ ((status ≡ SOURCE_FAULT) ⊎ ((status ≡ SINK_FAULT) ⊎ ((status ≡ NO_MEMORY) ⊎ (status ≡ INPUT_TOO_LONG))))
+    (status ≡ DONE) ⊎ ((status ≡ SOURCE_FAULT) ⊎ ((status ≡ SINK_FAULT)
+    ⊎ ((status ≡ NO_MEMORY) ⊎ (status ≡ INPUT_TOO_LONG))))
 
 -- the same of an end from which nothing is taken
 abbrev pub IsSinkStatus : ℕ → Type 0

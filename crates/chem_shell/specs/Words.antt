@@ -24,7 +24,9 @@ command_rule = record (new_rule (codes "command")) { required = true }
 
 -- the last positional, of any number of values
 abbrev pub args_rule : Rule
-args_rule = record (new_rule (codes "args")) { range = Some (record { start_inclusive = 0; end_inclusive = usize_max }) }
+args_rule = record (new_rule (codes "args")) {
+  range = Some (record { start_inclusive = 0; end_inclusive = usize_max });
+}
 
 -- an option of one value
 abbrev pub option_rule : Text → Rule
@@ -34,7 +36,8 @@ option_rule name = record (new_rule name) { long = Some name }
 abbrev pub chemdb_app : App
 chemdb_app = record {
   top = record (new_shape (codes "chemdb")) {
-    rules = command_rule ∷ args_rule ∷ option_rule (codes "workers") ∷ option_rule (codes "page") ∷ option_rule (codes "commits") ∷ [];
+    rules = command_rule ∷ args_rule
+        ∷ option_rule (codes "workers") ∷ option_rule (codes "page") ∷ option_rule (codes "commits") ∷ [];
     no_binary_name = true;
     disable_help_flag = true;
     disable_version_flag = true;

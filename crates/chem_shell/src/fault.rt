@@ -13,25 +13,25 @@ pub(crate) enum WordFault<'w> {
     #[error("a command is missing")]
     NoCommand,
     #[error("there is no command {0:?}")]
-    Command(&'w str),
+    UnknownCommand(&'w str),
     #[error("{command} takes no word {word:?}")]
-    Surplus {
+    SurplusWord {
         command: &'static str,
         word: &'w str,
     },
     #[error("{command} wants {name}")]
-    Missing {
+    MissingWord {
         command: &'static str,
         name: &'static str,
     },
     #[error("{command} takes no {name}")]
-    Option {
+    UnusedOption {
         command: &'static str,
         name: &'static str,
     },
     /// A word is no decimal of a range.
     #[error("{name} is a decimal from {least} to {most}, not {word:?}")]
-    Number {
+    NotInRange {
         name: &'static str,
         least: u32,
         most: u32,

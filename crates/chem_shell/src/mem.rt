@@ -44,7 +44,8 @@ pub fn run_script<R: Threads + Sync, I: Source, O: Sink>(
     ensures not_worn { result ≢ EndStatus.Worn }
     ensures source_fault { result ≡ EndStatus.SourceFault → Rose (I.faults source.old) (I.faults source.new) }
     ensures sink_fault { result ≡ EndStatus.SinkFault → Rose (O.faults sink.old) (O.faults sink.new) }
-    ensures too_long { result ≡ EndStatus.InputTooLong → TakesExactly (I.left source.old) (I.left source.new) INPUT_LIMIT }
+    ensures too_long { result ≡ EndStatus.InputTooLong
+        → TakesExactly (I.left source.old) (I.left source.new) INPUT_LIMIT }
 {
     let mut store = Store::fresh(alloc, plan.commits);
     let settings = Settings {

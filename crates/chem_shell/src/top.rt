@@ -48,7 +48,8 @@ pub struct End<S, K> {
     pub status: u8,
 }
 
-/// What the top call leaves: the overall status, the place of damage on a disk (0 where there is none), and what was handed in.
+/// What the top call leaves: the overall status, the place of damage on a disk (0 where there is none), and what was
+/// handed in.
 #[derive(Drop)]
 pub struct Outcome<D, S, K> {
     pub status: u8,
@@ -58,8 +59,9 @@ pub struct Outcome<D, S, K> {
     pub ends: Vec<End<S, K>>,
 }
 
-/// The program over the objects that it is handed: what the words ask for is done with the ends and the disks, and the statuses say how it ended.
-/// No disk is used yet. `mem` serves one end by a session over a store in memory; `bulk` puts a summary to one.
+/// The program over the objects that it is handed: what the words ask for is done with the ends and the disks, and the
+/// statuses say how it ended. No disk is used yet. `mem` serves one end by a session over a store in memory; `bulk` puts a
+/// summary to one.
 pub fn chemdb<
     R: Threads + Wait + Sync,
     D: Send + Drop,
@@ -68,10 +70,11 @@ pub fn chemdb<
 >(rt: &R, alloc: Global, words: &[&str], a: D, b: D, mut ends: Vec<End<S, K>>) -> Outcome<D, S, K>
     requires one_end { Asks (texts words.now) → length ends.items ≡ 1 }
 
-    // The words that ask for nothing, and then nothing is taken or put.
+    // The words ask for nothing, and then nothing is taken or put.
     ensures usage { result.status ≡ USAGE → ¬ Asks (texts words.now) }
     ensures no_plan { ¬ Asks (texts words.now) → (result.status ≡ USAGE) ⊎ (result.status ≡ NO_MEMORY) }
-    ensures no_plan_takes_nothing { ¬ Asks (texts words.now) → result.ends.items ≡ map (with_status result.status) ends.items }
+    ensures no_plan_takes_nothing { ¬ Asks (texts words.now)
+        → result.ends.items ≡ map (with_status result.status) ends.items }
 
     ensures disk_a { result.a ≡ a }
     ensures disk_b { result.b ≡ b }
@@ -80,28 +83,37 @@ pub fn chemdb<
     ensures statuses { Asks (texts words.now) → All (λ end. IsEndStatus end.status) result.ends.items }
     ensures overall { Asks (texts words.now) → result.status ≡ first_fault (map (λ end. end.status) result.ends.items) }
 
-    // A fault comes only where the end's object failed in this call, and only an input of the limit's length is too long.
-    ensures source_fault { AllZip (λ old new. new.status ≡ SOURCE_FAULT → Rose (S.faults old.source) (S.faults new.source)) ends.items result.ends.items }
-    ensures sink_fault { AllZip (λ old new. new.status ≡ SINK_FAULT → Rose (K.faults old.sink) (K.faults new.sink)) ends.items result.ends.items }
-    ensures input_too_long { AllZip (λ old new. new.status ≡ INPUT_TOO_LONG → TakesExactly (S.left old.source) (S.left new.source) INPUT_LIMIT) ends.items result.ends.items }
+    // A fault comes only where the end's object failed in this call, and only an input of the limit's length is too
+    // long.
+    ensures source_fault { AllZip (λ old new.
+        new.status ≡ SOURCE_FAULT → Rose (S.faults old.source) (S.faults new.source)) ends.items result.ends.items }
+    ensures sink_fault { AllZip (λ old new.
+        new.status ≡ SINK_FAULT → Rose (K.faults old.sink) (K.faults new.sink)) ends.items result.ends.items }
+    ensures input_too_long { AllZip (λ old new.
+        new.status ≡ INPUT_TOO_LONG → TakesExactly (S.left old.source) (S.left new.source) INPUT_LIMIT)
+        ends.items result.ends.items }
 
-    // `mem`: what was written is a prefix of a transcript of the source's bytes, in a run of a store in memory that begins
-    // empty and may have the plan's commits, by the plan's pages; and all of one where the status is 0.
-    ensures mem_prefix { OnPlan (texts words.now) Verb.Mem (λ plan.
-        AllZip (λ old new. WritesPrefix plan.commits plan.page (S.left old.source) (K.written old.sink) (K.written new.sink)) ends.items result.ends.items) }
-    ensures mem_all { OnPlan (texts words.now) Verb.Mem (λ plan.
-        AllZip (λ old new. new.status ≡ DONE → WritesAll plan.commits plan.page (S.left old.source) (K.written old.sink) (K.written new.sink)) ends.items result.ends.items) }
+    // `mem`: what was written is a prefix of a transcript of the source's bytes, by pages of the plan, in a run of a
+    // store in memory that begins empty and may have the plan's commits; all of one where the status is 0.
+    ensures mem_prefix { OnPlan (texts words.now) Verb.Mem (λ plan. AllZip (λ old new.
+        WritesPrefix plan.commits plan.page (S.left old.source) (K.written old.sink) (K.written new.sink))
+        ends.items result.ends.items) }
+    ensures mem_all { OnPlan (texts words.now) Verb.Mem (λ plan. AllZip (λ old new. new.status ≡ DONE
+        → WritesAll plan.commits plan.page (S.left old.source) (K.written old.sink) (K.written new.sink))
+        ends.items result.ends.items) }
 
-    // `bulk`: nothing is taken. What was written is the summary of a transcript of the generated script, in such a run; a
-    // prefix of one where the sink failed; nothing where memory ran out. No other status comes.
-    ensures bulk_statuses { OnPlan (texts words.now) Verb.Bulk (λ _. All (λ end. IsSinkStatus end.status) result.ends.items) }
-    ensures bulk_source { OnPlan (texts words.now) Verb.Bulk (λ _. AllZip (λ old new. new.source ≡ old.source) ends.items result.ends.items) }
-    ensures bulk_all { OnPlan (texts words.now) Verb.Bulk (λ plan.
-        AllZip (λ old new. new.status ≡ DONE → Writes (K.written old.sink) (K.written new.sink) (IsSummary plan)) ends.items result.ends.items) }
-    ensures bulk_prefix { OnPlan (texts words.now) Verb.Bulk (λ plan.
-        AllZip (λ old new. new.status ≡ SINK_FAULT → Writes (K.written old.sink) (K.written new.sink) (IsSummaryPrefix plan)) ends.items result.ends.items) }
-    ensures bulk_nothing { OnPlan (texts words.now) Verb.Bulk (λ _.
-        AllZip (λ old new. new.status ≡ NO_MEMORY → WritesNothing (K.written old.sink) (K.written new.sink)) ends.items result.ends.items) }
+    // `bulk`: nothing is taken. What was written is the summary of a transcript of the generated script, in such a
+    // run; a prefix of one where the sink failed; nothing where memory ran out. No other status comes.
+    ensures bulk_statuses { OnPlan (texts words.now) Verb.Bulk (λ _.
+        All (λ end. IsSinkStatus end.status) result.ends.items) }
+    ensures bulk_source { OnPlan (texts words.now) Verb.Bulk (λ _.
+        AllZip (λ old new. new.source ≡ old.source) ends.items result.ends.items) }
+    ensures bulk_all { OnPlan (texts words.now) Verb.Bulk (λ plan. AllZip (λ old new. new.status ≡ DONE
+        → Writes (K.written old.sink) (K.written new.sink) (IsSummary plan)) ends.items result.ends.items) }
+    ensures bulk_prefix { OnPlan (texts words.now) Verb.Bulk (λ plan. AllZip (λ old new. new.status ≡ SINK_FAULT
+        → Writes (K.written old.sink) (K.written new.sink) (IsSummaryPrefix plan)) ends.items result.ends.items) }
+    ensures bulk_nothing { OnPlan (texts words.now) Verb.Bulk (λ _. AllZip (λ old new. new.status ≡ NO_MEMORY
+        → WritesNothing (K.written old.sink) (K.written new.sink)) ends.items result.ends.items) }
 {
     let plan = match plan(alloc, words) {
         Err(PlanFault::Usage) => return unserved(USAGE, a, b, ends),
@@ -127,7 +139,8 @@ fn serve_one<R: Threads + Sync, S: Source + Drop, K: Sink + Drop>(
 ) -> u8
     requires plan { IsWithinLimits plan.now }
     requires one_end { length ends.old.items ≡ 1 }
-    ensures served { AllZip (Serves plan.now.command plan.now S.left S.faults K.written K.faults) ends.old.items ends.new.items }
+    ensures served { AllZip (Serves plan.now.command plan.now S.left S.faults K.written K.faults)
+        ends.old.items ends.new.items }
     ensures overall { result ≡ first_fault (map (λ end. end.status) ends.new.items) }
     ensures status { IsEndStatus result }
 {

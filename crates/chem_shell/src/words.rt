@@ -30,7 +30,8 @@ pub fn plan<'w>(alloc: Global, words: &'w [&'w str]) -> Result<Plan<'w>, PlanFau
     }
 }
 
-/// Which of the words is wrong and why, in one line; `None` where they ask for something. Fails only for want of memory.
+/// Which of the words is wrong and why, in one line; `None` where they ask for something. Fails only for want of
+/// memory.
 pub fn word_fault(alloc: Global, words: &[&str]) -> Result<Option<String>, AllocError>
     ensures some { IfOk result (λ fault. IsSome fault → ¬ Asks (texts words.now)) }
     ensures none { IfOk result (λ fault. IsNone fault → Asks (texts words.now)) }
@@ -51,7 +52,7 @@ fn read<'w>(alloc: Global, words: &'w [&'w str]) -> Result<Plan<'w>, WordFault<'
     match found.get_str("command") {
         Some("mem") => mem(alloc, &found),
         Some("bulk") => bulk(alloc, &found),
-        Some(word) => Err(WordFault::Command(word)),
+        Some(word) => Err(WordFault::UnknownCommand(word)),
         None => Err(WordFault::NoCommand),
     }
 }
@@ -150,7 +151,7 @@ fn bulk<'w>(alloc: Global, found: &ArgMatches<'w>) -> Result<Plan<'w>, WordFault
     let count = number("COUNT", count, 0, MOST_STRUCTURES)?;
     let (workers, page) = sizes(found)?;
     if found.get_str("commits").is_some() {
-        return Err(WordFault::Option {
+        return Err(WordFault::UnusedOption {
             command: "bulk",
             name: "--commits",
         });
@@ -185,7 +186,7 @@ fn no_args<'w>(args: Option<&[&'w str]>) -> Result<(), WordFault<'w>>
 {
     match args {
         None => Ok(()),
-        Some(words) => Err(WordFault::Surplus {
+        Some(words) => Err(WordFault::SurplusWord {
             command: "mem",
             word: words.first().copied().unwrap_or(""),
         }),
@@ -199,22 +200,23 @@ fn two_words<'w>(args: Option<&[&'w str]>) -> Result<(&'w str, &'w str), WordFau
 {
     match args {
         Some([seed, count]) => Ok((*seed, *count)),
-        Some([_, _, word, ..]) => Err(WordFault::Surplus {
+        Some([_, _, word, ..]) => Err(WordFault::SurplusWord {
             command: "bulk",
             word: *word,
         }),
-        Some([_]) => Err(WordFault::Missing {
+        Some([_]) => Err(WordFault::MissingWord {
             command: "bulk",
             name: "a COUNT",
         }),
-        _ => Err(WordFault::Missing {
+        _ => Err(WordFault::MissingWord {
             command: "bulk",
             name: "a SEED",
         }),
     }
 }
 
-// The number that an option gives, where it is a decimal from 1 to `most`, and the default where the option is not given.
+// The number that an option gives, where it is a decimal from 1 to `most`, and the default where the option is not
+// given.
 fn setting<'w>(
     name: &'static str,
     text: Option<&'w str>,
@@ -242,7 +244,7 @@ fn number<'w>(
 {
     match decimal(word.as_bytes(), u64::from(most)) {
         Some(number) if number >= u64::from(least) => Ok(number as u32),
-        _ => Err(WordFault::Number {
+        _ => Err(WordFault::NotInRange {
             name,
             least,
             most,

@@ -64,8 +64,8 @@ fn push_long(script: &mut Vec<u8>, words: &[u8], letter: u8, count: u32) -> Resu
     Ok(())
 }
 
-// Lines of the most bytes and of more: alone, in a molfile, and in the molfile of a line that is refused for itself. What
-// begins `M  END` does not end a molfile where it is too long.
+// Lines of the most bytes and of more: alone, in a molfile, and in the molfile of a line that is refused for itself.
+// What begins `M  END` does not end a molfile where it is too long.
 fn long_lines(alloc: Global) -> Result<Vec<u8>, AllocError> {
     let mut script = Vec::new(alloc);
     push_long(&mut script, b"", b'x', 65_537)?;

@@ -75,8 +75,8 @@ const C60: &str =
 
 #[test]
 fn aromatic_forms(rt: HostRuntime) -> Result<(), Fail> {
-    // Every atom is aromatic, or the place of the first that is refused, or there are plain carbon atoms. A recursive part
-    // screens nothing, so each structure is tried.
+    // Every atom is aromatic, or the place of the first that is refused, or there are plain carbon atoms. A recursive
+    // part screens nothing, so each structure is tried.
     let none = "ok 1\nend at 1 tried 1 hits 0\n";
     let plain = "ok 1\nhit 1\nend at 1 tried 1 hits 1\n";
     let first = "refused smiles aromatic 0\nend at 0 tried 0 hits 0\n";
