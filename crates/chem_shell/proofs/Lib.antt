@@ -1,5 +1,5 @@
 pub mod Ends
 pub mod Transcripts
 pub mod Summaries
-pub mod Words
+pub mod Asked
 pub mod WordsExamples

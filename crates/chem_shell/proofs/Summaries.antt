@@ -5,7 +5,7 @@ use Rattle.io_edge.specs.Sink.{AppendsPrefix}
 use Rattle.session_run.specs.Served.{Writes}
 use Rattle.chem_shell.specs.Summed.{IsSummary, IsSummaryPrefix, WritesNothing}
 use Rattle.chem_shell.specs.declared.request.Plan.{Plan}
-use Rattle.chem_shell.proofs.Words.{SamePlan}
+use Rattle.chem_shell.proofs.Asked.{SamePlan}
 
 pub writes_all : (before after : Option (List ℕ)) (text : List ℕ) (P : List ℕ → Type 0) → Appends before after text → P text → Writes before after P
 writes_all None after text P appends is = tt
