@@ -1,6 +1,6 @@
 -- Options, numbers and plans, in other words.
-use Rattle.std.proofs.Common.{◌≡◌, ◌≢◌, ◌<◌, ◌≤◌, ◌^◌, ◌∙◌, ℕ, List, [], ◌∷◌, Option, Some, None, is_some, false, refl, sym, ap, subst, inl, inr, arith, codes, decimal, option_map, get_or}
-use Rattle.std.specs.Prelude.{unwrap_or}
+use Rattle.std.proofs.Common.{◌≡◌, ◌≢◌, ◌<◌, ◌≤◌, ◌^◌, ◌∙◌, ℕ, List, [], ◌∷◌, Option, Some, None, Result, Ok, Err, refl, sym, ap, subst, inl, inr, arith, codes, decimal, option_map, get_or}
+use Rattle.std.specs.Prelude.{unwrap_or, OnErr}
 use Rattle.std.proofs.lemmas.Fmt.{decimal_injective}
 use Rattle.clap.specs.Words.{Row, Text, fault_of, first_of, matches_of}
 use Rattle.store_core.specs.declared.store.TheConstants.{MOST_COMMITS}
@@ -8,15 +8,19 @@ use Rattle.chem_shell.specs.declared.request.Plan.{Plan}
 use Rattle.chem_shell.specs.declared.words.TheConstants.{LAST_SEED, MOST_STRUCTURES}
 use Rattle.chem_shell.specs.Words.{Asks, AsksFor, IsBulk, IsMem, IsNumber, IsRow, IsSetting, IsWithinLimits, chemdb_app}
 
-pub none_of_image : {X Y : Type 0} (f : X → Y) (o : Option X) (v : Option Y) → option_map f o ≡ v → v ≡ None → is_some o ≡ false
+pub none_of_image : {X Y : Type 0} (f : X → Y) (o : Option X) (v : Option Y) → option_map f o ≡ v → v ≡ None → o ≡ None
 none_of_image f None v same none = refl
 none_of_image f (Some x) v same none =
     let bad : Some (f x) ≡ None = same ∙ none in
     cc
 
-pub image_of_none : {X Y : Type 0} (f : X → Y) (o : Option X) (v : Option Y) → option_map f o ≡ v → is_some o ≡ false → v ≡ None
+pub image_of_none : {X Y : Type 0} (f : X → Y) (o : Option X) (v : Option Y) → option_map f o ≡ v → o ≡ None → v ≡ None
 image_of_none f None v same none = sym same
 image_of_none f (Some x) v same none = cc
+
+pub on_err : {X E A : Type 0} (r : Result X E) → A → OnErr r A
+on_err (Ok x) a = tt
+on_err (Err e) a = a
 
 pub some_same : {X : Type 0} (x y : X) → Some x ≡ Some y → x ≡ y
 some_same x y same = ap (λ o. unwrap_or o x) same
@@ -43,8 +47,8 @@ setting_within (Some text) most default n some few is = (is.1, is.2)
 
 mem_within : (found : List Row) (p : Plan) → IsMem found p → IsWithinLimits p
 mem_within found p a =
-    let workers = setting_within (first_of (codes "workers") found) 16 1 p.workers (omega arith) (omega arith) a.sizes.workers in
-    let page = setting_within (first_of (codes "page") found) 256 256 p.page (omega arith) (omega arith) a.sizes.page in
+    let workers = setting_within (first_of (codes "workers") found) 16 1 p.workers (omega arith) (omega arith) a.sizes.0 in
+    let page = setting_within (first_of (codes "page") found) 256 256 p.page (omega arith) (omega arith) a.sizes.1 in
     let commits = setting_within (first_of (codes "commits") found) MOST_COMMITS MOST_COMMITS p.commits (omega arith) (omega arith) a.commits in
     record {
       some_workers = workers.0;
@@ -57,8 +61,8 @@ mem_within found p a =
 
 bulk_within : (found : List Row) (p : Plan) → IsBulk found p → IsWithinLimits p
 bulk_within found p a =
-    let workers = setting_within (first_of (codes "workers") found) 16 1 p.workers (omega arith) (omega arith) a.sizes.workers in
-    let page = setting_within (first_of (codes "page") found) 256 256 p.page (omega arith) (omega arith) a.sizes.page in
+    let workers = setting_within (first_of (codes "workers") found) 16 1 p.workers (omega arith) (omega arith) a.sizes.0 in
+    let page = setting_within (first_of (codes "page") found) 256 256 p.page (omega arith) (omega arith) a.sizes.1 in
     record {
       some_workers = workers.0;
       few_workers = workers.1;
@@ -88,12 +92,12 @@ one_mem : (found : List Row) (p q : Plan) → IsMem found p → IsMem found q �
 one_mem found p q a b = record {
   command = a.command ∙ sym b.command;
   commits = one_setting (first_of (codes "commits") found) MOST_COMMITS MOST_COMMITS p.commits q.commits (omega arith) a.commits b.commits;
-  page = one_setting (first_of (codes "page") found) 256 256 p.page q.page (omega arith) a.sizes.page b.sizes.page;
+  page = one_setting (first_of (codes "page") found) 256 256 p.page q.page (omega arith) a.sizes.1 b.sizes.1;
   seed = a.seed ∙ sym b.seed;
   count = a.count ∙ sym b.count;
 }
 
-firsts_same : (a b c d : Text) → Some (a ∷ b ∷ []) ≡ Some (c ∷ d ∷ []) → (a ≡ c) × (b ≡ d)
+pub firsts_same : (a b c d : Text) → Some (a ∷ b ∷ []) ≡ Some (c ∷ d ∷ []) → (a ≡ c) × (b ≡ d)
 firsts_same a b c d e = (cc, cc)
 
 one_bulk : (found : List Row) (p q : Plan) → IsBulk found p → IsBulk found q → SamePlan p q
@@ -102,9 +106,9 @@ one_bulk found p q a b =
     record {
       command = a.command ∙ sym b.command;
       commits = a.commits ∙ sym b.commits;
-      page = one_setting (first_of (codes "page") found) 256 256 p.page q.page (omega arith) a.sizes.page b.sizes.page;
-      seed = one_number a.args.seed_word b.args.seed_word 1 LAST_SEED p.seed q.seed (omega arith) words.0 a.args.seed b.args.seed;
-      count = one_number a.args.count_word b.args.count_word 0 MOST_STRUCTURES p.count q.count (omega arith) words.1 a.args.count b.args.count;
+      page = one_setting (first_of (codes "page") found) 256 256 p.page q.page (omega arith) a.sizes.1 b.sizes.1;
+      seed = one_number a.args.seed_word b.args.seed_word 1 LAST_SEED p.seed q.seed (omega arith) words.0 a.args.seed_is b.args.seed_is;
+      count = one_number a.args.count_word b.args.count_word 0 MOST_STRUCTURES p.count q.count (omega arith) words.1 a.args.count_is b.args.count_is;
     }
 
 -- no word is two commands

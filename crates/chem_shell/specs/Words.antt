@@ -55,9 +55,9 @@ IsSetting None most default n = n ≡ default
 IsSetting (Some word) most default n = IsNumber word 1 most n
 
 -- 1 to 16 workers, pages of 1 to 256 records
-pub record AreSizes (found : List Row) (workers page : ℕ) : Type 0 where
-  pub workers : IsSetting (first_of (codes "workers") found) 16 1 workers
-  pub page : IsSetting (first_of (codes "page") found) 256 256 page
+abbrev pub AreSizes : List Row → ℕ → ℕ → Type 0
+AreSizes found workers page =
+    IsSetting (first_of (codes "workers") found) 16 1 workers × IsSetting (first_of (codes "page") found) 256 256 page
 
 -- `mem`: no args, 1 to 16,777,215 commits, one end
 pub record IsMem (found : List Row) (plan : Plan) : Type 0 where
@@ -76,8 +76,8 @@ pub record AreSeedAndCount (args : Option (List Text)) (seed count : ℕ) : Type
   pub seed_word : Text
   pub count_word : Text
   pub two : args ≡ Some (seed_word ∷ count_word ∷ [])
-  pub seed : IsNumber seed_word 1 LAST_SEED seed
-  pub count : IsNumber count_word 0 MOST_STRUCTURES count
+  pub seed_is : IsNumber seed_word 1 LAST_SEED seed
+  pub count_is : IsNumber count_word 0 MOST_STRUCTURES count
 
 -- `bulk`: a seed and a count, no limit on commits but that of every store, one end
 pub record IsBulk (found : List Row) (plan : Plan) : Type 0 where
