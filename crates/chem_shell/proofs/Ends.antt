@@ -1,11 +1,17 @@
 -- Facts of each end, from what serving it leaves.
-use Rattle.std.proofs.Common.{◌≡◌, ℕ, List, [], ◌∷◌, length, map, refl, sym, ap, ◌∙◌, subst, inl, inr, arith}
+use Rattle.std.proofs.Common.{◌≡◌, ℕ, Option, List, [], ◌∷◌, length, map, refl, sym, ap, ◌∙◌, subst, inl, inr, arith}
 use Rattle.std.specs.Prelude.{All}
 use Rattle.std.specs.List.{AllZip}
 use Rattle.std.proofs.lemmas.List.Elements.{All-nil, All-cons}
+use Rattle.io_edge.specs.Faults.{Rose}
+use Rattle.session_run.specs.Served.{TakesExactly}
+use Rattle.chem_shell.specs.declared.request.Plan.{Plan}
+use Rattle.chem_shell.specs.declared.request.Verb.{Verb}
+use Rattle.chem_shell.specs.declared.request.Verb.TheVariants.{Mem, Bulk}
 use Rattle.chem_shell.specs.declared.top.End.{End}
-use Rattle.chem_shell.specs.Status.{first_fault, IsEndStatus}
-use Rattle.chem_shell.specs.Ends.{with_status}
+use Rattle.chem_shell.specs.declared.top.TheConstants.{SOURCE_FAULT, SINK_FAULT, INPUT_TOO_LONG, INPUT_LIMIT}
+use Rattle.chem_shell.specs.Status.{first_fault, IsEndStatus, IsSinkStatus}
+use Rattle.chem_shell.specs.Ends.{with_status, Serves, ServesBulk, ServesMem}
 
 pub zip_weaker : {A B : Type 0} (R Q : A → B → Type 0) → ((x : A) (y : B) → R x y → Q x y) → (xs : List A) (ys : List B) → AllZip R xs ys → AllZip Q xs ys
 zip_weaker R Q f [] [] h = tt
@@ -54,3 +60,52 @@ never_usage n (inr (inl a)) e = omega arith
 never_usage n (inr (inr (inl a))) e = omega arith
 never_usage n (inr (inr (inr (inl a)))) e = omega arith
 never_usage n (inr (inr (inr (inr a)))) e = omega arith
+
+-- what serving leaves of an end, clause by clause
+end_of_sink : (n : ℕ) → IsSinkStatus n → IsEndStatus n
+end_of_sink n (inl a) = inl a
+end_of_sink n (inr (inl a)) = inr (inr (inl a))
+end_of_sink n (inr (inr a)) = inr (inr (inr (inl a)))
+
+no_source_fault : (n : ℕ) → IsSinkStatus n → n ≡ SOURCE_FAULT → ⊥
+no_source_fault n (inl a) e = omega arith
+no_source_fault n (inr (inl a)) e = omega arith
+no_source_fault n (inr (inr a)) e = omega arith
+
+no_long_input : (n : ℕ) → IsSinkStatus n → n ≡ INPUT_TOO_LONG → ⊥
+no_long_input n (inl a) e = omega arith
+no_long_input n (inr (inl a)) e = omega arith
+no_long_input n (inr (inr a)) e = omega arith
+
+module _ {S K : Type 0} (left : S → Option (List ℕ)) (source_faults : S → ℕ) (written : K → Option (List ℕ)) (sink_faults : K → ℕ) where
+  pub status_served : (verb : Verb) (plan : Plan) (old new : End S K)
+      → Serves verb plan left source_faults written sink_faults old new → IsEndStatus new.status
+  status_served Mem plan old new s = s.status
+  status_served Bulk plan old new s = end_of_sink new.status s.status
+
+  pub source_fault_served : (verb : Verb) (plan : Plan) (old new : End S K)
+      → Serves verb plan left source_faults written sink_faults old new
+      → new.status ≡ SOURCE_FAULT → Rose (source_faults old.source) (source_faults new.source)
+  source_fault_served Mem plan old new s = s.source_fault
+  source_fault_served Bulk plan old new s = λ e. absurd (no_source_fault new.status s.status e)
+
+  pub sink_fault_served : (verb : Verb) (plan : Plan) (old new : End S K)
+      → Serves verb plan left source_faults written sink_faults old new
+      → new.status ≡ SINK_FAULT → Rose (sink_faults old.sink) (sink_faults new.sink)
+  sink_fault_served Mem plan old new s = s.sink_fault
+  sink_fault_served Bulk plan old new s = s.sink_fault
+
+  pub too_long_served : (verb : Verb) (plan : Plan) (old new : End S K)
+      → Serves verb plan left source_faults written sink_faults old new
+      → new.status ≡ INPUT_TOO_LONG → TakesExactly (left old.source) (left new.source) INPUT_LIMIT
+  too_long_served Mem plan old new s = s.input_too_long
+  too_long_served Bulk plan old new s = λ e. absurd (no_long_input new.status s.status e)
+
+  pub mem_served : (verb : Verb) (plan : Plan) (old new : End S K) → verb ≡ Mem
+      → Serves verb plan left source_faults written sink_faults old new
+      → ServesMem plan left source_faults written sink_faults old new
+  mem_served verb plan old new e s = subst (λ v. Serves v plan left source_faults written sink_faults old new) e s
+
+  pub bulk_served : (verb : Verb) (plan : Plan) (old new : End S K) → verb ≡ Bulk
+      → Serves verb plan left source_faults written sink_faults old new → ServesBulk plan written sink_faults old new
+  bulk_served verb plan old new e s = subst (λ v. Serves v plan left source_faults written sink_faults old new) e s

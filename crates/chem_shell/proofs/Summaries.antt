@@ -24,14 +24,16 @@ pub nothing_unmoved : (before : Option (List ℕ)) → WritesNothing before befo
 nothing_unmoved None = tt
 nothing_unmoved (Some old) = ([], ap Some (sym (append-nil old)), refl)
 
--- the same of another plan that asks for the same
-pub summary_same : (p q : Plan) (text : List ℕ) → SamePlan p q → IsSummary p text → IsSummary q text
-summary_same p q text same is = rw (← same.commits, ← same.page, ← same.seed, ← same.count) is
+-- the same at a plan that asks for the same
+summary_same : (p q : Plan) (text : List ℕ) → SamePlan p q → IsSummary q text → IsSummary p text
+summary_same p q text same is = rw (same.commits, same.page, same.seed, same.count) is
 
-pub all_same : (p q : Plan) (before after : Option (List ℕ)) → SamePlan p q → Writes before after (IsSummary p) → Writes before after (IsSummary q)
+pub all_same : (p q : Plan) (before after : Option (List ℕ)) → SamePlan p q
+    → Writes before after (IsSummary q) → Writes before after (IsSummary p)
 all_same p q None after same h = tt
 all_same p q (Some old) after same h = (h.0, h.1, summary_same p q h.0 same h.2)
 
-pub prefix_same : (p q : Plan) (before after : Option (List ℕ)) → SamePlan p q → Writes before after (IsSummaryPrefix p) → Writes before after (IsSummaryPrefix q)
+pub prefix_same : (p q : Plan) (before after : Option (List ℕ)) → SamePlan p q
+    → Writes before after (IsSummaryPrefix q) → Writes before after (IsSummaryPrefix p)
 prefix_same p q None after same h = tt
 prefix_same p q (Some old) after same h = (h.0, h.1, (h.2.0, h.2.1, summary_same p q h.2.0 same h.2.2))

@@ -11,6 +11,8 @@ use Rattle.store_core.specs.Stored.{empty}
 use Rattle.chem_shell.specs.Runs.{AreOfRun, IsTranscript, IsTranscriptPrefix}
 use Rattle.chem_shell.specs.Served.{WritesAll, WritesPrefix}
 use Rattle.chem_shell.specs.Serving.{IsServed}
+use Rattle.chem_shell.specs.declared.request.Plan.{Plan}
+use Rattle.chem_shell.proofs.Asked.{SamePlan}
 
 whole_begins : (page : ℕ) (lines : List TextLine) (calls : Calls) (text : List ℕ) → script.IsTranscript page lines calls text → script.IsTranscriptPrefix page lines calls text
 whole_begins page lines calls text t = (
@@ -83,3 +85,22 @@ prefix_unmoved commits page None before = tt
 prefix_unmoved commits page (Some bytes) None = tt
 prefix_unmoved commits page (Some bytes) (Some old) =
     ([], ap Some (sym (append-nil old)), ([], none_of_run commits, nothing_begins page (lines_of bytes)))
+
+-- the same of calls that are told apart from the text
+pub served_of_run : (ended : EndStatus) (commits page : ℕ) (input before after : Option (List ℕ)) (calls : Calls)
+    → AreOfRun commits calls
+    → IfSome input (λ bytes. Writes before after (session.IsServed ended page (lines_of bytes) calls))
+    → IfSome input (λ bytes. Writes before after (IsServed ended commits page bytes))
+served_of_run ended commits page None before after calls run h = tt
+served_of_run ended commits page (Some bytes) before after calls run h =
+    writes_as before after (session.IsServed ended page (lines_of bytes) calls) (IsServed ended commits page bytes)
+    (λ text served. (calls, run, served)) h
+
+-- the same at a plan that asks for the same
+pub prefix_same : (p q : Plan) (input before after : Option (List ℕ)) → SamePlan p q
+    → WritesPrefix q.commits q.page input before after → WritesPrefix p.commits p.page input before after
+prefix_same p q input before after same h = rw (same.commits, same.page) h
+
+pub all_same : (p q : Plan) (input before after : Option (List ℕ)) → SamePlan p q
+    → WritesAll q.commits q.page input before after → WritesAll p.commits p.page input before after
+all_same p q input before after same h = rw (same.commits, same.page) h
