@@ -22,6 +22,14 @@ dashes_are : (fault_of chemdb_app dashes ≡ []) × (first_of (codes "workers") 
 unfolding clap_on_literals
 dashes_are = (refl, refl, refl)
 
+abbrev bulk : List Text
+bulk = codes "bulk" ∷ codes "1" ∷ codes "--page=7" ∷ codes "2" ∷ []
+
+bulk_is : (fault_of chemdb_app bulk ≡ []) × (first_of (codes "command") (matches_of chemdb_app bulk) ≡ Some (codes "bulk"))
+    × (all_of (codes "args") (matches_of chemdb_app bulk) ≡ Some (codes "1" ∷ codes "2" ∷ [])) × (first_of (codes "commits") (matches_of chemdb_app bulk) ≡ None)
+unfolding clap_on_literals
+bulk_is = (refl, refl, refl, refl)
+
 nothing_is_refused : fault_of chemdb_app [] ≡ MissingRequiredArgument ∷ []
 unfolding clap_on_literals
 nothing_is_refused = refl
