@@ -7,7 +7,7 @@ ghost use Rattle.matcher.specs.Hunt.{Asks, Continues, IsFree, stop_at};
 ghost use Rattle.matcher.specs.Task.{Completes, IsReadyTask};
 
 use crate::fit::{Task, are_joined_by, begins};
-use crate::lay::Stop;
+use crate::lay::{NO_BOND, Stop};
 use crate::refusal::may_stand;
 use smarts_mean::bond_true;
 use smarts_parse::PatBond;
@@ -123,7 +123,7 @@ fn may_take(task: &Task, image: &[u16], stop: Stop, atom: u16) -> bool
     if image[..task.graph.atoms.len()].contains(&atom) {
         return false;
     }
-    closes(task, image, stop, atom)
+    stop.bond == NO_BOND || closes(task, image, stop, atom)
 }
 
 // Whether each bond of the place of a stop to one that is taken, but for the stop's own, may lie so.
