@@ -1,11 +1,11 @@
 //! Whether the next atom of a graph may stand at an atom, where those before it are placed.
-ghost use Rattle.std.specs.Prelude.{◌≡◌, ◌<◌, ◌≤◌, ◌≢◌, ◌+◌, ◌++◌, ◌∷◌, [], ◌↔◌, ℕ, List, false, length, map, max, min, All, Contains, IfNone, IfSome, IsTrue};
+ghost use Rattle.std.specs.Prelude.{◌≡◌, ◌<◌, ◌≤◌, ◌≢◌, ◌+◌, ◌++◌, ◌∷◌, [], ◌↔◌, ℕ, List, false, length, map, max, min, slice_index, All, Contains, IfNone, IfSome, IsTrue};
 ghost use Rattle.chem_core.specs.Graph.{JoinsAt};
 ghost use Rattle.chem_core.specs.Molecule.{ends_of};
 ghost use Rattle.smarts_parse.specs.Embedding.{BondEmbeds};
 ghost use Rattle.smarts_parse.specs.Pattern.{bond_of, term_of};
 ghost use Rattle.smarts_parse.specs.Truth.{BondTrue};
-ghost use Rattle.matcher.specs.Task.{Completes, FirstEmbeds, IsPlaced, IsReadyTask};
+ghost use Rattle.matcher.specs.Task.{Completes, Embeds, FirstEmbeds, IsPlaced, IsReadyTask};
 
 use crate::class::may_be;
 use crate::plan::Step;
@@ -64,8 +64,10 @@ pub fn is_of_class(task: &Task, place: usize, atom: u16) -> bool
     requires ready { IsReadyTask task.now }
     requires place { place < length task.now.graph.now.atoms.items }
     requires atom { atom < length task.now.mol.now.atoms }
-    ensures { result ≡ false → (front : List ℕ) → length front ≡ place
+    ensures begins { result ≡ false → (front : List ℕ) → length front ≡ place
         → ¬ Completes task.now (front ++ atom ∷ []) }
+    ensures stands { result ≡ false → (image : List ℕ) → Embeds task.now image
+        → slice_index image place ≡ atom → ⊥ }
 {
     may_be(
         task.steps[place].classes,

@@ -12,5 +12,5 @@ extend_at-requires-clause-first c = λ d lt.
 pub returns-then-not-is_of_class-clause-found : goal.returns-then-not-is_of_class-clause-found
 returns-then-not-is_of_class-clause-found c = (
   λ t. absurd (false≢true t),
-  λ w. absurd (c.is_of_class.ensures c.if-not-is_of_class.true [] refl w),
+  λ w. absurd (c.is_of_class.ensures.begins c.if-not-is_of_class.true [] refl w),
 )

@@ -49,7 +49,7 @@ extend_anywhere-loop-atom-preserved-then-not-is_of_class t c =
     record {
       kept = c.loop-atom.invariant.kept;
       none = below_more _ _ c.loop-atom.invariant.none
-          (c.is_of_class.ensures c.if-not-is_of_class.true (take c.args.placed c.args.image.now) (length-take-le c.args.placed c.args.image.now room));
+          (c.is_of_class.ensures.begins c.if-not-is_of_class.true (take c.args.placed c.args.image.now) (length-take-le c.args.placed c.args.image.now room));
     }
 
 pub extend_anywhere-returns-clause-none : goal.extend_anywhere-returns-clause-none
@@ -167,7 +167,7 @@ extend_near-loop-atom-preserved-then-not-is_of_class t c =
     record {
       kept = c.loop-atom.invariant.kept;
       none = below_more _ _ c.loop-atom.invariant.none
-          (c.is_of_class.ensures c.if-not-is_of_class.true (take c.args.placed c.args.image.now) (length-take-le c.args.placed c.args.image.now room));
+          (c.is_of_class.ensures.begins c.if-not-is_of_class.true (take c.args.placed c.args.image.now) (length-take-le c.args.placed c.args.image.now room));
     }
 
 pub extend_near-loop-atom-preserved : goal.extend_near-loop-atom-preserved
