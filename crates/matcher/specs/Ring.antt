@@ -7,7 +7,8 @@ use Rattle.matcher.specs.Task.{Embeds}
 
 -- each embedding takes the two places to atoms that a bond joins
 abbrev pub AreBound : Task → ℕ → ℕ → Type 0
-AreBound task x y = (image : List ℕ) → Embeds task image → Joined (ends_of task.mol.now) (slice_index image x) (slice_index image y)
+AreBound task x y = (image : List ℕ) → Embeds task image
+    → Joined (ends_of task.mol.now) (slice_index image x) (slice_index image y)
 
 -- the places after the first on a way down to the last: each is lower than the one before, and bound to it
 abbrev pub IsWay : Task → ℕ → ℕ → List ℕ → Type 0

@@ -113,8 +113,8 @@ fn exists(graph: &Graph, mol: &Mol, scratch: &mut Scratch) -> bool
     extend(&task, &mut scratch.image, &mut scratch.choices, 0)
 }
 
-// Whether the graph has an embedding, where searches in orders of their own find it out. One from its first place is left
-// to the search for the least embedding.
+// Whether the graph has an embedding, where searches in orders of their own find it out. One from its first place is
+// left to the search for the least embedding.
 fn seek(task: &Task, stops: &mut [Stop], image: &mut [u16]) -> Option<bool>
     requires ready { IsReadyTask task.now }
     requires room { length task.now.graph.now.atoms.items ≤ length image.old }

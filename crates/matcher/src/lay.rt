@@ -34,8 +34,8 @@ pub fn start_at(place: u16) -> Stop {
     }
 }
 
-/// Where a search begins: at a place where few atoms stand, or else at the first end of a bond that few bonds are, which
-/// then comes next.
+/// Where a search begins: at a place where few atoms stand, or else at the first end of a bond that few bonds are,
+/// which then comes next.
 pub fn rare_start(bonds: &[PatBond], steps: &[Step]) -> Option<Stop> {
     if let Some(place) = rare_place(steps) {
         return Some(start_at(place));

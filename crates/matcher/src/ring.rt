@@ -1,5 +1,5 @@
-//! Rings of a graph. An embedding takes each to a ring of the molecule, so its atoms stand where the smallest ring is no
-//! longer. A ring is found as a bond between two places and a way between them along first bonds.
+//! Rings of a graph. An embedding takes each to a ring of the molecule, so its atoms stand where the smallest ring is
+//! no longer. A ring is found as a bond between two places and a way between them along first bonds.
 ghost use Rattle.std.specs.Prelude.{◌≡◌, ◌<◌, ◌≤◌, ◌+◌, [], ℕ, List, false, length, slice_index, Contains, IfSome, IsTrue};
 ghost use Rattle.chem_core.specs.Graph.{IsSimpleCycle};
 ghost use Rattle.chem_core.specs.Molecule.{ends_of};
