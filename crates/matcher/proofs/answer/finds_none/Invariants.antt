@@ -1,5 +1,5 @@
 use Rattle.std.proofs.Common.{◌≡◌, ℕ, ◌<◌, slice_index}
-use Rattle.matcher.proofs.answer.seek.Given as goal
+use Rattle.matcher.proofs.answer.finds_none.Given as goal
 
 -- no place so far is taken
 abbrev pub invariant-loop-place : goal.invariant-loop-place
