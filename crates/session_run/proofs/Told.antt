@@ -8,6 +8,7 @@ use Rattle.session_run.specs.Answer.{Lines, RequestAnswer}
 use Rattle.session_run.specs.Cursors.{Calls, Cursor, unpins}
 use Rattle.session_run.specs.Dialogue.{AreExchanged, Exchange, replies_of, requests_of}
 use Rattle.session_run.specs.Requests.{Request, BeginWith, BeginWithAll}
+use Rattle.session_run.specs.Served.{IsWholePrefix}
 use Rattle.session_run.specs.Transcript.{AreAnswered, IsPrefixOf, IsTranscript, IsTranscriptPrefix, IsWornPrefix, Stops}
 use Rattle.session_run.specs.Truths.{CursorsAreTrue, DialoguesAreTrue, IsInRun, IsTrueBeginning, IsTruePart, IsTrueTranscript, SearchesAreTrue, ServicesAreTrue}
 use Rattle.session_run.specs.declared.settings.EndStatus.TheVariants.{Done, SourceFault, SinkFault, NoMemory, InputTooLong, Worn}
@@ -133,6 +134,25 @@ module _ (law : DialoguesAreTrue) (size : ℕ) (lines : List TextLine) (h : List
         cursors = truths.1;
       }
 
+  -- the same of requests that were answered whole
+  whole_beginning_true : (text : List ℕ) → IsWholePrefix size lines calls text
+      → IsTrueBeginning h size lines calls text
+  whole_beginning_true text (requests, left, own, cursors, begin, a, all) =
+      let k = spoken size [] requests own text cursors a in
+      let truths = both k.exchanges own (unpins cursors) cursors all k.exchanged in
+      record {
+        exchanges = k.exchanges;
+        left = left;
+        begin = subst (λ (l : List Request). BeginWithAll lines l left) (sym k.requests_are) begin;
+        said = ([], append-nil text ∙ k.text_is);
+        own = own;
+        left_open = cursors;
+        exchanged = k.exchanged;
+        made = (unpins cursors, sym all);
+        searches = truths.0;
+        cursors = truths.1;
+      }
+
   part_true : (text : List ℕ) → IsWornPrefix size lines calls text → IsTruePart h size lines calls text
   part_true text (whole, among, (own, cursors, stops, all)) =
       let k = tells size lines whole own cursors text all stops in
@@ -153,7 +173,7 @@ module _ (law : DialoguesAreTrue) (size : ℕ) (lines : List TextLine) (h : List
 pub services-are-true : DialoguesAreTrue → ServicesAreTrue
 services-are-true law Done size lines calls text h r is = whole_true law size lines h calls r text is
 services-are-true law Worn size lines calls text h r is = part_true law size lines h calls r text is
-services-are-true law SourceFault size lines calls text h r is = beginning_true law size lines h calls r text is
+services-are-true law SourceFault size lines calls text h r is = whole_beginning_true law size lines h calls r text is
 services-are-true law SinkFault size lines calls text h r is = beginning_true law size lines h calls r text is
 services-are-true law NoMemory size lines calls text h r is = beginning_true law size lines h calls r text is
-services-are-true law InputTooLong size lines calls text h r is = beginning_true law size lines h calls r text is
+services-are-true law InputTooLong size lines calls text h r is = whole_beginning_true law size lines h calls r text is
