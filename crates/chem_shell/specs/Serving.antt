@@ -6,6 +6,7 @@ use Rattle.io_edge.specs.Lines.{lines_of}
 use Rattle.io_edge.specs.Sink.{AppendsPrefix}
 use Rattle.session_run.specs.Cursors.{Calls}
 use Rattle.session_run.specs.Served as session
+use Rattle.session_run.specs.Truths.{IsTrueService}
 use Rattle.session_run.specs.declared.settings.EndStatus.{EndStatus}
 use Rattle.chem_shell.specs.Runs.{AreOfRun}
 use Rattle.chem_shell.specs.Status.{IsSinkStatus}
@@ -13,7 +14,8 @@ use Rattle.chem_shell.specs.declared.top.TheConstants.{DONE, SINK_FAULT, NO_MEMO
 
 abbrev pub IsServed : EndStatus → ℕ → ℕ → List ℕ → List ℕ → Type 0
 IsServed ended commits page script text =
-    (calls : Calls) × AreOfRun commits calls × session.IsServed ended page (lines_of script) calls text
+    (calls : Calls) × (run : AreOfRun commits calls) × session.IsServed ended page (lines_of script) calls text
+    × IsTrueService ended run.last.history page (lines_of script) calls text
 
 -- a text was put, by the status of its end
 pub record Puts (text : List ℕ) (before after : Option (List ℕ)) (faults faults' : ℕ) (status : ℕ) : Type 0 where

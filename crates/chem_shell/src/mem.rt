@@ -11,7 +11,7 @@ use crate::request::Plan;
 use crate::top::{DONE, End, INPUT_LIMIT, INPUT_TOO_LONG, NO_MEMORY, SINK_FAULT, SOURCE_FAULT};
 use io_edge::{Sink, Source};
 use par_search::NoMeter;
-use session_run::{EndStatus, Settings, session};
+use session_run::{EndStatus, Settings, services_are_true, session};
 use std::alloc::Global;
 use std::thread::Threads;
 use store_core::Store;
@@ -47,6 +47,7 @@ pub fn run_script<R: Threads + Sync, I: Source, O: Sink>(
     ensures too_long { result ≡ EndStatus.InputTooLong
         → TakesExactly (I.left source.old) (I.left source.new) INPUT_LIMIT }
 {
+    services_are_true();
     let mut store = Store::fresh(alloc, plan.commits);
     let settings = Settings {
         workers: plan.workers,
