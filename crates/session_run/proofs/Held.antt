@@ -36,16 +36,16 @@ same_others-more a b c xs ys zs h k slot version =
     (λ x. (h slot version).0 ((k slot version).0 x), λ x. (k slot version).1 ((h slot version).1 x))
 
 -- Slots of cursors that stand behind each other
-slot-left : (xs ys : List Cursor) (s : ℕ) → HasSlot xs s → HasSlot (xs ++ ys) s
+pub slot-left : (xs ys : List Cursor) (s : ℕ) → HasSlot xs s → HasSlot (xs ++ ys) s
 slot-left [] ys s h = absurd h
 slot-left (x ∷ xs) ys s (inl e) = inl e
 slot-left (x ∷ xs) ys s (inr h) = inr (slot-left xs ys s h)
 
-slot-right : (xs ys : List Cursor) (s : ℕ) → HasSlot ys s → HasSlot (xs ++ ys) s
+pub slot-right : (xs ys : List Cursor) (s : ℕ) → HasSlot ys s → HasSlot (xs ++ ys) s
 slot-right [] ys s h = h
 slot-right (x ∷ xs) ys s h = inr (slot-right xs ys s h)
 
-slot-cases : (xs ys : List Cursor) (s : ℕ) → HasSlot (xs ++ ys) s → HasSlot xs s ⊎ HasSlot ys s
+pub slot-cases : (xs ys : List Cursor) (s : ℕ) → HasSlot (xs ++ ys) s → HasSlot xs s ⊎ HasSlot ys s
 slot-cases [] ys s h = inr h
 slot-cases (x ∷ xs) ys s (inl e) = inl (inl e)
 slot-cases (x ∷ xs) ys s (inr h) = elim (slot-cases xs ys s h) [ inl a ↦ inl (inr a) | inr b ↦ inr b ]

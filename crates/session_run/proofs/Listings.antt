@@ -1,6 +1,7 @@
 -- Pages of a search that follow each other.
 use Rattle.std.proofs.Common.{◌≡◌, ◌⊎◌, ◌++◌, ◌+◌, ◌==◌, ◌∙◌, ap, append-nil, append_assoc, arith, Bool, cond, eq-eqb, false, inl, inr, length, length-append, List, [], ◌∷◌, map, None, Option, refl, Some, subst, sym, true, ℕ}
 use Rattle.std.proofs.lemmas.Bool.{cond-true}
+use Rattle.std.proofs.lemmas.List.Elements.{filter_map-append}
 use Rattle.std.specs.List.{cons_option}
 use Rattle.smarts_parse.specs.Pattern.{PatternTerm}
 use Rattle.store_machine.specs.Answers.{AreMatched}
@@ -13,19 +14,19 @@ use Rattle.store_machine.specs.declared.machine.Reply.TheVariants as replies
 use Rattle.store_machine.specs.Structures.{IsNeedOf}
 use Rattle.session_run.specs.Cursors.{AreFetches, Calls, IsSearched}
 
-matched-append : (p : PatternTerm) (rs ss : List Found) (hits more : List ℕ) → AreMatched p rs hits
+pub matched-append : (p : PatternTerm) (rs ss : List Found) (hits more : List ℕ) → AreMatched p rs hits
     → AreMatched p ss more → AreMatched p (rs ++ ss) (hits ++ more)
 matched-append p [] ss hits more m n = subst (λ (h : List ℕ). AreMatched p ss (h ++ more)) (sym m) n
 matched-append p (r ∷ rs) ss hits more (inl m) n =
     inl (m.0, m.1 ++ more, ap (λ h. h ++ more) m.2, matched-append p rs ss m.1 more m.3 n)
 matched-append p (r ∷ rs) ss hits more (inr m) n = inr (m.0, matched-append p rs ss hits more m.1 n)
 
-records-append : (fs gs : List Fetched) → records_of (fs ++ gs) ≡ records_of fs ++ records_of gs
+pub records-append : (fs gs : List Fetched) → records_of (fs ++ gs) ≡ records_of fs ++ records_of gs
 records-append [] gs = refl
 records-append (f ∷ fs) gs = ap (λ l. f.records ++ l) (records-append fs gs)
     ∙ sym (append_assoc f.records (records_of fs) (records_of gs))
 
-search-append : (want : List Bool) (a b d : Place) (fs gs : List Fetched) → IsSearch want a fs b → IsSearch want b gs d
+pub search-append : (want : List Bool) (a b d : Place) (fs gs : List Fetched) → IsSearch want a fs b → IsSearch want b gs d
     → IsSearch want a (fs ++ gs) d
 search-append want a b d [] gs s t = subst (λ (p : Place). IsSearch want p gs d) s t
 search-append want a b d (f ∷ fs) gs s t = (s.0, s.1, search-append want (place_after f) b d fs gs s.2 t)
@@ -35,15 +36,8 @@ fetches-append : (slot size : ℕ) (want : List Bool) (xs ys : Calls) → AreFet
 fetches-append slot size want [] ys a b = b
 fetches-append slot size want (x ∷ xs) ys a b = (a.0, fetches-append slot size want xs ys a.1 b)
 
-added : (o : Option Fetched) (xs ys zs : List Fetched) → zs ≡ xs ++ ys → cons_option o zs ≡ cons_option o xs ++ ys
-added None xs ys zs e = e
-added (Some f) xs ys zs e = ap (λ l. f ∷ l) e
-
-fetched-append : (slot : ℕ) (xs ys : Calls) → fetched slot (xs ++ ys) ≡ fetched slot xs ++ fetched slot ys
-fetched-append slot [] ys = refl
-fetched-append slot (x ∷ xs) ys =
-    added (page_in slot x.0 x.1) (fetched slot xs) (fetched slot ys) (fetched slot (xs ++ ys))
-    (fetched-append slot xs ys)
+pub fetched-append : (slot : ℕ) (xs ys : Calls) → fetched slot (xs ++ ys) ≡ fetched slot xs ++ fetched slot ys
+fetched-append slot xs ys = filter_map-append (λ (c : Event × Reply). page_in slot c.0 c.1) xs ys
 
 -- nothing was fetched
 pub searched_none : (p : PatternTerm) (want : List Bool) (slot size : ℕ) → IsNeedOf p want

@@ -1,7 +1,6 @@
 -- What is known of an open cursor by the calls so far, how it goes on by its pages, and calls that pass its pin by.
 use Rattle.std.proofs.Common.{◌≡◌, ◌≢◌, ◌++◌, ◌+◌, ◌==◌, ◌∙◌, ap, append-nil, append_assoc, Bool, cond, eq-eqb, false, inl, inr, length, length-append, List, [], ◌∷◌, map, ne_eqb, None, Option, refl, Some, subst, sym, true, ℕ}
 use Rattle.std.proofs.lemmas.Bool.{cond-false, cond-true}
-use Rattle.std.proofs.lemmas.List.Elements.{filter_map-append}
 use Rattle.std.specs.List.{cons_option}
 use Rattle.shell_lang.specs.Reply as line
 use Rattle.smarts_parse.specs.Pattern.{PatternTerm}
@@ -16,6 +15,7 @@ use Rattle.store_machine.specs.declared.machine.Reply.TheVariants as replies
 use Rattle.session_run.specs.Answer.{Advances, Lines, after_page, page_end}
 use Rattle.session_run.specs.Cursors.{AreFetches, Calls, Cursor, IsFetch}
 use Rattle.session_run.specs.Dialogue.{hits_in}
+use Rattle.session_run.proofs.Listings.{fetched-append, matched-append, records-append, search-append}
 
 -- Calls that neither give a pin back nor are answered by a page of it
 abbrev pub PassBy : ℕ → Calls → Type 0
@@ -85,26 +85,6 @@ pub record IsOpen (calls : Calls) (c : Cursor) (hits : List ℕ) : Type 0 where
   pub tried : c.tried ≡ length (records_of (fetched c.slot pages))
   pub matched : AreMatched c.pattern (records_of (fetched c.slot pages)) hits
   pub count : c.hits ≡ length hits
-
-matched-append : (p : PatternTerm) (rs ss : List Found) (hits more : List ℕ) → AreMatched p rs hits
-    → AreMatched p ss more → AreMatched p (rs ++ ss) (hits ++ more)
-matched-append p [] ss hits more m n = subst (λ (h : List ℕ). AreMatched p ss (h ++ more)) (sym m) n
-matched-append p (r ∷ rs) ss hits more (inl m) n =
-    inl (m.0, m.1 ++ more, ap (λ h. h ++ more) m.2, matched-append p rs ss m.1 more m.3 n)
-matched-append p (r ∷ rs) ss hits more (inr m) n = inr (m.0, matched-append p rs ss hits more m.1 n)
-
-records-append : (fs gs : List Fetched) → records_of (fs ++ gs) ≡ records_of fs ++ records_of gs
-records-append [] gs = refl
-records-append (f ∷ fs) gs = ap (λ l. f.records ++ l) (records-append fs gs)
-    ∙ sym (append_assoc f.records (records_of fs) (records_of gs))
-
-search-append : (want : List Bool) (a b d : Place) (fs gs : List Fetched) → IsSearch want a fs b → IsSearch want b gs d
-    → IsSearch want a (fs ++ gs) d
-search-append want a b d [] gs s t = subst (λ (p : Place). IsSearch want p gs d) s t
-search-append want a b d (f ∷ fs) gs s t = (s.0, s.1, search-append want (place_after f) b d fs gs s.2 t)
-
-fetched-append : (slot : ℕ) (xs ys : Calls) → fetched slot (xs ++ ys) ≡ fetched slot xs ++ fetched slot ys
-fetched-append slot xs ys = filter_map-append (λ (c : Event × Reply). page_in slot c.0 c.1) xs ys
 
 -- other calls
 pub open_passes : (calls its : Calls) (c : Cursor) (hits : List ℕ) → PassBy c.slot its → IsOpen calls c hits

@@ -11,7 +11,7 @@ use Rattle.session_run.specs.Cursors.{Calls, Cursor}
 use Rattle.session_run.specs.Dialogue.{AreExchanged, Exchange, IsShown, IsShownIn, IsTold}
 use Rattle.session_run.specs.Made.{AreHeld, HasSlot}
 use Rattle.session_run.specs.Requests.{Request}
-use Rattle.session_run.proofs.Held.{held-at, held-moved}
+use Rattle.session_run.proofs.Held.{held-at, held-moved, slot-cases, slot-left, slot-right}
 use Rattle.session_run.proofs.Acts.{Closed, Kind, Moved, Opened, Other, Searched, kind}
 use Rattle.session_run.proofs.Passing.{advances_fetch, advances_same, fetches_keep, keeps-append, passes_keep}
 
@@ -64,23 +64,9 @@ pinned_told calls slot version p =
     (told_right p.before ((events.Pin, replies.Pinned slot version) ∷ p.pages) version (inl refl))
 
 -- Slots of cursors
-pub has_right : (xs ys : List Cursor) (s : ℕ) → HasSlot ys s → HasSlot (xs ++ ys) s
-has_right [] ys s h = h
-has_right (x ∷ xs) ys s h = inr (has_right xs ys s h)
-
-has_cases : (xs ys : List Cursor) (s : ℕ) → HasSlot (xs ++ ys) s → HasSlot xs s ⊎ HasSlot ys s
-has_cases [] ys s h = inr h
-has_cases (x ∷ xs) ys s (inl e) = inl (inl e)
-has_cases (x ∷ xs) ys s (inr h) = elim (has_cases xs ys s h) [ inl a ↦ inl (inr a) | inr b ↦ inr b ]
-
-has_left : (xs ys : List Cursor) (s : ℕ) → HasSlot xs s → HasSlot (xs ++ ys) s
-has_left [] ys s h = absurd h
-has_left (x ∷ xs) ys s (inl e) = inl e
-has_left (x ∷ xs) ys s (inr h) = inr (has_left xs ys s h)
-
 has_among : (xs ys : List Cursor) (c : Cursor) (s : ℕ) → HasSlot (xs ++ ys) s → HasSlot (xs ++ c ∷ ys) s
 has_among xs ys c s h =
-    elim (has_cases xs ys s h) [ inl a ↦ has_left xs (c ∷ ys) s a | inr b ↦ has_right xs (c ∷ ys) s (inr b) ]
+    elim (slot-cases xs ys s h) [ inl a ↦ slot-left xs (c ∷ ys) s a | inr b ↦ slot-right xs (c ∷ ys) s (inr b) ]
 
 -- pins of cursors, each held in another way
 held_as : (a b : ℕ → ℕ → Type 0) (P : ℕ → Type 0) (cursors : List Cursor) → ((s v : ℕ) → a s v → P s → b s v)
@@ -95,7 +81,7 @@ held_push : (a : ℕ → ℕ → Type 0) (cursors : List Cursor) (c : Cursor) �
 held_push a [] c all h apart = (h, λ k. k, tt)
 held_push a (d ∷ ds) c all h apart = (
   all.0,
-  λ k. elim (has_cases ds (c ∷ []) d.slot k) [
+  λ k. elim (slot-cases ds (c ∷ []) d.slot k) [
     | inl m ↦ all.1 m
     | inr m ↦
         elim m [ inl e ↦ apart d.slot (inl refl) e | inr n ↦ n ]
@@ -116,7 +102,7 @@ held_drop a [] after c h = (h.2, h.1)
 held_drop a (b ∷ bs) after c h =
     let r = held_drop a bs after c h.2 in (
       (h.0, λ k. h.1 (has_among bs after c b.slot k), r.0),
-      λ k. elim k [ inl e ↦ h.1 (has_right bs (c ∷ after) b.slot (inl (sym e))) | inr m ↦ r.1 m ],
+      λ k. elim k [ inl e ↦ h.1 (slot-right bs (c ∷ after) b.slot (inl (sym e))) | inr m ↦ r.1 m ],
     )
 
 -- a version that a cursor's lines show is its own

@@ -37,10 +37,6 @@ ok_unless (Err stop) P f = tt
 pub kept_unless : (r : Result (Unit {0}) Stop) (P : Type 0) → (r ≢ Err stops.Worn → P) → r ≡ Err stops.NoMemory → P
 kept_unless r P f e = f (λ k. cc)
 
-pub on_ok : (r : Result (Unit {0}) Stop) (P : Type 0) → P → OnOk r P
-on_ok (Ok x) P p = p
-on_ok (Err stop) P p = tt
-
 -- a search behind its pin
 module _ (First Next All : Calls → Type 0) (joins : (xs ys : Calls) → First xs → Next ys → All (xs ++ ys))
     (size : ℕ) (text : List ℕ) (s : SearchTerm) (is : IsPatternOf text (pattern_of s.pattern)) (size_is : s.size ≡ size)

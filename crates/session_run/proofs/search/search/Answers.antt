@@ -15,8 +15,8 @@ use Rattle.session_run.specs.Texts.{IsPatternOf}
 use Rattle.session_run.proofs.Ending.{tells_on}
 use Rattle.session_run.proofs.Held.{not_raised-more, not_raised-same, same_held}
 use Rattle.session_run.proofs.Joined.{makes_more, makes_none}
-use Rattle.session_run.proofs.Lines.{pattern_refused, said_answered, worn_answered}
-use Rattle.session_run.proofs.Searching.{held_returned, held_unpinned, kept_unless, ok_unless, on_ok, searched_from}
+use Rattle.session_run.proofs.Lines.{on_ok, pattern_refused, said_answered, worn_answered}
+use Rattle.session_run.proofs.Searching.{held_returned, held_unpinned, kept_unless, ok_unless, searched_from}
 use Rattle.session_run.proofs.search.search.Goals as goal
 
 -- the text is no pattern
