@@ -13,25 +13,29 @@ use Rattle.chem_shell.specs.declared.top.TheConstants.{SOURCE_FAULT, SINK_FAULT,
 use Rattle.chem_shell.specs.Status.{first_fault, IsEndStatus, IsSinkStatus}
 use Rattle.chem_shell.specs.Ends.{with_status, Serves, ServesBulk, ServesMem}
 
-pub zip_weaker : {A B : Type 0} (R Q : A → B → Type 0) → ((x : A) (y : B) → R x y → Q x y) → (xs : List A) (ys : List B) → AllZip R xs ys → AllZip Q xs ys
+pub zip_weaker : {A B : Type 0} (R Q : A → B → Type 0) → ((x : A) (y : B) → R x y → Q x y) → (xs : List A) (ys : List B)
+    → AllZip R xs ys → AllZip Q xs ys
 zip_weaker R Q f [] [] h = tt
 zip_weaker R Q f [] (y ∷ ys) h = absurd h
 zip_weaker R Q f (x ∷ xs) [] h = absurd h
 zip_weaker R Q f (x ∷ xs) (y ∷ ys) h = (f x y h.0, zip_weaker R Q f xs ys h.1)
 
-pub zip_right : {A B : Type 0} (R : A → B → Type 0) (P : B → Type 0) → ((x : A) (y : B) → R x y → P y) → (xs : List A) (ys : List B) → AllZip R xs ys → All P ys
+pub zip_right : {A B : Type 0} (R : A → B → Type 0) (P : B → Type 0) → ((x : A) (y : B) → R x y → P y)
+    → (xs : List A) (ys : List B) → AllZip R xs ys → All P ys
 zip_right R P f [] [] h = All-nil P
 zip_right R P f [] (y ∷ ys) h = absurd h
 zip_right R P f (x ∷ xs) [] h = absurd h
 zip_right R P f (x ∷ xs) (y ∷ ys) h = All-cons P y ys (f x y h.0) (zip_right R P f xs ys h.1)
 
-pub zip_mapped : {A : Type 0} (R : A → A → Type 0) (f : A → A) → ((x : A) → R x (f x)) → (xs ys : List A) → ys ≡ map f xs → AllZip R xs ys
+pub zip_mapped : {A : Type 0} (R : A → A → Type 0) (f : A → A) → ((x : A) → R x (f x)) → (xs ys : List A)
+    → ys ≡ map f xs → AllZip R xs ys
 zip_mapped {A = A} R f g xs ys e = subst (AllZip R xs) (sym e) (go xs) where
   go : (xs : List A) → AllZip R xs (map f xs)
   go [] = tt
   go (x ∷ xs) = (g x, go xs)
 
-pub all_mapped : {A : Type 0} (P : A → Type 0) (f : A → A) → ((x : A) → P (f x)) → (xs ys : List A) → ys ≡ map f xs → All P ys
+pub all_mapped : {A : Type 0} (P : A → Type 0) (f : A → A) → ((x : A) → P (f x)) → (xs ys : List A) → ys ≡ map f xs
+    → All P ys
 all_mapped {A = A} P f g xs ys e = subst (All P) (sym e) (go xs) where
   go : (xs : List A) → All P (map f xs)
   go [] = All-nil P
@@ -42,13 +46,16 @@ first_of_one : (n : ℕ) → first_fault (n ∷ []) ≡ n
 first_of_one n = grind (arith)
 
 -- of one end the first fault is its status
-pub fault_of_one : {S K : Type 0} (ends : List (End S K)) (n : ℕ) → length ends ≡ 1 → ((end : End S K) (rest : List (End S K)) → ends ≡ end ∷ rest → end.status ≡ n) → n ≡ first_fault (map (λ end. end.status) ends)
+pub fault_of_one : {S K : Type 0} (ends : List (End S K)) (n : ℕ) → length ends ≡ 1
+    → ((end : End S K) (rest : List (End S K)) → ends ≡ end ∷ rest → end.status ≡ n)
+    → n ≡ first_fault (map (λ end. end.status) ends)
 fault_of_one [] n e f = absurd (omega arith)
 fault_of_one (end ∷ []) n e f = sym (f end [] refl) ∙ sym (first_of_one end.status)
 fault_of_one (end ∷ other ∷ rest) n e f = absurd (omega arith)
 
 -- of one end with this status the first fault is that
-pub fault_of_all_alike : {S K : Type 0} (old new : List (End S K)) (n : ℕ) → length old ≡ 1 → new ≡ map (with_status n) old → n ≡ first_fault (map (λ end. end.status) new)
+pub fault_of_all_alike : {S K : Type 0} (old new : List (End S K)) (n : ℕ) → length old ≡ 1
+    → new ≡ map (with_status n) old → n ≡ first_fault (map (λ end. end.status) new)
 fault_of_all_alike [] new n e f = absurd (omega arith)
 fault_of_all_alike (end ∷ []) new n e f = sym (ap (λ ends. first_fault (map (λ x. x.status) ends)) f ∙ first_of_one n)
 fault_of_all_alike (end ∷ other ∷ rest) new n e f = absurd (omega arith)
@@ -77,7 +84,8 @@ no_long_input n (inl a) e = omega arith
 no_long_input n (inr (inl a)) e = omega arith
 no_long_input n (inr (inr a)) e = omega arith
 
-module _ {S K : Type 0} (left : S → Option (List ℕ)) (source_faults : S → ℕ) (written : K → Option (List ℕ)) (sink_faults : K → ℕ) where
+module _ {S K : Type 0} (left : S → Option (List ℕ)) (source_faults : S → ℕ) (written : K → Option (List ℕ))
+    (sink_faults : K → ℕ) where
   pub status_served : (verb : Verb) (plan : Plan) (old new : End S K)
       → Serves verb plan left source_faults written sink_faults old new → IsEndStatus new.status
   status_served Mem plan old new s = s.status

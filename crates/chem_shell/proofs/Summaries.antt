@@ -7,12 +7,14 @@ use Rattle.chem_shell.specs.Summed.{IsSummary, IsSummaryPrefix, WritesNothing}
 use Rattle.chem_shell.specs.declared.request.Plan.{Plan}
 use Rattle.chem_shell.proofs.Asked.{SamePlan}
 
-pub writes_all : (before after : Option (List ℕ)) (text : List ℕ) (P : List ℕ → Type 0) → Appends before after text → P text → Writes before after P
+pub writes_all : (before after : Option (List ℕ)) (text : List ℕ) (P : List ℕ → Type 0) → Appends before after text
+    → P text → Writes before after P
 writes_all None after text P appends is = tt
 writes_all (Some old) None text P appends is = absurd appends
 writes_all (Some old) (Some new) text P appends is = (text, ap Some appends, is)
 
-pub writes_prefix : (plan : Plan) (before after : Option (List ℕ)) (text : List ℕ) → AppendsPrefix before after text → IsSummary plan text → Writes before after (IsSummaryPrefix plan)
+pub writes_prefix : (plan : Plan) (before after : Option (List ℕ)) (text : List ℕ) → AppendsPrefix before after text
+    → IsSummary plan text → Writes before after (IsSummaryPrefix plan)
 writes_prefix plan before after text part is =
     writes_all before after part.0 (IsSummaryPrefix plan) part.3 (text, (part.1, sym part.2), is)
 

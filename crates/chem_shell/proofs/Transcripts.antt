@@ -113,13 +113,15 @@ nothing_is_true h page lines = record {
 none_of_run : (commits : ℕ) → AreOfRun commits []
 none_of_run commits = record { steps = []; last = empty commits; run = refl; calm = tt; all = refl }
 
-writes_as : (before after : Option (List ℕ)) (P Q : List ℕ → Type 0) → ((text : List ℕ) → P text → Q text) → Writes before after P → Writes before after Q
+writes_as : (before after : Option (List ℕ)) (P Q : List ℕ → Type 0) → ((text : List ℕ) → P text → Q text)
+    → Writes before after P → Writes before after Q
 writes_as None after P Q f h = tt
 writes_as (Some old) after P Q f h = (h.0, h.1, f h.0 h.2)
 
 -- what a session put, in the words of an end
 pub served_prefix : (ended : EndStatus) (commits page : ℕ) (input before after : Option (List ℕ)) → ended ≢ Worn
-    → IfSome input (λ bytes. Writes before after (IsServed ended commits page bytes)) → WritesPrefix commits page input before after
+    → IfSome input (λ bytes. Writes before after (IsServed ended commits page bytes))
+    → WritesPrefix commits page input before after
 served_prefix ended commits page None before after fit h = tt
 served_prefix ended commits page (Some bytes) before after fit h =
     writes_as before after (IsServed ended commits page bytes) (IsTranscriptPrefix commits page bytes)
@@ -131,7 +133,8 @@ served_prefix ended commits page (Some bytes) before after fit h =
     )) h
 
 pub served_all : (commits page : ℕ) (input before after : Option (List ℕ))
-    → IfSome input (λ bytes. Writes before after (IsServed Done commits page bytes)) → WritesAll commits page input before after
+    → IfSome input (λ bytes. Writes before after (IsServed Done commits page bytes))
+    → WritesAll commits page input before after
 served_all commits page None before after h = tt
 served_all commits page (Some bytes) before after h = h
 
@@ -140,8 +143,7 @@ pub prefix_unmoved : (commits page : ℕ) (input before : Option (List ℕ)) →
 prefix_unmoved commits page None before = tt
 prefix_unmoved commits page (Some bytes) None = tt
 prefix_unmoved commits page (Some bytes) (Some old) =
-    let run = none_of_run commits in
-    (
+    let run = none_of_run commits in (
       [],
       ap Some (sym (append-nil old)),
       ([], run, nothing_begins page (lines_of bytes), nothing_is_true run.last.history page (lines_of bytes)),

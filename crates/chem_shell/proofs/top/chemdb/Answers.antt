@@ -9,15 +9,15 @@ use Rattle.chem_shell.proofs.Transcripts as transcripts
 use Rattle.chem_shell.proofs.top.chemdb.Goals as goal
 
 pub returns-in-Err-Usage-clause-source_fault : goal.returns-in-Err-Usage-clause-source_fault
-returns-in-Err-Usage-clause-source_fault g c = 
+returns-in-Err-Usage-clause-source_fault g c =
     zip_mapped _ (with_status 2) (λ e q. absurd (eqb-false 2 3 refl q)) _ _ c.unserved.ensures.ends
 
 pub returns-in-Err-Usage-clause-sink_fault : goal.returns-in-Err-Usage-clause-sink_fault
-returns-in-Err-Usage-clause-sink_fault g c = 
+returns-in-Err-Usage-clause-sink_fault g c =
     zip_mapped _ (with_status 2) (λ e q. absurd (eqb-false 2 4 refl q)) _ _ c.unserved.ensures.ends
 
 pub returns-in-Err-Usage-clause-input_too_long : goal.returns-in-Err-Usage-clause-input_too_long
-returns-in-Err-Usage-clause-input_too_long g c = 
+returns-in-Err-Usage-clause-input_too_long g c =
     zip_mapped _ (with_status 2) (λ e q. absurd (eqb-false 2 9 refl q)) _ _ c.unserved.ensures.ends
 
 pub returns-in-Err-Usage-clause-mem_prefix : goal.returns-in-Err-Usage-clause-mem_prefix
@@ -54,15 +54,15 @@ returns-in-Err-NoMemory-clause-statuses g c = λ asks.
     c.unserved-in-Err-NoMemory.ensures.ends
 
 pub returns-in-Err-NoMemory-clause-source_fault : goal.returns-in-Err-NoMemory-clause-source_fault
-returns-in-Err-NoMemory-clause-source_fault g c = 
+returns-in-Err-NoMemory-clause-source_fault g c =
     zip_mapped _ (with_status 8) (λ e q. absurd (eqb-false 8 3 refl q)) _ _ c.unserved-in-Err-NoMemory.ensures.ends
 
 pub returns-in-Err-NoMemory-clause-sink_fault : goal.returns-in-Err-NoMemory-clause-sink_fault
-returns-in-Err-NoMemory-clause-sink_fault g c = 
+returns-in-Err-NoMemory-clause-sink_fault g c =
     zip_mapped _ (with_status 8) (λ e q. absurd (eqb-false 8 4 refl q)) _ _ c.unserved-in-Err-NoMemory.ensures.ends
 
 pub returns-in-Err-NoMemory-clause-input_too_long : goal.returns-in-Err-NoMemory-clause-input_too_long
-returns-in-Err-NoMemory-clause-input_too_long g c = 
+returns-in-Err-NoMemory-clause-input_too_long g c =
     zip_mapped _ (with_status 8) (λ e q. absurd (eqb-false 8 9 refl q)) _ _ c.unserved-in-Err-NoMemory.ensures.ends
 
 pub returns-in-Err-NoMemory-clause-mem_prefix : goal.returns-in-Err-NoMemory-clause-mem_prefix
@@ -75,7 +75,8 @@ returns-in-Err-NoMemory-clause-mem_all g c = λ plan asks verb.
 
 pub returns-in-Err-NoMemory-clause-bulk_statuses : goal.returns-in-Err-NoMemory-clause-bulk_statuses
 returns-in-Err-NoMemory-clause-bulk_statuses g c = λ plan asks verb.
-    all_mapped (λ end. IsSinkStatus end.status) (with_status 8) (λ e. inr (inr refl)) _ _ c.unserved-in-Err-NoMemory.ensures.ends
+    all_mapped (λ end. IsSinkStatus end.status) (with_status 8)
+    (λ e. inr (inr refl)) _ _ c.unserved-in-Err-NoMemory.ensures.ends
 
 pub returns-in-Err-NoMemory-clause-bulk_source : goal.returns-in-Err-NoMemory-clause-bulk_source
 returns-in-Err-NoMemory-clause-bulk_source g c = λ plan asks verb.
@@ -116,26 +117,30 @@ returns-clause-no_plan_takes_nothing g c = λ none. absurd (none (c.in-Ok.plan, 
 
 pub returns-clause-statuses : goal.returns-clause-statuses
 returns-clause-statuses g c = λ asks.
-    zip_right (Serves c.in-Ok.plan.command c.in-Ok.plan g.S.Source.left g.S.Source.faults g.K.Sink.written g.K.Sink.faults)
+    zip_right
+    (Serves c.in-Ok.plan.command c.in-Ok.plan g.S.Source.left g.S.Source.faults g.K.Sink.written g.K.Sink.faults)
     (λ end. IsEndStatus end.status)
     (λ old new. status_served g.S.Source.left g.S.Source.faults g.K.Sink.written g.K.Sink.faults c.in-Ok.plan.command c.in-Ok.plan old new)
     c.args.ends.items c.serve_one-status.new.ends.items c.serve_one-status.ensures.served
 
 pub returns-clause-source_fault : goal.returns-clause-source_fault
-returns-clause-source_fault g c = 
-    zip_weaker (Serves c.in-Ok.plan.command c.in-Ok.plan g.S.Source.left g.S.Source.faults g.K.Sink.written g.K.Sink.faults)
+returns-clause-source_fault g c =
+    zip_weaker
+    (Serves c.in-Ok.plan.command c.in-Ok.plan g.S.Source.left g.S.Source.faults g.K.Sink.written g.K.Sink.faults)
     _ (λ old new. source_fault_served g.S.Source.left g.S.Source.faults g.K.Sink.written g.K.Sink.faults c.in-Ok.plan.command c.in-Ok.plan old new)
     c.args.ends.items c.serve_one-status.new.ends.items c.serve_one-status.ensures.served
 
 pub returns-clause-sink_fault : goal.returns-clause-sink_fault
-returns-clause-sink_fault g c = 
-    zip_weaker (Serves c.in-Ok.plan.command c.in-Ok.plan g.S.Source.left g.S.Source.faults g.K.Sink.written g.K.Sink.faults)
+returns-clause-sink_fault g c =
+    zip_weaker
+    (Serves c.in-Ok.plan.command c.in-Ok.plan g.S.Source.left g.S.Source.faults g.K.Sink.written g.K.Sink.faults)
     _ (λ old new. sink_fault_served g.S.Source.left g.S.Source.faults g.K.Sink.written g.K.Sink.faults c.in-Ok.plan.command c.in-Ok.plan old new)
     c.args.ends.items c.serve_one-status.new.ends.items c.serve_one-status.ensures.served
 
 pub returns-clause-input_too_long : goal.returns-clause-input_too_long
-returns-clause-input_too_long g c = 
-    zip_weaker (Serves c.in-Ok.plan.command c.in-Ok.plan g.S.Source.left g.S.Source.faults g.K.Sink.written g.K.Sink.faults)
+returns-clause-input_too_long g c =
+    zip_weaker
+    (Serves c.in-Ok.plan.command c.in-Ok.plan g.S.Source.left g.S.Source.faults g.K.Sink.written g.K.Sink.faults)
     _ (λ old new. too_long_served g.S.Source.left g.S.Source.faults g.K.Sink.written g.K.Sink.faults c.in-Ok.plan.command c.in-Ok.plan old new)
     c.args.ends.items c.serve_one-status.new.ends.items c.serve_one-status.ensures.served
 
@@ -143,7 +148,8 @@ pub returns-clause-mem_prefix : goal.returns-clause-mem_prefix
 returns-clause-mem_prefix g c = λ plan asks verb.
     let same = one_plan _ plan c.in-Ok.plan asks c.in-Ok.ensures.ok in
     let is = sym same.command ∙ verb in
-    zip_weaker (Serves c.in-Ok.plan.command c.in-Ok.plan g.S.Source.left g.S.Source.faults g.K.Sink.written g.K.Sink.faults)
+    zip_weaker
+    (Serves c.in-Ok.plan.command c.in-Ok.plan g.S.Source.left g.S.Source.faults g.K.Sink.written g.K.Sink.faults)
     _ (λ old new s. transcripts.prefix_same plan c.in-Ok.plan _ _ _ same
     (mem_served g.S.Source.left g.S.Source.faults g.K.Sink.written g.K.Sink.faults c.in-Ok.plan.command c.in-Ok.plan old new is s).prefix)
     c.args.ends.items c.serve_one-status.new.ends.items c.serve_one-status.ensures.served
@@ -152,7 +158,8 @@ pub returns-clause-mem_all : goal.returns-clause-mem_all
 returns-clause-mem_all g c = λ plan asks verb.
     let same = one_plan _ plan c.in-Ok.plan asks c.in-Ok.ensures.ok in
     let is = sym same.command ∙ verb in
-    zip_weaker (Serves c.in-Ok.plan.command c.in-Ok.plan g.S.Source.left g.S.Source.faults g.K.Sink.written g.K.Sink.faults)
+    zip_weaker
+    (Serves c.in-Ok.plan.command c.in-Ok.plan g.S.Source.left g.S.Source.faults g.K.Sink.written g.K.Sink.faults)
     _ (λ old new s done. transcripts.all_same plan c.in-Ok.plan _ _ _ same
     ((mem_served g.S.Source.left g.S.Source.faults g.K.Sink.written g.K.Sink.faults c.in-Ok.plan.command c.in-Ok.plan old new is s).all done))
     c.args.ends.items c.serve_one-status.new.ends.items c.serve_one-status.ensures.served
@@ -161,24 +168,29 @@ pub returns-clause-bulk_statuses : goal.returns-clause-bulk_statuses
 returns-clause-bulk_statuses g c = λ plan asks verb.
     let same = one_plan _ plan c.in-Ok.plan asks c.in-Ok.ensures.ok in
     let is = sym same.command ∙ verb in
-    zip_right (Serves c.in-Ok.plan.command c.in-Ok.plan g.S.Source.left g.S.Source.faults g.K.Sink.written g.K.Sink.faults)
+    zip_right
+    (Serves c.in-Ok.plan.command c.in-Ok.plan g.S.Source.left g.S.Source.faults g.K.Sink.written g.K.Sink.faults)
     (λ end. IsSinkStatus end.status)
-    (λ old new s. (bulk_served g.S.Source.left g.S.Source.faults g.K.Sink.written g.K.Sink.faults c.in-Ok.plan.command c.in-Ok.plan old new is s).status)
+    (λ old new s.
+    (bulk_served g.S.Source.left g.S.Source.faults g.K.Sink.written g.K.Sink.faults c.in-Ok.plan.command c.in-Ok.plan old new is s).status)
     c.args.ends.items c.serve_one-status.new.ends.items c.serve_one-status.ensures.served
 
 pub returns-clause-bulk_source : goal.returns-clause-bulk_source
 returns-clause-bulk_source g c = λ plan asks verb.
     let same = one_plan _ plan c.in-Ok.plan asks c.in-Ok.ensures.ok in
     let is = sym same.command ∙ verb in
-    zip_weaker (Serves c.in-Ok.plan.command c.in-Ok.plan g.S.Source.left g.S.Source.faults g.K.Sink.written g.K.Sink.faults)
-    _ (λ old new s. (bulk_served g.S.Source.left g.S.Source.faults g.K.Sink.written g.K.Sink.faults c.in-Ok.plan.command c.in-Ok.plan old new is s).source)
+    zip_weaker
+    (Serves c.in-Ok.plan.command c.in-Ok.plan g.S.Source.left g.S.Source.faults g.K.Sink.written g.K.Sink.faults)
+    _ (λ old new s.
+    (bulk_served g.S.Source.left g.S.Source.faults g.K.Sink.written g.K.Sink.faults c.in-Ok.plan.command c.in-Ok.plan old new is s).source)
     c.args.ends.items c.serve_one-status.new.ends.items c.serve_one-status.ensures.served
 
 pub returns-clause-bulk_all : goal.returns-clause-bulk_all
 returns-clause-bulk_all g c = λ plan asks verb.
     let same = one_plan _ plan c.in-Ok.plan asks c.in-Ok.ensures.ok in
     let is = sym same.command ∙ verb in
-    zip_weaker (Serves c.in-Ok.plan.command c.in-Ok.plan g.S.Source.left g.S.Source.faults g.K.Sink.written g.K.Sink.faults)
+    zip_weaker
+    (Serves c.in-Ok.plan.command c.in-Ok.plan g.S.Source.left g.S.Source.faults g.K.Sink.written g.K.Sink.faults)
     _ (λ old new s done. summaries.all_same plan c.in-Ok.plan _ _ same
     ((bulk_served g.S.Source.left g.S.Source.faults g.K.Sink.written g.K.Sink.faults c.in-Ok.plan.command c.in-Ok.plan old new is s).all done))
     c.args.ends.items c.serve_one-status.new.ends.items c.serve_one-status.ensures.served
@@ -187,7 +199,8 @@ pub returns-clause-bulk_prefix : goal.returns-clause-bulk_prefix
 returns-clause-bulk_prefix g c = λ plan asks verb.
     let same = one_plan _ plan c.in-Ok.plan asks c.in-Ok.ensures.ok in
     let is = sym same.command ∙ verb in
-    zip_weaker (Serves c.in-Ok.plan.command c.in-Ok.plan g.S.Source.left g.S.Source.faults g.K.Sink.written g.K.Sink.faults)
+    zip_weaker
+    (Serves c.in-Ok.plan.command c.in-Ok.plan g.S.Source.left g.S.Source.faults g.K.Sink.written g.K.Sink.faults)
     _ (λ old new s failed. summaries.prefix_same plan c.in-Ok.plan _ _ same
     ((bulk_served g.S.Source.left g.S.Source.faults g.K.Sink.written g.K.Sink.faults c.in-Ok.plan.command c.in-Ok.plan old new is s).prefix failed))
     c.args.ends.items c.serve_one-status.new.ends.items c.serve_one-status.ensures.served
@@ -196,6 +209,8 @@ pub returns-clause-bulk_nothing : goal.returns-clause-bulk_nothing
 returns-clause-bulk_nothing g c = λ plan asks verb.
     let same = one_plan _ plan c.in-Ok.plan asks c.in-Ok.ensures.ok in
     let is = sym same.command ∙ verb in
-    zip_weaker (Serves c.in-Ok.plan.command c.in-Ok.plan g.S.Source.left g.S.Source.faults g.K.Sink.written g.K.Sink.faults)
-    _ (λ old new s none. (bulk_served g.S.Source.left g.S.Source.faults g.K.Sink.written g.K.Sink.faults c.in-Ok.plan.command c.in-Ok.plan old new is s).nothing none)
+    zip_weaker
+    (Serves c.in-Ok.plan.command c.in-Ok.plan g.S.Source.left g.S.Source.faults g.K.Sink.written g.K.Sink.faults)
+    _ (λ old new s none.
+    (bulk_served g.S.Source.left g.S.Source.faults g.K.Sink.written g.K.Sink.faults c.in-Ok.plan.command c.in-Ok.plan old new is s).nothing none)
     c.args.ends.items c.serve_one-status.new.ends.items c.serve_one-status.ensures.served

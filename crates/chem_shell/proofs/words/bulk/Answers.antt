@@ -16,19 +16,19 @@ pub returns-in_err-seed-2-clause-err : goal.returns-in_err-seed-2-clause-err
 returns-in_err-seed-2-clause-err c =
     let args = c.get_raw.ensures ∙ raw_values-rows (found_of c.args.found.now) (codes "args") in
     on_err c.from_residual-in_err-seed-2.result (λ plan row.
-      let words = firsts_same c.in_ok-seed.seed.now c.in_ok-seed.count.now row.args.seed_word row.args.count_word
-      (sym c.in_ok-seed.ensures.ok ∙ (args ∙ row.args.two)) in
-      c.in_err-seed-2.ensures.err plan.seed
-      (subst (λ word. IsNumber word 1 LAST_SEED plan.seed) (sym words.0) row.args.seed_is))
+    let words = firsts_same c.in_ok-seed.seed.now c.in_ok-seed.count.now row.args.seed_word row.args.count_word
+    (sym c.in_ok-seed.ensures.ok ∙ (args ∙ row.args.two)) in
+    c.in_err-seed-2.ensures.err plan.seed
+    (subst (λ word. IsNumber word 1 LAST_SEED plan.seed) (sym words.0) row.args.seed_is))
 
 pub returns-in_err-count-clause-err : goal.returns-in_err-count-clause-err
 returns-in_err-count-clause-err c =
     let args = c.get_raw.ensures ∙ raw_values-rows (found_of c.args.found.now) (codes "args") in
     on_err c.from_residual-in_err-count.result (λ plan row.
-      let words = firsts_same c.in_ok-seed.seed.now c.in_ok-seed.count.now row.args.seed_word row.args.count_word
-      (sym c.in_ok-seed.ensures.ok ∙ (args ∙ row.args.two)) in
-      c.in_err-count.ensures.err plan.count
-      (subst (λ word. IsNumber word 0 MOST_STRUCTURES plan.count) (sym words.1) row.args.count_is))
+    let words = firsts_same c.in_ok-seed.seed.now c.in_ok-seed.count.now row.args.seed_word row.args.count_word
+    (sym c.in_ok-seed.ensures.ok ∙ (args ∙ row.args.two)) in
+    c.in_err-count.ensures.err plan.count
+    (subst (λ word. IsNumber word 0 MOST_STRUCTURES plan.count) (sym words.1) row.args.count_is))
 
 pub returns-then-is_some-clause-err : goal.returns-then-is_some-clause-err
 returns-then-is_some-clause-err c = λ plan row.

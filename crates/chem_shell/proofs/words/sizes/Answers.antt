@@ -24,8 +24,7 @@ returns-in_err-page-clause-err c =
 pub returns-clause-ok : goal.returns-clause-ok
 returns-clause-ok c =
     let workers = c.get_str.ensures ∙ first_value-rows (found_of c.args.found.now) (codes "workers") in
-    let page = c.get_str-2.ensures ∙ first_value-rows (found_of c.args.found.now) (codes "page") in
-    (
+    let page = c.get_str-2.ensures ∙ first_value-rows (found_of c.args.found.now) (codes "page") in (
       subst (λ (o : Option Text). IsSetting o 16 1 c.in_ok-workers.workers) workers c.in_ok-workers.ensures.ok,
-      subst (λ (o : Option Text). IsSetting o 256 256 c.in_ok-page.page) page c.in_ok-page.ensures.ok
+      subst (λ (o : Option Text). IsSetting o 256 256 c.in_ok-page.page) page c.in_ok-page.ensures.ok,
     )
