@@ -1,5 +1,5 @@
 -- Transcripts over a store in memory: whole ones, beginnings, and what a session put.
-use Rattle.std.proofs.Common.{◌≡◌, ◌≢◌, ◌∙◌, ℕ, List, [], ◌∷◌, ◌++◌, Option, None, Some, IfSome, refl, sym, ap, inl, append-nil, true}
+use Rattle.std.proofs.Common.{◌≡◌, ◌≢◌, ◌∙◌, ℕ, List, [], ◌∷◌, ◌++◌, Option, None, Some, IfSome, refl, sym, ap, inl, append-nil, arith, true}
 use Rattle.io_edge.specs.Lines.{TextLine, lines_of}
 use Rattle.session_run.specs.Cursors.{Calls}
 use Rattle.session_run.specs.Served as session
@@ -14,7 +14,9 @@ use Rattle.store_machine.specs.declared.machine.Change.{Change}
 use Rattle.chem_shell.specs.Runs.{AreOfRun, IsTranscript, IsTranscriptPrefix}
 use Rattle.chem_shell.specs.Served.{WritesAll, WritesPrefix}
 use Rattle.chem_shell.specs.Serving.{IsServed}
+use Rattle.chem_shell.specs.Status.{IsStatusOf}
 use Rattle.chem_shell.specs.declared.request.Plan.{Plan}
+use Rattle.chem_shell.specs.declared.top.TheConstants.{DONE}
 use Rattle.chem_shell.proofs.Asked.{SamePlan}
 
 -- requests that were answered whole are a beginning
@@ -132,11 +134,23 @@ served_prefix ended commits page (Some bytes) before after fit h =
       true_begins ended served.1.last.history page (lines_of bytes) served.0 text fit served.3,
     )) h
 
-pub served_all : (commits page : ℕ) (input before after : Option (List ℕ))
+served_all : (commits page : ℕ) (input before after : Option (List ℕ))
     → IfSome input (λ bytes. Writes before after (IsServed Done commits page bytes))
     → WritesAll commits page input before after
 served_all commits page None before after h = tt
 served_all commits page (Some bytes) before after h = h
+
+-- status 0 comes where the session came to the input's end
+pub all_of_status : (ended : EndStatus) (status commits page : ℕ) (input before after : Option (List ℕ))
+    → IsStatusOf ended status → status ≡ DONE
+    → IfSome input (λ bytes. Writes before after (IsServed ended commits page bytes))
+    → WritesAll commits page input before after
+all_of_status Done status commits page input before after is e h = served_all commits page input before after h
+all_of_status Worn status commits page input before after is e h = absurd is
+all_of_status SourceFault status commits page input before after is e h = absurd (omega (arith, is, e))
+all_of_status SinkFault status commits page input before after is e h = absurd (omega (arith, is, e))
+all_of_status NoMemory status commits page input before after is e h = absurd (omega (arith, is, e))
+all_of_status InputTooLong status commits page input before after is e h = absurd (omega (arith, is, e))
 
 -- where nothing was put
 pub prefix_unmoved : (commits page : ℕ) (input before : Option (List ℕ)) → WritesPrefix commits page input before before
