@@ -150,8 +150,9 @@ not_too_long f p q = cc
 pub not_end : (f : LineFault) → ◌≡◌ {A = Result Line LineFault} (Err f) (Ok End) → ⊥
 not_end f p = cc
 
--- no line was left where a call that answers from what was held answers a fault
-pub awaits_held : (answer : Result Line LineFault) (a b : Reading) → AnswersHeld answer a b → OnErr answer (AwaitsBytes b)
+-- a call that answers a fault from what was held left no whole line
+pub awaits_held : (answer : Result Line LineFault) (a b : Reading) → AnswersHeld answer a b
+    → OnErr answer (AwaitsBytes b)
 awaits_held (Ok line) a b held = tt
 awaits_held (Err fault.Source) a b held = absurd (held.source refl)
 awaits_held (Err fault.TooLong) a b held = let at = held.too_long refl in record {

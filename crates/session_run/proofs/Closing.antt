@@ -1,11 +1,11 @@
 -- How a session is closed: the pins of its open cursors are given back.
-use Rattle.std.proofs.Common.{◌≡◌, ◌++◌, ◌∙◌, ap, append-nil, append_assoc, IfSome, inl, List, [], ◌∷◌, None, Option, refl, Some, sym, ℕ}
+use Rattle.std.proofs.Common.{◌≡◌, ◌++◌, ◌∙◌, ap, append-nil, append_assoc, IfSome, inl, List, [], None, Option, refl, Some, sym, ℕ}
 use Rattle.io_edge.specs.Lines.{TextLine, lines_of}
 use Rattle.session_run.specs.Cursors.{Calls, Cursor, unpins}
 use Rattle.session_run.specs.Requests.{Request, BeginWithAll}
 use Rattle.session_run.specs.Served.{IsAllOfTaken, IsServed, Writes, WritesForTaken}
 use Rattle.session_run.specs.Serving.{AnswersTaken, Ends, Serves}
-use Rattle.session_run.specs.Transcript.{AreAnswered, IsPrefixOf, IsTranscriptPrefix, IsWornPrefix, Stops}
+use Rattle.session_run.specs.Transcript.{AreAnswered, IsPrefixOf, IsWornPrefix, Stops}
 use Rattle.session_run.specs.declared.settings.EndStatus.{EndStatus}
 use Rattle.session_run.specs.declared.settings.EndStatus.TheVariants.{Done, SourceFault, SinkFault, NoMemory, InputTooLong, Worn}
 

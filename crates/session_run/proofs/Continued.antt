@@ -1,5 +1,5 @@
 -- How the lines of a source are read on, however its input goes on.
-use Rattle.std.proofs.Common.{◌≡◌, ℕ, IsTrue, Option, None, Some, List, [], ◌∷◌, ◌++◌, ◌≤◌, refl, sym, ap, ◌∙◌, subst, append_assoc, append-nil}
+use Rattle.std.proofs.Common.{◌≡◌, ℕ, IsTrue, Option, None, Some, List, [], ◌∷◌, ◌++◌, ◌≤◌, refl, sym, ap, ◌∙◌, subst, append_assoc}
 use Rattle.std.proofs.lemmas.List.{append_cancel_right}
 use Rattle.std.specs.Io.KnownBytes.{Consumes}
 use Rattle.io_edge.specs.Source.{Leaves}
@@ -85,9 +85,9 @@ module _ (P Q R : List TextLine → List TextLine → Type 0)
       let mid : k.0 ≡ v.got ++ l' = m.2 ∙ ap (λ x. v.got ++ x) (some_one m.0 l' (sym m.1 ∙ q)) in
       let ends : IsTrue r.ended → k.0 ≡ [] = (λ e. u.met l k.0 p k.1 h e) in
       let none : IsTrue r.ended → v.got ++ rest ≡ [] =
-          (λ e. none_more v.got l' rest (sym mid ∙ ends e) (met (v.ended e))) in
+      (λ e. none_more v.got l' rest (sym mid ∙ ends e) (met (v.ended e))) in
       let whole : got ≡ u.got ++ v.got = append_cancel_right got (u.got ++ v.got) l'
-          (sym split ∙ (k.2 ∙ (ap (λ x. u.got ++ x) mid ∙ sym (append_assoc u.got v.got l')))) in
+      (sym split ∙ (k.2 ∙ (ap (λ x. u.got ++ x) mid ∙ sym (append_assoc u.got v.got l')))) in
       subst (λ (x : List ℕ). R (lines_left old x) (lines_left r' rest))
       (sym (append_assoc u.got v.got rest) ∙ ap (λ x. x ++ rest) (sym whole))
       (step (lines_left old (u.got ++ (v.got ++ rest))) (lines_left r (v.got ++ rest)) (lines_left r' rest)

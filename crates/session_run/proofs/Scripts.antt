@@ -1,5 +1,5 @@
 -- Requests that are read and answered one after another, and how a session ends among them.
-use Rattle.std.proofs.Common.{◌≡◌, ◌⊎◌, inl, inr, ℕ, ◌≤◌, IsTrue, Bool, true, false, Option, None, Some, List, [], ◌∷◌, ◌++◌, length, refl, sym, ap, ◌∙◌, subst, arith, append_assoc, append-nil, length-append}
+use Rattle.std.proofs.Common.{◌≡◌, inl, inr, ℕ, ◌≤◌, IsTrue, false, Option, None, Some, List, [], ◌∷◌, ◌++◌, length, refl, sym, ap, ◌∙◌, subst, arith, append_assoc, append-nil, length-append}
 use Rattle.std.specs.Io.KnownBytes.{Appends}
 use Rattle.io_edge.specs.Faults.{Rose}
 use Rattle.io_edge.specs.Sink.{AppendsPrefix}
@@ -8,9 +8,9 @@ use Rattle.shell_lang.specs.Reply.{text_of}
 use Rattle.session_run.specs.Answer.{Lines, RequestAnswer}
 use Rattle.session_run.specs.Cursors.{Calls, Cursor, unpins}
 use Rattle.session_run.specs.Requests.{Request, BeginWith, BeginWithAll, IsPartOfRequest}
-use Rattle.session_run.specs.Served.{IsInputFault, TakesExactly, Writes, WritesForTaken}
+use Rattle.session_run.specs.Served.{IsInputFault, TakesExactly, WritesForTaken}
 use Rattle.session_run.specs.Serving.{AnswersTaken, AnswersWhole, Ends, IsFresh, Serves}
-use Rattle.session_run.specs.Transcript.{AreAnswered, IsPrefixOf, IsTranscriptPrefix, IsWornPrefix, Stops}
+use Rattle.session_run.specs.Transcript.{AreAnswered, IsPrefixOf, Stops}
 use Rattle.session_run.specs.Turn.{ReadsOn, TakesNone, TakesPart, TakesRequest, Turns}
 use Rattle.session_run.specs.declared.settings.EndStatus.{EndStatus}
 use Rattle.session_run.specs.declared.settings.EndStatus.TheVariants.{Done, SourceFault, SinkFault, NoMemory, InputTooLong, Worn}
@@ -144,7 +144,7 @@ module _ (size limit : ℕ) (before now put0 put : Option (List ℕ)) (r : Readi
           split = t.split ∙ (ap (λ x. t.got ++ x) k.2 ∙ sym (append_assoc t.got reads.got k.0));
           begin = λ rest met.
               let none : IsTrue r.ended → reads.got ++ rest ≡ [] =
-                  (λ e. none_more reads.got k.0 rest (sym k.2 ∙ t.ended e) (met (reads.ended e))) in
+              (λ e. none_more reads.got k.0 rest (sym k.2 ∙ t.ended e) (met (reads.ended e))) in
               subst (λ (x : List ℕ). BeginWithAll (lines_of x) (t.requests ++ request ∷ []) (lines_left r' rest))
               (sym (append_assoc t.got reads.got rest))
               (begin_more (lines_of (t.got ++ (reads.got ++ rest))) (lines_left r (reads.got ++ rest))
@@ -202,8 +202,11 @@ module _ (size limit : ℕ) (before now put0 put : Option (List ℕ)) (r : Readi
       → put0 ≡ Some old → (t : List ℕ) × (put' ≡ Some (old ++ t)) × AnswersWhole size (lines_of input) calls cursors t
   answered-here put' appends input old p q =
       let t = u.told input old p q in
-      let a : put' ≡ Some ((old ++ t.done) ++ []) = appended (old ++ t.done) [] put put' t.put_is appends in
-      (t.done, a ∙ ap Some (append-nil (old ++ t.done)), (t.requests, lines_left r t.left, begun input old t, t.answered))
+      let a : put' ≡ Some ((old ++ t.done) ++ []) = appended (old ++ t.done) [] put put' t.put_is appends in (
+        t.done,
+        a ∙ ap Some (append-nil (old ++ t.done)),
+        (t.requests, lines_left r t.left, begun input old t, t.answered),
+      )
 
   pub serves-source_fault : (put' : Option (List ℕ)) → Appends put put' []
       → Serves SourceFault size before put0 put' calls cursors
@@ -218,7 +221,8 @@ module _ (size limit : ℕ) (before now put0 put : Option (List ℕ)) (r : Readi
       → TakesPart r r' now now' IsPartOfRequest → Appends put put' []
       → WritesForTaken before now' put0 put' (AnswersTaken size calls cursors)
   answered_taken now' put' r' f f' reads part appends = by before put0 refl refl where
-    by : (b q : Option (List ℕ)) → before ≡ b → put0 ≡ q → WritesForTaken b now' q put' (AnswersTaken size calls cursors)
+    by : (b q : Option (List ℕ)) → before ≡ b → put0 ≡ q
+        → WritesForTaken b now' q put' (AnswersTaken size calls cursors)
     by None q e d = tt
     by (Some input) None e d =
         let t = u.taken input e in
@@ -234,9 +238,9 @@ module _ (size limit : ℕ) (before now put0 put : Option (List ℕ)) (r : Readi
         let k = leaves t.left reads.got now now' t.left_is reads.leaves in
         let a : put' ≡ Some ((old ++ t.done) ++ []) = appended (old ++ t.done) [] put put' t.put_is appends in
         let more : IsTrue r'.ended → 10 ∷ [] ≡ [] =
-            (λ e. absurd (false_is_not_true (rw part.awaits.not_ended at e))) in
+        (λ e. absurd (false_is_not_true (rw part.awaits.not_ended at e))) in
         let none : IsTrue r.ended → reads.got ++ 10 ∷ [] ≡ [] =
-            (λ e. none_more reads.got k.0 (10 ∷ []) (sym k.2 ∙ t.ended e) (more (reads.ended e))) in
+        (λ e. none_more reads.got k.0 (10 ∷ []) (sym k.2 ∙ t.ended e) (more (reads.ended e))) in
         let begin = t.begin (reads.got ++ 10 ∷ []) none in
         let left = part.reads t.left k.0 reads.got t.left_is k.1 k.2 t.ended (10 ∷ []) more in (
           t.got ++ reads.got,

@@ -1,15 +1,15 @@
 -- What a turn does, by what was put.
-use Rattle.std.proofs.Common.{◌≡◌, ◌++◌, Bool, Err, IfSome, List, [], None, Ok, Option, refl, Result, Some, subst, ℕ}
+use Rattle.std.proofs.Common.{◌≡◌, IfSome, List, [], None, Ok, Option, refl, Some, subst, ℕ}
 use Rattle.std.specs.Io.KnownBytes.{Appends}
 use Rattle.io_edge.specs.Lines.{Reading}
 use Rattle.io_edge.specs.Sink.{AppendsPrefix}
 use Rattle.shell_lang.specs.Reply.{text_of}
-use Rattle.session_run.specs.Answer.{Lines, RequestAnswer}
+use Rattle.session_run.specs.Answer.{RequestAnswer}
 use Rattle.session_run.specs.Cursors.{Calls, Cursor}
-use Rattle.session_run.specs.Made.{Answered, Did, WornIn}
+use Rattle.session_run.specs.Made.{Answered, Did}
 use Rattle.session_run.specs.Requests.{Request}
 use Rattle.session_run.specs.Served.{IsInputFault}
-use Rattle.session_run.specs.Turn.{Answers, Breaks, IsNext, Puts, Replies, Takes, TakesRequest, Turns}
+use Rattle.session_run.specs.Turn.{IsNext, Puts, Replies, Takes, TakesRequest, Turns}
 use Rattle.session_run.specs.declared.request.Next.{Next}
 use Rattle.session_run.specs.declared.request.Next.TheVariants as nexts
 use Rattle.session_run.specs.declared.settings.EndStatus.{EndStatus}

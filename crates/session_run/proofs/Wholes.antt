@@ -1,5 +1,5 @@
 -- The requests that are whole in what was taken, by what they leave where one more LF follows.
-use Rattle.std.proofs.Common.{◌≡◌, ◌≢◌, ◌⊎◌, inl, inr, ℕ, zero, suc, Bool, true, false, List, [], ◌∷◌, ◌++◌, map, refl, sym, ap, ◌∙◌, subst, arith, cond, Contains}
+use Rattle.std.proofs.Common.{◌≡◌, ◌≢◌, inl, inr, ℕ, suc, Bool, true, false, List, [], ◌∷◌, ◌++◌, map, refl, sym, ap, ◌∙◌, subst, arith, cond, Contains}
 use Rattle.std.specs.Prelude.{◌==◌}
 use Rattle.std.proofs.lemmas.Bool.Decides.{nat_tests}
 use Rattle.std.proofs.lemmas.List.{map-append}
@@ -48,8 +48,8 @@ not_behind b bytes none c = none (suc c.0, omega (arith, c.1), c.2)
 none_ended : (b : ℕ) (ps : List Piece) → ended_pieces ps ≡ [] → ended_pieces (before_first b ps) ≡ []
 none_ended b [] = λ e. refl
 none_ended b (r ∷ ps) =
-    elim r.ended as (λ t. cond t (r ∷ ended_pieces ps) [] ≡ [] → cond t (record r { bytes = b ∷ r.bytes } ∷ ended_pieces ps) []
-    ≡ []) [
+    elim r.ended as (λ t. cond t (r ∷ ended_pieces ps) [] ≡ []
+    → cond t (record r { bytes = b ∷ r.bytes } ∷ ended_pieces ps) [] ≡ []) [
       | true ↦ λ e. cc
       | false ↦ λ e. refl
     ]
@@ -114,9 +114,11 @@ whole_request [] left x y request (m, e, inr h) more =
     absurd (not_nothing left y b.1)
 whole_request (l ∷ lines) left x y request (m, e, inl h) more =
     let head : l ≡ request.line = cc in
-    let tail : m ≡ lines ++ x ∷ [] = cc in
-    (lines ++ more, ap (λ k. k ∷ lines ++ more) head,
-     inl (h.0, h.1, ap (λ k. k ++ more) (same_before left lines y x (h.2 ∙ tail))))
+    let tail : m ≡ lines ++ x ∷ [] = cc in (
+      lines ++ more,
+      ap (λ k. k ∷ lines ++ more) head,
+      inl (h.0, h.1, ap (λ k. k ++ more) (same_before left lines y x (h.2 ∙ tail))),
+    )
 whole_request (l ∷ lines) left x y request (m, e, inr h) more =
     let head : l ≡ request.line = cc in
     let tail : m ≡ lines ++ x ∷ [] = cc in

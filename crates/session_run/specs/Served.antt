@@ -11,16 +11,16 @@ use Rattle.session_run.specs.declared.settings.EndStatus.TheVariants.{Done, Inpu
 abbrev pub Writes : Option (List ℕ) → Option (List ℕ) → (List ℕ → Type 0) → Type 0
 Writes before after P = IfSome before (λ old. (text : List ℕ) × (after ≡ Some (old ++ text)) × P text)
 
--- so many bytes were taken, where it is told
-abbrev pub TakesExactly : Option (List ℕ) → Option (List ℕ) → ℕ → Type 0
-TakesExactly before after n =
-    IfSome before (λ old. (got rest : List ℕ) × (old ≡ got ++ rest) × (after ≡ Some rest) × (length got ≡ n))
-
--- the same with P of the bytes that were taken, and of the text
+-- some text was put behind it, with P of the bytes that were taken and the text
 abbrev pub WritesForTaken : Option (List ℕ) → Option (List ℕ) → Option (List ℕ) → Option (List ℕ)
     → (List ℕ → List ℕ → Type 0) → Type 0
 WritesForTaken before after put put' P = IfSome before
     (λ old. (got rest : List ℕ) × (old ≡ got ++ rest) × (after ≡ Some rest) × Writes put put' (P got))
+
+-- so many bytes were taken, where it is told
+abbrev pub TakesExactly : Option (List ℕ) → Option (List ℕ) → ℕ → Type 0
+TakesExactly before after n =
+    IfSome before (λ old. (got rest : List ℕ) × (old ≡ got ++ rest) × (after ≡ Some rest) × (length got ≡ n))
 
 -- Some first requests of a script were answered whole, and nothing of the next one was called or written. The pins that
 -- are still held are given back

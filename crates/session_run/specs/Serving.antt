@@ -1,5 +1,5 @@
 -- For private clauses alone: a session before the pins of its open cursors are given back.
-use Rattle.std.specs.Prelude.{◌≡◌, ◌≢◌, ℕ, List, [], ◌++◌, Option, None, Some, IfSome, false}
+use Rattle.std.specs.Prelude.{◌≡◌, ◌≢◌, ℕ, List, [], Option, Some, IfSome, false}
 use Rattle.io_edge.specs.Lines.{Reading, TextLine, lines_of, whole_lines}
 use Rattle.store_core.specs.Calls.{NotRaised}
 use Rattle.session_run.specs.Cursors.{Calls, Cursor}

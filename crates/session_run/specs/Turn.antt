@@ -1,5 +1,5 @@
 -- For private clauses alone: how a source is read on by requests, and what a turn of a session does.
-use Rattle.std.specs.Prelude.{◌≡◌, ◌≤◌, ◌⊎◌, ℕ, IsTrue, Bool, true, false, Option, None, Some, Result, Ok, Err, List, [], ◌∷◌, ◌++◌, Contains}
+use Rattle.std.specs.Prelude.{◌≡◌, ◌≤◌, ℕ, IsTrue, Option, None, Some, List, [], ◌∷◌, ◌++◌, Contains}
 use Rattle.std.specs.Io.KnownBytes.{Appends}
 use Rattle.io_edge.specs.Faults.{Rose}
 use Rattle.io_edge.specs.Sink.{AppendsPrefix}
@@ -8,11 +8,9 @@ use Rattle.io_edge.specs.NextLine.{Counts}
 use Rattle.io_edge.specs.Source.{Leaves}
 use Rattle.io_edge.specs.declared.lines.LineFault.{LineFault}
 use Rattle.io_edge.specs.declared.lines.LineFault.TheVariants as line_faults
-use Rattle.shell_lang.specs.Command.{Command, StartsMolfile, IsLine, molfile_command}
+use Rattle.shell_lang.specs.Command.{StartsMolfile, IsLine, molfile_command}
 use Rattle.shell_lang.specs.Reply.{text_of}
-use Rattle.shell_lang.specs.declared.command.LineRefusal.{LineRefusal}
-use Rattle.shell_lang.specs.declared.command.MolfileChange.{MolfileChange}
-use Rattle.session_run.specs.Answer.{Lines, RequestAnswer}
+use Rattle.session_run.specs.Answer.{RequestAnswer}
 use Rattle.session_run.specs.Cursors.{Calls, Cursor}
 use Rattle.session_run.specs.Made.{Did, WornIn}
 use Rattle.session_run.specs.Requests.{Request, BeginWith, BeginWithMolfile, IsLong, molfile_text}

@@ -44,7 +44,8 @@ pub fn next_request<I: Source>(
     source: &mut I,
 ) -> Result<Next, LineFault>
     ensures takes { IfOk result (λ next. Takes next lines.old lines.new (I.left source.old) (I.left source.new) text.new.items) }
-    ensures part { OnErr result (TakesPart lines.old lines.new (I.left source.old) (I.left source.new) IsPartOfRequest) }
+    ensures part { OnErr result
+        (TakesPart lines.old lines.new (I.left source.old) (I.left source.new) IsPartOfRequest) }
     ensures reads { ReadsOn (I.left source.old) (I.left source.new) (I.faults source.old) (I.faults source.new) lines.old lines.new }
     ensures progress { IfOk result (λ read. read ≢ next.End → done_bytes lines.old < done_bytes lines.new) }
     ensures source_fault { result ≡ Err LineFault.Source → Rose (I.faults source.old) (I.faults source.new) }

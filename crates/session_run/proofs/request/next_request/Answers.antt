@@ -1,4 +1,4 @@
-use Rattle.std.proofs.Common.{◌≡◌, ◌∙◌, ◌++◌, ◌∷◌, [], ap, inl, inr, List, refl, sym}
+use Rattle.std.proofs.Common.{◌≡◌, ◌∙◌, ◌++◌, ◌∷◌, [], ap, inl, inr, refl, sym}
 use Rattle.std.proofs.lemmas.Result.{err_from_is_err_and}
 use Rattle.io_edge.specs.Lines.{TextLine, TooLong, Whole, lines_left}
 use Rattle.shell_lang.specs.Command.{IsLine, StartsMolfile, molfile_command}
@@ -26,9 +26,9 @@ returns-in_err-molfile-in-Some-clause-reads g c =
     let faults = g.I.Source.faults in
     let line = c.in_ok-next_line.ensures in
     reads_more _ _ _ _ _ _ c.args.lines.now c.next_line.new.self c.take_molfile.new.lines
-    (line_reads (left c.args.source.now) (left c.next_line.new.source) (faults c.args.source.now)
-    (faults c.next_line.new.source) c.args.lines.now c.next_line.new.self line.bytes.0 line.bytes.1 line.bytes.2 line.met
-    line.ended line.progress line.count) c.in_err-molfile-in-Some.ensures.reads
+    (line_reads _ _ _ _ c.args.lines.now c.next_line.new.self
+    line.bytes.0 line.bytes.1 line.bytes.2 line.met line.ended line.progress line.count)
+    c.in_err-molfile-in-Some.ensures.reads
 
 pub returns-in_err-molfile-in-Some-clause-part : goal.returns-in_err-molfile-in-Some-clause-part
 returns-in_err-molfile-in-Some-clause-part g c =
@@ -38,7 +38,8 @@ returns-in_err-molfile-in-Some-clause-part g c =
     let t = c.in_err-molfile-in-Some.ensures.part in
     let starts : StartsMolfile c.next_line.new.self.text = rw (sym c.text.ensures) c.in-Some.ensures.some.0 in
     let first : TextLine = Whole c.next_line.new.self.text in
-    let fault = err_from_is_err_and c.from_residual-in_err-molfile-in-Some.result c.from_residual-in_err-molfile-in-Some.ensures.1 in
+    let fault = err_from_is_err_and c.from_residual-in_err-molfile-in-Some.result
+    c.from_residual-in_err-molfile-in-Some.ensures.1 in
     rw fault.1 (record {
       part = first ∷ t.part;
       is = (starts, t.is);
@@ -47,12 +48,12 @@ returns-in_err-molfile-in-Some-clause-part g c =
           (left c.args.source.now) (left c.next_line.new.source) (left c.take_molfile.new.source)
           (faults c.args.source.now) (faults c.next_line.new.source) (faults c.take_molfile.new.source)
           c.args.lines.now c.next_line.new.self c.take_molfile.new.lines
-          (line_reads (left c.args.source.now) (left c.next_line.new.source) (faults c.args.source.now)
-          (faults c.next_line.new.source) c.args.lines.now c.next_line.new.self line.bytes.0 line.bytes.1 line.bytes.2 line.met
-          line.ended line.progress line.count)
+          (line_reads _ _ _ _ c.args.lines.now c.next_line.new.self
+          line.bytes.0 line.bytes.1 line.bytes.2 line.met line.ended line.progress line.count)
           c.in_err-molfile-in-Some.ensures.reads
           (lines_read (Whole c.next_line.new.self.text ∷ []) c.args.lines.now c.next_line.new.self
-          (left c.args.source.now) (left c.next_line.new.source) line.bytes.0 line.bytes.1 (rw c.in-Text.is at line.bytes.3))
+          (left c.args.source.now) (left c.next_line.new.source) line.bytes.0 line.bytes.1
+          (rw c.in-Text.is at line.bytes.3))
           t.reads;
       awaits = t.awaits;
     })
@@ -63,16 +64,17 @@ returns-in_ok-molfile-in-Some-clause-reads g c =
     let faults = g.I.Source.faults in
     let line = c.in_ok-next_line.ensures in
     reads_more _ _ _ _ _ _ c.args.lines.now c.next_line.new.self c.take_molfile.new.lines
-    (line_reads (left c.args.source.now) (left c.next_line.new.source) (faults c.args.source.now)
-    (faults c.next_line.new.source) c.args.lines.now c.next_line.new.self line.bytes.0 line.bytes.1 line.bytes.2 line.met
-    line.ended line.progress line.count) c.in_ok-molfile-in-Some.ensures.reads
+    (line_reads _ _ _ _ c.args.lines.now c.next_line.new.self
+    line.bytes.0 line.bytes.1 line.bytes.2 line.met line.ended line.progress line.count)
+    c.in_ok-molfile-in-Some.ensures.reads
 
 pub returns-in-Long-clause-takes : goal.returns-in-Long-clause-takes
 returns-in-Long-clause-takes g c =
     let left = g.I.Source.left in
     let line = c.in_ok-next_line.ensures in
     let is = lines_read (TooLong ∷ []) c.args.lines.now c.next_line.new.self
-    (left c.args.source.now) (left c.next_line.new.source) line.bytes.0 line.bytes.1 (rw c.in-Long.is at line.bytes.3) in (
+    (left c.args.source.now) (left c.next_line.new.source) line.bytes.0 line.bytes.1
+    (rw c.in-Long.is at line.bytes.3) in (
       record { line = TooLong; molfile = [] },
       λ l l' got p q split h rest met.
           (lines_left c.next_line.new.self rest, is l l' got p q split h rest met, inl (λ e. e, refl, refl)),
@@ -84,7 +86,8 @@ returns-in-None-clause-takes g c =
     let left = g.I.Source.left in
     let line = c.in_ok-next_line.ensures in
     let is = lines_read (Whole c.next_line.new.self.text ∷ []) c.args.lines.now c.next_line.new.self
-    (left c.args.source.now) (left c.next_line.new.source) line.bytes.0 line.bytes.1 (rw c.in-Text.is at line.bytes.3) in
+    (left c.args.source.now) (left c.next_line.new.source) line.bytes.0 line.bytes.1
+    (rw c.in-Text.is at line.bytes.3) in
     let none : ¬ StartsMolfile c.next_line.new.self.text = (λ s. c.in-None.ensures.none (rw c.text.ensures s)) in (
       record { line = Whole c.next_line.new.self.text; molfile = [] },
       λ l l' got p q split h rest met.
@@ -101,7 +104,7 @@ returns-in_ok-molfile-in-Some-clause-takes g c =
     let first : TextLine = Whole c.next_line.new.self.text in
     let starts : StartsMolfile c.next_line.new.self.text = rw (sym c.text.ensures) c.in-Some.ensures.some.0 in
     let is : IsLine c.next_line.new.self.text (molfile_command c.in-Some.read) =
-        rw (sym c.text.ensures) c.in-Some.ensures.some.1 in (
+    rw (sym c.text.ensures) c.in-Some.ensures.some.1 in (
       record { line = first; molfile = t.0 },
       lines_more (λ lines left. lines ≡ first ∷ left) (λ lines left. BeginWithMolfile lines t.0 left)
           (λ lines left. BeginWith lines (record { line = first; molfile = t.0 }) left)
@@ -109,12 +112,12 @@ returns-in_ok-molfile-in-Some-clause-takes g c =
           (left c.args.source.now) (left c.next_line.new.source) (left c.take_molfile.new.source)
           (faults c.args.source.now) (faults c.next_line.new.source) (faults c.take_molfile.new.source)
           c.args.lines.now c.next_line.new.self c.take_molfile.new.lines
-          (line_reads (left c.args.source.now) (left c.next_line.new.source) (faults c.args.source.now)
-          (faults c.next_line.new.source) c.args.lines.now c.next_line.new.self line.bytes.0 line.bytes.1 line.bytes.2 line.met
-          line.ended line.progress line.count)
+          (line_reads _ _ _ _ c.args.lines.now c.next_line.new.self
+          line.bytes.0 line.bytes.1 line.bytes.2 line.met line.ended line.progress line.count)
           c.in_ok-molfile-in-Some.ensures.reads
           (lines_read (Whole c.next_line.new.self.text ∷ []) c.args.lines.now c.next_line.new.self
-          (left c.args.source.now) (left c.next_line.new.source) line.bytes.0 line.bytes.1 (rw c.in-Text.is at line.bytes.3))
+          (left c.args.source.now) (left c.next_line.new.source) line.bytes.0 line.bytes.1
+          (rw c.in-Text.is at line.bytes.3))
           t.2,
       (c.next_line.new.self.text, refl, starts, is, t.1),
     )

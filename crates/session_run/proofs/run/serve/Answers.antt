@@ -1,5 +1,5 @@
-use Rattle.std.proofs.Common.{◌≡◌, ◌∙◌, [], ap, arith, List, None, Option, refl, Some, subst, sym, ℕ}
-use Rattle.session_run.specs.Cursors.{Calls, Cursor}
+use Rattle.std.proofs.Common.{◌≡◌, ◌∙◌, [], ap, arith, List, None, refl, Some, subst, sym, ℕ}
+use Rattle.session_run.specs.Cursors.{Cursor}
 use Rattle.session_run.specs.Responds.{KeepsPins}
 use Rattle.session_run.specs.Made.{Makes}
 use Rattle.session_run.specs.Turn.{TakesNone, TakesRequest, Turns}

@@ -1,6 +1,5 @@
-use Rattle.std.proofs.Common.{◌≡◌, ◌++◌, [], refl, subst}
+use Rattle.std.proofs.Common.{◌++◌, [], subst}
 use Rattle.session_run.specs.Cursors.{unpins}
-use Rattle.session_run.specs.Made.{Makes}
 use Rattle.session_run.specs.Serving.{Serves}
 use Rattle.session_run.specs.Walks.{cursors_of}
 use Rattle.session_run.specs.declared.settings.EndStatus.{EndStatus}

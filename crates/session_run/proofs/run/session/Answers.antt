@@ -1,8 +1,7 @@
-use Rattle.std.proofs.Common.{◌≡◌, [], ap, IfSome, List, subst, ℕ}
+use Rattle.std.proofs.Common.{[], ap, IfSome, List, subst, ℕ}
 use Rattle.io_edge.specs.Lines.{Reading, lines_of}
 use Rattle.session_run.specs.Served.{IsAllOfTaken, IsServed, TakesExactly, Writes, WritesForTaken}
 use Rattle.session_run.proofs.Closing.{served-none}
-use Rattle.session_run.proofs.Held.{not_raised-same}
 use Rattle.session_run.proofs.Joined.{makes_none}
 use Rattle.session_run.proofs.Keeping.{fit_new}
 use Rattle.session_run.proofs.Scripts.{fresh}

@@ -1,10 +1,9 @@
-use Rattle.std.proofs.Common.{◌≡◌, ap, arith, Err, refl, Some, sym}
+use Rattle.std.proofs.Common.{ap, Err, refl}
 use Rattle.std.proofs.KnownBytes.{Appends-nil}
 use Rattle.session_run.specs.Made.{Makes}
 use Rattle.session_run.specs.Requests.{IsPartOfRequest}
-use Rattle.session_run.specs.Turn.{IsNext, TakesNone, TakesPart, TakesRequest}
+use Rattle.session_run.specs.Turn.{TakesNone, TakesPart, TakesRequest}
 use Rattle.session_run.specs.Walks.{cursors_of}
-use Rattle.session_run.proofs.Held.{not_raised-same, same_held}
 use Rattle.session_run.proofs.Joined.{makes_none}
 use Rattle.session_run.proofs.Keeping.{done_lives, keeps_on, limit_lives, source_lives}
 use Rattle.session_run.proofs.Turning.{no_input_fault, takes_request, turn_replied}

@@ -68,7 +68,8 @@ returns-in_err-take_piece g c =
       finished = λ h. absurd (under.none (can_finished _ h));
       awaits = record {
         not_ended = c.in_err-take_piece.ensures.not_ended;
-        none = no_whole_line c.take_piece.new.self c.in_err-take_piece.ensures.none c.in_err-take_piece.ensures.not_ended;
+        none = no_whole_line c.take_piece.new.self c.in_err-take_piece.ensures.none
+            c.in_err-take_piece.ensures.not_ended;
       };
       ended = λ e. absurd (under.none (inr (inl e)));
       count = under.count;
