@@ -1,6 +1,6 @@
 -- What a call for the next line did, from its steps.
 use Rattle.std.proofs.Common.{◌≡◌, ℕ, ◌<◌, ◌≤◌, ◌⊎◌, Bool, false, List, [], ◌∷◌, ◌++◌, Option, None, Some, Result, Ok, Err, cond, refl, sym, ap, ◌∙◌, subst, inl, inr, arith, append_assoc, length-append}
-use Rattle.std.specs.Prelude.{IsTrue}
+use Rattle.std.specs.Prelude.{IsTrue, OnErr}
 use Rattle.std.specs.Io.KnownBytes.{IsAtEnd}
 use Rattle.std.proofs.lemmas.Option.{same_Some}
 use Rattle.std.proofs.KnownBytes.{Consumes-nil, Consumes-trans}
@@ -12,7 +12,7 @@ use Rattle.io_edge.specs.Faults.{Rose}
 use Rattle.io_edge.specs.Source.{Leaves}
 use Rattle.io_edge.specs.declared.lines.TheConstants.{LF}
 use Rattle.io_edge.specs.Cut.{HasNoLf}
-use Rattle.io_edge.specs.Lines.{TooLong, Reading, lines_of, behind_lf, lines_left, HasWholeLine, IsAtLimit, IsFinished}
+use Rattle.io_edge.specs.Lines.{TooLong, Reading, lines_of, behind_lf, lines_left, HasWholeLine, IsAtLimit, IsFinished, AwaitsBytes}
 use Rattle.io_edge.specs.NextLine.{answered, Answers, Counts, Told, OnLine, CanAnswer}
 use Rattle.io_edge.specs.Steps.{IsSound, AnswersHeld, NeedsMore, IsEndOf, Reads}
 
@@ -150,6 +150,16 @@ not_too_long f p q = cc
 pub not_end : (f : LineFault) → ◌≡◌ {A = Result Line LineFault} (Err f) (Ok End) → ⊥
 not_end f p = cc
 
+-- a call that answers a fault from what was held left no whole line
+pub awaits_held : (answer : Result Line LineFault) (a b : Reading) → AnswersHeld answer a b
+    → OnErr answer (AwaitsBytes b)
+awaits_held (Ok line) a b held = tt
+awaits_held (Err fault.Source) a b held = absurd (held.source refl)
+awaits_held (Err fault.TooLong) a b held = let at = held.too_long refl in record {
+  not_ended = at.not_ended;
+  none = at.none;
+}
+
 -- ---- a call under way
 
 module _ {S : Type 0} (left : S → Option (List ℕ)) (faults : S → ℕ) where
@@ -195,6 +205,10 @@ module _ {S : Type 0} (left : S → Option (List ℕ)) (faults : S → ℕ) wher
   met_of r s r' s' l l' (inl same) p q h e = same_Some l' l (sym q ∙ ap left same.1 ∙ p)
       ∙ h (subst (λ (v : Reading). IsTrue v.ended) same.0 e)
   met_of r s r' s' l l' (inr under) p q h e = at_end_of l l' (left s) (left s') p q (under.end e)
+
+  pub ended_of : (r : Reading) (s : S) (r' : Reading) (s' : S) → Started r s r' s' → IsTrue r.ended → IsTrue r'.ended
+  ended_of r s r' s' (inl same) e = subst (λ (v : Reading). IsTrue v.ended) (sym same.0) e
+  ended_of r s r' s' (inr under) e = absurd (under.none (inr (inl e)))
 
   pub untouched_of : (r : Reading) (s : S) (r' : Reading) (s' : S) → Started r s r' s' → CanAnswer r → s' ≡ s
   untouched_of r s r' s' (inl same) can = same.1

@@ -40,6 +40,15 @@ as_line text = if nat_lt LONGEST_LINE (length text) then TooLong else Whole text
 abbrev pub lines_of : List ℕ → List TextLine
 lines_of bytes = map (λ piece. as_line (text_of piece)) (pieces bytes)
 
+-- the pieces that an LF ended
+abbrev pub ended_pieces : List Piece → List Piece
+ended_pieces [] = []
+ended_pieces (piece ∷ rest) = if piece.ended then piece ∷ ended_pieces rest else []
+
+-- the whole lines of a text: those that an LF ended
+abbrev pub whole_lines : List ℕ → List TextLine
+whole_lines bytes = map (λ piece. as_line (text_of piece)) (ended_pieces (pieces bytes))
+
 -- the bytes behind the first LF
 abbrev pub behind_lf : List ℕ → List ℕ
 behind_lf [] = []
@@ -65,6 +74,11 @@ lines_left reading left = if reading.long then TooLong ∷ lines_of (behind_lf (
 abbrev pub HasWholeLine : Reading → Type 0
 HasWholeLine reading = Contains reading.pending LF
     ⊎ (IsTrue reading.ended × ((0 < length reading.pending) ⊎ IsTrue reading.long))
+
+-- the end was not met, and no whole line is left to answer
+pub record AwaitsBytes (reading : Reading) : Type 0 where
+  pub not_ended : reading.ended ≡ false
+  pub none : ¬ HasWholeLine reading
 
 -- as many bytes were taken as may be, the end was not met, and no whole line is left to answer
 pub record IsAtLimit (reading : Reading) : Type 0 where

@@ -6,7 +6,7 @@ ghost use Rattle.std.specs.Prelude.{◌≡◌, ◌≤◌, ◌<◌, ◌+◌, ◌�
 ghost use Rattle.io_edge.specs.Faults.{Rose};
 ghost use Rattle.io_edge.specs.Source.{Leaves};
 ghost use Rattle.io_edge.specs.Cut.{HasNoLf, EndsAt};
-ghost use Rattle.io_edge.specs.Lines.{without_cr, lines_left, HasWholeLine, IsAtLimit, IsFinished, done_bytes};
+ghost use Rattle.io_edge.specs.Lines.{without_cr, lines_left, HasWholeLine, IsAtLimit, IsFinished, AwaitsBytes, done_bytes};
 ghost use Rattle.io_edge.specs.NextLine.{fault_text, Answers, Counts, Told, OnLine, OnText, OnNoText, CanAnswer};
 ghost use Rattle.io_edge.specs.Steps.{IsSound, front_line, behind_line, CutsLine, AnswersHeld, NeedsMore, IsEndOf, Reads};
 
@@ -150,9 +150,11 @@ impl Lines {
         ensures below_limit { result ≡ Err LineFault.Source → self.new.taken < self.new.limit }
         ensures too_long { result ≡ Err LineFault.TooLong → IsAtLimit self.new }
         ensures at_limit { IsAtLimit self.old → result ≡ Err LineFault.TooLong }
+        ensures awaits { OnErr result (AwaitsBytes self.new) }
         ensures end { result ≡ Ok Line.End → IsFinished self.new }
         ensures finished { IsFinished self.old → result ≡ Ok Line.End }
 
+        ensures ended { IsTrue self.old.ended → IsTrue self.new.ended }
         ensures count { S.faults source.old ≤ S.faults source.new }
         ensures untouched { CanAnswer self.old → source.new ≡ source.old }
     {

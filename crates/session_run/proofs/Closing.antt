@@ -1,11 +1,11 @@
 -- How a session is closed: the pins of its open cursors are given back.
-use Rattle.std.proofs.Common.{◌≡◌, ◌++◌, ◌∙◌, ap, append-nil, append_assoc, IfSome, inl, List, [], ◌∷◌, None, Option, refl, Some, sym, ℕ}
+use Rattle.std.proofs.Common.{◌≡◌, ◌++◌, ◌∙◌, ap, append-nil, append_assoc, IfSome, inl, List, [], None, Option, refl, Some, sym, ℕ}
 use Rattle.io_edge.specs.Lines.{TextLine, lines_of}
 use Rattle.session_run.specs.Cursors.{Calls, Cursor, unpins}
 use Rattle.session_run.specs.Requests.{Request, BeginWithAll}
-use Rattle.session_run.specs.Served.{IsServed, Writes}
-use Rattle.session_run.specs.Serving.{Ends, Serves}
-use Rattle.session_run.specs.Transcript.{AreAnswered, IsPrefixOf, IsTranscriptPrefix, IsWornPrefix, Stops}
+use Rattle.session_run.specs.Served.{IsAllOfTaken, IsServed, Writes, WritesForTaken}
+use Rattle.session_run.specs.Serving.{AnswersTaken, Ends, Serves}
+use Rattle.session_run.specs.Transcript.{AreAnswered, IsPrefixOf, IsWornPrefix, Stops}
 use Rattle.session_run.specs.declared.settings.EndStatus.{EndStatus}
 use Rattle.session_run.specs.declared.settings.EndStatus.TheVariants.{Done, SourceFault, SinkFault, NoMemory, InputTooLong, Worn}
 
@@ -107,3 +107,13 @@ served-none size (Some bytes) (Some old) = (
     refl,
   ),
 )
+
+-- all whole requests of what was taken were answered, and all pins were given back
+pub taken-closed : (size : ℕ) (before after put put' : Option (List ℕ)) (calls : Calls) (cursors : List Cursor)
+    → WritesForTaken before after put put' (AnswersTaken size calls cursors)
+    → WritesForTaken before after put put' (IsAllOfTaken size (calls ++ unpins cursors))
+taken-closed size None after put put' calls cursors h = tt
+taken-closed size (Some bytes) after None put' calls cursors h = (h.0, h.1, h.2, h.3, tt)
+taken-closed size (Some bytes) after (Some old) put' calls cursors h =
+    let w = h.4 in
+    (h.0, h.1, h.2, h.3, (w.0, w.1, (w.2.0, calls, cursors, w.2.1, w.2.2, refl)))

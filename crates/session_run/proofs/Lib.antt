@@ -1,6 +1,8 @@
 pub mod Joined
 pub mod Held
+pub mod Continued
 pub mod Taking
+pub mod Wholes
 pub mod Scripts
 pub mod Lines
 pub mod Pages

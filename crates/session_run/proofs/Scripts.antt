@@ -1,5 +1,5 @@
 -- Requests that are read and answered one after another, and how a session ends among them.
-use Rattle.std.proofs.Common.{◌≡◌, ◌⊎◌, inl, inr, ℕ, ◌≤◌, IsTrue, Bool, true, false, Option, None, Some, List, [], ◌∷◌, ◌++◌, length, refl, sym, ap, ◌∙◌, subst, arith, append_assoc, append-nil, length-append}
+use Rattle.std.proofs.Common.{◌≡◌, inl, inr, ℕ, ◌≤◌, IsTrue, false, Option, None, Some, List, [], ◌∷◌, ◌++◌, length, refl, sym, ap, ◌∙◌, subst, arith, append_assoc, append-nil, length-append}
 use Rattle.std.specs.Io.KnownBytes.{Appends}
 use Rattle.io_edge.specs.Faults.{Rose}
 use Rattle.io_edge.specs.Sink.{AppendsPrefix}
@@ -7,14 +7,15 @@ use Rattle.io_edge.specs.Lines.{TextLine, Reading, lines_of, lines_left}
 use Rattle.shell_lang.specs.Reply.{text_of}
 use Rattle.session_run.specs.Answer.{Lines, RequestAnswer}
 use Rattle.session_run.specs.Cursors.{Calls, Cursor, unpins}
-use Rattle.session_run.specs.Requests.{Request, BeginWith, BeginWithAll}
-use Rattle.session_run.specs.Served.{TakesExactly, Writes}
-use Rattle.session_run.specs.Serving.{AnswersWhole, Ends, IsFresh, Serves}
-use Rattle.session_run.specs.Transcript.{AreAnswered, IsPrefixOf, IsTranscriptPrefix, IsWornPrefix, Stops}
-use Rattle.session_run.specs.Turn.{ReadsOn, TakesNone, TakesRequest, Turns}
+use Rattle.session_run.specs.Requests.{Request, BeginWith, BeginWithAll, IsPartOfRequest}
+use Rattle.session_run.specs.Served.{IsInputFault, TakesExactly, WritesForTaken}
+use Rattle.session_run.specs.Serving.{AnswersTaken, AnswersWhole, Ends, IsFresh, Serves}
+use Rattle.session_run.specs.Transcript.{AreAnswered, IsPrefixOf, Stops}
+use Rattle.session_run.specs.Turn.{ReadsOn, TakesNone, TakesPart, TakesRequest, Turns}
 use Rattle.session_run.specs.declared.settings.EndStatus.{EndStatus}
 use Rattle.session_run.specs.declared.settings.EndStatus.TheVariants.{Done, SourceFault, SinkFault, NoMemory, InputTooLong, Worn}
-use Rattle.session_run.proofs.Taking.{leaves}
+use Rattle.session_run.proofs.Continued.{leaves, none_more}
+use Rattle.session_run.proofs.Wholes.{all_whole}
 
 pub begin_more : (all lines left : List TextLine) (requests : List Request) (request : Request)
     → BeginWithAll all requests lines
@@ -50,14 +51,27 @@ answers_more size first between after (r ∷ rs) request calls its text lines h 
   answers_more size h.4 between after rs request h.1 its h.3 lines h.8 a,
 )
 
+-- what was answered of a script, and how its source goes on, however that is
+pub record Told (size : ℕ) (input old : List ℕ) (now put : Option (List ℕ)) (reading : Reading) (calls : Calls)
+    (cursors : List Cursor) : Type 0 where
+  pub got : List ℕ
+  pub left : List ℕ
+  pub done : List ℕ
+  pub requests : List Request
+  pub left_is : now ≡ Some left
+  pub put_is : put ≡ Some (old ++ done)
+  pub split : input ≡ got ++ left
+  pub begin : (rest : List ℕ) → (IsTrue reading.ended → rest ≡ [])
+      → BeginWithAll (lines_of (got ++ rest)) requests (lines_left reading rest)
+  pub answered : AreAnswered size [] requests calls done cursors
+  pub ended : IsTrue reading.ended → left ≡ []
+
 -- A session under way: what was left and put at its start and is now, how far its source was read, its calls and its
 -- open cursors
 pub record IsUnderWay (size limit : ℕ) (before now put0 put : Option (List ℕ)) (reading : Reading) (calls : Calls)
     (cursors : List Cursor) : Type 0 where
   pub told : (input old : List ℕ) → before ≡ Some input → put0 ≡ Some old
-      → (l done : List ℕ) × (requests : List Request) × (now ≡ Some l) × (put ≡ Some (old ++ done))
-      × BeginWithAll (lines_of input) requests (lines_left reading l)
-      × AreAnswered size [] requests calls done cursors × (IsTrue reading.ended → l ≡ [])
+      → Told size input old now put reading calls cursors
   pub taken : (input : List ℕ) → before ≡ Some input → (got l : List ℕ) × (input ≡ got ++ l) × (now ≡ Some l)
       × (length got ≡ reading.taken)
   pub limit_is : reading.limit ≡ limit
@@ -81,16 +95,18 @@ pub under_way-start : (size : ℕ) (before put : Option (List ℕ)) (r : Reading
     → cursors ≡ []
     → IsUnderWay size r.limit before before put put r [] cursors
 under_way-start size before put r cursors fresh none = record {
-  told = λ input old p q. (
-    input,
-    [],
-    [],
-    p,
-    q ∙ ap Some (sym (append-nil old)),
-    left input,
-    (refl, refl, none),
-    λ ended. absurd (false_is_not_true (rw fresh.unended at ended)),
-  );
+  told = λ input old p q. record {
+    got = [];
+    left = input;
+    done = [];
+    requests = [];
+    left_is = p;
+    put_is = q ∙ ap Some (sym (append-nil old));
+    split = refl;
+    begin = λ rest met. left rest;
+    answered = (refl, refl, none);
+    ended = λ ended. absurd (false_is_not_true (rw fresh.unended at ended));
+  };
   taken = λ input p. ([], input, refl, p, sym fresh.untaken);
   limit_is = refl;
   within = omega (arith, fresh.untaken);
@@ -116,19 +132,27 @@ module _ (size limit : ℕ) (before now put0 put : Option (List ℕ)) (r : Readi
   under_way-request now' put' r' f f' request its lines cursors' reads takes answers appends = record {
     told = λ input old p q.
         let t = u.told input old p q in
-        let k = leaves t.0 reads.got now now' t.3 reads.leaves in
-        let a : put' ≡ Some ((old ++ t.1) ++ text_of lines) = appended (old ++ t.1) (text_of lines) put put' t.4
-        appends in (
-          k.0,
-          t.1 ++ text_of lines,
-          t.2 ++ request ∷ [],
-          k.1,
-          a ∙ ap Some (append_assoc old t.1 (text_of lines)),
-          begin_more (lines_of input) (lines_left r t.0) (lines_left r' k.0) t.2 request t.5
-              (takes t.0 k.0 t.3 k.1 t.7),
-          answers_more size [] cursors cursors' t.2 request calls its t.1 lines t.6 answers,
-          reads.met t.0 k.0 t.3 k.1 t.7,
-        );
+        let k = leaves t.left reads.got now now' t.left_is reads.leaves in
+        let a : put' ≡ Some ((old ++ t.done) ++ text_of lines) = appended (old ++ t.done) (text_of lines) put put'
+        t.put_is appends in record {
+          got = t.got ++ reads.got;
+          left = k.0;
+          done = t.done ++ text_of lines;
+          requests = t.requests ++ request ∷ [];
+          left_is = k.1;
+          put_is = a ∙ ap Some (append_assoc old t.done (text_of lines));
+          split = t.split ∙ (ap (λ x. t.got ++ x) k.2 ∙ sym (append_assoc t.got reads.got k.0));
+          begin = λ rest met.
+              let none : IsTrue r.ended → reads.got ++ rest ≡ [] =
+              (λ e. none_more reads.got k.0 rest (sym k.2 ∙ t.ended e) (met (reads.ended e))) in
+              subst (λ (x : List ℕ). BeginWithAll (lines_of x) (t.requests ++ request ∷ []) (lines_left r' rest))
+              (sym (append_assoc t.got reads.got rest))
+              (begin_more (lines_of (t.got ++ (reads.got ++ rest))) (lines_left r (reads.got ++ rest))
+              (lines_left r' rest) t.requests request (t.begin (reads.got ++ rest) none)
+              (takes t.left k.0 reads.got t.left_is k.1 k.2 t.ended rest met));
+          answered = answers_more size [] cursors cursors' t.requests request calls its t.done lines t.answered answers;
+          ended = reads.met t.left k.0 t.left_is k.1 t.ended;
+        };
     taken = λ input p.
         let t = u.taken input p in
         let k = leaves t.1 reads.got now now' t.3 reads.leaves in (
@@ -141,6 +165,12 @@ module _ (size limit : ℕ) (before now put0 put : Option (List ℕ)) (r : Readi
     limit_is = reads.counts.limit ∙ u.limit_is;
     within = reads.counts.within;
   }
+
+  -- the script's requests so far
+  begun : (input old : List ℕ) → (t : Told size input old now put r calls cursors)
+      → BeginWithAll (lines_of input) t.requests (lines_left r t.left)
+  begun input old t = subst (λ (x : List ℕ). BeginWithAll (lines_of x) t.requests (lines_left r t.left)) (sym t.split)
+      (t.begin t.left t.ended)
 
   serves_told : (status : EndStatus) (put' : Option (List ℕ)) (all : Calls) (cursors' : List Cursor)
       → ((input old : List ℕ) → before ≡ Some input → put0 ≡ Some old → (t : List ℕ) × (put' ≡ Some (old ++ t))
@@ -157,10 +187,14 @@ module _ (size limit : ℕ) (before now put0 put : Option (List ℕ)) (r : Readi
       → Serves Done size before put0 put' calls cursors
   serves-done put' none appends = serves_told Done put' calls cursors (λ input old p q.
       let t = u.told input old p q in
-      let a : put' ≡ Some ((old ++ t.1) ++ []) = appended (old ++ t.1) [] put put' t.4 appends in (
-        t.1,
-        a ∙ ap Some (append-nil (old ++ t.1)),
-        (t.2, subst (BeginWithAll (lines_of input) t.2) (none t.0 t.3 t.7) t.5, t.6),
+      let a : put' ≡ Some ((old ++ t.done) ++ []) = appended (old ++ t.done) [] put put' t.put_is appends in (
+        t.done,
+        a ∙ ap Some (append-nil (old ++ t.done)),
+        (
+          t.requests,
+          subst (BeginWithAll (lines_of input) t.requests) (none t.left t.left_is t.ended) (begun input old t),
+          t.answered,
+        ),
       ))
 
   -- nothing more was asked
@@ -168,8 +202,11 @@ module _ (size limit : ℕ) (before now put0 put : Option (List ℕ)) (r : Readi
       → put0 ≡ Some old → (t : List ℕ) × (put' ≡ Some (old ++ t)) × AnswersWhole size (lines_of input) calls cursors t
   answered-here put' appends input old p q =
       let t = u.told input old p q in
-      let a : put' ≡ Some ((old ++ t.1) ++ []) = appended (old ++ t.1) [] put put' t.4 appends in
-      (t.1, a ∙ ap Some (append-nil (old ++ t.1)), (t.2, lines_left r t.0, t.5, t.6))
+      let a : put' ≡ Some ((old ++ t.done) ++ []) = appended (old ++ t.done) [] put put' t.put_is appends in (
+        t.done,
+        a ∙ ap Some (append-nil (old ++ t.done)),
+        (t.requests, lines_left r t.left, begun input old t, t.answered),
+      )
 
   pub serves-source_fault : (put' : Option (List ℕ)) → Appends put put' []
       → Serves SourceFault size before put0 put' calls cursors
@@ -178,6 +215,51 @@ module _ (size limit : ℕ) (before now put0 put : Option (List ℕ)) (r : Readi
   pub serves-too_long : (put' : Option (List ℕ)) → Appends put put' []
       → Serves InputTooLong size before put0 put' calls cursors
   serves-too_long put' appends = serves_told InputTooLong put' calls cursors (answered-here put' appends)
+
+  -- no whole request was left
+  answered_taken : (now' put' : Option (List ℕ)) (r' : Reading) (f f' : ℕ) → ReadsOn now now' f f' r r'
+      → TakesPart r r' now now' IsPartOfRequest → Appends put put' []
+      → WritesForTaken before now' put0 put' (AnswersTaken size calls cursors)
+  answered_taken now' put' r' f f' reads part appends = by before put0 refl refl where
+    by : (b q : Option (List ℕ)) → before ≡ b → put0 ≡ q
+        → WritesForTaken b now' q put' (AnswersTaken size calls cursors)
+    by None q e d = tt
+    by (Some input) None e d =
+        let t = u.taken input e in
+        let k = leaves t.1 reads.got now now' t.3 reads.leaves in (
+          t.0 ++ reads.got,
+          k.0,
+          t.2 ∙ (ap (λ x. t.0 ++ x) k.2 ∙ sym (append_assoc t.0 reads.got k.0)),
+          k.1,
+          tt,
+        )
+    by (Some input) (Some old) e d =
+        let t = u.told input old e d in
+        let k = leaves t.left reads.got now now' t.left_is reads.leaves in
+        let a : put' ≡ Some ((old ++ t.done) ++ []) = appended (old ++ t.done) [] put put' t.put_is appends in
+        let more : IsTrue r'.ended → 10 ∷ [] ≡ [] =
+        (λ e. absurd (false_is_not_true (rw part.awaits.not_ended at e))) in
+        let none : IsTrue r.ended → reads.got ++ 10 ∷ [] ≡ [] =
+        (λ e. none_more reads.got k.0 (10 ∷ []) (sym k.2 ∙ t.ended e) (more (reads.ended e))) in
+        let begin = t.begin (reads.got ++ 10 ∷ []) none in
+        let left = part.reads t.left k.0 reads.got t.left_is k.1 k.2 t.ended (10 ∷ []) more in (
+          t.got ++ reads.got,
+          k.0,
+          t.split ∙ (ap (λ x. t.got ++ x) k.2 ∙ sym (append_assoc t.got reads.got k.0)),
+          k.1,
+          (
+            t.done,
+            a ∙ ap Some (append-nil (old ++ t.done)),
+            (
+              t.requests,
+              all_whole (t.got ++ reads.got) t.requests part.part r' part.is part.awaits
+                  (subst (λ (x : List ℕ). BeginWithAll (lines_of x) t.requests (part.part ++ lines_left r' (10 ∷ [])))
+                  (sym (append_assoc t.got reads.got (10 ∷ [])))
+                  (subst (BeginWithAll (lines_of (t.got ++ (reads.got ++ 10 ∷ []))) t.requests) left begin)),
+              t.answered,
+            ),
+          ),
+        )
 
   -- a request was answered, and a part of its reply was put
   stops-part : (now' put' : Option (List ℕ)) (r' : Reading) (f f' : ℕ) (request : Request) (its : Calls)
@@ -188,22 +270,24 @@ module _ (size limit : ℕ) (before now put0 put : Option (List ℕ)) (r : Readi
       × Stops size (lines_of input) (calls ++ its) t cursors'
   stops-part now' put' r' f f' request its lines cursors' reads takes answers part input old p q =
       let t = u.told input old p q in
-      let k = leaves t.0 reads.got now now' t.3 reads.leaves in
-      let a : put' ≡ Some ((old ++ t.1) ++ part.0) = appended (old ++ t.1) part.0 put put' t.4 part.3 in (
-        t.1 ++ part.0,
-        a ∙ ap Some (append_assoc old t.1 part.0),
+      let k = leaves t.left reads.got now now' t.left_is reads.leaves in
+      let a : put' ≡ Some ((old ++ t.done) ++ part.0) = appended (old ++ t.done) part.0 put put' t.put_is part.3 in (
+        t.done ++ part.0,
+        a ∙ ap Some (append_assoc old t.done part.0),
         record {
-          requests = t.2;
-          left = lines_left r t.0;
-          begin = t.5;
+          requests = t.requests;
+          left = lines_left r t.left;
+          begin = begun input old t;
           own = calls;
-          replies = t.1;
+          replies = t.done;
           cursors_open = cursors;
-          answered = t.6;
+          answered = t.answered;
           last = inr (
             request,
             lines_left r' k.0,
-            takes t.0 k.0 t.3 k.1 t.7,
+            subst (λ (x : List ℕ). BeginWith (lines_left r x) request (lines_left r' k.0)) (sym k.2)
+                (takes t.left k.0 reads.got t.left_is k.1 k.2 t.ended k.0
+                (reads.met t.left k.0 t.left_is k.1 t.ended)),
             its,
             lines,
             part.0,
@@ -286,6 +370,16 @@ module _ (size limit : ℕ) (before now put0 put : Option (List ℕ)) (r : Readi
     (cursors : List Cursor) (u : IsUnderWay size limit before now put0 put r calls cursors)
     (Made More : Calls → Type 0) (more : (its : Calls) → Made its → More (calls ++ its)) (now' put' : Option (List ℕ))
     (r' : Reading) (f f' : ℕ) (cursors' : List Cursor) (reads : ReadsOn now now' f f' r r') where
+  taken_by : Made [] → cursors' ≡ cursors → Appends put put' [] → TakesPart r r' now now' IsPartOfRequest
+      → (all : Calls) × More all × WritesForTaken before now' put0 put' (AnswersTaken size all cursors')
+  taken_by made same appends part = (
+    calls ++ [],
+    more [] made,
+    subst (λ (l : Calls). WritesForTaken before now' put0 put' (AnswersTaken size l cursors')) (sym (append-nil calls))
+        (subst (λ (c : List Cursor). WritesForTaken before now' put0 put' (AnswersTaken size calls c)) (sym same)
+        (answered_taken size limit before now put0 put r calls cursors u now' put' r' f f' reads part appends)),
+  )
+
   -- a turn with which the session ends
   pub serves-turn : (end : EndStatus) → Turns size Made (TakesRequest r r' now now') (TakesNone r now) cursors
       cursors' put put' (Some end)
@@ -329,6 +423,18 @@ module _ (size limit : ℕ) (before now put0 put : Option (List ℕ)) (r : Readi
     serves-worn size limit before now put0 put r calls cursors u now' put' r' f f' b.request b.worn.calls b.worn.whole
         b.worn.lines b.worn.after cursors' reads b.taken b.worn.begins b.worn.is t.1,
   )
+
+  -- a turn at which the source fails, or its bytes are too many
+  pub taken-turn : (end : EndStatus) → IsInputFault end
+      → Turns size Made (TakesRequest r r' now now') (TakesNone r now) cursors cursors' put put' (Some end)
+      → TakesPart r r' now now' IsPartOfRequest
+      → (all : Calls) × More all × WritesForTaken before now' put0 put' (AnswersTaken size all cursors')
+  taken-turn SourceFault is t part = taken_by t.0 t.1 t.2 part
+  taken-turn InputTooLong is t part = taken_by t.0 t.1 t.2 part
+  taken-turn Done is t part = absurd is
+  taken-turn SinkFault is t part = absurd is
+  taken-turn NoMemory is t part = absurd is
+  taken-turn Worn is t part = absurd is
 
   -- a turn after which it goes on
   pub under_way-turn : Turns size Made (TakesRequest r r' now now') (TakesNone r now) cursors cursors' put put' None

@@ -1,24 +1,13 @@
 -- How a source is read on, and how the lines of a molfile are taken.
-use Rattle.std.proofs.Common.{◌≡◌, ◌⊎◌, inl, inr, ℕ, zero, suc, ◌≤◌, IsTrue, Option, None, Some, List, [], ◌∷◌, ◌++◌, refl, sym, ap, ◌∙◌, subst, arith, append_assoc, append-nil, length-append, Contains}
+use Rattle.std.proofs.Common.{◌≡◌, inl, inr, ℕ, zero, suc, ◌≤◌, Option, Some, List, [], ◌∷◌, ◌++◌, refl, sym, ap, ◌∙◌, subst, arith, append_assoc, append-nil, length-append, Contains}
 use Rattle.std.proofs.KnownBytes.{Consumes-nil, Consumes-trans}
 use Rattle.std.proofs.lemmas.List.Elements.{Contains-append_left, Contains-append_right, Contains-append_cases}
-use Rattle.std.specs.Io.KnownBytes.{Consumes}
-use Rattle.io_edge.specs.Source.{Leaves}
-use Rattle.io_edge.specs.Lines.{TextLine, Whole, TooLong, Reading, lines_left, done_bytes, IsFinished}
-use Rattle.io_edge.specs.NextLine.{Counts}
-use Rattle.session_run.specs.Requests.{IsLast, IsLong, BeginWithMolfile, molfile_text}
-use Rattle.session_run.specs.Turn.{AddsLine, IsMolfile, ReadsOn, TakesMolfileLines}
+use Rattle.io_edge.specs.Lines.{TextLine, Whole, TooLong, Reading, AwaitsBytes}
+use Rattle.session_run.specs.Requests.{IsLast, IsLong, BeginWithMolfile, HasNoLast, molfile_text}
+use Rattle.session_run.specs.Turn.{AddsLine, IsMolfile, ReadsLines, ReadsOn, TakesMolfileLines, TakesPart}
 use Rattle.session_run.specs.declared.request.Molfile.{Molfile}
 use Rattle.session_run.specs.declared.request.Molfile.TheVariants.{Text, Long, Lost}
-
--- what is left after these bytes were taken, where it is told
-pub leaves : (l got : List ℕ) (now next : Option (List ℕ)) → now ≡ Some l → Consumes now next got → (l' : List ℕ)
-    × (next ≡ Some l') × (l ≡ got ++ l')
-leaves l got None next p h = cc
-leaves l got (Some m) None p h = absurd h
-leaves l got (Some m) (Some l') p h = (l', refl, rw (sym (some_injective p)) h) where
-  some_injective : {A : Type 0} {x y : A} → Some x ≡ Some y → x ≡ y
-  some_injective e = cc
+use Rattle.session_run.proofs.Continued.{leaves, lines_more, lines_same}
 
 -- nothing was read
 pub reads_none : (before : Option (List ℕ)) (faults : ℕ) (r : Reading) → r.taken ≤ r.limit
@@ -28,6 +17,7 @@ reads_none before faults r within = record {
   leaves = Consumes-nil before;
   counts = record { taken = omega arith; limit = refl; within = within };
   met = λ l l' p q h e. some_one _ _ (sym q ∙ p) ∙ h e;
+  ended = λ e. e;
   progress = omega arith;
   count = omega arith;
 } where
@@ -48,6 +38,7 @@ reads_more before now next f f' f'' old r r' u v = record {
   met = λ l l' p q h.
       let k = leaves l u.got before now p u.leaves in
       v.met k.0 l' k.1 q (u.met l k.0 p k.1 h);
+  ended = λ e. v.ended (u.ended e);
   progress = omega (arith, u.progress, v.progress);
   count = omega (arith, u.count, v.count);
 }
@@ -86,48 +77,51 @@ molfile_line xs line text text' Lost Lost m a = λ c. m (long_before xs line c)
 molfile_line xs line text text' Lost Text m a = absurd a
 molfile_line xs line text text' Lost Long m a = absurd a
 
--- A molfile under way: its lines so far, behind which what is left goes on
+-- A molfile under way: its lines so far, none of which is the last, however the input goes on
 pub record IsTaking (before now : Option (List ℕ)) (old new : Reading) (text : List ℕ) (taken : Molfile) : Type 0 where
   pub lines : List TextLine
   pub is : IsMolfile taken lines text
-  pub told : (l l' : List ℕ) → before ≡ Some l → now ≡ Some l' → (IsTrue old.ended → l ≡ [])
-      → (more rest : List TextLine) → BeginWithMolfile (lines_left new l') more rest
-      → BeginWithMolfile (lines_left old l) (lines ++ more) rest
+  pub none : HasNoLast lines
+  pub told : ReadsLines old new before now (λ all left. all ≡ lines ++ left)
 
 pub taking_none : (before : Option (List ℕ)) (r : Reading) (text : List ℕ) → text ≡ []
     → IsTaking before before r r text Text
 taking_none before r text e = record {
   lines = [];
   is = (e, λ h. absurd (omega (arith, h.1)));
-  told = λ l l' p q h more rest b. subst (λ (x : List ℕ). BeginWithMolfile (lines_left r x) more rest)
-      (some_one l' l (sym q ∙ p)) b;
-} where
-  some_one : (x y : List ℕ) → Some x ≡ Some y → x ≡ y
-  some_one x y e = cc
+  none = tt;
+  told = lines_same before r;
+}
+
+none_more : (lines : List TextLine) (line : TextLine) → HasNoLast lines → ¬ IsLast line → HasNoLast (lines ++ line ∷ [])
+none_more [] line none other = (other, tt)
+none_more (l ∷ lines) line none other = (none.0, none_more lines line none.1 other)
+
+-- lines before a molfile's last ones
+begin_behind : (lines all more rest : List TextLine) → HasNoLast lines → BeginWithMolfile all more rest
+    → BeginWithMolfile (lines ++ all) (lines ++ more) rest
+begin_behind [] all more rest none b = b
+begin_behind (l ∷ lines) all more rest none b =
+    inr (none.0, lines ++ more, refl, begin_behind lines all more rest none.1 b)
 
 -- where the next line was this one
 abbrev pub NextIs : Reading → Reading → Option (List ℕ) → Option (List ℕ) → TextLine → Type 0
-NextIs old new before after line =
-    (l l' : List ℕ) → before ≡ Some l → after ≡ Some l' → (IsTrue old.ended → l ≡ [])
-    → lines_left old l ≡ line ∷ lines_left new l'
+NextIs old new before after line = ReadsLines old new before after (λ lines left. lines ≡ line ∷ left)
 
 -- a line more that is not the last
-pub taking_line : (before now next : Option (List ℕ)) (f f' : ℕ) (old r r' : Reading) (text text' : List ℕ)
+pub taking_line : (before now next : Option (List ℕ)) (f f' f'' : ℕ) (old r r' : Reading) (text text' : List ℕ)
     (taken taken' : Molfile) (line : TextLine)
-    → (u : IsTaking before now old r text taken) → ReadsOn before now f f' old r → ¬ IsLast line
-    → NextIs r r' now next line
+    → (u : IsTaking before now old r text taken) → ReadsOn before now f f' old r → ReadsOn now next f' f'' r r'
+    → ¬ IsLast line → NextIs r r' now next line
     → IsMolfile taken' (u.lines ++ line ∷ []) text' → IsTaking before next old r' text' taken'
-taking_line before now next f f' old r r' text text' taken taken' line u reads other is m = record {
+taking_line before now next f f' f'' old r r' text text' taken taken' line u reads then other is m = record {
   lines = u.lines ++ line ∷ [];
   is = m;
-  told = λ l l' p q h more rest b.
-      let k = leaves l reads.got before now p reads.leaves in
-      let left : lines_left r k.0 ≡ line ∷ lines_left r' l' = is k.0 l' k.1 q (reads.met l k.0 p k.1 h) in
-      subst (λ (x : List TextLine). BeginWithMolfile (lines_left old l) x rest)
-      (sym (append_assoc u.lines (line ∷ []) more))
-      (u.told l k.0 p k.1 h (line ∷ more) rest
-      (subst (λ (x : List TextLine). BeginWithMolfile x (line ∷ more) rest) (sym left)
-      (inr (other, more, refl, b))));
+  none = none_more u.lines line u.none other;
+  told = lines_more (λ all left. all ≡ u.lines ++ left) (λ all left. all ≡ line ∷ left)
+      (λ all left. all ≡ (u.lines ++ line ∷ []) ++ left)
+      (λ all between left a b. a ∙ (ap (λ l. u.lines ++ l) b ∙ sym (append_assoc u.lines (line ∷ []) left)))
+      before now next f f' f'' old r r' reads then u.told is;
 }
 
 -- what was taken of a molfile
@@ -136,40 +130,54 @@ Taken before after old new text taken =
     (molfile : List TextLine) × IsMolfile taken molfile text × TakesMolfileLines old new before after molfile
 
 -- its last line was taken
-pub taken_last : (before now next : Option (List ℕ)) (f f' : ℕ) (old r r' : Reading) (text text' : List ℕ)
+pub taken_last : (before now next : Option (List ℕ)) (f f' f'' : ℕ) (old r r' : Reading) (text text' : List ℕ)
     (taken taken' : Molfile) (line : List ℕ)
-    → (u : IsTaking before now old r text taken) → ReadsOn before now f f' old r → IsLast (Whole line)
-    → NextIs r r' now next (Whole line)
+    → (u : IsTaking before now old r text taken) → ReadsOn before now f f' old r → ReadsOn now next f' f'' r r'
+    → IsLast (Whole line) → NextIs r r' now next (Whole line)
     → IsMolfile taken' (u.lines ++ Whole line ∷ []) text' → Taken before next old r' text' taken'
-taken_last before now next f f' old r r' text text' taken taken' line u reads last is m = (
+taken_last before now next f f' f'' old r r' text text' taken taken' line u reads then last is m = (
   u.lines ++ Whole line ∷ [],
   m,
-  λ l l' p q h.
-      let k = leaves l reads.got before now p reads.leaves in
-      let left : lines_left r k.0 ≡ Whole line ∷ lines_left r' l' = is k.0 l' k.1 q (reads.met l k.0 p k.1 h) in
-      u.told l k.0 p k.1 h (Whole line ∷ []) (lines_left r' l')
-      (subst (λ (x : List TextLine). BeginWithMolfile x (Whole line ∷ []) (lines_left r' l')) (sym left)
-      (inl (last, refl, refl))),
+  lines_more (λ all left. all ≡ u.lines ++ left) (λ all left. all ≡ Whole line ∷ left)
+      (λ all left. BeginWithMolfile all (u.lines ++ Whole line ∷ []) left)
+      (λ all between left a b.
+      subst (λ (l : List TextLine). BeginWithMolfile l (u.lines ++ Whole line ∷ []) left)
+      (sym (a ∙ ap (λ l. u.lines ++ l) b))
+      (begin_behind u.lines (Whole line ∷ left) (Whole line ∷ []) left u.none (inl (last, refl, refl))))
+      before now next f f' f'' old r r' reads then u.told is,
 )
 
 -- the input's end was met
-pub taken_end : (before now next : Option (List ℕ)) (f f' : ℕ) (old r r' : Reading) (text : List ℕ) (taken : Molfile)
-    → IsTaking before now old r text taken → ReadsOn before now f f' old r → IsFinished r'
-    → ((l l' : List ℕ) → now ≡ Some l → next ≡ Some l' → (IsTrue r.ended → l ≡ []) → (lines_left r l ≡ []) × (l' ≡ []))
+pub taken_end : (before now next : Option (List ℕ)) (f f' f'' : ℕ) (old r r' : Reading) (text : List ℕ)
+    (taken : Molfile)
+    → IsTaking before now old r text taken → ReadsOn before now f f' old r → ReadsOn now next f' f'' r r'
+    → ReadsLines r r' now next (λ lines left. (lines ≡ []) × (left ≡ []))
     → Taken before next old r' text taken
-taken_end before now next f f' old r r' text taken u reads end is = (
+taken_end before now next f f' f'' old r r' text taken u reads then end = (
   u.lines,
   u.is,
-  λ l l' p q h.
-      let k = leaves l reads.got before now p reads.leaves in
-      let left = is k.0 l' k.1 q (reads.met l k.0 p k.1 h) in
-      subst (λ (x : List TextLine). BeginWithMolfile (lines_left old l) x (lines_left r' l')) (append-nil u.lines)
-      (u.told l k.0 p k.1 h [] (lines_left r' l')
-      (subst (λ (x : List TextLine). BeginWithMolfile x [] (lines_left r' l')) (sym left.0)
-      (refl, none_left l' left.1))),
-) where
-  none_left : (l' : List ℕ) → l' ≡ [] → lines_left r' l' ≡ []
-  none_left l' e = rw (e, end.none, end.short) refl
+  lines_more (λ all left. all ≡ u.lines ++ left) (λ all left. (all ≡ []) × (left ≡ []))
+      (λ all left. BeginWithMolfile all u.lines left)
+      (λ all between left a b.
+      subst (λ (l : List TextLine). BeginWithMolfile l u.lines left) (sym (a ∙ ap (λ l. u.lines ++ l) b.0))
+      (subst (λ (l : List TextLine). BeginWithMolfile (u.lines ++ []) l left) (append-nil u.lines)
+      (begin_behind u.lines [] [] left u.none (refl, b.1))))
+      before now next f f' f'' old r r' reads then u.told end,
+)
+
+-- no line was read behind it
+pub taken_part : (before now next : Option (List ℕ)) (f f' f'' : ℕ) (old r r' : Reading) (text : List ℕ)
+    (taken : Molfile)
+    → IsTaking before now old r text taken → ReadsOn before now f f' old r → ReadsOn now next f' f'' r r'
+    → ReadsLines r r' now next (λ lines left. lines ≡ left) → AwaitsBytes r' → TakesPart old r' before next HasNoLast
+taken_part before now next f f' f'' old r r' text taken u reads then same awaits = record {
+  part = u.lines;
+  is = u.none;
+  reads = lines_more (λ all left. all ≡ u.lines ++ left) (λ all left. all ≡ left) (λ all left. all ≡ u.lines ++ left)
+      (λ all between left a b. a ∙ ap (λ l. u.lines ++ l) b)
+      before now next f f' f'' old r r' reads then u.told same;
+  awaits = awaits;
+}
 
 -- a line that is too long
 pub is_long_line : IsLong (record { line = TooLong; molfile = [] })

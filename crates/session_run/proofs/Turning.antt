@@ -1,14 +1,15 @@
 -- What a turn does, by what was put.
-use Rattle.std.proofs.Common.{◌≡◌, ◌++◌, Bool, Err, List, [], None, Ok, Option, refl, Result, Some, subst, ℕ}
+use Rattle.std.proofs.Common.{◌≡◌, IfSome, List, [], None, Ok, Option, refl, Some, subst, ℕ}
 use Rattle.std.specs.Io.KnownBytes.{Appends}
 use Rattle.io_edge.specs.Lines.{Reading}
 use Rattle.io_edge.specs.Sink.{AppendsPrefix}
 use Rattle.shell_lang.specs.Reply.{text_of}
-use Rattle.session_run.specs.Answer.{Lines, RequestAnswer}
+use Rattle.session_run.specs.Answer.{RequestAnswer}
 use Rattle.session_run.specs.Cursors.{Calls, Cursor}
-use Rattle.session_run.specs.Made.{Answered, Did, WornIn}
+use Rattle.session_run.specs.Made.{Answered, Did}
 use Rattle.session_run.specs.Requests.{Request}
-use Rattle.session_run.specs.Turn.{Answers, Breaks, IsNext, Puts, Replies, Takes, TakesRequest, Turns}
+use Rattle.session_run.specs.Served.{IsInputFault}
+use Rattle.session_run.specs.Turn.{IsNext, Puts, Replies, Takes, TakesRequest, Turns}
 use Rattle.session_run.specs.declared.request.Next.{Next}
 use Rattle.session_run.specs.declared.request.Next.TheVariants as nexts
 use Rattle.session_run.specs.declared.settings.EndStatus.{EndStatus}
@@ -50,6 +51,17 @@ module _ (size : ℕ) (Made : Calls → Type 0) (request : Request) (cursors cur
   turn_replied Taken AtEnd (Some Done) taken r = absurd r
   turn_replied Taken AtEnd (Some SourceFault) taken r = absurd r
   turn_replied Taken AtEnd (Some InputTooLong) taken r = absurd r
+
+  -- with a reply no session ends for want of bytes
+  pub no_input_fault : (P : Type 0) (end : Option EndStatus) → Replies size Made request cursors cursors' put put' end
+      → IfSome end (λ (e : EndStatus). IsInputFault e → P)
+  no_input_fault P None r = tt
+  no_input_fault P (Some SourceFault) r = absurd r
+  no_input_fault P (Some InputTooLong) r = absurd r
+  no_input_fault P (Some Done) r = λ is. absurd is
+  no_input_fault P (Some SinkFault) r = λ is. absurd is
+  no_input_fault P (Some NoMemory) r = λ is. absurd is
+  no_input_fault P (Some Worn) r = λ is. absurd is
 
 -- what was read is a request, unless it is the end
 pub takes_request : (next : Next) (old new : Reading) (before after : Option (List ℕ)) (text : List ℕ)

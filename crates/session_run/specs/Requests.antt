@@ -35,6 +35,22 @@ abbrev pub BeginWithAll : List TextLine → List Request → List TextLine → T
 BeginWithAll lines [] rest = lines ≡ rest
 BeginWithAll lines (request ∷ requests) rest = (more : List TextLine) × BeginWith lines request more × BeginWithAll more requests rest
 
+-- none of the lines is the last of a molfile
+abbrev pub HasNoLast : List TextLine → Type 0
+HasNoLast [] = Unit {0}
+HasNoLast (line ∷ lines) = ¬ IsLast line × HasNoLast lines
+
+-- no line, or the first lines of a request whose molfile is not ended
+abbrev pub IsPartOfRequest : List TextLine → Type 0
+IsPartOfRequest [] = Unit {0}
+IsPartOfRequest (line ∷ lines) = TakesMolfile line × HasNoLast lines
+
+-- The requests are all that are whole in these lines: whatever lines follow, the requests are the first, and what they
+-- leave of these lines is a part of a request
+abbrev pub AreAllWhole : List TextLine → List Request → Type 0
+AreAllWhole lines requests = (left : List TextLine) × IsPartOfRequest left
+    × ((more : List TextLine) → BeginWithAll (lines ++ more) requests (left ++ more))
+
 -- the line, or a line of its molfile, is too long
 abbrev pub IsLong : Request → Type 0
 IsLong request = Contains (request.line ∷ request.molfile) TooLong

@@ -1,8 +1,8 @@
 -- For callers: what a session wrote for a script, where the source tells its bytes and the sink what was put.
 use Rattle.std.specs.Prelude.{◌≡◌, ℕ, List, [], ◌++◌, length, Option, Some, IfSome}
-use Rattle.io_edge.specs.Lines.{TextLine}
+use Rattle.io_edge.specs.Lines.{TextLine, whole_lines}
 use Rattle.session_run.specs.Cursors.{Calls, Cursor, unpins}
-use Rattle.session_run.specs.Requests.{Request, BeginWithAll}
+use Rattle.session_run.specs.Requests.{Request, AreAllWhole, BeginWithAll}
 use Rattle.session_run.specs.Transcript.{AreAnswered, IsTranscript, IsTranscriptPrefix, IsWornPrefix}
 use Rattle.session_run.specs.declared.settings.EndStatus.{EndStatus}
 use Rattle.session_run.specs.declared.settings.EndStatus.TheVariants.{Done, InputTooLong, SourceFault, Worn}
@@ -10,6 +10,12 @@ use Rattle.session_run.specs.declared.settings.EndStatus.TheVariants.{Done, Inpu
 -- some text with P was put behind what was put before
 abbrev pub Writes : Option (List ℕ) → Option (List ℕ) → (List ℕ → Type 0) → Type 0
 Writes before after P = IfSome before (λ old. (text : List ℕ) × (after ≡ Some (old ++ text)) × P text)
+
+-- some text was put behind it, with P of the bytes that were taken and the text
+abbrev pub WritesForTaken : Option (List ℕ) → Option (List ℕ) → Option (List ℕ) → Option (List ℕ)
+    → (List ℕ → List ℕ → Type 0) → Type 0
+WritesForTaken before after put put' P = IfSome before
+    (λ old. (got rest : List ℕ) × (old ≡ got ++ rest) × (after ≡ Some rest) × Writes put put' (P got))
 
 -- so many bytes were taken, where it is told
 abbrev pub TakesExactly : Option (List ℕ) → Option (List ℕ) → ℕ → Type 0
@@ -22,6 +28,20 @@ abbrev pub IsWholePrefix : ℕ → List TextLine → Calls → List ℕ → Type
 IsWholePrefix size lines calls text =
     (requests : List Request) × (left : List TextLine) × (own : Calls) × (cursors : List Cursor)
     × BeginWithAll lines requests left × AreAnswered size [] requests own text cursors × (calls ≡ own ++ unpins cursors)
+
+-- the source failed, or its bytes are too many
+abbrev pub IsInputFault : EndStatus → Type 0
+IsInputFault SourceFault = Unit {0}
+IsInputFault InputTooLong = Unit {0}
+IsInputFault _ = ⊥
+
+-- All requests that are whole in the bytes that were taken were answered, and nothing else was called or written. The
+-- pins that are still held are given back. A line counts once its LF was taken
+abbrev pub IsAllOfTaken : ℕ → Calls → List ℕ → List ℕ → Type 0
+IsAllOfTaken size calls got text =
+    (requests : List Request) × (own : Calls) × (cursors : List Cursor)
+    × AreAllWhole (whole_lines got) requests × AreAnswered size [] requests own text cursors
+    × (calls ≡ own ++ unpins cursors)
 
 -- What was served of a script, by how the session ended: all of it, or a beginning, whose requests were answered whole
 -- where the source failed or its bytes are too many

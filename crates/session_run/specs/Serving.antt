@@ -1,9 +1,9 @@
 -- For private clauses alone: a session before the pins of its open cursors are given back.
-use Rattle.std.specs.Prelude.{◌≡◌, ◌≢◌, ℕ, List, [], ◌++◌, Option, None, Some, IfSome, false}
-use Rattle.io_edge.specs.Lines.{Reading, TextLine, lines_of}
+use Rattle.std.specs.Prelude.{◌≡◌, ◌≢◌, ℕ, List, [], Option, Some, IfSome, false}
+use Rattle.io_edge.specs.Lines.{Reading, TextLine, lines_of, whole_lines}
 use Rattle.store_core.specs.Calls.{NotRaised}
 use Rattle.session_run.specs.Cursors.{Calls, Cursor}
-use Rattle.session_run.specs.Requests.{Request, BeginWithAll}
+use Rattle.session_run.specs.Requests.{Request, AreAllWhole, BeginWithAll}
 use Rattle.session_run.specs.Responds.{IsFit, KeepsPins}
 use Rattle.session_run.specs.Served.{Writes}
 use Rattle.session_run.specs.Transcript.{AreAnswered, IsWornPrefix, Stops}
@@ -16,6 +16,11 @@ use Rattle.session_run.specs.declared.settings.EndStatus.TheVariants.{Done, Inpu
 abbrev pub AnswersWhole : ℕ → List TextLine → Calls → List Cursor → List ℕ → Type 0
 AnswersWhole size lines calls cursors text = (requests : List Request) × (left : List TextLine)
     × BeginWithAll lines requests left × AreAnswered size [] requests calls text cursors
+
+-- all requests that are whole in the bytes that were taken were answered, and nothing else was called or written
+abbrev pub AnswersTaken : ℕ → Calls → List Cursor → List ℕ → List ℕ → Type 0
+AnswersTaken size calls cursors got text = (requests : List Request)
+    × AreAllWhole (whole_lines got) requests × AreAnswered size [] requests calls text cursors
 
 abbrev pub Ends : EndStatus → ℕ → List TextLine → Calls → List Cursor → List ℕ → Type 0
 Ends Done size lines calls cursors text =

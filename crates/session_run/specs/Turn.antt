@@ -1,18 +1,16 @@
 -- For private clauses alone: how a source is read on by requests, and what a turn of a session does.
-use Rattle.std.specs.Prelude.{◌≡◌, ◌≤◌, ◌⊎◌, ℕ, IsTrue, Bool, true, false, Option, None, Some, Result, Ok, Err, List, [], ◌∷◌, ◌++◌, Contains}
+use Rattle.std.specs.Prelude.{◌≡◌, ◌≤◌, ℕ, IsTrue, Option, None, Some, List, [], ◌∷◌, ◌++◌, Contains}
 use Rattle.std.specs.Io.KnownBytes.{Appends}
 use Rattle.io_edge.specs.Faults.{Rose}
 use Rattle.io_edge.specs.Sink.{AppendsPrefix}
-use Rattle.io_edge.specs.Lines.{Reading, TextLine, Whole, TooLong, lines_left, done_bytes}
+use Rattle.io_edge.specs.Lines.{AwaitsBytes, Reading, TextLine, Whole, TooLong, lines_left, done_bytes}
 use Rattle.io_edge.specs.NextLine.{Counts}
 use Rattle.io_edge.specs.Source.{Leaves}
 use Rattle.io_edge.specs.declared.lines.LineFault.{LineFault}
 use Rattle.io_edge.specs.declared.lines.LineFault.TheVariants as line_faults
-use Rattle.shell_lang.specs.Command.{Command, StartsMolfile, IsLine, molfile_command}
+use Rattle.shell_lang.specs.Command.{StartsMolfile, IsLine, molfile_command}
 use Rattle.shell_lang.specs.Reply.{text_of}
-use Rattle.shell_lang.specs.declared.command.LineRefusal.{LineRefusal}
-use Rattle.shell_lang.specs.declared.command.MolfileChange.{MolfileChange}
-use Rattle.session_run.specs.Answer.{Lines, RequestAnswer}
+use Rattle.session_run.specs.Answer.{RequestAnswer}
 use Rattle.session_run.specs.Cursors.{Calls, Cursor}
 use Rattle.session_run.specs.Made.{Did, WornIn}
 use Rattle.session_run.specs.Requests.{Request, BeginWith, BeginWithMolfile, IsLong, molfile_text}
@@ -34,14 +32,29 @@ pub record ReadsOn (before after : Option (List ℕ)) (faults faults' : ℕ) (ol
   pub counts : Counts old got new
   pub met : (l l' : List ℕ) → before ≡ Some l → after ≡ Some l' → (IsTrue old.ended → l ≡ []) → IsTrue new.ended
       → l' ≡ []
+  pub ended : IsTrue old.ended → IsTrue new.ended
   pub progress : done_bytes old ≤ done_bytes new
   pub count : faults ≤ faults'
 
--- the request was the next, where the source tells what is left, and has nothing left once its end was met
+-- However the input goes on behind what was taken (where its end was met, not at all), P holds of the lines that were
+-- left and those that are left then, where the source tells what is left, and has nothing left once its end was met
+abbrev pub ReadsLines : Reading → Reading → Option (List ℕ) → Option (List ℕ)
+    → (List TextLine → List TextLine → Type 0) → Type 0
+ReadsLines old new before after P =
+    (l l' got : List ℕ) → before ≡ Some l → after ≡ Some l' → l ≡ got ++ l' → (IsTrue old.ended → l ≡ [])
+    → (rest : List ℕ) → (IsTrue new.ended → rest ≡ []) → P (lines_left old (got ++ rest)) (lines_left new rest)
+
+-- the request was the next
 abbrev pub TakesRequest : Reading → Reading → Option (List ℕ) → Option (List ℕ) → Request → Type 0
 TakesRequest old new before after request =
-    (l l' : List ℕ) → before ≡ Some l → after ≡ Some l' → (IsTrue old.ended → l ≡ [])
-    → BeginWith (lines_left old l) request (lines_left new l')
+    ReadsLines old new before after (λ lines left. BeginWith lines request left)
+
+-- these lines were taken, and no whole line is left behind them
+pub record TakesPart (old new : Reading) (before after : Option (List ℕ)) (Is : List TextLine → Type 0) : Type 0 where
+  pub part : List TextLine
+  pub is : Is part
+  pub reads : ReadsLines old new before after (λ lines left. lines ≡ part ++ left)
+  pub awaits : AwaitsBytes new
 
 -- no line was left
 abbrev pub TakesNone : Reading → Option (List ℕ) → Type 0
@@ -49,8 +62,8 @@ TakesNone old before = (l : List ℕ) → before ≡ Some l → (IsTrue old.ende
 
 -- the lines of a molfile were the next
 abbrev pub TakesMolfileLines : Reading → Reading → Option (List ℕ) → Option (List ℕ) → List TextLine → Type 0
-TakesMolfileLines old new before after molfile = (l l' : List ℕ) → before ≡ Some l → after ≡ Some l'
-    → (IsTrue old.ended → l ≡ []) → BeginWithMolfile (lines_left old l) molfile (lines_left new l')
+TakesMolfileLines old new before after molfile =
+    ReadsLines old new before after (λ lines left. BeginWithMolfile lines molfile left)
 
 -- what was taken of a molfile is its text, unless a line is too long or no memory was left for it
 abbrev pub IsMolfile : Molfile → List TextLine → List ℕ → Type 0

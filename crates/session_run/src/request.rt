@@ -1,8 +1,9 @@
 //! Reading the next request of a source: a line, and the lines of its molfile where it takes one.
-ghost use Rattle.std.specs.Prelude.{◌≡◌, ◌≢◌, ◌<◌, ◌≤◌, ◌++◌, [], ◌∷◌, Err, IfOk, List, OnOk};
+ghost use Rattle.std.specs.Prelude.{◌≡◌, ◌≢◌, ◌<◌, ◌≤◌, ◌++◌, [], ◌∷◌, Err, IfOk, List, OnErr, OnOk};
 ghost use Rattle.io_edge.specs.Faults.{Rose};
 ghost use Rattle.io_edge.specs.Lines.{TextLine, done_bytes};
-ghost use Rattle.session_run.specs.Turn.{AddsLine, IsMolfile, ReadsOn, Takes, TakesMolfileLines};
+ghost use Rattle.session_run.specs.Requests.{HasNoLast, IsPartOfRequest};
+ghost use Rattle.session_run.specs.Turn.{AddsLine, IsMolfile, ReadsOn, Takes, TakesMolfileLines, TakesPart};
 ghost use Rattle.session_run.specs.declared.request.Next.TheVariants as next;
 
 use io_edge::{Line, LineFault, Lines, Source};
@@ -43,6 +44,8 @@ pub fn next_request<I: Source>(
     source: &mut I,
 ) -> Result<Next, LineFault>
     ensures takes { IfOk result (λ next. Takes next lines.old lines.new (I.left source.old) (I.left source.new) text.new.items) }
+    ensures part { OnErr result
+        (TakesPart lines.old lines.new (I.left source.old) (I.left source.new) IsPartOfRequest) }
     ensures reads { ReadsOn (I.left source.old) (I.left source.new) (I.faults source.old) (I.faults source.new) lines.old lines.new }
     ensures progress { IfOk result (λ read. read ≢ next.End → done_bytes lines.old < done_bytes lines.new) }
     ensures source_fault { result ≡ Err LineFault.Source → Rose (I.faults source.old) (I.faults source.new) }
@@ -70,6 +73,7 @@ fn take_molfile<I: Source>(
     requires within { lines.old.taken ≤ lines.old.limit }
     ensures taken { IfOk result (λ taken. (molfile : List TextLine) × IsMolfile taken molfile text.new.items
         × TakesMolfileLines lines.old lines.new (I.left source.old) (I.left source.new) molfile) }
+    ensures part { OnErr result (TakesPart lines.old lines.new (I.left source.old) (I.left source.new) HasNoLast) }
     ensures reads { ReadsOn (I.left source.old) (I.left source.new) (I.faults source.old) (I.faults source.new) lines.old lines.new }
     ensures source_fault { result ≡ Err LineFault.Source → Rose (I.faults source.old) (I.faults source.new) }
     ensures too_long { result ≡ Err LineFault.TooLong → lines.new.taken ≡ lines.new.limit }

@@ -5,11 +5,11 @@ ghost use Rattle.io_edge.specs.Lines.{done_bytes, lines_of};
 ghost use Rattle.store_core.specs.Calls.{NotRaised, SameHeld};
 ghost use Rattle.session_run.specs.Cursors.{Calls};
 ghost use Rattle.session_run.specs.Made.{Makes};
-ghost use Rattle.session_run.specs.Requests.{Request};
+ghost use Rattle.session_run.specs.Requests.{IsPartOfRequest, Request};
 ghost use Rattle.session_run.specs.Responds.{IsFit, IsReady, KeepsPins};
-ghost use Rattle.session_run.specs.Served.{IsServed, TakesExactly, Writes};
-ghost use Rattle.session_run.specs.Serving.{IsFresh, KeepsOn, Serves};
-ghost use Rattle.session_run.specs.Turn.{IsNext, Puts, ReadsOn, Replies, TakesNone, TakesRequest, Turns};
+ghost use Rattle.session_run.specs.Served.{IsAllOfTaken, IsInputFault, IsServed, TakesExactly, Writes, WritesForTaken};
+ghost use Rattle.session_run.specs.Serving.{AnswersTaken, IsFresh, KeepsOn, Serves};
+ghost use Rattle.session_run.specs.Turn.{IsNext, Puts, ReadsOn, Replies, TakesNone, TakesPart, TakesRequest, Turns};
 ghost use Rattle.session_run.specs.Walks.{cursors_of};
 
 use crate::request::{Next, next_request};
@@ -40,6 +40,10 @@ pub fn session<R: Threads + Sync, S: Service, I: Source, O: Sink, M: Meter>(
     ensures serves { (calls : Calls) × Makes S.at S.owns S.stretch service.old service.new calls
         × IfSome (I.left source.old) (λ bytes. Writes (O.written sink.old) (O.written sink.new)
         (IsServed result settings.now.page (lines_of bytes) calls)) }
+    ensures input_fault { IsInputFault result → (calls : Calls)
+        × Makes S.at S.owns S.stretch service.old service.new calls
+        × WritesForTaken (I.left source.old) (I.left source.new) (O.written sink.old) (O.written sink.new)
+        (IsAllOfTaken settings.now.page calls) }
     ensures pins { result ≢ EndStatus.Worn → SameHeld (S.holds service.old) (S.holds service.new) }
     ensures worn { result ≡ EndStatus.Worn → S.worn service.new }
     ensures source_fault { result ≡ EndStatus.SourceFault → Rose (I.faults source.old) (I.faults source.new) }
@@ -73,6 +77,10 @@ fn serve_to_end<R: Threads + Sync, S: Service, I: Source, O: Sink, M: Meter>(
     ensures serves { (calls : Calls) × Makes S.at S.owns S.stretch service.old service.new calls
         × IfSome (I.left source.old) (λ bytes. Writes (O.written sink.old) (O.written sink.new)
         (IsServed result responder.old.cursors.size (lines_of bytes) calls)) }
+    ensures input_fault { IsInputFault result → (calls : Calls)
+        × Makes S.at S.owns S.stretch service.old service.new calls
+        × WritesForTaken (I.left source.old) (I.left source.new) (O.written sink.old) (O.written sink.new)
+        (IsAllOfTaken responder.old.cursors.size calls) }
     ensures pins { result ≢ EndStatus.Worn → SameHeld (S.holds service.old) (S.holds service.new) }
     ensures worn { result ≡ EndStatus.Worn → S.worn service.new }
     ensures source_fault { result ≡ EndStatus.SourceFault → Rose (I.faults source.old) (I.faults source.new) }
@@ -107,6 +115,10 @@ fn serve<R: Threads + Sync, S: Service, I: Source, O: Sink, M: Meter>(
     ensures serves { (calls : Calls) × Makes S.at S.owns S.stretch service.old service.new calls
         × Serves result responder.old.cursors.size (I.left source.old) (O.written sink.old) (O.written sink.new)
         calls (cursors_of responder.new.cursors.list.items) }
+    ensures input_fault { IsInputFault result → (calls : Calls)
+        × Makes S.at S.owns S.stretch service.old service.new calls
+        × WritesForTaken (I.left source.old) (I.left source.new) (O.written sink.old) (O.written sink.new)
+        (AnswersTaken responder.old.cursors.size calls (cursors_of responder.new.cursors.list.items)) }
     ensures fit { IsFit responder.new.settings responder.new.cursors.size responder.new.cursors.list.items }
     ensures pins { result ≢ EndStatus.Worn
         → KeepsPins (S.holds service.old) [] (S.holds service.new) (cursors_of responder.new.cursors.list.items) }
@@ -140,6 +152,8 @@ fn turn<R: Threads + Sync, S: Service, I: Source, O: Sink, M: Meter>(
         (TakesNone lines.old (I.left source.old))
         (cursors_of responder.old.cursors.list.items) (cursors_of responder.new.cursors.list.items)
         (O.written sink.old) (O.written sink.new) result }
+    ensures part { IfSome result (λ end. IsInputFault end
+        → TakesPart lines.old lines.new (I.left source.old) (I.left source.new) IsPartOfRequest) }
     ensures reads { ReadsOn (I.left source.old) (I.left source.new) (I.faults source.old) (I.faults source.new)
         lines.old lines.new }
     ensures progress { result ≡ None → done_bytes lines.old < done_bytes lines.new }

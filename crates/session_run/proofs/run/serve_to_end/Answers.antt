@@ -1,10 +1,9 @@
-use Rattle.std.proofs.Common.{◌≡◌, ◌++◌, [], refl, subst}
+use Rattle.std.proofs.Common.{◌++◌, [], subst}
 use Rattle.session_run.specs.Cursors.{unpins}
-use Rattle.session_run.specs.Made.{Makes}
 use Rattle.session_run.specs.Serving.{Serves}
 use Rattle.session_run.specs.Walks.{cursors_of}
 use Rattle.session_run.specs.declared.settings.EndStatus.{EndStatus}
-use Rattle.session_run.proofs.Closing.{served-closed, served-closing, served-worn}
+use Rattle.session_run.proofs.Closing.{served-closed, served-closing, served-worn, taken-closed}
 use Rattle.session_run.proofs.Held.{not_raised-more, same_others-more}
 use Rattle.session_run.proofs.Joined.{makes_more}
 use Rattle.session_run.proofs.Keeping.{held-all}
@@ -46,6 +45,19 @@ returns-in-Ok-clause-serves g c =
       served-closed c.serve-end.result c.args.responder.now.cursors.size (g.I.Source.left c.args.source.now)
           (g.O.Sink.written c.args.sink.now) (g.O.Sink.written c.serve-end.new.sink) u.0 cursors c.in_default.not-Worn
           u.2,
+    )
+
+pub returns-in-Ok-clause-input_fault : goal.returns-in-Ok-clause-input_fault
+returns-in-Ok-clause-input_fault g c = λ is.
+    let u = c.serve-end.ensures.input_fault is in
+    let cursors = cursors_of c.serve-end.new.responder.cursors.list.items in (
+      u.0 ++ unpins cursors,
+      makes_more g.S.Service.at g.S.Service.owns g.S.Service.stretch g.met.S.Service.joins g.met.S.Service.lands
+          g.met.S.Service.same c.args.service.now c.serve-end.new.service c.close_all.new.service u.0 (unpins cursors)
+          u.1 c.in-Ok.ensures.ok,
+      taken-closed c.args.responder.now.cursors.size (g.I.Source.left c.args.source.now)
+          (g.I.Source.left c.serve-end.new.source) (g.O.Sink.written c.args.sink.now)
+          (g.O.Sink.written c.serve-end.new.sink) u.0 cursors u.2,
     )
 
 pub returns-in-Ok-clause-pins : goal.returns-in-Ok-clause-pins

@@ -1,8 +1,7 @@
-use Rattle.std.proofs.Common.{◌≡◌, [], ap, IfSome, List, subst, ℕ}
+use Rattle.std.proofs.Common.{[], ap, IfSome, List, subst, ℕ}
 use Rattle.io_edge.specs.Lines.{Reading, lines_of}
-use Rattle.session_run.specs.Served.{IsServed, TakesExactly, Writes}
+use Rattle.session_run.specs.Served.{IsAllOfTaken, IsServed, TakesExactly, Writes, WritesForTaken}
 use Rattle.session_run.proofs.Closing.{served-none}
-use Rattle.session_run.proofs.Held.{not_raised-same}
 use Rattle.session_run.proofs.Joined.{makes_none}
 use Rattle.session_run.proofs.Keeping.{fit_new}
 use Rattle.session_run.proofs.Scripts.{fresh}
@@ -40,6 +39,16 @@ returns-clause-serves g c =
       subst (λ (n : ℕ). IfSome (g.I.Source.left c.args.source.now) (λ (bytes : List ℕ).
           Writes (g.O.Sink.written c.args.sink.now) (g.O.Sink.written c.serve_to_end.new.sink)
           (IsServed c.serve_to_end.result n (lines_of bytes) u.0))) c.in-Ok-new.ensures.size u.2,
+    )
+
+pub returns-clause-input_fault : goal.returns-clause-input_fault
+returns-clause-input_fault g c = λ is.
+    let u = c.serve_to_end.ensures.input_fault is in (
+      u.0,
+      u.1,
+      subst (λ (n : ℕ). WritesForTaken (g.I.Source.left c.args.source.now)
+          (g.I.Source.left c.serve_to_end.new.source) (g.O.Sink.written c.args.sink.now)
+          (g.O.Sink.written c.serve_to_end.new.sink) (IsAllOfTaken n u.0)) c.in-Ok-new.ensures.size u.2,
     )
 
 pub returns-clause-too_long : goal.returns-clause-too_long

@@ -1,12 +1,12 @@
-use Rattle.std.proofs.Common.{◌≡◌, ap, arith, Err, refl, Some, sym}
+use Rattle.std.proofs.Common.{ap, Err, refl}
 use Rattle.std.proofs.KnownBytes.{Appends-nil}
 use Rattle.session_run.specs.Made.{Makes}
-use Rattle.session_run.specs.Turn.{IsNext, TakesNone, TakesRequest}
+use Rattle.session_run.specs.Requests.{IsPartOfRequest}
+use Rattle.session_run.specs.Turn.{TakesNone, TakesPart, TakesRequest}
 use Rattle.session_run.specs.Walks.{cursors_of}
-use Rattle.session_run.proofs.Held.{not_raised-same, same_held}
 use Rattle.session_run.proofs.Joined.{makes_none}
 use Rattle.session_run.proofs.Keeping.{done_lives, keeps_on, limit_lives, source_lives}
-use Rattle.session_run.proofs.Turning.{takes_request, turn_replied}
+use Rattle.session_run.proofs.Turning.{no_input_fault, takes_request, turn_replied}
 use Rattle.session_run.proofs.run.turn.Goals as goal
 
 pub returns-in-End-clause-turns : goal.returns-in-End-clause-turns
@@ -78,6 +78,20 @@ returns-in_default-clause-turns g c =
     (g.O.Sink.written c.args.sink.now) (g.O.Sink.written c.answer_and_put.new.sink)
     (TakesRequest c.args.lines.now c.next_request.new.lines before after) (TakesNone c.args.lines.now before)
     c.answer_and_put.result t.1 (c.answer_and_put.ensures.replies t.0 (rw c.text.ensures t.2))
+
+pub returns-in_default-clause-part : goal.returns-in_default-clause-part
+returns-in_default-clause-part g c =
+    let now = c.args.responder.now in
+    let t = takes_request c.in-Ok.next c.args.lines.now c.next_request.new.lines (g.I.Source.left c.args.source.now)
+    (g.I.Source.left c.next_request.new.source) c.next_request.new.text.items c.in_default.not-End
+    c.in-Ok.ensures.takes in
+    no_input_fault now.cursors.size
+    (Makes g.S.Service.at g.S.Service.owns g.S.Service.stretch c.args.service.now c.answer_and_put.new.service) t.0
+    (cursors_of now.cursors.list.items) (cursors_of c.answer_and_put.new.responder.cursors.list.items)
+    (g.O.Sink.written c.args.sink.now) (g.O.Sink.written c.answer_and_put.new.sink)
+    (TakesPart c.args.lines.now c.next_request.new.lines (g.I.Source.left c.args.source.now)
+    (g.I.Source.left c.next_request.new.source) IsPartOfRequest) c.answer_and_put.result
+    (c.answer_and_put.ensures.replies t.0 (rw c.text.ensures t.2))
 
 pub returns-in_default-clause-keeps : goal.returns-in_default-clause-keeps
 returns-in_default-clause-keeps g c =

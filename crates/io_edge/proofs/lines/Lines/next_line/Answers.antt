@@ -1,7 +1,7 @@
-use Rattle.std.proofs.Common.{subst, ◌∙◌, inr, arith}
+use Rattle.std.proofs.Common.{subst, sym, ◌∙◌, inl, inr, arith}
 use Rattle.std.specs.Prelude.{IsTrue}
 use Rattle.std.proofs.lemmas.Result.{err_from_is_err_and}
-use Rattle.io_edge.proofs.Outcome.{reads_of, count_of, goes_on, met_of, untouched_of, at_limit_of, finished_of, told_of, told_fault, answers_after, answers_fault, counts_after, line_rises, rose_after, not_too_long, not_end, ended_not, no_whole_line, can_at_limit, can_finished}
+use Rattle.io_edge.proofs.Outcome.{reads_of, count_of, goes_on, met_of, untouched_of, ended_of, awaits_held, at_limit_of, finished_of, told_of, told_fault, answers_after, answers_fault, counts_after, line_rises, rose_after, not_too_long, not_end, ended_not, no_whole_line, can_at_limit, can_finished}
 use Rattle.io_edge.proofs.lines.Lines.next_line.Goals as goal
 
 pub loop-answer-preserved : goal.loop-answer-preserved
@@ -34,6 +34,8 @@ returns-in-Some g c =
       at_limit = λ h. at_limit_of left faults _ _ _ _ _ _ start held h;
       end = held.end;
       finished = λ h. finished_of left faults _ _ _ _ _ _ start held h;
+      awaits = awaits_held _ _ _ held;
+      ended = λ e. subst IsTrue (sym held.ended) (ended_of left faults _ _ _ _ start e);
       count = count_of left faults _ _ _ _ start;
       untouched = λ h. untouched_of left faults _ _ _ _ start h;
     }
@@ -64,6 +66,12 @@ returns-in_err-take_piece g c =
       at_limit = λ h. absurd (under.none (can_at_limit _ h));
       end = λ e. absurd (not_end _ e);
       finished = λ h. absurd (under.none (can_finished _ h));
+      awaits = record {
+        not_ended = c.in_err-take_piece.ensures.not_ended;
+        none = no_whole_line c.take_piece.new.self c.in_err-take_piece.ensures.none
+            c.in_err-take_piece.ensures.not_ended;
+      };
+      ended = λ e. absurd (under.none (inr (inl e)));
       count = under.count;
       untouched = λ h. absurd (under.none h);
     })
