@@ -216,7 +216,7 @@ commit-stands laws store new s c k h m allowed =
       version = omega (arith, m.version, h.version, length-append s.history (told ∷ []));
       limit = m.limit ∙ h.limit;
       most = omega (arith, m.limit, h.most);
-      within = omega (arith, m.version, m.limit, m.room);
+      within = omega (arith, m.version, m.room, h.limit, h.most);
       pins = h.pins ∙ sym m.pins;
       kept = omega (arith, m.kept, h.kept, length-append s.kept (record { id = id_of told; version = head s.history + 1 } ∷ []));
       few = omega (arith, m.kept, m.version, h.few);

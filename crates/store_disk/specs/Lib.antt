@@ -1,0 +1,6 @@
+pub mod Disks
+pub mod Loads
+pub mod Payloads
+pub mod Puts
+pub mod Replays
+pub mod Stored

@@ -1,0 +1,27 @@
+-- What replaying a log leaves, and where it stops. For private clauses alone.
+use Rattle.std.specs.Prelude.{◌≡◌, ◌++◌, List, ◌∷◌, map, ℕ}
+use Rattle.commit_log.specs.Change.{Change as Logged, change_of}
+use Rattle.commit_log.specs.Log.{changes_of}
+use Rattle.commit_log.specs.declared.change.Commit.{Commit}
+use Rattle.store_core.specs.Stored.{StandsFor, StoreTerm as Memory}
+use Rattle.store_machine.specs.History.{IsHistory}
+use Rattle.store_machine.specs.declared.machine.State.{State}
+use Rattle.store_disk.specs.Loads.{IsOpened, MayFollow}
+use Rattle.store_disk.specs.Payloads.{told}
+
+-- the store in memory stands for a state of this history that was just opened
+pub record IsReplayed (memory : Memory) (commits : ℕ) (changes : List Logged) : Type 0 where
+  pub state : State
+  pub stands : StandsFor memory state
+  pub history : state.history ≡ map told changes
+  pub opened : IsOpened commits state
+
+-- it stops at the first commit that may not follow those before it
+pub record Stops (log : List Commit) (at : ℕ) : Type 0 where
+  pub before : List Commit
+  pub commit : Commit
+  pub more : List Commit
+  pub is : log ≡ before ++ commit ∷ more
+  pub place : at ≡ commit.at
+  pub history : IsHistory (map told (changes_of before))
+  pub refused : ¬ MayFollow (map told (changes_of before)) (told (change_of commit.wire))

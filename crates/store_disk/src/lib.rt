@@ -1,0 +1,18 @@
+//! A store of structures on a disk: the store in memory of `store_core`, and a journal that has each commit before it is
+//! acknowledged.
+//!
+//! `Store::load` reads the commits of a disk, and `Store` is then a `Service`: each call is a step of the machine, and
+//! what the disk has is at each state the history and the commit in doubt.
+#![tactic(auto)]
+
+mod disks;
+mod laws;
+mod payload;
+mod put;
+mod replay;
+mod store;
+#[cfg(test)]
+mod tests;
+
+pub use disks::Disks;
+pub use store::Store;
