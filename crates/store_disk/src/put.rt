@@ -1,10 +1,11 @@
 //! A payload is put into the journal, and an older doubt is ended first.
 
 ghost use Rattle.std.specs.Prelude.{◌≡◌, ◌<◌, ◌≤◌, ◌+◌, ◌^◌, ◌++◌, [], ◌∷◌, List, None, OnErr, OnOk, Option, false, length, true, ℕ};
-ghost use Rattle.disk_edge.specs.Disk.{Counts, OnFailed, Rose};
+ghost use Rattle.disk_edge.specs.Disk.{Counts, IfTold, Keeps, OnFailed, Rose};
+ghost use Rattle.disk_edge.specs.Moments.{AtEachMoment};
 ghost use Rattle.journal_core.specs.Records.{IsShort};
 ghost use Rattle.store_disk.specs.Disks.{Has};
-ghost use Rattle.store_disk.specs.Puts.{OnFault, PutGives};
+ghost use Rattle.store_disk.specs.Puts.{OnFault, PutGives, ShowsDoubt, ShowsOne};
 
 use disk_edge::{Disk, DiskFail};
 use journal_core::{AppendFault, Journal};
@@ -19,6 +20,11 @@ pub(crate) fn put<D: Disk>(journal: &mut Journal<D>, payload: &[u8]) -> Result<(
 
     ensures gives { (ps : List (List ℕ)) (doubt : Option (List ℕ)) → Has D.content D.images journal.old ps doubt
         → PutGives result (Has D.content D.images journal.new) ps doubt payload.now }
+    ensures moments { (ps : List (List ℕ)) (doubt : Option (List ℕ)) → Has D.content D.images journal.old ps doubt
+        → IfTold (D.content journal.new.disk) (λ _. AtEachMoment D.clock D.images_between
+        journal.old.disk journal.new.disk (ShowsOne ps doubt payload.now)) }
+    ensures past { Keeps D.clock D.images_between journal.old.disk journal.new.disk }
+    ensures untold { D.content journal.old.disk ≡ None → D.content journal.new.disk ≡ None }
     ensures cause { OnFault result (Rose (D.faults journal.old.disk) (D.faults journal.new.disk)) }
     ensures count { Counts (D.faults journal.old.disk) (D.faults journal.new.disk)
         (D.bound journal.old.disk) (D.bound journal.new.disk) }
@@ -47,6 +53,11 @@ fn settle<D: Disk>(journal: &mut Journal<D>) -> Result<(), DiskFail>
         → Has D.content D.images journal.new ps None) }
     ensures err { OnErr result ((ps : List (List ℕ)) (doubt : Option (List ℕ)) → Has D.content D.images journal.old ps doubt
         → Has D.content D.images journal.new ps doubt) }
+    ensures moments { (ps : List (List ℕ)) (doubt : Option (List ℕ)) → Has D.content D.images journal.old ps doubt
+        → IfTold (D.content journal.new.disk) (λ _. AtEachMoment D.clock D.images_between
+        journal.old.disk journal.new.disk (ShowsDoubt ps doubt)) }
+    ensures past { Keeps D.clock D.images_between journal.old.disk journal.new.disk }
+    ensures untold { D.content journal.old.disk ≡ None → D.content journal.new.disk ≡ None }
     ensures settled { OnOk result (journal.new.doubt ≡ false) }
     ensures cause { OnFailed result (Rose (D.faults journal.old.disk) (D.faults journal.new.disk)) }
     ensures count { Counts (D.faults journal.old.disk) (D.faults journal.new.disk)

@@ -1,15 +1,16 @@
 //! A store on a disk. A commit is first kept in memory, then put into the journal, and taken back from memory where the
 //! journal does not take it. No other call touches the disk.
 
-ghost use Rattle.std.specs.Prelude.{◌≡◌, ◌≤◌, ◌≢◌, [], IfErr, IfOk, Some, ℕ};
+ghost use Rattle.std.specs.Prelude.{◌≡◌, ◌≤◌, [], false, IfErr, IfOk, IsErrOf, Some, ℕ};
 ghost use Rattle.disk_edge.specs.Disk.{IfTold, Rose};
-ghost use Rattle.journal_core.specs.Looks.{Narrows};
+ghost use Rattle.journal_core.specs.Answers.{OnDamaged};
+ghost use Rattle.journal_core.specs.Journal.{Reads};
+ghost use Rattle.journal_core.specs.Looks.{Looks, Narrows};
 ghost use Rattle.journal_core.specs.Records.{IsNoJournal};
 ghost use Rattle.store_machine.specs.declared.machine.State.{State};
-ghost use Rattle.store_disk.specs.Disks.{StandsFor};
+ghost use Rattle.store_disk.specs.Disks.{IsReady, StandsFor};
 ghost use Rattle.store_disk.specs.Loads.{Damages, IsOpened, OpensTo, a_after, b_after};
-ghost use Rattle.store_core.specs.Stored as memory;
-ghost use Rattle.store_disk.specs.Replays.{IsReplayed};
+ghost use Rattle.store_disk.specs.Replays.{IsLoaded};
 
 use crate::disks::Disks;
 use crate::laws::laws;
@@ -161,7 +162,7 @@ impl<D: Disk> Service for Store<D> {
 
     ghost owns = { λ _ _. true };
 
-    ghost stretch = { Stretches D.content D.images D.faults };
+    ghost stretch = { Stretches D.content D.images D.clock D.images_between D.faults };
 
     ghost worn = { λ _. ⊥ };
 
@@ -220,13 +221,13 @@ impl<D: Disk> Service for Store<D> {
         self.memory.stats()
     }
 
-    ghost stays = { stays D.content D.images D.faults };
+    ghost stays = { stays D.content D.images D.clock D.images_between D.faults };
 
-    ghost joins = { joins D.content D.images D.faults };
+    ghost joins = { joins D.content D.images D.clock D.images_between D.faults };
 
-    ghost lands = { lands D.content D.images D.faults };
+    ghost lands = { lands D.content D.images D.clock D.images_between D.faults };
 
-    ghost same = { same D.content D.images D.faults };
+    ghost same = { same D.content D.images D.clock D.images_between D.faults };
 }
 
 // The store in memory of a journal's commits, which are read to their end.
@@ -234,7 +235,24 @@ fn memory_of<D: Disk>(
     alloc: Global,
     journal: &mut Journal<D>,
     commits: u32,
-) -> Result<Memory, LoadFault> {
+) -> Result<Memory, LoadFault>
+    requires some { 1 ≤ commits }
+    requires few { commits ≤ MOST_COMMITS }
+    requires start { journal.old.place ≡ 8 }
+    requires settled { journal.old.doubt ≡ false }
+
+    ensures loaded { IfOk result (λ memory. IsLoaded D.content D.images memory commits journal.old journal.new) }
+    ensures ready { IfOk result (λ memory. IsReady memory journal.new) }
+    ensures damaged { OnDamaged result (λ at. Reads D.content D.images journal.old []
+        → IfTold (D.content journal.old.disk) (Damages at)) }
+    ensures cause { IsErrOf result LoadFault.Disk
+        → Rose (D.faults journal.old.disk) (D.faults journal.new.disk) }
+    ensures no_other { ¬ IsErrOf result LoadFault.NotAStore }
+
+    ensures settled { journal.new.doubt ≡ false }
+    ensures looks { Looks D.content D.images D.clock D.images_between D.faults D.bound
+        journal.old.disk journal.new.disk }
+{
     let log = read_all(alloc, journal)?;
     replay(alloc, &log, commits)
 }

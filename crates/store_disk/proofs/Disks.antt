@@ -1,0 +1,36 @@
+-- Counts of faults and their bounds, as a service tells them.
+use Rattle.std.proofs.Common.{◌≡◌, ◌⊎◌, ◌<◌, ◌≤◌, ◌^◌, ◌-◌, ◌+◌, ◌∙◌, arith, inl, inr, None, Option, refl, Some, sym, ℕ}
+use Rattle.disk_edge.specs.Disk as disk
+use Rattle.disk_edge.specs.Disk.{Bounded, Counts}
+use Rattle.store_core.specs.Calls.{NotAbove}
+use Rattle.store_machine.specs.Machine.{Rose}
+
+pub not-above : (old new : Option ℕ) → Bounded old new → NotAbove old new
+not-above None new b = tt
+not-above (Some n) None b = let k = b n refl in absurd (none k.1)
+  where
+    none : {x : ℕ} → None ≡ Some x → ⊥
+    none e = cc e
+not-above (Some n) (Some m) b = let k = b n refl in omega (arith, k.2, same m k.0 k.1)
+  where
+    same : (a b : ℕ) → Some a ≡ Some b → a ≡ b
+    same a b e = cc e
+
+pub not-above-itself : (o : Option ℕ) → NotAbove o o
+not-above-itself None = tt
+not-above-itself (Some n) = omega arith
+
+pub rose : (old new : ℕ) → disk.Rose old new → Rose old new
+rose old new r = elim r [ inl less ↦ inl less | inr end ↦ inr (omega (arith, end)) ]
+
+pub rose-before : (a b c : ℕ) → a ≤ b → disk.Rose b c → disk.Rose a c
+rose-before a b c le r = elim r [ inl less ↦ inl (omega (arith, le, less)) | inr end ↦ inr end ]
+
+pub counts-none : (n : ℕ) (o : Option ℕ) → Counts n n o o
+counts-none n o = record { count = omega arith; bound = λ b is. (b, is, omega arith) }
+
+pub counts-twice : (a b c : ℕ) (o p q : Option ℕ) → Counts a b o p → Counts b c p q → Counts a c o q
+counts-twice a b c o p q f s = record {
+  count = omega (arith, f.count, s.count);
+  bound = λ n is. let k = f.bound n is in let l = s.bound k.0 k.1 in (l.0, l.1, omega (arith, k.2, l.2));
+}

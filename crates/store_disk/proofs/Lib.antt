@@ -1,0 +1,10 @@
+mod Commits
+mod Disks
+mod Lifts
+mod Loads
+mod Logged
+mod Payloads
+mod Puts
+mod Replayed
+mod Rows
+mod Steps

@@ -1,0 +1,11 @@
+use Rattle.std.proofs.Common.{sym}
+use Rattle.store_disk.proofs.Disks.{not-above-itself}
+use Rattle.store_disk.proofs.Lifts.{calm}
+use Rattle.store_disk.proofs.Rows.{look-lifted}
+use Rattle.store_disk.proofs.store.StoreService.look.Goals as goal
+
+pub returns-clause-call : goal.returns-clause-call
+returns-clause-call g c =
+    let d = g.D.Disk in
+    rw (sym c.self.view_is)
+    (λ s h. look-lifted d.content d.images d.clock d.images_between d.faults g.met.D.Disk.only_now c.laws.ensures _ c.look.new.self s h c.args.id c.look.result c.look.ensures.worn.1 (c.look.ensures.call (calm s) h.memory))
