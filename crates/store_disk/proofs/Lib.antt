@@ -3,6 +3,7 @@ mod Disks
 mod Lifts
 mod Loads
 mod Logged
+mod OneWay
 mod Payloads
 mod Puts
 mod Replayed

@@ -54,5 +54,6 @@ disallowed log at end bytes takes stops is = record {
       ∙ (place-of 8 stops.before stops.commit stops.more (subst (λ l. map with-place l ≡ placed 8 (changes_of l)) stops.is takes.places)
       ∙ end-from-start (changes_of stops.before));
   history = stops.history;
+  few = stops.few;
   refused = stops.refused;
 }

@@ -1,6 +1,6 @@
 -- The commits of a log, made again one after the other.
-use Rattle.std.proofs.Common.{◌≡◌, ◌+◌, ◌++◌, ◌≤◌, ◌∙◌, ap, arith, List, [], ◌∷◌, map, None, refl, subst, sym, true, ℕ}
-use Rattle.std.proofs.lemmas.List.{map-append}
+use Rattle.std.proofs.Common.{◌≡◌, ◌+◌, ◌++◌, ◌≤◌, ◌∙◌, ap, arith, length, List, [], ◌∷◌, map, None, refl, subst, sym, true, ℕ}
+use Rattle.std.proofs.lemmas.List.{length-map, map-append}
 use Rattle.commit_log.specs.Change.{Change as Logged, change_of}
 use Rattle.commit_log.specs.Log.{changes_of}
 use Rattle.commit_log.specs.declared.change.Commit.{Commit}
@@ -47,5 +47,6 @@ stops log before c more memory at is place m never = record {
   is = is;
   place = place;
   history = subst IsHistory m.history m.stands.sound.history;
+  few = omega (arith, m.stands.version, m.stands.within, ap (λ l. length l) m.history, length-map (changes_of before) told);
   refused = λ may. never m.state m.stands (may-add memory (changes_of before) m (change_of c.wire) may);
 }

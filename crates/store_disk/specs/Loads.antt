@@ -30,6 +30,7 @@ pub record Disallows (at : ℕ) (bytes : List ℕ) : Type 0 where
   pub log : IsLog (before ++ change ∷ more) bytes
   pub place : at ≡ length (prefix (log_payloads before))
   pub history : IsHistory (map told before)
+  pub few : length before ≤ 16777215
   pub refused : ¬ MayFollow (map told before) (told change)
 
 -- The store is damaged at a place: the log is, or else a commit is not allowed or has a text without a structure.

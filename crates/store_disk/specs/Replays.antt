@@ -1,5 +1,5 @@
 -- What replaying a log leaves, and where it stops. For private clauses alone.
-use Rattle.std.specs.Prelude.{◌≡◌, ◌++◌, List, [], ◌∷◌, map, Option, ℕ}
+use Rattle.std.specs.Prelude.{◌≡◌, ◌++◌, ◌≤◌, length, List, [], ◌∷◌, map, Option, ℕ}
 use Rattle.commit_log.specs.Change.{Change as Logged, change_of}
 use Rattle.commit_log.specs.Log.{changes_of}
 use Rattle.commit_log.specs.declared.change.Commit.{Commit}
@@ -27,6 +27,7 @@ pub record Stops (log : List Commit) (at : ℕ) : Type 0 where
   pub is : log ≡ before ++ commit ∷ more
   pub place : at ≡ commit.at
   pub history : IsHistory (map told (changes_of before))
+  pub few : length (changes_of before) ≤ 16777215
   pub refused : ¬ MayFollow (map told (changes_of before)) (told (change_of commit.wire))
 
 -- What a loading makes of a journal: the store in memory stands for a state that was just opened, and where the journal

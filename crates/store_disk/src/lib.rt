@@ -15,4 +15,5 @@ mod store;
 mod tests;
 
 pub use disks::Disks;
+pub use laws::a_store_opens_one_way;
 pub use store::Store;
