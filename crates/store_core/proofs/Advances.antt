@@ -1,12 +1,14 @@
 -- A change that is committed in memory or refused, by the states for which the store stands.
-use Rattle.std.proofs.Common.{◌≡◌, ◌+◌, ◌++◌, ◌≤◌, ◌∙◌, arith, Err, IfErr, inl, IsErrAnd, length, length-append, List, [], ◌∷◌, None, Ok, Option, option_map, refl, Result, subst, sym, true, ℕ}
+use Rattle.std.proofs.Common.{◌≡◌, ◌+◌, ◌++◌, ◌≤◌, ◌∙◌, ap, arith, Err, false, IfErr, inl, IsErrAnd, length, length-append, List, [], ◌∷◌, None, Ok, Option, option_map, refl, Result, subst, sym, true, ℕ}
+use Rattle.std.proofs.lemmas.Bool.{true≢false}
 use Rattle.store_machine.specs.History.{head, id_of}
 use Rattle.store_machine.specs.Laws.{KeptIsRead, StatesStay}
 use Rattle.store_machine.specs.Machine.{MayAdd, committed}
 use Rattle.store_machine.specs.declared.machine.Event.TheVariants as event
+use Rattle.store_machine.specs.declared.machine.Reply.{Reply}
 use Rattle.store_machine.specs.declared.machine.Reply.TheVariants as reply
 use Rattle.store_machine.specs.declared.machine.State.{State}
-use Rattle.store_core.specs.Calls.{Calls}
+use Rattle.store_core.specs.Calls.{Calls, WornAs, is_worn_out}
 use Rattle.store_core.specs.Chains.{chain_of, latest, status_of}
 use Rattle.store_core.specs.Replies.{IsRefusal, change_of, commit_calls, refusal_by}
 use Rattle.store_core.specs.Stored.{StandsFor, StoreTerm, Stretches}
@@ -70,3 +72,20 @@ pub committed-row : (store new : StoreTerm) (s : State) (c : Change) → StandsF
 committed-row store new s c h m =
     one-call store new s (committed s (change_of c)) 0 (event.Commit (change_of c)) (reply.Committed new.version) refl h
     (serves s h.serves, (m.0, omega (arith, m.1.version, length-append s.history (change_of c ∷ [])), refl)) m.1
+
+-- a store in memory is never worn
+pub not-worn : {X : Type 0} (f : CommitFault) (r : Result X CommitFault) → IsErrAnd r (λ e. e ≡ f) → is_worn_out {X = X} (Err f) ≡ false → is_worn_out r ≡ false
+not-worn f (Ok x) is not = refl
+not-worn {X} f (Err e) is not = ap (λ (g : CommitFault). is_worn_out {X = X} (Err g)) is ∙ not
+
+pub refused-not-worn : {X : Type 0} (f : CommitFault) (refusal : Option Reply) (r : Result X CommitFault) → IsErrAnd r (λ e. e ≡ f) → IsRefusal f refusal → is_worn_out r ≡ false
+refused-not-worn fault.Known refusal r is h = not-worn fault.Known r is refl
+refused-not-worn fault.Absent refusal r is h = not-worn fault.Absent r is refl
+refused-not-worn fault.Withdrawn refusal r is h = not-worn fault.Withdrawn r is refl
+refused-not-worn fault.Full refusal r is h = absurd h
+refused-not-worn (fault.DiskFault doubt) refusal r is h = absurd h
+refused-not-worn fault.Worn refusal r is h = absurd h
+refused-not-worn fault.NoMemory refusal r is h = absurd h
+
+pub worn-result : {X : Type 0} (f : CommitFault) (r : Result X CommitFault) → IsErrAnd r (λ e. e ≡ f) → is_worn_out {X = X} (Err f) ≡ false → WornAs ⊥ ⊥ (is_worn_out r)
+worn-result f r is not = ((λ never. absurd never), (λ worn. true≢false (sym worn ∙ not-worn f r is not)))

@@ -2,9 +2,10 @@
 //!
 //! It keeps no history. A commit and a look read one chain; a fetch walks the chains from its identifier on and stops at
 //! its page's end; a prune walks each chain once.
-ghost use Rattle.std.specs.Prelude.{◌≡◌, ◌≤◌, ◌+◌, ◌++◌, ◌∷◌, [], ◌==◌, IfErr, IfOk, IfSome, OnErr, OnOk, if◌then◌else◌, length, None, option_copied, ℕ};
+ghost use Rattle.std.specs.Prelude.{◌≡◌, ◌≤◌, ◌+◌, ◌++◌, ◌∷◌, [], ◌==◌, false, IfErr, IfOk, IfSome, OnErr, OnOk, if◌then◌else◌, length, None, option_copied, ℕ};
 ghost use Rattle.store_machine.specs.Machine.{MayAdd, committed};
 ghost use Rattle.store_machine.specs.declared.machine.State.{State};
+ghost use Rattle.store_core.specs.Calls.{is_worn_out};
 ghost use Rattle.store_core.specs.Chains.{IsEntryOf, but_last, chain_of, latest};
 ghost use Rattle.store_core.specs.Replies.{change_of};
 ghost use Rattle.store_core.specs.Undone.{Follows, IsWhy};
@@ -90,6 +91,7 @@ impl Store {
         ensures few { OnOk result (self.new.version ≤ MOST_COMMITS) }
         ensures why { IfErr result (λ fault. (s : State) → StandsFor self.old s
             → IsWhy s (change_of change.now) fault) }
+        ensures not_worn { is_worn_out result ≡ false }
         ensures err { OnErr result (self.new ≡ self.old) }
     {
         laws();

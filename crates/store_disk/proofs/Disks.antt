@@ -25,12 +25,3 @@ rose old new r = elim r [ inl less ↦ inl less | inr end ↦ inr (omega (arith,
 
 pub rose-before : (a b c : ℕ) → a ≤ b → disk.Rose b c → disk.Rose a c
 rose-before a b c le r = elim r [ inl less ↦ inl (omega (arith, le, less)) | inr end ↦ inr end ]
-
-pub counts-none : (n : ℕ) (o : Option ℕ) → Counts n n o o
-counts-none n o = record { count = omega arith; bound = λ b is. (b, is, omega arith) }
-
-pub counts-twice : (a b c : ℕ) (o p q : Option ℕ) → Counts a b o p → Counts b c p q → Counts a c o q
-counts-twice a b c o p q f s = record {
-  count = omega (arith, f.count, s.count);
-  bound = λ n is. let k = f.bound n is in let l = s.bound k.0 k.1 in (l.0, l.1, omega (arith, k.2, l.2));
-}

@@ -15,37 +15,13 @@ apart : {X : Type 0} → true ≡ false → X
 apart e = cc e
 
 module _ {D : Type 0} (content : D → Option (List ℕ)) (images : D → List ℕ → Type 0) (old new : Standing D) where
-  pub settled : (content old.disk ≡ None → content new.disk ≡ None) → old.doubt ≡ true → new.doubt ≡ false
-      → ((ps : List (List ℕ)) (p : List ℕ) → Doubts content images old ps p → Rests content images new ps)
-      → (ps : List (List ℕ)) (doubt : Option (List ℕ)) → Has content images old ps doubt → Has content images new ps None
-  settled untold flag ends ok ps None h = apart (sym flag ∙ h.0)
-  settled untold flag ends ok ps (Some p) h = (ends, λ l is. let k = told-before (content old.disk) (content new.disk) untold l is in ok ps p (h.1 k.0 k.1))
-
   pub unsettled : (content old.disk ≡ None → content new.disk ≡ None) → old.doubt ≡ true → new.doubt ≡ true
       → ((ps : List (List ℕ)) (p : List ℕ) → Doubts content images old ps p → Doubts content images new ps p)
       → (ps : List (List ℕ)) (doubt : Option (List ℕ)) → Has content images old ps doubt → Has content images new ps doubt
   unsettled untold flag stays ok ps None h = apart (sym flag ∙ h.0)
   unsettled untold flag stays ok ps (Some p) h = (stays, λ l is. let k = told-before (content old.disk) (content new.disk) untold l is in ok ps p (h.1 k.0 k.1))
 
-  pub rests : (content old.disk ≡ None → content new.disk ≡ None) → new.doubt ≡ false → (ps qs : List (List ℕ)) → (Rests content images old ps → Rests content images new qs)
-      → Has content images old ps None → Has content images new qs None
-  rests untold flag ps qs ok h = (flag, λ l is. let k = told-before (content old.disk) (content new.disk) untold l is in ok (h.1 k.0 k.1))
-
-  pub doubts : (content old.disk ≡ None → content new.disk ≡ None) → new.doubt ≡ true → (ps : List (List ℕ)) (p : List ℕ) → (Rests content images old ps → Doubts content images new ps p)
-      → Has content images old ps None → Has content images new ps (Some p)
-  doubts untold flag ps p ok h = (flag, λ l is. let k = told-before (content old.disk) (content new.disk) untold l is in ok (h.1 k.0 k.1))
-
--- nothing is in doubt
-pub no-doubt : {D : Type 0} (content : D → Option (List ℕ)) (images : D → List ℕ → Type 0) (journal : Standing D) → journal.doubt ≡ false
-    → (ps : List (List ℕ)) (doubt : Option (List ℕ)) → Has content images journal ps doubt → Has content images journal ps None
-no-doubt content images journal flag ps None h = h
-no-doubt content images journal flag ps (Some p) h = apart (sym h.0 ∙ flag)
-
--- what holds at an answer, of two facts
-pub on-both : {T E P Q R : Type 0} (r : Result T E) → (P → Q → R) → OnOk r P → OnOk r Q → OnOk r R
-on-both (Ok x) f p q = f p q
-on-both (Err e) f p q = tt
-
+-- what holds at each fault
 pub on-fault : {T P Q R : Type 0} (r : Result T DiskFail) → (P → Q → R) → OnFailed r P → OnNoMemory r P → OnErr r Q → OnErr r R
 on-fault (Ok x) f p m q = tt
 on-fault (Err Failed) f p m q = f p q
@@ -53,11 +29,6 @@ on-fault (Err NoMemory) f p m q = f m q
 
 -- what each image shows
 module _ {D : Type 0} (content : D → Option (List ℕ)) (images : D → List ℕ → Type 0) (clock : D → ℕ) (between : D → ℕ → ℕ → List ℕ → Type 0) where
-  pub now-shows : (only-now : (d : D) (c : List ℕ) → between d (clock d) (clock d) c → images d c) (journal : Standing D) (ps : List (List ℕ)) (doubt : Option (List ℕ)) → journal.doubt ≡ false
-      → Has content images journal ps doubt → IfTold (content journal.disk) (λ _. AtEachMoment clock between journal.disk journal.disk (ShowsDoubt ps doubt))
-  now-shows only-now journal ps None flag h = λ l is image b. inl ((h.1 l is).each image (only-now journal.disk image b))
-  now-shows only-now journal ps (Some p) flag h = apart (sym h.0 ∙ flag)
-
   pub settle-shows : (old new : Standing D) → (content old.disk ≡ None → content new.disk ≡ None) → old.doubt ≡ true
       → ((ps : List (List ℕ)) (p : List ℕ) → Doubts content images old ps p → AtEachMoment clock between old.disk new.disk (BeforeOrAfter ps p))
       → (ps : List (List ℕ)) (doubt : Option (List ℕ)) → Has content images old ps doubt → IfTold (content new.disk) (λ _. AtEachMoment clock between old.disk new.disk (ShowsDoubt ps doubt))

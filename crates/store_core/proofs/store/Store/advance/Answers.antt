@@ -4,7 +4,7 @@ use Rattle.store_core.specs.Replies.{change_of}
 use Rattle.store_core.specs.Stored.{StoreTerm}
 use Rattle.store_core.specs.Undone.{Follows}
 use Rattle.store_core.specs.declared.chain.Kept.{Kept}
-use Rattle.store_core.proofs.Advances.{adds, why-full, why-refused, why-result}
+use Rattle.store_core.proofs.Advances.{adds, not-worn, refused-not-worn, why-full, why-refused, why-result}
 use Rattle.store_core.proofs.Commits.{Committing, KeepsOneMore, Laws, done-stands, head-at, may-count}
 use Rattle.store_core.proofs.store.Store.advance.Goals as goal
 
@@ -12,6 +12,15 @@ pub returns-in_err-check-clause-why : goal.returns-in_err-check-clause-why
 returns-in_err-check-clause-why c =
     why-refused c.laws.ensures.read c.laws.ensures.states c.args.self.now c.args.change.now c.in_err-check.field-0.0 (option_copied c.head.result) c.from_residual.result c.from_residual.ensures.1
     (head-at c.args.self.now c.args.self.now _ c.id-id.result (option_copied c.head.result) refl c.id-id.ensures.id c.head.ensures.latest) c.in_err-check.ensures
+
+pub returns-in_err-check-clause-not_worn : goal.returns-in_err-check-clause-not_worn
+returns-in_err-check-clause-not_worn c = refused-not-worn c.in_err-check.field-0.0 _ c.from_residual.result c.from_residual.ensures.1 c.in_err-check.ensures
+
+pub returns-in_err-entry-clause-not_worn : goal.returns-in_err-entry-clause-not_worn
+returns-in_err-entry-clause-not_worn c = not-worn _ c.from_residual-in_err-entry.result c.from_residual-in_err-entry.ensures.1 refl
+
+pub returns-in_err-keep-clause-not_worn : goal.returns-in_err-keep-clause-not_worn
+returns-in_err-keep-clause-not_worn c = not-worn _ c.from_residual-in_err-keep.result c.from_residual-in_err-keep.ensures.1 refl
 
 pub returns-then-self-clause-why : goal.returns-then-self-clause-why
 returns-then-self-clause-why c =
