@@ -22,11 +22,11 @@ use Rattle.store_machine.specs.declared.machine.Faults.{Faults}
 use Rattle.store_machine.specs.declared.machine.Reply.{Reply}
 use Rattle.store_machine.specs.declared.machine.Reply.TheVariants as reply
 use Rattle.store_machine.specs.declared.machine.State.{State}
-use Rattle.store_disk.specs.Disks.{Has, StandsFor, StoreTerm}
+use Rattle.store_disk.specs.OnDisk.{Has, StandsFor, StoreTerm}
 use Rattle.store_disk.specs.Payloads.{payload, payloads}
 use Rattle.store_disk.specs.Puts.{EndsOlder, OnFault, PutGives, ShowsOne}
 use Rattle.store_disk.specs.Stored.{Stretches}
-use Rattle.store_disk.proofs.Disks.{rose}
+use Rattle.store_disk.proofs.Bounds.{rose}
 use Rattle.store_disk.proofs.Lifts.{calm, one-call, shows-one, sound-after, still-call, with-faults}
 use Rattle.store_disk.proofs.Steps.{all}
 
@@ -61,7 +61,7 @@ module _ {D : Type 0} (content : D → Option (List ℕ)) (images : D → List �
       (moments : IfTold (content journal.disk) (λ _. AtEachMoment clock between store.journal.disk journal.disk (ShowsOne (payloads s.history) (option_map payload s.doubt) (payload (change_of c))))) where
     serves : (t : State) → t.faults ≡ record { a = faults journal.disk; b = faults store.b } → Serves s t
     serves t e =
-        (h.memory.serves, (omega (arith, le, ap (λ (f : Faults). f.a) h.faults, ap (λ (f : Faults). f.a) e), omega (arith, ap (λ (f : Faults). f.b) h.faults, ap (λ (f : Faults). f.b) e)))
+        (h.memory.serves, (omega (arith, le, ap (λ (f : Faults). f.a) h.counts, ap (λ (f : Faults). f.a) e), omega (arith, ap (λ (f : Faults). f.b) h.counts, ap (λ (f : Faults). f.b) e)))
 
     pub done : memory.StandsFor m (committed (calm s) (change_of c)) → Has content images journal (payloads s.history ++ payload (change_of c) ∷ []) None
         → Gone store (record { memory = m; journal = journal; b = store.b }) s c (Ok m.version)
@@ -76,7 +76,7 @@ module _ {D : Type 0} (content : D → Option (List ℕ)) (images : D → List �
           sound = sound-after law s t 0 (event.Commit told) (reply.Committed m.version) gives h.sound;
           memory = with-faults m (committed (calm s) told) f ends;
           journal = subst (λ ps. Has content images journal ps None) (sym (map-append payload s.history (told ∷ []))) has;
-          faults = refl;
+          counts = refl;
         })
         refl past untold (λ l is image b. shows-one _ told image refl (moments l is image b))
 
@@ -95,7 +95,7 @@ module _ {D : Type 0} (content : D → Option (List ℕ)) (images : D → List �
             sound = sound-after law s t 0 (event.Commit (change_of c)) r gives h.sound;
             memory = with-faults m (calm s) (record { a = faults journal.disk; b = faults store.b }) ends;
             journal = has;
-            faults = refl;
+            counts = refl;
           })
           refl past untold (λ l is image b. shows-one _ (change_of c) image refl (moments l is image b))
 
@@ -108,7 +108,7 @@ module _ {D : Type 0} (content : D → Option (List ℕ)) (images : D → List �
       ]
 
       some-rose : disk.Rose (faults store.journal.disk) (faults journal.disk) → (doubt : Option Change) → SomeRose s.faults (then doubt).faults
-      some-rose r doubt = inl (subst (λ n. Rose n (faults journal.disk)) (sym (ap (λ (f : Faults). f.a) h.faults)) (rose (faults store.journal.disk) (faults journal.disk) r))
+      some-rose r doubt = inl (subst (λ n. Rose n (faults journal.disk)) (sym (ap (λ (f : Faults). f.a) h.counts)) (rose (faults store.journal.disk) (faults journal.disk) r))
 
       pub faulted : (f : CommitFault) → PutGives (Err f) (Has content images journal) (payloads s.history) (option_map payload s.doubt) (payload (change_of c))
           → OnFault (Err f) (disk.Rose (faults store.journal.disk) (faults journal.disk))

@@ -1,5 +1,5 @@
 mod Commits
-mod Disks
+mod Bounds
 mod Lifts
 mod Loads
 mod Logged

@@ -19,7 +19,7 @@ use Rattle.store_machine.specs.declared.machine.Reply.{Reply}
 use Rattle.store_machine.specs.declared.machine.State.{State}
 use Rattle.store_machine.specs.declared.machine.Step.{Step}
 use Rattle.store_machine.specs.declared.machine.Times.{Times}
-use Rattle.store_disk.specs.Disks.{Has, StandsFor, StoreTerm}
+use Rattle.store_disk.specs.OnDisk.{Has, StandsFor, StoreTerm}
 use Rattle.store_disk.specs.Payloads.{payload, payloads}
 use Rattle.store_disk.specs.Puts.{ShowsDoubt, ShowsOne}
 use Rattle.store_disk.specs.Stored.{Shows, Stretches, keeps-itself, times}
@@ -135,6 +135,6 @@ module _ {D : Type 0} (content : D → Option (List ℕ)) (images : D → List �
           sound = sound-after law s (back s x.after) x.owner e r l.0 h.sound;
           memory = with-faults m x.after s.faults x.ends;
           journal = subst (λ g. Has content images store.journal (payloads g) (option_map payload s.doubt)) (sym l.1) h.journal;
-          faults = h.faults;
+          counts = h.counts;
         })
         refl refl

@@ -21,7 +21,7 @@ use Rattle.store_machine.specs.declared.machine.Entry.{Entry}
 use Rattle.store_machine.specs.declared.machine.Event.TheVariants as event
 use Rattle.store_machine.specs.declared.machine.Reply.TheVariants as reply
 use Rattle.store_machine.specs.declared.machine.State.{State}
-use Rattle.store_disk.specs.Disks.{Has, IsReady, StandsFor, StoreTerm}
+use Rattle.store_disk.specs.OnDisk.{Has, IsReady, StandsFor, StoreTerm}
 use Rattle.store_disk.specs.Loads.{IsOpened, OpensTo}
 use Rattle.store_disk.specs.Payloads.{payload, payloads, told}
 use Rattle.store_disk.specs.Replays.{IsLoaded, IsReplayed}
@@ -88,7 +88,7 @@ module _ {D : Type 0} (content : D → Option (List ℕ)) (images : D → List �
           sound = record { history = sound.history; doubt = tt; slots = sound.slots; pins = sound.pins; kept = sound.kept; made = sound.made };
           memory = with-faults memory t (record { a = faults new.disk; b = faults b }) x.stands;
           journal = (flag, λ l is. x.rests (reads l (sym (second ∙ first) ∙ is)));
-          faults = refl;
+          counts = refl;
         },
         record { limit = x.opened.limit; pins = x.opened.pins; doubt = refl; kept = record { exactly = x.opened.kept.exactly; distinct = x.opened.kept.distinct } },
         λ l is. x.opens (reads l is) l (first ∙ is),

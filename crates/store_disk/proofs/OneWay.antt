@@ -8,7 +8,8 @@ use Rattle.journal_core.specs.Records.{Breaks, IsNoJournal, IsShort, Opens, body
 use Rattle.journal_core.specs.declared.format.TheConstants.{OPEN}
 use Rattle.mol_finish.specs.declared.fault.Format.{Format}
 use Rattle.mol_finish.specs.declared.fault.Format.TheVariants.{Smiles, Molfile}
-use Rattle.store_machine.specs.History.{AreAllowed, IsAllowed, IsHistory, IsValid, Snapshot, after_change, after_changes, empty, head, snapshot}
+use Rattle.store_machine.specs.History.{AreAllowed, IsAllowed, IsHistory, IsValid, Snapshot, after_change, after_changes, head, snapshot}
+use Rattle.std.specs.FinMap.{empty}
 use Rattle.store_machine.specs.declared.machine.Change.{Change}
 use Rattle.store_machine.specs.declared.machine.Change.TheVariants.{Register, Revise, Withdraw}
 use Rattle.store_disk.specs.Loads.{Damages, Disallows, MayFollow, OpensTo}
@@ -102,7 +103,7 @@ compare (a ∷ xs) x xm (b ∷ ys) y ym e =
     elim (compare xs x xm ys y ym (same-tail a b (xs ++ x ∷ xm) (ys ++ y ∷ ym) e)) [
       | inl same ↦ inl (λ i. first i ∷ same i)
       | inr rest ↦ elim rest [
-        | inl on ↦ inr (inl (on.0, λ i. first (~ i) ∷ on.1 i))
+        | inl on ↦ inr (inl (on.0, λ i. sym first i ∷ on.1 i))
         | inr on ↦ inr (inr (on.0, λ i. first i ∷ on.1 i))
       ]
     ]

@@ -1,5 +1,5 @@
 -- A record's payload is short, and a logged change is the machine's.
-use Rattle.std.proofs.Common.{◌≡◌, ◌≢◌, ◌⊎◌, ◌+◌, ◌++◌, ◌≤◌, ◌∙◌, ap, arith, Err, IfOk, inl, inr, length, length-append, List, [], ◌∷◌, map, Ok, refl, Result, subst, sym, Vec, ℕ}
+use Rattle.std.proofs.Common.{◌≡◌, ◌≢◌, ◌⊎◌, ◌+◌, ◌++◌, ◌≤◌, ◌∙◌, ap, arith, Err, IfErr, IfOk, inl, inr, IsErrAnd, length, length-append, List, [], ◌∷◌, map, Ok, refl, Result, subst, sym, Vec, ℕ}
 use Rattle.std.specs.Arc.{arc_value}
 use Rattle.std.specs.Int.{to_le_bytes, w32}
 use Rattle.std.specs.declared.alloc.AllocError.{AllocError}
@@ -18,6 +18,7 @@ use Rattle.mol_finish.specs.declared.fault.TextFault.TheVariants.{NoMemory}
 use Rattle.store_core.specs.Replies.{IsSoundChange, change_of}
 use Rattle.store_core.specs.declared.words.Change.{Change as Asked}
 use Rattle.store_core.specs.declared.words.Change.TheVariants as asked
+use Rattle.store_machine.specs.History.{IsValid}
 use Rattle.store_machine.specs.Structures.{IsText}
 use Rattle.store_machine.specs.declared.machine.Change.{Change}
 use Rattle.store_disk.specs.Payloads.{logged_change, logged_format, payload, payloads, stored_format, told}
@@ -71,15 +72,23 @@ has-answer : (format : Format) (text : List ℕ) (m : Molecule) → HasMolecule 
 has-answer Smiles text m h = h
 has-answer Molfile text m h = h
 
-ok-err : {m : Molecule} {f : TextFault} → Ok m ≡ Err f → ⊥
-ok-err e = cc e
+abbrev refusal : TextFault → Result Molecule TextFault
+refusal f = Err f
 
-same-fault : (f g : TextFault) → Err {T = Molecule} f ≡ Err g → f ≡ g
+ok-err : (m : Molecule) (f : TextFault) → Ok m ≡ refusal f → ⊥
+ok-err m f e = cc e
+
+same-fault : (f g : TextFault) → refusal f ≡ refusal g → f ≡ g
 same-fault f g e = cc e
 
-pub no-text : OneAnswer → (format : Format) (text : List ℕ) (f : TextFault) → IsAnswer format text (Err f) → f ≢ NoMemory → ¬ IsText format text
+no-text : OneAnswer → (format : Format) (text : List ℕ) (f : TextFault) → IsAnswer format text (Err f) → f ≢ NoMemory → ¬ IsText format text
 no-text one format text f refused other has =
     elim (one format text (Ok has.0) (Err f) (has-answer format text has.0 has.1) refused) [
-      | inl e ↦ ok-err e
-      | inr rest ↦ elim rest [ inl e ↦ ok-err e | inr e ↦ other (same-fault f NoMemory e) ]
+      | inl e ↦ ok-err has.0 f e
+      | inr rest ↦ elim rest [ inl e ↦ ok-err has.0 NoMemory e | inr e ↦ other (same-fault f NoMemory e) ]
     ]
+
+pub refused-text : {X : Type 0} → OneAnswer → (c : Change) (format : Format) (text : List ℕ) (f : TextFault) (r : Result X TextFault) → IsErrAnd r (λ e. e ≡ f) → IsAnswer format text (Err f) → (IsValid c → IsText format text)
+    → IfErr r (λ e. e ≢ NoMemory → ¬ IsValid c)
+refused-text one c format text f (Ok x) is refused has = tt
+refused-text one c format text f (Err e) is refused has = λ other valid. no-text one format text f refused (λ same. other (is ∙ same)) (has valid)

@@ -7,7 +7,7 @@ use Rattle.disk_edge.specs.declared.disk.DiskFail.TheVariants.{Failed, NoMemory}
 use Rattle.journal_core.specs.Journal.{Doubts, Rests}
 use Rattle.journal_core.specs.Records.{BeforeOrAfter}
 use Rattle.journal_core.specs.Standing.{Standing}
-use Rattle.store_disk.specs.Disks.{Has}
+use Rattle.store_disk.specs.OnDisk.{Has}
 use Rattle.store_disk.specs.Puts.{ShowsDoubt, ShowsOne}
 use Rattle.store_disk.specs.Stored.{told-before}
 

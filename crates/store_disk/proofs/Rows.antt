@@ -19,7 +19,7 @@ use Rattle.store_machine.specs.declared.machine.Reply.{Reply}
 use Rattle.store_machine.specs.declared.machine.Reply.TheVariants as reply
 use Rattle.store_machine.specs.declared.machine.State.{State}
 use Rattle.store_machine.specs.declared.machine.Status.{Status}
-use Rattle.store_disk.specs.Disks.{StandsFor, StoreTerm}
+use Rattle.store_disk.specs.OnDisk.{StandsFor, StoreTerm}
 use Rattle.store_disk.specs.Stored.{Stretches}
 use Rattle.store_disk.proofs.Lifts.{Lifts, back, calm, lifted}
 use Rattle.store_disk.proofs.Steps.{all}

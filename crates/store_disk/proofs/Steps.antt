@@ -16,14 +16,11 @@ all _ = true
 own-first : (x : Step) (xs : List Step) → is_call x.event ≡ true → (x.event, x.reply) ∷ calls_of all xs ≡ calls_of all (x ∷ xs)
 own-first x xs call = ap (λ b. cond (b && true) ((x.event, x.reply) ∷ calls_of all xs) (calls_of all xs)) (sym call)
 
-first-event : (e f : Event) (r q : Reply) (xs ys : List (Event × Reply)) → (e, r) ∷ xs ≡ (f, q) ∷ ys → e ≡ f
-first-event e f r q xs ys is = cc is
+first-of : (x y : Event × Reply) (xs ys : List (Event × Reply)) → x ∷ xs ≡ y ∷ ys → x ≡ y
+first-of x y xs ys is = cc is
 
-first-reply : (e f : Event) (r q : Reply) (xs ys : List (Event × Reply)) → (e, r) ∷ xs ≡ (f, q) ∷ ys → r ≡ q
-first-reply e f r q xs ys is = cc is
-
-others : (e f : Event) (r q : Reply) (xs ys : List (Event × Reply)) → (e, r) ∷ xs ≡ (f, q) ∷ ys → xs ≡ ys
-others e f r q xs ys is = cc is
+others : (x y : Event × Reply) (xs ys : List (Event × Reply)) → x ∷ xs ≡ y ∷ ys → xs ≡ ys
+others x y xs ys is = cc is
 
 none-left : (s t : State) (xs : List Step) → IsRun s xs t → IsCalm xs → calls_of all xs ≡ [] → t ≡ s
 none-left s t [] run calm own = run
@@ -39,9 +36,10 @@ one-of s t [] e r run calm own = absurd (none own)
     none e = cc e
 one-of s t (x ∷ xs) e r run calm own =
     let is = own-first x xs calm.0 ∙ own in
-    let end : t ≡ x.after = none-left x.after t xs run.2 calm.1 (others x.event e x.reply r (calls_of all xs) [] is) in
-    let event = first-event x.event e x.reply r (calls_of all xs) [] is in
-    let reply = first-reply x.event e x.reply r (calls_of all xs) [] is in
+    let end : t ≡ x.after = none-left x.after t xs run.2 calm.1 (others (x.event, x.reply) (e, r) (calls_of all xs) [] is) in
+    let first = first-of (x.event, x.reply) (e, r) (calls_of all xs) [] is in
+    let event : x.event ≡ e = ap (λ (p : Event × Reply). p.0) first in
+    let reply : x.reply ≡ r = ap (λ (p : Event × Reply). p.1) first in
     (
       x.owner,
       subst (λ u. Gives s x.owner e r u) (sym end)

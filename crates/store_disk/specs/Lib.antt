@@ -1,4 +1,4 @@
-pub mod Disks
+pub mod OnDisk
 pub mod Loads
 pub mod Payloads
 pub mod Puts

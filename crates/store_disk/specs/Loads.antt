@@ -8,7 +8,7 @@ use Rattle.store_machine.specs.History.{IsAllowed, IsHistory, IsValid, head, sna
 use Rattle.store_machine.specs.Machine.{AreNeeded}
 use Rattle.store_machine.specs.declared.machine.Change.{Change}
 use Rattle.store_machine.specs.declared.machine.State.{State}
-use Rattle.store_disk.specs.Disks.{StoreTerm}
+use Rattle.store_disk.specs.OnDisk.{StoreTerm}
 use Rattle.store_disk.specs.Payloads.{payloads, told}
 use Rattle.store_disk.specs.declared.disks.Disks.{Disks}
 

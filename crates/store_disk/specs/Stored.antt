@@ -12,7 +12,7 @@ use Rattle.store_machine.specs.declared.machine.Event.TheVariants.{Commit}
 use Rattle.store_machine.specs.declared.machine.State.{State}
 use Rattle.store_machine.specs.declared.machine.Step.{Step}
 use Rattle.store_machine.specs.declared.machine.Times.{Times}
-use Rattle.store_disk.specs.Disks.{StandsFor, StoreTerm}
+use Rattle.store_disk.specs.OnDisk.{StandsFor, StoreTerm}
 use Rattle.store_disk.specs.Payloads.{payloads}
 
 -- A crash at a moment of a step shows the history from before it, or this and the commit in doubt, or this and the commit

@@ -4,7 +4,7 @@ ghost use Rattle.std.specs.Prelude.{◌≡◌, ◌<◌, ◌≤◌, ◌+◌, ◌^
 ghost use Rattle.disk_edge.specs.Disk.{Counts, IfTold, Keeps, OnFailed, Rose};
 ghost use Rattle.disk_edge.specs.Moments.{AtEachMoment};
 ghost use Rattle.journal_core.specs.Records.{IsShort};
-ghost use Rattle.store_disk.specs.Disks.{Has};
+ghost use Rattle.store_disk.specs.OnDisk.{Has};
 ghost use Rattle.store_disk.specs.Puts.{OnFault, PutGives, ShowsDoubt, ShowsOne};
 
 use disk_edge::{Disk, DiskFail};

@@ -8,7 +8,7 @@ ghost use Rattle.journal_core.specs.Journal.{Reads};
 ghost use Rattle.journal_core.specs.Looks.{Looks, Narrows};
 ghost use Rattle.journal_core.specs.Records.{IsNoJournal};
 ghost use Rattle.store_machine.specs.declared.machine.State.{State};
-ghost use Rattle.store_disk.specs.Disks.{IsReady, StandsFor};
+ghost use Rattle.store_disk.specs.OnDisk.{IsReady, StandsFor};
 ghost use Rattle.store_disk.specs.Loads.{Damages, IsOpened, OpensTo, a_after, b_after};
 ghost use Rattle.store_disk.specs.Replays.{IsLoaded};
 
@@ -40,7 +40,7 @@ pub struct Store<D: Disk> {
 }
 
 impl<D: Disk> Model for Store<D> {
-    ghost use Rattle.store_disk.specs.Disks.{IsReady, StoreTerm};
+    ghost use Rattle.store_disk.specs.OnDisk.{IsReady, StoreTerm};
 
     ghost Value = { StoreTerm D };
 
@@ -155,7 +155,7 @@ impl Store<MemDisk> {
 impl<D: Disk> Service for Store<D> {
     ghost use Rattle.std.specs.Prelude.{true};
     ghost use Rattle.store_core.specs.Stored.{HoldsPin};
-    ghost use Rattle.store_disk.specs.Disks.{StandsFor};
+    ghost use Rattle.store_disk.specs.OnDisk.{StandsFor};
     ghost use Rattle.store_disk.specs.Stored.{Stretches, joins, lands, same, stays};
 
     ghost at = { StandsFor D.content D.images D.faults };

@@ -1,5 +1,5 @@
 use Rattle.std.proofs.Common.{sym}
-use Rattle.store_disk.proofs.Disks.{not-above-itself}
+use Rattle.store_disk.proofs.Bounds.{not-above-itself}
 use Rattle.store_disk.proofs.Lifts.{calm}
 use Rattle.store_disk.proofs.Rows.{prune-lifted}
 use Rattle.store_disk.proofs.store.StoreService.prune.Goals as goal

@@ -28,7 +28,7 @@ pub record StandsFor {D : Type 0} (content : D → Option (List ℕ)) (images : 
   pub sound : IsSound s
   pub memory : memory.StandsFor store.memory (record s { doubt = None })
   pub journal : Has content images store.journal (payloads s.history) (option_map payload s.doubt)
-  pub faults : s.faults ≡ record { a = faults store.journal.disk; b = faults store.b }
+  pub counts : s.faults ≡ record { a = faults store.journal.disk; b = faults store.b }
 
 -- The journal may be appended to, at a place far below the end of places. For private clauses alone.
 pub record IsReady {D : Type 0} (memory : Memory) (journal : Standing D) : Type 0 where
