@@ -25,9 +25,9 @@ use Rattle.store_machine.specs.declared.machine.State.{State}
 use Rattle.store_disk.specs.OnDisk.{Has, StandsFor, StoreTerm}
 use Rattle.store_disk.specs.Payloads.{payload, payloads}
 use Rattle.store_disk.specs.Puts.{EndsOlder, OnFault, PutGives, ShowsOne}
-use Rattle.store_disk.specs.Stored.{Stretches}
+use Rattle.store_disk.specs.Stored.{Stretches, times}
 use Rattle.store_disk.proofs.Bounds.{rose}
-use Rattle.store_disk.proofs.Lifts.{calm, one-call, shows-one, sound-after, still-call, with-faults}
+use Rattle.store_disk.proofs.Lifts.{calm, one-call, shows-one, sound-after, step_of, still-call, with-faults}
 use Rattle.store_disk.proofs.Steps.{all}
 
 module _ {D : Type 0} (content : D → Option (List ℕ)) (images : D → List ℕ → Type 0) (clock : D → ℕ) (between : D → ℕ → ℕ → List ℕ → Type 0) (faults : D → ℕ)
@@ -58,12 +58,16 @@ module _ {D : Type 0} (content : D → Option (List ℕ)) (images : D → List �
   module _ (law : RunsStaySound) (store : StoreTerm D) (s : State) (h : StandsFor content images faults store s) (c : Asked) (m : Memory) (journal : Standing D)
       (le : faults store.journal.disk ≤ faults journal.disk) (may : MayAdd s (change_of c)) (past : Keeps clock between store.journal.disk journal.disk)
       (untold : content store.journal.disk ≡ None → content journal.disk ≡ None)
-      (moments : IfTold (content journal.disk) (λ _. AtEachMoment clock between store.journal.disk journal.disk (ShowsOne (payloads s.history) (option_map payload s.doubt) (payload (change_of c))))) where
+      (p : List ℕ) (written : p ≡ payload (change_of c))
+      (given : IfTold (content journal.disk) (λ _. AtEachMoment clock between store.journal.disk journal.disk (ShowsOne (payloads s.history) (option_map payload s.doubt) p))) where
+    moments : IfTold (content journal.disk) (λ _. AtEachMoment clock between store.journal.disk journal.disk (ShowsOne (payloads s.history) (option_map payload s.doubt) (payload (change_of c))))
+    moments = subst (λ q. IfTold (content journal.disk) (λ _. AtEachMoment clock between store.journal.disk journal.disk (ShowsOne (payloads s.history) (option_map payload s.doubt) q))) written given
+
     serves : (t : State) → t.faults ≡ record { a = faults journal.disk; b = faults store.b } → Serves s t
     serves t e =
         (h.memory.serves, (omega (arith, le, ap (λ (f : Faults). f.a) h.counts, ap (λ (f : Faults). f.a) e), omega (arith, ap (λ (f : Faults). f.b) h.counts, ap (λ (f : Faults). f.b) e)))
 
-    pub done : memory.StandsFor m (committed (calm s) (change_of c)) → Has content images journal (payloads s.history ++ payload (change_of c) ∷ []) None
+    pub done : memory.StandsFor m (committed (calm s) (change_of c)) → Has content images journal (payloads s.history ++ p ∷ []) None
         → Gone store (record { memory = m; journal = journal; b = store.b }) s c (Ok m.version)
     done ends has =
         let told = change_of c in
@@ -75,10 +79,11 @@ module _ {D : Type 0} (content : D → Option (List ℕ)) (images : D → List �
         (record {
           sound = sound-after law s t 0 (event.Commit told) (reply.Committed m.version) gives h.sound;
           memory = with-faults m (committed (calm s) told) f ends;
-          journal = subst (λ ps. Has content images journal ps None) (sym (map-append payload s.history (told ∷ []))) has;
+          journal = subst (λ ps. Has content images journal ps None) (sym (map-append payload s.history (told ∷ []))) (subst (λ q. Has content images journal (payloads s.history ++ q ∷ []) None) written has);
           counts = refl;
         })
-        refl past untold (λ l is image b. shows-one _ told image refl (moments l is image b))
+        refl past untold
+        (λ l is image b. shows-one (step_of 0 (event.Commit told) (reply.Committed m.version) s t (times clock store) (times clock (record { memory = m; journal = journal; b = store.b }))) told image refl (moments l is image b))
 
     module _ (ends : memory.StandsFor m (calm s)) where
       -- after a fault the state is as before, with this doubt
@@ -97,7 +102,8 @@ module _ {D : Type 0} (content : D → Option (List ℕ)) (images : D → List �
             journal = has;
             counts = refl;
           })
-          refl past untold (λ l is image b. shows-one _ (change_of c) image refl (moments l is image b))
+          refl past untold
+          (λ l is image b. shows-one (step_of 0 (event.Commit (change_of c)) r s t (times clock store) (times clock (record { memory = m; journal = journal; b = store.b }))) (change_of c) image refl (moments l is image b))
 
       older : (r : Reply) → ((doubt : Option Change) → EndsDoubt s (then doubt) → CommitGives s (change_of c) r (then doubt))
           → EndsOlder (Has content images journal) (payloads s.history) (option_map payload s.doubt)
@@ -110,14 +116,18 @@ module _ {D : Type 0} (content : D → Option (List ℕ)) (images : D → List �
       some-rose : disk.Rose (faults store.journal.disk) (faults journal.disk) → (doubt : Option Change) → SomeRose s.faults (then doubt).faults
       some-rose r doubt = inl (subst (λ n. Rose n (faults journal.disk)) (sym (ap (λ (f : Faults). f.a) h.counts)) (rose (faults store.journal.disk) (faults journal.disk) r))
 
-      pub faulted : (f : CommitFault) → PutGives (Err f) (Has content images journal) (payloads s.history) (option_map payload s.doubt) (payload (change_of c))
+      by-fault : (f : CommitFault) → PutGives (Err f) (Has content images journal) (payloads s.history) (option_map payload s.doubt) (payload (change_of c))
           → OnFault (Err f) (disk.Rose (faults store.journal.disk) (faults journal.disk))
           → Gone store (record { memory = m; journal = journal; b = store.b }) s c (Err f)
-      faulted fault.Known has r = absurd has
-      faulted fault.Absent has r = absurd has
-      faulted fault.Withdrawn has r = absurd has
-      faulted fault.Full has r = absurd has
-      faulted (fault.DiskFault true) has r = with-doubt (Some (change_of c)) (reply.DiskFault true) (may, some-rose r (Some (change_of c)), refl) has
-      faulted (fault.DiskFault false) has r = older (reply.DiskFault false) (λ doubt e. (may, some-rose r doubt, e)) has
-      faulted fault.Worn has r = absurd has
-      faulted fault.NoMemory has r = older reply.NoMemory (λ doubt e. e) has
+      by-fault fault.Known has r = absurd has
+      by-fault fault.Absent has r = absurd has
+      by-fault fault.Withdrawn has r = absurd has
+      by-fault fault.Full has r = absurd has
+      by-fault (fault.DiskFault true) has r = with-doubt (Some (change_of c)) (reply.DiskFault true) (may, some-rose r (Some (change_of c)), refl) has
+      by-fault (fault.DiskFault false) has r = older (reply.DiskFault false) (λ doubt e. (may, some-rose r doubt, e)) has
+      by-fault fault.Worn has r = absurd has
+      by-fault fault.NoMemory has r = older reply.NoMemory (λ doubt e. e) has
+
+      pub faulted : (f : CommitFault) → PutGives (Err f) (Has content images journal) (payloads s.history) (option_map payload s.doubt) p → OnFault (Err f) (disk.Rose (faults store.journal.disk) (faults journal.disk))
+          → Gone store (record { memory = m; journal = journal; b = store.b }) s c (Err f)
+      faulted f has r = by-fault f (subst (λ q. PutGives (Err f) (Has content images journal) (payloads s.history) (option_map payload s.doubt) q) written has) r

@@ -1,5 +1,5 @@
 -- A call of the store in memory as one of the store on a disk: the doubt and the counts of faults stay.
-use Rattle.std.proofs.Common.{◌≡◌, ◌&&◌, ◌++◌, ◌∙◌, ap, arith, cond, inl, inr, List, [], ◌∷◌, None, Option, option_map, refl, Some, subst, sym, true, ℕ}
+use Rattle.std.proofs.Common.{◌≡◌, ◌&&◌, ◌++◌, ◌∙◌, ap, arith, cond, inl, inr, length, List, [], ◌∷◌, None, Option, option_map, refl, Some, subst, sym, true, ℕ}
 use Rattle.std.proofs.lemmas.List.{map-append}
 use Rattle.disk_edge.specs.Disk.{IfTold, Keeps}
 use Rattle.disk_edge.specs.Moments.{AtEachMoment}
@@ -7,7 +7,7 @@ use Rattle.journal_core.specs.Records.{Opens}
 use Rattle.journal_core.specs.Standing.{Standing}
 use Rattle.store_core.specs.Calls.{Calls}
 use Rattle.store_core.specs.Stored as memory
-use Rattle.store_core.specs.Stored.{StoreTerm as Memory}
+use Rattle.store_core.specs.Stored.{IsStore, StoreTerm as Memory}
 use Rattle.store_machine.specs.Laws.{IsSound, RunsStaySound}
 use Rattle.store_machine.specs.Machine.{Gives}
 use Rattle.store_machine.specs.Runs.{is_call}
@@ -63,6 +63,15 @@ sound-after law s t owner e r gives sound = law s t (step_of owner e r s t (reco
 -- a step as it is lifted
 abbrev pub Lifts : State → Event → Reply → Type 0
 Lifts s e r = (owner : ℕ) (t : State) → Gives (calm s) owner e r t → Gives s owner e r (back s t) × (t.history ≡ s.history)
+
+-- a call that is lifted leaves a store of the same version
+pub still : (old new : Memory) (e : Event) (r : Reply) → ((s : State) → Lifts s e r) → ((s : State) → memory.StandsFor old s → Calls memory.Stretches all old new s ((e, r) ∷ [])) → IsStore old
+    → IsStore new × (new.version ≡ old.version)
+still old new e r lifts c was =
+    let s = was.0 in
+    let h = with-faults old s s.faults was.1 in
+    let x = one old new (calm s) e r (c (calm s) h) in
+    ((x.after, x.ends), x.ends.version ∙ (ap (λ g. length g) (lifts s x.owner x.after x.gives).1 ∙ sym was.1.version))
 
 -- what the images of now show
 shows-doubt : (x : Step) (d : Option Change) (image : List ℕ) → x.before.doubt ≡ d → ShowsDoubt (payloads x.before.history) (option_map payload d) image → Shows x image

@@ -6,9 +6,12 @@ use Rattle.commit_log.specs.Change.{Change as Logged}
 use Rattle.commit_log.specs.Log.{IsLog, IsLogged, Takes, changes_of, end_of, payloads as log_payloads}
 use Rattle.commit_log.specs.declared.change.Commit.{Commit}
 use Rattle.disk_edge.specs.Disk.{IfTold}
+use Rattle.journal_core.specs.Answers.{OnDamaged}
 use Rattle.journal_core.specs.Journal.{Reads, Rests}
 use Rattle.journal_core.specs.Records.{Opens}
 use Rattle.journal_core.specs.Standing.{Standing}
+use Rattle.journal_core.specs.declared.faults.LoadFault.{LoadFault}
+use Rattle.journal_core.specs.declared.faults.LoadFault.TheVariants as fault
 use Rattle.journal_core.specs.declared.format.TheConstants.{LONGEST_PAYLOAD}
 use Rattle.store_core.specs.Calls.{Calls, NeedsNone, is_worn}
 use Rattle.store_core.specs.Replies.{prune_calls}
@@ -41,8 +44,7 @@ opened-after old new s commits (Err call.NoMemory) none worn pins c = absurd non
 opened-after old new s commits (Ok n) none worn pins c =
     let x = one old new s event.Prune (reply.Pruned n) c in
     let t : State = x.after in
-    let needed : AreNeeded t t.kept = still-needed s t t.kept x.gives.1.2 x.gives.1.0 in
-    (
+    let needed : AreNeeded t t.kept = still-needed s t t.kept x.gives.1.2 x.gives.1.0 in (
       t,
       x.ends,
       ap (λ (y : State). y.history) x.gives.1.2,
@@ -70,6 +72,7 @@ module _ {D : Type 0} (content : D → Option (List ℕ)) (images : D → List �
 
   pub is-ready : (memory : Memory) (commits : ℕ) (cs : List Logged) (new : Standing D) → IsReplayed memory commits cs → new.ready ≡ true → new.place ≡ end_of 8 cs → AllByRecursion IsLogged cs → IsReady memory new
   is-ready memory commits cs new r ready place logged = record {
+    stands = (r.state, r.stands);
     ready = ready;
     few = r.stands.within;
     place = omega (arith, end-near 8 cs logged, place, r.stands.version, ap (λ l. length l) r.history, length-map cs told);
@@ -81,8 +84,7 @@ module _ {D : Type 0} (content : D → Option (List ℕ)) (images : D → List �
   opened-store faults memory commits a b old new x first second reads flag =
       let t : State = x.state in
       let s : State = record t { doubt = None; faults = record { a = faults new.disk; b = faults b } } in
-      let sound = x.stands.sound in
-      (
+      let sound = x.stands.sound in (
         s,
         record {
           sound = record { history = sound.history; doubt = tt; slots = sound.slots; pins = sound.pins; kept = sound.kept; made = sound.made };
@@ -93,3 +95,10 @@ module _ {D : Type 0} (content : D → Option (List ℕ)) (images : D → List �
         record { limit = x.opened.limit; pins = x.opened.pins; doubt = refl; kept = record { exactly = x.opened.kept.exactly; distinct = x.opened.kept.distinct } },
         λ l is. x.opens (reads l is) l (first ∙ is),
       )
+
+pub on-damaged : {T : Type 0} {P Q : ℕ → Type 0} (r : Result T LoadFault) → ((at : ℕ) → P at → Q at) → OnDamaged r P → OnDamaged r Q
+on-damaged (Ok x) f p = tt
+on-damaged (Err fault.Disk) f p = tt
+on-damaged (Err fault.NotAStore) f p = tt
+on-damaged (Err (fault.Damaged at)) f p = f at p
+on-damaged (Err fault.NoMemory) f p = tt

@@ -1,7 +1,8 @@
 -- The rows of all calls but commit, lifted: none of them speaks of the doubt.
 use Rattle.std.proofs.Common.{◌≡◌, ap, arith, Bool, Err, false, List, [], ◌∷◌, None, Ok, Option, refl, Result, Some, true, ℕ}
+use Rattle.journal_core.specs.Standing.{Standing}
 use Rattle.snap_registry.specs.declared.Pin.{Pin}
-use Rattle.store_core.specs.Calls.{Calls, NeedsNone, WornAs, is_worn}
+use Rattle.store_core.specs.Calls.{Calls, NeedsNone, is_worn}
 use Rattle.store_core.specs.Records.{Shared, founds}
 use Rattle.store_core.specs.Replies.{calls, fetch_calls, look_calls, looked, pin_calls, pin_reply, prune_calls, stats_calls, unpin_calls}
 use Rattle.store_core.specs.Stored as memory
@@ -19,9 +20,9 @@ use Rattle.store_machine.specs.declared.machine.Reply.{Reply}
 use Rattle.store_machine.specs.declared.machine.Reply.TheVariants as reply
 use Rattle.store_machine.specs.declared.machine.State.{State}
 use Rattle.store_machine.specs.declared.machine.Status.{Status}
-use Rattle.store_disk.specs.OnDisk.{StandsFor, StoreTerm}
+use Rattle.store_disk.specs.OnDisk.{IsReady, StandsFor, StoreTerm}
 use Rattle.store_disk.specs.Stored.{Stretches}
-use Rattle.store_disk.proofs.Lifts.{Lifts, back, calm, lifted}
+use Rattle.store_disk.proofs.Lifts.{Lifts, back, calm, lifted, still}
 use Rattle.store_disk.proofs.Steps.{all}
 
 serves : (s t : State) → Serves (calm s) t → Serves s (back s t)
@@ -53,41 +54,55 @@ lift-no-look s id owner t g = ((serves s t g.0, ap (back s) g.1), ap (λ (x : St
 lift-stats : (s : State) (n : Stats) → Lifts s event.Stats (reply.Counted n.version n.live n.withdrawn n.kept n.pins)
 lift-stats s n owner t g = ((serves s t g.0, (g.1.0, g.1.1, g.1.2, g.1.3, g.1.4, ap (back s) g.1.5)), ap (λ (x : State). x.history) g.1.5)
 
-module _ {D : Type 0} (content : D → Option (List ℕ)) (images : D → List ℕ → Type 0) (clock : D → ℕ) (between : D → ℕ → ℕ → List ℕ → Type 0) (faults : D → ℕ)
-    (only-now : (d : D) (c : List ℕ) → between d (clock d) (clock d) c → images d c) (law : RunsStaySound) (store : StoreTerm D) (m : Memory) (s : State) (h : StandsFor content images faults store s) where
-  -- a call of which each reply is lifted
-  each : {X : Type 0} (e : Event) (of : X → Reply) → is_call e ≡ true → ((x : X) → Lifts s e (of x)) → (r : Result X CallFault) → (is_worn r ≡ true → ⊥) → (r ≡ Err call.NoMemory → Lifts s e reply.NoMemory)
-      → Calls memory.Stretches all store.memory m (calm s) (calls e of r) → Calls (Stretches content images clock between faults) all store (record store { memory = m }) s (calls e of r)
-  each e of is lifts (Ok x) worn want c = lifted content images clock between faults only-now law store m s e (of x) is h (lifts x) c
-  each e of is lifts (Err call.Worn) worn want c = absurd (worn refl)
-  each e of is lifts (Err call.NoMemory) worn want c = lifted content images clock between faults only-now law store m s e reply.NoMemory is h (want refl) c
+-- each reply of a call is lifted
+abbrev pub AllLift : {X : Type 0} → Event → (X → Reply) → Result X CallFault → Type 0
+AllLift e of (Ok x) = (s : State) → Lifts s e (of x)
+AllLift e of (Err call.Worn) = ⊥
+AllLift e of (Err call.NoMemory) = (s : State) → Lifts s e reply.NoMemory
 
-  never : {X : Type 0} (e : Event) (r : Result X CallFault) → NeedsNone r → r ≡ Err call.NoMemory → Lifts s e reply.NoMemory
-  never e (Ok x) none is = cc is
-  never e (Err call.Worn) none is = cc is
-  never e (Err call.NoMemory) none is = absurd none
+all-lift : {X : Type 0} (e : Event) (of : X → Reply) → ((x : X) (s : State) → Lifts s e (of x)) → (r : Result X CallFault) → (is_worn r ≡ true → ⊥) → (r ≡ Err call.NoMemory → (s : State) → Lifts s e reply.NoMemory) → AllLift e of r
+all-lift e of lifts (Ok x) worn want = lifts x
+all-lift e of lifts (Err call.Worn) worn want = worn refl
+all-lift e of lifts (Err call.NoMemory) worn want = want refl
 
-  pub pin-lifted : (r : Result (Option Pin) CallFault) → (is_worn r ≡ true → ⊥) → NeedsNone r → Calls memory.Stretches all store.memory m (calm s) (pin_calls r)
-      → Calls (Stretches content images clock between faults) all store (record store { memory = m }) s (pin_calls r)
-  pin-lifted r worn none c = each event.Pin pin_reply refl (lift-pin s) r worn (never event.Pin r none) c
+never : {X : Type 0} (e : Event) (r : Result X CallFault) → NeedsNone r → r ≡ Err call.NoMemory → (s : State) → Lifts s e reply.NoMemory
+never e (Ok x) none is = cc is
+never e (Err call.Worn) none is = cc is
+never e (Err call.NoMemory) none is = absurd none
 
-  pub fetch-lifted : (slot : ℕ) (want : List Bool) (from limit : ℕ) (records : List Shared) (r : Result Bool CallFault) → (is_worn r ≡ true → ⊥)
-      → Calls memory.Stretches all store.memory m (calm s) (fetch_calls slot want from limit records r) → Calls (Stretches content images clock between faults) all store (record store { memory = m }) s (fetch_calls slot want from limit records r)
-  fetch-lifted slot want from limit records r worn c =
-      each (event.Fetch slot want from limit) (λ last. reply.Page (founds records) last) refl (lift-page s slot want from limit records) r worn (λ _. lift-no-page s slot want from limit) c
+pub pin-lifts : (r : Result (Option Pin) CallFault) → (is_worn r ≡ true → ⊥) → NeedsNone r → AllLift event.Pin pin_reply r
+pin-lifts r worn none = all-lift event.Pin pin_reply (λ o s. lift-pin s o) r worn (never event.Pin r none)
 
-  pub unpin-lifted : (slot : ℕ) (r : Result (Unit {0}) CallFault) → (is_worn r ≡ true → ⊥) → NeedsNone r → Calls memory.Stretches all store.memory m (calm s) (unpin_calls slot r)
-      → Calls (Stretches content images clock between faults) all store (record store { memory = m }) s (unpin_calls slot r)
-  unpin-lifted slot r worn none c = each (event.Unpin slot) (λ _. reply.Unpinned) refl (λ _. lift-unpin s slot) r worn (never (event.Unpin slot) r none) c
+pub fetch-lifts : (slot : ℕ) (want : List Bool) (from limit : ℕ) (records : List Shared) (r : Result Bool CallFault) → (is_worn r ≡ true → ⊥) → AllLift (event.Fetch slot want from limit) (λ last. reply.Page (founds records) last) r
+fetch-lifts slot want from limit records r worn =
+    all-lift (event.Fetch slot want from limit) (λ last. reply.Page (founds records) last) (λ last s. lift-page s slot want from limit records last) r worn (λ _ s. lift-no-page s slot want from limit)
 
-  pub prune-lifted : (r : Result ℕ CallFault) → (is_worn r ≡ true → ⊥) → NeedsNone r → Calls memory.Stretches all store.memory m (calm s) (prune_calls r)
-      → Calls (Stretches content images clock between faults) all store (record store { memory = m }) s (prune_calls r)
-  prune-lifted r worn none c = each event.Prune (λ n. reply.Pruned n) refl (lift-prune s) r worn (never event.Prune r none) c
+pub unpin-lifts : (slot : ℕ) (r : Result (Unit {0}) CallFault) → (is_worn r ≡ true → ⊥) → NeedsNone r → AllLift (event.Unpin slot) (λ _. reply.Unpinned) r
+unpin-lifts slot r worn none = all-lift (event.Unpin slot) (λ _. reply.Unpinned) (λ _ s. lift-unpin s slot) r worn (never (event.Unpin slot) r none)
 
-  pub look-lifted : (id : ℕ) (r : Result Look CallFault) → (is_worn r ≡ true → ⊥) → Calls memory.Stretches all store.memory m (calm s) (look_calls id r)
-      → Calls (Stretches content images clock between faults) all store (record store { memory = m }) s (look_calls id r)
-  look-lifted id r worn c = each (event.Look id) (λ l. reply.Looked (looked l)) refl (λ l. lift-look s id (looked l)) r worn (λ _. lift-no-look s id) c
+pub prune-lifts : (r : Result ℕ CallFault) → (is_worn r ≡ true → ⊥) → NeedsNone r → AllLift event.Prune (λ n. reply.Pruned n) r
+prune-lifts r worn none = all-lift event.Prune (λ n. reply.Pruned n) (λ n s. lift-prune s n) r worn (never event.Prune r none)
 
-  pub stats-lifted : (r : Result Stats CallFault) → (is_worn r ≡ true → ⊥) → NeedsNone r → Calls memory.Stretches all store.memory m (calm s) (stats_calls r)
-      → Calls (Stretches content images clock between faults) all store (record store { memory = m }) s (stats_calls r)
-  stats-lifted r worn none c = each event.Stats (λ n. reply.Counted n.version n.live n.withdrawn n.kept n.pins) refl (lift-stats s) r worn (never event.Stats r none) c
+pub look-lifts : (id : ℕ) (r : Result Look CallFault) → (is_worn r ≡ true → ⊥) → AllLift (event.Look id) (λ l. reply.Looked (looked l)) r
+look-lifts id r worn = all-lift (event.Look id) (λ l. reply.Looked (looked l)) (λ l s. lift-look s id (looked l)) r worn (λ _ s. lift-no-look s id)
+
+pub stats-lifts : (r : Result Stats CallFault) → (is_worn r ≡ true → ⊥) → NeedsNone r → AllLift event.Stats (λ n. reply.Counted n.version n.live n.withdrawn n.kept n.pins) r
+stats-lifts r worn none = all-lift event.Stats (λ n. reply.Counted n.version n.live n.withdrawn n.kept n.pins) (λ n s. lift-stats s n) r worn (never event.Stats r none)
+
+-- such a call leaves a store that is ready
+pub still-ready : {X D : Type 0} (e : Event) (of : X → Reply) (r : Result X CallFault) → AllLift e of r → (old new : Memory) (journal : Standing D) → ((s : State) → memory.StandsFor old s → Calls memory.Stretches all old new s (calls e of r))
+    → IsReady old journal → IsReady new journal
+still-ready e of (Ok x) lifts old new journal c was =
+    let n = still old new e (of x) lifts c was.stands in record { stands = n.0; ready = was.ready; few = omega (arith, n.1, was.few); place = omega (arith, n.1, was.place) }
+still-ready e of (Err call.Worn) lifts old new journal c was = absurd lifts
+still-ready e of (Err call.NoMemory) lifts old new journal c was =
+    let n = still old new e reply.NoMemory lifts c was.stands in record { stands = n.0; ready = was.ready; few = omega (arith, n.1, was.few); place = omega (arith, n.1, was.place) }
+
+-- and is one of the store on the disk
+pub lifted-call : {X D : Type 0} (content : D → Option (List ℕ)) (images : D → List ℕ → Type 0) (clock : D → ℕ) (between : D → ℕ → ℕ → List ℕ → Type 0) (faults : D → ℕ)
+    → ((d : D) (c : List ℕ) → between d (clock d) (clock d) c → images d c) → RunsStaySound → (store : StoreTerm D) (m : Memory) (s : State) → StandsFor content images faults store s
+    → (e : Event) (of : X → Reply) → is_call e ≡ true → (r : Result X CallFault) → AllLift e of r → Calls memory.Stretches all store.memory m (calm s) (calls e of r)
+    → Calls (Stretches content images clock between faults) all store (record store { memory = m }) s (calls e of r)
+lifted-call content images clock between faults only-now law store m s h e of is (Ok x) lifts c = lifted content images clock between faults only-now law store m s e (of x) is h (lifts s) c
+lifted-call content images clock between faults only-now law store m s h e of is (Err call.Worn) lifts c = absurd lifts
+lifted-call content images clock between faults only-now law store m s h e of is (Err call.NoMemory) lifts c = lifted content images clock between faults only-now law store m s e reply.NoMemory is h (lifts s) c

@@ -39,8 +39,7 @@ one-of s t (x ∷ xs) e r run calm own =
     let end : t ≡ x.after = none-left x.after t xs run.2 calm.1 (others (x.event, x.reply) (e, r) (calls_of all xs) [] is) in
     let first = first-of (x.event, x.reply) (e, r) (calls_of all xs) [] is in
     let event : x.event ≡ e = ap (λ (p : Event × Reply). p.0) first in
-    let reply : x.reply ≡ r = ap (λ (p : Event × Reply). p.1) first in
-    (
+    let reply : x.reply ≡ r = ap (λ (p : Event × Reply). p.1) first in (
       x.owner,
       subst (λ u. Gives s x.owner e r u) (sym end)
           (subst (λ q. Gives s x.owner e q x.after) reply

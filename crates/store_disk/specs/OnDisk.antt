@@ -6,6 +6,7 @@ use Rattle.journal_core.specs.Standing.{Standing}
 use Rattle.journal_core.specs.declared.format.TheConstants.{LONGEST_PAYLOAD}
 use Rattle.store_core.specs.Stored.{StoreTerm as Memory}
 use Rattle.store_core.specs.Stored as memory
+use Rattle.store_core.specs.Stored.{IsStore}
 use Rattle.store_machine.specs.Laws.{IsSound}
 use Rattle.store_machine.specs.declared.machine.State.{State}
 use Rattle.store_disk.specs.Payloads.{payload, payloads}
@@ -32,6 +33,7 @@ pub record StandsFor {D : Type 0} (content : D → Option (List ℕ)) (images : 
 
 -- The journal may be appended to, at a place far below the end of places. For private clauses alone.
 pub record IsReady {D : Type 0} (memory : Memory) (journal : Standing D) : Type 0 where
+  pub stands : IsStore memory
   pub ready : journal.ready ≡ true
   pub few : memory.version ≤ 16777215
   pub place : journal.place ≤ 8 + (5 + LONGEST_PAYLOAD) * memory.version

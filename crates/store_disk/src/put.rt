@@ -4,6 +4,7 @@ ghost use Rattle.std.specs.Prelude.{◌≡◌, ◌<◌, ◌≤◌, ◌+◌, ◌^
 ghost use Rattle.disk_edge.specs.Disk.{Counts, IfTold, Keeps, OnFailed, Rose};
 ghost use Rattle.disk_edge.specs.Moments.{AtEachMoment};
 ghost use Rattle.journal_core.specs.Records.{IsShort};
+ghost use Rattle.store_core.specs.Calls.{is_worn_out};
 ghost use Rattle.store_disk.specs.OnDisk.{Has};
 ghost use Rattle.store_disk.specs.Puts.{OnFault, PutGives, ShowsDoubt, ShowsOne};
 
@@ -25,6 +26,7 @@ pub(crate) fn put<D: Disk>(journal: &mut Journal<D>, payload: &[u8]) -> Result<(
         journal.old.disk journal.new.disk (ShowsOne ps doubt payload.now)) }
     ensures past { Keeps D.clock D.images_between journal.old.disk journal.new.disk }
     ensures untold { D.content journal.old.disk ≡ None → D.content journal.new.disk ≡ None }
+    ensures not_worn { is_worn_out result ≡ false }
     ensures cause { OnFault result (Rose (D.faults journal.old.disk) (D.faults journal.new.disk)) }
     ensures count { Counts (D.faults journal.old.disk) (D.faults journal.new.disk)
         (D.bound journal.old.disk) (D.bound journal.new.disk) }
