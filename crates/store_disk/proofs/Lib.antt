@@ -1,5 +1,6 @@
 mod Commits
 mod Bounds
+mod InMemory
 mod Lifts
 mod Loads
 mod Logged

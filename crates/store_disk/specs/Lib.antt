@@ -1,4 +1,5 @@
 pub mod OnDisk
+pub mod InMemory
 pub mod Loads
 pub mod Payloads
 pub mod Puts

@@ -11,6 +11,7 @@ ghost use Rattle.store_machine.specs.declared.machine.State.{State};
 ghost use Rattle.store_disk.specs.OnDisk.{IsReady, StandsFor};
 ghost use Rattle.store_disk.specs.Loads.{Damages, IsOpened, OpensTo, a_after, b_after};
 ghost use Rattle.store_disk.specs.Replays.{IsLoaded};
+ghost use Rattle.store_disk.specs.InMemory.{StandsInMemory};
 
 use crate::disks::Disks;
 use crate::laws::laws;
@@ -113,6 +114,8 @@ impl Store<MemDisk> {
     pub fn fresh(alloc: Global, commits: u32) -> Result<Store<MemDisk>, AllocError>
         requires some { 1 ≤ commits }
         requires few { commits ≤ MOST_COMMITS }
+        ensures { IfOk result (λ store. (s : State) × StandsInMemory store s × IsOpened commits s
+            × (s.history ≡ [])) }
     {
         let (a, created) = Journal::create(MemDisk::new(alloc));
         let b = MemDisk::new(alloc);
@@ -127,7 +130,8 @@ impl Store<MemDisk> {
 
     /// So many calls of disk `a` pass, and then each fails. Takes no memory.
     pub fn stop_after(&mut self, calls: u64)
-        ensures { self.new ≡ record self.old {
+        ensures stands { (s : State) → StandsInMemory self.old s → StandsInMemory self.new s }
+        ensures only { self.new ≡ record self.old {
           journal = record self.old.journal {
             disk = record self.old.journal.disk {
               failures = record self.old.journal.disk.failures { passes = Some calls };
@@ -140,7 +144,8 @@ impl Store<MemDisk> {
 
     /// The call of disk `a` of this number from now, counted from 1, fails. Takes no memory.
     pub fn fail_once(&mut self, call: u64)
-        ensures { self.new ≡ record self.old {
+        ensures stands { (s : State) → StandsInMemory self.old s → StandsInMemory self.new s }
+        ensures only { self.new ≡ record self.old {
           journal = record self.old.journal {
             disk = record self.old.journal.disk {
               failures = record self.old.journal.disk.failures { once = Some call };
