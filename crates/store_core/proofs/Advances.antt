@@ -1,7 +1,7 @@
 -- A change that is committed in memory or refused, by the states for which the store stands.
-use Rattle.std.proofs.Common.{◌≡◌, ◌+◌, ◌++◌, ◌≤◌, ◌∙◌, ap, arith, Err, false, IfErr, inl, IsErrAnd, length, length-append, List, [], ◌∷◌, None, Ok, Option, option_map, refl, Result, subst, sym, true, ℕ}
+use Rattle.std.proofs.Common.{◌≡◌, ◌≤◌, ◌∙◌, ap, arith, Err, false, IfErr, inl, IsErrAnd, length-append, [], ◌∷◌, None, Ok, Option, option_map, refl, Result, subst, sym, true, ℕ}
 use Rattle.std.proofs.lemmas.Bool.{true≢false}
-use Rattle.store_machine.specs.History.{head, id_of}
+use Rattle.store_machine.specs.History.{id_of}
 use Rattle.store_machine.specs.Laws.{KeptIsRead, StatesStay}
 use Rattle.store_machine.specs.Machine.{MayAdd, committed}
 use Rattle.store_machine.specs.declared.machine.Event.TheVariants as event

@@ -2,10 +2,8 @@ use Rattle.std.proofs.Common.{◌+◌, ◌≤◌, option_copied, refl, subst, sy
 use Rattle.store_machine.specs.Machine.{committed}
 use Rattle.store_core.specs.Replies.{change_of}
 use Rattle.store_core.specs.Stored.{StoreTerm}
-use Rattle.store_core.specs.Undone.{Follows}
-use Rattle.store_core.specs.declared.chain.Kept.{Kept}
 use Rattle.store_core.proofs.Advances.{adds, not-worn, refused-not-worn, why-full, why-refused, why-result}
-use Rattle.store_core.proofs.Commits.{Committing, KeepsOneMore, Laws, done-stands, head-at, may-count}
+use Rattle.store_core.proofs.Commits.{KeepsOneMore, done-stands, head-at, may-count}
 use Rattle.store_core.proofs.store.Store.advance.Goals as goal
 
 pub returns-in_err-check-clause-why : goal.returns-in_err-check-clause-why

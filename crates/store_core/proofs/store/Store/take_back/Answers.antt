@@ -1,7 +1,5 @@
-use Rattle.std.proofs.Common.{ap, arith, subst, sym}
+use Rattle.std.proofs.Common.{ap, arith}
 use Rattle.store_core.specs.Stored.{StoreTerm}
-use Rattle.store_core.specs.Undone.{Follows}
-use Rattle.store_core.proofs.Undoing.{TakesBack, back-pins, back-version, stands-again}
 use Rattle.store_core.proofs.store.Store.take_back.Goals as goal
 
 pub overflow_sub-self : goal.overflow_sub-self

@@ -1,4 +1,4 @@
-use Rattle.std.proofs.Common.{◌≡◌, ap, [], ◌∷◌, subst, sym, true, ℕ}
+use Rattle.std.proofs.Common.{ap, [], ◌∷◌, subst, sym, true, ℕ}
 use Rattle.store_machine.specs.declared.machine.Event.TheVariants.{Commit}
 use Rattle.store_machine.specs.declared.machine.Reply.TheVariants.{Committed}
 use Rattle.store_core.specs.Calls.{Calls}
