@@ -1,5 +1,5 @@
 -- Failures that are set change nothing of what a store on disks in memory stands for.
-use Rattle.std.proofs.Common.{◌≡◌, ◌++◌, Err, false, List, [], ◌∷◌, map, None, Ok, OnOk, Option, option_map, refl, Result, Some, subst, ℕ}
+use Rattle.std.proofs.Common.{◌≡◌, Err, false, List, [], ◌∷◌, None, Ok, OnOk, Option, option_map, refl, Result, Some, subst, ℕ}
 use Rattle.std.proofs.lemmas.Bool.{true≢false}
 use Rattle.std.proofs.lemmas.List.{append-nil}
 use Rattle.std.specs.Result.{is_err}
@@ -27,24 +27,40 @@ set-once d call = record d { failures = record d.failures { once = call } }
 abbrev pub set-passes : Medium → Option ℕ → Medium
 set-passes d calls = record d { failures = record d.failures { passes = calls } }
 
-has-still : (journal : Standing Medium) (f : Failures) (ps : List (List ℕ)) (doubt : Option (List ℕ)) → Has told left journal ps doubt
+has-still : (journal : Standing Medium) (f : Failures) (ps : List (List ℕ)) (doubt : Option (List ℕ))
+    → Has told left journal ps doubt
     → Has told left (record journal { disk = record journal.disk { failures = f } }) ps doubt
-has-still journal f ps None h = (h.0, λ l is. let r = h.1 l is in record { told = r.told; is_told = r.is_told; place = r.place; each = r.each })
-has-still journal f ps (Some p) h = (h.0, λ l is. let r = h.1 l is in record { told = r.told; is_told = r.is_told; place = r.place; each = r.each; some = r.some; staged = r.staged })
+has-still journal f ps None h =
+    (h.0, λ l is. let r = h.1 l is in record { told = r.told; is_told = r.is_told; place = r.place; each = r.each })
+has-still journal f ps (Some p) h = (
+  h.0,
+  λ l is. let r = h.1 l is in record {
+    told = r.told;
+    is_told = r.is_told;
+    place = r.place;
+    each = r.each;
+    some = r.some;
+    staged = r.staged;
+  },
+)
 
-pub once-set : (store : StoreTerm Medium) (call : Option ℕ) (s : State) → StandsInMemory store s → StandsInMemory (record store { journal = record store.journal { disk = set-once store.journal.disk call } }) s
+pub once-set : (store : StoreTerm Medium) (call : Option ℕ) (s : State) → StandsInMemory store s
+    → StandsInMemory (record store { journal = record store.journal { disk = set-once store.journal.disk call } }) s
 once-set store call s h = record {
   sound = h.sound;
   memory = h.memory;
-  journal = has-still store.journal (record store.journal.disk.failures { once = call }) (payloads s.history) (option_map payload s.doubt) h.journal;
+  journal = has-still store.journal (record store.journal.disk.failures { once = call }) (payloads s.history)
+      (option_map payload s.doubt) h.journal;
   counts = h.counts;
 }
 
-pub passes-set : (store : StoreTerm Medium) (calls : Option ℕ) (s : State) → StandsInMemory store s → StandsInMemory (record store { journal = record store.journal { disk = set-passes store.journal.disk calls } }) s
+pub passes-set : (store : StoreTerm Medium) (calls : Option ℕ) (s : State) → StandsInMemory store s
+    → StandsInMemory (record store { journal = record store.journal { disk = set-passes store.journal.disk calls } }) s
 passes-set store calls s h = record {
   sound = h.sound;
   memory = h.memory;
-  journal = has-still store.journal (record store.journal.disk.failures { passes = calls }) (payloads s.history) (option_map payload s.doubt) h.journal;
+  journal = has-still store.journal (record store.journal.disk.failures { passes = calls }) (payloads s.history)
+      (option_map payload s.doubt) h.journal;
   counts = h.counts;
 }
 

@@ -28,14 +28,23 @@ text-short : (format : Format) (text : List ℕ) (m : Molecule) → HasMolecule 
 text-short Smiles text m h = omega (arith, h.1.0)
 text-short Molfile text m h = omega (arith, h.1.0)
 
-text-length : (kind id : ℕ) (format : LoggedFormat) (text : List ℕ) → length (kind ∷ (to_le_bytes w32 id ++ format_byte format ∷ text)) ≡ 6 + length text
+text-length : (kind id : ℕ) (format : LoggedFormat) (text : List ℕ)
+    → length (kind ∷ (to_le_bytes w32 id ++ format_byte format ∷ text)) ≡ 6 + length text
 text-length kind id format text = omega (arith, length-append (to_le_bytes w32 id) (format_byte format ∷ text))
 
 pub payload-short : (c : Asked) → IsSoundChange c → IsShort (payload (change_of c))
 payload-short (asked.Register r) sound =
-    let x = arc_value r in omega (arith, text-length 1 x.id (logged_format x.format) x.text, text-short x.format x.text x.mol sound.structure)
+    let x = arc_value r in omega (
+      arith,
+      text-length 1 x.id (logged_format x.format) x.text,
+      text-short x.format x.text x.mol sound.structure,
+    )
 payload-short (asked.Revise r) sound =
-    let x = arc_value r in omega (arith, text-length 2 x.id (logged_format x.format) x.text, text-short x.format x.text x.mol sound.structure)
+    let x = arc_value r in omega (
+      arith,
+      text-length 2 x.id (logged_format x.format) x.text,
+      text-short x.format x.text x.mol sound.structure,
+    )
 payload-short (asked.Withdraw id) sound = omega arith
 
 pub payload-some : (c : Change) → 1 ≤ length (payload c)
@@ -46,7 +55,8 @@ payload-some c = go (logged_change c)
     go (revised id format text) = omega arith
     go (withdrawn id) = omega arith
 
-pub short-result : (c : Asked) (r : Result (Vec ℕ Global) AllocError) → IsSoundChange c → IfOk r (λ v. v.items ≡ payload (change_of c)) → IfOk r (λ v. IsShort v.items)
+pub short-result : (c : Asked) (r : Result (Vec ℕ Global) AllocError) → IsSoundChange c
+    → IfOk r (λ v. v.items ≡ payload (change_of c)) → IfOk r (λ v. IsShort v.items)
 short-result c (Ok v) sound is = subst IsShort (sym is) (payload-short c sound)
 short-result c (Err e) sound is = tt
 
@@ -66,7 +76,8 @@ same-payloads (c ∷ cs) = λ i. written (told-logged c i) ∷ same-payloads cs 
 
 -- a text that is refused has no structure
 abbrev pub OneAnswer : Type 0
-OneAnswer = (format : Format) (text : List ℕ) (a b : Result Molecule TextFault) → IsAnswer format text a → IsAnswer format text b → (a ≡ b) ⊎ (a ≡ Err NoMemory) ⊎ (b ≡ Err NoMemory)
+OneAnswer = (format : Format) (text : List ℕ) (a b : Result Molecule TextFault) → IsAnswer format text a
+    → IsAnswer format text b → (a ≡ b) ⊎ (a ≡ Err NoMemory) ⊎ (b ≡ Err NoMemory)
 
 has-answer : (format : Format) (text : List ℕ) (m : Molecule) → HasMolecule format text m → IsAnswer format text (Ok m)
 has-answer Smiles text m h = h
@@ -81,14 +92,18 @@ ok-err m f e = cc e
 same-fault : (f g : TextFault) → refusal f ≡ refusal g → f ≡ g
 same-fault f g e = cc e
 
-no-text : OneAnswer → (format : Format) (text : List ℕ) (f : TextFault) → IsAnswer format text (Err f) → f ≢ NoMemory → ¬ IsText format text
+no-text : OneAnswer → (format : Format) (text : List ℕ) (f : TextFault) → IsAnswer format text (Err f) → f ≢ NoMemory
+    → ¬ IsText format text
 no-text one format text f refused other has =
     elim (one format text (Ok has.0) (Err f) (has-answer format text has.0 has.1) refused) [
       | inl e ↦ ok-err has.0 f e
       | inr rest ↦ elim rest [ inl e ↦ ok-err has.0 NoMemory e | inr e ↦ other (same-fault f NoMemory e) ]
     ]
 
-pub refused-text : {X : Type 0} → OneAnswer → (c : Change) (format : Format) (text : List ℕ) (f : TextFault) (r : Result X TextFault) → IsErrAnd r (λ e. e ≡ f) → IsAnswer format text (Err f) → (IsValid c → IsText format text)
+pub refused-text : {X : Type 0} → OneAnswer
+    → (c : Change) (format : Format) (text : List ℕ) (f : TextFault) (r : Result X TextFault) → IsErrAnd r (λ e. e ≡ f)
+    → IsAnswer format text (Err f) → (IsValid c → IsText format text)
     → IfErr r (λ e. e ≢ NoMemory → ¬ IsValid c)
 refused-text one c format text f (Ok x) is refused has = tt
-refused-text one c format text f (Err e) is refused has = λ other valid. no-text one format text f refused (λ same. other (is ∙ same)) (has valid)
+refused-text one c format text f (Err e) is refused has =
+    λ other valid. no-text one format text f refused (λ same. other (is ∙ same)) (has valid)

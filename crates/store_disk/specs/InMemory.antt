@@ -5,4 +5,5 @@ use Rattle.store_machine.specs.declared.machine.State.{State}
 use Rattle.store_disk.specs.OnDisk.{StandsFor, StoreTerm}
 
 abbrev pub StandsInMemory : StoreTerm Medium → State → Type 0
-StandsInMemory store s = StandsFor (λ d. Some (replay d.first d.calls)) (λ d. Images d.first d.calls) (λ d. d.failures.count) store s
+StandsInMemory store s = StandsFor (λ d. Some (replay d.first d.calls)) (λ d. Images d.first d.calls)
+    (λ d. d.failures.count) store s

@@ -2,13 +2,14 @@
 use Rattle.std.specs.Prelude.{◌≡◌, ◌⊎◌, ◌++◌, Err, false, List, [], ◌∷◌, None, Ok, Option, Result, Some, true, ℕ}
 use Rattle.journal_core.specs.Records.{Opens}
 use Rattle.store_core.specs.declared.words.CommitFault.{CommitFault}
-use Rattle.store_core.specs.declared.words.CommitFault.TheVariants.{Absent, DiskFault, Full, Known, NoMemory, Withdrawn, Worn}
+use Rattle.store_core.specs.declared.words.CommitFault.TheVariants.{DiskFault, NoMemory}
 
 -- an older doubt stays or is ended
 abbrev pub EndsOlder : (List (List ℕ) → Option (List ℕ) → Type 0) → List (List ℕ) → Option (List ℕ) → Type 0
 EndsOlder Has ps doubt = Has ps doubt ⊎ Has ps None
 
-abbrev pub PutGives : Result (Unit {0}) CommitFault → (List (List ℕ) → Option (List ℕ) → Type 0) → List (List ℕ) → Option (List ℕ) → List ℕ → Type 0
+abbrev pub PutGives : Result (Unit {0}) CommitFault → (List (List ℕ) → Option (List ℕ) → Type 0) → List (List ℕ)
+    → Option (List ℕ) → List ℕ → Type 0
 PutGives (Ok _) Has ps doubt payload = Has (ps ++ payload ∷ []) None
 PutGives (Err (DiskFault true)) Has ps doubt payload = Has ps (Some payload)
 PutGives (Err (DiskFault false)) Has ps doubt payload = EndsOlder Has ps doubt

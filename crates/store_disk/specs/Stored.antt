@@ -15,8 +15,8 @@ use Rattle.store_machine.specs.declared.machine.Times.{Times}
 use Rattle.store_disk.specs.OnDisk.{StandsFor, StoreTerm}
 use Rattle.store_disk.specs.Payloads.{payloads}
 
--- A crash at a moment of a step shows the history from before it, or this and the commit in doubt, or this and the commit
--- that the step asks for.
+-- A crash at a moment of a step shows the history from before it, or this and the commit in doubt, or this and the
+-- commit that the step asks for.
 abbrev pub MayShow : Step → List Change → Type 0
 MayShow x h = Recovers x.before h ⊎ ((c : Change) × (x.event ≡ Commit c) × (h ≡ x.before.history ++ c ∷ []))
 
@@ -33,9 +33,11 @@ AreClocked begin (x ∷ xs) end = (x.begin ≡ begin) × AreClocked x.end xs end
 
 -- each image of disk `a` that was possible at some moment of the step, which is over
 abbrev pub IsTimed : {D : Type 0} → (D → ℕ) → (D → ℕ → ℕ → List ℕ → Type 0) → D → Step → Type 0
-IsTimed clock between disk x = (x.end.a ≤ clock disk) × ((image : List ℕ) → between disk x.begin.a x.end.a image → Shows x image)
+IsTimed clock between disk x =
+    (x.end.a ≤ clock disk) × ((image : List ℕ) → between disk x.begin.a x.end.a image → Shows x image)
 
-pub record Stretches {D : Type 0} (content : D → Option (List ℕ)) (images : D → List ℕ → Type 0) (clock : D → ℕ) (between : D → ℕ → ℕ → List ℕ → Type 0) (faults : D → ℕ)
+pub record Stretches {D : Type 0} (content : D → Option (List ℕ)) (images : D → List ℕ → Type 0) (clock : D → ℕ)
+    (between : D → ℕ → ℕ → List ℕ → Type 0) (faults : D → ℕ)
     (old new : StoreTerm D) (s : State) (steps : List Step) (t : State) : Type 0 where
   pub begins : StandsFor content images faults old s
   pub ends : StandsFor content images faults new t
@@ -59,33 +61,44 @@ clocked-joins [] ys a b c e r = subst (λ k. AreClocked k ys c) e r
 clocked-joins (x ∷ xs) ys a b c r q = (r.0, clocked-joins xs ys x.end b c r.1 q)
 
 -- what is told was told before
-pub told-before : (old new : Option (List ℕ)) → (old ≡ None → new ≡ None) → (l : List ℕ) → new ≡ Some l → (k : List ℕ) × (old ≡ Some k)
+pub told-before : (old new : Option (List ℕ)) → (old ≡ None → new ≡ None) → (l : List ℕ) → new ≡ Some l
+    → (k : List ℕ) × (old ≡ Some k)
 told-before None new untold l is = absurd (none (sym (untold refl) ∙ is))
   where
     none : {x : List ℕ} → None ≡ Some x → ⊥
     none e = cc e
 told-before (Some k) new untold l is = (k, refl)
 
-pub keeps-itself : {D : Type 0} (clock : D → ℕ) (between : D → ℕ → ℕ → List ℕ → Type 0) (d : D) → Keeps clock between d d
+pub keeps-itself : {D : Type 0} (clock : D → ℕ) (between : D → ℕ → ℕ → List ℕ → Type 0) (d : D)
+    → Keeps clock between d d
 keeps-itself clock between d = record { later = omega arith; no_more = λ t u c le b. b; no_fewer = λ t u c le b. b }
 
-pub keeps-twice : {D : Type 0} (clock : D → ℕ) (between : D → ℕ → ℕ → List ℕ → Type 0) (a b c : D) → Keeps clock between a b → Keeps clock between b c → Keeps clock between a c
+pub keeps-twice : {D : Type 0} (clock : D → ℕ) (between : D → ℕ → ℕ → List ℕ → Type 0) (a b c : D)
+    → Keeps clock between a b → Keeps clock between b c → Keeps clock between a c
 keeps-twice clock between a b c p q = record {
   later = omega (arith, p.later, q.later);
   no_more = λ t u image le i. p.no_more t u image le (q.no_more t u image (omega (arith, le, p.later)) i);
   no_fewer = λ t u image le i. q.no_fewer t u image (omega (arith, le, p.later)) (p.no_fewer t u image le i);
 }
 
-module _ {D : Type 0} (clock : D → ℕ) (between : D → ℕ → ℕ → List ℕ → Type 0) (mid new : D) (later : Keeps clock between mid new) where
+module _ {D : Type 0} (clock : D → ℕ) (between : D → ℕ → ℕ → List ℕ → Type 0) (mid new : D)
+    (later : Keeps clock between mid new) where
   still-timed : (x : Step) → IsTimed clock between mid x → IsTimed clock between new x
-  still-timed x t = (omega (arith, t.0, later.later), λ image b. t.1 image (later.no_more x.begin.a x.end.a image t.0 b))
+  still-timed x t = (
+    omega (arith, t.0, later.later),
+    λ image b. t.1 image
+        (later.no_more x.begin.a x.end.a image t.0 b),
+  )
 
-  timed-joins : (xs ys : List Step) → AllByRecursion (IsTimed clock between mid) xs → AllByRecursion (IsTimed clock between new) ys → AllByRecursion (IsTimed clock between new) (xs ++ ys)
+  timed-joins : (xs ys : List Step) → AllByRecursion (IsTimed clock between mid) xs
+      → AllByRecursion (IsTimed clock between new) ys → AllByRecursion (IsTimed clock between new) (xs ++ ys)
   timed-joins [] ys a b = b
   timed-joins (x ∷ xs) ys a b = (still-timed x a.0, timed-joins xs ys a.1 b)
 
-module _ {D : Type 0} (content : D → Option (List ℕ)) (images : D → List ℕ → Type 0) (clock : D → ℕ) (between : D → ℕ → ℕ → List ℕ → Type 0) (faults : D → ℕ) where
-  pub stays : (a : StoreTerm D) (s : State) → StandsFor content images faults a s → Stretches content images clock between faults a a s [] s
+module _ {D : Type 0} (content : D → Option (List ℕ)) (images : D → List ℕ → Type 0) (clock : D → ℕ)
+    (between : D → ℕ → ℕ → List ℕ → Type 0) (faults : D → ℕ) where
+  pub stays : (a : StoreTerm D) (s : State) → StandsFor content images faults a s
+      → Stretches content images clock between faults a a s [] s
   stays a s at = record {
     begins = at;
     ends = at;
@@ -97,7 +110,9 @@ module _ {D : Type 0} (content : D → Option (List ℕ)) (images : D → List �
     untold = λ e. e;
   }
 
-  pub joins : (a b c : StoreTerm D) (s t u : State) (xs ys : List Step) → Stretches content images clock between faults a b s xs t → Stretches content images clock between faults b c t ys u
+  pub joins : (a b c : StoreTerm D) (s t u : State) (xs ys : List Step)
+      → Stretches content images clock between faults a b s xs t
+      → Stretches content images clock between faults b c t ys u
       → Stretches content images clock between faults a c s (xs ++ ys) u
   joins a b c s t u xs ys r q = record {
     begins = r.begins;
@@ -112,8 +127,11 @@ module _ {D : Type 0} (content : D → Option (List ℕ)) (images : D → List �
     untold = λ e. q.untold (r.untold e);
   }
 
-  pub lands : (a b : StoreTerm D) (s t : State) (xs : List Step) → Stretches content images clock between faults a b s xs t → StandsFor content images faults b t × IsRun s xs t × IsCalm xs
+  pub lands : (a b : StoreTerm D) (s t : State) (xs : List Step)
+      → Stretches content images clock between faults a b s xs t → StandsFor content images faults b t × IsRun s xs t
+      × IsCalm xs
   lands a b s t xs r = (r.ends, r.run, r.calm)
 
-  pub same : (a b : StoreTerm D) (s t : State) (xs : List Step) (n : ℕ) → Stretches content images clock between faults a b s xs t → true ≡ true
+  pub same : (a b : StoreTerm D) (s t : State) (xs : List Step) (n : ℕ)
+      → Stretches content images clock between faults a b s xs t → true ≡ true
   same a b s t xs n r = refl

@@ -1,6 +1,6 @@
 //! The disks of a store.
 
-/// Disk `a` has the journal. Disk `b` is kept, and not called.
+/// Disk `a` has the journal. Disk `b` is kept beside it, and not called.
 #[derive(Drop)]
 pub struct Disks<D> {
     pub a: D,

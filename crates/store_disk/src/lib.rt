@@ -1,8 +1,9 @@
-//! A store of structures on a disk: the store in memory of `store_core`, and a journal that has each commit before it is
-//! acknowledged.
+//! A store of structures on a disk: the store in memory of `store_core`, and a journal that has each commit before it
+//! is acknowledged.
 //!
-//! `Store::load` reads the commits of a disk, and `Store` is then a `Service`: each call is a step of the machine, and
-//! what the disk has is at each state the history and the commit in doubt.
+//! `Store::load` reads the commits of a disk, and `Store` is then a `Service`: each call is a step of the machine. At
+//! each state the disk has the history, and the commit in doubt, if any. So a crash leaves every commit that was
+//! acknowledged, and at most one more: the one in doubt, or the one that is being made.
 #![tactic(auto)]
 
 mod disks;

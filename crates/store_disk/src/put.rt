@@ -19,9 +19,11 @@ pub(crate) fn put<D: Disk>(journal: &mut Journal<D>, payload: &[u8]) -> Result<(
     requires few { IsShort payload.now }
     requires room { journal.old.place < 2 ^ 62 }
 
-    ensures gives { (ps : List (List ℕ)) (doubt : Option (List ℕ)) → Has D.content D.images journal.old ps doubt
+    ensures gives { (ps : List (List ℕ)) (doubt : Option (List ℕ))
+        → Has D.content D.images journal.old ps doubt
         → PutGives result (Has D.content D.images journal.new) ps doubt payload.now }
-    ensures moments { (ps : List (List ℕ)) (doubt : Option (List ℕ)) → Has D.content D.images journal.old ps doubt
+    ensures moments { (ps : List (List ℕ)) (doubt : Option (List ℕ))
+        → Has D.content D.images journal.old ps doubt
         → IfTold (D.content journal.new.disk) (λ _. AtEachMoment D.clock D.images_between
         journal.old.disk journal.new.disk (ShowsOne ps doubt payload.now)) }
     ensures past { Keeps D.clock D.images_between journal.old.disk journal.new.disk }
@@ -51,11 +53,14 @@ pub(crate) fn put<D: Disk>(journal: &mut Journal<D>, payload: &[u8]) -> Result<(
 fn settle<D: Disk>(journal: &mut Journal<D>) -> Result<(), DiskFail>
     requires ready { journal.old.ready ≡ true }
 
-    ensures ok { OnOk result ((ps : List (List ℕ)) (doubt : Option (List ℕ)) → Has D.content D.images journal.old ps doubt
+    ensures ok { OnOk result ((ps : List (List ℕ)) (doubt : Option (List ℕ))
+        → Has D.content D.images journal.old ps doubt
         → Has D.content D.images journal.new ps None) }
-    ensures err { OnErr result ((ps : List (List ℕ)) (doubt : Option (List ℕ)) → Has D.content D.images journal.old ps doubt
+    ensures err { OnErr result ((ps : List (List ℕ)) (doubt : Option (List ℕ))
+        → Has D.content D.images journal.old ps doubt
         → Has D.content D.images journal.new ps doubt) }
-    ensures moments { (ps : List (List ℕ)) (doubt : Option (List ℕ)) → Has D.content D.images journal.old ps doubt
+    ensures moments { (ps : List (List ℕ)) (doubt : Option (List ℕ))
+        → Has D.content D.images journal.old ps doubt
         → IfTold (D.content journal.new.disk) (λ _. AtEachMoment D.clock D.images_between
         journal.old.disk journal.new.disk (ShowsDoubt ps doubt)) }
     ensures past { Keeps D.clock D.images_between journal.old.disk journal.new.disk }

@@ -31,7 +31,8 @@ use store_core::{
     Store as Memory,
 };
 
-/// A store on a disk, with any number of callers.
+/// A store on a disk, with any number of callers. A commit that answers `DiskFault` is not made, and the store serves
+/// on. With `doubt: true` a load may still find that commit, until a later commit ends the doubt.
 #[derive(Drop)]
 pub struct Store<D: Disk> {
     alloc: Global,
@@ -51,8 +52,13 @@ impl<D: Disk> Model for Store<D> {
 }
 
 impl<D: Disk> Store<D> {
-    /// Opens the store of disk `a`, which has a journal. It takes so many commits in all; those that are there stay, also
-    /// where they are more. Nothing is written.
+    /// Opens the store of disk `a`, which has a journal. It takes `commits` commits in all, 1 to `MOST_COMMITS`; those
+    /// that are there stay, also where they are more. What the head does not read is dropped from memory. Nothing is
+    /// written.
+    ///
+    /// `NotAStore`: the disk has no header of a journal. `Damaged(at)`: the journal is damaged at this place, or its
+    /// commit there may not follow those before it, or has a text without a structure. `Disk`: a call of disk `a`
+    /// failed, and counted a fault. `NoMemory`: memory ran out. The disks come back beside each fault.
     pub fn load(
         alloc: Global,
         disks: Disks<D>,
@@ -110,7 +116,8 @@ impl<D: Disk> Store<D> {
 }
 
 impl Store<MemDisk> {
-    /// A store without commits on empty disks in memory, which takes so many.
+    /// A store without commits on empty disks in memory, which takes `commits` commits in all, 1 to `MOST_COMMITS`.
+    /// Fails where memory runs out.
     pub fn fresh(alloc: Global, commits: u32) -> Result<Store<MemDisk>, AllocError>
         requires some { 1 ≤ commits }
         requires few { commits ≤ MOST_COMMITS }
@@ -128,7 +135,7 @@ impl Store<MemDisk> {
         }
     }
 
-    /// So many calls of disk `a` pass, and then each fails. Takes no memory.
+    /// `calls` calls of disk `a` pass, and then each fails. Takes no memory.
     pub fn stop_after(&mut self, calls: u64)
         ensures stands { (s : State) → StandsInMemory self.old s → StandsInMemory self.new s }
         ensures only { self.new ≡ record self.old {
@@ -246,7 +253,8 @@ fn memory_of<D: Disk>(
     requires start { journal.old.place ≡ 8 }
     requires settled { journal.old.doubt ≡ false }
 
-    ensures loaded { IfOk result (λ memory. IsLoaded D.content D.images memory commits journal.old journal.new) }
+    ensures loaded { IfOk result (λ memory. IsLoaded D.content D.images memory commits
+        journal.old journal.new) }
     ensures ready { IfOk result (λ memory. IsReady memory journal.new) }
     ensures damaged { OnDamaged result (λ at. Reads D.content D.images journal.old []
         → IfTold (D.content journal.old.disk) (Damages at)) }

@@ -1,4 +1,4 @@
-//! A store is made, stopped at each call of its disk, and loaded again.
+//! A store is made, stopped or failed at each call of its disk, and loaded again; and files that are damaged.
 
 use crate::{Disks, Store};
 use disk_edge::MemDisk;
@@ -64,10 +64,24 @@ fn a_commit_is_on_the_disk(rt: HostRuntime) -> Result<(), Fail> {
 #[test]
 fn a_file_is_loaded_or_its_damage_told(rt: HostRuntime) -> Result<(), Fail> {
     let alloc = rt.alloc();
-    let rows: [(&[u8], Result<u32, LoadFault>); 8] = [
+    let rows: [(&[u8], Result<u32, LoadFault>); 13] = [
         (b"", Err(LoadFault::NotAStore)),
+        (b"ZCHEMDB2\0", Err(LoadFault::NotAStore)),
         (b"ZCHEMDB1\0", Ok(0)),
         (b"ZCHEMDB1", Err(LoadFault::Damaged(8))),
+        (b"ZCHEMDB1[\x07\0\0\0\x01\x01\0\0\0\x01C\0", Ok(0)),
+        (
+            b"ZCHEMDB1Z\x08\0\0\0\x01\x01\0\0\0\x01C\0",
+            Err(LoadFault::Damaged(21)),
+        ),
+        (
+            b"ZCHEMDB1Z\x07\0\0\0\x81\x01\0\0\0\x01C\0",
+            Err(LoadFault::Damaged(8)),
+        ),
+        (
+            b"ZCHEMDB1Z\x07\0\0\0\x01\x01\0\0\0\x01CZ\x07\0\0",
+            Err(LoadFault::Damaged(20)),
+        ),
         (b"ZCHEMDB1Z\x07\0\0\0\x01\x01\0\0\0\x01C\0", Ok(1)),
         (
             b"ZCHEMDB1Z\x07\0\0\0\x01\x01\0\0\0\x01(\0",
@@ -88,7 +102,7 @@ fn a_file_is_loaded_or_its_damage_told(rt: HostRuntime) -> Result<(), Fail> {
     ];
     for (file, want) in rows {
         let disk = MemDisk::of(alloc, file.to_vec(alloc)?)?;
-        assert_eq!(rt; commits(alloc, disk), want);
+        assert_eq!(rt; commits(alloc, disk), want, "{want:?}");
     }
     Ok(())
 }
@@ -137,24 +151,27 @@ fn a_crash_leaves_the_commit_or_not(rt: HostRuntime) -> Result<(), Fail> {
 }
 
 #[test]
-fn a_doubt_is_ended_by_the_next_commit(rt: HostRuntime) -> Result<(), Fail> {
+fn a_failed_call_leaves_a_store_that_commits(rt: HostRuntime) -> Result<(), Fail> {
     let alloc = rt.alloc();
-    let mut store = Store::fresh(alloc, 10)?;
-    store.fail_once(4);
-    assert_eq!(rt;
-        register(alloc, &mut store, 1, b"C"),
-        Err(CommitFault::DiskFault { doubt: true })
-    );
-    store.fail_once(1);
-    assert_eq!(rt;
-        register(alloc, &mut store, 1, b"N"),
-        Err(CommitFault::DiskFault { doubt: false })
-    );
-    assert_eq!(rt; register(alloc, &mut store, 1, b"O"), Ok(1));
-    let disk = store.into_disks().a;
-    assert_eq!(rt;
-        disk.bytes(),
-        b"ZCHEMDB1Z\x07\0\0\0\x01\x01\0\0\0\x01O\0".as_slice()
-    );
+    for (call, doubt) in [(1, false), (2, false), (3, true), (4, true)] {
+        let mut store = Store::fresh(alloc, 10)?;
+        store.fail_once(call);
+        assert_eq!(rt;
+            register(alloc, &mut store, 1, b"C"),
+            Err(CommitFault::DiskFault { doubt }),
+            "{call}"
+        );
+        store.fail_once(1);
+        assert_eq!(rt;
+            register(alloc, &mut store, 1, b"N"),
+            Err(CommitFault::DiskFault { doubt: false }),
+            "{call}"
+        );
+        assert_eq!(rt; register(alloc, &mut store, 1, b"O"), Ok(1), "{call}");
+        let disk = store.into_disks().a;
+        let file = b"ZCHEMDB1Z\x07\0\0\0\x01\x01\0\0\0\x01O\0";
+        assert_eq!(rt; disk.bytes(), file.as_slice(), "{call}");
+        assert_eq!(rt; commits(alloc, disk), Ok(1), "{call}");
+    }
     Ok(())
 }

@@ -20,4 +20,5 @@ pub returns-clause-header : goal.returns-clause-header
 returns-clause-header c = λ h bytes o. c.bytes_open_one_way.ensures.header _ bytes o.opens
 
 pub returns-clause-damaged_header : goal.returns-clause-damaged_header
-returns-clause-damaged_header c = damaged-header c.bytes_open_one_way.ensures.header c.bytes_open_one_way.ensures.broken_header
+returns-clause-damaged_header c =
+    damaged-header c.bytes_open_one_way.ensures.header c.bytes_open_one_way.ensures.broken_header
