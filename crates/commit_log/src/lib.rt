@@ -15,4 +15,4 @@ pub use change::{Commit, Format, Wire};
 pub use laws::{a_log_reads_one_way, a_written_log_is_read};
 pub use log::read_all;
 pub use reading::decode;
-pub use writing::encode;
+pub use writing::{encode, encode_register, encode_revise, encode_withdraw};

@@ -2,7 +2,7 @@
 
 ghost use Rattle.std.specs.Prelude.{◌≡◌, ◌∷◌, ◌++◌, IfOk};
 ghost use Rattle.std.specs.Int.{to_le_bytes, w32};
-ghost use Rattle.commit_log.specs.Change.{change_of, format_byte, written};
+ghost use Rattle.commit_log.specs.Change.{change_of, format_byte, registered, revised, withdrawn, written};
 
 use crate::change::{Format, REGISTER, REVISE, WITHDRAW, Wire};
 use std::alloc::{AllocError, Global};
@@ -12,10 +12,41 @@ pub fn encode(alloc: Global, change: &Wire) -> Result<Vec<u8>, AllocError>
     ensures { IfOk result (λ payload. payload.items ≡ written (change_of change.now)) }
 {
     match change {
-        Wire::Register { id, format, text } => with_text(alloc, REGISTER, *id, *format, text),
-        Wire::Revise { id, format, text } => with_text(alloc, REVISE, *id, *format, text),
-        Wire::Withdraw { id } => with_id(alloc, WITHDRAW, *id, 0),
+        Wire::Register { id, format, text } => encode_register(alloc, *id, *format, text),
+        Wire::Revise { id, format, text } => encode_revise(alloc, *id, *format, text),
+        Wire::Withdraw { id } => encode_withdraw(alloc, *id),
     }
+}
+
+/// The payload of a registration.
+pub fn encode_register(
+    alloc: Global,
+    id: u32,
+    format: Format,
+    text: &[u8],
+) -> Result<Vec<u8>, AllocError>
+    ensures { IfOk result (λ payload. payload.items ≡ written (registered id format text.now)) }
+{
+    with_text(alloc, REGISTER, id, format, text)
+}
+
+/// The payload of a revision.
+pub fn encode_revise(
+    alloc: Global,
+    id: u32,
+    format: Format,
+    text: &[u8],
+) -> Result<Vec<u8>, AllocError>
+    ensures { IfOk result (λ payload. payload.items ≡ written (revised id format text.now)) }
+{
+    with_text(alloc, REVISE, id, format, text)
+}
+
+/// The payload of a withdrawal.
+pub fn encode_withdraw(alloc: Global, id: u32) -> Result<Vec<u8>, AllocError>
+    ensures { IfOk result (λ payload. payload.items ≡ written (withdrawn id)) }
+{
+    with_id(alloc, WITHDRAW, id, 0)
 }
 
 // A kind, an identifier, a format and a text.

@@ -1,7 +1,7 @@
 //! A journal that is appended to. `append` reads in the order of an atomic commit: the record is written behind a gate
 //! that is not open, with a closed gate behind it, and synced; then the gate is opened, and synced.
 
-ghost use Rattle.std.specs.Prelude.{◌≡◌, ◌<◌, ◌≤◌, ◌+◌, ◌^◌, [], ◌∷◌, ◌++◌, ℕ, List, Some, true, false, length, OnOk, OnErr, IfOk};
+ghost use Rattle.std.specs.Prelude.{◌≡◌, ◌<◌, ◌≤◌, ◌+◌, ◌^◌, [], ◌∷◌, ◌++◌, ℕ, List, None, Some, true, false, length, OnOk, OnErr, IfOk};
 ghost use Rattle.disk_edge.specs.Disk.{Keeps, Rose, Counts, OnFailed, OnNoMemory};
 ghost use Rattle.disk_edge.specs.Moments.{AtEachMoment};
 ghost use Rattle.journal_core.specs.Answers.{OnSure, OnDoubt, OnWant, is_doubt};
@@ -67,6 +67,7 @@ impl<D: Disk> Journal<D> {
         ensures no_memory { OnWant result ((ps : List (List ℕ))
             → Rests D.content D.images self.old ps
             → Rests D.content D.images self.new ps) }
+        ensures untold { D.content self.old.disk ≡ None → D.content self.new.disk ≡ None }
         ensures in_doubt { self.new.doubt ≡ is_doubt result }
         ensures ready { self.new.ready ≡ true }
         ensures moved { OnOk result (self.new.place ≡ self.old.place + 5 + length payload.now) }
@@ -119,6 +120,7 @@ impl<D: Disk> Journal<D> {
             → Doubts D.content D.images self.old ps p → Doubts D.content D.images self.new ps p) }
         ensures no_memory { OnNoMemory result ((ps : List (List ℕ)) (p : List ℕ)
             → Doubts D.content D.images self.old ps p → Doubts D.content D.images self.new ps p) }
+        ensures untold { D.content self.old.disk ≡ None → D.content self.new.disk ≡ None }
         ensures settled { OnOk result (self.new.doubt ≡ false) }
         ensures in_doubt { OnErr result (self.new.doubt ≡ true) }
         ensures ready { self.new.ready ≡ true }

@@ -1,5 +1,5 @@
 -- A commit, as a store makes it.
-use Rattle.std.proofs.Common.{◌≡◌, ◌≢◌, ◌+◌, ◌++◌, ◌==◌, ◌<◌, ◌≤◌, ◌∙◌, ap, arith, cond, Contains, count_by, eq-eqb, eqb-true, Err, false, inl, inr, length, length-append, List, [], ◌∷◌, IsErrAnd, None, not, Ok, Option, option_map, refl, Result, Some, subst, sym, true, ℕ, nat_cmp}
+use Rattle.std.proofs.Common.{◌≡◌, ◌≢◌, ◌+◌, ◌++◌, ◌==◌, ◌<◌, ◌≤◌, ◌∙◌, ap, arith, cond, Contains, count_by, eq-eqb, eqb-true, false, inl, inr, length, length-append, List, [], ◌∷◌, None, not, Option, option_map, refl, Some, subst, sym, true, ℕ, nat_cmp}
 use Rattle.std.proofs.lemmas.Bool.{cond-false, cond-true, true≢false}
 use Rattle.std.proofs.lemmas.List.Elements.{Contains-append_left, Contains-push}
 use Rattle.std.specs.Arc.{arc_value}
@@ -23,17 +23,14 @@ use Rattle.store_machine.specs.declared.machine.Status.{Status}
 use Rattle.store_machine.specs.declared.machine.Status.TheVariants.{Live, Withdrawn}
 use Rattle.store_core.specs.Chains.{IsEntryOf, chain_of, latest, seen, status_in, status_of}
 use Rattle.store_core.specs.Records.{IsRecord, Shared}
-use Rattle.store_core.specs.Calls.{Calls}
-use Rattle.store_core.specs.Replies.{Counts, IsLeft, IsRefusal, IsShared, IsSoundChange, MayCount, change_of, commit_calls, refusal_by}
-use Rattle.store_core.specs.Stored.{AreAscending, IsChain, StandsFor, StoreTerm, Stretches}
-use Rattle.store_core.specs.declared.words.CommitFault.{CommitFault}
-use Rattle.store_core.specs.declared.words.CommitFault.TheVariants as fault
+use Rattle.store_core.specs.Replies.{Counts, IsLeft, IsShared, IsSoundChange, MayCount, change_of, refusal_by}
+use Rattle.store_core.specs.Stored.{AreAscending, IsChain, StandsFor, StoreTerm}
 use Rattle.store_core.specs.declared.chain.Kept.{Kept}
 use Rattle.store_core.specs.declared.words.Change.{Change}
 use Rattle.store_core.specs.declared.words.Change.TheVariants.{Register, Revise, Withdraw}
 use Rattle.store_core.proofs.Counts.{count-get, count-insert, one_if, one_in}
 use Rattle.store_core.proofs.Members.{contains-here, contains-last, contains-there}
-use Rattle.store_core.proofs.OneCall.{one-call, serves}
+use Rattle.store_core.proofs.OneCall.{serves}
 use Rattle.store_core.proofs.Rows.{sound-after}
 use Rattle.store_core.proofs.Sees.{head-used, seen-at}
 
@@ -216,7 +213,7 @@ commit-stands laws store new s c k h m allowed =
       version = omega (arith, m.version, h.version, length-append s.history (told ∷ []));
       limit = m.limit ∙ h.limit;
       most = omega (arith, m.limit, h.most);
-      within = omega (arith, m.version, m.limit, m.room);
+      within = omega (arith, m.version, m.room, h.limit, h.most);
       pins = h.pins ∙ sym m.pins;
       kept = omega (arith, m.kept, h.kept, length-append s.kept (record { id = id_of told; version = head s.history + 1 } ∷ []));
       few = omega (arith, m.kept, m.version, h.few);
@@ -245,34 +242,6 @@ now-is read stay store s c o h e =
     (seen-at read stay store s (head s.history) (id_of (change_of c)) h (head-used s)
     ∙ (ap (λ v. seen v (chain_of store.chains (id_of (change_of c)))) (sym h.version) ∙ ap (option_map status_of) (sym e)))
 
-pub refused-call : KeptIsRead → StatesStay → (store : StoreTerm) (s : State) (c : Change) (fault : CommitFault) (o : Option Kept) → StandsFor store s → o ≡ latest store.version (chain_of store.chains (id_of (change_of c)))
-    → IsRefusal fault (refusal_by (option_map status_of o) c) → Calls Stretches (λ _. true) store store s (commit_calls c (Err fault))
-refused-call read stay store s c fault.Known o h e r = one-call store store s s 0 (event.Commit (change_of c)) reply.Known refl h (serves s h.serves, (now-is read stay store s c o h e ∙ r, refl)) h
-refused-call read stay store s c fault.Absent o h e r = one-call store store s s 0 (event.Commit (change_of c)) reply.Absent refl h (serves s h.serves, (now-is read stay store s c o h e ∙ r, refl)) h
-refused-call read stay store s c fault.Withdrawn o h e r = one-call store store s s 0 (event.Commit (change_of c)) reply.Withdrawn refl h (serves s h.serves, (now-is read stay store s c o h e ∙ r, refl)) h
-refused-call read stay store s c fault.Full o h e r = absurd r
-refused-call read stay store s c (fault.DiskFault doubt) o h e r = absurd r
-refused-call read stay store s c fault.Worn o h e r = absurd r
-refused-call read stay store s c fault.NoMemory o h e r = absurd r
-
--- by the result of a `?`
-pub refused-result : KeptIsRead → StatesStay → (store : StoreTerm) (s : State) (c : Change) (fault : CommitFault) (o : Option Kept) (r : Result ℕ CommitFault) → IsErrAnd r (λ e. e ≡ fault) → StandsFor store s
-    → o ≡ latest store.version (chain_of store.chains (id_of (change_of c))) → IsRefusal fault (refusal_by (option_map status_of o) c) → Calls Stretches (λ _. true) store store s (commit_calls c r)
-refused-result read stay store s c fault o (Ok x) is h e refused = absurd is
-refused-result read stay store s c fault o (Err f) is h e refused = subst (λ x. Calls Stretches (λ _. true) store store s (commit_calls c (Err x))) (sym is) (refused-call read stay store s c fault o h e refused)
-
-pub full-call : KeptIsRead → StatesStay → (store : StoreTerm) (s : State) (c : Change) (o : Option Kept) → StandsFor store s → o ≡ latest store.version (chain_of store.chains (id_of (change_of c)))
-    → refusal_by (option_map status_of o) c ≡ None → store.limit ≤ store.version → Calls Stretches (λ _. true) store store s ((event.Commit (change_of c), reply.Full) ∷ [])
-full-call read stay store s c o h e allowed full =
-    one-call store store s s 0 (event.Commit (change_of c)) reply.Full refl h (serves s h.serves, (now-is read stay store s c o h e ∙ allowed, omega (arith, full, h.version, h.limit), refl)) h
-
-pub no-memory-call : (store new : StoreTerm) (s : State) (c : Change) → StandsFor store s → StandsFor new s → Calls Stretches (λ _. true) store new s ((event.Commit (change_of c), reply.NoMemory) ∷ [])
-no-memory-call store new s c h g = one-call store new s s 0 (event.Commit (change_of c)) reply.NoMemory refl h (serves s h.serves, inl refl) g
-
-pub no-memory-result : (store new : StoreTerm) (s : State) (c : Change) (r : Result ℕ CommitFault) → IsErrAnd r (λ e. e ≡ fault.NoMemory) → StandsFor store s → StandsFor new s → Calls Stretches (λ _. true) store new s (commit_calls c r)
-no-memory-result store new s c (Ok x) is h g = absurd is
-no-memory-result store new s c (Err f) is h g = subst (λ x. Calls Stretches (λ _. true) store new s (commit_calls c (Err x))) (sym is) (no-memory-call store new s c h g)
-
 -- a live identifier is counted
 counts-one : (c : Change) (o : Option Status) (live : ℕ) → refusal_by o c ≡ None → one_in is_live o ≤ live → MayCount c live
 counts-one (Register r) o live allowed le = tt
@@ -287,15 +256,6 @@ may-count read stay store s c o h e allowed =
     let counted = count-get is_live (now s) (id_of (change_of c)) in
     counts-one c (get (now s) (id_of (change_of c))) store.live (sym (refusal-is (now s) c) ∙ (now-is read stay store s c o h e ∙ allowed)) (omega (arith, counted, h.live))
 
-pub commit-call : Laws → (store new : StoreTerm) (s : State) (c : Change) (k : Kept) → StandsFor store s → Committing store new c k → IsAllowed (now s) (change_of c)
-    → Calls Stretches (λ _. true) store new s ((event.Commit (change_of c), reply.Committed new.version) ∷ [])
-commit-call laws store new s c k h m allowed =
-    one-call store new s (committed s (change_of c)) 0 (event.Commit (change_of c)) (reply.Committed new.version) refl h (commit-gives laws store new s c k h m allowed) (commit-stands laws store new s c k h m allowed)
-
--- the chains are the same
-pub same-chains : (store : StoreTerm) (s : State) (chains : List (ℕ × List Kept)) → chains ≡ store.chains → StandsFor store s → StandsFor (record store { chains = chains }) s
-same-chains store s chains e h = subst (λ l. StandsFor (record store { chains = l }) s) (sym e) h
-
 -- what the head is of an identifier, at an equal store
 pub head-at : (store other : StoreTerm) (id key : ℕ) (o : Option Kept) → other ≡ store → key ≡ id → o ≡ latest store.version (chain_of store.chains key) → o ≡ latest other.version (chain_of other.chains id)
 head-at store other id key o e f h = h ∙ (ap (λ i. latest store.version (chain_of store.chains i)) f ∙ ap (λ (x : StoreTerm). latest x.version (chain_of x.chains id)) (sym e))
@@ -303,7 +263,3 @@ head-at store other id key o e f h = h ∙ (ap (λ i. latest store.version (chai
 pub done-stands : KeptIsRead → Laws → (store new : StoreTerm) (s : State) (c : Change) (k : Kept) (o : Option Kept) → StandsFor store s → o ≡ latest store.version (chain_of store.chains (id_of (change_of c)))
     → refusal_by (option_map status_of o) c ≡ None → Committing store new c k → StandsFor new (committed s (change_of c))
 done-stands read laws store new s c k o h e allowed m = commit-stands laws store new s c k h m (now-is read laws.states store s c o h e ∙ allowed)
-
-pub done-call : KeptIsRead → Laws → (store new : StoreTerm) (s : State) (c : Change) (k : Kept) (o : Option Kept) → StandsFor store s → o ≡ latest store.version (chain_of store.chains (id_of (change_of c)))
-    → refusal_by (option_map status_of o) c ≡ None → Committing store new c k → Calls Stretches (λ _. true) store new s ((event.Commit (change_of c), reply.Committed new.version) ∷ [])
-done-call read laws store new s c k o h e allowed m = commit-call laws store new s c k h m (now-is read laws.states store s c o h e ∙ allowed)

@@ -1,5 +1,6 @@
 -- The record of an identifier at the head, and one state more in its chain.
-use Rattle.std.proofs.Common.{◌≡◌, ◌+◌, ◌++◌, ◌∙◌, ap, arith, Bor, Bool, cond, Contains, Err, false, IfSome, length, length-append, List, [], ◌∷◌, nat_le, None, Ok, OnErr, OnOk, option_copied, Option, option_map, Result, Some, sym, true, unwrap_or, ℕ}
+use Rattle.std.proofs.Common.{◌≡◌, ◌+◌, ◌-◌, ◌≤◌, ◌++◌, ◌∙◌, ap, arith, Bor, Bool, cond, Contains, Err, false, IfSome, length, length-append, List, [], ◌∷◌, nat_le, None, Ok, OnErr, OnOk, option_copied, Option, option_map, Result, Some, sym, true, unwrap_or, ℕ}
+use Rattle.std.proofs.lemmas.List.{length-take}
 use Rattle.std.proofs.lemmas.Map.Entries.{sum_by-insert_entry, sum_by-set_value}
 use Rattle.std.proofs.lemmas.Map.Steps.{set_value_same}
 use Rattle.std.specs.BTreeMap.{insert_entry, is_at}
@@ -8,7 +9,7 @@ use Rattle.std.specs.List.{sum_by}
 use Rattle.std.specs.List.Sorted.{IsStrictlySortedBy}
 use Rattle.std.specs.Map.{keys_of, lookup, set_value, values_of}
 use Rattle.std.specs.Ordering.{nat_cmp}
-use Rattle.store_core.specs.Chains.{IsEntryOf, latest, or_else}
+use Rattle.store_core.specs.Chains.{IsEntryOf, but_last, chain_of, latest, or_else, states_in}
 use Rattle.store_core.specs.declared.chain.Kept.{Kept}
 use Rattle.store_core.proofs.Members.{contains-here, contains-there}
 
@@ -51,6 +52,12 @@ pub one-more : (id : ℕ) (es : List (ℕ × List Kept)) (ks new : List Kept) (k
 one-more id es ks new k e f =
     let sums = sum_by-set_value (λ (l : List Kept). length l) (is_at (nat_cmp id)) es ks new (sym e) in
     omega (arith, sums, ap (λ (l : List Kept). length l) f, length-append ks (k ∷ []))
+
+pub one-less : (id : ℕ) (es : List (ℕ × List Kept)) (ks new : List Kept) → Some ks ≡ lookup (is_at (nat_cmp id)) es → new ≡ but_last ks → 1 ≤ length (chain_of es id) → total (set_value (is_at (nat_cmp id)) es new) + 1 ≡ total es
+one-less id es ks new e f some =
+    let sums = sum_by-set_value (λ (l : List Kept). length l) (is_at (nat_cmp id)) es ks new (sym e) in
+    let size : length ks ≡ length (chain_of es id) = ap (λ o. length (states_in o)) e in
+    omega (arith, sums, some, size, ap (λ (l : List Kept). length l) f, length-take (length ks - 1) ks)
 
 pub as-before : (id : ℕ) (es : List (ℕ × List Kept)) (ks new : List Kept) → Some ks ≡ lookup (is_at (nat_cmp id)) es → new ≡ ks → set_value (is_at (nat_cmp id)) es new ≡ es
 as-before id es ks new e f = ap (λ l. set_value (is_at (nat_cmp id)) es l) f ∙ set_value_same (is_at (nat_cmp id)) es ks (sym e)

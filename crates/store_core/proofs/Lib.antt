@@ -1,3 +1,4 @@
+mod Advances
 mod Bits
 mod Commits
 mod Counts
@@ -14,4 +15,5 @@ mod Prunes
 mod Rows
 mod Screened
 mod Sees
+mod Undoing
 mod Walks

@@ -1,5 +1,5 @@
 -- The kept states of an identifier: which of them a reader at a version sees, and which are needed.
-use Rattle.std.specs.Prelude.{◌≡◌, ◌&&◌, Bool, if◌then◌else◌, List, [], ◌∷◌, nat_le, nat_lt, None, Option, option_map, Some, ℕ}
+use Rattle.std.specs.Prelude.{◌≡◌, ◌&&◌, ◌-◌, Bool, if◌then◌else◌, length, List, [], ◌∷◌, nat_le, nat_lt, None, Option, option_map, Some, take, ℕ}
 use Rattle.std.specs.Arc.{arc_value}
 use Rattle.std.specs.BTreeMap.{is_at}
 use Rattle.std.specs.List.{list_any}
@@ -34,6 +34,10 @@ latest v (k ∷ ks) = or_else (latest v ks) (if nat_le k.version v then Some k e
 
 abbrev pub seen : ℕ → List Kept → Option Status
 seen v ks = option_map status_of (latest v ks)
+
+-- without the last
+abbrev pub but_last : List Kept → List Kept
+but_last ks = take (length ks - 1) ks
 
 -- those that are the latest at one of these versions, and the last
 abbrev pub is_between : ℕ → ℕ → ℕ → Bool

@@ -4,3 +4,4 @@ pub mod Picks
 pub mod Records
 pub mod Replies
 pub mod Stored
+pub mod Undone

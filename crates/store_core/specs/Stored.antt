@@ -52,7 +52,7 @@ pub record StandsFor (store : StoreTerm) (s : State) : Type 0 where
   pub version : store.version ≡ head s.history
   pub limit : store.limit ≡ s.limit
   pub most : store.limit ≤ 16777215
-  pub within : store.version ≤ store.limit
+  pub within : store.version ≤ 16777215
   pub pins : map pin_of s.pins ≡ store.pins
   pub kept : store.kept ≡ length s.kept
   pub few : store.kept ≤ store.version

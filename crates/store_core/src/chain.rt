@@ -1,6 +1,6 @@
 //! The kept states of one identifier, oldest first.
 ghost use Rattle.std.specs.Prelude.{◌≡◌, ◌++◌, [], ◌∷◌, IfErr, IfOk, OnErr, OnOk, Some, length, option_copied, ℕ};
-ghost use Rattle.store_core.specs.Chains.{IsEntryOf, is_between, latest, needed, status_of};
+ghost use Rattle.store_core.specs.Chains.{IsEntryOf, but_last, is_between, latest, needed, status_of};
 ghost use Rattle.store_core.specs.Replies.{IsLookOf, looked};
 ghost use Rattle.std.specs.List.{list_any};
 
@@ -70,6 +70,13 @@ impl Chain {
             Ok(()) => Ok(()),
             Err(_) => Err(AllocError),
         }
+    }
+
+    /// The last state goes, where there is one.
+    pub fn drop_last(&mut self)
+        ensures { self.new ≡ but_last self.old }
+    {
+        self.kept.truncate(self.kept.len().saturating_sub(1));
     }
 
     pub fn len(&self) -> usize

@@ -11,6 +11,7 @@ mod record;
 mod service;
 mod steps;
 mod store;
+mod undo;
 mod walk;
 mod words;
 
@@ -19,4 +20,5 @@ pub use record::Record;
 pub use service::Service;
 pub use steps::Steps;
 pub use store::{MOST_COMMITS, Store};
+pub use undo::Undo;
 pub use words::{CallFault, Change, CommitFault, Look, Stats};

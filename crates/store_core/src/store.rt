@@ -2,19 +2,25 @@
 //!
 //! It keeps no history. A commit and a look read one chain; a fetch walks the chains from its identifier on and stops at
 //! its page's end; a prune walks each chain once.
-ghost use Rattle.std.specs.Prelude.{◌≡◌, ◌≤◌, ◌+◌, ◌++◌, ◌∷◌, [], ◌==◌, IfSome, OnErr, OnOk, if◌then◌else◌, length, None, option_copied, ℕ};
-ghost use Rattle.store_core.specs.Chains.{IsEntryOf, chain_of, latest};
+ghost use Rattle.std.specs.Prelude.{◌≡◌, ◌≤◌, ◌+◌, ◌++◌, ◌∷◌, [], ◌==◌, false, IfErr, IfOk, IfSome, OnErr, OnOk, if◌then◌else◌, length, None, option_copied, ℕ};
+ghost use Rattle.store_machine.specs.Machine.{MayAdd, committed};
+ghost use Rattle.store_machine.specs.declared.machine.State.{State};
+ghost use Rattle.store_core.specs.Calls.{is_worn_out};
+ghost use Rattle.store_core.specs.Chains.{IsEntryOf, but_last, chain_of, latest};
+ghost use Rattle.store_core.specs.Replies.{change_of};
+ghost use Rattle.store_core.specs.Undone.{Follows, IsWhy};
 ghost use Rattle.std.specs.List.{sum_by};
 ghost use Rattle.std.specs.Map.{values_of};
 ghost use Rattle.std.specs.BTreeMap.{IsOrdered, get};
 ghost use Rattle.std.specs.Ordering.{nat_cmp};
-ghost use Rattle.store_core.specs.Stored.{StandsFor, empty};
+ghost use Rattle.store_core.specs.Stored.{StandsFor, StoreTerm, empty};
 
 use crate::chain::{Chain, Kept};
 use crate::laws::laws;
 use crate::page::Page;
 use crate::service::Service;
 use crate::steps::Steps;
+use crate::undo::Undo;
 use crate::walk::{count, fill};
 use crate::words::{CallFault, Change, CommitFault, Look, Stats, counted};
 use chem_core::Print;
@@ -70,6 +76,75 @@ impl Store {
         }
     }
 
+    /// The version of the head. Takes no memory.
+    pub fn version(&self) -> u32
+        ensures { result ≡ self.now.version }
+    {
+        self.version
+    }
+
+    /// Commits a change, as a service does, and tells how to take it back.
+    pub fn advance(&mut self, change: &Change) -> Result<Undo, CommitFault>
+        ensures committed { OnOk result ((s : State) → StandsFor self.old s
+            → MayAdd s (change_of change.now) × StandsFor self.new (committed s (change_of change.now))) }
+        ensures follows { IfOk result (λ undo. Follows self.old undo self.new) }
+        ensures few { OnOk result (self.new.version ≤ MOST_COMMITS) }
+        ensures why { IfErr result (λ fault. (s : State) → StandsFor self.old s
+            → IsWhy s (change_of change.now) fault) }
+        ensures not_worn { is_worn_out result ≡ false }
+        ensures err { OnErr result (self.new ≡ self.old) }
+    {
+        laws();
+        let id = change.id();
+        change.check(self.head(id))?;
+        if self.version >= self.limit {
+            return Err(CommitFault::Full);
+        }
+        let state = Kept {
+            version: self.version + 1,
+            entry: change.entry()?,
+        };
+        keep(self.alloc, &mut self.chains, id, state)?;
+        let undo = Undo {
+            id,
+            live: self.live,
+            withdrawn: self.withdrawn,
+        };
+        let (live, withdrawn) = counted(change, self.live, self.withdrawn);
+        self.live = live;
+        self.withdrawn = withdrawn;
+        self.kept += 1;
+        self.version += 1;
+        Ok(undo)
+    }
+
+    /// Takes the last change back. The store is then as before it.
+    pub fn take_back(&mut self, undo: Undo)
+        requires { (before : StoreTerm) × Follows before undo self.old }
+        ensures stands { (before : StoreTerm) (s : State) → Follows before undo self.old
+            → StandsFor before s → StandsFor self.new s }
+        ensures pins { (before : StoreTerm) → Follows before undo self.old
+            → self.new.pins ≡ before.pins }
+        ensures version { (before : StoreTerm) → Follows before undo self.old
+            → self.new.version ≡ before.version }
+    {
+        drop_last(&mut self.chains, undo.id);
+        self.live = undo.live;
+        self.withdrawn = undo.withdrawn;
+        self.kept -= 1;
+        self.version -= 1;
+    }
+
+    /// Takes so many commits in all from now on. Those that were made stay.
+    pub fn limit_to(&mut self, commits: u32)
+        requires { commits ≤ MOST_COMMITS }
+        ensures stands { (s : State) → StandsFor self.old s
+            → StandsFor self.new (record s { limit = commits }) }
+        ensures version { self.new.version ≡ self.old.version }
+    {
+        self.limit = commits;
+    }
+
     // What an identifier is at the head.
     fn head(&self, id: u32) -> Option<&Kept>
         ensures latest { option_copied result ≡ latest self.now.version (chain_of self.now.chains id) }
@@ -100,22 +175,7 @@ impl Service for Store {
     ghost bounds = { λ _. (None, None) };
 
     fn commit(&mut self, change: Change) -> Result<u32, CommitFault> {
-        laws();
-        let id = change.id();
-        change.check(self.head(id))?;
-        if self.version >= self.limit {
-            return Err(CommitFault::Full);
-        }
-        let state = Kept {
-            version: self.version + 1,
-            entry: change.entry()?,
-        };
-        keep(self.alloc, &mut self.chains, id, state)?;
-        let (live, withdrawn) = counted(&change, self.live, self.withdrawn);
-        self.live = live;
-        self.withdrawn = withdrawn;
-        self.kept += 1;
-        self.version += 1;
+        self.advance(&change)?;
         Ok(self.version)
     }
 
@@ -231,5 +291,19 @@ fn start(
     match chains.insert(id, chain) {
         Ok(_) => Ok(()),
         Err(_) => Err(AllocError),
+    }
+}
+
+// The last state in the chain of an identifier goes.
+fn drop_last(chains: &mut BTreeMap<u32, Chain>, id: u32)
+    ensures chains { (q : ℕ) → chain_of chains.new.entries q
+        ≡ (if q == id then but_last (chain_of chains.old.entries id) else chain_of chains.old.entries q) }
+    ensures one_less { 1 ≤ length (chain_of chains.old.entries id)
+        → sum_by (λ ks. length ks) (values_of chains.new.entries) + 1
+        ≡ sum_by (λ ks. length ks) (values_of chains.old.entries) }
+    ensures ordered { IsOrdered nat_cmp chains.new }
+{
+    if let Some(chain) = chains.get_mut(&id) {
+        chain.drop_last();
     }
 }

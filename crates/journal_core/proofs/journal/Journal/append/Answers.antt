@@ -7,7 +7,7 @@ use Rattle.journal_core.specs.Standing.{Standing}
 use Rattle.journal_core.specs.RecordLaws.{never_both, before_or_after, length-prefix_push}
 use Rattle.journal_core.proofs.Results.{at_failed, at_no_memory}
 use Rattle.journal_core.proofs.Steps.{behind, stage_done, stage_torn, written_open, stage_open}
-use Rattle.journal_core.proofs.Told.{becomes_told, tears_told, done_tears, keeps_gate}
+use Rattle.journal_core.proofs.Told.{becomes_told, becomes_untold, tears_told, tears_untold, done_tears, keeps_gate}
 use Rattle.journal_core.proofs.Viewed.{at_view}
 use Rattle.journal_core.proofs.journal.Journal.append.Goals as goal
 
@@ -236,3 +236,45 @@ returns-clause-moments g c ps q =
     (λ image m. let t = c.put-2.ensures.moments image m in
     before_or_after ps payload image (stage_torn ps payload place r.place (d.content mid) (d.images mid) stage t.0
     image t.1 t.2)))
+
+-- a disk that tells nothing goes on so
+pub returns-in-Err-Failed-clause-untold : goal.returns-in-Err-Failed-clause-untold
+returns-in-Err-Failed-clause-untold g c is =
+    let d = g.D.Disk in
+    let content = at_failed c.in-Err-Failed.field-0 (TearsContent (c.self.inside.place + 1) (length c.deref.result.now)
+    (d.content c.self.inside.disk) (d.content c.put.new.disk)) c.in-Err-Failed.field-0-is
+    c.in-Err-Failed.ensures.failed_content in
+    tears_untold (c.self.inside.place + 1) (length c.deref.result.now) (d.content c.self.inside.disk)
+    (d.content c.put.new.disk) content
+    (ap (λ (j : Standing g.row.D.Denot). d.content j.disk) c.self.view_is ∙ is)
+
+pub returns-in-Err-NoMemory-clause-untold : goal.returns-in-Err-NoMemory-clause-untold
+returns-in-Err-NoMemory-clause-untold g c is =
+    let d = g.D.Disk in
+    at_no_memory c.in-Err-NoMemory.field-0 (d.content c.put.new.disk ≡ d.content c.self.inside.disk)
+    c.in-Err-NoMemory.field-0-is c.in-Err-NoMemory.ensures.no_memory_content
+    ∙ (ap (λ (j : Standing g.row.D.Denot). d.content j.disk) c.self.view_is ∙ is)
+
+pub returns-in-Err-Failed-put-clause-untold : goal.returns-in-Err-Failed-put-clause-untold
+returns-in-Err-Failed-put-clause-untold g c is =
+    let d = g.D.Disk in
+    let content = at_failed c.in-Err-Failed-put.field-0 (TearsContent c.self.inside.place 1 (d.content c.put.new.disk)
+    (d.content c.put-2.new.disk)) c.in-Err-Failed-put.field-0-is c.in-Err-Failed-put.ensures.failed_content in
+    tears_untold c.self.inside.place 1 (d.content c.put.new.disk) (d.content c.put-2.new.disk) content
+    (becomes_untold (d.content c.self.inside.disk) (d.content c.put.new.disk) _ c.in-Ok-put.ensures.content
+    (ap (λ (j : Standing g.row.D.Denot). d.content j.disk) c.self.view_is ∙ is))
+
+pub returns-in-Err-NoMemory-put-clause-untold : goal.returns-in-Err-NoMemory-put-clause-untold
+returns-in-Err-NoMemory-put-clause-untold g c is =
+    let d = g.D.Disk in
+    at_no_memory c.in-Err-NoMemory-put.field-0 (d.content c.put-2.new.disk ≡ d.content c.put.new.disk)
+    c.in-Err-NoMemory-put.field-0-is c.in-Err-NoMemory-put.ensures.no_memory_content
+    ∙ becomes_untold (d.content c.self.inside.disk) (d.content c.put.new.disk) _ c.in-Ok-put.ensures.content
+    (ap (λ (j : Standing g.row.D.Denot). d.content j.disk) c.self.view_is ∙ is)
+
+pub returns-clause-untold : goal.returns-clause-untold
+returns-clause-untold g c is =
+    let d = g.D.Disk in
+    becomes_untold (d.content c.put.new.disk) (d.content c.put-2.new.disk) _ c.in-Ok-put-2.ensures.content
+    (becomes_untold (d.content c.self.inside.disk) (d.content c.put.new.disk) _ c.in-Ok-put.ensures.content
+    (ap (λ (j : Standing g.row.D.Denot). d.content j.disk) c.self.view_is ∙ is))

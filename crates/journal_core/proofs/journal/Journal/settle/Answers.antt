@@ -1,13 +1,13 @@
-use Rattle.std.proofs.Common.{sym, subst}
+use Rattle.std.proofs.Common.{◌≡◌, ◌∙◌, ap, sym, subst}
 use Rattle.disk_edge.specs.Disk.{Tears, TearsContent}
 use Rattle.disk_edge.specs.TornLaws.{torn_same}
 use Rattle.journal_core.specs.Journal.{Doubts}
 use Rattle.journal_core.specs.Records.{Opens, BeforeOrAfter}
 use Rattle.journal_core.specs.Standing.{Standing}
 use Rattle.journal_core.specs.RecordLaws.{never_both, before_or_after}
-use Rattle.journal_core.proofs.Results.{at_failed}
+use Rattle.journal_core.proofs.Results.{at_failed, at_no_memory}
 use Rattle.journal_core.proofs.Steps.{gate, written_closed}
-use Rattle.journal_core.proofs.Told.{becomes_told, tears_told}
+use Rattle.journal_core.proofs.Told.{becomes_told, becomes_untold, tears_told, tears_untold}
 use Rattle.journal_core.proofs.Viewed.{at_view}
 use Rattle.journal_core.proofs.journal.Journal.settle.Goals as goal
 
@@ -78,3 +78,25 @@ returns-in-Err-NoMemory-clause-moments g c ps p q =
     at_view d.clock d.images_between (BeforeOrAfter ps p) _ _ c.put.new.disk c.self.view_is (λ image m. let t =
     c.put.ensures.moments image m in
     before_or_after ps p image (gate ps p c.self.inside.place r.place t.0 image (r.staged t.0 t.1) t.2))
+
+-- a disk that tells nothing goes on so
+pub returns-in-Ok-clause-untold : goal.returns-in-Ok-clause-untold
+returns-in-Ok-clause-untold g c is =
+    let d = g.D.Disk in
+    becomes_untold (d.content c.self.inside.disk) (d.content c.put.new.disk) _ c.in-Ok.ensures.content
+    (ap (λ (j : Standing g.row.D.Denot). d.content j.disk) c.self.view_is ∙ is)
+
+pub returns-in-Err-Failed-clause-untold : goal.returns-in-Err-Failed-clause-untold
+returns-in-Err-Failed-clause-untold g c is =
+    let d = g.D.Disk in
+    let content = at_failed c.in-Err-Failed.field-0 (TearsContent c.self.inside.place 1 (d.content c.self.inside.disk)
+    (d.content c.put.new.disk)) c.in-Err-Failed.field-0-is c.in-Err-Failed.ensures.failed_content in
+    tears_untold c.self.inside.place 1 (d.content c.self.inside.disk) (d.content c.put.new.disk) content
+    (ap (λ (j : Standing g.row.D.Denot). d.content j.disk) c.self.view_is ∙ is)
+
+pub returns-in-Err-NoMemory-clause-untold : goal.returns-in-Err-NoMemory-clause-untold
+returns-in-Err-NoMemory-clause-untold g c is =
+    let d = g.D.Disk in
+    at_no_memory c.in-Err-NoMemory.field-0 (d.content c.put.new.disk ≡ d.content c.self.inside.disk)
+    c.in-Err-NoMemory.field-0-is c.in-Err-NoMemory.ensures.no_memory_content
+    ∙ (ap (λ (j : Standing g.row.D.Denot). d.content j.disk) c.self.view_is ∙ is)

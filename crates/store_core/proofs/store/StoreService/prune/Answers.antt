@@ -12,7 +12,7 @@ count-kept-requires c =
     let es = c.self.inside.chains.entries in
     let left : c.retain.new.self.entries ≡ pruned live es = map_same_pairs _ (needed live) _ (λ k v b w f' t. search rules) es c.retain.new.self.entries c.retain.ensures.filtered in
     let h = c.self.invariant.1 in
-    omega (arith, ap total left, total-fewer live es, h.sum, h.few, h.within, h.most)
+    omega (arith, ap total left, total-fewer live es, h.sum, h.few, h.within)
 
 pub overflow_sub-dropped : goal.overflow_sub-dropped
 overflow_sub-dropped c =

@@ -1,0 +1,172 @@
+-- A commit on a disk, as a step of the machine.
+use Rattle.std.proofs.Common.{◌≡◌, ◌++◌, ◌≤◌, ap, arith, Err, false, inl, inr, IsErrAnd, length-append, List, [], ◌∷◌, None, Ok, Option, option_map, refl, Result, Some, subst, sym, true, ℕ}
+use Rattle.std.proofs.lemmas.List.{map-append}
+use Rattle.disk_edge.specs.Disk as disk
+use Rattle.disk_edge.specs.Disk.{IfTold, Keeps}
+use Rattle.disk_edge.specs.Moments.{AtEachMoment}
+use Rattle.journal_core.specs.Standing.{Standing}
+use Rattle.store_core.specs.Calls.{Calls}
+use Rattle.store_core.specs.Replies.{change_of, commit_calls}
+use Rattle.store_core.specs.Stored as memory
+use Rattle.store_core.specs.Stored.{StoreTerm as Memory}
+use Rattle.store_core.specs.Undone.{IsWhy}
+use Rattle.store_core.specs.declared.words.Change.{Change as Asked}
+use Rattle.store_core.specs.declared.words.CommitFault.{CommitFault}
+use Rattle.store_core.specs.declared.words.CommitFault.TheVariants as fault
+use Rattle.store_machine.specs.Laws.{RunsStaySound}
+use Rattle.store_machine.specs.Machine.{CommitGives, EndsDoubt, Gives, MayAdd, Serves, SomeRose, Rose, committed}
+use Rattle.store_machine.specs.declared.machine.Change.{Change}
+use Rattle.store_machine.specs.declared.machine.Event.TheVariants as event
+use Rattle.store_machine.specs.declared.machine.Faults.{Faults}
+use Rattle.store_machine.specs.declared.machine.Reply.{Reply}
+use Rattle.store_machine.specs.declared.machine.Reply.TheVariants as reply
+use Rattle.store_machine.specs.declared.machine.State.{State}
+use Rattle.store_disk.specs.OnDisk.{Has, StandsFor, StoreTerm}
+use Rattle.store_disk.specs.Payloads.{payload, payloads}
+use Rattle.store_disk.specs.Puts.{EndsOlder, OnFault, PutGives, ShowsOne}
+use Rattle.store_disk.specs.Stored.{Stretches, times}
+use Rattle.store_disk.proofs.Bounds.{rose}
+use Rattle.store_disk.proofs.Lifts.{calm, one-call, shows-one, sound-after, step_of, still-call, with-faults}
+use Rattle.store_disk.proofs.Steps.{all}
+
+module _ {D : Type 0} (content : D → Option (List ℕ)) (images : D → List ℕ → Type 0) (clock : D → ℕ)
+    (between : D → ℕ → ℕ → List ℕ → Type 0) (faults : D → ℕ)
+    (only-now : (d : D) (c : List ℕ) → between d (clock d) (clock d) c → images d c) where
+  abbrev Gone : StoreTerm D → StoreTerm D → State → Asked → Result ℕ CommitFault → Type 0
+  Gone store new s c r = Calls (Stretches content images clock between faults) all store new s (commit_calls c r)
+
+  -- nothing was done
+  stays : (store : StoreTerm D) (s : State) → StandsFor content images faults store s → Serves s s
+  stays store s h = (h.memory.serves, (omega arith, omega arith))
+
+  refused : (store : StoreTerm D) (s : State) (c : Asked) (f : CommitFault) → StandsFor content images faults store s
+      → IsWhy (calm s) (change_of c) f → Gone store store s c (Err f)
+  refused store s c fault.Known h why = still-call content images clock between faults only-now store store s s 0
+      (event.Commit (change_of c)) reply.Known refl h (stays store s h, (why, refl)) h refl refl
+  refused store s c fault.Absent h why = still-call content images clock between faults only-now store store s s 0
+      (event.Commit (change_of c)) reply.Absent refl h (stays store s h, (why, refl)) h refl refl
+  refused store s c fault.Withdrawn h why = still-call content images clock between faults only-now store store s s 0
+      (event.Commit (change_of c)) reply.Withdrawn refl h (stays store s h, (why, refl)) h refl refl
+  refused store s c fault.Full h why = still-call content images clock between faults only-now store store s s 0
+      (event.Commit (change_of c)) reply.Full refl h (stays store s h, (why.0, why.1, refl)) h refl refl
+  refused store s c (fault.DiskFault doubt) h why = absurd why
+  refused store s c fault.Worn h why = absurd why
+  refused store s c fault.NoMemory h why = still-call content images clock between faults only-now store store s s 0
+      (event.Commit (change_of c)) reply.NoMemory refl h (stays store s h, inl refl) h refl refl
+
+  -- by the result of a `?`
+  pub refused-result : (store new : StoreTerm D) (s : State) (c : Asked) (f : CommitFault) (r : Result ℕ CommitFault)
+      → IsErrAnd r (λ e. e ≡ f) → new ≡ store → StandsFor content images faults store s
+      → IsWhy (calm s) (change_of c) f → Gone store new s c r
+  refused-result store new s c f (Ok x) is same h why = absurd is
+  refused-result store new s c f (Err e) is same h why =
+      subst (λ (x : StoreTerm D). Gone store x s c (Err e)) (sym same)
+      (refused store s c e h (subst (IsWhy (calm s) (change_of c)) (sym is) why))
+
+  module _ (law : RunsStaySound) (store : StoreTerm D) (s : State) (h : StandsFor content images faults store s)
+      (c : Asked) (m : Memory) (journal : Standing D)
+      (le : faults store.journal.disk ≤ faults journal.disk) (may : MayAdd s (change_of c))
+      (past : Keeps clock between store.journal.disk journal.disk)
+      (untold : content store.journal.disk ≡ None → content journal.disk ≡ None)
+      (p : List ℕ) (written : p ≡ payload (change_of c))
+      (given : IfTold (content journal.disk) (λ _. AtEachMoment clock between store.journal.disk journal.disk
+      (ShowsOne (payloads s.history) (option_map payload s.doubt) p))) where
+    moments : IfTold (content journal.disk) (λ _. AtEachMoment clock between store.journal.disk journal.disk
+        (ShowsOne (payloads s.history) (option_map payload s.doubt) (payload (change_of c))))
+    moments = subst (λ q. IfTold (content journal.disk) (λ _. AtEachMoment clock between store.journal.disk journal.disk
+        (ShowsOne (payloads s.history) (option_map payload s.doubt) q))) written given
+
+    serves : (t : State) → t.faults ≡ record { a = faults journal.disk; b = faults store.b } → Serves s t
+    serves t e = (
+      h.memory.serves,
+      (
+        omega (arith, le, ap (λ (f : Faults). f.a) h.counts, ap (λ (f : Faults). f.a) e),
+        omega (arith, ap (λ (f : Faults). f.b) h.counts, ap (λ (f : Faults). f.b) e),
+      ),
+    )
+
+    pub done : memory.StandsFor m (committed (calm s) (change_of c))
+        → Has content images journal (payloads s.history ++ p ∷ []) None
+        → Gone store (record { memory = m; journal = journal; b = store.b }) s c (Ok m.version)
+    done ends has =
+        let told = change_of c in
+        let f : Faults = record { a = faults journal.disk; b = faults store.b } in
+        let t : State = record (committed s told) { faults = f } in
+        let gives : Gives s 0 (event.Commit told) (reply.Committed m.version) t =
+        (serves t refl, (may, omega (arith, ends.version, length-append s.history (told ∷ [])), refl)) in
+        one-call content images clock between faults store (record { memory = m; journal = journal; b = store.b }) s t 0
+        (event.Commit told) (reply.Committed m.version) refl h gives
+        (record {
+          sound = sound-after law s t 0 (event.Commit told) (reply.Committed m.version) gives h.sound;
+          memory = with-faults m (committed (calm s) told) f ends;
+          journal = subst (λ ps. Has content images journal ps None) (sym (map-append payload s.history (told ∷ [])))
+              (subst (λ q. Has content images journal (payloads s.history ++ q ∷ []) None) written has);
+          counts = refl;
+        })
+        refl past untold
+        (λ l is image b. shows-one (step_of 0 (event.Commit told) (reply.Committed m.version) s t (times clock store)
+        (times clock (record { memory = m; journal = journal; b = store.b }))) told image refl (moments l is image b))
+
+    module _ (ends : memory.StandsFor m (calm s)) where
+      -- after a fault the state is as before, with this doubt
+      abbrev then : Option Change → State
+      then doubt = record s { doubt = doubt; faults = record { a = faults journal.disk; b = faults store.b } }
+
+      with-doubt : (doubt : Option Change) (r : Reply) → CommitGives s (change_of c) r (then doubt)
+          → Has content images journal (payloads s.history) (option_map payload doubt)
+          → Calls (Stretches content images clock between faults) all store
+          (record { memory = m; journal = journal; b = store.b }) s ((event.Commit (change_of c), r) ∷ [])
+      with-doubt doubt r row has =
+          let t : State = then doubt in
+          let gives : Gives s 0 (event.Commit (change_of c)) r t = (serves t refl, row) in
+          one-call content images clock between faults store
+          (record { memory = m; journal = journal; b = store.b }) s t 0 (event.Commit (change_of c)) r refl h gives
+          (record {
+            sound = sound-after law s t 0 (event.Commit (change_of c)) r gives h.sound;
+            memory = with-faults m (calm s) (record { a = faults journal.disk; b = faults store.b }) ends;
+            journal = has;
+            counts = refl;
+          })
+          refl past untold
+          (λ l is image b. shows-one (step_of 0 (event.Commit (change_of c)) r s t (times clock store)
+          (times clock (record { memory = m; journal = journal; b = store.b }))) (change_of c) image refl
+          (moments l is image b))
+
+      older : (r : Reply)
+          → ((doubt : Option Change) → EndsDoubt s (then doubt) → CommitGives s (change_of c) r (then doubt))
+          → EndsOlder (Has content images journal) (payloads s.history) (option_map payload s.doubt)
+          → Calls (Stretches content images clock between faults) all store
+          (record { memory = m; journal = journal; b = store.b }) s ((event.Commit (change_of c), r) ∷ [])
+      older r row e = elim e [
+        | inl has ↦ with-doubt s.doubt r (row s.doubt (inl refl)) has
+        | inr has ↦ with-doubt None r (row None (inr refl)) has
+      ]
+
+      some-rose : disk.Rose (faults store.journal.disk) (faults journal.disk) → (doubt : Option Change)
+          → SomeRose s.faults (then doubt).faults
+      some-rose r doubt = inl (subst (λ n. Rose n (faults journal.disk)) (sym (ap (λ (f : Faults). f.a) h.counts))
+          (rose (faults store.journal.disk) (faults journal.disk) r))
+
+      by-fault : (f : CommitFault)
+          → PutGives (Err f) (Has content images journal) (payloads s.history) (option_map payload s.doubt)
+          (payload (change_of c))
+          → OnFault (Err f) (disk.Rose (faults store.journal.disk) (faults journal.disk))
+          → Gone store (record { memory = m; journal = journal; b = store.b }) s c (Err f)
+      by-fault fault.Known has r = absurd has
+      by-fault fault.Absent has r = absurd has
+      by-fault fault.Withdrawn has r = absurd has
+      by-fault fault.Full has r = absurd has
+      by-fault (fault.DiskFault true) has r =
+          with-doubt (Some (change_of c)) (reply.DiskFault true) (may, some-rose r (Some (change_of c)), refl) has
+      by-fault (fault.DiskFault false) has r =
+          older (reply.DiskFault false) (λ doubt e. (may, some-rose r doubt, e)) has
+      by-fault fault.Worn has r = absurd has
+      by-fault fault.NoMemory has r = older reply.NoMemory (λ doubt e. e) has
+
+      pub faulted : (f : CommitFault)
+          → PutGives (Err f) (Has content images journal) (payloads s.history) (option_map payload s.doubt) p
+          → OnFault (Err f) (disk.Rose (faults store.journal.disk) (faults journal.disk))
+          → Gone store (record { memory = m; journal = journal; b = store.b }) s c (Err f)
+      faulted f has r = by-fault f
+          (subst (λ q. PutGives (Err f) (Has content images journal) (payloads s.history)
+          (option_map payload s.doubt) q) written has) r

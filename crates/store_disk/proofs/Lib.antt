@@ -1,0 +1,12 @@
+mod Commits
+mod Bounds
+mod InMemory
+mod Lifts
+mod Loads
+mod Logged
+mod OneWay
+mod Payloads
+mod Puts
+mod Replayed
+mod Rows
+mod Steps

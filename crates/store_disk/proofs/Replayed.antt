@@ -1,0 +1,114 @@
+-- The commits of a log, made again one after the other.
+use Rattle.std.proofs.Common.{◌≡◌, ◌+◌, ◌++◌, ◌<◌, ◌∙◌, ap, append_assoc, arith, drop, Err, get_or, IsErrAnd, length, List, [], ◌∷◌, map, Ok, refl, Result, subst, sym, take, ℕ}
+use Rattle.std.proofs.lemmas.List.{length-map, map-append}
+use Rattle.std.proofs.lemmas.Grind.{take_at_read}
+use Rattle.std.proofs.lemmas.List.{take-append-drop}
+use Rattle.std.specs.List.{AllByRecursion}
+use Rattle.commit_log.specs.Change.{Change as Logged, change_of}
+use Rattle.commit_log.specs.Log.{IsLogged, changes_of}
+use Rattle.commit_log.specs.declared.change.Commit.{Commit}
+use Rattle.journal_core.specs.Answers.{OnDamaged}
+use Rattle.journal_core.specs.declared.faults.LoadFault.{LoadFault}
+use Rattle.journal_core.specs.declared.faults.LoadFault.TheVariants as fault
+use Rattle.store_core.specs.Stored.{StandsFor, StoreTerm as Memory, empty}
+use Rattle.store_machine.specs.History.{IsHistory}
+use Rattle.store_machine.specs.Machine.{MayAdd, committed}
+use Rattle.store_machine.specs.declared.machine.State.{State}
+use Rattle.store_disk.specs.Loads.{MayFollow}
+use Rattle.store_disk.specs.Payloads.{told}
+use Rattle.store_disk.specs.Replays.{Stops}
+
+-- the store stands for a state of this history, with the greatest limit and nothing pinned
+pub record Made (memory : Memory) (changes : List Logged) : Type 0 where
+  pub state : State
+  pub stands : StandsFor memory state
+  pub history : state.history ≡ map told changes
+  pub limit : state.limit ≡ 16777215
+  pub pins : state.pins ≡ []
+
+pub made-none : (memory : Memory) → StandsFor memory (empty 16777215) → Made memory []
+made-none memory h = record { state = empty 16777215; stands = h; history = refl; limit = refl; pins = refl }
+
+pub made-more : (memory new : Memory) (changes : List Logged) (c : Logged) → (m : Made memory changes)
+    → MayAdd m.state (told c) × StandsFor new (committed m.state (told c)) → Made new (changes ++ c ∷ [])
+made-more memory new changes c m next = record {
+  state = committed m.state (told c);
+  stands = next.1;
+  history = ap (λ h. h ++ told c ∷ []) m.history ∙ sym (map-append told changes (c ∷ []));
+  limit = m.limit;
+  pins = m.pins;
+}
+
+-- where it stops
+may-add : (memory : Memory) (changes : List Logged) (m : Made memory changes) (c : Logged)
+    → MayFollow (map told changes) (told c) → MayAdd m.state (told c)
+may-add memory changes m c may =
+    let f = subst (λ h. MayFollow h (told c)) (sym m.history) may in
+    (f.0, f.1, omega (arith, f.2, m.limit))
+
+pub stops : (log before : List Commit) (c : Commit) (more : List Commit) (memory : Memory) (at : ℕ)
+    → log ≡ before ++ c ∷ more → at ≡ c.at → (m : Made memory (changes_of before))
+    → ((s : State) → StandsFor memory s → ¬ MayAdd s (told (change_of c.wire))) → Stops log at
+stops log before c more memory at is place m never = record {
+  before = before;
+  commit = c;
+  more = more;
+  is = is;
+  place = place;
+  history = subst IsHistory m.history m.stands.sound.history;
+  few = omega (
+    arith,
+    m.stands.version,
+    m.stands.within,
+    ap (λ l. length l) m.history,
+    length-map (changes_of before) told,
+  );
+  refused = λ may. never m.state m.stands (may-add memory (changes_of before) m (change_of c.wire) may);
+}
+
+-- the commit at an index
+next-is : (log : List Commit) (i : ℕ) (c : Commit) → i < length log → c ≡ get_or log i c
+    → take (i + 1) log ≡ take i log ++ c ∷ []
+next-is log i c less is = (take_at_read log i c less).1 ∙ ap (λ x. take i log ++ x ∷ []) (sym is)
+
+split-is : (log : List Commit) (i : ℕ) (c : Commit) → i < length log → c ≡ get_or log i c
+    → log ≡ take i log ++ c ∷ drop (i + 1) log
+split-is log i c less is =
+    sym (take-append-drop (i + 1) log) ∙ (ap (λ l. l ++ drop (i + 1) log) (next-is log i c less is) ∙ append_assoc
+    (take i log) (c ∷ []) (drop (i + 1) log))
+
+all-at : (cs : List Commit) (c : Commit) (more : List Commit) → AllByRecursion IsLogged (changes_of (cs ++ c ∷ more))
+    → IsLogged (change_of c.wire)
+all-at [] c more all = all.0
+all-at (x ∷ cs) c more all = all-at cs c more all.1
+
+pub logged-at : (log : List Commit) (i : ℕ) (c : Commit) → i < length log → c ≡ get_or log i c
+    → AllByRecursion IsLogged (changes_of log) → IsLogged (change_of c.wire)
+logged-at log i c less is all =
+    all-at (take i log) c (drop (i + 1) log)
+    (subst (λ l. AllByRecursion IsLogged (changes_of l)) (split-is log i c less is) all)
+
+pub made-next : (log : List Commit) (i : ℕ) (c : Commit) → i < length log → c ≡ get_or log i c → (memory new : Memory)
+    → (m : Made memory (changes_of (take i log)))
+    → MayAdd m.state (told (change_of c.wire)) × StandsFor new (committed m.state (told (change_of c.wire)))
+    → Made new (changes_of (take (i + 1) log))
+made-next log i c less is memory new m next =
+    subst (Made new) (sym (ap changes_of (next-is log i c less is) ∙ map-append (λ (x : Commit). change_of x.wire)
+    (take i log) (c ∷ []))) (made-more memory new (changes_of (take i log)) (change_of c.wire) m next)
+
+pub at-add : {X : Type 0} (log : List Commit) (i : ℕ) (c : Commit) → i < length log → c ≡ get_or log i c
+    → (memory : Memory) → Made memory (changes_of (take i log)) → (f : LoadFault) (r : Result X LoadFault)
+    → IsErrAnd r (λ e. e ≡ f)
+    → OnDamaged {T = Unit {0}} (Err f) (λ at. (at ≡ c.at)
+    × ((s : State) → StandsFor memory s → ¬ MayAdd s (told (change_of c.wire)))) → OnDamaged r (Stops log)
+at-add {X} log i c less is memory m f (Ok x) same damaged = tt
+at-add {X} log i c less is memory m f (Err e) same damaged =
+    subst (λ g. OnDamaged {T = X} (Err g) (Stops log)) (sym same) (go f damaged)
+  where
+    go : (f : LoadFault) → OnDamaged {T = Unit {0}} (Err f) (λ at. (at ≡ c.at)
+        × ((s : State) → StandsFor memory s → ¬ MayAdd s (told (change_of c.wire)))) → OnDamaged {T = X} (Err f)
+        (Stops log)
+    go fault.Disk d = tt
+    go fault.NotAStore d = tt
+    go (fault.Damaged at) d = stops log (take i log) c (drop (i + 1) log) memory at (split-is log i c less is) d.0 m d.1
+    go fault.NoMemory d = tt

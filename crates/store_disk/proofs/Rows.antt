@@ -1,0 +1,139 @@
+-- The rows of all calls but commit, lifted: none of them speaks of the doubt.
+use Rattle.std.proofs.Common.{◌≡◌, ap, arith, Bool, Err, List, None, Ok, Option, refl, Result, Some, true, ℕ}
+use Rattle.journal_core.specs.Standing.{Standing}
+use Rattle.snap_registry.specs.declared.Pin.{Pin}
+use Rattle.store_core.specs.Calls.{Calls, NeedsNone, is_worn}
+use Rattle.store_core.specs.Records.{Shared, founds}
+use Rattle.store_core.specs.Replies.{calls, looked, pin_reply}
+use Rattle.store_core.specs.Stored as memory
+use Rattle.store_core.specs.Stored.{StoreTerm as Memory}
+use Rattle.store_core.specs.declared.words.CallFault.{CallFault}
+use Rattle.store_core.specs.declared.words.CallFault.TheVariants as call
+use Rattle.store_core.specs.declared.words.Look.{Look}
+use Rattle.store_core.specs.declared.words.Stats.{Stats}
+use Rattle.store_machine.specs.Laws.{RunsStaySound}
+use Rattle.store_machine.specs.Machine.{Serves}
+use Rattle.store_machine.specs.Runs.{is_call}
+use Rattle.store_machine.specs.declared.machine.Event.{Event}
+use Rattle.store_machine.specs.declared.machine.Event.TheVariants as event
+use Rattle.store_machine.specs.declared.machine.Reply.{Reply}
+use Rattle.store_machine.specs.declared.machine.Reply.TheVariants as reply
+use Rattle.store_machine.specs.declared.machine.State.{State}
+use Rattle.store_machine.specs.declared.machine.Status.{Status}
+use Rattle.store_disk.specs.OnDisk.{IsReady, StandsFor, StoreTerm}
+use Rattle.store_disk.specs.Stored.{Stretches}
+use Rattle.store_disk.proofs.Lifts.{Lifts, back, calm, lifted, still}
+use Rattle.store_disk.proofs.Steps.{all}
+
+serves : (s t : State) → Serves (calm s) t → Serves s (back s t)
+serves s t g = (g.0, (omega arith, omega arith))
+
+lift-pin : (s : State) (o : Option Pin) → Lifts s event.Pin (pin_reply o)
+lift-pin s None owner t g = ((serves s t g.0, (g.1.0, ap (back s) g.1.1)), ap (λ (x : State). x.history) g.1.1)
+lift-pin s (Some p) owner t g =
+    ((serves s t g.0, (g.1.0, g.1.1, g.1.2, g.1.3, ap (back s) g.1.4)), ap (λ (x : State). x.history) g.1.4)
+
+lift-page : (s : State) (slot : ℕ) (want : List Bool) (from limit : ℕ) (records : List Shared) (last : Bool)
+    → Lifts s (event.Fetch slot want from limit) (reply.Page (founds records) last)
+lift-page s slot want from limit records last owner t g =
+    ((serves s t g.0, (g.1.0, g.1.1, g.1.2, ap (back s) g.1.3)), ap (λ (x : State). x.history) g.1.3)
+
+lift-no-page : (s : State) (slot : ℕ) (want : List Bool) (from limit : ℕ)
+    → Lifts s (event.Fetch slot want from limit) reply.NoMemory
+lift-no-page s slot want from limit owner t g =
+    ((serves s t g.0, (g.1.0, g.1.1, ap (back s) g.1.2)), ap (λ (x : State). x.history) g.1.2)
+
+lift-unpin : (s : State) (slot : ℕ) → Lifts s (event.Unpin slot) reply.Unpinned
+lift-unpin s slot owner t g = ((serves s t g.0, (g.1.0, g.1.1, ap (back s) g.1.2)), ap (λ (x : State). x.history) g.1.2)
+
+lift-prune : (s : State) (dropped : ℕ) → Lifts s event.Prune (reply.Pruned dropped)
+lift-prune s dropped owner t g = (
+  (serves s t g.0, (record { exactly = g.1.0.exactly; distinct = g.1.0.distinct }, g.1.1, ap (back s) g.1.2)),
+  ap (λ (x : State). x.history) g.1.2,
+)
+
+lift-look : (s : State) (id : ℕ) (status : Option Status) → Lifts s (event.Look id) (reply.Looked status)
+lift-look s id status owner t g = ((serves s t g.0, (g.1.0, ap (back s) g.1.1)), ap (λ (x : State). x.history) g.1.1)
+
+lift-no-look : (s : State) (id : ℕ) → Lifts s (event.Look id) reply.NoMemory
+lift-no-look s id owner t g = ((serves s t g.0, ap (back s) g.1), ap (λ (x : State). x.history) g.1)
+
+lift-stats : (s : State) (n : Stats) → Lifts s event.Stats (reply.Counted n.version n.live n.withdrawn n.kept n.pins)
+lift-stats s n owner t g =
+    ((serves s t g.0, (g.1.0, g.1.1, g.1.2, g.1.3, g.1.4, ap (back s) g.1.5)), ap (λ (x : State). x.history) g.1.5)
+
+-- each reply of a call is lifted
+abbrev pub AllLift : {X : Type 0} → Event → (X → Reply) → Result X CallFault → Type 0
+AllLift e of (Ok x) = (s : State) → Lifts s e (of x)
+AllLift e of (Err call.Worn) = ⊥
+AllLift e of (Err call.NoMemory) = (s : State) → Lifts s e reply.NoMemory
+
+all-lift : {X : Type 0} (e : Event) (of : X → Reply) → ((x : X) (s : State) → Lifts s e (of x))
+    → (r : Result X CallFault) → (is_worn r ≡ true → ⊥)
+    → (r ≡ Err call.NoMemory → (s : State) → Lifts s e reply.NoMemory) → AllLift e of r
+all-lift e of lifts (Ok x) worn want = lifts x
+all-lift e of lifts (Err call.Worn) worn want = worn refl
+all-lift e of lifts (Err call.NoMemory) worn want = want refl
+
+never : {X : Type 0} (e : Event) (r : Result X CallFault) → NeedsNone r → r ≡ Err call.NoMemory → (s : State)
+    → Lifts s e reply.NoMemory
+never e (Ok x) none is = cc is
+never e (Err call.Worn) none is = cc is
+never e (Err call.NoMemory) none is = absurd none
+
+pub pin-lifts : (r : Result (Option Pin) CallFault) → (is_worn r ≡ true → ⊥) → NeedsNone r
+    → AllLift event.Pin pin_reply r
+pin-lifts r worn none = all-lift event.Pin pin_reply (λ o s. lift-pin s o) r worn (never event.Pin r none)
+
+pub fetch-lifts : (slot : ℕ) (want : List Bool) (from limit : ℕ) (records : List Shared) (r : Result Bool CallFault)
+    → (is_worn r ≡ true → ⊥) → AllLift (event.Fetch slot want from limit) (λ last. reply.Page (founds records) last) r
+fetch-lifts slot want from limit records r worn =
+    all-lift (event.Fetch slot want from limit) (λ last. reply.Page (founds records) last)
+    (λ last s. lift-page s slot want from limit records last) r worn (λ _ s. lift-no-page s slot want from limit)
+
+pub unpin-lifts : (slot : ℕ) (r : Result (Unit {0}) CallFault) → (is_worn r ≡ true → ⊥) → NeedsNone r
+    → AllLift (event.Unpin slot) (λ _. reply.Unpinned) r
+unpin-lifts slot r worn none = all-lift (event.Unpin slot) (λ _. reply.Unpinned) (λ _ s. lift-unpin s slot) r worn
+    (never (event.Unpin slot) r none)
+
+pub prune-lifts : (r : Result ℕ CallFault) → (is_worn r ≡ true → ⊥) → NeedsNone r
+    → AllLift event.Prune (λ n. reply.Pruned n) r
+prune-lifts r worn none = all-lift event.Prune (λ n. reply.Pruned n) (λ n s. lift-prune s n) r worn
+    (never event.Prune r none)
+
+pub look-lifts : (id : ℕ) (r : Result Look CallFault) → (is_worn r ≡ true → ⊥)
+    → AllLift (event.Look id) (λ l. reply.Looked (looked l)) r
+look-lifts id r worn = all-lift (event.Look id) (λ l. reply.Looked (looked l)) (λ l s. lift-look s id (looked l)) r worn
+    (λ _ s. lift-no-look s id)
+
+pub stats-lifts : (r : Result Stats CallFault) → (is_worn r ≡ true → ⊥) → NeedsNone r
+    → AllLift event.Stats (λ n. reply.Counted n.version n.live n.withdrawn n.kept n.pins) r
+stats-lifts r worn none = all-lift event.Stats (λ n. reply.Counted n.version n.live n.withdrawn n.kept n.pins)
+    (λ n s. lift-stats s n) r worn (never event.Stats r none)
+
+-- such a call leaves a store that is ready
+pub still-ready : {X D : Type 0} (e : Event) (of : X → Reply) (r : Result X CallFault) → AllLift e of r
+    → (old new : Memory) (journal : Standing D)
+    → ((s : State) → memory.StandsFor old s → Calls memory.Stretches all old new s (calls e of r))
+    → IsReady old journal → IsReady new journal
+still-ready e of (Ok x) lifts old new journal c was =
+    let n = still old new e (of x) lifts c was.stands in
+    record { stands = n.0; ready = was.ready; few = omega (arith, n.1, was.few); place = omega (arith, n.1, was.place) }
+still-ready e of (Err call.Worn) lifts old new journal c was = absurd lifts
+still-ready e of (Err call.NoMemory) lifts old new journal c was =
+    let n = still old new e reply.NoMemory lifts c was.stands in
+    record { stands = n.0; ready = was.ready; few = omega (arith, n.1, was.few); place = omega (arith, n.1, was.place) }
+
+-- and is one of the store on the disk
+pub lifted-call : {X D : Type 0} (content : D → Option (List ℕ)) (images : D → List ℕ → Type 0) (clock : D → ℕ)
+    (between : D → ℕ → ℕ → List ℕ → Type 0) (faults : D → ℕ)
+    → ((d : D) (c : List ℕ) → between d (clock d) (clock d) c → images d c) → RunsStaySound
+    → (store : StoreTerm D) (m : Memory) (s : State) → StandsFor content images faults store s
+    → (e : Event) (of : X → Reply) → is_call e ≡ true → (r : Result X CallFault) → AllLift e of r
+    → Calls memory.Stretches all store.memory m (calm s) (calls e of r)
+    → Calls (Stretches content images clock between faults) all store (record store { memory = m }) s (calls e of r)
+lifted-call content images clock between faults only-now law store m s h e of is (Ok x) lifts c =
+    lifted content images clock between faults only-now law store m s e (of x) is h (lifts s) c
+lifted-call content images clock between faults only-now law store m s h e of is (Err call.Worn) lifts c = absurd lifts
+lifted-call content images clock between faults only-now law store m s h e of is (Err call.NoMemory) lifts c =
+    lifted content images clock between faults only-now law store m s e reply.NoMemory is h (lifts s) c

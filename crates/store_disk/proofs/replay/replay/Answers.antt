@@ -1,0 +1,18 @@
+use Rattle.store_disk.proofs.Replayed.{at-add, logged-at, made-next}
+use Rattle.store_disk.proofs.replay.replay.Goals as goal
+
+pub add-requires : goal.add-requires
+add-requires c = logged-at c.args.log.now c.loop-commit.commit-index c.commit-item.result c.loop-commit-test.true
+    c.commit-item.is c.requires.logged
+
+pub returns-in_err-add-clause-damaged : goal.returns-in_err-add-clause-damaged
+returns-in_err-add-clause-damaged c =
+    at-add c.args.log.now c.loop-commit.commit-index c.commit-item.result c.loop-commit-test.true c.commit-item.is
+    c.loop-commit.memory c.loop-commit.invariant c.in_err-add.field-0.0 c.from_residual.result c.from_residual.ensures.1
+    c.in_err-add.ensures.damaged
+
+pub loop-commit-preserved : goal.loop-commit-preserved
+loop-commit-preserved c =
+    made-next c.args.log.now c.loop-commit.commit-index c.commit-item.result c.loop-commit-test.true c.commit-item.is
+    c.loop-commit.memory c.add.new.memory c.loop-commit.invariant
+    (c.in_ok-add.ensures.ok c.loop-commit.invariant.state c.loop-commit.invariant.stands)

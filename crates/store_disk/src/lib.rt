@@ -1,0 +1,20 @@
+//! A store of structures on a disk: the store in memory of `store_core`, and a journal that has each commit before it
+//! is acknowledged.
+//!
+//! `Store::load` reads the commits of a disk, and `Store` is then a `Service`: each call is a step of the machine. At
+//! each state the disk has the history, and the commit in doubt, if any. So a crash leaves every commit that was
+//! acknowledged, and at most one more: the one in doubt, or the one that is being made.
+#![tactic(auto)]
+
+mod disks;
+mod laws;
+mod payload;
+mod put;
+mod replay;
+mod store;
+#[cfg(test)]
+mod tests;
+
+pub use disks::Disks;
+pub use laws::a_store_opens_one_way;
+pub use store::Store;

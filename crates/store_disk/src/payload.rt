@@ -1,0 +1,80 @@
+//! Changes as payloads of the journal, and back.
+
+ghost use Rattle.std.specs.Prelude.{◌≡◌, ◌≢◌, IfErr, IfOk};
+ghost use Rattle.commit_log.specs.Change.{IsInRange};
+ghost use Rattle.commit_log.specs.Change as logged;
+ghost use Rattle.journal_core.specs.Records.{IsShort};
+ghost use Rattle.mol_finish.specs.declared.fault.TextFault.TheVariants.{NoMemory};
+ghost use Rattle.store_core.specs.Replies.{change_of};
+ghost use Rattle.store_machine.specs.History.{IsValid};
+ghost use Rattle.store_disk.specs.Payloads.{logged_format, payload, stored_format, told};
+
+use commit_log::{Wire, encode_register, encode_revise, encode_withdraw};
+use mol_finish::{Format, TextFault};
+use std::alloc::{AllocError, Global};
+use store_core::{Change, Record};
+
+/// The payload of a change. A record's text is short.
+pub(crate) fn payload_of(alloc: Global, change: &Change) -> Result<Vec<u8>, AllocError>
+    ensures payload { IfOk result (λ v. v.items ≡ payload (change_of change.now)) }
+    ensures short { IfOk result (λ v. IsShort v.items) }
+{
+    let _ = change.id();
+    match change {
+        Change::Register(record) => {
+            encode_register(
+                alloc,
+                record.id(),
+                logged_format(record.format()),
+                record.text(),
+            )
+        }
+        Change::Revise(record) => {
+            encode_revise(
+                alloc,
+                record.id(),
+                logged_format(record.format()),
+                record.text(),
+            )
+        }
+        Change::Withdraw(id) => encode_withdraw(alloc, *id),
+    }
+}
+
+/// The change that was logged, with the structure of its text. It is refused as the text is.
+pub(crate) fn change_from(alloc: Global, wire: &Wire) -> Result<Change, TextFault>
+    requires { IsInRange (logged.change_of wire.now) }
+    ensures change { IfOk result (λ c. change_of c ≡ told (logged.change_of wire.now)) }
+    ensures fault { IfErr result (λ fault. fault ≢ NoMemory → ¬ IsValid (told (logged.change_of wire.now))) }
+{
+    mol_finish::one_answer();
+    match wire {
+        Wire::Register { id, format, text } => {
+            let record = Record::make(alloc, *id, stored_format(*format), text)?;
+            Ok(Change::Register(record))
+        }
+        Wire::Revise { id, format, text } => {
+            let record = Record::make(alloc, *id, stored_format(*format), text)?;
+            Ok(Change::Revise(record))
+        }
+        Wire::Withdraw { id } => Ok(Change::Withdraw(*id)),
+    }
+}
+
+fn logged_format(format: Format) -> commit_log::Format
+    ensures { result ≡ logged_format format }
+{
+    match format {
+        Format::Smiles => commit_log::Format::Smiles,
+        Format::Molfile => commit_log::Format::Molfile,
+    }
+}
+
+fn stored_format(format: commit_log::Format) -> Format
+    ensures { result ≡ stored_format format }
+{
+    match format {
+        commit_log::Format::Smiles => Format::Smiles,
+        commit_log::Format::Molfile => Format::Molfile,
+    }
+}

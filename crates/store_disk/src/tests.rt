@@ -1,0 +1,177 @@
+//! A store is made, stopped or failed at each call of its disk, and loaded again; and files that are damaged.
+
+use crate::{Disks, Store};
+use disk_edge::MemDisk;
+use journal_core::LoadFault;
+use mol_finish::Format;
+use std::alloc::Global;
+use std::test::Fail;
+use store_core::{Change, CommitFault, Record, Service};
+
+// Registers a SMILES under an identifier.
+fn register(
+    alloc: Global,
+    store: &mut Store<MemDisk>,
+    id: u32,
+    text: &[u8],
+) -> Result<u32, CommitFault> {
+    if id == 0 || id > 999_999_999 {
+        return Err(CommitFault::NoMemory);
+    }
+    match Record::make(alloc, id, Format::Smiles, text) {
+        Ok(record) => store.commit(Change::Register(record)),
+        Err(_) => Err(CommitFault::NoMemory),
+    }
+}
+
+// How many commits a disk has.
+fn commits(alloc: Global, a: MemDisk) -> Result<u32, LoadFault> {
+    let b = MemDisk::new(alloc);
+    match Store::load(alloc, Disks { a, b }, 10) {
+        Ok(store) => {
+            let mut store = store;
+            match store.stats() {
+                Ok(stats) => Ok(stats.version),
+                Err(_) => Err(LoadFault::NoMemory),
+            }
+        }
+        Err((fault, _)) => Err(fault),
+    }
+}
+
+#[test]
+fn a_commit_is_on_the_disk(rt: HostRuntime) -> Result<(), Fail> {
+    let alloc = rt.alloc();
+    let mut store = Store::fresh(alloc, 2)?;
+    assert_eq!(rt; register(alloc, &mut store, 1, b"CCO"), Ok(1));
+    assert_eq!(rt;
+        register(alloc, &mut store, 1, b"CCO"),
+        Err(CommitFault::Known)
+    );
+    assert_eq!(rt; store.commit(Change::Withdraw(2)), Err(CommitFault::Absent));
+    assert_eq!(rt; store.commit(Change::Withdraw(1)), Ok(2));
+    assert_eq!(rt;
+        register(alloc, &mut store, 2, b"C"),
+        Err(CommitFault::Full)
+    );
+    let disks = store.into_disks();
+    let file = b"ZCHEMDB1Z\x09\0\0\0\x01\x01\0\0\0\x01CCOZ\x05\0\0\0\x03\x01\0\0\0\0";
+    assert_eq!(rt; disks.a.bytes(), file.as_slice());
+    assert_eq!(rt; commits(alloc, disks.a), Ok(2));
+    Ok(())
+}
+
+#[test]
+fn a_file_is_loaded_or_its_damage_told(rt: HostRuntime) -> Result<(), Fail> {
+    let alloc = rt.alloc();
+    let rows: [(&[u8], Result<u32, LoadFault>); 13] = [
+        (b"", Err(LoadFault::NotAStore)),
+        (b"ZCHEMDB2\0", Err(LoadFault::NotAStore)),
+        (b"ZCHEMDB1\0", Ok(0)),
+        (b"ZCHEMDB1", Err(LoadFault::Damaged(8))),
+        (b"ZCHEMDB1[\x07\0\0\0\x01\x01\0\0\0\x01C\0", Ok(0)),
+        (
+            b"ZCHEMDB1Z\x08\0\0\0\x01\x01\0\0\0\x01C\0",
+            Err(LoadFault::Damaged(21)),
+        ),
+        (
+            b"ZCHEMDB1Z\x07\0\0\0\x81\x01\0\0\0\x01C\0",
+            Err(LoadFault::Damaged(8)),
+        ),
+        (
+            b"ZCHEMDB1Z\x07\0\0\0\x01\x01\0\0\0\x01CZ\x07\0\0",
+            Err(LoadFault::Damaged(20)),
+        ),
+        (b"ZCHEMDB1Z\x07\0\0\0\x01\x01\0\0\0\x01C\0", Ok(1)),
+        (
+            b"ZCHEMDB1Z\x07\0\0\0\x01\x01\0\0\0\x01(\0",
+            Err(LoadFault::Damaged(8)),
+        ),
+        (
+            b"ZCHEMDB1Z\x05\0\0\0\x03\x01\0\0\0\0",
+            Err(LoadFault::Damaged(8)),
+        ),
+        (
+            b"ZCHEMDB1Z\x07\0\0\0\x01\x01\0\0\0\x01CZ\x07\0\0\0\x01\x01\0\0\0\x01C\0",
+            Err(LoadFault::Damaged(20)),
+        ),
+        (
+            b"ZCHEMDB1Z\x05\0\0\0\x03\x01\0\0\0Z\0\0\0\0\0",
+            Err(LoadFault::Damaged(18)),
+        ),
+    ];
+    for (file, want) in rows {
+        let disk = MemDisk::of(alloc, file.to_vec(alloc)?)?;
+        assert_eq!(rt; commits(alloc, disk), want, "{want:?}");
+    }
+    Ok(())
+}
+
+#[test]
+fn a_crash_leaves_the_commit_or_not(rt: HostRuntime) -> Result<(), Fail> {
+    let alloc = rt.alloc();
+    let rows: [(u64, Result<u32, CommitFault>, [u32; 6]); 5] = [
+        (
+            0,
+            Err(CommitFault::DiskFault { doubt: false }),
+            [1, 1, 1, 1, 1, 1],
+        ),
+        (
+            1,
+            Err(CommitFault::DiskFault { doubt: false }),
+            [1, 1, 1, 1, 1, 1],
+        ),
+        (
+            2,
+            Err(CommitFault::DiskFault { doubt: true }),
+            [1, 1, 2, 1, 1, 1],
+        ),
+        (
+            3,
+            Err(CommitFault::DiskFault { doubt: true }),
+            [2, 1, 2, 1, 1, 1],
+        ),
+        (4, Ok(2), [2, 2, 2, 2, 2, 2]),
+    ];
+    for (calls, answer, left) in rows {
+        for choice in 0..6 {
+            let mut store = Store::fresh(alloc, 10)?;
+            assert_eq!(rt; register(alloc, &mut store, 1, b"CCO"), Ok(1));
+            store.stop_after(calls);
+            assert_eq!(rt; register(alloc, &mut store, 2, b"C"), answer, "{calls}");
+            let disk = store.into_disks().a.image(choice);
+            assert_eq!(rt;
+                commits(alloc, disk),
+                Ok(left[choice as usize]),
+                "{calls} {choice}"
+            );
+        }
+    }
+    Ok(())
+}
+
+#[test]
+fn a_failed_call_leaves_a_store_that_commits(rt: HostRuntime) -> Result<(), Fail> {
+    let alloc = rt.alloc();
+    for (call, doubt) in [(1, false), (2, false), (3, true), (4, true)] {
+        let mut store = Store::fresh(alloc, 10)?;
+        store.fail_once(call);
+        assert_eq!(rt;
+            register(alloc, &mut store, 1, b"C"),
+            Err(CommitFault::DiskFault { doubt }),
+            "{call}"
+        );
+        store.fail_once(1);
+        assert_eq!(rt;
+            register(alloc, &mut store, 1, b"N"),
+            Err(CommitFault::DiskFault { doubt: false }),
+            "{call}"
+        );
+        assert_eq!(rt; register(alloc, &mut store, 1, b"O"), Ok(1), "{call}");
+        let disk = store.into_disks().a;
+        let file = b"ZCHEMDB1Z\x07\0\0\0\x01\x01\0\0\0\x01O\0";
+        assert_eq!(rt; disk.bytes(), file.as_slice(), "{call}");
+        assert_eq!(rt; commits(alloc, disk), Ok(1), "{call}");
+    }
+    Ok(())
+}
