@@ -1,5 +1,7 @@
--- For callers: what a request does and is answered: the calls that it makes with their replies, in order, its reply lines, and the cursors after it.
--- Want of memory may take the place of a reply; the request has then done nothing, but a search may have listed some of its hits.
+-- For callers: what a request does and is answered: the calls that it makes with their replies, in order, its reply
+-- lines, and the cursors after it.
+-- Want of memory may take the place of a reply; the request has then done nothing, but a search may have listed some of
+-- its hits.
 use Rattle.std.specs.Prelude.{◌≡◌, ◌⊎◌, ℕ, ◌+◌, Bool, true, false, if◌then◌else◌, List, [], ◌∷◌, ◌++◌, length, map, Option, None, Some, Result, Ok, Err}
 use Rattle.io_edge.specs.Lines.{Whole}
 use Rattle.mol_finish.specs.declared.fault.Format.{Format}
@@ -85,12 +87,14 @@ IsPruneLine (replies.Pruned count) said = said ≡ line.Pruned count
 IsPruneLine _ said = ⊥
 
 abbrev pub IsStatsLine : Reply → line.Reply → Type 0
-IsStatsLine (replies.Counted version live withdrawn kept pins) said = said ≡ line.Counts version live withdrawn kept pins
+IsStatsLine (replies.Counted version live withdrawn kept pins) said =
+    said ≡ line.Counts version live withdrawn kept pins
 IsStatsLine _ said = ⊥
 
 -- Searches. The text is no pattern
 abbrev pub IsNoPattern : List ℕ → Calls → Lines → Type 0
-IsNoPattern text calls lines = (fault : SmartsFault) × IsPatternFault text fault × Refuses (refusals.Pattern fault) calls lines
+IsNoPattern text calls lines = (fault : SmartsFault) × IsPatternFault text fault
+    × Refuses (refusals.Pattern fault) calls lines
 
 -- no pin is free
 abbrev pub FindsNoPin : Calls → Lines → Type 0
@@ -98,11 +102,13 @@ FindsNoPin calls lines = (calls ≡ (events.Pin, replies.NoPin) ∷ []) × (line
 
 -- some of the hits, and then memory ran out
 abbrev pub IsCutShort : List ℕ → Lines → Type 0
-IsCutShort hits lines = (some others : List ℕ) × (hits ≡ some ++ others) × (lines ≡ map line.Hit some ++ line.MemoryFault ∷ [])
+IsCutShort hits lines = (some others : List ℕ) × (hits ≡ some ++ others)
+    × (lines ≡ map line.Hit some ++ line.MemoryFault ∷ [])
 
 -- a search that came to its end lists its hits and their end, or is cut short; any other is cut short
 abbrev pub Lists : Place → ℕ → ℕ → List ℕ → Lines → Type 0
-Lists End version tried hits lines = (lines ≡ map line.Hit hits ++ line.End version tried (length hits) ∷ []) ⊎ IsCutShort hits lines
+Lists End version tried hits lines = (lines ≡ map line.Hit hits ++ line.End version tried (length hits) ∷ [])
+    ⊎ IsCutShort hits lines
 Lists (At from) version tried hits lines = IsCutShort hits lines
 
 -- a pin, pages, and the pin is given back
@@ -121,10 +127,12 @@ abbrev pub SearchAnswer : ℕ → List ℕ → Calls → Lines → Type 0
 SearchAnswer size text calls lines =
     IsNoPattern text calls lines
     ⊎ (FindsNoMemory calls lines
-    ⊎ ((pattern : PatternTerm) × IsPatternOf text pattern × (FindsNoPin calls lines ⊎ Searches size pattern calls lines)))
+    ⊎ ((pattern : PatternTerm) × IsPatternOf text pattern
+    × (FindsNoPin calls lines ⊎ Searches size pattern calls lines)))
 
 -- Cursors. `open` takes a pin at the head
-pub record Opens (name : List ℕ) (pattern : PatternTerm) (cursors : List Cursor) (calls : Calls) (lines : Lines) (cursors' : List Cursor) : Type 0 where
+pub record Opens (name : List ℕ) (pattern : PatternTerm) (cursors : List Cursor) (calls : Calls) (lines : Lines)
+    (cursors' : List Cursor) : Type 0 where
   pub want : List Bool
   pub slot : ℕ
   pub version : ℕ
@@ -147,7 +155,8 @@ OpenAnswer name text cursors calls lines cursors' =
     ((IsNoPattern text calls lines ⊎ FindsNoMemory calls lines) × (cursors' ≡ cursors))
     ⊎ ((pattern : PatternTerm) × IsPatternOf text pattern
     × ((¬ IsNoName cursors name × Refuses refusals.Cursor calls lines × (cursors' ≡ cursors))
-    ⊎ (IsNoName cursors name × ((FindsNoPin calls lines × (cursors' ≡ cursors)) ⊎ Opens name pattern cursors calls lines cursors'))))
+    ⊎ (IsNoName cursors name
+    × ((FindsNoPin calls lines × (cursors' ≡ cursors)) ⊎ Opens name pattern cursors calls lines cursors'))))
 
 -- `next`: a page, and the cursor after it; after the last page the end alone
 abbrev pub after_page : Cursor → ℕ → List Found → Bool → List ℕ → Cursor
@@ -174,7 +183,8 @@ abbrev pub Advances : ℕ → Place → Cursor → Calls → Lines → Cursor �
 Advances size End c calls lines c' = Says (page_end true c) calls lines × (c' ≡ c)
 Advances size (At from) c calls lines c' =
     Turns size from c calls lines c'
-    ⊎ ((calls ≡ (events.Fetch c.slot c.want from size, replies.NoMemory) ∷ []) × (lines ≡ line.MemoryFault ∷ []) × (c' ≡ c))
+    ⊎ ((calls ≡ (events.Fetch c.slot c.want from size, replies.NoMemory) ∷ []) × (lines ≡ line.MemoryFault ∷ [])
+    × (c' ≡ c))
 
 -- the cursor of a name is in its place among the others
 pub record IsNamed (name : List ℕ) (cursors before : List Cursor) (c : Cursor) (after : List Cursor) : Type 0 where
@@ -185,7 +195,8 @@ abbrev pub NextAnswer : ℕ → List ℕ → List Cursor → Calls → Lines →
 NextAnswer size name cursors calls lines cursors' =
     (IsNoName cursors name × Refuses refusals.Cursor calls lines × (cursors' ≡ cursors))
     ⊎ ((FindsNoMemory calls lines × (cursors' ≡ cursors))
-    ⊎ ((before after : List Cursor) × (c c' : Cursor) × IsNamed name cursors before c after × Advances size c.place c calls lines c'
+    ⊎ ((before after : List Cursor) × (c c' : Cursor) × IsNamed name cursors before c after
+    × Advances size c.place c calls lines c'
     × (cursors' ≡ before ++ c' ∷ after)))
 
 -- `close` gives the pin back
@@ -193,21 +204,26 @@ abbrev pub CloseAnswer : List ℕ → List Cursor → Calls → Lines → List C
 CloseAnswer name cursors calls lines cursors' =
     (IsNoName cursors name × Refuses refusals.Cursor calls lines × (cursors' ≡ cursors))
     ⊎ ((before after : List Cursor) × (c : Cursor) × IsNamed name cursors before c after
-    × (calls ≡ (events.Unpin c.slot, replies.Unpinned) ∷ []) × (lines ≡ line.Closed ∷ []) × (cursors' ≡ before ++ after))
+    × (calls ≡ (events.Unpin c.slot, replies.Unpinned) ∷ []) × (lines ≡ line.Closed ∷ [])
+    × (cursors' ≡ before ++ after))
 
 -- Requests. A line that takes no molfile, by what it is read as; pages have a size
 abbrev pub Answers : ℕ → List Cursor → Result Command LineRefusal → Calls → Lines → List Cursor → Type 0
-Answers size cursors (Err refusal) calls lines cursors' = Refuses (refusals.Line refusal) calls lines × (cursors' ≡ cursors)
+Answers size cursors (Err refusal) calls lines cursors' = Refuses (refusals.Line refusal) calls lines
+    × (cursors' ≡ cursors)
 Answers size cursors (Ok command.Empty) calls lines cursors' = (calls ≡ []) × (lines ≡ []) × (cursors' ≡ cursors)
 Answers size cursors (Ok (command.Register id text)) calls lines cursors' =
     TextAnswer (changes.Register id Smiles text) Smiles text calls lines × (cursors' ≡ cursors)
 Answers size cursors (Ok (command.Revise id text)) calls lines cursors' =
     TextAnswer (changes.Revise id Smiles text) Smiles text calls lines × (cursors' ≡ cursors)
-Answers size cursors (Ok (command.Withdraw id)) calls lines cursors' = Commits (changes.Withdraw id) calls lines × (cursors' ≡ cursors)
+Answers size cursors (Ok (command.Withdraw id)) calls lines cursors' = Commits (changes.Withdraw id) calls lines
+    × (cursors' ≡ cursors)
 Answers size cursors (Ok (command.Show id)) calls lines cursors' =
     (FindsNoMemory calls lines ⊎ Asks (events.Look id) (IsLookLine id) calls lines) × (cursors' ≡ cursors)
-Answers size cursors (Ok (command.Search text)) calls lines cursors' = SearchAnswer size text calls lines × (cursors' ≡ cursors)
-Answers size cursors (Ok (command.Start name text)) calls lines cursors' = OpenAnswer name text cursors calls lines cursors'
+Answers size cursors (Ok (command.Search text)) calls lines cursors' = SearchAnswer size text calls lines
+    × (cursors' ≡ cursors)
+Answers size cursors (Ok (command.Start name text)) calls lines cursors' =
+    OpenAnswer name text cursors calls lines cursors'
 Answers size cursors (Ok (command.Next name)) calls lines cursors' = NextAnswer size name cursors calls lines cursors'
 Answers size cursors (Ok (command.Close name)) calls lines cursors' = CloseAnswer name cursors calls lines cursors'
 Answers size cursors (Ok command.Prune) calls lines cursors' =
@@ -220,8 +236,10 @@ Answers size cursors (Ok (command.ReviseMol id)) calls lines cursors' = ⊥
 -- a line and its molfile, by what the line is read as
 abbrev pub MolfileAnswer : Result Command LineRefusal → List ℕ → Calls → Lines → Type 0
 MolfileAnswer (Err refusal) text calls lines = Refuses (refusals.Line refusal) calls lines
-MolfileAnswer (Ok (command.RegisterMol id)) text calls lines = TextAnswer (changes.Register id Molfile text) Molfile text calls lines
-MolfileAnswer (Ok (command.ReviseMol id)) text calls lines = TextAnswer (changes.Revise id Molfile text) Molfile text calls lines
+MolfileAnswer (Ok (command.RegisterMol id)) text calls lines =
+    TextAnswer (changes.Register id Molfile text) Molfile text calls lines
+MolfileAnswer (Ok (command.ReviseMol id)) text calls lines =
+    TextAnswer (changes.Revise id Molfile text) Molfile text calls lines
 MolfileAnswer (Ok _) text calls lines = ⊥
 
 -- a request that has no long line, with this line
@@ -234,4 +252,5 @@ LineAnswer size cursors line request calls lines cursors' = (read : Result Comma
 abbrev pub RequestAnswer : ℕ → List Cursor → Request → Calls → Lines → List Cursor → Type 0
 RequestAnswer size cursors request calls lines cursors' =
     (IsLong request × Refuses refusals.Long calls lines × (cursors' ≡ cursors))
-    ⊎ (¬ IsLong request × (line : List ℕ) × (request.line ≡ Whole line) × LineAnswer size cursors line request calls lines cursors')
+    ⊎ (¬ IsLong request × (line : List ℕ) × (request.line ≡ Whole line)
+    × LineAnswer size cursors line request calls lines cursors')

@@ -13,7 +13,8 @@ use Rattle.store_machine.specs.declared.machine.Reply.TheVariants.{Unpinned}
 abbrev pub Calls : Type 0
 Calls = List (Event × Reply)
 
--- An open cursor: its name, its pattern and what that needs, its pin, where its search stands, and how many identifiers its pages tried and listed
+-- An open cursor: its name, its pattern and what that needs, its pin, where its search stands, and how many identifiers
+-- its pages tried and listed
 pub record Cursor : Type 0 where
   pub name : List ℕ
   pub pattern : PatternTerm
@@ -41,8 +42,10 @@ abbrev pub AreFetches : ℕ → ℕ → List Bool → Calls → Type 0
 AreFetches slot size want [] = Unit {0}
 AreFetches slot size want (c ∷ cs) = IsFetch slot size want c.0 × AreFetches slot size want cs
 
--- These calls are a search for a pattern by pages of a size, from the beginning to a place. So many identifiers were tried, and these are the hits.
-pub record IsSearched (pattern : PatternTerm) (slot size : ℕ) (place : Place) (pages : Calls) (tried : ℕ) (hits : List ℕ) : Type 0 where
+-- These calls are a search for a pattern by pages of a size, from the beginning to a place. So many identifiers were
+-- tried, and these are the hits.
+pub record IsSearched (pattern : PatternTerm) (slot size : ℕ) (place : Place) (pages : Calls) (tried : ℕ)
+    (hits : List ℕ) : Type 0 where
   pub want : List Bool
   pub need : IsNeedOf pattern want
   pub fetches : AreFetches slot size want pages

@@ -14,7 +14,8 @@ use Rattle.session_run.specs.declared.stop.Stop.TheVariants as stops
 use Rattle.session_run.specs.declared.stop.Worn.{Worn}
 
 -- from one value of a service to a later one its caller's own calls are these
-pub record Makes {S : Type 0} (at : S → State → Type 0) (owns : S → ℕ → Bool) (stretch : S → S → State → List Step → State → Type 0) (old new : S) (calls : Calls) : Type 0 where
+pub record Makes {S : Type 0} (at : S → State → Type 0) (owns : S → ℕ → Bool)
+    (stretch : S → S → State → List Step → State → Type 0) (old new : S) (calls : Calls) : Type 0 where
   pub made : (s : State) → at old s → core.Calls stretch (owns old) old new s calls
 
 -- calls were made and this is left, so that these lines are due
@@ -35,7 +36,8 @@ pub record WornIn {X : Type 0} (Made : Calls → Type 0) (Is : Calls → Lines �
   pub is : Is whole lines after
 
 -- An answer behind a text. Where no memory is left for the lines, the calls were made all the same
-abbrev pub Answered : {X : Type 0} → (Calls → Type 0) → (Calls → Lines → X → Type 0) → List ℕ → List ℕ → X → Result (Unit {0}) Stop → Type 0
+abbrev pub Answered : {X : Type 0} → (Calls → Type 0) → (Calls → Lines → X → Type 0) → List ℕ → List ℕ → X
+    → Result (Unit {0}) Stop → Type 0
 Answered Made Is out out' after (Ok _) = (did : Did Made Is after) × (out' ≡ out ++ text_of did.lines)
 Answered Made Is out out' after (Err stops.NoMemory) = Did Made Is after
 Answered Made Is out out' after (Err stops.Worn) = WornIn Made Is
@@ -46,7 +48,8 @@ OneLine Made Is (Ok reply) = (calls : Calls) × Made calls × Is calls (reply_of
 OneLine Made Is (Err _) = Made []
 
 -- the same of an answer that leaves something
-abbrev pub OneLineIn : {X : Type 0} → (Calls → Type 0) → (Calls → Lines → X → Type 0) → X → Result written.Reply Worn → Type 0
+abbrev pub OneLineIn : {X : Type 0} → (Calls → Type 0) → (Calls → Lines → X → Type 0) → X → Result written.Reply Worn
+    → Type 0
 OneLineIn Made Is after (Ok reply) = (calls : Calls) × Made calls × Is calls (reply_of reply ∷ []) after
 OneLineIn Made Is after (Err _) = WornIn Made Is
 

@@ -33,7 +33,8 @@ BeginWith lines request rest = (more : List TextLine) × (lines ≡ request.line
 -- the lines are those of the requests, and the rest
 abbrev pub BeginWithAll : List TextLine → List Request → List TextLine → Type 0
 BeginWithAll lines [] rest = lines ≡ rest
-BeginWithAll lines (request ∷ requests) rest = (more : List TextLine) × BeginWith lines request more × BeginWithAll more requests rest
+BeginWithAll lines (request ∷ requests) rest = (more : List TextLine) × BeginWith lines request more
+    × BeginWithAll more requests rest
 
 -- none of the lines is the last of a molfile
 abbrev pub HasNoLast : List TextLine → Type 0

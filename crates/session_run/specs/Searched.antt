@@ -60,5 +60,6 @@ IsLastLine false end reply = reply_of reply ≡ line.MemoryFault
 
 -- the last line of a search was said, unless the service was worn
 abbrev pub SaysEnd : Result Bool Worn → Option written.Reply → List ℕ → List ℕ → Result (Unit {0}) Stop → Type 0
-SaysEnd (Ok whole) end out out' result = (reply : written.Reply) × IsLastLine whole end reply × Tells (reply_of reply) out out' result
+SaysEnd (Ok whole) end out out' result = (reply : written.Reply) × IsLastLine whole end reply
+    × Tells (reply_of reply) out out' result
 SaysEnd (Err _) end out out' result = result ≡ Err stops.Worn

@@ -1,4 +1,5 @@
--- For callers: what a session writes for a script, and the calls that it makes of its service, request by request. Other callers' steps do not occur.
+-- For callers: what a session writes for a script, and the calls that it makes of its service, request by request.
+-- Other callers' steps do not occur.
 use Rattle.std.specs.Prelude.{◌≡◌, ◌⊎◌, ℕ, List, [], ◌∷◌, ◌++◌}
 use Rattle.io_edge.specs.Lines.{TextLine}
 use Rattle.shell_lang.specs.Reply.{text_of}
@@ -17,14 +18,17 @@ AreAnswered size cursors (request ∷ requests) calls text cursors' =
     × RequestAnswer size cursors request own lines between × (calls ≡ own ++ more) × (text ≡ text_of lines ++ rest)
     × AreAnswered size between requests more rest cursors'
 
--- the text is the replies to the requests that all the lines are; at the end the pins of the open cursors are given back
+-- the text is the replies to the requests that all the lines are; at the end the pins of the open cursors are given
+-- back
 abbrev pub IsTranscript : ℕ → List TextLine → Calls → List ℕ → Type 0
 IsTranscript size lines calls text =
     (requests : List Request) × (own : Calls) × (cursors : List Cursor)
     × BeginWithAll lines requests [] × AreAnswered size [] requests own text cursors × (calls ≡ own ++ unpins cursors)
 
--- Some first requests of a script were answered, and then there may be the calls of the next one and a prefix of its reply.
-pub record Stops (size : ℕ) (lines : List TextLine) (calls : Calls) (text : List ℕ) (cursors : List Cursor) : Type 0 where
+-- Some first requests of a script were answered, and then there may be the calls of the next one and a prefix of its
+-- reply.
+pub record Stops (size : ℕ) (lines : List TextLine) (calls : Calls) (text : List ℕ)
+    (cursors : List Cursor) : Type 0 where
   pub requests : List Request
   pub left : List TextLine
   pub begin : BeginWithAll lines requests left

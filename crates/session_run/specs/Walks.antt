@@ -26,7 +26,8 @@ use Rattle.session_run.specs.declared.stop.Worn.{Worn}
 
 -- some of the hits, from the first on, were written behind a text
 abbrev pub ArePartlyWritten : List ℕ → List ℕ → List ℕ → Type 0
-ArePartlyWritten hits out out' = (some others : List ℕ) × (hits ≡ some ++ others) × (out' ≡ out ++ text_of (map line.Hit some))
+ArePartlyWritten hits out out' = (some others : List ℕ) × (hits ≡ some ++ others)
+    × (out' ≡ out ++ text_of (map line.Hit some))
 
 -- all of them were, or some
 abbrev pub AreWritten : Bool → List ℕ → List ℕ → List ℕ → Type 0
@@ -60,7 +61,9 @@ pub record IsNoPage (Made : Calls → Type 0) (old new : SearchTerm) (out out' :
 pub record IsLost (Made : Calls → Type 0) (old new : SearchTerm) (out out' : List ℕ) : Type 0 where
   pub calls : Calls
   pub made : Made calls
-  pub by : (calls ≡ []) ⊎ ((from : ℕ) × (old.place ≡ At from) × (calls ≡ (events.Fetch old.slot old.want from old.size, replies.NoMemory) ∷ []))
+  pub by : (calls ≡ [])
+      ⊎ ((from : ℕ) × (old.place ≡ At from)
+      × (calls ≡ (events.Fetch old.slot old.want from old.size, replies.NoMemory) ∷ []))
   pub same : new ≡ old
   pub unwritten : out' ≡ out
 
@@ -124,7 +127,8 @@ GivesNone (Ok reply) = ⊥
 GivesNone (Err _) = Unit {0}
 
 -- a cursor of this name was added for a search that began, or why none was
-abbrev pub Adds : List ℕ → Result Walk SearchFault → List rust.Cursor → List rust.Cursor → Result written.Reply Worn → Type 0
+abbrev pub Adds : List ℕ → Result Walk SearchFault → List rust.Cursor → List rust.Cursor → Result written.Reply Worn
+    → Type 0
 Adds name (Ok walk) items items' result =
     (c : rust.Cursor) × (c.name.items ≡ name) × (c.walk ≡ walk) × (items' ≡ items ++ c ∷ [])
     × GivesLine (line.Opened walk.search.version) result
@@ -133,7 +137,8 @@ Adds name (Err faults.NoMemory) items items' result = (items' ≡ items) × Give
 Adds name (Err faults.Worn) items items' result = (items' ≡ items) × GivesNone result
 
 -- pages from the beginning on, by these calls. All their hits were written, or some
-pub record Listing (Made : Calls → Type 0) (begun now : SearchTerm) (tried count : ℕ) (out : List ℕ) (whole : Bool) (out' : List ℕ) : Type 0 where
+pub record Listing (Made : Calls → Type 0) (begun now : SearchTerm) (tried count : ℕ) (out : List ℕ) (whole : Bool)
+    (out' : List ℕ) : Type 0 where
   pub pages : Calls
   pub hits : List ℕ
   pub made : Made pages
@@ -145,6 +150,9 @@ pub record Listing (Made : Calls → Type 0) (begun now : SearchTerm) (tried cou
 
 -- a search was listed to its end, or was cut short
 abbrev pub Listed : (Calls → Type 0) → Walk → Walk → List ℕ → List ℕ → Result Bool Worn → Type 0
-Listed Made old new out out' (Ok true) = Listing Made old.search new.search new.tried new.hits out true out' × (new.search.place ≡ End)
-Listed Made old new out out' (Ok false) = (tried count : ℕ) × Listing Made old.search new.search tried count out false out'
-Listed Made old new out out' (Err _) = (tried count : ℕ) × (whole : Bool) × Listing Made old.search new.search tried count out whole out'
+Listed Made old new out out' (Ok true) = Listing Made old.search new.search new.tried new.hits out true out'
+    × (new.search.place ≡ End)
+Listed Made old new out out' (Ok false) = (tried count : ℕ)
+    × Listing Made old.search new.search tried count out false out'
+Listed Made old new out out' (Err _) = (tried count : ℕ) × (whole : Bool)
+    × Listing Made old.search new.search tried count out whole out'
