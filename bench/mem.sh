@@ -1,41 +1,61 @@
 #!/usr/bin/env bash
-# Registers 20,000 chains of 20 atoms in memory and searches once; prints lines per second and peak memory.
-# Usage: bench/mem.sh [LINES]
+# Registers drug-like structures in memory and searches them; prints registrations per second, memory for each record, and
+# nanoseconds for each record of a search, the least of three runs each.
+# Usage: bench/mem.sh [STRUCTURES]
 set -euo pipefail
 cd "$(dirname "${BASH_SOURCE[0]}")/.."
-lines=${1:-20000}
-script=$(mktemp)
-output=$(mktemp)
-trap 'rm -f "$script" "$output"' EXIT
-# Chains of 20 atoms from a generator of fixed seed, under identifiers in mixed order.
-python3 - "$lines" >"$script" <<'PY'
-import random
-import sys
-
-count = int(sys.argv[1])
-draw = random.Random(1)
-identifiers = list(range(1, count + 1))
-draw.shuffle(identifiers)
-for identifier in identifiers:
-    text = "".join(draw.choice(["C", "C", "C", "N", "O", "S", "F"]) + draw.choice(["", "", "", "="]) for _ in range(19)) + "C"
-    print("register", identifier, text[:32].rstrip("="))
-print("search C=O")
-PY
 ./chemdb mem </dev/null   # builds it
-/usr/bin/env python3 - "$script" "$output" "$lines" <<'PY'
+python3 - "${1:-20000}" <<'PY'
+import os
 import resource
 import subprocess
 import sys
 import time
 
-script, output, lines = sys.argv[1], sys.argv[2], int(sys.argv[3])
-start = time.monotonic()
-with open(script) as taken, open(output, "w") as put:
-    status = subprocess.run(["crates/chemdb/out/chemdb", "mem"], stdin=taken, stdout=put).returncode
-seconds = time.monotonic() - start
-peak = resource.getrusage(resource.RUSAGE_CHILDREN).ru_maxrss / 1024
-with open(output) as put:
-    last = put.read().splitlines()[-1]
-print(f"status {status}; {last}")
-print(f"{lines + 1} lines in {seconds:.3f} s: {(lines + 1) / seconds:,.0f} lines per second; peak memory {peak:.1f} MiB")
+PROGRAM = "crates/chemdb/out/chemdb"
+DRUGS = [
+    "CC(C)Cc1ccc(cc1)C(C)C(=O)NCCN1CCOCC1",
+    "Cc1ccc(NC(=O)c2ccc(CN3CCN(C)CC3)cc2)cc1Nc1nccc(-c2cccnc2)n1",
+    "CCCc1nn(C)c2c1nc([nH]c2=O)-c1cc(ccc1OCC)S(=O)(=O)N1CCN(C)CC1",
+    "CN(C)CCCN1c2ccccc2Sc2ccc(Cl)cc21",
+    "COc1ccc2nc(S(=O)Cc3ncc(C)c(OC)c3C)[nH]c2c1",
+    "CC1(C)SC2C(NC(=O)C(N)c3ccccc3)C(=O)N2C1C(=O)O",
+    "OC(=O)COCCN1CCN(CC1)C(c1ccccc1)c1ccc(Cl)cc1",
+    "Fc1ccc(cc1)C(=O)C1CCN(CCN2C(=O)Nc3ccccc3C2=O)CC1",
+    "COc1cc(Cc2cnc(N)nc2N)cc(OC)c1OC",
+    "O=C(O)c1cn(C2CC2)c2cc(N3CCNCC3)c(F)cc2c1=O",
+]
+SEARCHES = 20
+
+
+def run(script):
+    """Seconds, the peak memory in bytes, and the last line."""
+    start = time.monotonic()
+    child = subprocess.Popen([PROGRAM, "mem"], stdin=subprocess.PIPE, stdout=subprocess.PIPE)
+    out, _ = child.communicate(script.encode())
+    seconds = time.monotonic() - start
+    assert child.returncode == 0, child.returncode
+    return seconds, (out.decode().splitlines() or [""])[-1]
+
+
+def peak(script):
+    reader, writer = os.pipe()
+    child = os.fork()
+    if child == 0:
+        run(script)
+        os.write(writer, str(resource.getrusage(resource.RUSAGE_CHILDREN).ru_maxrss).encode())
+        os._exit(0)
+    os.waitpid(child, 0)
+    return int(os.read(reader, 64)) * 1024
+
+
+count = int(sys.argv[1])
+registers = "".join(f"register {i + 1} {DRUGS[i % len(DRUGS)]}\n" for i in range(count))
+alone = min(run(registers)[0] for _ in range(3))
+record = (peak(registers) - peak("")) / count
+print(f"{count} structures of 17 to 37 atoms: {count / alone:,.0f} registrations per second, {record:,.0f} bytes for each record")
+for pattern in ["C(=O)[OX2H]", "[NX3;H2]", "c1ccccc1"]:
+    with_searches = min(run(registers + f"search {pattern}\n" * SEARCHES) for _ in range(3))
+    each = (with_searches[0] - alone) / SEARCHES / count
+    print(f"search {pattern}: {each * 1e9:,.0f} ns for each record; {with_searches[1]}")
 PY
