@@ -1,10 +1,5 @@
-pub mod HistoryLemmas
-pub mod SessionLemmas
-pub mod MolfileLemmas
-pub mod AnswerLemmas
-pub mod HitsLemmas
-pub mod EndsLemmas
-pub mod Texts
-pub mod OneTranscript
-pub mod WordsLemmas
+pub mod Ends
+pub mod Transcripts
+pub mod Summaries
+pub mod Asked
 pub mod WordsExamples

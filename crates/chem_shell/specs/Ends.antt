@@ -1,22 +1,44 @@
--- The ends that are served.
+-- The ends that are served. What a source has left and a sink was given, and their counts of faults, are told by
+-- functions.
 use Rattle.std.specs.Prelude.{◌≡◌, ℕ, Option, List}
 use Rattle.io_edge.specs.Faults.{Rose}
-use Rattle.chem_shell.specs.declared.session.TheConstants.{INPUT_LIMIT}
+use Rattle.session_run.specs.Served.{TakesExactly, Writes}
+use Rattle.chem_shell.specs.declared.request.Plan.{Plan}
+use Rattle.chem_shell.specs.declared.request.Verb.{Verb}
+use Rattle.chem_shell.specs.declared.request.Verb.TheVariants.{Mem, Bulk}
 use Rattle.chem_shell.specs.declared.top.End.{End}
-use Rattle.chem_shell.specs.declared.top.TheConstants.{DONE, SOURCE_FAULT, SINK_FAULT, INPUT_TOO_LONG}
-use Rattle.chem_shell.specs.Served.{WritesPrefix, WritesAll, TakesExactly}
-use Rattle.chem_shell.specs.Status.{IsEndStatus}
+use Rattle.chem_shell.specs.declared.top.TheConstants.{DONE, SOURCE_FAULT, SINK_FAULT, NO_MEMORY, INPUT_TOO_LONG, INPUT_LIMIT}
+use Rattle.chem_shell.specs.Served.{WritesPrefix, WritesAll}
+use Rattle.chem_shell.specs.Status.{IsEndStatus, IsSinkStatus}
+use Rattle.chem_shell.specs.Summed.{IsSummary, IsSummaryPrefix, WritesNothing}
 
 -- the end, with this status
 abbrev pub with_status : {S K : Type 0} → ℕ → End S K → End S K
 with_status status end = record end { status = status }
 
--- What serving an end by a session over an empty store, which may have so many commits, leaves of it. What a source has
--- left and a sink was given, and their counts of faults, are told by the four functions.
-pub record IsServed {S K : Type 0} (commits : ℕ) (left : S → Option (List ℕ)) (source_faults : S → ℕ) (written : K → Option (List ℕ)) (sink_faults : K → ℕ) (old new : End S K) : Type 0 where
+-- what `mem` leaves of an end
+pub record ServesMem {S K : Type 0} (plan : Plan) (left : S → Option (List ℕ)) (source_faults : S → ℕ)
+    (written : K → Option (List ℕ)) (sink_faults : K → ℕ) (old new : End S K) : Type 0 where
   pub status : IsEndStatus new.status
-  pub prefix : WritesPrefix commits (left old.source) (written old.sink) (written new.sink)
-  pub all : new.status ≡ DONE → WritesAll commits (left old.source) (written old.sink) (written new.sink)
+  pub prefix : WritesPrefix plan.commits plan.page (left old.source) (written old.sink) (written new.sink)
+  pub all : new.status ≡ DONE → WritesAll plan.commits plan.page (left old.source) (written old.sink) (written new.sink)
   pub source_fault : new.status ≡ SOURCE_FAULT → Rose (source_faults old.source) (source_faults new.source)
   pub sink_fault : new.status ≡ SINK_FAULT → Rose (sink_faults old.sink) (sink_faults new.sink)
   pub input_too_long : new.status ≡ INPUT_TOO_LONG → TakesExactly (left old.source) (left new.source) INPUT_LIMIT
+
+-- what `bulk` leaves of an end
+pub record ServesBulk {S K : Type 0} (plan : Plan)
+    (written : K → Option (List ℕ)) (sink_faults : K → ℕ) (old new : End S K) : Type 0 where
+  pub status : IsSinkStatus new.status
+  pub source : new.source ≡ old.source
+  pub all : new.status ≡ DONE → Writes (written old.sink) (written new.sink) (IsSummary plan)
+  pub prefix : new.status ≡ SINK_FAULT → Writes (written old.sink) (written new.sink) (IsSummaryPrefix plan)
+  pub nothing : new.status ≡ NO_MEMORY → WritesNothing (written old.sink) (written new.sink)
+  pub sink_fault : new.status ≡ SINK_FAULT → Rose (sink_faults old.sink) (sink_faults new.sink)
+
+-- what the command of a plan leaves of an end
+abbrev pub Serves : {S K : Type 0} → Verb → Plan → (S → Option (List ℕ)) → (S → ℕ) → (K → Option (List ℕ)) → (K → ℕ)
+    → End S K → End S K → Type 0
+Serves Mem plan left source_faults written sink_faults old new =
+    ServesMem plan left source_faults written sink_faults old new
+Serves Bulk plan left source_faults written sink_faults old new = ServesBulk plan written sink_faults old new

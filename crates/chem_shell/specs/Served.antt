@@ -1,23 +1,15 @@
--- What a call wrote for a script over a store that may have so many commits, where the source tells its bytes and the
--- sink what was put.
-use Rattle.std.specs.Prelude.{◌≡◌, ℕ, List, [], ◌++◌, length, Option, Some, IfSome}
-use Rattle.io_edge.specs.Lines.{lines_of}
-use Rattle.chem_shell.specs.Transcript.{IsTranscript, IsTranscriptPrefix}
+-- For callers: what `mem` wrote for the bytes of its source, where the source tells them and the sink what was put. The
+-- store may have so many commits, and pages have a size.
+use Rattle.std.specs.Prelude.{ℕ, List, Option, IfSome}
+use Rattle.session_run.specs.Served.{Writes}
+use Rattle.chem_shell.specs.Runs.{IsTranscript, IsTranscriptPrefix}
 
--- some text with P was put behind what was put before
-abbrev pub Writes : Option (List ℕ) → Option (List ℕ) → (List ℕ → Type 0) → Type 0
-Writes before after P = IfSome before (λ old. (text : List ℕ) × (after ≡ Some (old ++ text)) × P text)
+-- a transcript of the source's bytes
+abbrev pub WritesAll : ℕ → ℕ → Option (List ℕ) → Option (List ℕ) → Option (List ℕ) → Type 0
+WritesAll commits page input before after =
+    IfSome input (λ script. Writes before after (IsTranscript commits page script))
 
--- a prefix of the transcript of the input, from the empty history on
-abbrev pub WritesPrefix : ℕ → Option (List ℕ) → Option (List ℕ) → Option (List ℕ) → Type 0
-WritesPrefix commits input before after =
-    IfSome input (λ bytes. Writes before after (IsTranscriptPrefix commits [] (lines_of bytes)))
-
--- the whole transcript of the input, from the empty history on
-abbrev pub WritesAll : ℕ → Option (List ℕ) → Option (List ℕ) → Option (List ℕ) → Type 0
-WritesAll commits input before after =
-    IfSome input (λ bytes. Writes before after (IsTranscript commits [] (lines_of bytes)))
-
--- so many bytes were taken, where it is told
-abbrev pub TakesExactly : Option (List ℕ) → Option (List ℕ) → ℕ → Type 0
-TakesExactly before after n = IfSome before (λ old. (got rest : List ℕ) × (old ≡ got ++ rest) × (after ≡ Some rest) × (length got ≡ n))
+-- a prefix of one
+abbrev pub WritesPrefix : ℕ → ℕ → Option (List ℕ) → Option (List ℕ) → Option (List ℕ) → Type 0
+WritesPrefix commits page input before after =
+    IfSome input (λ script. Writes before after (IsTranscriptPrefix commits page script))

@@ -1,10 +1,22 @@
--- What the words of the command line ask for.
-use Rattle.std.specs.Prelude.{◌≡◌, ◌≤◌, ℕ, List, [], ◌∷◌, Option, Some, None, true, codes, decimal}
+-- For callers: what the words of the command line ask for.
+use Rattle.std.specs.Prelude.{◌≡◌, ◌⊎◌, ◌≤◌, ℕ, List, [], ◌∷◌, map, option_map, Option, Some, None, true, codes, decimal}
+use Rattle.std.specs.Borrow.{Bor}
 use Rattle.clap.specs.Lexer.{usize_max}
 use Rattle.clap.specs.Simple.{new_shape}
 use Rattle.clap.specs.Words.{App, Row, Rule, Text, all_of, fault_of, first_of, matches_of, new_rule}
+use Rattle.store_core.specs.declared.store.TheConstants.{MOST_COMMITS}
 use Rattle.chem_shell.specs.declared.request.Plan.{Plan}
-use Rattle.chem_shell.specs.declared.request.Verb.TheVariants.{Mem}
+use Rattle.chem_shell.specs.declared.request.Verb.{Verb}
+use Rattle.chem_shell.specs.declared.request.Verb.TheVariants.{Mem, Bulk}
+use Rattle.chem_shell.specs.declared.words.TheConstants.{LAST_SEED, MOST_STRUCTURES}
+
+-- the bytes of words
+abbrev pub texts : List (Bor Text) → List Text
+texts words = map (λ word. word.now) words
+
+-- the bytes of the values of an argument, where it has an entry
+abbrev pub args_of : Option (Bor (List (Bor Text))) → Option (List Text)
+args_of args = option_map (λ words. texts words.now) args
 
 -- the positional that must be given: the word of the command
 abbrev pub command_rule : Rule
@@ -12,7 +24,9 @@ command_rule = record (new_rule (codes "command")) { required = true }
 
 -- the last positional, of any number of values
 abbrev pub args_rule : Rule
-args_rule = record (new_rule (codes "args")) { range = Some (record { start_inclusive = 0; end_inclusive = usize_max }) }
+args_rule = record (new_rule (codes "args")) {
+  range = Some (record { start_inclusive = 0; end_inclusive = usize_max });
+}
 
 -- an option of one value
 abbrev pub option_rule : Text → Rule
@@ -22,7 +36,8 @@ option_rule name = record (new_rule name) { long = Some name }
 abbrev pub chemdb_app : App
 chemdb_app = record {
   top = record (new_shape (codes "chemdb")) {
-    rules = command_rule ∷ args_rule ∷ option_rule (codes "workers") ∷ option_rule (codes "page") ∷ option_rule (codes "commits") ∷ [];
+    rules = command_rule ∷ args_rule
+        ∷ option_rule (codes "workers") ∷ option_rule (codes "page") ∷ option_rule (codes "commits") ∷ [];
     no_binary_name = true;
     disable_help_flag = true;
     disable_version_flag = true;
@@ -30,17 +45,25 @@ chemdb_app = record {
   subs = [];
 }
 
--- the number that an option gives: a decimal from 1 to `most`, and the default where the option is not given
+-- the word is the decimal of this number, which is in a range
+abbrev pub IsNumber : Text → ℕ → ℕ → ℕ → Type 0
+IsNumber word least most n = (word ≡ decimal n) × (least ≤ n) × (n ≤ most)
+
+-- the number that an option gives, from 1 on, and the default where the option is not given
 abbrev pub IsSetting : Option Text → ℕ → ℕ → ℕ → Type 0
 IsSetting None most default n = n ≡ default
-IsSetting (Some text) most default n = (text ≡ decimal n) × (1 ≤ n) × (n ≤ most)
+IsSetting (Some word) most default n = IsNumber word 1 most n
 
--- `mem`: no args, 1 to 16 workers, pages of 1 to 256 records, 1 to 16,777,215 commits, one end
+-- 1 to 16 workers, pages of 1 to 256 records
+abbrev pub AreSizes : List Row → ℕ → ℕ → Type 0
+AreSizes found workers page =
+    IsSetting (first_of (codes "workers") found) 16 1 workers × IsSetting (first_of (codes "page") found) 256 256 page
+
+-- `mem`: no args, 1 to 16,777,215 commits, one end
 pub record IsMem (found : List Row) (plan : Plan) : Type 0 where
   pub args : all_of (codes "args") found ≡ None
-  pub workers : IsSetting (first_of (codes "workers") found) 16 1 plan.workers
-  pub page : IsSetting (first_of (codes "page") found) 256 256 plan.page
-  pub commits : IsSetting (first_of (codes "commits") found) 16777215 16777215 plan.commits
+  pub sizes : AreSizes found plan.workers plan.page
+  pub commits : IsSetting (first_of (codes "commits") found) MOST_COMMITS MOST_COMMITS plan.commits
   pub command : plan.command ≡ Mem
   pub ends : plan.ends ≡ 1
   pub file : plan.file ≡ None
@@ -48,12 +71,48 @@ pub record IsMem (found : List Row) (plan : Plan) : Type 0 where
   pub seed : plan.seed ≡ 0
   pub count : plan.count ≡ 0
 
+-- the args are a seed from 1 on and a count of structures
+pub record AreSeedAndCount (args : Option (List Text)) (seed count : ℕ) : Type 0 where
+  pub seed_word : Text
+  pub count_word : Text
+  pub two : args ≡ Some (seed_word ∷ count_word ∷ [])
+  pub seed_is : IsNumber seed_word 1 LAST_SEED seed
+  pub count_is : IsNumber count_word 0 MOST_STRUCTURES count
+
+-- `bulk`: a seed and a count, no limit on commits but that of every store, one end
+pub record IsBulk (found : List Row) (plan : Plan) : Type 0 where
+  pub args : AreSeedAndCount (all_of (codes "args") found) plan.seed plan.count
+  pub sizes : AreSizes found plan.workers plan.page
+  pub none : first_of (codes "commits") found ≡ None
+  pub commits : plan.commits ≡ MOST_COMMITS
+  pub command : plan.command ≡ Bulk
+  pub ends : plan.ends ≡ 1
+  pub file : plan.file ≡ None
+  pub scripts : plan.scripts.items ≡ []
+
+-- the table of commands
+abbrev pub IsRow : Option Text → List Row → Plan → Type 0
+IsRow command found plan =
+    ((command ≡ Some (codes "mem")) × IsMem found plan) ⊎ ((command ≡ Some (codes "bulk")) × IsBulk found plan)
+
 -- `clap` finds no fault in the words, and their match is a row of the table that has this plan
 pub record AsksFor (words : List Text) (plan : Plan) : Type 0 where
   pub taken : fault_of chemdb_app words ≡ []
-  pub command : first_of (codes "command") (matches_of chemdb_app words) ≡ Some (codes "mem")
-  pub row : IsMem (matches_of chemdb_app words) plan
+  pub row : IsRow (first_of (codes "command") (matches_of chemdb_app words)) (matches_of chemdb_app words) plan
 
 -- the words have a plan
 abbrev pub Asks : List Text → Type 0
 Asks words = (plan : Plan) × AsksFor words plan
+
+-- P holds of the plan of the words, where it has this command
+abbrev pub OnPlan : List Text → Verb → (Plan → Type 0) → Type 0
+OnPlan words verb P = (plan : Plan) → AsksFor words plan → plan.command ≡ verb → P plan
+
+-- the settings of a plan are within their limits
+pub record IsWithinLimits (plan : Plan) : Type 0 where
+  pub some_workers : 1 ≤ plan.workers
+  pub few_workers : plan.workers ≤ 16
+  pub some_records : 1 ≤ plan.page
+  pub few_records : plan.page ≤ 256
+  pub some_commits : 1 ≤ plan.commits
+  pub few_commits : plan.commits ≤ MOST_COMMITS

@@ -1,6 +1,5 @@
 //! A request: what the words of the command line ask for.
 
-use std::alloc::AllocError;
 use thiserror::Error;
 
 /// A command.
@@ -8,6 +7,8 @@ use thiserror::Error;
 pub enum Verb {
     /// One session over a store in memory.
     Mem,
+    /// A generated script on a store in memory, and the summary of its transcript.
+    Bulk,
 }
 
 /// What the words ask for: a command and its settings.
@@ -26,9 +27,9 @@ pub struct Plan<'w> {
     pub page: u32,
     /// The most commits that a store may have, 1 to 16,777,215.
     pub commits: u32,
-    /// The seed of a generated script.
+    /// The seed of a generated script, 1 to 2,147,483,646; 0 where the command has none.
     pub seed: u32,
-    /// How many structures a generated script registers.
+    /// How many structures a generated script registers, 0 to 100,000; 0 where the command has none.
     pub count: u32,
 }
 
@@ -39,15 +40,4 @@ pub enum PlanFault {
     Usage,
     #[error("out of memory")]
     NoMemory,
-}
-
-impl From<AllocError> for PlanFault {
-    ghost use Rattle.std.specs.Prelude.{◌≡◌};
-    ghost use Rattle.chem_shell.specs.declared.request.PlanFault.TheVariants.{NoMemory};
-
-    ghost from_gives = { λ _ fault. fault ≡ NoMemory };
-
-    fn from(_fault: AllocError) -> PlanFault {
-        PlanFault::NoMemory
-    }
 }

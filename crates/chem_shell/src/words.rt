@@ -1,29 +1,63 @@
-//! The words of the command line.
-ghost use Rattle.std.specs.Prelude.{◌≡◌, ◌≢◌, ℕ, [], None, false, map, option_map, IfOk, IfSome, IfNone, IsErrOf};
-ghost use Rattle.clap.specs.Words.{app_of, fault_of, found_of, matches_of, rows_of, rule_of};
+//! The words of the command line: what they ask for, or which of them is wrong.
+ghost use Rattle.std.specs.Prelude.{◌≡◌, ◌≢◌, ◌≤◌, ◌⊎◌, ℕ, [], None, Some, ◌∷◌, false, map, option_map, IfErr, IfOk, IsErrOf, IsNone, IsSome, OnErr, OnOk};
+ghost use Rattle.clap.specs.Words.{Text, app_of, fault_of, found_of, kind_of, matches_of, rows_of, rule_of};
 ghost use Rattle.chem_shell.specs.declared.request.Plan.{Plan as ThePlan};
-ghost use Rattle.chem_shell.specs.Words.{chemdb_app, option_rule, Asks, AsksFor, IsMem, IsSetting};
+ghost use Rattle.chem_shell.specs.Words.{args_of, chemdb_app, option_rule, texts, AreSizes, Asks, AsksFor, IsBulk, IsMem, IsNumber, IsSetting};
 
+use crate::fault::WordFault;
 use crate::request::{Plan, PlanFault, Verb};
-use crate::store::MOST_COMMITS;
 use chem_text::decimal;
 use clap::error::ErrorKind;
-use clap::{Arg, ArgMatches, Command};
+use clap::{Arg, ArgMatches, Command, Error};
 use std::alloc::{AllocError, Global};
+use store_core::MOST_COMMITS;
 
-/// Reads the words: by `clap`, and then by the table of commands. Today it has the row `mem`.
+/// The largest seed of a generated script.
+pub const LAST_SEED: u32 = 2_147_483_646;
+
+/// The most structures that a generated script registers.
+pub const MOST_STRUCTURES: u32 = 100_000;
+
+/// Reads the words: by `clap`, and then by the table of commands.
 pub fn plan<'w>(alloc: Global, words: &'w [&'w str]) -> Result<Plan<'w>, PlanFault>
-    ensures ok { IfOk result (AsksFor (map (λ w. w.now) words.now)) }
-    ensures usage { IsErrOf result PlanFault.Usage → ¬ Asks (map (λ w. w.now) words.now) }
+    ensures ok { IfOk result (AsksFor (texts words.now)) }
+    ensures usage { IsErrOf result PlanFault.Usage → ¬ Asks (texts words.now) }
 {
-    let found = matches(alloc, words)?;
-    match found.get_str("command") {
-        Some("mem") => mem(alloc, &found).ok_or(PlanFault::Usage),
-        _ => Err(PlanFault::Usage),
+    match read(alloc, words) {
+        Ok(plan) => Ok(plan),
+        Err(WordFault::NoMemory) => Err(PlanFault::NoMemory),
+        Err(_) => Err(PlanFault::Usage),
     }
 }
 
-/// The command by which the words are read.
+/// Which of the words is wrong and why, in one line; `None` where they ask for something. Fails only for want of
+/// memory.
+pub fn word_fault(alloc: Global, words: &[&str]) -> Result<Option<String>, AllocError>
+    ensures some { IfOk result (λ fault. IsSome fault → ¬ Asks (texts words.now)) }
+    ensures none { IfOk result (λ fault. IsNone fault → Asks (texts words.now)) }
+{
+    match read(alloc, words) {
+        Ok(_) => Ok(None),
+        Err(WordFault::NoMemory) => Err(AllocError),
+        Err(fault) => Ok(Some(format!(in alloc; "{fault}")?)),
+    }
+}
+
+// What the words ask for, or what is wrong with them.
+fn read<'w>(alloc: Global, words: &'w [&'w str]) -> Result<Plan<'w>, WordFault<'w>>
+    ensures ok { IfOk result (AsksFor (texts words.now)) }
+    ensures err { IfErr result (λ fault. (fault ≡ WordFault.NoMemory) ⊎ ¬ Asks (texts words.now)) }
+{
+    let found = matches(alloc, words)?;
+    match found.get_str("command") {
+        Some("mem") => mem(alloc, &found),
+        Some("bulk") => bulk(alloc, &found),
+        Some(word) => Err(WordFault::UnknownCommand(word)),
+        None => Err(WordFault::NoCommand),
+    }
+}
+
+// The command by which the words are read.
 fn command<'w>(alloc: Global) -> Result<Command<'w>, AllocError>
     ensures { IfOk result (λ command. app_of command ≡ chemdb_app) }
 {
@@ -40,7 +74,7 @@ fn command<'w>(alloc: Global) -> Result<Command<'w>, AllocError>
         .arg(option(alloc, "commits"))
 }
 
-/// An option of one value, by its long name.
+// An option of one value, by its long name.
 fn option<'w>(alloc: Global, name: &'w str) -> Arg<'w>
     ensures rule { rule_of result ≡ option_rule name.now }
     ensures local { result.global ≡ false }
@@ -48,31 +82,53 @@ fn option<'w>(alloc: Global, name: &'w str) -> Arg<'w>
     Arg::new(alloc, name).long(name)
 }
 
-/// What that command finds in the words.
-fn matches<'w>(alloc: Global, words: &'w [&'w str]) -> Result<ArgMatches<'w>, PlanFault>
-    ensures ok { IfOk result (λ found. (fault_of chemdb_app (map (λ w. w.now) words.now) ≡ [])
-        × (rows_of (found_of found) ≡ matches_of chemdb_app (map (λ w. w.now) words.now))) }
-    ensures usage { IsErrOf result PlanFault.Usage → fault_of chemdb_app (map (λ w. w.now) words.now) ≢ [] }
+// What that command finds in the words.
+fn matches<'w>(alloc: Global, words: &'w [&'w str]) -> Result<ArgMatches<'w>, WordFault<'w>>
+    ensures ok { IfOk result (λ found. (fault_of chemdb_app (texts words.now) ≡ [])
+        × (rows_of (found_of found) ≡ matches_of chemdb_app (texts words.now))) }
+    ensures err { IfErr result (λ fault. (fault ≡ WordFault.NoMemory) ⊎ (fault_of chemdb_app (texts words.now) ≢ [])) }
 {
     match command(alloc)?.try_get_matches_from(words) {
         Ok(found) => Ok(found),
-        Err(error) if error.kind() == ErrorKind::OutOfMemory => Err(PlanFault::NoMemory),
-        Err(_) => Err(PlanFault::Usage),
+        Err(error) => Err(refused(alloc, &error)),
     }
 }
 
-/// The plan of `mem`, if the match is its row.
-fn mem<'w>(alloc: Global, found: &ArgMatches<'w>) -> Option<Plan<'w>>
-    ensures some { IfSome result (IsMem (rows_of (found_of found.now))) }
-    ensures none { IfNone result ((plan : ThePlan) → ¬ IsMem (rows_of (found_of found.now)) plan) }
+// What is wrong where `clap` answers this.
+fn refused<'w>(alloc: Global, error: &Error) -> WordFault<'w>
+    ensures { (result ≡ WordFault.NoMemory) ⊎ (kind_of error.now ≢ ErrorKind.OutOfMemory) }
 {
-    if found.get_raw("args").is_some() {
-        return None;
+    match error.kind() {
+        ErrorKind::OutOfMemory => WordFault::NoMemory,
+        ErrorKind::MissingRequiredArgument => WordFault::NoCommand,
+        _ => match reason(alloc, error) {
+            Ok(text) => WordFault::Refused(text),
+            Err(AllocError) => WordFault::NoMemory,
+        },
     }
-    let workers = setting(found.get_str("workers"), 16, 1)?;
-    let page = setting(found.get_str("page"), 256, 256)?;
-    let commits = setting(found.get_str("commits"), MOST_COMMITS, MOST_COMMITS)?;
-    Some(Plan {
+}
+
+// The first line of an error's text, without the word `error`.
+fn reason(alloc: Global, error: &Error) -> Result<String, AllocError> {
+    let text = format!(in alloc; "{error}")?;
+    let line = text.lines().next().unwrap_or("");
+    String::from_str(alloc, line.strip_prefix("error: ").unwrap_or(line))
+}
+
+// The plan of `mem`, if the match is its row.
+fn mem<'w>(alloc: Global, found: &ArgMatches<'w>) -> Result<Plan<'w>, WordFault<'w>>
+    ensures ok { IfOk result (IsMem (rows_of (found_of found.now))) }
+    ensures err { OnErr result ((plan : ThePlan) → ¬ IsMem (rows_of (found_of found.now)) plan) }
+{
+    no_args(found.get_raw("args"))?;
+    let (workers, page) = sizes(found)?;
+    let commits = setting(
+        "--commits",
+        found.get_str("commits"),
+        MOST_COMMITS,
+        MOST_COMMITS,
+    )?;
+    Ok(Plan {
         command: Verb::Mem,
         file: None,
         scripts: Vec::new(alloc),
@@ -85,16 +141,114 @@ fn mem<'w>(alloc: Global, found: &ArgMatches<'w>) -> Option<Plan<'w>>
     })
 }
 
-/// The number that an option gives, where it is a decimal from 1 to `most`, and the default where the option is not given.
-fn setting(text: Option<&str>, most: u32, default: u32) -> Option<u32>
-    ensures some { IfSome result (IsSetting (option_map (λ t. t.now) text.entry) most default) }
-    ensures none { IfNone result ((n : ℕ) → ¬ IsSetting (option_map (λ t. t.now) text.entry) most default n) }
+// The plan of `bulk`, if the match is its row.
+fn bulk<'w>(alloc: Global, found: &ArgMatches<'w>) -> Result<Plan<'w>, WordFault<'w>>
+    ensures ok { IfOk result (IsBulk (rows_of (found_of found.now))) }
+    ensures err { OnErr result ((plan : ThePlan) → ¬ IsBulk (rows_of (found_of found.now)) plan) }
 {
-    let Some(text) = text else {
-        return Some(default);
-    };
-    match decimal(text.as_bytes(), most as u64)? {
-        0 => None,
-        number => Some(number as u32),
+    let (seed, count) = two_words(found.get_raw("args"))?;
+    let seed = number("SEED", seed, 1, LAST_SEED)?;
+    let count = number("COUNT", count, 0, MOST_STRUCTURES)?;
+    let (workers, page) = sizes(found)?;
+    if found.get_str("commits").is_some() {
+        return Err(WordFault::UnusedOption {
+            command: "bulk",
+            name: "--commits",
+        });
+    }
+    Ok(Plan {
+        command: Verb::Bulk,
+        file: None,
+        scripts: Vec::new(alloc),
+        ends: 1,
+        workers,
+        page,
+        commits: MOST_COMMITS,
+        seed,
+        count,
+    })
+}
+
+// How many workers, and how many records in a page.
+fn sizes<'w>(found: &ArgMatches<'w>) -> Result<(u32, u32), WordFault<'w>>
+    ensures ok { IfOk result (λ sizes. AreSizes (rows_of (found_of found.now)) sizes.0 sizes.1) }
+    ensures err { OnErr result ((workers page : ℕ) → ¬ AreSizes (rows_of (found_of found.now)) workers page) }
+{
+    let workers = setting("--workers", found.get_str("workers"), 16, 1)?;
+    let page = setting("--page", found.get_str("page"), 256, 256)?;
+    Ok((workers, page))
+}
+
+// `mem` takes no words.
+fn no_args<'w>(args: Option<&[&'w str]>) -> Result<(), WordFault<'w>>
+    ensures ok { OnOk result (args.entry ≡ None) }
+    ensures err { OnErr result (args.entry ≢ None) }
+{
+    match args {
+        None => Ok(()),
+        Some(words) => Err(WordFault::SurplusWord {
+            command: "mem",
+            word: words.first().copied().unwrap_or(""),
+        }),
+    }
+}
+
+// The two words of `bulk`.
+fn two_words<'w>(args: Option<&[&'w str]>) -> Result<(&'w str, &'w str), WordFault<'w>>
+    ensures ok { IfOk result (λ words. args_of args.entry ≡ Some (words.0.now ∷ words.1.now ∷ [])) }
+    ensures err { OnErr result ((first second : Text) → args_of args.entry ≢ Some (first ∷ second ∷ [])) }
+{
+    match args {
+        Some([seed, count]) => Ok((*seed, *count)),
+        Some([_, _, word, ..]) => Err(WordFault::SurplusWord {
+            command: "bulk",
+            word: *word,
+        }),
+        Some([_]) => Err(WordFault::MissingWord {
+            command: "bulk",
+            name: "a COUNT",
+        }),
+        _ => Err(WordFault::MissingWord {
+            command: "bulk",
+            name: "a SEED",
+        }),
+    }
+}
+
+// The number that an option gives, where it is a decimal from 1 to `most`, and the default where the option is not
+// given.
+fn setting<'w>(
+    name: &'static str,
+    text: Option<&'w str>,
+    most: u32,
+    default: u32,
+) -> Result<u32, WordFault<'w>>
+    ensures ok { IfOk result (IsSetting (option_map (λ t. t.now) text.entry) most default) }
+    ensures err { OnErr result ((n : ℕ) → ¬ IsSetting (option_map (λ t. t.now) text.entry) most default n) }
+{
+    match text {
+        None => Ok(default),
+        Some(text) => number(name, text, 1, most),
+    }
+}
+
+// The number that a word is, where it is a decimal of this range.
+fn number<'w>(
+    name: &'static str,
+    word: &'w str,
+    least: u32,
+    most: u32,
+) -> Result<u32, WordFault<'w>>
+    ensures ok { IfOk result (IsNumber word.now least most) }
+    ensures err { OnErr result ((n : ℕ) → ¬ IsNumber word.now least most n) }
+{
+    match decimal(word.as_bytes(), u64::from(most)) {
+        Some(number) if number >= u64::from(least) => Ok(number as u32),
+        _ => Err(WordFault::NotInRange {
+            name,
+            least,
+            most,
+            word,
+        }),
     }
 }

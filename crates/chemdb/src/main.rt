@@ -4,6 +4,7 @@
 ghost use Rattle.std.specs.Prelude.{◌≡◌, [], ◌∷◌, ◌++◌, IfOk};
 
 use chem_shell::top::{self, End, chemdb};
+use chem_shell::word_fault;
 use io_edge::{StdSink, StdSource};
 use std::alloc::{AllocError, Global};
 use std::env;
@@ -13,54 +14,44 @@ use std::rt::Env;
 use std::sync::Wait;
 use std::thread::Threads;
 
-/// What is printed where the words ask for nothing that is known.
+/// What is printed where the words ask for nothing, behind a line that says why.
 const USAGE: &str = "\
 usage: chemdb COMMAND [OPTIONS]
 
 commands
-  mem  serve the script of standard input over a store in memory
+  mem              serve the script of standard input over a store in memory
+  bulk SEED COUNT  run a generated script over such a store, and print its summary;
+                   SEED is 1 to 2147483646, and COUNT, the structures to register, 0 to 100000
 
-options of mem
+options
   --workers N  threads for matching, 1 to 16; 1 if left out
   --page N     records in a page, 1 to 256; 256 if left out
-  --commits N  the most commits of the store, 1 to 16777215; 16777215 if left out
+  --commits N  of mem: the most commits of the store, 1 to 16777215; 16777215 if left out
 
 Options stand before or behind the command, as --page 3 or --page=3.
-Today --workers and --page are read and have no effect.
 example: printf 'register 1 CCO\\nsearch CO\\n' | chemdb mem --page=64";
 
 fn main(rt: HostRuntime) -> ExitCode {
-    let status = run(&rt);
-    if status == top::USAGE {
-        // The status says it too, where standard error is gone.
-        let _ = eprintln!(rt; "{USAGE}");
-    }
-    ExitCode::from(status)
+    ExitCode::from(run(&rt))
 }
 
 /// Serves what the words ask for from standard input to standard output, and answers the overall status.
-fn run<R: Env + AllocGlobal + Input + Print + Threads + Wait + Sync>(rt: &R) -> u8
+fn run<R: Env + AllocGlobal + Input + Print + Eprint + Threads + Wait + Sync>(rt: &R) -> u8
 where
     R::Reader: Send,
 {
     match words(rt) {
-        Ok(words) => serve(rt, &words).unwrap_or(top::NO_MEMORY),
+        Ok(words) => run_words(rt, &words).unwrap_or(top::NO_MEMORY),
         Err(error) if error.kind() == ErrorKind::OutOfMemory => top::NO_MEMORY,
-        Err(_) => top::USAGE,
+        Err(_) => {
+            explain(rt, "a word is not UTF-8");
+            top::USAGE
+        }
     }
 }
 
-/// The words behind the program's name. One that is not UTF-8 is an error.
-fn words<R: Env + AllocGlobal>(rt: &R) -> io::Result<Vec<String>> {
-    let mut words = Vec::new(rt.alloc());
-    for word in env::args(rt)?.skip(1) {
-        words.push(word)?;
-    }
-    Ok(words)
-}
-
-/// One end over standard input and output.
-fn serve<R: AllocGlobal + Input + Print + Threads + Wait + Sync>(
+/// The same for these words. Where they ask for nothing, it says why.
+fn run_words<R: AllocGlobal + Input + Print + Eprint + Threads + Wait + Sync>(
     rt: &R,
     words: &[String],
 ) -> Result<u8, AllocError>
@@ -72,12 +63,45 @@ where
     for word in words {
         texts.push(word.as_str())?;
     }
+    let status = serve(rt, alloc, &texts)?;
+    if status == top::USAGE {
+        match word_fault(alloc, &texts) {
+            Ok(Some(reason)) => explain(rt, reason.as_str()),
+            _ => explain(rt, "the words ask for nothing"),
+        }
+    }
+    Ok(status)
+}
+
+/// One end over standard input and output.
+fn serve<R: AllocGlobal + Input + Print + Threads + Wait + Sync>(
+    rt: &R,
+    alloc: Global,
+    words: &[&str],
+) -> Result<u8, AllocError>
+where
+    R::Reader: Send,
+{
     let ends = one_end(
         alloc,
         StdSource::new(rt.reader()),
         StdSink::new(io::writer(rt)),
     )?;
-    Ok(chemdb(rt, alloc, &texts, (), (), ends).status)
+    Ok(chemdb(rt, alloc, words, (), (), ends).status)
+}
+
+/// Prints why the words ask for nothing, and what they may be. The status says it too, where standard error is gone.
+fn explain<R: Eprint>(rt: &R, reason: &str) {
+    let _ = eprintln!(rt; "chemdb: {reason}\n{USAGE}");
+}
+
+/// The words behind the program's name. One that is not UTF-8 is an error.
+fn words<R: Env + AllocGlobal>(rt: &R) -> io::Result<Vec<String>> {
+    let mut words = Vec::new(rt.alloc());
+    for word in env::args(rt)?.skip(1) {
+        words.push(word)?;
+    }
+    Ok(words)
 }
 
 /// A list of one end.

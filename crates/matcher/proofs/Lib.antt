@@ -5,8 +5,10 @@ pub mod Plans
 pub mod Places
 pub mod Near
 pub mod PartsHeld
+pub mod OnlyParts
 pub mod Pigeons
 pub mod Refusals
 pub mod Chains
 pub mod Classes
 pub mod Hunts
+pub mod Rings

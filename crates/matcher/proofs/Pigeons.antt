@@ -1,5 +1,5 @@
 -- More places than atoms: two places would share one.
-use Rattle.std.proofs.Common.{◌≡◌, ℕ, zero, suc, ◌+◌, ◌<◌, ◌≤◌, Bool, true, false, List, [], ◌∷◌, length, take, set, get_or, count_by, cond, refl, sym, ap, ◌∙◌, subst, arith, inl, inr}
+use Rattle.std.proofs.Common.{◌≡◌, ℕ, zero, suc, ◌+◌, ◌<◌, ◌≤◌, Bool, true, false, List, [], ◌∷◌, length, map, take, set, get_or, count_by, cond, refl, sym, ap, ◌∙◌, subst, arith, inl, inr}
 use Rattle.std.proofs.lemmas.Bool.{cases_Bool, false≢true}
 use Rattle.std.proofs.lemmas.List.{get_or-set_other}
 use Rattle.std.proofs.lemmas.List.Recursion.{is_count_by}
@@ -28,6 +28,11 @@ counted_set (false ∷ xs) (suc i) h = counted_set xs i h
 -- a mark taken away
 marks_set : (xs : List Bool) (i : ℕ) → get_or xs i false ≡ true → marks (set xs i false) + 1 ≡ marks xs
 marks_set xs i h = ap (λ n. n + 1) (sym (counted-marks (set xs i false))) ∙ counted_set xs i h ∙ counted-marks xs
+
+-- the elements of which a test is true, as marks
+pub marks_map : {X : Type 0} (p : X → Bool) (xs : List X) → marks (map p xs) ≡ count_by p xs
+unfolding counted
+marks_map p xs = sym (counted-marks (map p xs)) ∙ is_count_by (λ ys. counted (map p ys)) p refl (λ x ys. refl) xs
 
 -- different places at marked atoms: as many atoms are marked
 pub pigeons : (f : ℕ → ℕ) (places : List Bool) (k : ℕ) (atoms : List Bool) → k ≤ length places → ((i : ℕ) → i < k → get_or places i false ≡ true → get_or atoms (f i) false ≡ true)

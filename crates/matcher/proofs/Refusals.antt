@@ -1,7 +1,9 @@
 -- Where a place of a graph cannot stand, and a graph whose places are more than their atoms.
-use Rattle.std.proofs.Common.{◌≡◌, ℕ, ◌<◌, ◌≤◌, ◌++◌, ◌⊎◌, [], inl, inr, Bool, true, false, List, length, take, slice_get, slice_index, get_or, Some, Contains, sym, ap, ◌∙◌, subst, arith}
+use Rattle.std.proofs.Common.{◌≡◌, ℕ, ◌<◌, ◌≤◌, ◌++◌, ◌⊎◌, [], inl, inr, Bool, true, false, bit_or, count_by, List, length, map, take, slice_get, slice_index, get_or, Some, Contains, sym, ap, ◌∙◌, subst, arith, refl}
 use Rattle.std.proofs.Math.Seq.{take-length}
-use Rattle.std.proofs.lemmas.List.{get_or_default, get_or-map, length-map}
+use Rattle.std.specs.Int.{bit_at}
+use Rattle.std.proofs.lemmas.Bool.{eqb-true, eq-eqb}
+use Rattle.std.proofs.lemmas.List.{get_or_default, get_or-map, get_or-take, length-map, length-take-le}
 use Rattle.std.proofs.lemmas.Option.{get_or_from_slice_get}
 use Rattle.chem_core.specs.declared.mol.Bond.{Bond}
 use Rattle.chem_core.specs.declared.mol.BondKind.TheVariants.{Single}
@@ -11,10 +13,15 @@ use Rattle.smarts_parse.specs.declared.pattern.AtomPrim.{AtomPrim}
 use Rattle.smarts_parse.specs.Embedding.{BondEmbeds, IsEmbedding}
 use Rattle.smarts_parse.specs.Pattern.{BondTerm, GraphTerm, Term}
 use Rattle.smarts_parse.specs.Truth.{AtomTrue, BondTrue}
+use Rattle.matcher.specs.Class.{class_of, is_among, is_within}
+use Rattle.matcher.specs.declared.plan.Step.{Step}
 use Rattle.matcher.specs.Partial.{CanComplete, Parts}
+use Rattle.matcher.specs.Plan.{IsReady, step_at}
+use Rattle.matcher.proofs.Classes.{no_element, or_one, stands_at}
 use Rattle.matcher.proofs.Joins.{joins_in_range}
 use Rattle.matcher.proofs.Partials.{index_front}
-use Rattle.matcher.proofs.Pigeons.{marks, pigeons}
+use Rattle.matcher.proofs.Pigeons.{marks, marks_map, pigeons}
+use Rattle.matcher.proofs.Plans.{empty}
 
 -- not where its expression is not true
 pub cannot_stand : (parts : Parts) (g : GraphTerm) (m : Molecule) (place atom : ℕ) (expr : Term AtomPrim) (image : List ℕ) → slice_get g.atoms place ≡ Some expr → (AtomTrue parts expr m atom → ⊥) → IsEmbedding parts g m image → slice_index image place ≡ atom → ⊥
@@ -37,6 +44,35 @@ excluded parts g m front places atoms few fewer within w =
     pigeons (λ i. slice_index (front ++ w.0) i) places (length places) atoms (omega arith) (λ i l h. within i l h w.0 e) (λ i j l k same. e.distinct i j 0 l (omega arith) same) in
     let whole : marks (take (length places) places) ≡ marks places = ap marks (take-length places) in
     omega arith
+
+-- a place of no classes but these stands at an atom of one of them
+among_within : (parts : Parts) (g : GraphTerm) (m : Molecule) (steps : List Step) (classes : ℕ) (image : List ℕ) (k : ℕ)
+    → IsReady g steps → k < length g.atoms → IsEmbedding parts g m image → is_within classes (step_at steps k) ≡ true
+    → bit_at classes (class_of (get_or m.atoms (slice_index image k) no_element)) ≡ 1
+among_within parts g m steps classes image k ready few e yes' =
+    let c : ℕ = class_of (get_or m.atoms (slice_index image k) no_element) in
+    let all : bit_or (step_at steps k).classes classes ≡ classes = eqb-true (bit_or (step_at steps k).classes classes) classes yes' in
+    subst (λ n. bit_at n c ≡ 1) all (or_one (step_at steps k).classes classes c (stands_at parts g m steps image k (slice_index image k) ready few e refl))
+
+-- more places of no classes but these than atoms of them
+pub crowded : (parts : Parts) (g : GraphTerm) (m : Molecule) (steps : List Step) (n classes : ℕ) → IsReady g steps
+    → n ≡ length g.atoms → count_by (is_among classes) m.atoms < count_by (is_within classes) (take n steps)
+    → CanComplete parts g m [] → ⊥
+crowded parts g m steps n classes ready all fewer =
+    let room = ready.planned.room in
+    let size : length (take n steps) ≡ n = length-take-le n steps (omega arith) in
+    let places : length (map (is_within classes) (take n steps)) ≡ n = length-map (take n steps) (is_within classes) ∙ size in
+    let one = marks_map (is_within classes) (take n steps) in
+    let two = marks_map (is_among classes) m.atoms in
+    excluded parts g m [] (map (is_within classes) (take n steps)) (map (is_among classes) m.atoms) (omega arith) (omega arith)
+    (λ k l yes' rest e.
+    let short : k < length (take n steps) = omega arith in
+    let few : k < length g.atoms = omega arith in
+    let within : slice_index rest k < length m.atoms = e.in_range k 0 (omega (arith, e.one_each)) in
+    let step : get_or (take n steps) k empty ≡ step_at steps k = get_or-take n steps k empty (omega arith) in
+    let mark = sym (ap (is_within classes) step) ∙ sym (get_or-map (is_within classes) (take n steps) k empty false short) ∙ yes' in
+    get_or-map (is_among classes) m.atoms (slice_index rest k) no_element false within
+    ∙ eq-eqb (bit_at classes (class_of (get_or m.atoms (slice_index rest k) no_element))) 1 (among_within parts g m steps classes rest k ready few e mark))
 
 -- the ends of a bond are those that are read
 pub ends_read : (m : Molecule) (b x y : ℕ) (d : Bond) → b < length m.bonds → JoinsAt (ends_of m) b x y

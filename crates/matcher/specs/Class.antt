@@ -1,10 +1,11 @@
 -- For private clauses alone: classes of atoms, and those at which an expression may be true.
-use Rattle.std.specs.Prelude.{◌≡◌, ◌⊎◌, ℕ, ◌+◌, ◌*◌, ◌%◌, ◌<◌, Bool, true, false}
+use Rattle.std.specs.Prelude.{◌≡◌, ◌⊎◌, ℕ, ◌+◌, ◌*◌, ◌%◌, ◌<◌, Bool, true, false, ◌==◌, bit_or}
 use Rattle.std.specs.Int.{bit_at}
 use Rattle.chem_core.specs.declared.mol.Atom.{Atom}
 use Rattle.smarts_parse.specs.declared.pattern.AtomPrim.{AtomPrim}
 use Rattle.smarts_parse.specs.declared.pattern.AtomPrim.TheVariants as atoms
 use Rattle.smarts_parse.specs.Pattern.{Term, Prim, Not, And, Or}
+use Rattle.matcher.specs.declared.plan.Step.{Step}
 
 -- the class of an atom of that number: one for aromatic atoms and one for others, for each number modulo 32
 abbrev pub class_at : ℕ → Bool → ℕ
@@ -30,3 +31,11 @@ MayBe (Or e f) c = MayBe e c ⊎ MayBe f c
 -- the bits of a word have each class at which the expression may be true
 abbrev pub Covers : ℕ → Term AtomPrim → Type 0
 Covers classes e = (c : ℕ) → c < 64 → MayBe e c → bit_at classes c ≡ 1
+
+-- a step has no classes but these
+abbrev pub is_within : ℕ → Step → Bool
+is_within classes step = bit_or step.classes classes == classes
+
+-- the atom is of one of the classes
+abbrev pub is_among : ℕ → Atom → Bool
+is_among classes x = bit_at classes (class_of x) == 1

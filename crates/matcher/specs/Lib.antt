@@ -4,4 +4,5 @@ pub mod Least
 pub mod Partial
 pub mod Plan
 pub mod Parts
+pub mod Ring
 pub mod Task

@@ -2,10 +2,9 @@
 //! in turn, and one that finds all its atoms chosen lets earlier places choose anew, along a shortest chain.
 //!
 //! Nothing is promised of a choice. Where none is found, the places and atoms that the last try reached show why.
-ghost use Rattle.std.specs.Prelude.{◌≡◌, ◌<◌, [], false, length, IsTrue};
+ghost use Rattle.std.specs.Prelude.{◌≡◌, ◌<◌, length, IsTrue};
 ghost use Rattle.matcher.specs.Task.{Completes, IsReadyTask};
 
-use crate::class::may_be;
 use crate::fit::Task;
 use crate::refusal::{excludes, may_stand};
 use chem_core::MOST_ATOMS;
@@ -76,31 +75,6 @@ impl Choices {
             }
         }
         false
-    }
-
-    /// Whether it is found that the places that may stand only where the first may are more than the atoms there.
-    pub fn are_crowded(&mut self, task: &Task) -> bool
-        requires { IsReadyTask task.now }
-        ensures { IsTrue result → ¬ Completes task.now [] }
-    {
-        let first = match task.steps.get(0) {
-            Some(step) => step.classes,
-            None => return false,
-        };
-        for place in 0..task.graph.atoms.len() {
-            let Some(step) = task.steps.get(place) else {
-                return false;
-            };
-            if let Some(reached) = self.reached.get_mut(place) {
-                *reached = step.classes & !first == 0;
-            }
-        }
-        for (place, atom) in task.mol.atoms().iter().enumerate() {
-            if let Some(seen) = self.seen.get_mut(place) {
-                *seen = may_be(first, *atom);
-            }
-        }
-        self.shows_why(task, &[])
     }
 
     // Whether the places and atoms that the last try reached show that the graph cannot be completed.

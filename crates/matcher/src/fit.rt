@@ -1,11 +1,11 @@
 //! Whether the next atom of a graph may stand at an atom, where those before it are placed.
-ghost use Rattle.std.specs.Prelude.{◌≡◌, ◌<◌, ◌≤◌, ◌≢◌, ◌+◌, ◌++◌, ◌∷◌, [], ◌↔◌, ℕ, length, map, max, min, All, Contains, IfNone, IfSome, IsTrue};
+ghost use Rattle.std.specs.Prelude.{◌≡◌, ◌<◌, ◌≤◌, ◌≢◌, ◌+◌, ◌++◌, ◌∷◌, [], ◌↔◌, ℕ, List, false, length, map, max, min, slice_index, All, Contains, IfNone, IfSome, IsTrue};
 ghost use Rattle.chem_core.specs.Graph.{JoinsAt};
 ghost use Rattle.chem_core.specs.Molecule.{ends_of};
 ghost use Rattle.smarts_parse.specs.Embedding.{BondEmbeds};
 ghost use Rattle.smarts_parse.specs.Pattern.{bond_of, term_of};
 ghost use Rattle.smarts_parse.specs.Truth.{BondTrue};
-ghost use Rattle.matcher.specs.Task.{FirstEmbeds, IsPlaced, IsReadyTask};
+ghost use Rattle.matcher.specs.Task.{Completes, Embeds, FirstEmbeds, IsPlaced, IsReadyTask};
 
 use crate::class::may_be;
 use crate::plan::Step;
@@ -34,9 +34,6 @@ pub fn fits(task: &Task, front: &[u16], atom: u16) -> bool
 {
     let step = task.steps[front.len()];
     let others = step.others(&task.graph.bonds);
-    if !may_be(step.classes, task.mol.atoms()[usize::from(atom)]) {
-        return false;
-    }
     if !is_new(front, atom) {
         return false;
     }
@@ -60,6 +57,22 @@ pub fn begins(task: &Task, front: &[u16], atom: u16) -> bool
         return false;
     }
     fits(task, front, atom)
+}
+
+/// Whether the atom of the graph at a place may stand at that one, as far as classes show. It is asked before `fits`.
+pub fn is_of_class(task: &Task, place: usize, atom: u16) -> bool
+    requires ready { IsReadyTask task.now }
+    requires place { place < length task.now.graph.now.atoms.items }
+    requires atom { atom < length task.now.mol.now.atoms }
+    ensures begins { result ≡ false → (front : List ℕ) → length front ≡ place
+        → ¬ Completes task.now (front ++ atom ∷ []) }
+    ensures stands { result ≡ false → (image : List ℕ) → Embeds task.now image
+        → slice_index image place ≡ atom → ⊥ }
+{
+    may_be(
+        task.steps[place].classes,
+        task.mol.atoms()[usize::from(atom)],
+    )
 }
 
 // Whether the first bond of the next atom to an earlier one, if there is one, embeds with it there.

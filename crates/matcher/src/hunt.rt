@@ -6,8 +6,8 @@ ghost use Rattle.std.specs.Prelude.{◌≡◌, ◌<◌, ◌≤◌, ◌⊎◌, []
 ghost use Rattle.matcher.specs.Hunt.{Asks, Continues, IsFree, stop_at};
 ghost use Rattle.matcher.specs.Task.{Completes, IsReadyTask};
 
-use crate::fit::{Task, are_joined_by, begins};
-use crate::lay::Stop;
+use crate::fit::{Task, are_joined_by, begins, is_of_class};
+use crate::lay::{NO_BOND, Stop};
 use crate::refusal::may_stand;
 use smarts_mean::bond_true;
 use smarts_parse::PatBond;
@@ -47,7 +47,11 @@ fn continues_anywhere(task: &Task, stops: &[Stop], image: &mut [u16], placed: us
     ensures kept { result ≡ false → image.new ≡ image.old }
     ensures none { result ≡ false → (whole : List ℕ) → ¬ Continues task.now image.old whole }
 {
+    let place = usize::from(stops[placed].place);
     for atom in 0..task.mol.atoms().len() as u16 {
+        if !is_of_class(task, place, atom) {
+            continue;
+        }
         if continues_at(task, stops, image, placed, atom) {
             return true;
         }
@@ -68,9 +72,13 @@ fn continues_near(task: &Task, stops: &[Stop], image: &mut [u16], placed: usize,
     ensures kept { result ≡ false → image.new ≡ image.old }
     ensures none { result ≡ false → (whole : List ℕ) → ¬ Continues task.now image.old whole }
 {
+    let place = usize::from(stops[placed].place);
     let bond = &task.graph.bonds[usize::from(stops[placed].bond)];
     let neighbours = task.mol.neighbours(from);
     for (atom, by) in neighbours {
+        if !is_of_class(task, place, *atom) {
+            continue;
+        }
         if !bond_true(&bond.expr, task.mol, *by) {
             continue;
         }
@@ -123,7 +131,7 @@ fn may_take(task: &Task, image: &[u16], stop: Stop, atom: u16) -> bool
     if image[..task.graph.atoms.len()].contains(&atom) {
         return false;
     }
-    closes(task, image, stop, atom)
+    stop.bond == NO_BOND || closes(task, image, stop, atom)
 }
 
 // Whether each bond of the place of a stop to one that is taken, but for the stop's own, may lie so.

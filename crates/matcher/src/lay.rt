@@ -3,7 +3,7 @@
 ghost use Rattle.std.specs.Prelude.{◌≤◌, length};
 
 use crate::plan::Step;
-use smarts_parse::PatBond;
+use smarts_parse::{BondPrim, Expr, PatBond};
 
 /// A place of a graph, and the bond of the graph, if there is one, that joins it to a place before.
 #[derive(Clone, Copy, Debug)]
@@ -13,7 +13,7 @@ pub struct Stop {
 }
 
 /// Stands for a bond that there is not.
-const NO_BOND: u16 = u16::MAX;
+pub const NO_BOND: u16 = u16::MAX;
 
 /// No stop.
 pub const NO_STOP: Stop = Stop {
@@ -26,8 +26,33 @@ const CARBON: u64 = 0x3000;
 
 const COMMON: u64 = 0x3c000;
 
-/// A place where few atoms stand: no carbon, and if there is such a one, none of nitrogen and oxygen.
-pub fn rare_place(steps: &[Step]) -> Option<u16> {
+/// A search that begins at the place.
+pub fn start_at(place: u16) -> Stop {
+    Stop {
+        place,
+        bond: NO_BOND,
+    }
+}
+
+/// Where a search begins: at a place where few atoms stand, or else at the first end of a bond that few bonds are,
+/// which then comes next.
+pub fn rare_start(bonds: &[PatBond], steps: &[Step]) -> Option<Stop> {
+    if let Some(place) = rare_place(steps) {
+        return Some(start_at(place));
+    }
+    for (place, bond) in bonds.iter().enumerate() {
+        if is_written(bond) {
+            return Some(Stop {
+                place: bond.a,
+                bond: u16::try_from(place).ok()?,
+            });
+        }
+    }
+    None
+}
+
+// A place where few atoms stand: no carbon, and if there is such a one, none of nitrogen and oxygen.
+fn rare_place(steps: &[Step]) -> Option<u16> {
     let mut found = None;
     for (place, step) in steps.iter().enumerate() {
         if step.classes & (CARBON | COMMON) == 0 {
@@ -40,19 +65,45 @@ pub fn rare_place(steps: &[Step]) -> Option<u16> {
     found
 }
 
-/// Lays the places of a graph of at most 64 in an order from that one. How many they are.
-pub fn lay(bonds: &[PatBond], start: u16, stops: &mut [Stop]) -> usize
+/// Whether few bonds are what a bond of a graph asks.
+pub fn is_rare(bond: &PatBond) -> bool {
+    match bond.expr {
+        Expr::Prim(prim) => prim == BondPrim::Double || prim == BondPrim::Triple,
+        _ => false,
+    }
+}
+
+// Whether a bond of a graph asks for one kind of bond.
+fn is_written(bond: &PatBond) -> bool {
+    match bond.expr {
+        Expr::Prim(prim) => prim == BondPrim::Single || is_rare(bond),
+        _ => false,
+    }
+}
+
+/// Lays the places of a graph of at most 64 in an order from the start, by its bond first if it has one. How many they
+/// are.
+pub fn lay(bonds: &[PatBond], start: Stop, stops: &mut [Stop]) -> usize
     ensures { result ≤ length stops.old }
 {
-    let first = Stop {
-        place: start,
-        bond: NO_BOND,
-    };
-    let mut count = put(stops, 0, first);
-    let mut seen = bit(start);
+    let mut count = put(stops, 0, start_at(start.place));
+    let mut seen = bit(start.place);
+    let mut after = 0;
+    if let Some(bond) = bonds.get(usize::from(start.bond)) {
+        if let Some(next) = next_place(bond, seen) {
+            seen |= bit(next);
+            let stop = Stop {
+                place: next,
+                bond: start.bond,
+            };
+            count = put(stops, count, stop);
+            after = usize::from(start.bond);
+        }
+    }
     for round in 0..64 {
         let before = count;
-        for step in 0..bonds.len() {
+        let skipped = if round == 0 { after } else { 0 };
+        for step in skipped..bonds.len() {
             let place = if round % 2 == 0 {
                 step
             } else {
@@ -67,7 +118,7 @@ pub fn lay(bonds: &[PatBond], start: u16, stops: &mut [Stop]) -> usize
                 count = put(stops, count, stop);
             }
         }
-        if count == before {
+        if count == before && round > 0 {
             return count;
         }
     }

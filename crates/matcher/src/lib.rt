@@ -1,8 +1,9 @@
 //! Where a SMARTS pattern embeds in a molecule (Daylight Theory Manual, chapter SMARTS): the least of its embeddings.
 //!
-//! A molecule that lacks atoms of a class that the pattern asks for is refused at once. Then the pattern's atoms are
-//! placed in turn. One that a bond joins to an earlier one goes along the bonds of the molecule from there; any other goes
-//! anywhere. Where any embedding serves, the first placed is one that few atoms can take. The number of tries is not
+//! A molecule that lacks atoms of a class that the pattern asks for, or a ring that one of the pattern's can lie at, is
+//! refused at once. Then the pattern's atoms are placed in turn. One that a bond joins to an earlier one goes along the
+//! bonds of the molecule from there; any other goes anywhere. Where any embedding serves, the first placed is one that
+//! few atoms can take, and components of several atoms are first searched for by themselves. The number of tries is not
 //! bounded.
 #![tactic(auto)]
 
@@ -15,6 +16,7 @@ mod lay;
 mod parts;
 mod plan;
 mod refusal;
+mod ring;
 mod scratch;
 mod search;
 

@@ -7,19 +7,20 @@ ghost use Rattle.matcher.specs.Partial.{CanComplete};
 ghost use Rattle.matcher.specs.Parts.{AreNoted, AreSoundParts};
 ghost use Rattle.matcher.specs.Plan.{IsReady};
 
-use crate::fit::Task;
+use crate::fit::{Task, is_of_class};
 use crate::plan::plan;
 use crate::scratch::Scratch;
 use crate::search::extend_at;
 use chem_core::Mol;
 use smarts_parse::Graph;
 
-/// Notes in the table at which atoms each part holds.
-pub fn note_parts(parts: &[Graph], mol: &Mol, scratch: &mut Scratch)
-    requires { AreSoundParts (map graph_of parts.now) }
-    ensures { AreNoted (map graph_of parts.now) mol.now (length parts.now) scratch.new.table }
+/// Notes in the table at which atoms each of the first parts holds.
+pub fn note_parts(parts: &[Graph], mol: &Mol, scratch: &mut Scratch, count: usize)
+    requires sound { AreSoundParts (map graph_of parts.now) }
+    requires count { count ≤ length parts.now }
+    ensures { AreNoted (map graph_of parts.now) mol.now count scratch.new.table }
 {
-    for part in 0..parts.len() {
+    for part in 0..count {
         note_part(parts, mol, scratch, part);
     }
 }
@@ -55,5 +56,8 @@ fn begins_at(graph: &Graph, mol: &Mol, scratch: &mut Scratch, atom: u16) -> bool
         table: &scratch.table,
         steps: &scratch.steps,
     };
+    if !is_of_class(&task, 0, atom) {
+        return false;
+    }
     extend_at(&task, &mut scratch.image, &mut scratch.choices, 0, atom)
 }

@@ -4,10 +4,13 @@ ghost use Rattle.chem_core.specs.Graph.{JoinsAt};
 ghost use Rattle.chem_core.specs.Molecule.{ends_of};
 ghost use Rattle.smarts_parse.specs.Pattern.{term_of};
 ghost use Rattle.smarts_parse.specs.Truth.{BondTrue};
+ghost use Rattle.matcher.specs.Class.{is_among, is_within};
 ghost use Rattle.matcher.specs.Task.{Completes, Embeds, IsReadyTask};
 
 use crate::class::may_be;
 use crate::fit::{Task, is_new};
+use crate::plan::Step;
+use chem_core::Atom;
 use smarts_mean::{atom_true, bond_true};
 use smarts_parse::PatBond;
 
@@ -31,6 +34,47 @@ pub fn excludes(task: &Task, front: &[u16], places: &[bool], atoms: &[bool]) -> 
         }
     }
     true
+}
+
+/// Whether the places that may stand only at atoms of the first one's classes are more than the atoms of these classes.
+/// Then the graph has no embedding.
+pub fn is_crowded(task: &Task) -> bool
+    requires ready { IsReadyTask task.now }
+    requires some { 0 < length task.now.graph.now.atoms.items }
+    ensures { IsTrue result → ¬ Completes task.now [] }
+{
+    let classes = task.steps[0].classes;
+    let atoms = atoms_within(task.mol.atoms(), classes);
+    if places_within(&task.steps[..task.graph.atoms.len()], classes) <= atoms {
+        return false;
+    }
+    true
+}
+
+// How many of the steps have no classes but these.
+fn places_within(steps: &[Step], classes: u64) -> usize
+    ensures { result ≡ count_by (is_within classes) steps.now }
+{
+    let mut count = 0;
+    for step in steps {
+        if step.classes | classes == classes {
+            count += 1;
+        }
+    }
+    count
+}
+
+// How many of the atoms are of the classes.
+fn atoms_within(atoms: &[Atom], classes: u64) -> usize
+    ensures { result ≡ count_by (is_among classes) atoms.now }
+{
+    let mut count = 0;
+    for atom in atoms {
+        if may_be(classes, *atom) {
+            count += 1;
+        }
+    }
+    count
 }
 
 // How many are marked.

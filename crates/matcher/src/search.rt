@@ -3,7 +3,7 @@ ghost use Rattle.std.specs.Prelude.{◌≡◌, ◌<◌, ◌≤◌, ◌+◌, ◌+
 ghost use Rattle.matcher.specs.Task.{Completes, FirstEmbeds, IsBonded, IsLeastPlaced, IsPlaced, IsReadyTask};
 
 use crate::choices::Choices;
-use crate::fit::{Task, fits};
+use crate::fit::{Task, fits, is_of_class};
 use smarts_mean::bond_true;
 
 /// Places the graph's other atoms after those that are placed, if they can be, as the least embedding that begins so.
@@ -45,6 +45,9 @@ fn extend_anywhere(task: &Task, image: &mut [u16], choices: &mut Choices, placed
     ensures none { result ≡ false → ¬ Completes task.now (take placed image.old) }
 {
     for atom in 0..task.mol.atoms().len() as u16 {
+        if !is_of_class(task, placed, atom) {
+            continue;
+        }
         let failures = choices.failures();
         if extend_at(task, image, choices, placed, atom) {
             return true;
@@ -74,6 +77,9 @@ fn extend_near(task: &Task, image: &mut [u16], choices: &mut Choices, placed: us
     let earlier = image[usize::from(bond.a.min(bond.b))];
     let neighbours = task.mol.neighbours(earlier);
     for (atom, by) in neighbours {
+        if !is_of_class(task, placed, *atom) {
+            continue;
+        }
         if !bond_true(&bond.expr, task.mol, *by) {
             continue;
         }

@@ -1,5 +1,5 @@
 -- A line is cut in one way: the first part has no space, and the first words differ.
-use Rattle.std.proofs.Common.{◌≡◌, ◌≢◌, ◌⊎◌, inl, inr, ℕ, zero, suc, ◌+◌, ◌*◌, List, [], ◌∷◌, ◌++◌, Ok, Err, Result, IfOk, length, refl, sym, ◌∙◌, ap, subst, arith, decimal, codes, slice_index}
+use Rattle.std.proofs.Common.{◌≡◌, ◌≢◌, ◌⊎◌, inl, inr, ℕ, zero, suc, ◌+◌, ◌*◌, List, [], ◌∷◌, ◌++◌, Ok, Err, Result, length, refl, sym, ◌∙◌, ap, subst, arith, decimal, codes, slice_index}
 use Rattle.std.specs.List.{All, Contains}
 use Rattle.std.specs.Str.Parse.{AllDigits, digits_value}
 use Rattle.std.proofs.lemmas.Fmt.{digits_decimal}
@@ -10,7 +10,7 @@ use Rattle.shell_lang.specs.declared.word.Word.TheVariants as words
 use Rattle.shell_lang.specs.declared.command.LineRefusal.{LineRefusal}
 use Rattle.shell_lang.specs.declared.command.LineRefusal.TheVariants as refusals
 use Rattle.shell_lang.specs.Word.{word_text}
-use Rattle.shell_lang.specs.Command.{Command, Empty, Register, Revise, RegisterMol, ReviseMol, Withdraw, Show, Search, Start, Next, Close, Prune, Stats, IsIdentifier, IsNoIdentifier, IsNameByte, IsName, Spells, HasNoSpace, HasIdentifierPart, IsLine, StartsMolfile, registration_of}
+use Rattle.shell_lang.specs.Command.{Command, Empty, Register, Revise, RegisterMol, ReviseMol, Withdraw, Show, Search, Start, Next, Close, Prune, Stats, IsIdentifier, IsNoIdentifier, IsNameByte, IsName, Spells, HasNoSpace, HasIdentifierPart, IsLine, StartsWith, StartsMolfile}
 use Rattle.shell_lang.specs.Cut.{Follows, IdentifierPart, IsRest}
 
 own : IsNumeralModel (AllDigits 10) (digits_value 10)
@@ -21,7 +21,8 @@ pub no_space : (id : ℕ) → IsIdentifier id → HasNoSpace (decimal id)
 no_space id is held =
     let digits = digits_decimal own id (omega arith) in
     let none : All (λ b. b ≢ 32) (decimal id) =
-    All-from_get_or (λ b. b ≢ 32) (decimal id) 0 (λ i l. not_in_digits own (decimal id) 32 digits (λ r. omega (arith, r.0)) i l) in
+    All-from_get_or (λ b. b ≢ 32) (decimal id) 0
+    (λ i l. not_in_digits own (decimal id) 32 digits (λ r. omega (arith, r.0)) i l) in
     All-contains (λ b. b ≢ 32) (decimal id) 32 none held refl
 
 name_byte : (b : ℕ) → b ≡ 32 → IsNameByte b → ⊥
@@ -42,7 +43,8 @@ later b bs held = Contains-append_right (b ∷ []) bs 32 held
 
 -- what has a space between two parts has a space
 pub has_space : (bytes a b : List ℕ) → bytes ≡ a ++ 32 ∷ b → Contains bytes 32
-has_space bytes a b e = subst (λ (w : List ℕ). Contains w 32) (sym e) (Contains-append_right a (32 ∷ b) 32 (here 32 b refl))
+has_space bytes a b e =
+    subst (λ (w : List ℕ). Contains w 32) (sym e) (Contains-append_right a (32 ∷ b) 32 (here 32 b refl))
 
 -- the first space is one place
 pub one_split : (a c b d : List ℕ) → HasNoSpace a → HasNoSpace c → a ++ 32 ∷ b ≡ c ++ 32 ∷ d → (a ≡ c) × (b ≡ d)
@@ -101,13 +103,18 @@ follows words.Next rest (Next name) h = (h.0, ap (λ (r : List ℕ). codes "next
 follows words.Close rest (Close name) h = (h.0, ap (λ (r : List ℕ). codes "close" ++ 32 ∷ r) h.1)
 follows w rest c h = absurd h
 
-pub part_follows : (w : Word) (rest part : List ℕ) → IdentifierPart w rest part → HasIdentifierPart (word_text w ++ 32 ∷ rest) part
+pub part_follows : (w : Word) (rest part : List ℕ) → IdentifierPart w rest part →
+    HasIdentifierPart (word_text w ++ 32 ∷ rest) part
 part_follows words.Register rest part h = (h.0, inl (h.1, ap (λ (r : List ℕ). codes "register" ++ 32 ∷ r) h.2))
 part_follows words.Revise rest part h = (h.0, inr (inl (h.1, ap (λ (r : List ℕ). codes "revise" ++ 32 ∷ r) h.2)))
-part_follows words.RegisterMol rest part h = (h.0, inr (inr (inl (ap (λ (r : List ℕ). codes "register-mol" ++ 32 ∷ r) h.1))))
-part_follows words.ReviseMol rest part h = (h.0, inr (inr (inr (inl (ap (λ (r : List ℕ). codes "revise-mol" ++ 32 ∷ r) h.1)))))
-part_follows words.Withdraw rest part h = (h.0, inr (inr (inr (inr (inl (ap (λ (r : List ℕ). codes "withdraw" ++ 32 ∷ r) h.1))))))
-part_follows words.Show rest part h = (h.0, inr (inr (inr (inr (inr (ap (λ (r : List ℕ). codes "show" ++ 32 ∷ r) h.1))))))
+part_follows words.RegisterMol rest part h =
+    (h.0, inr (inr (inl (ap (λ (r : List ℕ). codes "register-mol" ++ 32 ∷ r) h.1))))
+part_follows words.ReviseMol rest part h =
+    (h.0, inr (inr (inr (inl (ap (λ (r : List ℕ). codes "revise-mol" ++ 32 ∷ r) h.1)))))
+part_follows words.Withdraw rest part h =
+    (h.0, inr (inr (inr (inr (inl (ap (λ (r : List ℕ). codes "withdraw" ++ 32 ∷ r) h.1))))))
+part_follows words.Show rest part h =
+    (h.0, inr (inr (inr (inr (inr (ap (λ (r : List ℕ). codes "show" ++ 32 ∷ r) h.1))))))
 part_follows w rest part h = absurd h
 
 -- a line of a word and a rest that is this command
@@ -117,18 +124,24 @@ pub record IsCut (line : List ℕ) (c : Command) : Type 0 where
   pub is : line ≡ word_text word ++ 32 ∷ rest
   pub follows : Follows word rest c
 
-pub cut_of : (line : List ℕ) (c : Command) → Spells line c → ((line ≡ []) ⊎ ((line ≡ codes "prune") ⊎ (line ≡ codes "stats"))) ⊎ IsCut line c
+pub cut_of : (line : List ℕ) (c : Command) → Spells line c →
+    ((line ≡ []) ⊎ ((line ≡ codes "prune") ⊎ (line ≡ codes "stats"))) ⊎ IsCut line c
 cut_of line Empty h = inl (inl h)
 cut_of line Prune h = inl (inr (inl h))
 cut_of line Stats h = inl (inr (inr h))
-cut_of line (Register id text) h = inr (record { word = words.Register; rest = decimal id ++ 32 ∷ text; is = h.1; follows = (h.0, refl) })
-cut_of line (Revise id text) h = inr (record { word = words.Revise; rest = decimal id ++ 32 ∷ text; is = h.1; follows = (h.0, refl) })
-cut_of line (RegisterMol id) h = inr (record { word = words.RegisterMol; rest = decimal id; is = h.1; follows = (h.0, refl) })
-cut_of line (ReviseMol id) h = inr (record { word = words.ReviseMol; rest = decimal id; is = h.1; follows = (h.0, refl) })
+cut_of line (Register id text) h =
+    inr (record { word = words.Register; rest = decimal id ++ 32 ∷ text; is = h.1; follows = (h.0, refl) })
+cut_of line (Revise id text) h =
+    inr (record { word = words.Revise; rest = decimal id ++ 32 ∷ text; is = h.1; follows = (h.0, refl) })
+cut_of line (RegisterMol id) h =
+    inr (record { word = words.RegisterMol; rest = decimal id; is = h.1; follows = (h.0, refl) })
+cut_of line (ReviseMol id) h =
+    inr (record { word = words.ReviseMol; rest = decimal id; is = h.1; follows = (h.0, refl) })
 cut_of line (Withdraw id) h = inr (record { word = words.Withdraw; rest = decimal id; is = h.1; follows = (h.0, refl) })
 cut_of line (Show id) h = inr (record { word = words.Show; rest = decimal id; is = h.1; follows = (h.0, refl) })
 cut_of line (Search pattern) h = inr (record { word = words.Search; rest = pattern; is = h; follows = refl })
-cut_of line (Start name pattern) h = inr (record { word = words.Open; rest = name ++ 32 ∷ pattern; is = h.1; follows = (h.0, refl) })
+cut_of line (Start name pattern) h =
+    inr (record { word = words.Open; rest = name ++ 32 ∷ pattern; is = h.1; follows = (h.0, refl) })
 cut_of line (Next name) h = inr (record { word = words.Next; rest = name; is = h.1; follows = (h.0, refl) })
 cut_of line (Close name) h = inr (record { word = words.Close; rest = name; is = h.1; follows = (h.0, refl) })
 
@@ -139,27 +152,38 @@ pub record IsPartCut (line part : List ℕ) : Type 0 where
   pub follows : IdentifierPart word rest part
 
 pub part_cut_of : (line part : List ℕ) → HasIdentifierPart line part → IsPartCut line part
-part_cut_of line part (n, inl (text, e)) = record { word = words.Register; rest = part ++ 32 ∷ text; is = e; follows = (n, text, refl) }
-part_cut_of line part (n, inr (inl (text, e))) = record { word = words.Revise; rest = part ++ 32 ∷ text; is = e; follows = (n, text, refl) }
-part_cut_of line part (n, inr (inr (inl e))) = record { word = words.RegisterMol; rest = part; is = e; follows = (n, refl) }
-part_cut_of line part (n, inr (inr (inr (inl e)))) = record { word = words.ReviseMol; rest = part; is = e; follows = (n, refl) }
-part_cut_of line part (n, inr (inr (inr (inr (inl e))))) = record { word = words.Withdraw; rest = part; is = e; follows = (n, refl) }
-part_cut_of line part (n, inr (inr (inr (inr (inr e))))) = record { word = words.Show; rest = part; is = e; follows = (n, refl) }
+part_cut_of line part (n, inl (text, e)) =
+    record { word = words.Register; rest = part ++ 32 ∷ text; is = e; follows = (n, text, refl) }
+part_cut_of line part (n, inr (inl (text, e))) =
+    record { word = words.Revise; rest = part ++ 32 ∷ text; is = e; follows = (n, text, refl) }
+part_cut_of line part (n, inr (inr (inl e))) =
+    record { word = words.RegisterMol; rest = part; is = e; follows = (n, refl) }
+part_cut_of line part (n, inr (inr (inr (inl e)))) =
+    record { word = words.ReviseMol; rest = part; is = e; follows = (n, refl) }
+part_cut_of line part (n, inr (inr (inr (inr (inl e))))) =
+    record { word = words.Withdraw; rest = part; is = e; follows = (n, refl) }
+part_cut_of line part (n, inr (inr (inr (inr (inr e))))) =
+    record { word = words.Show; rest = part; is = e; follows = (n, refl) }
 
 -- a line is cut into one word and one rest
-pub one_cut : (line rest more : List ℕ) (w v : Word) → line ≡ word_text w ++ 32 ∷ rest → line ≡ word_text v ++ 32 ∷ more → (w ≡ v) × (rest ≡ more)
+pub one_cut : (line rest more : List ℕ) (w v : Word) → line ≡ word_text w ++ 32 ∷ rest →
+    line ≡ word_text v ++ 32 ∷ more → (w ≡ v) × (rest ≡ more)
 one_cut line rest more w v e f =
     let same = one_split (word_text w) (word_text v) rest more (word_space w) (word_space v) (sym e ∙ f) in
     (one_word w v same.0, same.1)
 
 -- a line with a space is none of the words alone
-pub not_alone : (line : List ℕ) → Contains line 32 → ((line ≡ []) ⊎ ((line ≡ codes "prune") ⊎ (line ≡ codes "stats"))) → ⊥
+pub not_alone : (line : List ℕ) → Contains line 32 →
+    ((line ≡ []) ⊎ ((line ≡ codes "prune") ⊎ (line ≡ codes "stats"))) → ⊥
 not_alone line held (inl e) = spaceless [] tt (subst (λ (w : List ℕ). Contains w 32) e held)
-not_alone line held (inr (inl e)) = spaceless (codes "prune") (search arith) (subst (λ (w : List ℕ). Contains w 32) e held)
-not_alone line held (inr (inr e)) = spaceless (codes "stats") (search arith) (subst (λ (w : List ℕ). Contains w 32) e held)
+not_alone line held (inr (inl e)) =
+    spaceless (codes "prune") (search arith) (subst (λ (w : List ℕ). Contains w 32) e held)
+not_alone line held (inr (inr e)) =
+    spaceless (codes "stats") (search arith) (subst (λ (w : List ℕ). Contains w 32) e held)
 
 -- what a line with a space spells follows its first word
-pub spelled_after : (line first rest : List ℕ) (c : Command) → line ≡ first ++ 32 ∷ rest → HasNoSpace first → Spells line c → (w : Word) × (word_text w ≡ first) × Follows w rest c
+pub spelled_after : (line first rest : List ℕ) (c : Command) → line ≡ first ++ 32 ∷ rest → HasNoSpace first →
+    Spells line c → (w : Word) × (word_text w ≡ first) × Follows w rest c
 spelled_after line first rest c e n h =
     elim (cut_of line c h) as (λ _. (w : Word) × (word_text w ≡ first) × Follows w rest c) [
       | inl a ↦ absurd (not_alone line (has_space line first rest e) a)
@@ -168,19 +192,24 @@ spelled_after line first rest c e n h =
           (x.word, same.0, subst (λ (r : List ℕ). Follows x.word r c) same.1 x.follows)
     ]
 
-pub part_after : (line first rest part : List ℕ) → line ≡ first ++ 32 ∷ rest → HasNoSpace first → HasIdentifierPart line part → (w : Word) × (word_text w ≡ first) × IdentifierPart w rest part
+pub part_after : (line first rest part : List ℕ) → line ≡ first ++ 32 ∷ rest → HasNoSpace first →
+    HasIdentifierPart line part → (w : Word) × (word_text w ≡ first) × IdentifierPart w rest part
 part_after line first rest part e n h =
     let x = part_cut_of line part h in
     let same = one_split (word_text x.word) first x.rest rest (word_space x.word) n (sym x.is ∙ e) in
     (x.word, same.0, subst (λ (r : List ℕ). IdentifierPart x.word r part) same.1 x.follows)
 
 -- a line whose first word is none
-pub no_word : (line first rest : List ℕ) → line ≡ first ++ 32 ∷ rest → HasNoSpace first → ((w : Word) → word_text w ≢ first) → IsLine line (Err refusals.Syntax)
-no_word line first rest e n none =
-    (λ c h. let x = spelled_after line first rest c e n h in none x.0 x.1, λ part h. let x = part_after line first rest part e n h in none x.0 x.1)
+pub no_word : (line first rest : List ℕ) → line ≡ first ++ 32 ∷ rest → HasNoSpace first →
+    ((w : Word) → word_text w ≢ first) → IsLine line (Err refusals.Syntax)
+no_word line first rest e n none = (
+  λ c h. let x = spelled_after line first rest c e n h in none x.0 x.1,
+  λ part h. let x = part_after line first rest part e n h in none x.0 x.1,
+)
 
 -- a line without a space that is no word alone
-pub no_line : (line : List ℕ) → HasNoSpace line → line ≢ [] → line ≢ codes "prune" → line ≢ codes "stats" → IsLine line (Err refusals.Syntax)
+pub no_line : (line : List ℕ) → HasNoSpace line → line ≢ [] → line ≢ codes "prune" → line ≢ codes "stats" →
+    IsLine line (Err refusals.Syntax)
 no_line line n empty prune stats = (
   λ c h. elim (cut_of line c h) as (λ _. ⊥) [
     | inl (inl e) ↦ empty e
@@ -192,60 +221,89 @@ no_line line n empty prune stats = (
 )
 
 -- a line is what its rest is read as
-pub line_of_rest : (line first rest : List ℕ) (w : Word) (r : Result Command LineRefusal) → line ≡ first ++ 32 ∷ rest → HasNoSpace first → word_text w ≡ first → IsRest w rest r → IsLine line r
+pub line_of_rest : (line first rest : List ℕ) (w : Word) (r : Result Command LineRefusal) → line ≡ first ++ 32 ∷ rest →
+    HasNoSpace first → word_text w ≡ first → IsRest w rest r → IsLine line r
 line_of_rest line first rest w (Ok c) e n is h =
     subst (λ (l : List ℕ). Spells l c) (sym (e ∙ ap (λ (f : List ℕ). f ++ 32 ∷ rest) (sym is))) (follows w rest c h)
-line_of_rest line first rest w (Err refusals.Id) e n is h =
-    (h.0, subst (λ (l : List ℕ). HasIdentifierPart l h.0) (sym (e ∙ ap (λ (f : List ℕ). f ++ 32 ∷ rest) (sym is))) (part_follows w rest h.0 h.1), h.2)
+line_of_rest line first rest w (Err refusals.Id) e n is h = (
+  h.0,
+  subst (λ (l : List ℕ). HasIdentifierPart l h.0) (sym (e ∙ ap (λ (f : List ℕ). f ++ 32 ∷ rest) (sym is)))
+      (part_follows w rest h.0 h.1),
+  h.2,
+)
 line_of_rest line first rest w (Err refusals.Syntax) e n is h = (
-  λ c s. let x = spelled_after line first rest c e n s in h.0 c (subst (λ (v : Word). Follows v rest c) (one_word x.0 w (x.1 ∙ sym is)) x.2),
-  λ part s. let x = part_after line first rest part e n s in h.1 part (subst (λ (v : Word). IdentifierPart v rest part) (one_word x.0 w (x.1 ∙ sym is)) x.2),
+  λ c s. let x = spelled_after line first rest c e n s in
+      h.0 c (subst (λ (v : Word). Follows v rest c) (one_word x.0 w (x.1 ∙ sym is)) x.2),
+  λ part s. let x = part_after line first rest part e n s in
+      h.1 part (subst (λ (v : Word). IdentifierPart v rest part) (one_word x.0 w (x.1 ∙ sym is)) x.2),
 )
 
 -- why what follows `register` or `revise` is refused
-pub registration_refused : (rest : List ℕ) (e : LineRefusal) → (e ≡ refusals.Id → (part : List ℕ) × HasNoSpace part × ((text : List ℕ) × (rest ≡ part ++ 32 ∷ text)) × IsNoIdentifier part) → (e ≡ refusals.Syntax → HasNoSpace rest) → IsRest words.Register rest (Err e)
+pub registration_refused : (rest : List ℕ) (e : LineRefusal) →
+    (e ≡ refusals.Id →
+    (part : List ℕ) × HasNoSpace part × ((text : List ℕ) × (rest ≡ part ++ 32 ∷ text)) × IsNoIdentifier part) →
+    (e ≡ refusals.Syntax → HasNoSpace rest) → IsRest words.Register rest (Err e)
 registration_refused rest refusals.Id id syntax = let h = id refl in (h.0, (h.1, h.2.0, h.2.1), h.3)
-registration_refused rest refusals.Syntax id syntax = (λ c h. no_registration rest (syntax refl) c h, λ part h. syntax refl (has_space rest part h.1 h.2))
+registration_refused rest refusals.Syntax id syntax =
+    (λ c h. no_registration rest (syntax refl) c h, λ part h. syntax refl (has_space rest part h.1 h.2))
   where
     no_registration : (rest : List ℕ) → HasNoSpace rest → (c : Command) → Follows words.Register rest c → ⊥
     no_registration rest n (Register id text) h = n (has_space rest (decimal id) text h.1)
     no_registration rest n c h = h
 
-pub revision_refused : (rest : List ℕ) (e : LineRefusal) → (e ≡ refusals.Id → (part : List ℕ) × HasNoSpace part × ((text : List ℕ) × (rest ≡ part ++ 32 ∷ text)) × IsNoIdentifier part) → (e ≡ refusals.Syntax → HasNoSpace rest) → IsRest words.Revise rest (Err e)
+pub revision_refused : (rest : List ℕ) (e : LineRefusal) →
+    (e ≡ refusals.Id →
+    (part : List ℕ) × HasNoSpace part × ((text : List ℕ) × (rest ≡ part ++ 32 ∷ text)) × IsNoIdentifier part) →
+    (e ≡ refusals.Syntax → HasNoSpace rest) → IsRest words.Revise rest (Err e)
 revision_refused rest refusals.Id id syntax = let h = id refl in (h.0, (h.1, h.2.0, h.2.1), h.3)
-revision_refused rest refusals.Syntax id syntax = (λ c h. no_revision rest (syntax refl) c h, λ part h. syntax refl (has_space rest part h.1 h.2))
+revision_refused rest refusals.Syntax id syntax =
+    (λ c h. no_revision rest (syntax refl) c h, λ part h. syntax refl (has_space rest part h.1 h.2))
   where
     no_revision : (rest : List ℕ) → HasNoSpace rest → (c : Command) → Follows words.Revise rest c → ⊥
     no_revision rest n (Revise id text) h = n (has_space rest (decimal id) text h.1)
     no_revision rest n c h = h
 
-pub register_mol_refused : (rest : List ℕ) (e : LineRefusal) → (e ≡ refusals.Id → HasNoSpace rest × IsNoIdentifier rest) → (e ≡ refusals.Syntax → Contains rest 32) → IsRest words.RegisterMol rest (Err e)
+pub register_mol_refused : (rest : List ℕ) (e : LineRefusal) →
+    (e ≡ refusals.Id → HasNoSpace rest × IsNoIdentifier rest) → (e ≡ refusals.Syntax → Contains rest 32) →
+    IsRest words.RegisterMol rest (Err e)
 register_mol_refused rest refusals.Id id syntax = let h = id refl in (rest, (h.0, refl), h.1)
-register_mol_refused rest refusals.Syntax id syntax = (λ c h. no_register_mol rest (syntax refl) c h, λ part h. h.0 (subst (λ (r : List ℕ). Contains r 32) h.1 (syntax refl)))
+register_mol_refused rest refusals.Syntax id syntax = (
+  λ c h. no_register_mol rest (syntax refl) c h,
+  λ part h. h.0 (subst (λ (r : List ℕ). Contains r 32) h.1 (syntax refl)),
+)
   where
     no_register_mol : (rest : List ℕ) → Contains rest 32 → (c : Command) → Follows words.RegisterMol rest c → ⊥
     no_register_mol rest held (RegisterMol id) h = no_space id h.0 (subst (λ (r : List ℕ). Contains r 32) h.1 held)
     no_register_mol rest held c h = h
 
-pub revise_mol_refused : (rest : List ℕ) (e : LineRefusal) → (e ≡ refusals.Id → HasNoSpace rest × IsNoIdentifier rest) → (e ≡ refusals.Syntax → Contains rest 32) → IsRest words.ReviseMol rest (Err e)
+pub revise_mol_refused : (rest : List ℕ) (e : LineRefusal) →
+    (e ≡ refusals.Id → HasNoSpace rest × IsNoIdentifier rest) → (e ≡ refusals.Syntax → Contains rest 32) →
+    IsRest words.ReviseMol rest (Err e)
 revise_mol_refused rest refusals.Id id syntax = let h = id refl in (rest, (h.0, refl), h.1)
-revise_mol_refused rest refusals.Syntax id syntax = (λ c h. no_revise_mol rest (syntax refl) c h, λ part h. h.0 (subst (λ (r : List ℕ). Contains r 32) h.1 (syntax refl)))
+revise_mol_refused rest refusals.Syntax id syntax = (
+  λ c h. no_revise_mol rest (syntax refl) c h,
+  λ part h. h.0 (subst (λ (r : List ℕ). Contains r 32) h.1 (syntax refl)),
+)
   where
     no_revise_mol : (rest : List ℕ) → Contains rest 32 → (c : Command) → Follows words.ReviseMol rest c → ⊥
     no_revise_mol rest held (ReviseMol id) h = no_space id h.0 (subst (λ (r : List ℕ). Contains r 32) h.1 held)
     no_revise_mol rest held c h = h
 
-pub withdraw_refused : (rest : List ℕ) (e : LineRefusal) → (e ≡ refusals.Id → HasNoSpace rest × IsNoIdentifier rest) → (e ≡ refusals.Syntax → Contains rest 32) → IsRest words.Withdraw rest (Err e)
+pub withdraw_refused : (rest : List ℕ) (e : LineRefusal) → (e ≡ refusals.Id → HasNoSpace rest × IsNoIdentifier rest) →
+    (e ≡ refusals.Syntax → Contains rest 32) → IsRest words.Withdraw rest (Err e)
 withdraw_refused rest refusals.Id id syntax = let h = id refl in (rest, (h.0, refl), h.1)
-withdraw_refused rest refusals.Syntax id syntax = (λ c h. no_withdraw rest (syntax refl) c h, λ part h. h.0 (subst (λ (r : List ℕ). Contains r 32) h.1 (syntax refl)))
+withdraw_refused rest refusals.Syntax id syntax =
+    (λ c h. no_withdraw rest (syntax refl) c h, λ part h. h.0 (subst (λ (r : List ℕ). Contains r 32) h.1 (syntax refl)))
   where
     no_withdraw : (rest : List ℕ) → Contains rest 32 → (c : Command) → Follows words.Withdraw rest c → ⊥
     no_withdraw rest held (Withdraw id) h = no_space id h.0 (subst (λ (r : List ℕ). Contains r 32) h.1 held)
     no_withdraw rest held c h = h
 
-pub show_refused : (rest : List ℕ) (e : LineRefusal) → (e ≡ refusals.Id → HasNoSpace rest × IsNoIdentifier rest) → (e ≡ refusals.Syntax → Contains rest 32) → IsRest words.Show rest (Err e)
+pub show_refused : (rest : List ℕ) (e : LineRefusal) → (e ≡ refusals.Id → HasNoSpace rest × IsNoIdentifier rest) →
+    (e ≡ refusals.Syntax → Contains rest 32) → IsRest words.Show rest (Err e)
 show_refused rest refusals.Id id syntax = let h = id refl in (rest, (h.0, refl), h.1)
-show_refused rest refusals.Syntax id syntax = (λ c h. no_show rest (syntax refl) c h, λ part h. h.0 (subst (λ (r : List ℕ). Contains r 32) h.1 (syntax refl)))
+show_refused rest refusals.Syntax id syntax =
+    (λ c h. no_show rest (syntax refl) c h, λ part h. h.0 (subst (λ (r : List ℕ). Contains r 32) h.1 (syntax refl)))
   where
     no_show : (rest : List ℕ) → Contains rest 32 → (c : Command) → Follows words.Show rest c → ⊥
     no_show rest held (Show id) h = no_space id h.0 (subst (λ (r : List ℕ). Contains r 32) h.1 held)
@@ -255,30 +313,35 @@ show_refused rest refusals.Syntax id syntax = (λ c h. no_show rest (syntax refl
 pub no_name : (rest : List ℕ) → HasNoSpace rest → (name text : List ℕ) → IsName name → rest ≢ name ++ 32 ∷ text
 no_name rest n name text is e = n (has_space rest name text e)
 
-pub other_name : (rest first text : List ℕ) → rest ≡ first ++ 32 ∷ text → HasNoSpace first → ¬ IsName first → (name more : List ℕ) → IsName name → rest ≢ name ++ 32 ∷ more
-other_name rest first text cut n none name more is e = none (subst IsName (one_split name first more text (no_space_named name is) n (sym e ∙ cut)).0 is)
+pub other_name : (rest first text : List ℕ) → rest ≡ first ++ 32 ∷ text → HasNoSpace first → ¬ IsName first →
+    (name more : List ℕ) → IsName name → rest ≢ name ++ 32 ∷ more
+other_name rest first text cut n none name more is e =
+    none (subst IsName (one_split name first more text (no_space_named name is) n (sym e ∙ cut)).0 is)
 
--- a line that is `register-mol` alone
-pub mol_alone : (line : List ℕ) → line ≡ codes "register-mol" → HasNoSpace line → IsLine line (Err refusals.Syntax)
-unfolding key
-mol_alone line e n = no_line line n (λ f. let k = ap key (sym e ∙ f) in omega arith) (λ f. let k = ap key (sym e ∙ f) in omega arith) (λ f. let k = ap key (sym e ∙ f) in omega arith)
+-- a line that begins with another word
+other_word : (word line : List ℕ) → word ≢ line → HasNoSpace line → ¬ StartsWith line word
+other_word word line other n (inl e) = other (sym e)
+other_word word line other n (inr h) = n (has_space line word h.0 h.1)
+
+other_first : (word line first rest : List ℕ) → HasNoSpace word → line ≡ first ++ 32 ∷ rest → HasNoSpace first →
+    word ≢ first → ¬ StartsWith line word
+other_first word line first rest w cut n other (inl e) = w (has_space word first rest (sym e ∙ cut))
+other_first word line first rest w cut n other (inr h) = other (one_split word first h.0 rest w n (sym h.1 ∙ cut)).0
 
 -- a line without a space that is another word
-pub no_mol_alone : (line : List ℕ) → line ≢ codes "register-mol" → HasNoSpace line → ¬ StartsMolfile line
-no_mol_alone line other n (inl e) = other e
-no_mol_alone line other n (inr h) = n (has_space line (codes "register-mol") h.0 h.1)
+pub no_mol_alone : (line : List ℕ) → codes "register-mol" ≢ line → codes "revise-mol" ≢ line → HasNoSpace line →
+    ¬ StartsMolfile line
+no_mol_alone line a b n (inl h) = other_word (codes "register-mol") line a n h
+no_mol_alone line a b n (inr h) = other_word (codes "revise-mol") line b n h
 
 -- a line whose first word is another
-pub no_mol : (line first rest : List ℕ) → line ≡ first ++ 32 ∷ rest → HasNoSpace first → first ≢ codes "register-mol" → ¬ StartsMolfile line
-no_mol line first rest cut n other (inl e) = word_space words.RegisterMol (has_space (codes "register-mol") first rest (sym e ∙ cut))
-no_mol line first rest cut n other (inr h) = other (one_split first (codes "register-mol") rest h.0 n (word_space words.RegisterMol) (sym cut ∙ h.1)).0
+pub no_mol : (line first rest : List ℕ) → line ≡ first ++ 32 ∷ rest → HasNoSpace first → codes "register-mol" ≢ first →
+    codes "revise-mol" ≢ first → ¬ StartsMolfile line
+no_mol line first rest cut n a b (inl h) =
+    other_first (codes "register-mol") line first rest (word_space words.RegisterMol) cut n a h
+no_mol line first rest cut n a b (inr h) =
+    other_first (codes "revise-mol") line first rest (word_space words.ReviseMol) cut n b h
 
--- a line of that word, by how its rest is read
-pub mol_line : (line first rest : List ℕ) (read : Result ℕ LineRefusal) → line ≡ first ++ 32 ∷ rest → HasNoSpace first → first ≡ codes "register-mol" → IsRest words.RegisterMol rest (registration_of read) → StartsMolfile line × IsLine line (registration_of read)
-mol_line line first rest read cut n is h =
-    (inr (rest, cut ∙ ap (λ (f : List ℕ). f ++ 32 ∷ rest) is), line_of_rest line first rest words.RegisterMol (registration_of read) cut n (sym is) h)
-
--- how a rest is read as an identifier alone
-pub mol_rest : (rest : List ℕ) (read : Result ℕ LineRefusal) → IfOk read (λ id. IsIdentifier id × (rest ≡ decimal id)) → (read ≡ Err refusals.Id → HasNoSpace rest × IsNoIdentifier rest) → (read ≡ Err refusals.Syntax → Contains rest 32) → IsRest words.RegisterMol rest (registration_of read)
-mol_rest rest (Ok id) ok none syntax = ok
-mol_rest rest (Err e) ok none syntax = register_mol_refused rest e (λ f. none (ap Err f)) (λ f. syntax (ap Err f))
+-- a line with this first word
+pub starts : (word line first rest : List ℕ) → line ≡ first ++ 32 ∷ rest → word ≡ first → StartsWith line word
+starts word line first rest cut is = inr (rest, cut ∙ ap (λ (f : List ℕ). f ++ 32 ∷ rest) (sym is))

@@ -61,8 +61,10 @@ kind_without_space : (line : List ℕ) (c : Command) → HasNoSpace line → Spe
 kind_without_space line Empty n h = ap kind_alone (sym h)
 kind_without_space line Prune n h = ap kind_alone (sym h)
 kind_without_space line Stats n h = ap kind_alone (sym h)
-kind_without_space line (Register id text) n h = absurd (n (has_space line (codes "register") (decimal id ++ 32 ∷ text) h.1))
-kind_without_space line (Revise id text) n h = absurd (n (has_space line (codes "revise") (decimal id ++ 32 ∷ text) h.1))
+kind_without_space line (Register id text) n h =
+    absurd (n (has_space line (codes "register") (decimal id ++ 32 ∷ text) h.1))
+kind_without_space line (Revise id text) n h =
+    absurd (n (has_space line (codes "revise") (decimal id ++ 32 ∷ text) h.1))
 kind_without_space line (RegisterMol id) n h = absurd (n (has_space line (codes "register-mol") (decimal id) h.1))
 kind_without_space line (ReviseMol id) n h = absurd (n (has_space line (codes "revise-mol") (decimal id) h.1))
 kind_without_space line (Withdraw id) n h = absurd (n (has_space line (codes "withdraw") (decimal id) h.1))
@@ -75,7 +77,8 @@ kind_without_space line (Close name) n h = absurd (n (has_space line (codes "clo
 same_kind : (line : List ℕ) (c d : Command) → Spells line c → Spells line d → kind c ≡ kind d
 same_kind line c d p q =
     let alone : ((line ≡ []) ⊎ ((line ≡ codes "prune") ⊎ (line ≡ codes "stats"))) → kind c ≡ kind d =
-    λ a. kind_without_space line c (λ held. not_alone line held a) p ∙ sym (kind_without_space line d (λ held. not_alone line held a) q) in
+    λ a. kind_without_space line c (λ held. not_alone line held a) p
+    ∙ sym (kind_without_space line d (λ held. not_alone line held a) q) in
     elim (cut_of line c p) [
       | inl a ↦ alone a
       | inr x ↦ elim (cut_of line d q) [
@@ -87,7 +90,8 @@ same_kind line c d p q =
     ]
 
 -- an identifier and a text behind the same word
-same_registration : (m n : ℕ) (t u : List ℕ) → IsIdentifier m → IsIdentifier n → decimal m ++ 32 ∷ t ≡ decimal n ++ 32 ∷ u → (m ≡ n) × (t ≡ u)
+same_registration : (m n : ℕ) (t u : List ℕ) → IsIdentifier m → IsIdentifier n →
+    decimal m ++ 32 ∷ t ≡ decimal n ++ 32 ∷ u → (m ≡ n) × (t ≡ u)
 same_registration m n t u p q e =
     let same = one_split (decimal m) (decimal n) t u (no_space m p) (no_space n q) e in
     (decimal_injective m n (omega arith) (omega arith) same.0, same.1)
@@ -109,20 +113,25 @@ same_command line (Register m t) (Register n u) p q =
 same_command line (Revise m t) (Revise n u) p q =
     let same = same_registration m n t u p.0 q.0 (behind (codes "revise") line _ _ p.1 q.1) in
     ap (λ i. Revise i t) same.0 ∙ ap (λ (w : List ℕ). Revise n w) same.1
-same_command line (RegisterMol m) (RegisterMol n) p q = ap RegisterMol (same_identifier m n p.0 q.0 (behind (codes "register-mol") line _ _ p.1 q.1))
-same_command line (ReviseMol m) (ReviseMol n) p q = ap ReviseMol (same_identifier m n p.0 q.0 (behind (codes "revise-mol") line _ _ p.1 q.1))
-same_command line (Withdraw m) (Withdraw n) p q = ap Withdraw (same_identifier m n p.0 q.0 (behind (codes "withdraw") line _ _ p.1 q.1))
+same_command line (RegisterMol m) (RegisterMol n) p q =
+    ap RegisterMol (same_identifier m n p.0 q.0 (behind (codes "register-mol") line _ _ p.1 q.1))
+same_command line (ReviseMol m) (ReviseMol n) p q =
+    ap ReviseMol (same_identifier m n p.0 q.0 (behind (codes "revise-mol") line _ _ p.1 q.1))
+same_command line (Withdraw m) (Withdraw n) p q =
+    ap Withdraw (same_identifier m n p.0 q.0 (behind (codes "withdraw") line _ _ p.1 q.1))
 same_command line (Show m) (Show n) p q = ap Show (same_identifier m n p.0 q.0 (behind (codes "show") line _ _ p.1 q.1))
 same_command line (Search t) (Search u) p q = ap Search (behind (codes "search") line _ _ p q)
 same_command line (Next t) (Next u) p q = ap Next (behind (codes "next") line _ _ p.1 q.1)
 same_command line (Close t) (Close u) p q = ap Close (behind (codes "close") line _ _ p.1 q.1)
 same_command line (Start a t) (Start b u) p q =
-    let same = one_split a b t u (no_space_named a p.0) (no_space_named b q.0) (behind (codes "open") line _ _ p.1 q.1) in
+    let same =
+    one_split a b t u (no_space_named a p.0) (no_space_named b q.0) (behind (codes "open") line _ _ p.1 q.1) in
     ap (λ (w : List ℕ). Start w t) same.0 ∙ ap (λ (w : List ℕ). Start b w) same.1
 same_command line c d p q = absurd (let k = same_kind line c d p q in omega arith)
 
 -- a part that is no identifier stands where none does
-no_part : (w : Word) (rest part : List ℕ) (c : Command) → Follows w rest c → IdentifierPart w rest part → IsNoIdentifier part → ⊥
+no_part : (w : Word) (rest part : List ℕ) (c : Command) → Follows w rest c → IdentifierPart w rest part →
+    IsNoIdentifier part → ⊥
 no_part words.Register rest part (Register id text) h p none =
     none id h.0 (one_split part (decimal id) p.1 text p.0 (no_space id h.0) (sym p.2 ∙ h.1)).0
 no_part words.Revise rest part (Revise id text) h p none =
@@ -138,11 +147,13 @@ no_part words.Close rest part c h p none = p
 no_part w rest part c h p none = h
 
 -- no command has a part for an identifier that is none
-no_identifier_refused : (line part : List ℕ) (c : Command) → Spells line c → HasIdentifierPart line part → IsNoIdentifier part → ⊥
+no_identifier_refused : (line part : List ℕ) (c : Command) → Spells line c → HasIdentifierPart line part →
+    IsNoIdentifier part → ⊥
 no_identifier_refused line part c h p none =
     let x = part_cut_of line part p in
     let y = spelled_after line (word_text x.word) x.rest c x.is (word_space x.word) h in
-    no_part y.0 x.rest part c y.2 (subst (λ (w : Word). IdentifierPart w x.rest part) (sym (one_word y.0 x.word y.1)) x.follows) none
+    no_part y.0 x.rest part c y.2
+    (subst (λ (w : Word). IdentifierPart w x.rest part) (sym (one_word y.0 x.word y.1)) x.follows) none
 
 pub same_reading : (line : List ℕ) (a b : Result Command LineRefusal) → IsLine line a → IsLine line b → a ≡ b
 same_reading line (Ok c) (Ok d) p q = ap Ok (same_command line c d p q)

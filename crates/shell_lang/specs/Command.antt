@@ -1,9 +1,12 @@
--- For callers: the lines of a script. Parts of a line are separated by exactly one space; a SMILES and a SMARTS are the rest of their line, any bytes.
+-- For callers: the lines of a script. Parts of a line are separated by exactly one space; a SMILES and a SMARTS are the
+-- rest of their line, any bytes.
 use Rattle.std.specs.Prelude.{◌≡◌, ◌≢◌, ◌⊎◌, ℕ, ◌≤◌, Result, Ok, Err, List, [], ◌∷◌, ◌++◌, length, All, Contains, codes}
 use Rattle.std.specs.Fmt.{decimal}
 use Rattle.shell_lang.specs.declared.command.TheConstants.{LONGEST_NAME, LAST_IDENTIFIER}
 use Rattle.shell_lang.specs.declared.command.LineRefusal.{LineRefusal}
 use Rattle.shell_lang.specs.declared.command.LineRefusal.TheVariants as refusals
+use Rattle.shell_lang.specs.declared.command.MolfileChange.{MolfileChange}
+use Rattle.shell_lang.specs.declared.command.MolfileChange.TheVariants as changes
 
 pub data Command : Type 0 where
   Empty : Command
@@ -64,21 +67,28 @@ HasIdentifierPart line part =
     ⊎ ((line ≡ codes "register-mol" ++ 32 ∷ part) ⊎ ((line ≡ codes "revise-mol" ++ 32 ∷ part)
     ⊎ ((line ≡ codes "withdraw" ++ 32 ∷ part) ⊎ (line ≡ codes "show" ++ 32 ∷ part))))))
 
--- What a line is: a command; or `Id`, where the part for an identifier is none; or `Syntax`, where it is neither a command nor has such a part.
+-- What a line is: a command; or `Id`, where the part for an identifier is none; or `Syntax`, where it is neither a
+-- command nor has such a part.
 abbrev pub IsLine : List ℕ → Result Command LineRefusal → Type 0
 IsLine line (Ok command) = Spells line command
 IsLine line (Err refusals.Id) = (part : List ℕ) × HasIdentifierPart line part × IsNoIdentifier part
-IsLine line (Err refusals.Syntax) = ((command : Command) → ¬ Spells line command) × ((part : List ℕ) → ¬ HasIdentifierPart line part)
+IsLine line (Err refusals.Syntax) =
+    ((command : Command) → ¬ Spells line command) × ((part : List ℕ) → ¬ HasIdentifierPart line part)
 
--- the line's first part is `register-mol`, so that the lines of a molfile belong to it
+-- the line's first part is this word
+abbrev pub StartsWith : List ℕ → List ℕ → Type 0
+StartsWith line word = (line ≡ word) ⊎ ((rest : List ℕ) × (line ≡ word ++ 32 ∷ rest))
+
+-- the line's first part is `register-mol` or `revise-mol`, so that the lines of a molfile belong to it
 abbrev pub StartsMolfile : List ℕ → Type 0
-StartsMolfile line = (line ≡ codes "register-mol") ⊎ ((rest : List ℕ) × (line ≡ codes "register-mol" ++ 32 ∷ rest))
+StartsMolfile line = StartsWith line (codes "register-mol") ⊎ StartsWith line (codes "revise-mol")
 
 -- the line begins `M  END`, which ends a molfile
 abbrev pub EndsMolfile : List ℕ → Type 0
 EndsMolfile line = (rest : List ℕ) × (line ≡ codes "M  END" ++ rest)
 
--- what a line that starts a molfile is read as, by its identifier
-abbrev pub registration_of : Result ℕ LineRefusal → Result Command LineRefusal
-registration_of (Ok id) = Ok (RegisterMol id)
-registration_of (Err refusal) = Err refusal
+-- what a line that starts a molfile is read as, by its change
+abbrev pub molfile_command : Result MolfileChange LineRefusal → Result Command LineRefusal
+molfile_command (Ok (changes.Register id)) = Ok (RegisterMol id)
+molfile_command (Ok (changes.Revise id)) = Ok (ReviseMol id)
+molfile_command (Err refusal) = Err refusal

@@ -34,4 +34,5 @@ IdentifierPart word rest part = ⊥
 abbrev pub IsRest : Word → List ℕ → Result Command LineRefusal → Type 0
 IsRest word rest (Ok command) = Follows word rest command
 IsRest word rest (Err refusals.Id) = (part : List ℕ) × IdentifierPart word rest part × IsNoIdentifier part
-IsRest word rest (Err refusals.Syntax) = ((command : Command) → ¬ Follows word rest command) × ((part : List ℕ) → ¬ IdentifierPart word rest part)
+IsRest word rest (Err refusals.Syntax) =
+    ((command : Command) → ¬ Follows word rest command) × ((part : List ℕ) → ¬ IdentifierPart word rest part)

@@ -1,7 +1,10 @@
 -- For callers: reply lines, as they are written.
-use Rattle.std.specs.Prelude.{ℕ, List, [], ◌∷◌, ◌++◌, codes}
+use Rattle.std.specs.Prelude.{ℕ, Bool, true, false, List, [], ◌∷◌, ◌++◌, codes, count_by, ◌==◌, if◌then◌else◌}
+use Rattle.std.specs.Arc.{arc_value}
 use Rattle.std.specs.List.{flat_map}
 use Rattle.std.specs.Fmt.{decimal}
+use Rattle.mol_finish.specs.declared.fault.Format.{Format}
+use Rattle.mol_finish.specs.declared.fault.Format.TheVariants as formats
 use Rattle.mol_finish.specs.declared.fault.TextFault.{TextFault}
 use Rattle.mol_finish.specs.declared.fault.TextFault.TheVariants as texts
 use Rattle.molfile_read.specs.declared.fault.MolfileFault.{MolfileFault}
@@ -14,8 +17,24 @@ use Rattle.shell_lang.specs.declared.command.LineRefusal.{LineRefusal}
 use Rattle.shell_lang.specs.declared.command.LineRefusal.TheVariants as lines
 use Rattle.shell_lang.specs.declared.reply.Refusal.{Refusal}
 use Rattle.shell_lang.specs.declared.reply.Refusal.TheVariants as refusals
-use Rattle.shell_lang.specs.declared.reply.Reply.{Reply}
-use Rattle.shell_lang.specs.declared.reply.Reply.TheVariants.{Accepted, Hit, End, Refused}
+use Rattle.shell_lang.specs.declared.reply.Reply as written
+use Rattle.shell_lang.specs.declared.reply.Reply.TheVariants as replies
+
+-- A reply, without where a record lies in memory
+pub data Reply : Type 0 where
+  Accepted : (version : ℕ) → Reply
+  Shown : (id version : ℕ) (format : Format) (text : List ℕ) → Reply
+  Gone : (id version : ℕ) → Reply
+  Hit : (id : ℕ) → Reply
+  End : (version tried hits : ℕ) → Reply
+  Opened : (version : ℕ) → Reply
+  More : Reply
+  Closed : Reply
+  Pruned : (count : ℕ) → Reply
+  Counts : (version live withdrawn kept pins : ℕ) → Reply
+  Refused : Refusal → Reply
+  DiskFault : (doubt : Bool) → Reply
+  MemoryFault : Reply
 
 abbrev pub line_words : LineRefusal → List ℕ
 line_words lines.Syntax = codes "refused syntax"
@@ -54,22 +73,93 @@ pattern_words patterns.NoMemory = codes "fault memory"
 
 abbrev pub refusal_words : Refusal → List ℕ
 refusal_words refusals.Long = codes "refused long"
-refusal_words refusals.NotYet = codes "refused notyet"
 refusal_words (refusals.Line refusal) = line_words refusal
 refusal_words (refusals.Text fault) = text_words fault
 refusal_words (refusals.Pattern fault) = pattern_words fault
+refusal_words refusals.Cursor = codes "refused cursor"
 refusal_words refusals.Known = codes "refused known"
+refusal_words refusals.Absent = codes "refused absent"
+refusal_words refusals.Withdrawn = codes "refused withdrawn"
 refusal_words refusals.Full = codes "refused full"
+refusal_words refusals.Pins = codes "refused pins"
+
+-- a text whose every line is ended by LF: one is added where the last line has none
+abbrev pub ended : List ℕ → List ℕ
+ended [] = []
+ended (b ∷ []) = if b == 10 then 10 ∷ [] else b ∷ 10 ∷ []
+ended (b ∷ c ∷ bs) = b ∷ ended (c ∷ bs)
+
+abbrev pub line_count : List ℕ → ℕ
+line_count text = count_by (λ b. b == 10) (ended text)
+
+-- a SMILES, or how many lines of a molfile follow
+abbrev pub text_part : Format → List ℕ → List ℕ
+text_part formats.Smiles text = codes " smiles " ++ text
+text_part formats.Molfile text = codes " molfile " ++ decimal (line_count text)
+
+-- the lines of a molfile; of a SMILES none
+abbrev pub molfile_lines : Format → List ℕ → List ℕ
+molfile_lines formats.Smiles text = []
+molfile_lines formats.Molfile text = ended text
+
+abbrev pub lines_after : Reply → List ℕ
+lines_after (Shown id version format text) = molfile_lines format text
+lines_after reply = []
+
+abbrev pub record_words : ℕ → ℕ → Format → List ℕ → List ℕ
+record_words id version format text =
+    codes "record " ++ (decimal id ++ (codes " version " ++ (decimal version ++ text_part format text)))
+
+abbrev pub live_words : ℕ → ℕ → List ℕ
+live_words version live = codes "stats version " ++ (decimal version ++ (codes " live " ++ decimal live))
+
+abbrev pub kept_words : ℕ → ℕ → ℕ → List ℕ
+kept_words withdrawn kept pins =
+    codes " withdrawn " ++ (decimal withdrawn ++ (codes " kept " ++ (decimal kept ++ (codes " pins " ++ decimal pins))))
+
+abbrev pub count_words : ℕ → ℕ → ℕ → ℕ → ℕ → List ℕ
+count_words version live withdrawn kept pins = live_words version live ++ kept_words withdrawn kept pins
+
+abbrev pub doubt_words : Bool → List ℕ
+doubt_words true = codes "fault disk doubt"
+doubt_words false = codes "fault disk sure"
 
 abbrev pub reply_words : Reply → List ℕ
 reply_words (Accepted version) = codes "ok " ++ decimal version
+reply_words (Shown id version format text) = record_words id version format text
+reply_words (Gone id version) = codes "withdrawn " ++ (decimal id ++ (codes " version " ++ decimal version))
 reply_words (Hit id) = codes "hit " ++ decimal id
-reply_words (End version hits) = codes "end at " ++ decimal version ++ codes " hits " ++ decimal hits
+reply_words (End version tried hits) =
+    codes "end at " ++ (decimal version ++ (codes " tried " ++ (decimal tried ++ (codes " hits " ++ decimal hits))))
+reply_words (Opened version) = codes "opened " ++ decimal version
+reply_words More = codes "more"
+reply_words Closed = codes "closed"
+reply_words (Pruned count) = codes "pruned " ++ decimal count
+reply_words (Counts version live withdrawn kept pins) = count_words version live withdrawn kept pins
 reply_words (Refused refusal) = refusal_words refusal
+reply_words (DiskFault doubt) = doubt_words doubt
+reply_words MemoryFault = codes "fault memory"
 
--- each reply line is followed by LF
+-- each line is followed by LF
 abbrev pub reply_line : Reply → List ℕ
-reply_line reply = reply_words reply ++ 10 ∷ []
+reply_line reply = reply_words reply ++ 10 ∷ lines_after reply
 
 abbrev pub text_of : List Reply → List ℕ
 text_of replies = flat_map reply_line replies
+
+-- the reply that is written
+abbrev pub reply_of : written.Reply → Reply
+reply_of (replies.Accepted version) = Accepted version
+reply_of (replies.Shown version entry) =
+    Shown (arc_value entry).id version (arc_value entry).format (arc_value entry).text
+reply_of (replies.Gone id version) = Gone id version
+reply_of (replies.Hit id) = Hit id
+reply_of (replies.End version tried hits) = End version tried hits
+reply_of (replies.Opened version) = Opened version
+reply_of replies.More = More
+reply_of replies.Closed = Closed
+reply_of (replies.Pruned count) = Pruned count
+reply_of (replies.Counts n) = Counts n.version n.live n.withdrawn n.kept n.pins
+reply_of (replies.Refused refusal) = Refused refusal
+reply_of (replies.DiskFault doubt) = DiskFault doubt
+reply_of replies.MemoryFault = MemoryFault

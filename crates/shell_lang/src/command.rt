@@ -1,10 +1,11 @@
 //! Reading a line of a script: which command it spells, or why it spells none.
 ghost use Rattle.std.specs.Prelude.{◌≡◌, ◌≢◌, ◌∷◌, ◌++◌, ℕ, List, All, Contains, codes, decimal, IfSome, IfNone, IfOk, IfErr, IsErrOf, IsTrue, Result, ◌↔◌};
 ghost use Rattle.shell_lang.specs.Command as spec;
-ghost use Rattle.shell_lang.specs.Command.{IsIdentifier, IsNoIdentifier, IsNameByte, IsName, Spells, HasNoSpace, HasIdentifierPart, IsLine, StartsMolfile, EndsMolfile, registration_of};
+ghost use Rattle.shell_lang.specs.Command.{IsIdentifier, IsNoIdentifier, IsNameByte, IsName, Spells, HasNoSpace, HasIdentifierPart, IsLine, StartsMolfile, EndsMolfile, molfile_command};
 ghost use Rattle.shell_lang.specs.CommandView.{reading_of};
 ghost use Rattle.shell_lang.specs.Word.{word_text};
 ghost use Rattle.shell_lang.specs.Cut.{IsRest};
+ghost use Rattle.shell_lang.specs.declared.word.Word.TheVariants as words;
 ghost use Rattle.shell_lang.specs.declared.command.LineRefusal.{LineRefusal};
 ghost use Rattle.shell_lang.specs.declared.command.LineRefusal.TheVariants.{Syntax};
 
@@ -16,8 +17,6 @@ pub const LAST_IDENTIFIER: u64 = 999_999_999;
 
 /// The most bytes of a cursor's name.
 pub const LONGEST_NAME: usize = 32;
-
-const REGISTER_MOL: &[u8] = b"register-mol";
 
 /// A line of a script. An identifier is 1 to 999,999,999; a name has 1 to 32 letters of ASCII, digits or `_`.
 #[derive(Clone, Copy, Debug)]
@@ -50,6 +49,13 @@ pub enum Command<'a> {
     Stats,
 }
 
+/// A change whose text is a molfile.
+#[derive(Clone, Copy, Debug, PartialEq, Eq)]
+pub enum MolfileChange {
+    Register { id: u32 },
+    Revise { id: u32 },
+}
+
 /// Why a line spells no command.
 #[derive(Clone, Copy, Debug, PartialEq, Eq)]
 pub enum LineRefusal {
@@ -73,24 +79,23 @@ pub fn read_command(line: &[u8]) -> Result<Command<'_>, LineRefusal>
     with_rest(word, rest)
 }
 
-/// The identifier of a line whose first part is `register-mol`, or why the line is no command; `None` for any other
-/// line. The lines of a molfile follow such a line, whatever it is read as.
-pub fn molfile_registration(line: &[u8]) -> Option<Result<u32, LineRefusal>>
-    ensures some { IfSome result (λ read. StartsMolfile line.now × IsLine line.now (registration_of read)) }
+/// What a line whose first part is `register-mol` or `revise-mol` asks for, or why the line is no command; `None` for
+/// any other line. The lines of a molfile follow such a line, whatever it is read as.
+pub fn molfile_change(line: &[u8]) -> Option<Result<MolfileChange, LineRefusal>>
+    ensures some { IfSome result (λ read. StartsMolfile line.now
+        × IsLine line.now (molfile_command read)) }
     ensures none { IfNone result (¬ StartsMolfile line.now) }
 {
     let Some((first, rest)) = split_at_space(line) else {
-        return if are_same(line, REGISTER_MOL) {
-            Some(Err(LineRefusal::Syntax))
-        } else {
-            None
-        };
+        return molfile_alone(line);
     };
-    if are_same(first, REGISTER_MOL) {
-        Some(identifier_alone(rest))
-    } else {
-        None
+    if Word::RegisterMol.is_spelled(first) {
+        return Some(registration(rest));
     }
+    if Word::ReviseMol.is_spelled(first) {
+        return Some(revision(rest));
+    }
+    None
 }
 
 /// Whether a line ends a molfile: it begins `M  END`.
@@ -102,7 +107,8 @@ pub fn ends_molfile(line: &[u8]) -> bool
 
 /// A law: a line is read in one way.
 pub fn one_reading()
-    ensures { (line : List ℕ) (a b : Result spec.Command LineRefusal) → IsLine line a → IsLine line b → a ≡ b }
+    ensures { (line : List ℕ) (a b : Result spec.Command LineRefusal)
+        → IsLine line a → IsLine line b → a ≡ b }
 {}
 
 // A line without a space.
@@ -183,6 +189,38 @@ fn identifier_alone(rest: &[u8]) -> Result<u32, LineRefusal>
         return Err(LineRefusal::Syntax);
     }
     identifier(rest).ok_or(LineRefusal::Id)
+}
+
+// A line without a space. Where it is the word of a molfile's line, the identifier is missing.
+fn molfile_alone(line: &[u8]) -> Option<Result<MolfileChange, LineRefusal>>
+    requires { HasNoSpace line.now }
+    ensures some { IfSome result (λ read. StartsMolfile line.now
+        × IsLine line.now (molfile_command read)) }
+    ensures none { IfNone result (¬ StartsMolfile line.now) }
+{
+    if Word::RegisterMol.is_spelled(line) {
+        return Some(Err(LineRefusal::Syntax));
+    }
+    if Word::ReviseMol.is_spelled(line) {
+        return Some(Err(LineRefusal::Syntax));
+    }
+    None
+}
+
+// What follows `register-mol`.
+fn registration(rest: &[u8]) -> Result<MolfileChange, LineRefusal>
+    ensures { IsRest words.RegisterMol rest.now (molfile_command result) }
+{
+    let id = identifier_alone(rest)?;
+    Ok(MolfileChange::Register { id })
+}
+
+// What follows `revise-mol`.
+fn revision(rest: &[u8]) -> Result<MolfileChange, LineRefusal>
+    ensures { IsRest words.ReviseMol rest.now (molfile_command result) }
+{
+    let id = identifier_alone(rest)?;
+    Ok(MolfileChange::Revise { id })
 }
 
 // A name, a space, and a text.

@@ -1,28 +1,49 @@
 //! Reply lines.
-ghost use Rattle.std.specs.Prelude.{◌≡◌, ◌++◌, OnOk, OnErr};
+ghost use Rattle.std.specs.Prelude.{◌≡◌, ◌==◌, ◌≤◌, ◌∷◌, [], ◌++◌, OnOk, OnErr, length, count_by, if◌then◌else◌};
 ghost use Rattle.std.specs.Fmt.{decimal};
-ghost use Rattle.shell_lang.specs.Reply.{reply_line, text_words, smiles_words, molfile_words, pattern_words};
+ghost use Rattle.shell_lang.specs.Reply.{ended, line_count, text_part, molfile_lines, record_words, live_words, kept_words, count_words, reply_of, reply_line, text_words, smiles_words, molfile_words, pattern_words};
 ghost use Rattle.shell_lang.specs.Written.{Extends};
 
 use crate::command::LineRefusal;
 use chem_text::push_decimal;
-use mol_finish::TextFault;
+use mol_finish::{Format, TextFault};
 use molfile_read::MolfileFault;
 use smarts_parse::SmartsFault;
 use smiles_read::SmilesFault;
 use std::alloc::AllocError;
+use std::sync::Arc;
+use store_core::{Record, Stats};
 
-/// A reply line.
-#[derive(Clone, Copy, Debug, PartialEq, Eq)]
+/// A reply.
+#[derive(Drop)]
 pub enum Reply {
     /// A commit, and the version that it made.
     Accepted { version: u32 },
+    /// A live record, and the version of the commit that made it so. The lines of a molfile follow.
+    Shown { version: u32, entry: Arc<Record> },
+    /// An identifier that is withdrawn, and the version of the commit that withdrew it.
+    Gone { id: u32, version: u32 },
     /// An identifier that a search lists.
     Hit { id: u32 },
-    /// The end of a search: the version that it saw, and how many identifiers it listed.
-    End { version: u32, hits: u32 },
+    /// The end of a search: the version that it saw, how many identifiers its prints let through, and how many it
+    /// listed.
+    End { version: u32, tried: u32, hits: u32 },
+    /// A cursor, and the version that it sees.
+    Opened { version: u32 },
+    /// The end of a page that others follow.
+    More,
+    /// The cursor is closed.
+    Closed,
+    /// How many entries a prune dropped.
+    Pruned { count: u32 },
+    /// Counts of the store.
+    Counts(Stats),
     /// The command is refused, and nothing is done.
     Refused(Refusal),
+    /// A disk failed in a commit. With `doubt` a crash may yet show the change committed.
+    DiskFault { doubt: bool },
+    /// Memory ran out, and the command did nothing; a search may have listed some hits.
+    MemoryFault,
 }
 
 /// Why a command is refused, in the order of the checks. A `NoMemory` inside is written as `fault memory`.
@@ -30,27 +51,33 @@ pub enum Reply {
 pub enum Refusal {
     /// The line, or a line of its molfile, exceeds 65,536 bytes.
     Long,
-    /// The line is not answered yet.
-    NotYet,
     /// The line spells no command.
     Line(LineRefusal),
     /// The text has no structure.
     Text(TextFault),
     /// The text is no pattern.
     Pattern(SmartsFault),
+    /// No cursor has the name, or one has it already.
+    Cursor,
     /// The identifier was registered before.
     Known,
+    /// The identifier was never registered.
+    Absent,
+    /// The identifier is withdrawn.
+    Withdrawn,
     /// The store has as many commits as it may have.
     Full,
+    /// As many pins are held as there may be, 64.
+    Pins,
 }
 
-/// Appends the reply's line and its LF. An `Err` changes nothing.
-pub fn reply_text(reply: Reply, out: &mut Vec<u8>) -> Result<(), AllocError>
-    ensures ok { OnOk result (out.new.items ≡ out.old.items ++ reply_line reply) }
+/// Appends the reply's lines, each with its LF. An `Err` changes nothing.
+pub fn reply_text(reply: &Reply, out: &mut Vec<u8>) -> Result<(), AllocError>
+    ensures ok { OnOk result (out.new.items ≡ out.old.items ++ reply_line (reply_of reply.now)) }
     ensures err { OnErr result (out.new.items ≡ out.old.items) }
 {
     let len = out.len();
-    let result = reply.push_line(out);
+    let result = reply.push_lines(out);
     if result.is_err() {
         out.truncate(len);
     }
@@ -60,27 +87,50 @@ pub fn reply_text(reply: Reply, out: &mut Vec<u8>) -> Result<(), AllocError>
 impl Reply {
     ghost use Rattle.shell_lang.specs.Reply.{reply_words};
 
-    // Appends the line and its LF.
-    fn push_line(self, out: &mut Vec<u8>) -> Result<(), AllocError>
-        ensures ok { OnOk result (out.new.items ≡ out.old.items ++ reply_line self) }
+    // Appends the lines, each with its LF.
+    fn push_lines(&self, out: &mut Vec<u8>) -> Result<(), AllocError>
+        ensures ok { OnOk result (out.new.items ≡ out.old.items ++ reply_line (reply_of self.now)) }
         ensures err { OnErr result (Extends out.old.items out.new.items) }
     {
         self.push_words(out)?;
-        out.extend_from_slice(b"\n")
+        out.extend_from_slice(b"\n")?;
+        match self {
+            Reply::Shown { entry, .. } => push_molfile(entry, out),
+            _ => Ok(()),
+        }
     }
 
-    fn push_words(self, out: &mut Vec<u8>) -> Result<(), AllocError>
-        ensures ok { OnOk result (out.new.items ≡ out.old.items ++ reply_words self) }
+    fn push_words(&self, out: &mut Vec<u8>) -> Result<(), AllocError>
+        ensures ok { OnOk result (out.new.items
+            ≡ out.old.items ++ reply_words (reply_of self.now)) }
         ensures err { OnErr result (Extends out.old.items out.new.items) }
     {
         match self {
-            Reply::Accepted { version } => push_number(out, "ok ", version),
-            Reply::Hit { id } => push_number(out, "hit ", id),
-            Reply::End { version, hits } => {
-                push_number(out, "end at ", version)?;
-                push_number(out, " hits ", hits)
+            Reply::Accepted { version } => push_number(out, "ok ", *version),
+            Reply::Shown { version, entry } => push_record(entry, *version, out),
+            Reply::Gone { id, version } => {
+                push_number(out, "withdrawn ", *id)?;
+                push_number(out, " version ", *version)
             }
+            Reply::Hit { id } => push_number(out, "hit ", *id),
+            Reply::End {
+                version,
+                tried,
+                hits,
+            } => {
+                push_number(out, "end at ", *version)?;
+                push_number(out, " tried ", *tried)?;
+                push_number(out, " hits ", *hits)
+            }
+            Reply::Opened { version } => push_number(out, "opened ", *version),
+            Reply::More => push(out, "more"),
+            Reply::Closed => push(out, "closed"),
+            Reply::Pruned { count } => push_number(out, "pruned ", *count),
+            Reply::Counts(stats) => push_stats(*stats, out),
             Reply::Refused(refusal) => refusal.push_words(out),
+            Reply::DiskFault { doubt: true } => push(out, "fault disk doubt"),
+            Reply::DiskFault { doubt: false } => push(out, "fault disk sure"),
+            Reply::MemoryFault => push(out, "fault memory"),
         }
     }
 }
@@ -94,15 +144,126 @@ impl Refusal {
     {
         match self {
             Refusal::Long => push(out, "refused long"),
-            Refusal::NotYet => push(out, "refused notyet"),
             Refusal::Line(LineRefusal::Syntax) => push(out, "refused syntax"),
             Refusal::Line(LineRefusal::Id) => push(out, "refused id"),
             Refusal::Text(fault) => push_text_fault(fault, out),
             Refusal::Pattern(fault) => push(out, pattern_fault(fault)),
+            Refusal::Cursor => push(out, "refused cursor"),
             Refusal::Known => push(out, "refused known"),
+            Refusal::Absent => push(out, "refused absent"),
+            Refusal::Withdrawn => push(out, "refused withdrawn"),
             Refusal::Full => push(out, "refused full"),
+            Refusal::Pins => push(out, "refused pins"),
         }
     }
+}
+
+// Appends the words of a live record, without the lines of a molfile.
+fn push_record(entry: &Record, version: u32, out: &mut Vec<u8>) -> Result<(), AllocError>
+    ensures ok { OnOk result (out.new.items
+        ≡ out.old.items ++ record_words entry.now.id version entry.now.format entry.now.text) }
+    ensures err { OnErr result (Extends out.old.items out.new.items) }
+{
+    push_number(out, "record ", entry.id())?;
+    push_number(out, " version ", version)?;
+    push_text(entry.format(), entry.text(), out)
+}
+
+// Appends a SMILES, or how many lines a molfile has.
+fn push_text(format: Format, text: &[u8], out: &mut Vec<u8>) -> Result<(), AllocError>
+    ensures ok { OnOk result (out.new.items ≡ out.old.items ++ text_part format text.now) }
+    ensures err { OnErr result (Extends out.old.items out.new.items) }
+{
+    match format {
+        Format::Smiles => {
+            push(out, " smiles ")?;
+            out.extend_from_slice(text)
+        }
+        Format::Molfile => {
+            push(out, " molfile ")?;
+            push_decimal(out, lines_of(text))
+        }
+    }
+}
+
+// Appends the lines of a molfile; of a SMILES nothing.
+fn push_molfile(entry: &Record, out: &mut Vec<u8>) -> Result<(), AllocError>
+    ensures ok { OnOk result (out.new.items
+        ≡ out.old.items ++ molfile_lines entry.now.format entry.now.text) }
+    ensures err { OnErr result (Extends out.old.items out.new.items) }
+{
+    match entry.format() {
+        Format::Smiles => Ok(()),
+        Format::Molfile => push_ended(entry.text(), out),
+    }
+}
+
+// Appends a text, and an LF where its last line has none.
+fn push_ended(text: &[u8], out: &mut Vec<u8>) -> Result<(), AllocError>
+    ensures ok { OnOk result (out.new.items ≡ out.old.items ++ ended text.now) }
+    ensures err { OnErr result (Extends out.old.items out.new.items) }
+{
+    out.extend_from_slice(text)?;
+    if is_open(text) {
+        out.extend_from_slice(b"\n")?;
+    }
+    Ok(())
+}
+
+// How many lines a text has.
+fn lines_of(text: &[u8]) -> u64
+    ensures { result ≡ line_count text.now }
+{
+    let whole = line_ends(text) as u64;
+    if is_open(text) { whole + 1 } else { whole }
+}
+
+// How many LF a text has.
+fn line_ends(text: &[u8]) -> usize
+    ensures count { result ≡ count_by (λ b. b == 10) text.now }
+    ensures within { result ≤ length text.now }
+{
+    text.iter().filter(|byte| **byte == b'\n').count()
+}
+
+// Whether the last line of a text has no LF.
+fn is_open(text: &[u8]) -> bool
+    ensures { ended text.now ≡ text.now ++ (if result then 10 ∷ [] else []) }
+{
+    match text.last() {
+        None => false,
+        Some(byte) => *byte != b'\n',
+    }
+}
+
+// Appends the counts of a store.
+fn push_stats(stats: Stats, out: &mut Vec<u8>) -> Result<(), AllocError>
+    ensures ok { OnOk result (out.new.items
+        ≡ out.old.items
+        ++ count_words stats.version stats.live stats.withdrawn stats.kept stats.pins) }
+    ensures err { OnErr result (Extends out.old.items out.new.items) }
+{
+    push_live(stats, out)?;
+    push_kept(stats, out)
+}
+
+fn push_live(stats: Stats, out: &mut Vec<u8>) -> Result<(), AllocError>
+    ensures ok { OnOk result (out.new.items
+        ≡ out.old.items ++ live_words stats.version stats.live) }
+    ensures err { OnErr result (Extends out.old.items out.new.items) }
+{
+    push_number(out, "stats version ", stats.version)?;
+    push_number(out, " live ", stats.live)
+}
+
+fn push_kept(stats: Stats, out: &mut Vec<u8>) -> Result<(), AllocError>
+    ensures ok { OnOk result (out.new.items
+        ≡ out.old.items ++ kept_words stats.withdrawn stats.kept stats.pins) }
+    ensures err { OnErr result (Extends out.old.items out.new.items) }
+{
+    push_number(out, " withdrawn ", stats.withdrawn)?;
+    push_number(out, " kept ", stats.kept)?;
+    push_number(out, " pins ", stats.pins)
 }
 
 fn push_text_fault(fault: TextFault, out: &mut Vec<u8>) -> Result<(), AllocError>
@@ -176,3 +337,6 @@ fn push_number(out: &mut Vec<u8>, word: &str, number: u32) -> Result<(), AllocEr
     out.extend_from_slice(word.as_bytes())?;
     push_decimal(out, u64::from(number))
 }
+
+#[cfg(test)]
+mod tests;

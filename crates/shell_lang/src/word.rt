@@ -39,11 +39,19 @@ impl Word {
             (λ w. word_text w ≡ bytes.now) }
     {
         for word in WORDS {
-            if are_same(word.text().as_bytes(), bytes) {
+            if word.is_spelled(bytes) {
                 return Some(word);
             }
         }
         None
+    }
+
+    /// Whether the bytes spell the word.
+    pub(crate) fn is_spelled(self, bytes: &[u8]) -> bool
+        ensures same { OnTrue result (word_text self ≡ bytes.now) }
+        ensures other { OnFalse result (word_text self ≢ bytes.now) }
+    {
+        are_same(self.text().as_bytes(), bytes)
     }
 
     fn text(self) -> &'static str

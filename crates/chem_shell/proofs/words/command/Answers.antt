@@ -29,19 +29,24 @@ pub returns : goal.returns
 returns c =
     let command_is : rule_of c.required-command.result ≡ command_rule =
     ap rule_of c.required-command.ensures ∙ ap (λ (r : Rule). record r { required = true }) c.new.ensures.rule in
-    let command_local : c.required-command.result.global ≡ false = ap (λ (a : Arg). a.global) c.required-command.ensures ∙ c.new.ensures.optional.1 in
+    let command_local : c.required-command.result.global ≡ false = ap (λ (a : Arg). a.global) c.required-command.ensures
+    ∙ c.new.ensures.optional.1 in
     let any = some_of _ any_number c.num_args-args.ensures.1 in
     let args_is : rule_of c.num_args-args.result ≡ args_rule =
-    ap rule_of c.num_args-args.ensures.0 ∙ ap₂ (λ (r : Rule) range. record r { range = range }) c.new-2.ensures.rule any in
-    let args_local : c.num_args-args.result.global ≡ false = ap (λ (a : Arg). a.global) c.num_args-args.ensures.0 ∙ c.new-2.ensures.optional.1 in
+    ap rule_of c.num_args-args.ensures.0
+    ∙ ap₂ (λ (r : Rule) range. record r { range = range }) c.new-2.ensures.rule any in
+    let args_local : c.num_args-args.result.global ≡ false = ap (λ (a : Arg). a.global) c.num_args-args.ensures.0
+    ∙ c.new-2.ensures.optional.1 in
     let unnamed : app_of c.no_binary_name.result ≡ on_top no_name (new_app (codes "chemdb")) =
     ap app_of_fields c.no_binary_name.ensures ∙ ap (on_top no_name) c.new-3.ensures.app in
     let unhelped : app_of c.disable_help_flag.result ≡ on_top help_off (on_top no_name (new_app (codes "chemdb"))) =
     ap app_of_fields c.disable_help_flag.ensures ∙ ap (on_top help_off) unnamed in
-    let bare : app_of c.disable_version_flag.result ≡ on_top version_off (on_top help_off (on_top no_name (new_app (codes "chemdb")))) =
+    let bare : app_of c.disable_version_flag.result ≡ on_top version_off
+    (on_top help_off (on_top no_name (new_app (codes "chemdb")))) =
     ap app_of_fields c.disable_version_flag.ensures ∙ ap (on_top version_off) unhelped in
     let one = c.in_ok-arg.ensures.shape command_local ∙ ap₂ with_rule bare command_is in
     let two = c.in_ok-arg-2.ensures.shape args_local ∙ ap₂ with_rule one args_is in
     let three = c.in_ok-arg-3.ensures.shape c.option.ensures.local ∙ ap₂ with_rule two c.option.ensures.rule in
     let four = c.in_ok-arg-4.ensures.shape c.option-2.ensures.local ∙ ap₂ with_rule three c.option-2.ensures.rule in
-    IfOk-weaker c.arg-5.result _ _ (λ r adds. adds.shape c.option-3.ensures.local ∙ ap₂ with_rule four c.option-3.ensures.rule) c.arg-5.ensures
+    IfOk-weaker c.arg-5.result _ _
+    (λ r adds. adds.shape c.option-3.ensures.local ∙ ap₂ with_rule four c.option-3.ensures.rule) c.arg-5.ensures

@@ -8,8 +8,8 @@ use Rattle.matcher.proofs.PartsHeld.{least_of, none_of, searchable_top, sound_pa
 use Rattle.matcher.proofs.Places.{take_all}
 use Rattle.matcher.proofs.answer.find.Goals as goal
 
-pub note_parts-requires : goal.note_parts-requires
-note_parts-requires c = rw c.deref.ensures.value (sound_parts (pattern_of c.args.pattern.now) c.requires)
+pub note_parts-requires-clause-sound : goal.note_parts-requires-clause-sound
+note_parts-requires-clause-sound c = rw c.deref.ensures.value (sound_parts (pattern_of c.args.pattern.now) c.requires)
 
 pub plan-requires-clause-searchable : goal.plan-requires-clause-searchable
 plan-requires-clause-searchable c = searchable_top (pattern_of c.args.pattern.now) c.requires
@@ -19,7 +19,7 @@ noted : (c : goal.After-scratch-3-1) → AreNoted (pattern_of c.args.pattern.now
 noted c =
     let recs = c.args.pattern.now.recs.items in
     let here = rw c.deref.ensures.value at c.note_parts.ensures in
-    subst (λ n. AreNoted (map graph_of recs) c.args.mol.now n c.note_parts.new.scratch.table) (sym (length-map recs graph_of)) here
+    subst (λ n. AreNoted (map graph_of recs) c.args.mol.now n c.note_parts.new.scratch.table) (omega (arith, length-map recs graph_of, c.args.pattern.now.recs.ok.0)) here
 
 pub returns-clause-found : goal.returns-clause-found
 returns-clause-found c =
@@ -38,5 +38,5 @@ returns-then-is_refused-clause-none c =
     let recs = c.args.pattern.now.recs.items in
     let m = c.args.mol.now in
     let here = rw c.deref.ensures.value at c.note_parts.ensures in
-    let told = subst (λ n. AreNoted (map graph_of recs) m n c.note_parts.new.scratch.table) (sym (length-map recs graph_of)) here in
+    let told = subst (λ n. AreNoted (map graph_of recs) m n c.note_parts.new.scratch.table) (omega (arith, length-map recs graph_of, c.args.pattern.now.recs.ok.0)) here in
     λ _. none_of (pattern_of c.args.pattern.now) m c.note_parts.new.scratch.table c.requires told (c.is_refused.ensures c.if-is_refused.true)

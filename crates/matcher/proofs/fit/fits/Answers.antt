@@ -1,11 +1,9 @@
 -- A new atom, its expression true, its bonds embedded.
-use Rattle.std.proofs.Common.{◌≡◌, ◌≢◌, ◌<◌, ◌++◌, ◌∷◌, [], Some, length, max, refl, slice_get, subst, sym}
-use Rattle.std.proofs.lemmas.List.{length-map}
+use Rattle.std.proofs.Common.{◌≡◌, ◌≢◌, ◌++◌, ◌∷◌, [], Some, length, max, refl, slice_get}
 use Rattle.smarts_mean.specs.Table.{HoldsIn}
 use Rattle.smarts_parse.specs.Embedding.{BondEmbeds}
 use Rattle.smarts_parse.specs.Pattern.{graph_of, term_of}
 use Rattle.smarts_parse.specs.Sound.{NamesBelow}
-use Rattle.matcher.proofs.Classes.{stands_next}
 use Rattle.matcher.proofs.Joins.{All-image}
 use Rattle.matcher.proofs.Partials.{IsPartial-last, IsPartial-push}
 use Rattle.matcher.proofs.Plans.{all_of_step, step_of_all}
@@ -19,17 +17,6 @@ pub bonds_embed-requires-clause-apart : goal.bonds_embed-requires-clause-apart
 bonds_embed-requires-clause-apart c =
     let g = graph_of c.args.task.now.graph.now in
     rw (c.others-others.ensures, c.deref.ensures.value) (step_of_all c.args.task.now.graph.now.bonds.items g (λ bond. bond.a ≢ bond.b) _ _ refl (all_apart g c.requires.ready.searchable.apart))
-
-pub returns-then-not-may_be : goal.returns-then-not-may_be
-returns-then-not-may_be c = (
-  λ t. absurd (cc),
-  λ p.
-      let task = c.args.task.now in
-      let few = subst (λ n. length c.args.front.now < n) (sym (length-map task.graph.now.atoms.items term_of)) c.requires.few in
-      let one = stands_next (HoldsIn task.table.now) (graph_of task.graph.now) task.mol.now task.steps.now c.args.front.now c.args.atom c.requires.ready few c.requires.in_range p in
-      let may = (rw (c.atoms.ensures.value, c.from.ensures) at c.may_be.ensures).1 one in
-      absurd (cc),
-)
 
 pub returns-then-not-is_new : goal.returns-then-not-is_new
 returns-then-not-is_new c = (

@@ -14,6 +14,24 @@ continues_at-returns-clause-kept t c = λ _.
     let same = c.may_continue.ensures.kept c.if-may_continue.false in
     ap (λ xs. set xs place (get_or old place 0)) same ∙ set-set old place c.args.atom (get_or old place 0) ∙ set-get_or old place 0
 
+pub continues_anywhere-loop-atom-preserved-then-not-is_of_class : goal.continues_anywhere-loop-atom-preserved-then-not-is_of_class
+continues_anywhere-loop-atom-preserved-then-not-is_of_class t c = record {
+  kept = c.loop-atom.invariant.kept;
+  none = below_more _ _ c.loop-atom.invariant.none
+      (λ whole h e. c.is_of_class.ensures.stands c.if-not-is_of_class.true whole h.embeds (ap (λ p. get_or whole p 0) c.from-place.ensures ∙ e));
+}
+
+pub continues_near-is_of_class-requires-clause-atom : goal.continues_near-is_of_class-requires-clause-atom
+continues_near-is_of_class-requires-clause-atom t c =
+    (joins_in_range c.args.task.now.mol.now _ _ _ c.neighbours-neighbours.ensures.valid (neighbour_joined _ _ c.neighbours-neighbours.result.now c.loop-atom.atom-index (0, 0) c.neighbours-neighbours.ensures.each c.loop-atom-test.true)).1
+
+pub continues_near-loop-atom-preserved-then-not-is_of_class : goal.continues_near-loop-atom-preserved-then-not-is_of_class
+continues_near-loop-atom-preserved-then-not-is_of_class t c = record {
+  kept = c.loop-atom.invariant.kept;
+  none = below_more _ _ c.loop-atom.invariant.none
+      (λ whole h e. c.is_of_class.ensures.stands c.if-not-is_of_class.true whole h.embeds (ap (λ p. get_or whole p 0) c.from-place.ensures ∙ e));
+}
+
 pub continues_near-bond_true-requires : goal.continues_near-bond_true-requires
 continues_near-bond_true-requires t c =
     (joins_in_range c.args.task.now.mol.now _ _ _ c.neighbours-neighbours.ensures.valid (neighbour_joined _ _ c.neighbours-neighbours.result.now c.loop-atom.atom-index (0, 0) c.neighbours-neighbours.ensures.each c.loop-atom-test.true)).0

@@ -43,6 +43,15 @@ extend_anywhere-loop-atom-preserved t c = record {
       (λ w. c.extend_at.ensures.none c.if-extend_at.false (CanComplete-same (HoldsIn c.args.task.now.table.now) (graph_of c.args.task.now.graph.now) c.args.task.now.mol.now _ _ c.loop-atom.atom c.loop-atom.invariant.kept w));
 }
 
+pub extend_anywhere-loop-atom-preserved-then-not-is_of_class : goal.extend_anywhere-loop-atom-preserved-then-not-is_of_class
+extend_anywhere-loop-atom-preserved-then-not-is_of_class t c =
+    let room : c.args.placed ≤ length c.args.image.now = let r = c.requires.room in let f = c.requires.few in omega arith in
+    record {
+      kept = c.loop-atom.invariant.kept;
+      none = below_more _ _ c.loop-atom.invariant.none
+          (c.is_of_class.ensures.begins c.if-not-is_of_class.true (take c.args.placed c.args.image.now) (length-take-le c.args.placed c.args.image.now room));
+    }
+
 pub extend_anywhere-returns-clause-none : goal.extend_anywhere-returns-clause-none
 extend_anywhere-returns-clause-none t c =
     let left = left_over term_of c.args.task.now.graph.now.atoms.items c.args.image.now c.args.placed c.requires.room c.requires.few in
@@ -145,6 +154,20 @@ extend_near-loop-atom-preserved-then-not-bond_true t c =
       kept = c.loop-atom.invariant.kept;
       none = below_more _ _ c.loop-atom.invariant.none
           (near_false parts g m (take c.args.placed c.args.image.now) _ _ _ pairs c.loop-atom.atom-index near c.neighbours-neighbours.ensures.each c.loop-atom-test.true (iff_false c.bond_true.ensures c.if-not-bond_true.true));
+    }
+
+pub extend_near-is_of_class-requires-clause-atom : goal.extend_near-is_of_class-requires-clause-atom
+extend_near-is_of_class-requires-clause-atom t c =
+    let m = c.args.task.now.mol.now in
+    (joins_in_range m _ _ _ c.neighbours-neighbours.ensures.valid (neighbour_joined _ _ c.neighbours-neighbours.result.now c.loop-atom.atom-index (0, 0) c.neighbours-neighbours.ensures.each c.loop-atom-test.true)).1
+
+pub extend_near-loop-atom-preserved-then-not-is_of_class : goal.extend_near-loop-atom-preserved-then-not-is_of_class
+extend_near-loop-atom-preserved-then-not-is_of_class t c =
+    let room : c.args.placed ≤ length c.args.image.now = let r = c.requires.room in let f = c.requires.few in omega arith in
+    record {
+      kept = c.loop-atom.invariant.kept;
+      none = below_more _ _ c.loop-atom.invariant.none
+          (c.is_of_class.ensures.begins c.if-not-is_of_class.true (take c.args.placed c.args.image.now) (length-take-le c.args.placed c.args.image.now room));
     }
 
 pub extend_near-loop-atom-preserved : goal.extend_near-loop-atom-preserved

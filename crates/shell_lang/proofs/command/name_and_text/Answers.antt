@@ -6,4 +6,8 @@ pub returns-in_default-clause-err : goal.returns-in_default-clause-err
 returns-in_default-clause-err c = (refl, no_name _ c.in_default.ensures.none)
 
 pub returns-else-is_name-clause-err : goal.returns-else-is_name-clause-err
-returns-else-is_name-clause-err c = (refl, other_name _ _ _ c.in-Some.ensures.parts c.in-Some.ensures.first (λ is. let t = c.if-is_name.ensures.1 is in cc))
+returns-else-is_name-clause-err c = (
+  refl,
+  other_name _ _ _ c.in-Some.ensures.parts c.in-Some.ensures.first
+      (λ is. let t = c.if-is_name.ensures.1 is in cc),
+)

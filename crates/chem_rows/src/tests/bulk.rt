@@ -1,0 +1,64 @@
+//! Generated scripts and their summaries.
+ghost use Rattle.std.specs.Prelude.{◌<◌};
+
+use super::{PLAIN, Ways, call, put_by};
+use std::test::Fail;
+
+#[test]
+fn summaries(rt: HostRuntime) -> Result<(), Fail> {
+    let alloc = rt.alloc();
+    let rows = [
+        (
+            "0",
+            "bulk seed 1 count 0\nversion 0\nsearch C=O tried 0 hits 0\nsearch c1ccccc1 tried 0 hits 0\n\
+            search [N;H1] tried 0 hits 0\nsearch [$(C(=O)N)] tried 0 hits 0\nsearch F tried 0 hits 0\n",
+        ),
+        // COC(F)c1ccc(cc1) and CC(=O)NN
+        (
+            "2",
+            "bulk seed 1 count 2\nversion 2\nsearch C=O tried 1 hits 1\nsearch c1ccccc1 tried 1 hits 1\n\
+            search [N;H1] tried 1 hits 1\nsearch [$(C(=O)N)] tried 2 hits 1\nsearch F tried 1 hits 1\n",
+        ),
+    ];
+    for (count, summary) in rows {
+        // the source would fail, and is not read
+        let ways = Ways {
+            piece: 1,
+            takes: &[0],
+            puts: &[],
+        };
+        let answer = call(&rt, alloc, &["bulk", "1", count], b"stats\n", ways)?;
+        assert_eq!(rt; answer.status, 0, "at {count}");
+        assert_eq!(rt; put_by(&answer), summary.as_bytes(), "at {count}");
+    }
+    Ok(())
+}
+
+#[test]
+fn one_summary_by_any_pages_and_workers(rt: HostRuntime) -> Result<(), Fail> {
+    let alloc = rt.alloc();
+    let first = call(&rt, alloc, &["bulk", "1", "2000"], b"", PLAIN)?;
+    assert_eq!(rt; first.status, 0);
+    assert!(rt;
+        put_by(&first).starts_with(b"bulk seed 1 count 2000\nversion 2000\nsearch C=O tried ")
+    );
+    let rows: [&[&str]; 3] = [
+        &["bulk", "1", "2000"],
+        &["bulk", "1", "2000", "--page", "7"],
+        &["bulk", "--workers=4", "1", "2000"],
+    ];
+    for words in rows {
+        let answer = call(&rt, alloc, words, b"", PLAIN)?;
+        assert_eq!(rt; answer.status, 0, "at {words:?}");
+        assert_eq!(rt; put_by(&answer), put_by(&first), "at {words:?}");
+    }
+    let ways = Ways {
+        piece: 1,
+        takes: &[],
+        puts: &[0],
+    };
+    let failed = call(&rt, alloc, &["bulk", "1", "2"], b"", ways)?;
+    assert_eq!(rt; failed.status, 4);
+    assert!(rt; put_by(&failed).is_empty());
+    Ok(())
+}

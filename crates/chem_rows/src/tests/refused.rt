@@ -1,0 +1,102 @@
+//! Lines that are refused, and those behind them.
+ghost use Rattle.std.specs.Prelude.{◌<◌};
+
+use super::{Ways, call, check, put_by};
+use std::alloc::{AllocError, Global};
+use std::test::Fail;
+
+#[test]
+fn refused_lines(rt: HostRuntime) -> Result<(), Fail> {
+    check(
+        &rt,
+        rt.alloc(),
+        &["mem"],
+        &[
+            ("", ""),
+            ("search *", "end at 0 tried 0 hits 0"),
+            ("register 1 C12CCCCC12", "refused smiles ring"),
+            ("register 1 C1CC", "refused smiles ring"),
+            ("register 1 C(", "refused smiles syntax"),
+            ("register 1 ", "refused smiles syntax"),
+            ("register 1  C", "refused smiles syntax"),
+            ("register 1", "refused syntax"),
+            ("register 0 C", "refused id"),
+            ("register 1000000000 C", "refused id"),
+            ("register 01 C", "refused id"),
+            ("register  1 C", "refused id"),
+            ("Register 1 C", "refused syntax"),
+            ("withdraw 1 ", "refused syntax"),
+            ("withdraw ", "refused id"),
+            ("show +1", "refused id"),
+            ("search", "refused syntax"),
+            ("search ", "refused smarts syntax"),
+            ("stats ", "refused syntax"),
+            // a name has 1 to 32 letters, digits or `_`
+            ("open abcdefghijklmnopqrstuvwxyz_12345 C", "opened 0"),
+            ("open abcdefghijklmnopqrstuvwxyz_123456 C", "refused syntax"),
+            ("next abcdefghijklmnopqrstuvwxyz_123456", "refused syntax"),
+            ("open a-b C(", "refused syntax"),
+            ("open  C", "refused syntax"),
+            ("open s", "refused syntax"),
+            // the pattern is looked at before the name, and the name before a pin
+            ("open s C(", "refused smarts syntax"),
+            ("next s", "refused cursor"),
+            ("close s", "refused cursor"),
+            ("next", "refused syntax"),
+            // a molfile belongs to its line, whatever that is answered
+            ("register-mol\nregister 1 C\nM  END", "refused syntax"),
+            ("register-mol 1 2\nM  END", "refused syntax"),
+            ("register-mol 01\nM  END of it", "refused id"),
+            ("register-mols 1", "refused syntax"),
+            ("revise-mol 1\nM  END", "refused molfile cut"),
+            ("register-mol 2\n\n\n", "refused molfile cut"),
+        ],
+    )
+}
+
+// So many bytes of a letter behind words.
+fn push_long(script: &mut Vec<u8>, words: &[u8], letter: u8, count: u32) -> Result<(), AllocError> {
+    script.extend_from_slice(words)?;
+    for _ in 0..count {
+        script.push(letter)?;
+    }
+    script.push(b'\n')?;
+    Ok(())
+}
+
+// Lines of the most bytes and of more: alone, in a molfile, and in the molfile of a line that is refused for itself.
+// What begins `M  END` does not end a molfile where it is too long.
+fn long_lines(alloc: Global) -> Result<Vec<u8>, AllocError> {
+    let mut script = Vec::new(alloc);
+    push_long(&mut script, b"", b'x', 65_537)?;
+    push_long(&mut script, b"register 1 ", b'C', 65_525)?;
+    push_long(&mut script, b"register 1 ", b'C', 1000)?;
+    push_long(&mut script, b"register 1 ", b'C', 999)?;
+    push_long(&mut script, b"search ", b'C', 257)?;
+    push_long(&mut script, b"search ", b'C', 256)?;
+    push_long(&mut script, b"register-mol 1\n\n", b'x', 65_537)?;
+    script.extend_from_slice(b"register 2 C\nM  END\n")?;
+    push_long(&mut script, b"revise-mol 01\nM  END", b'x', 65_531)?;
+    script.extend_from_slice(b"register 2 C\nM  END\nregister 1 \xff\nsearch \xff")?;
+    Ok(script)
+}
+
+#[test]
+fn long_lines_and_bytes_that_are_no_text(rt: HostRuntime) -> Result<(), Fail> {
+    let alloc = rt.alloc();
+    let script = long_lines(alloc)?;
+    let replies =
+        "refused long\nrefused smiles limit\nrefused smiles limit\nok 1\nrefused smarts limit\n\
+        hit 1\nend at 1 tried 1 hits 1\nrefused long\nrefused long\nrefused smiles syntax\nrefused smarts syntax\n";
+    for piece in [1usize, 7, 65_536] {
+        let ways = Ways {
+            piece,
+            takes: &[],
+            puts: &[],
+        };
+        let answer = call(&rt, alloc, &["mem"], &script, ways)?;
+        assert_eq!(rt; answer.status, 0, "by {piece}");
+        assert_eq!(rt; put_by(&answer), replies.as_bytes(), "by {piece}");
+    }
+    Ok(())
+}

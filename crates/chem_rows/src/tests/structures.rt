@@ -1,0 +1,142 @@
+//! Structures: their texts, rings and aromatic atoms.
+ghost use Rattle.std.specs.Prelude.{◌<◌};
+
+use super::{Answer, PLAIN, call, check, put_by};
+use std::alloc::{AllocError, Global};
+use std::sync::Wait;
+use std::test::Fail;
+use std::thread::Threads;
+
+#[test]
+fn texts_of_structures(rt: HostRuntime) -> Result<(), Fail> {
+    check(
+        &rt,
+        rt.alloc(),
+        &["mem"],
+        &[
+            ("register 1 CCO", "ok 1"),
+            ("register 2 CC=O", "ok 2"),
+            ("search C=O", "hit 2\nend at 2 tried 1 hits 1"),
+            // a NUL, and symbols of no element
+            ("register 3 C\0", "refused smiles syntax"),
+            ("register 3 Cr", "refused smiles syntax"),
+            ("register 3 l", "refused smiles syntax"),
+            // brackets, charges, parts, hydrogen atoms, marks that are dropped
+            ("register 3 [13CH3][C@@H](O)C(=O)[O-].[Na+]", "ok 3"),
+            ("register 4 [H]C([H])([H])[H]", "ok 4"),
+            ("register 5 C/C=C\\C", "ok 5"),
+            ("search [CH4]", "hit 4\nend at 5 tried 5 hits 1"),
+            ("search C=C", "hit 5\nend at 5 tried 1 hits 1"),
+        ],
+    )?;
+    check(
+        &rt,
+        rt.alloc(),
+        &["mem"],
+        &[
+            ("register 1 c1ccccc1", "ok 1"),
+            ("register 2 C1=CC=CC=C1", "ok 2"),
+            ("search c1ccccc1", "hit 1\nhit 2\nend at 2 tried 2 hits 2"),
+            ("register 3 c1cccc1", "refused smiles aromatic 0"),
+            ("register 3 CC:C", "refused smiles aromatic 1"),
+        ],
+    )?;
+    // the charge of a CHG line stands in place of those of the atom lines
+    check(
+        &rt,
+        rt.alloc(),
+        &["mem"],
+        &[
+            (
+                "register-mol 1\nacetate\n  by hand\n\n  4  3  0  0  0  0  0  0  0  0999 V2000\n    0.0000    0.0000    0.0000 C   0  0  0  0  0  0\n    1.5000    0.0000    0.0000 C   0  0  0  0  0  0\n    2.2000    1.2000    0.0000 O   0  5  0  0  0  0\n    2.2000   -1.2000    0.0000 O   0  0  0  0  0  0\n  1  2  1  0\n  2  3  2  0\n  2  4  1  0\nM  CHG  1   4  -1\nM  END",
+                "ok 1",
+            ),
+            ("search [O-]", "hit 1\nend at 1 tried 1 hits 1"),
+            ("search [O+0]=C", "hit 1\nend at 1 tried 1 hits 1"),
+            ("register 1 C", "refused known"),
+        ],
+    )
+}
+
+// A structure is registered, and a pattern searched.
+fn search<R: Threads + Wait + Sync>(
+    rt: &R,
+    alloc: Global,
+    text: &str,
+    pattern: &str,
+) -> Result<Answer, AllocError> {
+    let script = format!(in alloc; "register 1 {text}\nsearch {pattern}\n")?;
+    call(rt, alloc, &["mem"], script.as_bytes(), PLAIN)
+}
+
+// Fullerene C60, its 30 double bonds written: each of its 60 atoms lies on a hexagon of six electrons.
+const C60: &str =
+    "C12=C3C4=C5C6=C1C7=C8C9=C1C%10=C%11C(=C29)C3=C2C3=C4C4=C5C5=C9C6=C7C6=C7C8=C1C1=C8C%10=C%10C%11=C2C2=C3C3=C4C4=C5C5=C%11C%12=C(C6=C95)C7=C1C1=C%12C5=C%11C4=C3C3=C5C(=C81)C%10=C23";
+
+#[test]
+fn aromatic_forms(rt: HostRuntime) -> Result<(), Fail> {
+    // Every atom is aromatic, or the place of the first that is refused, or there are plain carbon atoms. A recursive
+    // part screens nothing, so each structure is tried.
+    let none = "ok 1\nend at 1 tried 1 hits 0\n";
+    let plain = "ok 1\nhit 1\nend at 1 tried 1 hits 1\n";
+    let first = "refused smiles aromatic 0\nend at 0 tried 0 hits 0\n";
+    let rows = [
+        ("C1=CC=CC=C1", none),
+        ("n1ccccc1", none),
+        ("N1=CC=CC=C1", none),
+        ("[nH]1cccc1", none),
+        ("N1C=CC=C1", none),
+        ("n1cccc1", first),
+        ("o1cccc1", none),
+        ("s1cccc1", none),
+        ("[se]1cccc1", none),
+        ("c1c[nH]cn1", none),
+        ("c1ccc2[nH]ccc2c1", none),
+        ("c1ccc2ccccc2c1", none),
+        ("C1=CC=C2C=CC=CC2=C1", none),
+        ("c1ccc2cccc2cc1", none),
+        ("[O-][n+]1ccccc1", none),
+        ("O=n1ccccc1", none),
+        ("O=c1cccc[nH]1", none),
+        ("O=C1C=CC=CN1", none),
+        ("O=C1C=CC(=O)C=C1", plain),
+        ("O=C1C=CC=CC=C1", none),
+        ("[cH+]1cccccc1", none),
+        ("[cH-]1cccc1", none),
+        ("[bH-]1ccccc1", none),
+        ("[b-]1ccccc1", first),
+        ("[o+]1ccccc1", none),
+        ("c1ccc1", first),
+        ("C1=CC=C1", plain),
+        ("c1ccccccc1", first),
+        ("c1ccccccccccccccccc1", none),
+        ("c1ccccccccccccccccccc1", first),
+        ("c1ccccc1c1ccccc1", none),
+        ("C12(CCCC1)CCCC2", plain),
+        ("C12C3C4C1C5C2C3C45", plain),
+        ("C1C2CC3CC1CC(C2)C3", plain),
+        (C60, none),
+        ("C1=Cc2cccc3cccc1c23", plain),
+        ("c1ccc2c(c1)c1ccccc12", none),
+        ("C=C1C=CC=C1", plain),
+        ("C1=CC=CC=CC=CC=CC=CC=CC=CC=CC=CC=C1", plain),
+        ("[Te]1C=CC=C1", plain),
+        (
+            "[te]1cccc1",
+            "refused smiles syntax\nend at 0 tried 0 hits 0\n",
+        ),
+        (
+            "*1ccccc1",
+            "refused smiles aromatic 1\nend at 0 tried 0 hits 0\n",
+        ),
+        // porphin: both outer atoms of a ring without NH lie on no cycle of at most 18 atoms with 4n+2 electrons
+        ("c1cc2cc3ccc([nH]3)cc3ccc(n3)cc3ccc([nH]3)cc1n2", first),
+        ("C1=CC2=CC3=CC=C(N3)C=C4C=CC(=N4)C=C5C=CC(=CC1=N2)N5", plain),
+    ];
+    for (text, replies) in rows {
+        let answer = search(&rt, rt.alloc(), text, "[$(C)]")?;
+        assert_eq!(rt; answer.status, 0, "at {text}");
+        assert_eq!(rt; put_by(&answer), replies.as_bytes(), "at {text}");
+    }
+    Ok(())
+}

@@ -1,0 +1,60 @@
+-- What `bulk` puts.
+use Rattle.std.proofs.Common.{◌≡◌, ◌∙◌, ℕ, List, [], ◌++◌, Option, None, Some, Result, Ok, Err, Vec, IfOk, refl, sym, ap, subst, append-nil}
+use Rattle.std.specs.declared.alloc.Global.{Global}
+use Rattle.std.specs.Io.KnownBytes.{Appends}
+use Rattle.chem_gen.specs.Script.{script_of}
+use Rattle.chem_gen.specs.Summary.{summary_of}
+use Rattle.io_edge.specs.Sink.{AppendsPrefix}
+use Rattle.session_run.specs.Served.{Writes}
+use Rattle.session_run.specs.declared.settings.EndStatus.TheVariants.{Done}
+use Rattle.chem_shell.specs.Runs.{IsTranscript}
+use Rattle.chem_shell.specs.Serving.{IsServed}
+use Rattle.chem_shell.specs.Summed.{IsSummary, IsSummaryPrefix, WritesNothing}
+use Rattle.chem_shell.specs.declared.request.Plan.{Plan}
+use Rattle.chem_shell.proofs.Asked.{SamePlan, some_same}
+
+pub writes_all : (before after : Option (List ℕ)) (text : List ℕ) (P : List ℕ → Type 0) → Appends before after text
+    → P text → Writes before after P
+writes_all None after text P appends is = tt
+writes_all (Some old) None text P appends is = absurd appends
+writes_all (Some old) (Some new) text P appends is = (text, ap Some appends, is)
+
+pub writes_prefix : (plan : Plan) (before after : Option (List ℕ)) (text : List ℕ) → AppendsPrefix before after text
+    → IsSummary plan text → Writes before after (IsSummaryPrefix plan)
+writes_prefix plan before after text part is =
+    writes_all before after part.0 (IsSummaryPrefix plan) part.3 (text, (part.1, sym part.2), is)
+
+pub writes_nothing : (before after : Option (List ℕ)) → Appends before after [] → WritesNothing before after
+writes_nothing before after appends = writes_all before after [] (λ text. text ≡ []) appends refl
+
+-- where nothing was put
+pub nothing_unmoved : (before : Option (List ℕ)) → WritesNothing before before
+nothing_unmoved None = tt
+nothing_unmoved (Some old) = ([], ap Some (sym (append-nil old)), refl)
+
+-- the same at a plan that asks for the same
+summary_same : (p q : Plan) (text : List ℕ) → SamePlan p q → IsSummary q text → IsSummary p text
+summary_same p q text same is = rw (same.commits, same.page, same.seed, same.count) is
+
+pub all_same : (p q : Plan) (before after : Option (List ℕ)) → SamePlan p q
+    → Writes before after (IsSummary q) → Writes before after (IsSummary p)
+all_same p q None after same h = tt
+all_same p q (Some old) after same h = (h.0, h.1, summary_same p q h.0 same h.2)
+
+pub prefix_same : (p q : Plan) (before after : Option (List ℕ)) → SamePlan p q
+    → Writes before after (IsSummaryPrefix q) → Writes before after (IsSummaryPrefix p)
+prefix_same p q None after same h = tt
+prefix_same p q (Some old) after same h = (h.0, h.1, (h.2.0, h.2.1, summary_same p q h.2.0 same h.2.2))
+
+-- the summary of what a session put for the generated script
+pub summed_of : {E : Type 0} (p : Plan) (script before after : List ℕ) (r : Result (Vec ℕ Global) E)
+    → script ≡ script_of p.seed p.count → before ≡ []
+    → Writes (Some before) (Some after) (IsServed Done p.commits p.page script)
+    → IfOk r (λ text. text.items ≡ summary_of p.seed p.count after) → IfOk r (λ text. IsSummary p text.items)
+summed_of p script before after (Ok text) is none w e =
+    let put : after ≡ w.0 = some_same after (before ++ w.0) w.1 ∙ ap (λ (l : List ℕ). l ++ w.0) none in (
+      w.0,
+      subst (λ (s : List ℕ). IsTranscript p.commits p.page s w.0) is w.2,
+      e ∙ ap (λ (l : List ℕ). summary_of p.seed p.count l) put,
+    )
+summed_of p script before after (Err fault) is none w e = tt

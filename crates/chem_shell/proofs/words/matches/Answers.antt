@@ -1,0 +1,11 @@
+use Rattle.std.proofs.Common.{◌≡◌, rules, inl, inr, refl, ap, sym, true, ◌∙◌}
+use Rattle.clap.specs.Faults.{is_simple_and_free}
+use Rattle.clap.specs.Words.{app_of}
+use Rattle.chem_shell.specs.Words.{chemdb_app}
+use Rattle.chem_shell.proofs.words.matches.Goals as goal
+
+pub returns-in-Err-clause-err : goal.returns-in-Err-clause-err
+returns-in-Err-clause-err c = elim c.refused.ensures [
+  | inl none ↦ inl none
+  | inr kind ↦ inr (λ taken. kind (search rules))
+]

@@ -1,0 +1,75 @@
+use Rattle.std.proofs.Common.{rules, ◌≡◌, ◌∙◌, None, Some, option_map, codes, ap, sym, inr}
+use Rattle.std.proofs.lemmas.Result.{IfOk-weaker, IfErr-weaker}
+use Rattle.clap.proofs.WalkLemmas.{first_value-rows}
+use Rattle.clap.specs.Words.{found_of, rows_of}
+use Rattle.chem_shell.specs.Words.{texts}
+use Rattle.chem_shell.proofs.Asked.{asks_bulk, asks_mem, no_bulk, no_command, no_mem, some_same}
+use Rattle.chem_shell.proofs.words.read.Goals as goal
+
+pub returns-in-Some-mem-clause-ok : goal.returns-in-Some-mem-clause-ok
+returns-in-Some-mem-clause-ok c =
+    let found = c.in_ok-found.ensures.ok in
+    let word : option_map (λ s. s.now) c.get_str.result ≡ Some (codes "mem") = search rules in
+    let command = sym (first_value-rows (found_of c.in_ok-found.found) (codes "command")) ∙ sym c.get_str.ensures
+    ∙ word in
+    IfOk-weaker c.mem.result _ _
+    (λ plan row. asks_mem (texts c.args.words.now)
+    (rows_of (found_of c.in_ok-found.found)) plan found.0 found.1 command row)
+    c.mem.ensures.ok
+
+pub returns-in-Some-mem-clause-err : goal.returns-in-Some-mem-clause-err
+returns-in-Some-mem-clause-err c =
+    let found = c.in_ok-found.ensures.ok in
+    let word : option_map (λ s. s.now) c.get_str.result ≡ Some (codes "mem") = search rules in
+    let command = sym (first_value-rows (found_of c.in_ok-found.found) (codes "command")) ∙ sym c.get_str.ensures
+    ∙ word in
+    IfErr-weaker c.mem.result _ _
+    (λ fault none. inr (no_mem (texts c.args.words.now) (rows_of (found_of c.in_ok-found.found)) found.1 command none))
+    c.mem.ensures.err
+
+pub returns-in-Some-bulk-clause-ok : goal.returns-in-Some-bulk-clause-ok
+returns-in-Some-bulk-clause-ok c =
+    let found = c.in_ok-found.ensures.ok in
+    let word : option_map (λ s. s.now) c.get_str.result ≡ Some (codes "bulk") = search rules in
+    let command = sym (first_value-rows (found_of c.in_ok-found.found) (codes "command")) ∙ sym c.get_str.ensures
+    ∙ word in
+    IfOk-weaker c.bulk.result _ _
+    (λ plan row. asks_bulk (texts c.args.words.now)
+    (rows_of (found_of c.in_ok-found.found)) plan found.0 found.1 command row)
+    c.bulk.ensures.ok
+
+pub returns-in-Some-bulk-clause-err : goal.returns-in-Some-bulk-clause-err
+returns-in-Some-bulk-clause-err c =
+    let found = c.in_ok-found.ensures.ok in
+    let word : option_map (λ s. s.now) c.get_str.result ≡ Some (codes "bulk") = search rules in
+    let command = sym (first_value-rows (found_of c.in_ok-found.found) (codes "command")) ∙ sym c.get_str.ensures
+    ∙ word in
+    IfErr-weaker c.bulk.result _ _
+    (λ fault none. inr (no_bulk (texts c.args.words.now) (rows_of (found_of c.in_ok-found.found)) found.1 command none))
+    c.bulk.ensures.err
+
+pub returns-in-Some-clause-err : goal.returns-in-Some-clause-err
+returns-in-Some-clause-err c =
+    let found = c.in_ok-found.ensures.ok in
+    let command = sym (first_value-rows (found_of c.in_ok-found.found) (codes "command")) ∙ sym c.get_str.ensures in
+    let word = ap (option_map (λ s. s.now)) (sym c.in-Some.is) ∙ sym command in
+    inr (no_command (texts c.args.words.now) (rows_of (found_of c.in_ok-found.found)) found.1
+    (λ mem.
+    let same = some_same c.in-Some.word.now (codes "mem") (word ∙ mem) in
+    c.in-Some.not-mem (search rules))
+    (λ bulk.
+    let same = some_same c.in-Some.word.now (codes "bulk") (word ∙ bulk) in
+    c.in-Some.not-bulk (search rules)))
+
+pub returns-clause-err : goal.returns-clause-err
+returns-clause-err c =
+    let found = c.in_ok-found.ensures.ok in
+    let command = sym (first_value-rows (found_of c.in_ok-found.found) (codes "command")) ∙ sym c.get_str.ensures in
+    let none = ap (option_map (λ s. s.now)) (sym c.in-None.is) ∙ sym command in
+    inr (no_command (texts c.args.words.now) (rows_of (found_of c.in_ok-found.found)) found.1
+    (λ mem.
+    let bad : None ≡ Some (codes "mem") = none ∙ mem in
+    cc)
+    (λ bulk.
+    let bad : None ≡ Some (codes "bulk") = none ∙ bulk in
+    cc))

@@ -1,0 +1,73 @@
+//! `mem`: a session over a store in memory.
+ghost use Rattle.std.specs.Prelude.{◌≡◌, ◌≢◌, IfSome};
+ghost use Rattle.io_edge.specs.Faults.{Rose};
+ghost use Rattle.session_run.specs.Served.{TakesExactly, Writes};
+ghost use Rattle.chem_shell.specs.Ends.{ServesMem};
+ghost use Rattle.chem_shell.specs.Serving.{IsServed};
+ghost use Rattle.chem_shell.specs.Status.{IsStatusOf};
+ghost use Rattle.chem_shell.specs.Words.{IsWithinLimits};
+
+use crate::request::Plan;
+use crate::top::{DONE, End, INPUT_LIMIT, INPUT_TOO_LONG, NO_MEMORY, SINK_FAULT, SOURCE_FAULT};
+use io_edge::{Sink, Source};
+use par_search::NoMeter;
+use session_run::{EndStatus, Settings, services_are_true, session};
+use std::alloc::Global;
+use std::thread::Threads;
+use store_core::Store;
+
+/// Serves an end.
+pub fn serve_mem<R: Threads + Sync, S: Source + Drop, K: Sink + Drop>(
+    rt: &R,
+    alloc: Global,
+    plan: &Plan<'_>,
+    end: &mut End<S, K>,
+)
+    requires { IsWithinLimits plan.now }
+    ensures { ServesMem plan.now S.left S.faults K.written K.faults end.old end.new }
+{
+    let ended = run_script(rt, alloc, plan, &mut end.source, &mut end.sink);
+    end.status = status(ended);
+}
+
+/// A session over a store in memory, which is made here.
+pub fn run_script<R: Threads + Sync, I: Source, O: Sink>(
+    rt: &R,
+    alloc: Global,
+    plan: &Plan<'_>,
+    source: &mut I,
+    sink: &mut O,
+) -> EndStatus
+    requires { IsWithinLimits plan.now }
+    ensures serves { IfSome (I.left source.old) (λ script. Writes (O.written sink.old) (O.written sink.new)
+        (IsServed result plan.now.commits plan.now.page script)) }
+    ensures not_worn { result ≢ EndStatus.Worn }
+    ensures source_fault { result ≡ EndStatus.SourceFault → Rose (I.faults source.old) (I.faults source.new) }
+    ensures sink_fault { result ≡ EndStatus.SinkFault → Rose (O.faults sink.old) (O.faults sink.new) }
+    ensures too_long { result ≡ EndStatus.InputTooLong
+        → TakesExactly (I.left source.old) (I.left source.new) INPUT_LIMIT }
+{
+    services_are_true();
+    let mut store = Store::fresh(alloc, plan.commits);
+    let settings = Settings {
+        workers: plan.workers,
+        page: plan.page,
+        input_limit: INPUT_LIMIT,
+    };
+    session(rt, alloc, &mut store, source, sink, &settings, &NoMeter)
+}
+
+// The status of an end whose session ended so. A store in memory is never worn.
+fn status(ended: EndStatus) -> u8
+    requires { ended ≢ EndStatus.Worn }
+    ensures { IsStatusOf ended result }
+{
+    match ended {
+        EndStatus::Done => DONE,
+        EndStatus::SourceFault => SOURCE_FAULT,
+        EndStatus::SinkFault => SINK_FAULT,
+        EndStatus::NoMemory => NO_MEMORY,
+        EndStatus::InputTooLong => INPUT_TOO_LONG,
+        EndStatus::Worn => unreachable!(),
+    }
+}

@@ -1,0 +1,99 @@
+//! Rings of a graph. An embedding takes each to a ring of the molecule, so its atoms stand where the smallest ring is
+//! no longer. A ring is found as a bond between two places and a way between them along first bonds.
+ghost use Rattle.std.specs.Prelude.{◌≡◌, ◌<◌, ◌≤◌, ◌+◌, [], ℕ, List, false, length, slice_index, Contains, IfSome, IsTrue};
+ghost use Rattle.chem_core.specs.Graph.{IsSimpleCycle};
+ghost use Rattle.chem_core.specs.Molecule.{ends_of};
+ghost use Rattle.matcher.specs.Ring.{AreBound, IsWay};
+ghost use Rattle.matcher.specs.Task.{Completes, Embeds, IsReadyTask};
+
+use crate::class::may_be;
+use crate::fit::Task;
+
+/// Whether a ring of the graph can lie at no ring of the molecule, as far as lengths and classes show.
+pub fn lacks_ring(task: &Task) -> bool
+    requires { IsReadyTask task.now }
+    ensures { IsTrue result → ¬ Completes task.now [] }
+{
+    for place in 0..task.graph.bonds.len() {
+        if lacks_closed(task, place) {
+            return true;
+        }
+    }
+    false
+}
+
+// The same of the ring that a bond closes, if it closes one.
+fn lacks_closed(task: &Task, place: usize) -> bool
+    requires ready { IsReadyTask task.now }
+    requires place { place < length task.now.graph.now.bonds.items }
+    ensures { IsTrue result → ¬ Completes task.now [] }
+{
+    let bond = &task.graph.bonds[place];
+    let high = usize::from(bond.a.max(bond.b));
+    let low = usize::from(bond.a.min(bond.b));
+    if task.steps[high].from == place {
+        return false;
+    }
+    let Some(links) = way_down(task, high, low) else {
+        return false;
+    };
+    if links < 2 {
+        return false;
+    }
+    !has_ring_atom(task, low, links)
+}
+
+// How many bonds a way from one place to a lower one has, along first bonds.
+fn way_down(task: &Task, from: usize, to: usize) -> Option<usize>
+    requires ready { IsReadyTask task.now }
+    requires from { from < length task.now.graph.now.atoms.items }
+    ensures few { IfSome result (λ links. links ≤ from) }
+    ensures way { IfSome result
+        (λ links. (places : List ℕ) × (length places ≡ links) × IsWay task.now from to places) }
+{
+    if from == to {
+        return Some(0);
+    }
+    let next = place_below(task, from)?;
+    let links = way_down(task, next, to)?;
+    Some(links + 1)
+}
+
+// The place to which the first bond of one leads, if it has one.
+fn place_below(task: &Task, place: usize) -> Option<usize>
+    requires ready { IsReadyTask task.now }
+    requires place { place < length task.now.graph.now.atoms.items }
+    ensures lower { IfSome result (λ next. next < place) }
+    ensures bound { IfSome result (λ next. AreBound task.now place next) }
+{
+    let step = task.steps[place];
+    if step.from >= step.to {
+        return None;
+    }
+    let bond = &task.graph.bonds[step.from];
+    Some(usize::from(bond.a.min(bond.b)))
+}
+
+// Whether an atom where the place may stand, as far as classes show, has a smallest ring of no more bonds than one more
+// than these.
+fn has_ring_atom(task: &Task, place: usize, links: usize) -> bool
+    requires ready { IsReadyTask task.now }
+    requires place { place < length task.now.graph.now.atoms.items }
+    ensures { result ≡ false → (image : List ℕ) → Embeds task.now image
+        → (ring : List ℕ) → IsSimpleCycle (ends_of task.now.mol.now) ring
+        → Contains ring (slice_index image place) → length ring ≡ links + 1 → ⊥ }
+{
+    let classes = task.steps[place].classes;
+    let atoms = task.mol.atoms();
+    for atom in 0..atoms.len() as u16 {
+        if !may_be(classes, atoms[usize::from(atom)]) {
+            continue;
+        }
+        let small = usize::from(task.mol.small(atom));
+        if small == 0 || small - 1 > links {
+            continue;
+        }
+        return true;
+    }
+    false
+}

@@ -1,0 +1,135 @@
+-- Cursors by their places.
+use Rattle.std.proofs.Common.{◌≡◌, ◌+◌, ◌++◌, ◌<◌, ◌≤◌, ◌∙◌, ap, arith, Bool, bytes_eq, cond, false, IfNone, IfSome, None, not, Option, position, Some, true, drop, drop-cons, get_or, length, List, [], ◌∷◌, map, refl, set, subst, suc, sym, take, zero, ℕ}
+use Rattle.std.proofs.lemmas.List.{map-append, take-append-drop}
+use Rattle.std.proofs.lemmas.Bool.Decides.{nat_tests}
+use Rattle.std.proofs.lemmas.List.Quantifiers.{position-Some}
+use Rattle.std.proofs.lemmas.Slice.Eq.{bytes_eq-Decides}
+use Rattle.std.specs.List.{position_or_len, remove}
+use Rattle.session_run.specs.Cursors.{Cursor, IsNoName}
+use Rattle.session_run.specs.Walks.{AreSized, IsNamedAt, cursor_of, cursors_of}
+use Rattle.session_run.specs.declared.cursors.Cursor as rust
+
+-- the cursor at a place stands among the others
+pub split : (items : List rust.Cursor) (i : ℕ) (x : rust.Cursor) → i < length items → x ≡ get_or items i x
+    → cursors_of items ≡ cursors_of (take i items) ++ cursor_of x ∷ cursors_of (drop (suc i) items)
+split items i x lt e =
+    ap (λ (l : List rust.Cursor). map cursor_of l) (sym (take-append-drop i items)
+    ∙ ap (λ (l : List rust.Cursor). take i items ++ l)
+    (drop-cons items i x lt ∙ ap (λ (y : rust.Cursor). y ∷ drop (suc i) items) (sym e)))
+    ∙ map-append cursor_of (take i items) (x ∷ drop (suc i) items)
+
+pub removed : (items : List rust.Cursor) (i : ℕ)
+    → cursors_of (remove items i) ≡ cursors_of (take i items) ++ cursors_of (drop (suc i) items)
+removed items i = map-append cursor_of (take i items) (drop (suc i) items)
+
+sized-left : (size : ℕ) (xs ys : List rust.Cursor) → AreSized size (xs ++ ys) → AreSized size xs
+sized-left size [] ys h = tt
+sized-left size (x ∷ xs) ys h = (h.0, sized-left size xs ys h.1)
+
+sized-right : (size : ℕ) (xs ys : List rust.Cursor) → AreSized size (xs ++ ys) → AreSized size ys
+sized-right size [] ys h = h
+sized-right size (x ∷ xs) ys h = sized-right size xs ys h.1
+
+sized-both : (size : ℕ) (xs ys : List rust.Cursor) → AreSized size xs → AreSized size ys → AreSized size (xs ++ ys)
+sized-both size [] ys h k = k
+sized-both size (x ∷ xs) ys h k = (h.0, sized-both size xs ys h.1 k)
+
+pub sized-removed : (size : ℕ) (items : List rust.Cursor) (i : ℕ) → AreSized size items → AreSized size (remove items i)
+sized-removed size items i h =
+    let whole : take i items ++ drop i items ≡ items = take-append-drop i items in
+    let parts : AreSized size (take i items ++ drop i items) = subst (AreSized size) (sym whole) h in
+    sized-both size (take i items) (drop (suc i) items) (sized-left size (take i items) (drop i items) parts)
+    (behind items i h)
+  where
+    behind : (l : List rust.Cursor) (j : ℕ) → AreSized size l → AreSized size (drop (suc j) l)
+    behind [] j h = tt
+    behind (x ∷ xs) zero h = h.1
+    behind (x ∷ xs) (suc j) h = behind xs j h.1
+
+-- one more
+pub sized-pushed : (size : ℕ) (items : List rust.Cursor) (x : rust.Cursor) → x.walk.search.size ≡ size
+    → AreSized size items → AreSized size (items ++ x ∷ [])
+sized-pushed size items x e h = sized-both size items (x ∷ []) h (e, tt)
+
+pub pushed : (items : List rust.Cursor) (x : rust.Cursor)
+    → cursors_of (items ++ x ∷ []) ≡ cursors_of items ++ cursor_of x ∷ []
+pushed items x = map-append cursor_of items (x ∷ [])
+
+-- The cursor of a name, by its first place
+abbrev pub is_same : List ℕ → rust.Cursor → Bool
+is_same name c = bytes_eq c.name.items name
+
+nowhere : {A : Type 0} {i : A} → None ≡ Some i → ⊥
+nowhere h = cc
+
+apart : (b : Bool) → b ≡ true → b ≡ false → ⊥
+apart b h k = cc
+
+pub found : (items : List rust.Cursor) (name : List ℕ) (place : ℕ) → position (is_same name) items ≡ Some place
+    → IsNamedAt items name place
+found items name place e = record {
+  within = inside items refl;
+  named = λ any.
+      (bytes_eq-Decides (get_or items place any).name.items name).0 (position-Some (is_same name) items place any e).1;
+} where
+  inside : (l : List rust.Cursor) → items ≡ l → place < length items
+  inside [] q = absurd (nowhere (subst (λ (l : List rust.Cursor). position (is_same name) l ≡ Some place) q e))
+  inside (x ∷ xs) q = (position-Some (is_same name) items place x e).0
+
+none_step : (b : Bool) (x : rust.Cursor) (xs : List rust.Cursor) (name : List ℕ) → is_same name x ≡ b
+    → suc (length xs) ≤ cond (not b) (1 + position_or_len (is_same name) xs) 0
+    → (length xs ≤ position_or_len (is_same name) xs → IsNoName (cursors_of xs) name)
+    → IsNoName (cursors_of (x ∷ xs)) name
+none_step true x xs name e h rest k any lt = absurd (omega (arith, h))
+none_step false x xs name e h rest zero any lt =
+    λ same. apart (is_same name x) ((bytes_eq-Decides x.name.items name).1 same) e
+none_step false x xs name e h rest (suc k) any lt = rest (omega (arith, h)) k any (omega (arith, lt))
+
+none_from : (items : List rust.Cursor) (name : List ℕ) → length items ≤ position_or_len (is_same name) items
+    → IsNoName (cursors_of items) name
+none_from [] name h k any lt = absurd (omega (arith, lt))
+none_from (x ∷ xs) name h k any lt = none_step (is_same name x) x xs name refl h (none_from xs name) k any lt
+
+pub unfound : (items : List rust.Cursor) (name : List ℕ) → position (is_same name) items ≡ None
+    → IsNoName (cursors_of items) name
+unfound items name e = none_from items name (grind (arith, nat_tests))
+
+-- a place is named, or none is
+pub found_named : (r : Option ℕ) (items : List rust.Cursor) (name : List ℕ) → r ≡ position (is_same name) items
+    → IfSome r (IsNamedAt items name)
+found_named None items name e = tt
+found_named (Some place) items name e = found items name place (sym e)
+
+pub found_none : (r : Option ℕ) (items : List rust.Cursor) (name : List ℕ) → r ≡ position (is_same name) items
+    → IfNone r (IsNoName (cursors_of items) name)
+found_none None items name e = unfound items name (sym e)
+found_none (Some place) items name e = tt
+
+-- a name that a place has is no free one
+pub not_none : (items : List rust.Cursor) (name : List ℕ) (place : ℕ) → IsNamedAt items name place
+    → ¬ IsNoName (cursors_of items) name
+not_none [] name place n h = absurd (omega (arith, n.within))
+not_none (x ∷ xs) name zero n h = h zero (cursor_of x) (omega arith) (n.named x)
+not_none (x ∷ xs) name (suc k) n h =
+    not_none xs name k (record { within = omega (arith, n.within); named = λ any. n.named any })
+    (λ j any lt. h (suc j) any (omega (arith, lt)))
+
+-- the cursor at a place is another
+pub set-split : (items : List rust.Cursor) (i : ℕ) (x : rust.Cursor) → i < length items
+    → cursors_of (set items i x) ≡ cursors_of (take i items) ++ cursor_of x ∷ cursors_of (drop (suc i) items)
+set-split [] i x lt = absurd (omega (arith, lt))
+set-split (y ∷ ys) zero x lt = refl
+set-split (y ∷ ys) (suc i) x lt = ap (λ (l : List Cursor). cursor_of y ∷ l) (set-split ys i x (omega (arith, lt)))
+
+pub sized-at : (size : ℕ) (items : List rust.Cursor) (i : ℕ) (any : rust.Cursor) → i < length items
+    → AreSized size items
+    → (get_or items i any).walk.search.size ≡ size
+sized-at size [] i any lt h = absurd (omega (arith, lt))
+sized-at size (y ∷ ys) zero any lt h = h.0
+sized-at size (y ∷ ys) (suc i) any lt h = sized-at size ys i any (omega (arith, lt)) h.1
+
+pub sized-set : (size : ℕ) (items : List rust.Cursor) (i : ℕ) (x : rust.Cursor) → x.walk.search.size ≡ size
+    → AreSized size items → AreSized size (set items i x)
+sized-set size [] i x e h = tt
+sized-set size (y ∷ ys) zero x e h = (e, h.1)
+sized-set size (y ∷ ys) (suc i) x e h = (h.0, sized-set size ys i x e h.1)

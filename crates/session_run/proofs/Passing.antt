@@ -1,0 +1,213 @@
+-- What is known of an open cursor by the calls so far, how it goes on by its pages, and calls that pass its pin by.
+use Rattle.std.proofs.Common.{◌≡◌, ◌≢◌, ◌++◌, ◌+◌, ◌==◌, ◌∙◌, ap, append-nil, append_assoc, Bool, cond, eq-eqb, false, inl, inr, length, length-append, List, [], ◌∷◌, map, ne_eqb, None, Option, refl, Some, subst, sym, true, ℕ}
+use Rattle.std.proofs.lemmas.Bool.{cond-false, cond-true}
+use Rattle.std.specs.List.{cons_option}
+use Rattle.shell_lang.specs.Reply as line
+use Rattle.smarts_parse.specs.Pattern.{PatternTerm}
+use Rattle.store_machine.specs.Answers.{AreMatched}
+use Rattle.store_machine.specs.Searches.{At, End, Fetched, IsSearch, KeepsPin, Place, fetched, page_in, past, place_after, records_of, unpins}
+use Rattle.store_machine.specs.Structures.{IsNeedOf}
+use Rattle.store_machine.specs.declared.machine.Event.{Event}
+use Rattle.store_machine.specs.declared.machine.Event.TheVariants.{Fetch, Pin}
+use Rattle.store_machine.specs.declared.machine.Found.{Found}
+use Rattle.store_machine.specs.declared.machine.Reply.{Reply}
+use Rattle.store_machine.specs.declared.machine.Reply.TheVariants as replies
+use Rattle.session_run.specs.Answer.{Advances, Lines, after_page, page_end}
+use Rattle.session_run.specs.Cursors.{AreFetches, Calls, Cursor, IsFetch}
+use Rattle.session_run.specs.Dialogue.{hits_in}
+use Rattle.session_run.proofs.Listings.{fetched-append, matched-append, records-append, search-append}
+
+-- Calls that neither give a pin back nor are answered by a page of it
+abbrev pub PassBy : ℕ → Calls → Type 0
+PassBy slot [] = Unit {0}
+PassBy slot (c ∷ cs) = (unpins slot c.0 ≡ false) × (page_in slot c.0 c.1 ≡ None) × PassBy slot cs
+
+pub passes_keep : (slot : ℕ) (cs : Calls) → PassBy slot cs → KeepsPin slot cs
+passes_keep slot [] h = tt
+passes_keep slot (c ∷ cs) h = (h.0, passes_keep slot cs h.2)
+
+passes_none : (slot : ℕ) (cs : Calls) → PassBy slot cs → fetched slot cs ≡ []
+passes_none slot [] h = refl
+passes_none slot (c ∷ cs) h = ap (λ (o : Option Fetched). cons_option o (fetched slot cs)) h.1 ∙ passes_none slot cs h.2
+
+pub keeps-append : (slot : ℕ) (xs ys : Calls) → KeepsPin slot xs → KeepsPin slot ys → KeepsPin slot (xs ++ ys)
+keeps-append slot [] ys h k = k
+keeps-append slot (x ∷ xs) ys h k = (h.0, keeps-append slot xs ys h.1 k)
+
+pub passes-append : (slot : ℕ) (xs ys : Calls) → PassBy slot xs → PassBy slot ys → PassBy slot (xs ++ ys)
+passes-append slot [] ys h k = k
+passes-append slot (x ∷ xs) ys h k = (h.0, h.1, passes-append slot xs ys h.2 k)
+
+-- a pin's fetches give no pin back, and are no pages of another
+fetch_keeps : (slot size other : ℕ) (want : List Bool) (e : Event) → IsFetch slot size want e → unpins other e ≡ false
+fetch_keeps slot size other want (Fetch pin asked from limit) h = refl
+fetch_keeps slot size other want _ h = absurd h
+
+no_page : (other pin : ℕ) (asked : List Bool) (from limit : ℕ) (r : Reply) → (pin == other) ≡ false
+    → page_in other (Fetch pin asked from limit) r ≡ None
+no_page other pin asked from limit (replies.Page records last) h =
+    cond-false (pin == other)
+    (Some (let f : Fetched = record { want = asked; from = from; limit = limit; records = records; last = last } in
+    f)) None h
+no_page other pin asked from limit _ h = refl
+
+fetch_none : (slot size other : ℕ) (want : List Bool) (e : Event) (r : Reply) → slot ≢ other → IsFetch slot size want e
+    → page_in other e r ≡ None
+fetch_none slot size other want (Fetch pin asked from limit) r apart h =
+    no_page other pin asked from limit r (ne_eqb pin other (λ e. apart (sym h.0 ∙ e)))
+fetch_none slot size other want _ r apart h = absurd h
+
+pub fetches_keep : (slot size other : ℕ) (want : List Bool) (cs : Calls) → AreFetches slot size want cs
+    → KeepsPin other cs
+fetches_keep slot size other want [] h = tt
+fetches_keep slot size other want (c ∷ cs) h =
+    (fetch_keeps slot size other want c.0 h.0, fetches_keep slot size other want cs h.1)
+
+pub fetches_pass : (slot size other : ℕ) (want : List Bool) (cs : Calls) → slot ≢ other → AreFetches slot size want cs
+    → PassBy other cs
+fetches_pass slot size other want [] apart h = tt
+fetches_pass slot size other want (c ∷ cs) apart h = (
+  fetch_keeps slot size other want c.0 h.0,
+  fetch_none slot size other want c.0 c.1 apart h.0,
+  fetches_pass slot size
+      other want cs apart h.1,
+)
+
+-- By these calls the cursor's pin was taken and not given back, its pages brought its search to where it stands, and
+-- these are its hits
+pub record IsOpen (calls : Calls) (c : Cursor) (hits : List ℕ) : Type 0 where
+  pub before : Calls
+  pub pages : Calls
+  pub own : calls ≡ before ++ (Pin, replies.Pinned c.slot c.version) ∷ pages
+  pub keeps : KeepsPin c.slot pages
+  pub search : IsSearch c.want (At 0) (fetched c.slot pages) c.place
+  pub need : IsNeedOf c.pattern c.want
+  pub tried : c.tried ≡ length (records_of (fetched c.slot pages))
+  pub matched : AreMatched c.pattern (records_of (fetched c.slot pages)) hits
+  pub count : c.hits ≡ length hits
+
+-- other calls
+pub open_passes : (calls its : Calls) (c : Cursor) (hits : List ℕ) → PassBy c.slot its → IsOpen calls c hits
+    → IsOpen (calls ++ its) c hits
+open_passes calls its c hits pass o =
+    let same : fetched c.slot (o.pages ++ its) ≡ fetched c.slot o.pages =
+    fetched-append c.slot o.pages its
+    ∙ (ap (λ (fs : List Fetched). fetched c.slot o.pages ++ fs) (passes_none c.slot its pass)
+    ∙ append-nil (fetched c.slot o.pages)) in
+    record {
+      before = o.before;
+      pages = o.pages ++ its;
+      own = ap (λ (l : Calls). l ++ its) o.own
+          ∙ append_assoc o.before ((Pin, replies.Pinned c.slot c.version) ∷ o.pages) its;
+      keeps = keeps-append c.slot o.pages its o.keeps (passes_keep c.slot its pass);
+      search = subst (λ (fs : List Fetched). IsSearch c.want (At 0) fs c.place) (sym same) o.search;
+      need = o.need;
+      tried = o.tried ∙ sym (ap (λ (fs : List Fetched). length (records_of fs)) same);
+      matched = subst (λ (fs : List Fetched). AreMatched c.pattern (records_of fs) hits) (sym same) o.matched;
+      count = o.count;
+    }
+
+-- a page of the pin
+page_more : (calls : Calls) (c : Cursor) (hits more : List ℕ) (size from : ℕ) (records : List Found) (last : Bool)
+    → c.place ≡ At from → AreMatched c.pattern records more
+    → IsOpen calls c hits
+    → IsOpen (calls ++ (Fetch c.slot c.want from size, replies.Page records last) ∷ [])
+    (after_page c from records last more) (hits ++ more)
+page_more calls c hits more size from records last e m o =
+    let f : Fetched = record { want = c.want; from = from; limit = size; records = records; last = last } in
+    let call : Event × Reply = (Fetch c.slot c.want from size, replies.Page records last) in
+    let page : page_in c.slot call.0 call.1 ≡ Some f =
+    cond-true (c.slot == c.slot) (Some f) None (eq-eqb c.slot c.slot refl) in
+    let one : fetched c.slot (call ∷ []) ≡ f ∷ [] = ap (λ (o : Option Fetched). cons_option o []) page in
+    let all : fetched c.slot (o.pages ++ call ∷ []) ≡ fetched c.slot o.pages ++ f ∷ [] =
+    fetched-append c.slot o.pages (call ∷ []) ∙ ap (λ (l : List Fetched). fetched c.slot o.pages ++ l) one in
+    let records_are : records_of (fetched c.slot (o.pages ++ call ∷ [])) ≡ records_of
+    (fetched c.slot o.pages) ++ records =
+    ap records_of all ∙ (records-append (fetched c.slot o.pages) (f ∷ [])
+    ∙ ap (λ (l : List Found). records_of (fetched c.slot o.pages) ++ l) (append-nil records)) in
+    record {
+      before = o.before;
+      pages = o.pages ++ call ∷ [];
+      own = ap (λ (l : Calls). l ++ call ∷ []) o.own
+          ∙ append_assoc o.before ((Pin, replies.Pinned c.slot c.version) ∷ o.pages) (call ∷ []);
+      keeps = keeps-append c.slot o.pages (call ∷ []) o.keeps (refl, tt);
+      search = subst (λ (fs : List Fetched). IsSearch c.want (At 0) fs (cond last End (At (past from records))))
+          (sym all)
+          (search-append c.want (At 0) c.place (cond last End (At (past from records))) (fetched c.slot o.pages)
+          (f ∷ []) o.search (e, refl, refl));
+      need = o.need;
+      tried = ap (λ (n : ℕ). n + length records) o.tried
+          ∙ (sym (length-append (records_of (fetched c.slot o.pages)) records)
+          ∙ sym (ap (λ (l : List Found). length l) records_are));
+      matched = subst (λ (rs : List Found). AreMatched c.pattern rs (hits ++ more)) (sym records_are)
+          (matched-append c.pattern (records_of (fetched c.slot o.pages)) records hits more o.matched m);
+      count = ap (λ (n : ℕ). n + length more) o.count ∙ sym (length-append hits more);
+    }
+
+-- the hits in the lines of a page
+pub hits_listed : (hits : List ℕ) (said : line.Reply) → hits_in (said ∷ []) ≡ []
+    → hits_in (map line.Hit hits ++ said ∷ []) ≡ hits
+hits_listed [] said e = e
+hits_listed (h ∷ hs) said e = ap (λ (l : List ℕ). h ∷ l) (hits_listed hs said e)
+
+pub no_hit : (last : Bool) (c : Cursor) → hits_in (page_end last c ∷ []) ≡ []
+no_hit true c = refl
+no_hit false c = refl
+
+-- what stays of a cursor
+pub record IsSame (c c' : Cursor) : Type 0 where
+  pub name : c'.name ≡ c.name
+  pub pattern : c'.pattern ≡ c.pattern
+  pub slot : c'.slot ≡ c.slot
+  pub version : c'.version ≡ c.version
+
+same_after : (c c' d : Cursor) → c' ≡ d → IsSame c d → IsSame c c'
+same_after c c' d e s = subst (λ (x : Cursor). IsSame c x) (sym e) s
+
+pub advances_same : (size : ℕ) (place : Place) (c : Cursor) (calls : Calls) (lines : Lines) (c' : Cursor)
+    → Advances size place c calls lines c' → IsSame c c'
+advances_same size End c calls lines c' a =
+    same_after c c' c a.1 (record { name = refl; pattern = refl; slot = refl; version = refl })
+advances_same size (At from) c calls lines c' (inl t) =
+    same_after c c' (after_page c from t.records t.last t.hits) t.moved
+    (record { name = refl; pattern = refl; slot = refl; version = refl })
+advances_same size (At from) c calls lines c' (inr a) =
+    same_after c c' c a.2 (record { name = refl; pattern = refl; slot = refl; version = refl })
+
+-- its calls are fetches of its pin
+pub advances_fetch : (size : ℕ) (place : Place) (c : Cursor) (calls : Calls) (lines : Lines) (c' : Cursor)
+    → Advances size place c calls lines c' → AreFetches c.slot size c.want calls
+advances_fetch size End c calls lines c' a = subst (λ (l : Calls). AreFetches c.slot size c.want l) (sym a.0.0) tt
+advances_fetch size (At from) c calls lines c' (inl t) =
+    subst (λ (l : Calls). AreFetches c.slot size c.want l) (sym t.made) ((refl, refl, refl), tt)
+advances_fetch size (At from) c calls lines c' (inr a) =
+    subst (λ (l : Calls). AreFetches c.slot size c.want l) (sym a.0) ((refl, refl, refl), tt)
+
+-- the cursor goes on, and lists the hits among its lines
+pub open_advances : (size : ℕ) (place : Place) (calls its : Calls) (lines : Lines) (c c' : Cursor) (hits : List ℕ)
+    → c.place ≡ place
+    → Advances size place c its lines c' → IsOpen calls c hits → IsOpen (calls ++ its) c' (hits ++ hits_in lines)
+open_advances size End calls its lines c c' hits e a o =
+    let none : hits_in lines ≡ [] = ap hits_in a.0.1 in
+    let same : IsOpen (calls ++ []) c hits = open_passes calls [] c hits tt o in
+    subst (λ (x : Cursor). IsOpen (calls ++ its) x (hits ++ hits_in lines)) (sym a.1)
+    (subst (λ (l : Calls). IsOpen (calls ++ l) c (hits ++ hits_in lines)) (sym a.0.0)
+    (subst (λ (l : List ℕ). IsOpen (calls ++ []) c l)
+    (sym (ap (λ (l : List ℕ). hits ++ l) none ∙ append-nil hits)) same))
+open_advances size (At from) calls its lines c c' hits e (inl t) o =
+    let listed : hits_in lines ≡ t.hits =
+    ap hits_in t.said ∙ hits_listed t.hits (page_end t.last c') (no_hit t.last c') in
+    subst (λ (x : Cursor). IsOpen (calls ++ its) x (hits ++ hits_in lines)) (sym t.moved)
+    (subst (λ (l : Calls). IsOpen (calls ++ l) (after_page c from t.records t.last t.hits) (hits ++ hits_in lines))
+    (sym t.made)
+    (subst (λ (l : List ℕ). IsOpen (calls ++ (Fetch c.slot c.want from size, replies.Page t.records t.last) ∷ [])
+    (after_page c from t.records t.last t.hits) (hits ++ l)) (sym listed)
+    (page_more calls c hits t.hits size from t.records t.last e t.matched o)))
+open_advances size (At from) calls its lines c c' hits e (inr a) o =
+    let none : hits_in lines ≡ [] = ap hits_in a.1 in
+    let same : IsOpen (calls ++ (Fetch c.slot c.want from size, replies.NoMemory) ∷ []) c hits =
+    open_passes calls ((Fetch c.slot c.want from size, replies.NoMemory) ∷ []) c hits (refl, refl, tt) o in
+    subst (λ (x : Cursor). IsOpen (calls ++ its) x (hits ++ hits_in lines)) (sym a.2)
+    (subst (λ (l : Calls). IsOpen (calls ++ l) c (hits ++ hits_in lines)) (sym a.0)
+    (subst (λ (l : List ℕ). IsOpen (calls ++ (Fetch c.slot c.want from size, replies.NoMemory) ∷ []) c l)
+    (sym (ap (λ (l : List ℕ). hits ++ l) none ∙ append-nil hits)) same))

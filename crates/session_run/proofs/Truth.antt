@@ -1,0 +1,475 @@
+-- Dialogues over a run: what their searches and cursors listed is the history's answer.
+use Rattle.std.proofs.Common.{◌≡◌, ◌++◌, ◌≤◌, ◌∙◌, ap, append-nil, append_assoc, Bool, cond, Contains, false, inl, inr, length, List, [], ◌∷◌, map, refl, subst, sym, true, ℕ}
+use Rattle.shell_lang.specs.Command as command
+use Rattle.shell_lang.specs.Command.{Command}
+use Rattle.shell_lang.specs.Reply as line
+use Rattle.shell_lang.specs.Reply.{text_of}
+use Rattle.smarts_parse.specs.Pattern.{PatternTerm}
+use Rattle.store_machine.specs.Laws.{IsSound}
+use Rattle.store_machine.specs.Runs.{IsCalm, IsRun, calls_of}
+use Rattle.store_machine.specs.Searches.{At, End, IsSearch, Place, fetched, past}
+use Rattle.store_machine.specs.declared.machine.Change.{Change}
+use Rattle.store_machine.specs.declared.machine.Event.{Event}
+use Rattle.store_machine.specs.declared.machine.Event.TheVariants as events
+use Rattle.store_machine.specs.declared.machine.Reply.{Reply}
+use Rattle.store_machine.specs.declared.machine.Reply.TheVariants as replies
+use Rattle.store_machine.specs.declared.machine.State.{State}
+use Rattle.store_machine.specs.declared.machine.Step.{Step}
+use Rattle.session_run.specs.Answer.{Advances, IsCutShort, Lines, Lists, Opens, page_end}
+use Rattle.session_run.specs.Cursors.{Calls, Cursor, IsNoName}
+use Rattle.session_run.specs.Dialogue.{AreExchanged, AreListed, Exchange, IsCommand, IsShown, StaysOpen, hits_in}
+use Rattle.session_run.specs.Requests.{Request}
+use Rattle.session_run.specs.Texts.{IsPatternOf}
+use Rattle.session_run.specs.Truths.{AreAllHits, CursorsAreTrue, DialoguesAreTrue, IsTrueList, IsUpToDate, SearchesAreHits, SearchesAreTrue}
+use Rattle.session_run.proofs.Followed.{Follows, OneReading, follow_all, follow_new, one_command, places}
+use Rattle.session_run.proofs.Acts.{Closed, Kind, Moved, Opened, Other, Searched, first_or_rest, kind, one_in}
+use Rattle.session_run.proofs.Parting.{Laws, pin_new, slot_free, whole_pages}
+use Rattle.session_run.proofs.Passing.{IsOpen, advances_same, fetches_keep, hits_listed, open_advances}
+use Rattle.session_run.proofs.Pinned.{AreFree, dialogue_pins, next_calls, pin_first}
+
+-- A search
+cut_calls : (before pages after : Calls) (pin unpin : Event × Reply)
+    → before ++ ((pin ∷ (pages ++ unpin ∷ [])) ++ after) ≡ (before ++ pin ∷ pages) ++ unpin ∷ after
+cut_calls before pages after pin unpin =
+    ap (λ (l : Calls). before ++ pin ∷ l) (append_assoc pages (unpin ∷ []) after)
+    ∙ sym (append_assoc before (pin ∷ pages) (unpin ∷ after))
+
+pub searches-are-hits : Laws → SearchesAreHits
+searches-are-hits laws s t steps own size pattern before its after lines sound run calm e found ended =
+    let pin : Event × Reply = (events.Pin, replies.Pinned found.slot found.version) in
+    let unpin : Event × Reply = (events.Unpin found.slot, replies.Unpinned) in
+    let made : calls_of own steps ≡ before ++ ((pin ∷ (found.pages ++ unpin ∷ [])) ++ after) =
+    e ∙ ap (λ (l : Calls). before ++ (l ++ after)) found.made in (
+      whole_pages laws own s t steps before found.pages
+          (unpin ∷ after) found.slot found.version found.tried pattern found.searched.want found.hits
+          sound run calm (made ∙ cut_calls before found.pages after pin unpin)
+          (fetches_keep found.slot size found.slot found.searched.want found.pages found.searched.fetches)
+          (subst (λ (p : Place). IsSearch found.searched.want (At 0) (fetched found.slot found.pages) p) ended
+          found.searched.search)
+          found.searched.need found.searched.matched found.searched.count,
+      pin_new laws own s t steps before
+          ((found.pages ++ unpin ∷ []) ++ after) found.slot found.version sound run calm made,
+    )
+
+-- The end among lines
+hit_or_end : (id version tried hits : ℕ) → line.Hit id ≡ line.End version tried hits → ⊥
+hit_or_end id version tried hits e = cc
+
+behind_hits : (hits : List ℕ) (said : line.Reply) (version tried count : ℕ)
+    → Contains (map line.Hit hits ++ said ∷ []) (line.End version tried count) → said ≡ line.End version tried count
+behind_hits [] said version tried count k = one_in said (line.End version tried count) k
+behind_hits (h ∷ hs) said version tried count k =
+    elim (first_or_rest (line.Hit h) (map line.Hit hs ++ said ∷ []) (line.End version tried count) k) [
+      | inl e ↦ absurd (hit_or_end h version tried count e)
+      | inr m ↦ behind_hits hs said version tried count m
+    ]
+
+fault_or_end : (version tried hits : ℕ) → line.MemoryFault ≡ line.End version tried hits → ⊥
+fault_or_end version tried hits e = cc
+
+more_or_end : (version tried hits : ℕ) → line.More ≡ line.End version tried hits → ⊥
+more_or_end version tried hits e = cc
+
+-- the numbers of an end
+record SameEnd (version tried hits version' tried' hits' : ℕ) : Type 0 where
+  version_is : version ≡ version'
+  tried_is : tried ≡ tried'
+  hits_is : hits ≡ hits'
+
+same_end : (version tried hits version' tried' hits' : ℕ) → line.End version tried hits ≡ line.End version' tried' hits'
+    → SameEnd version tried hits version' tried' hits'
+same_end version tried hits version' tried' hits' e = record { version_is = a; tried_is = b; hits_is = c } where
+  a : version ≡ version'
+  a = cc
+
+  b : tried ≡ tried'
+  b = cc
+
+  c : hits ≡ hits'
+  c = cc
+
+cut_end : (hits : List ℕ) (lines : Lines) (version tried count : ℕ) → IsCutShort hits lines
+    → Contains lines (line.End version tried count) → ⊥
+cut_end hits lines version tried count c k =
+    fault_or_end version tried count
+    (behind_hits c.0 line.MemoryFault version tried count
+    (subst (λ (l : Lines). Contains l (line.End version tried count)) c.3 k))
+
+-- a search whose lines have an end
+record IsEndOf (place : Place) (version tried : ℕ) (hits : List ℕ) (lines : Lines)
+    (version' tried' count : ℕ) : Type 0 where
+  place_is : place ≡ End
+  numbers : SameEnd version tried (length hits) version' tried' count
+  listed : hits_in lines ≡ hits
+
+search_end : (place : Place) (version tried : ℕ) (hits : List ℕ) (lines : Lines) (version' tried' count : ℕ)
+    → Lists place version tried hits lines
+    → Contains lines (line.End version' tried' count) → IsEndOf place version tried hits lines version' tried' count
+search_end End version tried hits lines version' tried' count (inl e) k = record {
+  place_is = refl;
+  numbers = same_end version tried (length hits) version' tried' count
+      (behind_hits hits (line.End version tried (length hits)) version' tried' count
+      (subst (λ (l : Lines). Contains l (line.End version' tried' count)) e k));
+  listed = ap hits_in e ∙ hits_listed hits (line.End version tried (length hits)) refl;
+}
+search_end End version tried hits lines version' tried' count (inr c) k =
+    absurd (cut_end hits lines version' tried' count c k)
+search_end (At from) version tried hits lines version' tried' count c k =
+    absurd (cut_end hits lines version' tried' count c k)
+
+-- a cursor whose lines have an end
+advance_end : (size : ℕ) (place : Place) (c : Cursor) (calls : Calls) (lines : Lines) (c' : Cursor)
+    (version tried count : ℕ) → c.place ≡ place → Advances size place c calls lines c'
+    → Contains lines (line.End version tried count)
+    → (c'.place ≡ End) × SameEnd c'.version c'.tried c'.hits version tried count
+advance_end size End c calls lines c' version tried count at a k =
+    let e : line.End c.version c.tried c.hits ≡ line.End version tried count =
+    one_in (line.End c.version c.tried c.hits) (line.End version tried count)
+    (subst (λ (l : Lines). Contains l (line.End version tried count)) a.0.1 k) in (
+      ap (λ (x : Cursor). x.place) a.1 ∙ at,
+      subst (λ (x : Cursor). SameEnd x.version x.tried x.hits version tried count) (sym a.1)
+          (same_end c.version c.tried c.hits version tried count e),
+    )
+advance_end size (At from) c calls lines c' version tried count at (inl t) k =
+    by t.last refl (behind_hits t.hits (page_end t.last c') version tried count
+    (subst (λ (l : Lines). Contains l (line.End version tried count)) t.said k))
+  where
+    by : (last : Bool) → t.last ≡ last → page_end last c' ≡ line.End version tried count
+        → (c'.place ≡ End) × SameEnd c'.version c'.tried c'.hits version tried count
+    by true q e = (
+      ap (λ (x : Cursor). x.place) t.moved ∙ ap (λ (b : Bool). cond b End (At (past from t.records))) q,
+      same_end c'.version c'.tried c'.hits version tried count e,
+    )
+    by false q e = absurd (more_or_end version tried count e)
+advance_end size (At from) c calls lines c' version tried count at (inr a) k =
+    absurd (fault_or_end version tried count
+    (one_in line.MemoryFault (line.End version tried count)
+    (subst (λ (l : Lines). Contains l (line.End version tried count)) a.1 k)))
+
+-- the cursor of a name after a reply with an end
+record Ended (calls : Calls) (pattern : PatternTerm) (opened : ℕ) (hits : List ℕ)
+    (version tried count : ℕ) : Type 0 where
+  c : Cursor
+  open_since : IsOpen calls c hits
+  place_is : c.place ≡ End
+  numbers : SameEnd c.version c.tried c.hits version tried count
+  pattern_is : c.pattern ≡ pattern
+  opened_at : c.version ≡ opened
+
+search_or_next : (text name : List ℕ) → command.Search text ≡ command.Next name → ⊥
+search_or_next text name e = cc
+
+start_or_next : (text other name : List ℕ) → command.Start other text ≡ command.Next name → ⊥
+start_or_next text other name e = cc
+
+close_or_next : (other name : List ℕ) → command.Close other ≡ command.Next name → ⊥
+close_or_next other name e = cc
+
+search_or_start : (text other name : List ℕ) → command.Search text ≡ command.Start name other → ⊥
+search_or_start text other name e = cc
+
+next_or_start : (other name text : List ℕ) → command.Next other ≡ command.Start name text → ⊥
+next_or_start other name text e = cc
+
+close_or_start : (other name text : List ℕ) → command.Close other ≡ command.Start name text → ⊥
+close_or_start other name text e = cc
+
+start_or_search : (name other text : List ℕ) → command.Start name other ≡ command.Search text → ⊥
+start_or_search name other text e = cc
+
+next_or_search : (name text : List ℕ) → command.Next name ≡ command.Search text → ⊥
+next_or_search name text e = cc
+
+close_or_search : (name text : List ℕ) → command.Close name ≡ command.Search text → ⊥
+close_or_search name text e = cc
+
+one_search : (a b : List ℕ) → command.Search a ≡ command.Search b → a ≡ b
+one_search a b e = cc
+
+one_next : (a b : List ℕ) → command.Next a ≡ command.Next b → a ≡ b
+one_next a b e = cc
+
+one_start : (a b c d : List ℕ) → command.Start a b ≡ command.Start c d → (a ≡ c) × (b ≡ d)
+one_start a b c d e = (x, y) where
+  x : a ≡ c
+  x = cc
+
+  y : b ≡ d
+  y = cc
+
+one_opened : (a b : ℕ) → line.Opened a ≡ line.Opened b → a ≡ b
+one_opened a b e = cc
+
+module _ (reading : OneReading) (size : ℕ) (name : List ℕ) where
+  ends : (calls its : Calls) (cursors cursors' : List Cursor) (request : Request) (lines : Lines)
+      (pattern : PatternTerm) (opened : ℕ) (hits : List ℕ) (version tried count : ℕ)
+      → Kind size cursors request its lines cursors' → IsCommand request (command.Next name)
+      → Contains lines (line.End version tried count)
+      → Follows calls cursors name pattern opened hits
+      → Ended (calls ++ its) pattern opened (hits ++ hits_in lines) version tried count
+  ends calls its cursors cursors' request lines pattern opened hits version tried count (Other pass plain same) is k f =
+      absurd (plain.ends version tried count k)
+  ends calls its cursors cursors' request lines pattern opened hits version tried count
+      (Searched text p was reads s same) is k f =
+      absurd (search_or_next text name (one_command reading request (command.Search text) (command.Next name) was is))
+  ends calls its cursors cursors' request lines pattern opened hits version tried count
+      (Opened other text p was reads new o) is k f =
+      absurd (start_or_next text other name
+      (one_command reading request (command.Start other text) (command.Next name) was is))
+  ends calls its cursors cursors' request lines pattern opened hits version tried count
+      (Closed other before after d was at made said now) is k f =
+      absurd (close_or_next other name (one_command reading request (command.Close other) (command.Next name) was is))
+  ends calls its cursors cursors' request lines pattern opened hits version tried count
+      (Moved other before after d d' was at advances now) is k f =
+      elim (places name f.c.slot f.front f.back before after f.c d f.left f.right (sym f.among ∙ at.place)) [
+        | inl s ↦
+            let own : Advances size f.c.place f.c its lines d' =
+            subst (λ (x : Cursor). Advances size x.place x its lines d') (sym s.1) advances in
+            let end = advance_end size f.c.place f.c its lines d' version tried count refl own k in
+            let same = advances_same size f.c.place f.c its lines d' own in
+            record {
+              c = d';
+              open_since = open_advances size f.c.place calls its lines f.c d' hits refl own f.open_since;
+              place_is = end.0;
+              numbers = end.1;
+              pattern_is = same.pattern ∙ f.pattern_is;
+              opened_at = same.version ∙ f.version_is;
+            }
+        | inr e ↦ absurd (e.name_apart
+            (at.named ∙ one_next other name
+            (one_command reading request (command.Next other) (command.Next name) was is)))
+      ]
+
+-- a dialogue in two parts
+exchanged_parts : (size : ℕ) (cursors cursors' : List Cursor) (xs ys : List Exchange) (calls : Calls)
+    → AreExchanged size cursors (xs ++ ys) calls cursors'
+    → (first rest : Calls) × (between : List Cursor) × (calls ≡ first ++ rest)
+    × AreExchanged size cursors xs first between × AreExchanged size between ys rest cursors'
+exchanged_parts size cursors cursors' [] ys calls a = ([], calls, cursors, refl, (refl, refl), a)
+exchanged_parts size cursors cursors' (x ∷ xs) ys calls a =
+    let r = exchanged_parts size a.2 cursors' xs ys a.1 a.5 in (
+      a.0 ++ r.0,
+      r.1,
+      r.2,
+      a.4 ∙ (ap (λ (l : Calls). a.0 ++ l) r.3 ∙ sym (append_assoc a.0 r.0 r.1)),
+      (a.0, r.0, a.2, a.3, refl, r.4),
+      r.5,
+    )
+
+-- what was listed up to a last page
+listed_parts : (name : List ℕ) (xs : List Exchange) (y : Exchange) (hits : List ℕ) → AreListed name (xs ++ y ∷ []) hits
+    → IsCommand y.request (command.Next name)
+    → (more : List ℕ) × AreListed name xs more × (hits ≡ more ++ hits_in y.lines)
+listed_parts name [] y hits (inl k) is =
+    ([], refl, k.2 ∙ (ap (λ (l : List ℕ). hits_in y.lines ++ l) k.3 ∙ append-nil (hits_in y.lines)))
+listed_parts name [] y hits (inr k) is = absurd (k.0 is)
+listed_parts name (x ∷ xs) y hits (inl k) is =
+    let r = listed_parts name xs y k.1 k.3 is in (
+      hits_in x.lines ++ r.0,
+      inl (k.0, r.0, refl, r.1),
+      k.2
+          ∙ (ap (λ (l : List ℕ). hits_in x.lines ++ l) r.2
+          ∙ sym (append_assoc (hits_in x.lines) r.0 (hits_in y.lines))),
+    )
+listed_parts name (x ∷ xs) y hits (inr k) is = let r = listed_parts name xs y hits k.1 is in (r.0, inr (k.0, r.1), r.2)
+
+same_hits : (h : List Change) (version version' tried tried' : ℕ) (pattern pattern' : PatternTerm) (hits hits' : List ℕ)
+    → version ≡ version' → tried ≡ tried' → pattern ≡ pattern' → hits ≡ hits'
+    → AreAllHits h version pattern tried hits → AreAllHits h version' pattern' tried' hits'
+same_hits h version version' tried tried' pattern pattern' hits hits' a b c d all =
+    subst (λ (v : ℕ). AreAllHits h v pattern' tried' hits') a
+    (subst (λ (n : ℕ). AreAllHits h version pattern' n hits') b
+    (subst (λ (p : PatternTerm). AreAllHits h version p tried hits') c
+    (subst (λ (l : List ℕ). AreAllHits h version pattern tried l) d all)))
+
+module _ (laws : Laws) (reading : OneReading) (s t : State) (steps : List Step) (own : ℕ
+    → Bool) (size : ℕ) (exchanges : List Exchange) (calls more : Calls) (cursors : List Cursor)
+    (sound : IsSound s) (run : IsRun s steps t) (calm : IsCalm steps) (made : calls_of own steps ≡ calls ++ more)
+    (said : AreExchanged size [] exchanges calls cursors) where
+  free : AreFree (calls_of own steps)
+  free before pages later slot v v' e keeps = slot_free laws own s t steps before pages later slot v v' run calm e keeps
+
+  -- an exchange of the dialogue, with the calls before it
+  record Spot (before after : List Exchange) (x : Exchange) : Type 0 where
+    first : Calls
+    its : Calls
+    rest : Calls
+    here : List Cursor
+    then : List Cursor
+    to : AreExchanged size [] before first here
+    did : Kind size here x.request its x.lines then
+    from : AreExchanged size then after rest cursors
+    calls_are : calls_of own steps ≡ first ++ (its ++ (rest ++ more))
+    behind : calls_of own steps ≡ (first ++ its) ++ (rest ++ more)
+
+  spot : (before after : List Exchange) (x : Exchange) → exchanges ≡ before ++ x ∷ after → Spot before after x
+  spot before after x e =
+      let p = exchanged_parts size [] cursors before (x ∷ after) calls
+      (subst (λ (l : List Exchange). AreExchanged size [] l calls cursors) e said) in
+      let b = p.5 in
+      let w : calls_of own steps ≡ p.0 ++ (p.1 ++ more) =
+      made ∙ (ap (λ (l : Calls). l ++ more) p.3 ∙ append_assoc p.0 p.1 more) in
+      let n = next_calls (calls_of own steps) p.0 p.1 b.0 b.1 more w b.4 in
+      record {
+        first = p.0;
+        its = b.0;
+        rest = b.1;
+        here = p.2;
+        then = b.2;
+        to = p.4;
+        did = kind size p.2 x.request b.0 x.lines b.2 b.3;
+        from = b.5;
+        calls_are = n.0;
+        behind = n.1;
+      }
+
+  -- no version that was shown before is newer
+  no_older : (before after : List Exchange) (x : Exchange) (a : Spot before after x) (version : ℕ)
+      → IsUpToDate t.history a.first version → (v : ℕ) → IsShown before v → v ≤ version
+  no_older before after x a version fresh v shown =
+      fresh.1 v ((dialogue_pins (calls_of own steps) free size before [] a.first
+      (a.its ++ (a.rest ++ more)) [] a.here a.calls_are a.to tt).1 v shown)
+
+  searched : (before after : List Exchange) (x : Exchange) (text : List ℕ) (version tried count : ℕ)
+      (a : Spot before after x)
+      → Kind size a.here x.request a.its x.lines a.then → IsCommand x.request (command.Search text)
+      → Contains x.lines (line.End version tried count)
+      → IsTrueList t.history text version tried count (hits_in x.lines) × ((v : ℕ) → IsShown before v → v ≤ version)
+  searched before after x text version tried count a (Other pass plain same) is k =
+      absurd (plain.ends version tried count k)
+  searched before after x text version tried count a (Opened name other p was reads new o) is k =
+      absurd (start_or_search name other text
+      (one_command reading x.request (command.Start name other) (command.Search text) was is))
+  searched before after x text version tried count a (Moved name front back d d' was at advances now) is k =
+      absurd (next_or_search name text (one_command reading x.request (command.Next name) (command.Search text) was is))
+  searched before after x text version tried count a (Closed name front back d was at made said now) is k =
+      absurd (close_or_search name text
+      (one_command reading x.request (command.Close name) (command.Search text) was is))
+  searched before after x text version tried count a (Searched other p was reads found same) is k =
+      let e = search_end found.place found.version found.tried found.hits x.lines version tried count found.lists k
+      in
+      let true_all = searches-are-hits laws s t steps own size p a.first a.its
+      (a.rest ++ more) x.lines sound run calm a.calls_are found e.place_is in (
+        record {
+          pattern = p;
+          is = subst (λ (l : List ℕ). IsPatternOf l p)
+              (one_search other text
+              (one_command reading x.request (command.Search other) (command.Search text) was is)) reads;
+          all = same_hits t.history found.version version found.tried tried p p found.hits
+              (hits_in x.lines) e.numbers.version_is e.numbers.tried_is refl (sym e.listed) true_all.0;
+          length_is = sym e.numbers.hits_is ∙ ap (λ (l : List ℕ). length l) (sym e.listed);
+        },
+        no_older before after x a version
+            (subst (λ (v : ℕ). IsUpToDate t.history a.first v) e.numbers.version_is true_all.1),
+      )
+
+  searches_true : SearchesAreTrue t.history exchanges
+  searches_true before after x text version tried count e is k = let a = spot before after x e in
+      searched before after x text version tried count a a.did is k
+
+  -- the calls of a whole listing
+  listed : (calls' later : Calls) (pattern : PatternTerm) (opened : ℕ) (hits : List ℕ) (version tried count : ℕ)
+      → calls_of own steps ≡ calls' ++ later
+      → (e : Ended calls' pattern opened hits version tried count) → AreAllHits t.history version pattern tried hits
+  listed calls' later pattern opened hits version tried count w e =
+      let o = e.open_since in
+      same_hits t.history e.c.version version e.c.tried tried e.c.pattern pattern hits hits e.numbers.version_is
+      e.numbers.tried_is e.pattern_is refl
+      (whole_pages laws own s t steps o.before o.pages later e.c.slot e.c.version e.c.tried e.c.pattern e.c.want hits
+      sound run calm
+      (w ∙ ap (λ (l : Calls). l ++ later) o.own) o.keeps
+      (subst (λ (p : Place). IsSearch e.c.want (At 0) (fetched e.c.slot o.pages) p) e.place_is o.search) o.need
+      o.matched o.tried)
+
+  -- the last page of the cursor of a name, in what follows its opening
+  last_page : (between after : List Exchange) (y : Exchange) (name : List ℕ) (hits : List ℕ) (pattern : PatternTerm)
+      (opened version tried count : ℕ) (first rest : Calls) (here : List Cursor)
+      → calls_of own steps ≡ first ++ (rest ++ more) → AreExchanged size here (between ++ y ∷ after) rest cursors
+      → StaysOpen name between
+      → IsCommand y.request (command.Next name) → Contains y.lines (line.End version tried count)
+      → AreListed name (between ++ y ∷ []) hits
+      → Follows first here name pattern opened [] → AreAllHits t.history version pattern tried hits × (version ≡ opened)
+      × (count ≡ length hits)
+  last_page between after y name hits pattern opened version tried count first rest here w a kept is k list f =
+      let p = exchanged_parts size here cursors between (y ∷ after) rest a in
+      let b = p.5 in
+      let n = next_calls (calls_of own steps) first rest p.0 p.1 more w p.3 in
+      let parts = listed_parts name between y hits list is in
+      let g = follow_all reading (calls_of own steps) free size name pattern opened between first p.0
+      (p.1 ++ more) here p.2 [] parts.0 n.0 p.4 kept parts.1 f in
+      let m = next_calls (calls_of own steps) (first ++ p.0) p.1 b.0 b.1 more n.1 b.4 in
+      let e : Ended ((first ++ p.0) ++ b.0) pattern opened (parts.0 ++ hits_in y.lines) version tried count =
+      ends reading size name (first ++ p.0) b.0 p.2 b.2 y.request y.lines pattern opened parts.0 version tried count
+      (kind size p.2 y.request b.0 y.lines b.2 b.3) is k g in (
+        subst (λ (l : List ℕ). AreAllHits t.history version pattern tried l) (sym parts.2)
+            (listed ((first ++ p.0) ++ b.0) (b.1 ++ more) pattern opened
+            (parts.0 ++ hits_in y.lines) version tried count m.1 e),
+        sym e.numbers.version_is ∙ e.opened_at,
+        sym e.numbers.hits_is ∙ (e.open_since.count ∙ ap (λ (l : List ℕ). length l) (sym parts.2)),
+      )
+
+  opened : (before between after : List Exchange) (x y : Exchange) (name text hits : List ℕ)
+      (version0 version tried count : ℕ) (a : Spot before (between ++ y ∷ after) x)
+      → Kind size a.here x.request a.its x.lines a.then
+      → IsCommand x.request (command.Start name text) → Contains x.lines (line.Opened version0) → StaysOpen name between
+      → IsCommand y.request (command.Next name) → Contains y.lines (line.End version tried count)
+      → AreListed name (between ++ y ∷ []) hits
+      → IsTrueList t.history text version tried count hits × (version ≡ version0)
+      × ((v : ℕ) → IsShown before v → v ≤ version)
+  opened before between after x y name text hits version0 version tried count a
+      (Other pass plain same) start k kept next end list = absurd (plain.opens version0 k)
+  opened before between after x y name text hits version0 version tried count a
+      (Searched other p was reads found same) start k kept next end list =
+      absurd (search_or_start other text name
+      (one_command reading x.request (command.Search other) (command.Start name text) was start))
+  opened before between after x y name text hits version0 version tried count a
+      (Moved other front back d d' was at advances now) start k kept next end list =
+      absurd (next_or_start other name text
+      (one_command reading x.request (command.Next other) (command.Start name text) was start))
+  opened before between after x y name text hits version0 version tried count a
+      (Closed other front back d was at made said now) start k kept next end list =
+      absurd (close_or_start other name text
+      (one_command reading x.request (command.Close other) (command.Start name text) was start))
+  opened before between after x y name text hits version0 version tried count a
+      (Opened name' text' p was reads new o) start k kept next end list =
+      let same = one_start name' text' name text
+      (one_command reading x.request (command.Start name' text') (command.Start name text) was start) in
+      let at0 : o.version ≡ version0 =
+      one_opened o.version version0
+      (one_in (line.Opened o.version) (line.Opened version0)
+      (subst (λ (l : Lines). Contains l (line.Opened version0)) o.said k)) in
+      let pins = (dialogue_pins (calls_of own steps) free size before [] a.first
+      (a.its ++ (a.rest ++ more)) [] a.here a.calls_are a.to tt).0 in
+      let new_name : IsNoName a.here name = subst (λ (l : List ℕ). IsNoName a.here l) same.0 new in
+      let opens : (q : Opens name p a.here a.its x.lines a.then) × (q.version ≡ o.version) =
+      subst (λ (l : List ℕ). (q : Opens l p a.here a.its x.lines a.then) × (q.version ≡ o.version)) same.0 (o, refl) in
+      let f : Follows (a.first ++ a.its) a.then name p version0 [] =
+      follow_new reading (calls_of own steps) free size name p version0 a.first a.its
+      (a.rest ++ more) a.here a.then x.lines a.calls_are pins new_name opens.0 (opens.1 ∙ at0) in
+      let r = last_page between after y name hits p version0 version tried count
+      (a.first ++ a.its) a.rest a.then a.behind a.from kept next end list f in
+      let fresh : IsUpToDate t.history a.first o.version =
+      pin_new laws own s t steps a.first (a.rest ++ more) o.slot o.version sound run calm
+      (pin_first (calls_of own steps) a.first a.its (a.rest ++ more) [] o.slot o.version a.calls_are o.made) in (
+        record {
+          pattern = p;
+          is = subst (λ (l : List ℕ). IsPatternOf l p) same.1 reads;
+          all = r.0;
+          length_is = r.2;
+        },
+        r.1,
+        no_older before (between ++ y ∷ after) x a version
+            (subst (λ (v : ℕ). IsUpToDate t.history a.first v) (at0 ∙ sym r.1) fresh),
+      )
+
+  cursors_true : CursorsAreTrue t.history exchanges
+  cursors_true before between after x y name text hits version0 version tried count e start k kept next end list =
+      let a = spot before (between ++ y ∷ after) x e in
+      opened before between after x y name text hits version0 version tried count a a.did start k kept next end list
+
+  pub both_true : SearchesAreTrue t.history exchanges × CursorsAreTrue t.history exchanges
+  both_true = (searches_true, cursors_true)
+
+pub dialogues-are-true : Laws → OneReading → DialoguesAreTrue
+dialogues-are-true laws reading s t steps own size exchanges calls more cursors sound run calm made said =
+    both_true laws reading s t steps own size exchanges calls more cursors sound run calm made said

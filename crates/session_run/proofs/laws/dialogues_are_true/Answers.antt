@@ -1,0 +1,12 @@
+use Rattle.session_run.proofs.Truth.{dialogues-are-true}
+use Rattle.session_run.proofs.laws.dialogues_are_true.Goals as goal
+
+pub returns : goal.returns
+returns c = dialogues-are-true (record {
+  snapshots = c.snapshots_stay.ensures;
+  states = c.states_stay.ensures;
+  sound = c.runs_stay_sound.ensures;
+  pins = c.pins_stay.ensures;
+  pages = c.calls_give_pages.ensures;
+  needs = c.needs_screen.ensures;
+}) c.one_reading.ensures

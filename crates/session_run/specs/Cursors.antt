@@ -1,0 +1,55 @@
+-- For callers: the calls of a session, and the cursors that are open in it.
+use Rattle.std.specs.Prelude.{◌≡◌, ◌≢◌, ℕ, ◌+◌, Bool, List, [], ◌∷◌, ◌++◌, length, map, not, filter, All}
+use Rattle.smarts_parse.specs.Pattern.{PatternTerm}
+use Rattle.store_machine.specs.Answers.{AreMatched}
+use Rattle.store_machine.specs.Searches.{Place, At, End, IsSearch, fetched, records_of}
+use Rattle.store_machine.specs.Structures.{IsNeedOf}
+use Rattle.store_machine.specs.declared.machine.Event.{Event}
+use Rattle.store_machine.specs.declared.machine.Event.TheVariants.{Fetch, Unpin}
+use Rattle.store_machine.specs.declared.machine.Reply.{Reply}
+use Rattle.store_machine.specs.declared.machine.Reply.TheVariants.{Unpinned}
+
+-- calls of the service with their replies, in order
+abbrev pub Calls : Type 0
+Calls = List (Event × Reply)
+
+-- An open cursor: its name, its pattern and what that needs, its pin, where its search stands, and how many identifiers its pages tried and listed
+pub record Cursor : Type 0 where
+  pub name : List ℕ
+  pub pattern : PatternTerm
+  pub want : List Bool
+  pub slot : ℕ
+  pub version : ℕ
+  pub place : Place
+  pub tried : ℕ
+  pub hits : ℕ
+
+-- the cursors, each with its number in order of opening; a name is that of one cursor at most
+abbrev pub IsNoName : List Cursor → List ℕ → Type 0
+IsNoName cursors name = All (λ c. c.name ≢ name) cursors
+
+-- the cursor stands among these
+abbrev pub IsAmong : List Cursor → List Cursor → Cursor → List Cursor → Type 0
+IsAmong cursors before c after = cursors ≡ before ++ c ∷ after
+
+-- a call for one page of a pin
+abbrev pub IsFetch : ℕ → ℕ → List Bool → Event → Type 0
+IsFetch slot size want (Fetch pin asked from limit) = (pin ≡ slot) × (limit ≡ size) × (asked ≡ want)
+IsFetch slot size want _ = ⊥
+
+abbrev pub AreFetches : ℕ → ℕ → List Bool → Calls → Type 0
+AreFetches slot size want [] = Unit {0}
+AreFetches slot size want (c ∷ cs) = IsFetch slot size want c.0 × AreFetches slot size want cs
+
+-- These calls are a search for a pattern by pages of a size, from the beginning to a place. So many identifiers were tried, and these are the hits.
+pub record IsSearched (pattern : PatternTerm) (slot size : ℕ) (place : Place) (pages : Calls) (tried : ℕ) (hits : List ℕ) : Type 0 where
+  pub want : List Bool
+  pub need : IsNeedOf pattern want
+  pub fetches : AreFetches slot size want pages
+  pub search : IsSearch want (At 0) (fetched slot pages) place
+  pub count : tried ≡ length (records_of (fetched slot pages))
+  pub matched : AreMatched pattern (records_of (fetched slot pages)) hits
+
+-- a pin for each cursor is given back
+abbrev pub unpins : List Cursor → Calls
+unpins cursors = map (λ c. (Unpin c.slot, Unpinned)) cursors

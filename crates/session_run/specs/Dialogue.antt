@@ -1,0 +1,89 @@
+-- For callers: a session as a dialogue, each request with the lines of its reply, and the versions that replies tell.
+use Rattle.std.specs.Prelude.{◌≡◌, ◌⊎◌, ℕ, Ok, Some, List, [], ◌∷◌, ◌++◌, map}
+use Rattle.io_edge.specs.Lines.{Whole}
+use Rattle.shell_lang.specs.Command as command
+use Rattle.shell_lang.specs.Command.{Command, IsLine}
+use Rattle.shell_lang.specs.Reply as line
+use Rattle.shell_lang.specs.Reply.{text_of}
+use Rattle.store_machine.specs.History.{made_at}
+use Rattle.store_machine.specs.declared.machine.Reply.{Reply}
+use Rattle.store_machine.specs.declared.machine.Reply.TheVariants as replies
+use Rattle.session_run.specs.Answer.{Lines, RequestAnswer}
+use Rattle.session_run.specs.Cursors.{Calls, Cursor}
+use Rattle.session_run.specs.Requests.{Request}
+
+-- a request, and the lines of its reply
+pub record Exchange : Type 0 where
+  pub request : Request
+  pub lines : Lines
+
+-- the requests were answered one after another by these calls, each by its lines, and these cursors are then open
+abbrev pub AreExchanged : ℕ → List Cursor → List Exchange → Calls → List Cursor → Type 0
+AreExchanged size cursors [] calls cursors' = (calls ≡ []) × (cursors' ≡ cursors)
+AreExchanged size cursors (x ∷ xs) calls cursors' =
+    (own more : Calls) × (between : List Cursor)
+    × RequestAnswer size cursors x.request own x.lines between × (calls ≡ own ++ more)
+    × AreExchanged size between xs more cursors'
+
+abbrev pub requests_of : List Exchange → List Request
+requests_of exchanges = map (λ x. x.request) exchanges
+
+-- the text of all replies
+abbrev pub replies_of : List Exchange → List ℕ
+replies_of [] = []
+replies_of (x ∷ xs) = text_of x.lines ++ replies_of xs
+
+-- the line of the request is this command
+abbrev pub IsCommand : Request → Command → Type 0
+IsCommand request order = (text : List ℕ) × (request.line ≡ Whole text) × IsLine text (Ok order)
+
+-- the hits among reply lines, in order
+abbrev pub hits_in : Lines → List ℕ
+hits_in [] = []
+hits_in (line.Hit id ∷ lines) = id ∷ hits_in lines
+hits_in (_ ∷ lines) = hits_in lines
+
+-- what a cursor listed: the hits in the replies to `next` with its name, in order. Other requests may stand between
+abbrev pub AreListed : List ℕ → List Exchange → List ℕ → Type 0
+AreListed name [] hits = hits ≡ []
+AreListed name (x ∷ xs) hits =
+    (IsCommand x.request (command.Next name) × (more : List ℕ) × (hits ≡ hits_in x.lines ++ more)
+    × AreListed name xs more)
+    ⊎ (¬ IsCommand x.request (command.Next name) × AreListed name xs hits)
+
+-- no request closes the cursor of the name
+abbrev pub StaysOpen : List ℕ → List Exchange → Type 0
+StaysOpen name [] = Unit {0}
+StaysOpen name (x ∷ xs) = ¬ IsCommand x.request (command.Close name) × StaysOpen name xs
+
+-- the reply tells this version
+abbrev pub TellsVersion : Reply → ℕ → Type 0
+TellsVersion (replies.Committed version) v = v ≡ version
+TellsVersion (replies.Pinned slot version) v = v ≡ version
+TellsVersion (replies.Looked (Some status)) v = v ≡ made_at status
+TellsVersion (replies.Counted version live withdrawn kept pins) v = v ≡ version
+TellsVersion _ v = ⊥
+
+-- one of these calls was told this version
+abbrev pub IsTold : Calls → ℕ → Type 0
+IsTold [] v = ⊥
+IsTold (c ∷ cs) v = TellsVersion c.1 v ⊎ IsTold cs v
+
+-- the line shows this version
+abbrev pub ShowsVersion : line.Reply → ℕ → Type 0
+ShowsVersion (line.Accepted version) v = v ≡ version
+ShowsVersion (line.Shown id version format text) v = v ≡ version
+ShowsVersion (line.Gone id version) v = v ≡ version
+ShowsVersion (line.End version tried hits) v = v ≡ version
+ShowsVersion (line.Opened version) v = v ≡ version
+ShowsVersion (line.Counts version live withdrawn kept pins) v = v ≡ version
+ShowsVersion _ v = ⊥
+
+abbrev pub IsShownIn : Lines → ℕ → Type 0
+IsShownIn [] v = ⊥
+IsShownIn (said ∷ lines) v = ShowsVersion said v ⊎ IsShownIn lines v
+
+-- a reply of the dialogue shows this version
+abbrev pub IsShown : List Exchange → ℕ → Type 0
+IsShown [] v = ⊥
+IsShown (x ∷ xs) v = IsShownIn x.lines v ⊎ IsShown xs v

@@ -1,0 +1,15 @@
+pub mod Requests
+pub mod Texts
+pub mod Cursors
+pub mod Answer
+pub mod Transcript
+pub mod Served
+pub mod Turn
+pub mod Made
+pub mod Changes
+pub mod Walks
+pub mod Responds
+pub mod Serving
+pub mod Searched
+pub mod Dialogue
+pub mod Truths

@@ -1,0 +1,50 @@
+-- For private clauses alone: a session before the pins of its open cursors are given back.
+use Rattle.std.specs.Prelude.{◌≡◌, ◌≢◌, ℕ, List, [], ◌++◌, Option, None, Some, IfSome, false}
+use Rattle.io_edge.specs.Lines.{Reading, TextLine, lines_of}
+use Rattle.store_core.specs.Calls.{NotRaised}
+use Rattle.session_run.specs.Cursors.{Calls, Cursor}
+use Rattle.session_run.specs.Requests.{Request, BeginWithAll}
+use Rattle.session_run.specs.Responds.{IsFit, KeepsPins}
+use Rattle.session_run.specs.Served.{Writes}
+use Rattle.session_run.specs.Transcript.{AreAnswered, IsWornPrefix, Stops}
+use Rattle.session_run.specs.Walks.{cursors_of}
+use Rattle.session_run.specs.declared.respond.Responder.{Responder}
+use Rattle.session_run.specs.declared.settings.EndStatus.{EndStatus}
+use Rattle.session_run.specs.declared.settings.EndStatus.TheVariants.{Done, InputTooLong, SourceFault, Worn}
+
+-- some first requests were answered, and nothing of the next one was called or written
+abbrev pub AnswersWhole : ℕ → List TextLine → Calls → List Cursor → List ℕ → Type 0
+AnswersWhole size lines calls cursors text = (requests : List Request) × (left : List TextLine)
+    × BeginWithAll lines requests left × AreAnswered size [] requests calls text cursors
+
+abbrev pub Ends : EndStatus → ℕ → List TextLine → Calls → List Cursor → List ℕ → Type 0
+Ends Done size lines calls cursors text =
+    (requests : List Request) × BeginWithAll lines requests [] × AreAnswered size [] requests calls text cursors
+Ends Worn size lines calls cursors text = IsWornPrefix size lines calls text
+Ends SourceFault size lines calls cursors text = AnswersWhole size lines calls cursors text
+Ends InputTooLong size lines calls cursors text = AnswersWhole size lines calls cursors text
+Ends _ size lines calls cursors text = Stops size lines calls text cursors
+
+-- what was written of a script, where the source and the sink tell
+abbrev pub Serves : EndStatus → ℕ → Option (List ℕ) → Option (List ℕ) → Option (List ℕ) → Calls → List Cursor
+    → Type 0
+Serves status size input put put' calls cursors =
+    IfSome input (λ bytes. Writes put put' (λ text. Ends status size (lines_of bytes) calls cursors text))
+
+-- what a turn keeps, by how the session ends with it, if it does
+pub record KeepsOn {S : Type 0} (Holds : S → ℕ → ℕ → Type 0) (IsWorn : S → Type 0)
+    (bounds_of : S → Option ℕ × Option ℕ) (service service' : S) (old new : Responder)
+    (result : Option EndStatus) : Type 0 where
+  pub fit : IsFit new.settings new.cursors.size new.cursors.list.items
+  pub size : new.cursors.size ≡ old.cursors.size
+  pub worn : result ≡ Some Worn → IsWorn service'
+  pub pins : result ≢ Some Worn → KeepsPins (Holds service) (cursors_of old.cursors.list.items)
+      (Holds service') (cursors_of new.cursors.list.items)
+  pub bounds : NotRaised (bounds_of service) (bounds_of service')
+
+-- nothing was read
+pub record IsFresh (reading : Reading) : Type 0 where
+  pub none : reading.pending ≡ []
+  pub short : reading.long ≡ false
+  pub untaken : reading.taken ≡ 0
+  pub unended : reading.ended ≡ false

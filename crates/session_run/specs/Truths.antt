@@ -1,0 +1,156 @@
+-- For callers: the laws of what a session lists. Its searches and cursors list the hits that the history has, whatever
+-- others did meanwhile.
+use Rattle.std.specs.Prelude.{◌≡◌, ◌≤◌, ℕ, Bool, Contains, List, [], ◌∷◌, ◌++◌, length}
+use Rattle.io_edge.specs.Lines.{TextLine}
+use Rattle.shell_lang.specs.Command as command
+use Rattle.shell_lang.specs.Reply as line
+use Rattle.smarts_parse.specs.Pattern.{PatternTerm}
+use Rattle.store_machine.specs.Answers.{AreHits, AreTried}
+use Rattle.store_machine.specs.History.{head}
+use Rattle.store_machine.specs.Laws.{IsSound}
+use Rattle.store_machine.specs.Runs.{IsCalm, IsRun, calls_of}
+use Rattle.store_machine.specs.Searches.{End}
+use Rattle.store_machine.specs.Structures.{IsNeedOf}
+use Rattle.store_machine.specs.declared.machine.Change.{Change}
+use Rattle.store_machine.specs.declared.machine.State.{State}
+use Rattle.store_machine.specs.declared.machine.Step.{Step}
+use Rattle.session_run.specs.Answer.{Lines, Searches}
+use Rattle.session_run.specs.Cursors.{Calls, Cursor}
+use Rattle.session_run.specs.Dialogue.{AreExchanged, AreListed, Exchange, IsCommand, IsShown, IsTold, StaysOpen, hits_in, replies_of, requests_of}
+use Rattle.session_run.specs.Requests.{BeginWithAll}
+use Rattle.session_run.specs.Served.{IsServed}
+use Rattle.session_run.specs.Texts.{IsPatternOf}
+use Rattle.session_run.specs.Transcript.{IsPrefixOf}
+use Rattle.session_run.specs.declared.settings.EndStatus.{EndStatus}
+use Rattle.session_run.specs.declared.settings.EndStatus.TheVariants.{Done, Worn}
+
+-- These are the hits of the pattern at a version of the history, each once, ascending; and so many records have in
+-- their print what the pattern needs
+pub record AreAllHits (h : List Change) (version : ℕ) (pattern : PatternTerm) (tried : ℕ) (hits : List ℕ) : Type 0 where
+  pub are : AreHits h version pattern hits
+  pub want : List Bool
+  pub need : IsNeedOf pattern want
+  pub screened : List ℕ
+  pub all : AreTried h version want screened
+  pub count : tried ≡ length screened
+
+-- a version that the history has, and that is no older than any that these calls were told
+abbrev pub IsUpToDate : List Change → Calls → ℕ → Type 0
+IsUpToDate h before version = (version ≤ head h) × ((v : ℕ) → IsTold before v → v ≤ version)
+
+-- A search that came to its end listed the hits of the history, at a version no older than any that its caller was told
+-- before
+abbrev pub SearchesAreHits : Type 0
+SearchesAreHits =
+    (s t : State) (steps : List Step) (own : ℕ → Bool) (size : ℕ) (pattern : PatternTerm) (before its after : Calls)
+    (lines : Lines)
+    → IsSound s → IsRun s steps t → IsCalm steps → calls_of own steps ≡ before ++ (its ++ after)
+    → (listed : Searches size pattern its lines) → listed.place ≡ End
+    → AreAllHits t.history listed.version pattern listed.tried listed.hits × IsUpToDate t.history before listed.version
+
+-- what was listed for the text of a pattern, with the numbers of its end
+pub record IsTrueList (h : List Change) (text : List ℕ) (version tried count : ℕ) (hits : List ℕ) : Type 0 where
+  pub pattern : PatternTerm
+  pub is : IsPatternOf text pattern
+  pub all : AreAllHits h version pattern tried hits
+  pub length_is : count ≡ length hits
+
+-- each search that came to its end listed the hits, at a version no older than any that a line before it shows
+abbrev pub SearchesAreTrue : List Change → List Exchange → Type 0
+SearchesAreTrue h exchanges =
+    (before after : List Exchange) (x : Exchange) (text : List ℕ) (version tried count : ℕ)
+    → exchanges ≡ before ++ x ∷ after
+    → IsCommand x.request (command.Search text) → Contains x.lines (line.End version tried count)
+    → IsTrueList h text version tried count (hits_in x.lines) × ((v : ℕ) → IsShown before v → v ≤ version)
+
+-- Each cursor that was opened, and whose pages came to their end before it was closed, listed the hits at the version
+-- of its opening; and that is no older than any version that a line before the opening shows
+abbrev pub CursorsAreTrue : List Change → List Exchange → Type 0
+CursorsAreTrue h exchanges =
+    (before between after : List Exchange) (x y : Exchange) (name text hits : List ℕ) (opened version tried count : ℕ)
+    → exchanges ≡ before ++ x ∷ (between ++ y ∷ after)
+    → IsCommand x.request (command.Start name text) → Contains x.lines (line.Opened opened)
+    → StaysOpen name between
+    → IsCommand y.request (command.Next name) → Contains y.lines (line.End version tried count)
+    → AreListed name (between ++ y ∷ []) hits
+    → IsTrueList h text version tried count hits × (version ≡ opened) × ((v : ℕ) → IsShown before v → v ≤ version)
+
+-- a dialogue over a part of a run that begins at a sound state
+abbrev pub DialoguesAreTrue : Type 0
+DialoguesAreTrue =
+    (s t : State) (steps : List Step) (own : ℕ → Bool) (size : ℕ) (exchanges : List Exchange) (calls more : Calls)
+    (cursors : List Cursor)
+    → IsSound s → IsRun s steps t → IsCalm steps → calls_of own steps ≡ calls ++ more
+    → AreExchanged size [] exchanges calls cursors
+    → SearchesAreTrue t.history exchanges × CursorsAreTrue t.history exchanges
+
+-- A transcript in which every search and every cursor that came to its end listed the hits of the history: the text is
+-- the replies of a dialogue over all the lines, and the calls of the dialogue are the first of these
+pub record IsTrueTranscript (h : List Change) (size : ℕ) (lines : List TextLine) (calls : Calls) (text : List ℕ)
+    : Type 0 where
+  pub exchanges : List Exchange
+  pub begin : BeginWithAll lines (requests_of exchanges) []
+  pub said : text ≡ replies_of exchanges
+  pub own : Calls
+  pub left_open : List Cursor
+  pub exchanged : AreExchanged size [] exchanges own left_open
+  pub made : IsPrefixOf own calls
+  pub searches : SearchesAreTrue h exchanges
+  pub cursors : CursorsAreTrue h exchanges
+
+-- The same of a session that stopped early: the text is a beginning of the replies of a dialogue over the first lines
+pub record IsTrueBeginning (h : List Change) (size : ℕ) (lines : List TextLine) (calls : Calls) (text : List ℕ)
+    : Type 0 where
+  pub exchanges : List Exchange
+  pub left : List TextLine
+  pub begin : BeginWithAll lines (requests_of exchanges) left
+  pub said : IsPrefixOf text (replies_of exchanges)
+  pub own : Calls
+  pub left_open : List Cursor
+  pub exchanged : AreExchanged size [] exchanges own left_open
+  pub made : IsPrefixOf own calls
+  pub searches : SearchesAreTrue h exchanges
+  pub cursors : CursorsAreTrue h exchanges
+
+-- The same of a session whose service was worn, by the calls that were made: the exchanges from the first on whose
+-- calls are among these listed the hits of the history
+pub record IsTruePart (h : List Change) (size : ℕ) (lines : List TextLine) (calls : Calls) (text : List ℕ)
+    : Type 0 where
+  pub exchanges : List Exchange
+  pub left : List TextLine
+  pub begin : BeginWithAll lines (requests_of exchanges) left
+  pub said : IsPrefixOf text (replies_of exchanges)
+  pub own : Calls
+  pub left_open : List Cursor
+  pub exchanged : AreExchanged size [] exchanges own left_open
+  pub whole : Calls
+  pub made : IsPrefixOf own whole
+  pub among : IsPrefixOf calls whole
+  pub truths : (front back : List Exchange) (first : Calls) (between : List Cursor) → exchanges ≡ front ++ back
+      → AreExchanged size [] front first between → IsPrefixOf first calls
+      → SearchesAreTrue h front × CursorsAreTrue h front
+
+-- what is true of what was served of a script, by how the session ended
+abbrev pub IsTrueService : EndStatus → List Change → ℕ → List TextLine → Calls → List ℕ → Type 0
+IsTrueService Done h size lines calls text = IsTrueTranscript h size lines calls text
+IsTrueService Worn h size lines calls text = IsTruePart h size lines calls text
+IsTrueService _ h size lines calls text = IsTrueBeginning h size lines calls text
+
+-- a run from a sound state in which these are the caller's own calls, perhaps with others behind them
+pub record IsInRun (calls : Calls) (h : List Change) : Type 0 where
+  pub before : State
+  pub after : State
+  pub steps : List Step
+  pub own : ℕ → Bool
+  pub more : Calls
+  pub sound : IsSound before
+  pub run : IsRun before steps after
+  pub calm : IsCalm steps
+  pub made : calls_of own steps ≡ calls ++ more
+  pub is : h ≡ after.history
+
+-- what a session served over such a run is true by the history at the run's end
+abbrev pub ServicesAreTrue : Type 0
+ServicesAreTrue =
+    (end : EndStatus) (size : ℕ) (lines : List TextLine) (calls : Calls) (text : List ℕ) (h : List Change)
+    → IsInRun calls h → IsServed end size lines calls text → IsTrueService end h size lines calls text

@@ -1,0 +1,133 @@
+-- For private clauses alone: how a source is read on by requests, and what a turn of a session does.
+use Rattle.std.specs.Prelude.{◌≡◌, ◌≤◌, ◌⊎◌, ℕ, IsTrue, Bool, true, false, Option, None, Some, Result, Ok, Err, List, [], ◌∷◌, ◌++◌, Contains}
+use Rattle.std.specs.Io.KnownBytes.{Appends}
+use Rattle.io_edge.specs.Faults.{Rose}
+use Rattle.io_edge.specs.Sink.{AppendsPrefix}
+use Rattle.io_edge.specs.Lines.{Reading, TextLine, Whole, TooLong, lines_left, done_bytes}
+use Rattle.io_edge.specs.NextLine.{Counts}
+use Rattle.io_edge.specs.Source.{Leaves}
+use Rattle.io_edge.specs.declared.lines.LineFault.{LineFault}
+use Rattle.io_edge.specs.declared.lines.LineFault.TheVariants as line_faults
+use Rattle.shell_lang.specs.Command.{Command, StartsMolfile, IsLine, molfile_command}
+use Rattle.shell_lang.specs.Reply.{text_of}
+use Rattle.shell_lang.specs.declared.command.LineRefusal.{LineRefusal}
+use Rattle.shell_lang.specs.declared.command.MolfileChange.{MolfileChange}
+use Rattle.session_run.specs.Answer.{Lines, RequestAnswer}
+use Rattle.session_run.specs.Cursors.{Calls, Cursor}
+use Rattle.session_run.specs.Made.{Did, WornIn}
+use Rattle.session_run.specs.Requests.{Request, BeginWith, BeginWithMolfile, IsLong, molfile_text}
+use Rattle.session_run.specs.declared.request.Next.{Next}
+use Rattle.session_run.specs.declared.request.Next.TheVariants as nexts
+use Rattle.session_run.specs.declared.request.Molfile.{Molfile}
+use Rattle.session_run.specs.declared.request.Molfile.TheVariants as molfiles
+use Rattle.session_run.specs.declared.settings.EndStatus.{EndStatus}
+use Rattle.session_run.specs.declared.settings.EndStatus.TheVariants.{Done, SourceFault, SinkFault, NoMemory, InputTooLong, Worn}
+
+abbrev pub end_by : LineFault → EndStatus
+end_by line_faults.Source = SourceFault
+end_by line_faults.TooLong = InputTooLong
+
+-- The source was read on: what it left, where it tells, how many bytes were taken, and how often it failed
+pub record ReadsOn (before after : Option (List ℕ)) (faults faults' : ℕ) (old new : Reading) : Type 0 where
+  pub got : List ℕ
+  pub leaves : Leaves before got after
+  pub counts : Counts old got new
+  pub met : (l l' : List ℕ) → before ≡ Some l → after ≡ Some l' → (IsTrue old.ended → l ≡ []) → IsTrue new.ended
+      → l' ≡ []
+  pub progress : done_bytes old ≤ done_bytes new
+  pub count : faults ≤ faults'
+
+-- the request was the next, where the source tells what is left, and has nothing left once its end was met
+abbrev pub TakesRequest : Reading → Reading → Option (List ℕ) → Option (List ℕ) → Request → Type 0
+TakesRequest old new before after request =
+    (l l' : List ℕ) → before ≡ Some l → after ≡ Some l' → (IsTrue old.ended → l ≡ [])
+    → BeginWith (lines_left old l) request (lines_left new l')
+
+-- no line was left
+abbrev pub TakesNone : Reading → Option (List ℕ) → Type 0
+TakesNone old before = (l : List ℕ) → before ≡ Some l → (IsTrue old.ended → l ≡ []) → lines_left old l ≡ []
+
+-- the lines of a molfile were the next
+abbrev pub TakesMolfileLines : Reading → Reading → Option (List ℕ) → Option (List ℕ) → List TextLine → Type 0
+TakesMolfileLines old new before after molfile = (l l' : List ℕ) → before ≡ Some l → after ≡ Some l'
+    → (IsTrue old.ended → l ≡ []) → BeginWithMolfile (lines_left old l) molfile (lines_left new l')
+
+-- what was taken of a molfile is its text, unless a line is too long or no memory was left for it
+abbrev pub IsMolfile : Molfile → List TextLine → List ℕ → Type 0
+IsMolfile molfiles.Text molfile text = (text ≡ molfile_text molfile) × ¬ Contains molfile TooLong
+IsMolfile molfiles.Long molfile text = Contains molfile TooLong
+IsMolfile molfiles.Lost molfile text = ¬ Contains molfile TooLong
+
+-- a line was added to what was taken of a molfile
+abbrev pub AddsLine : Molfile → List ℕ → List ℕ → Molfile → List ℕ → Type 0
+AddsLine molfiles.Text line text molfiles.Text text' = text' ≡ text ++ line ++ 10 ∷ []
+AddsLine molfiles.Text line text molfiles.Lost text' = Unit {0}
+AddsLine molfiles.Long line text molfiles.Long text' = Unit {0}
+AddsLine molfiles.Lost line text molfiles.Lost text' = Unit {0}
+AddsLine before line text after text' = ⊥
+
+-- What the request is, by the text of its line and that of its molfile
+abbrev pub IsNext : Next → Request → List ℕ → List ℕ → Type 0
+IsNext nexts.End request line text = ⊥
+IsNext nexts.Long request line text = IsLong request
+IsNext nexts.Line request line text = (request ≡ record { line = Whole line; molfile = [] }) × ¬ StartsMolfile line
+IsNext (nexts.WithMolfile read molfile) request line text =
+    (first : List ℕ) × (request.line ≡ Whole first) × StartsMolfile first × IsLine first (molfile_command read)
+    × IsMolfile molfile request.molfile text
+
+-- the request that was read, or none where the input's end was met
+abbrev pub Takes : Next → Reading → Reading → Option (List ℕ) → Option (List ℕ) → List ℕ → Type 0
+Takes nexts.End old new before after text = TakesNone old before
+Takes next old new before after text =
+    (request : Request) × TakesRequest old new before after request × IsNext next request new.text text
+
+-- a request was read and answered
+pub record Answers (size : ℕ) (Made : Calls → Type 0) (Taken : Request → Type 0)
+    (cursors cursors' : List Cursor) : Type 0 where
+  pub request : Request
+  pub taken : Taken request
+  pub did : Did Made (RequestAnswer size cursors request) cursors'
+
+-- a request was read, and in its answer the service was worn
+pub record Breaks (size : ℕ) (Made : Calls → Type 0) (Taken : Request → Type 0) (cursors : List Cursor) : Type 0 where
+  pub request : Request
+  pub taken : Taken request
+  pub worn : WornIn Made (RequestAnswer size cursors request)
+
+-- What a turn does, by how the session ends with it, if it does
+abbrev pub Turns : ℕ → (Calls → Type 0) → (Request → Type 0) → Type 0 → List Cursor → List Cursor
+    → Option (List ℕ) → Option (List ℕ) → Option EndStatus → Type 0
+Turns size Made Taken AtEnd cursors cursors' put put' None =
+    (a : Answers size Made Taken cursors cursors') × Appends put put' (text_of a.did.lines)
+Turns size Made Taken AtEnd cursors cursors' put put' (Some Done) =
+    AtEnd × Made [] × (cursors' ≡ cursors) × Appends put put' []
+Turns size Made Taken AtEnd cursors cursors' put put' (Some SourceFault) =
+    Made [] × (cursors' ≡ cursors) × Appends put put' []
+Turns size Made Taken AtEnd cursors cursors' put put' (Some InputTooLong) =
+    Made [] × (cursors' ≡ cursors) × Appends put put' []
+Turns size Made Taken AtEnd cursors cursors' put put' (Some SinkFault) =
+    (a : Answers size Made Taken cursors cursors') × AppendsPrefix put put' (text_of a.did.lines)
+Turns size Made Taken AtEnd cursors cursors' put put' (Some NoMemory) =
+    (a : Answers size Made Taken cursors cursors') × AppendsPrefix put put' (text_of a.did.lines)
+Turns size Made Taken AtEnd cursors cursors' put put' (Some Worn) =
+    Breaks size Made Taken cursors × Appends put put' []
+
+-- What the answer to a request does and what is put of it, by how the session ends with it, if it does
+abbrev pub Replies : ℕ → (Calls → Type 0) → Request → List Cursor → List Cursor → Option (List ℕ) → Option (List ℕ)
+    → Option EndStatus → Type 0
+Replies size Made request cursors cursors' put put' None =
+    (did : Did Made (RequestAnswer size cursors request) cursors') × Appends put put' (text_of did.lines)
+Replies size Made request cursors cursors' put put' (Some SinkFault) =
+    (did : Did Made (RequestAnswer size cursors request) cursors') × AppendsPrefix put put' (text_of did.lines)
+Replies size Made request cursors cursors' put put' (Some NoMemory) =
+    (did : Did Made (RequestAnswer size cursors request) cursors') × AppendsPrefix put put' (text_of did.lines)
+Replies size Made request cursors cursors' put put' (Some Worn) =
+    WornIn Made (RequestAnswer size cursors request) × Appends put put' []
+Replies size Made request cursors cursors' put put' (Some _) = ⊥
+
+-- what was put of a reply
+abbrev pub Puts : Option (List ℕ) → Option (List ℕ) → List ℕ → ℕ → ℕ → Option EndStatus → Type 0
+Puts put put' reply faults faults' None = Appends put put' reply
+Puts put put' reply faults faults' (Some SinkFault) = AppendsPrefix put put' reply × Rose faults faults'
+Puts put put' reply faults faults' (Some NoMemory) = Appends put put' []
+Puts put put' reply faults faults' (Some _) = ⊥

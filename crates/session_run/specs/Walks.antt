@@ -1,0 +1,150 @@
+-- For private clauses alone: a search with its counts, and how it goes on by a page whose hits are written.
+use Rattle.std.specs.Prelude.{◌≡◌, ◌⊎◌, ◌<◌, ℕ, ◌+◌, Bool, true, false, List, [], ◌∷◌, ◌++◌, get_or, length, map, Option, Result, Ok, Err}
+use Rattle.par_search.specs.Searches.{SearchTerm, place_after}
+use Rattle.par_search.specs.declared.fault.SearchFault.{SearchFault}
+use Rattle.par_search.specs.declared.fault.SearchFault.TheVariants as faults
+use Rattle.shell_lang.specs.Reply as line
+use Rattle.shell_lang.specs.Reply.{reply_line, reply_of, text_of}
+use Rattle.shell_lang.specs.declared.reply.Refusal.TheVariants as refusals
+use Rattle.shell_lang.specs.declared.reply.Reply as written
+use Rattle.smarts_parse.specs.Pattern.{pattern_of}
+use Rattle.store_machine.specs.Answers.{AreMatched}
+use Rattle.store_machine.specs.Searches.{Place, At, End}
+use Rattle.store_machine.specs.Structures.{IsNeedOf}
+use Rattle.store_machine.specs.declared.machine.Event.TheVariants as events
+use Rattle.store_machine.specs.declared.machine.Found.{Found}
+use Rattle.store_machine.specs.declared.machine.Reply.TheVariants as replies
+use Rattle.session_run.specs.Answer.{Advances, FindsNoMemory, Lines, page_end}
+use Rattle.session_run.specs.Cursors.{Calls, Cursor, IsSearched}
+use Rattle.session_run.specs.Made.{Tells}
+use Rattle.session_run.specs.declared.cursors.Cursor as rust
+use Rattle.session_run.specs.declared.listing.Shown.{Shown}
+use Rattle.session_run.specs.declared.listing.Walk.{Walk}
+use Rattle.session_run.specs.declared.stop.Stop.{Stop}
+use Rattle.session_run.specs.declared.stop.Stop.TheVariants as stops
+use Rattle.session_run.specs.declared.stop.Worn.{Worn}
+
+-- some of the hits, from the first on, were written behind a text
+abbrev pub ArePartlyWritten : List ℕ → List ℕ → List ℕ → Type 0
+ArePartlyWritten hits out out' = (some others : List ℕ) × (hits ≡ some ++ others) × (out' ≡ out ++ text_of (map line.Hit some))
+
+-- all of them were, or some
+abbrev pub AreWritten : Bool → List ℕ → List ℕ → List ℕ → Type 0
+AreWritten true hits out out' = out' ≡ out ++ text_of (map line.Hit hits)
+AreWritten false hits out out' = ArePartlyWritten hits out out'
+
+-- a page was fetched, and its hits were written
+pub record IsPage (Made : Calls → Type 0) (old new : SearchTerm) (out out' : List ℕ) (shown : Shown) : Type 0 where
+  pub from : ℕ
+  pub records : List Found
+  pub hits : List ℕ
+  pub place : old.place ≡ At from
+  pub made : Made ((events.Fetch old.slot old.want from old.size, replies.Page records shown.last) ∷ [])
+  pub matched : AreMatched (pattern_of old.pattern) records hits
+  pub moved : new ≡ record old { place = place_after from records shown.last }
+  pub tried : shown.tried ≡ length records
+  pub count : shown.hits ≡ length hits
+  pub written : AreWritten shown.whole hits out out'
+
+-- the search was at its end, and nothing was done
+pub record IsNoPage (Made : Calls → Type 0) (old new : SearchTerm) (out out' : List ℕ) (shown : Shown) : Type 0 where
+  pub place : old.place ≡ End
+  pub made : Made []
+  pub same : new ≡ old
+  pub unwritten : out' ≡ out
+  pub tried : shown.tried ≡ 0
+  pub count : shown.hits ≡ 0
+  pub last : shown.last ≡ true
+
+-- a fetch found no memory, or nothing was asked
+pub record IsLost (Made : Calls → Type 0) (old new : SearchTerm) (out out' : List ℕ) : Type 0 where
+  pub calls : Calls
+  pub made : Made calls
+  pub by : (calls ≡ []) ⊎ ((from : ℕ) × (old.place ≡ At from) × (calls ≡ (events.Fetch old.slot old.want from old.size, replies.NoMemory) ∷ []))
+  pub same : new ≡ old
+  pub unwritten : out' ≡ out
+
+-- a step of a search, by what it gave
+abbrev pub Pages : (Calls → Type 0) → SearchTerm → SearchTerm → List ℕ → List ℕ → Result Shown SearchFault → Type 0
+Pages Made old new out out' (Ok shown) = IsPage Made old new out out' shown ⊎ IsNoPage Made old new out out' shown
+Pages Made old new out out' (Err faults.NoMemory) = IsLost Made old new out out'
+Pages Made old new out out' (Err faults.Worn) = Made [] × (new ≡ old) × (out' ≡ out)
+Pages Made old new out out' (Err faults.Pins) = ⊥
+
+abbrev pub Counts : Walk → Walk → Result Shown SearchFault → Type 0
+Counts old new (Ok shown) = (new.tried ≡ old.tried + shown.tried) × (new.hits ≡ old.hits + shown.hits)
+Counts old new (Err fault) = (new.tried ≡ old.tried) × (new.hits ≡ old.hits)
+
+-- the search as contracts of cursors see it
+abbrev pub cursor_of : rust.Cursor → Cursor
+cursor_of c = record {
+  name = c.name.items;
+  pattern = pattern_of c.walk.search.pattern;
+  want = c.walk.search.want;
+  slot = c.walk.search.slot;
+  version = c.walk.search.version;
+  place = c.walk.search.place;
+  tried = c.walk.tried;
+  hits = c.walk.hits;
+}
+
+abbrev pub cursors_of : List rust.Cursor → List Cursor
+cursors_of list = map cursor_of list
+
+-- the cursor at this place has the name
+pub record IsNamedAt (list : List rust.Cursor) (name : List ℕ) (place : ℕ) : Type 0 where
+  pub within : place < length list
+  pub named : (any : rust.Cursor) → (get_or list place any).name.items ≡ name
+
+-- their pages have one size
+abbrev pub AreSized : ℕ → List rust.Cursor → Type 0
+AreSized size [] = Unit {0}
+AreSized size (c ∷ cs) = (c.walk.search.size ≡ size) × AreSized size cs
+
+-- an answer to `next` by its cursor
+abbrev pub CursorAnswer : ℕ → Cursor → Calls → Lines → Cursor → Type 0
+CursorAnswer size c calls lines c' = (FindsNoMemory calls lines × (c' ≡ c)) ⊎ Advances size c.place c calls lines c'
+
+-- the line behind a page was written, or why it was not
+abbrev pub EndsPage : Cursor → Result Shown SearchFault → List ℕ → List ℕ → Result (Unit {0}) Stop → Type 0
+EndsPage c (Ok shown) out out' (Ok _) = (shown.whole ≡ true) × (out' ≡ out ++ reply_line (page_end shown.last c))
+EndsPage c (Ok shown) out out' (Err stops.NoMemory) = Unit {0}
+EndsPage c (Ok shown) out out' (Err stops.Worn) = ⊥
+EndsPage c (Err faults.NoMemory) out out' result = Tells line.MemoryFault out out' result
+EndsPage c (Err faults.Pins) out out' result = Tells line.MemoryFault out out' result
+EndsPage c (Err faults.Worn) out out' result = result ≡ Err stops.Worn
+
+-- a line that is given, or none since the service is worn
+abbrev pub GivesLine : line.Reply → Result written.Reply Worn → Type 0
+GivesLine said (Ok reply) = reply_of reply ≡ said
+GivesLine said (Err _) = ⊥
+
+abbrev pub GivesNone : Result written.Reply Worn → Type 0
+GivesNone (Ok reply) = ⊥
+GivesNone (Err _) = Unit {0}
+
+-- a cursor of this name was added for a search that began, or why none was
+abbrev pub Adds : List ℕ → Result Walk SearchFault → List rust.Cursor → List rust.Cursor → Result written.Reply Worn → Type 0
+Adds name (Ok walk) items items' result =
+    (c : rust.Cursor) × (c.name.items ≡ name) × (c.walk ≡ walk) × (items' ≡ items ++ c ∷ [])
+    × GivesLine (line.Opened walk.search.version) result
+Adds name (Err faults.Pins) items items' result = (items' ≡ items) × GivesLine (line.Refused refusals.Pins) result
+Adds name (Err faults.NoMemory) items items' result = (items' ≡ items) × GivesLine line.MemoryFault result
+Adds name (Err faults.Worn) items items' result = (items' ≡ items) × GivesNone result
+
+-- pages from the beginning on, by these calls. All their hits were written, or some
+pub record Listing (Made : Calls → Type 0) (begun now : SearchTerm) (tried count : ℕ) (out : List ℕ) (whole : Bool) (out' : List ℕ) : Type 0 where
+  pub pages : Calls
+  pub hits : List ℕ
+  pub made : Made pages
+  pub searched : IsSearched (pattern_of begun.pattern) begun.slot begun.size now.place pages tried hits
+  pub want : searched.want ≡ begun.want
+  pub moved : now ≡ record begun { place = now.place }
+  pub length_is : count ≡ length hits
+  pub written : AreWritten whole hits out out'
+
+-- a search was listed to its end, or was cut short
+abbrev pub Listed : (Calls → Type 0) → Walk → Walk → List ℕ → List ℕ → Result Bool Worn → Type 0
+Listed Made old new out out' (Ok true) = Listing Made old.search new.search new.tried new.hits out true out' × (new.search.place ≡ End)
+Listed Made old new out out' (Ok false) = (tried count : ℕ) × Listing Made old.search new.search tried count out false out'
+Listed Made old new out out' (Err _) = (tried count : ℕ) × (whole : Bool) × Listing Made old.search new.search tried count out whole out'

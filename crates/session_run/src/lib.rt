@@ -1,0 +1,23 @@
+//! A session: the requests that a source's lines are, answered into a sink, over any service.
+//!
+//! A request is a line, and with it the lines of its molfile where it takes one. It is read whole, then answered by calls
+//! of the service, and its reply is put before more is read. What is promised is one relation between the lines, the calls
+//! that were made with their replies, and the text that was put.
+#![tactic(auto)]
+
+mod change;
+mod cursors;
+mod laws;
+mod listing;
+mod look;
+mod request;
+mod respond;
+mod run;
+mod search;
+mod settings;
+mod stop;
+mod texts;
+
+pub use laws::{dialogues_are_true, searches_are_hits, services_are_true};
+pub use run::session;
+pub use settings::{EndStatus, Settings};

@@ -1,0 +1,168 @@
+//! The pages of a search, listed: their hits as reply lines, and counts of what was tried and listed.
+ghost use Rattle.std.specs.Prelude.{◌≡◌, ◌++◌, ◌||◌, Err, IfSome, OnErr, OnOk, map, not};
+ghost use Rattle.par_search.specs.declared.fault.SearchFault.TheVariants as fault;
+ghost use Rattle.shell_lang.specs.Reply as line;
+ghost use Rattle.shell_lang.specs.Reply.{reply_of, text_of};
+ghost use Rattle.smarts_parse.specs.Pattern.{pattern_of};
+ghost use Rattle.store_core.specs.Calls.{NotRaised, SameHeld};
+ghost use Rattle.store_machine.specs.Searches.{At};
+ghost use Rattle.store_machine.specs.Structures.{IsNeedOf};
+ghost use Rattle.session_run.specs.Made.{Makes};
+ghost use Rattle.session_run.specs.Walks.{ArePartlyWritten, Counts, Listed, Pages};
+
+use crate::stop::Worn;
+use par_search::{Meter, Search, SearchFault};
+use shell_lang::{Reply, reply_text};
+use std::alloc::AllocError;
+use std::thread::Threads;
+use store_core::{MOST_COMMITS, Service};
+
+/// Room for the lines of a page, 14 bytes each and 256 at most, and for some lines more.
+pub const ROOM: usize = 4_096;
+
+// No store has so many identifiers.
+const MOST_TRIED: u64 = 4_294_967_296;
+
+/// A search, and how many identifiers its pages tried and listed.
+#[derive(Drop)]
+pub struct Walk {
+    pub search: Search,
+    pub tried: u64,
+    pub hits: u64,
+}
+
+/// What a page gave: how many identifiers were tried and how many are hits, whether no page follows, and whether all
+/// hits were written.
+#[derive(Clone, Copy, Debug, PartialEq, Eq)]
+pub struct Shown {
+    pub tried: u32,
+    pub hits: u32,
+    pub last: bool,
+    pub whole: bool,
+}
+
+impl Shown {
+    // Whether nothing is to be listed behind it.
+    fn ends(&self) -> bool
+        ensures { result ≡ self.now.last || not self.now.whole }
+    {
+        self.last || !self.whole
+    }
+}
+
+impl Walk {
+    /// Fetches a page and writes its hits. The room is taken first.
+    pub fn page<R: Threads + Sync, S: Service, M: Meter>(
+        &mut self,
+        rt: &R,
+        service: &mut S,
+        meter: &M,
+        out: &mut Vec<u8>,
+    ) -> Result<Shown, SearchFault>
+        requires held { S.holds service.old self.old.search.slot self.old.search.version }
+        ensures pages { Pages (Makes S.at S.owns S.stretch service.old service.new)
+            self.old.search self.new.search out.old.items out.new.items result }
+        ensures counts { Counts self.old self.new result }
+        ensures worn { result ≡ Err fault.Worn → S.worn service.new }
+        ensures held { SameHeld (S.holds service.old) (S.holds service.new) }
+        ensures bounds { NotRaised (S.bounds service.old) (S.bounds service.new) }
+    {
+        let is_over = self.tried > MOST_TRIED || self.hits > MOST_TRIED;
+        if is_over {
+            return Err(SearchFault::NoMemory);
+        }
+        out.reserve(ROOM)?;
+        let shown = list_page(&mut self.search, rt, service, meter, out)?;
+        self.tried += u64::from(shown.tried);
+        self.hits += u64::from(shown.hits);
+        Ok(shown)
+    }
+
+    /// Lists all pages. It answers whether all hits were written.
+    pub fn list_all<R: Threads + Sync, S: Service, M: Meter>(
+        &mut self,
+        rt: &R,
+        service: &mut S,
+        meter: &M,
+        out: &mut Vec<u8>,
+    ) -> Result<bool, Worn>
+        requires held { S.holds service.old self.old.search.slot self.old.search.version }
+        requires place { self.old.search.place ≡ At 0 }
+        requires need { IsNeedOf (pattern_of self.old.search.pattern) self.old.search.want }
+        requires tried { self.old.tried ≡ 0 }
+        requires hits { self.old.hits ≡ 0 }
+        ensures listed { Listed (Makes S.at S.owns S.stretch service.old service.new)
+            self.old self.new out.old.items out.new.items result }
+        ensures worn { OnErr result (S.worn service.new) }
+        ensures held { SameHeld (S.holds service.old) (S.holds service.new) }
+        ensures bounds { NotRaised (S.bounds service.old) (S.bounds service.new) }
+    {
+        for _ in 0..MOST_COMMITS {
+            match self.page(rt, service, meter, out) {
+                Ok(shown) => {
+                    if shown.ends() {
+                        return Ok(shown.whole);
+                    }
+                }
+                Err(SearchFault::Worn) => return Err(Worn),
+                Err(SearchFault::NoMemory) => return Ok(false),
+                Err(SearchFault::Pins) => return Ok(false),
+            }
+        }
+        Ok(false)
+    }
+
+    /// The line at the search's end. `None`: a count has no line.
+    pub fn end(&self) -> Option<Reply>
+        ensures { IfSome result
+            (λ reply. reply_of reply ≡ line.End self.now.search.version self.now.tried self.now.hits) }
+    {
+        let tried = u32::try_from(self.tried).ok()?;
+        let hits = u32::try_from(self.hits).ok()?;
+        Some(Reply::End {
+            version: self.search.version(),
+            tried,
+            hits,
+        })
+    }
+}
+
+// A page, whose hits are written.
+fn list_page<R: Threads + Sync, S: Service, M: Meter>(
+    search: &mut Search,
+    rt: &R,
+    service: &mut S,
+    meter: &M,
+    out: &mut Vec<u8>,
+) -> Result<Shown, SearchFault>
+    requires held { S.holds service.old search.old.slot search.old.version }
+    ensures pages { Pages (Makes S.at S.owns S.stretch service.old service.new)
+        search.old search.new out.old.items out.new.items result }
+    ensures worn { result ≡ Err fault.Worn → S.worn service.new }
+    ensures held { SameHeld (S.holds service.old) (S.holds service.new) }
+    ensures bounds { NotRaised (S.bounds service.old) (S.bounds service.new) }
+{
+    match search.next(rt, service, meter) {
+        Ok(page) => {
+            let whole = push_hits(page.hits, out).is_ok();
+            Ok(Shown {
+                tried: page.tried,
+                hits: page.hits.len() as u32,
+                last: page.last,
+                whole,
+            })
+        }
+        Err(fault) => Err(fault),
+    }
+}
+
+// Appends a line for each hit.
+fn push_hits(ids: &[u32], out: &mut Vec<u8>) -> Result<(), AllocError>
+    ensures ok { OnOk result (out.new.items ≡ out.old.items ++ text_of (map line.Hit ids.now)) }
+    ensures err { OnErr result (ArePartlyWritten ids.now out.old.items out.new.items) }
+{
+    for id in ids {
+        reply_text(&Reply::Hit { id: *id }, out)?;
+    }
+    Ok(())
+}

@@ -1,0 +1,201 @@
+//! A session over any service.
+ghost use Rattle.std.specs.Prelude.{◌≡◌, ◌≢◌, ◌≤◌, ◌<◌, [], IfSome, None, Some};
+ghost use Rattle.io_edge.specs.Faults.{Rose};
+ghost use Rattle.io_edge.specs.Lines.{done_bytes, lines_of};
+ghost use Rattle.store_core.specs.Calls.{NotRaised, SameHeld};
+ghost use Rattle.session_run.specs.Cursors.{Calls};
+ghost use Rattle.session_run.specs.Made.{Makes};
+ghost use Rattle.session_run.specs.Requests.{Request};
+ghost use Rattle.session_run.specs.Responds.{IsFit, IsReady, KeepsPins};
+ghost use Rattle.session_run.specs.Served.{IsServed, TakesExactly, Writes};
+ghost use Rattle.session_run.specs.Serving.{IsFresh, KeepsOn, Serves};
+ghost use Rattle.session_run.specs.Turn.{IsNext, Puts, ReadsOn, Replies, TakesNone, TakesRequest, Turns};
+ghost use Rattle.session_run.specs.Walks.{cursors_of};
+
+use crate::request::{Next, next_request};
+use crate::respond::Responder;
+use crate::settings::{EndStatus, Settings};
+use crate::stop::{Stop, Worn};
+use io_edge::{LineFault, Lines, PutFault, Sink, Source};
+use par_search::Meter;
+use std::alloc::Global;
+use std::thread::Threads;
+use store_core::Service;
+
+/// Answers the requests of a source into a sink, each before more is read. At the end the pins of the cursors that are
+/// still open are given back, unless the service is worn.
+pub fn session<R: Threads + Sync, S: Service, I: Source, O: Sink, M: Meter>(
+    rt: &R,
+    alloc: Global,
+    service: &mut S,
+    source: &mut I,
+    sink: &mut O,
+    settings: &Settings,
+    meter: &M,
+) -> EndStatus
+    requires some_workers { 1 ≤ settings.now.workers }
+    requires few_workers { settings.now.workers ≤ 16 }
+    requires some { 1 ≤ settings.now.page }
+    requires few { settings.now.page ≤ 256 }
+    ensures serves { (calls : Calls) × Makes S.at S.owns S.stretch service.old service.new calls
+        × IfSome (I.left source.old) (λ bytes. Writes (O.written sink.old) (O.written sink.new)
+        (IsServed result settings.now.page (lines_of bytes) calls)) }
+    ensures pins { result ≢ EndStatus.Worn → SameHeld (S.holds service.old) (S.holds service.new) }
+    ensures worn { result ≡ EndStatus.Worn → S.worn service.new }
+    ensures source_fault { result ≡ EndStatus.SourceFault → Rose (I.faults source.old) (I.faults source.new) }
+    ensures sink_fault { result ≡ EndStatus.SinkFault → Rose (O.faults sink.old) (O.faults sink.new) }
+    ensures too_long { result ≡ EndStatus.InputTooLong
+        → TakesExactly (I.left source.old) (I.left source.new) settings.now.input_limit }
+    ensures bounds { NotRaised (S.bounds service.old) (S.bounds service.new) }
+{
+    let Ok(mut lines) = Lines::new(alloc, settings.input_limit) else {
+        return EndStatus::NoMemory;
+    };
+    let Ok(mut responder) = Responder::new(alloc, *settings) else {
+        return EndStatus::NoMemory;
+    };
+    serve_to_end(rt, service, source, sink, meter, &mut lines, &mut responder)
+}
+
+// Answers requests until the session ends, and gives the pins of the open cursors back, unless the service is worn.
+fn serve_to_end<R: Threads + Sync, S: Service, I: Source, O: Sink, M: Meter>(
+    rt: &R,
+    service: &mut S,
+    source: &mut I,
+    sink: &mut O,
+    meter: &M,
+    lines: &mut Lines,
+    responder: &mut Responder,
+) -> EndStatus
+    requires fit { IsFit responder.old.settings responder.old.cursors.size responder.old.cursors.list.items }
+    requires none { responder.old.cursors.list.items ≡ [] }
+    requires fresh { IsFresh lines.old }
+    ensures serves { (calls : Calls) × Makes S.at S.owns S.stretch service.old service.new calls
+        × IfSome (I.left source.old) (λ bytes. Writes (O.written sink.old) (O.written sink.new)
+        (IsServed result responder.old.cursors.size (lines_of bytes) calls)) }
+    ensures pins { result ≢ EndStatus.Worn → SameHeld (S.holds service.old) (S.holds service.new) }
+    ensures worn { result ≡ EndStatus.Worn → S.worn service.new }
+    ensures source_fault { result ≡ EndStatus.SourceFault → Rose (I.faults source.old) (I.faults source.new) }
+    ensures sink_fault { result ≡ EndStatus.SinkFault → Rose (O.faults sink.old) (O.faults sink.new) }
+    ensures too_long { result ≡ EndStatus.InputTooLong
+        → TakesExactly (I.left source.old) (I.left source.new) lines.old.limit }
+    ensures bounds { NotRaised (S.bounds service.old) (S.bounds service.new) }
+{
+    let end = serve(rt, service, source, sink, meter, lines, responder);
+    match end {
+        EndStatus::Worn => EndStatus::Worn,
+        _ => match responder.cursors.close_all(service) {
+            Ok(()) => end,
+            Err(Worn) => EndStatus::Worn,
+        },
+    }
+}
+
+// Answers requests until the session ends.
+fn serve<R: Threads + Sync, S: Service, I: Source, O: Sink, M: Meter>(
+    rt: &R,
+    service: &mut S,
+    source: &mut I,
+    sink: &mut O,
+    meter: &M,
+    lines: &mut Lines,
+    responder: &mut Responder,
+) -> EndStatus
+    requires fit { IsFit responder.old.settings responder.old.cursors.size responder.old.cursors.list.items }
+    requires none { responder.old.cursors.list.items ≡ [] }
+    requires fresh { IsFresh lines.old }
+    ensures serves { (calls : Calls) × Makes S.at S.owns S.stretch service.old service.new calls
+        × Serves result responder.old.cursors.size (I.left source.old) (O.written sink.old) (O.written sink.new)
+        calls (cursors_of responder.new.cursors.list.items) }
+    ensures fit { IsFit responder.new.settings responder.new.cursors.size responder.new.cursors.list.items }
+    ensures pins { result ≢ EndStatus.Worn
+        → KeepsPins (S.holds service.old) [] (S.holds service.new) (cursors_of responder.new.cursors.list.items) }
+    ensures worn { result ≡ EndStatus.Worn → S.worn service.new }
+    ensures source_fault { result ≡ EndStatus.SourceFault → Rose (I.faults source.old) (I.faults source.new) }
+    ensures sink_fault { result ≡ EndStatus.SinkFault → Rose (O.faults sink.old) (O.faults sink.new) }
+    ensures too_long { result ≡ EndStatus.InputTooLong
+        → TakesExactly (I.left source.old) (I.left source.new) lines.old.limit }
+    ensures bounds { NotRaised (S.bounds service.old) (S.bounds service.new) }
+{
+    loop {
+        if let Some(end) = turn(rt, service, source, sink, meter, lines, responder) {
+            return end;
+        }
+    }
+}
+
+// Reads the next request and puts its reply. It answers how the session ends, if it does.
+fn turn<R: Threads + Sync, S: Service, I: Source, O: Sink, M: Meter>(
+    rt: &R,
+    service: &mut S,
+    source: &mut I,
+    sink: &mut O,
+    meter: &M,
+    lines: &mut Lines,
+    responder: &mut Responder,
+) -> Option<EndStatus>
+    requires { IsReady S.holds service.old responder.old }
+    ensures turns { Turns responder.old.cursors.size (Makes S.at S.owns S.stretch service.old service.new)
+        (TakesRequest lines.old lines.new (I.left source.old) (I.left source.new))
+        (TakesNone lines.old (I.left source.old))
+        (cursors_of responder.old.cursors.list.items) (cursors_of responder.new.cursors.list.items)
+        (O.written sink.old) (O.written sink.new) result }
+    ensures reads { ReadsOn (I.left source.old) (I.left source.new) (I.faults source.old) (I.faults source.new)
+        lines.old lines.new }
+    ensures progress { result ≡ None → done_bytes lines.old < done_bytes lines.new }
+    ensures keeps { KeepsOn S.holds S.worn S.bounds service.old service.new responder.old responder.new result }
+    ensures source_fault { result ≡ Some EndStatus.SourceFault → Rose (I.faults source.old) (I.faults source.new) }
+    ensures sink_fault { result ≡ Some EndStatus.SinkFault → Rose (O.faults sink.old) (O.faults sink.new) }
+    ensures sink_count { O.faults sink.old ≤ O.faults sink.new }
+    ensures too_long { result ≡ Some EndStatus.InputTooLong → lines.new.taken ≡ lines.new.limit }
+{
+    let next = match next_request(lines, &mut responder.molfile, source) {
+        Ok(next) => next,
+        Err(LineFault::Source) => return Some(EndStatus::SourceFault),
+        Err(LineFault::TooLong) => return Some(EndStatus::InputTooLong),
+    };
+    match next {
+        Next::End => Some(EndStatus::Done),
+        _ => answer_and_put(rt, service, sink, meter, next, lines.text(), responder),
+    }
+}
+
+// Answers a request that was read, and puts its reply. It answers how the session ends, if it does.
+fn answer_and_put<R: Threads + Sync, S: Service, O: Sink, M: Meter>(
+    rt: &R,
+    service: &mut S,
+    sink: &mut O,
+    meter: &M,
+    next: Next,
+    line: &[u8],
+    responder: &mut Responder,
+) -> Option<EndStatus>
+    requires ready { IsReady S.holds service.old responder.old }
+    requires request { (request : Request) × IsNext next request line.now responder.old.molfile.items }
+    ensures replies { (request : Request) → IsNext next request line.now responder.old.molfile.items
+        → Replies responder.old.cursors.size (Makes S.at S.owns S.stretch service.old service.new) request
+        (cursors_of responder.old.cursors.list.items) (cursors_of responder.new.cursors.list.items)
+        (O.written sink.old) (O.written sink.new) result }
+    ensures keeps { KeepsOn S.holds S.worn S.bounds service.old service.new responder.old responder.new result }
+    ensures sink_fault { result ≡ Some EndStatus.SinkFault → Rose (O.faults sink.old) (O.faults sink.new) }
+    ensures sink_count { O.faults sink.old ≤ O.faults sink.new }
+{
+    match responder.answer(rt, service, meter, next, line) {
+        Ok(()) => put(&responder.out, sink),
+        Err(Stop::NoMemory) => Some(EndStatus::NoMemory),
+        Err(Stop::Worn) => Some(EndStatus::Worn),
+    }
+}
+
+// Puts a reply. It answers how the session ends, if it does.
+fn put<O: Sink>(reply: &[u8], sink: &mut O) -> Option<EndStatus>
+    ensures puts { Puts (O.written sink.old) (O.written sink.new) reply.now
+        (O.faults sink.old) (O.faults sink.new) result }
+    ensures count { O.faults sink.old ≤ O.faults sink.new }
+{
+    match sink.put(reply) {
+        Ok(()) => None,
+        Err(PutFault::Failed) => Some(EndStatus::SinkFault),
+        Err(PutFault::NoMemory) => Some(EndStatus::NoMemory),
+    }
+}

@@ -1,0 +1,27 @@
+//! Texts of a script: patterns, and the records of structures.
+ghost use Rattle.std.specs.Prelude.{◌≡◌, ◌≢◌, IfErr, IfOk};
+ghost use Rattle.smarts_parse.specs.Pattern.{pattern_of};
+ghost use Rattle.smarts_parse.specs.Sound.{IsSoundPattern};
+ghost use Rattle.smarts_parse.specs.declared.fault.SmartsFault.TheVariants.{NoMemory};
+ghost use Rattle.store_machine.specs.Structures.{IsText};
+ghost use Rattle.session_run.specs.Texts.{IsPatternFault, IsPatternOf};
+
+use smarts_parse::{Pattern, SmartsFault, parse};
+use std::alloc::Global;
+use store_core::Record;
+
+/// The pattern of a text.
+pub fn read_pattern(alloc: Global, text: &[u8]) -> Result<Pattern, SmartsFault>
+    ensures pattern { IfOk result (λ p. IsPatternOf text.now (pattern_of p)) }
+    ensures sound { IfOk result (λ p. IsSoundPattern (pattern_of p)) }
+    ensures fault { IfErr result (λ fault. fault ≢ NoMemory → IsPatternFault text.now fault) }
+{
+    parse(alloc, text)
+}
+
+/// A law: the text of a record has a structure.
+pub fn text_is_sound(entry: &Record)
+    ensures { IsText entry.now.format entry.now.text }
+{
+    entry.id();
+}
