@@ -2,6 +2,8 @@
 ghost use Rattle.std.specs.Prelude.{◌≡◌, ◌<◌, length, IfOk};
 
 use chem_shell::top::{End, Outcome, chemdb};
+use chem_shell::{PlanFault, plan};
+use disk_edge::MemDisk;
 use io_edge::{MemSink, MemSource};
 use std::alloc::{AllocError, Global};
 use std::process::Abort;
@@ -11,6 +13,7 @@ use std::thread::Threads;
 
 mod bulk;
 mod cursors;
+mod disk;
 mod failing;
 mod patterns;
 mod refused;
@@ -19,7 +22,7 @@ mod turns;
 mod words;
 
 // What a call left of its one end.
-type Answer = Outcome<(), MemSource, MemSink>;
+type Answer = Outcome<MemDisk, MemSource, MemSink>;
 
 // How a script is given, and which takes and puts fail, by their numbers from 0 on.
 #[derive(Clone, Copy)]
@@ -36,7 +39,7 @@ const PLAIN: Ways<'static> = Ways {
     puts: &[],
 };
 
-// What the words do over one end, whose source has this script.
+// What the words do over empty disks and the ends that they have, each with a source of this script.
 fn call<R: Threads + Wait + Sync>(
     rt: &R,
     alloc: Global,
@@ -46,27 +49,49 @@ fn call<R: Threads + Wait + Sync>(
 ) -> Result<Answer, AllocError>
     requires { 0 < ways.piece }
 {
-    let ends = one_end(alloc, script, ways)?;
-    Ok(chemdb(rt, alloc, words, (), (), ends))
+    call_on(rt, alloc, words, script, ways, MemDisk::new(alloc))
 }
 
-fn one_end(
+// The same over this disk. Where the words ask for nothing, there is one end.
+fn call_on<R: Threads + Wait + Sync>(
+    rt: &R,
     alloc: Global,
+    words: &[&str],
+    script: &[u8],
+    ways: Ways<'_>,
+    a: MemDisk,
+) -> Result<Answer, AllocError>
+    requires { 0 < ways.piece }
+{
+    let count = match plan(alloc, words) {
+        Ok(plan) => plan.ends,
+        Err(PlanFault::Usage) => 1,
+        Err(PlanFault::NoMemory) => return Err(AllocError),
+    };
+    let ends = ends(alloc, count, script, ways)?;
+    Ok(chemdb(rt, alloc, words, a, MemDisk::new(alloc), ends))
+}
+
+fn ends(
+    alloc: Global,
+    count: u32,
     script: &[u8],
     ways: Ways<'_>,
 ) -> Result<Vec<End<MemSource, MemSink>>, AllocError>
     requires { 0 < ways.piece }
-    ensures { IfOk result (λ ends. length ends.items ≡ 1) }
+    ensures { IfOk result (λ ends. length ends.items ≡ count) }
 {
-    let script = Vec::from_slice(alloc, script)?;
-    let takes = Vec::from_slice(alloc, ways.takes)?;
-    let puts = Vec::from_slice(alloc, ways.puts)?;
     let mut ends = Vec::new(alloc);
-    ends.push(End {
-        source: MemSource::new(script, ways.piece, takes),
-        sink: MemSink::new(alloc, puts),
-        status: 0,
-    })?;
+    for _ in 0..count {
+        let script = Vec::from_slice(alloc, script)?;
+        let takes = Vec::from_slice(alloc, ways.takes)?;
+        let puts = Vec::from_slice(alloc, ways.puts)?;
+        ends.push(End {
+            source: MemSource::new(script, ways.piece, takes),
+            sink: MemSink::new(alloc, puts),
+            status: 0,
+        })?;
+    }
     Ok(ends)
 }
 

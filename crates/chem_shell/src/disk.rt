@@ -89,7 +89,7 @@ fn serve_loaded<R: Threads + Sync, D: Disk + Drop, S: Source + Drop, K: Sink + D
     ensures sink_fault { end.new.status ≡ SINK_FAULT → Rose (K.faults end.old.sink) (K.faults end.new.sink) }
     ensures too_long { end.new.status ≡ INPUT_TOO_LONG
         → TakesExactly (S.left end.old.source) (S.left end.new.source) INPUT_LIMIT }
-    ensures other { result.b ≡ store.b }
+    ensures other { (s : State) → StandsFor D.content D.images D.faults store s → result.b ≡ store.b }
 {
     services_are_true();
     let mut store = store;
