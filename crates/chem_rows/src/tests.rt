@@ -1,9 +1,11 @@
 //! The top call over a source and a sink in memory.
 ghost use Rattle.std.specs.Prelude.{◌≡◌, ◌<◌, length, IfOk};
+ghost use Rattle.chem_shell.specs.Words.{texts, Asks, AsksFor};
+ghost use Rattle.chem_shell.specs.declared.request.Plan.{Plan as ThePlan};
 
 use chem_shell::top::{End, Outcome, chemdb};
 use chem_shell::{PlanFault, plan};
-use disk_edge::MemDisk;
+use disk_edge::{Disk, MemDisk};
 use io_edge::{MemSink, MemSource};
 use std::alloc::{AllocError, Global};
 use std::process::Abort;
@@ -49,27 +51,37 @@ fn call<R: Threads + Wait + Sync>(
 ) -> Result<Answer, AllocError>
     requires { 0 < ways.piece }
 {
-    call_on(rt, alloc, words, script, ways, MemDisk::new(alloc))
+    let disks = (MemDisk::new(alloc), MemDisk::new(alloc));
+    call_on(rt, alloc, words, script, ways, disks)
 }
 
-// The same over this disk. Where the words ask for nothing, there is one end.
-fn call_on<R: Threads + Wait + Sync>(
+// The same over these disks.
+fn call_on<R: Threads + Wait + Sync, D: Disk + Send + Drop>(
     rt: &R,
     alloc: Global,
     words: &[&str],
     script: &[u8],
     ways: Ways<'_>,
-    a: MemDisk,
-) -> Result<Answer, AllocError>
+    disks: (D, D),
+) -> Result<Outcome<D, MemSource, MemSink>, AllocError>
     requires { 0 < ways.piece }
 {
-    let count = match plan(alloc, words) {
-        Ok(plan) => plan.ends,
-        Err(PlanFault::Usage) => 1,
-        Err(PlanFault::NoMemory) => return Err(AllocError),
-    };
+    let count = ends_of(alloc, words)?;
     let ends = ends(alloc, count, script, ways)?;
-    Ok(chemdb(rt, alloc, words, a, MemDisk::new(alloc), ends))
+    let (a, b) = disks;
+    Ok(chemdb(rt, alloc, words, a, b, ends))
+}
+
+// How many ends the words have. Where they ask for nothing, it is one.
+fn ends_of(alloc: Global, words: &[&str]) -> Result<u32, AllocError>
+    ensures { IfOk result (λ count. Asks (texts words.now)
+        → (plan : ThePlan) × AsksFor (texts words.now) plan × (count ≡ plan.ends)) }
+{
+    match plan(alloc, words) {
+        Ok(plan) => Ok(plan.ends),
+        Err(PlanFault::Usage) => Ok(1),
+        Err(PlanFault::NoMemory) => Err(AllocError),
+    }
 }
 
 fn ends(
@@ -96,7 +108,7 @@ fn ends(
 }
 
 // What was put.
-fn put_by(answer: &Answer) -> &[u8] {
+fn put_by<D: Drop>(answer: &Outcome<D, MemSource, MemSink>) -> &[u8] {
     match answer.ends.first() {
         Some(end) => end.sink.bytes(),
         None => &[],

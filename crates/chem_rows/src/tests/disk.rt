@@ -1,7 +1,8 @@
 //! `init` and `run` over disks in memory.
 use super::{Answer, PLAIN, call_on, put_by};
-use disk_edge::MemDisk;
+use disk_edge::{FileDisk, MemDisk};
 use std::alloc::{AllocError, Global};
+use std::fs;
 use std::process::Abort;
 use std::sync::Wait;
 use std::test::Fail;
@@ -17,7 +18,14 @@ fn run<R: Threads + Wait + Sync>(
     a: MemDisk,
     script: &str,
 ) -> Result<Answer, AllocError> {
-    call_on(rt, alloc, &["run", "f"], script.as_bytes(), PLAIN, a)
+    let disks = (a, MemDisk::new(alloc));
+    call_on(rt, alloc, &["run", "f"], script.as_bytes(), PLAIN, disks)
+}
+
+// `init` of this disk.
+fn init<R: Threads + Wait + Sync>(rt: &R, alloc: Global, a: MemDisk) -> Result<Answer, AllocError> {
+    let disks = (a, MemDisk::new(alloc));
+    call_on(rt, alloc, &["init", "f"], b"", PLAIN, disks)
 }
 
 // A disk that holds these bytes, synced.
@@ -28,7 +36,7 @@ fn disk_of(alloc: Global, bytes: &[u8]) -> Result<MemDisk, AllocError> {
 #[test]
 fn a_store_is_made_and_used_and_used_again(rt: HostRuntime) -> Result<(), Fail> {
     let alloc = rt.alloc();
-    let made = call_on(&rt, alloc, &["init", "f"], b"", PLAIN, MemDisk::new(alloc))?;
+    let made = init(&rt, alloc, MemDisk::new(alloc))?;
     assert_eq!(rt; made.status, 0);
     assert_eq!(rt; made.a.bytes(), b"ZCHEMDB1\0".as_slice());
     let first = run(&rt, alloc, made.a, "register 1 CCO\n")?;
@@ -41,7 +49,7 @@ fn a_store_is_made_and_used_and_used_again(rt: HostRuntime) -> Result<(), Fail> 
         put_by(&second),
         b"record 1 version 1 smiles CCO\nrefused known\nhit 1\nend at 1 tried 1 hits 1\n".as_slice()
     );
-    let again = call_on(&rt, alloc, &["init", "f"], b"", PLAIN, second.a)?;
+    let again = init(&rt, alloc, second.a)?;
     assert_eq!(rt; again.status, 10);
     assert_eq!(rt; again.a.bytes(), ONE_COMMIT);
     assert_eq!(rt; again.b.bytes().len(), 0);
@@ -124,7 +132,32 @@ fn each_call_of_the_disk_fails_in_turn(rt: HostRuntime) -> Result<(), Fail> {
     }
     let mut disk = MemDisk::new(alloc);
     disk.fail_once(1);
-    let made = call_on(&rt, alloc, &["init", "f"], b"", PLAIN, disk)?;
+    let made = init(&rt, alloc, disk)?;
     assert_eq!(rt; made.status, 5);
+    Ok(())
+}
+
+#[test]
+fn a_store_in_a_file(rt: HostRuntime) -> Result<(), Fail> {
+    let alloc = rt.alloc();
+    let path = "chem_rows_test.store";
+    let _ = fs::remove_file(&rt, path);
+    // the command, whether it makes the file, the script, the status, and what was put
+    let rows = [
+        ("run", false, "stats\n", 5u8, ""),
+        ("init", true, "", 0, ""),
+        ("run", false, "register 1 CCO\n", 0, "ok 1\n"),
+        ("run", false, "show 1\n", 0, "record 1 version 1 smiles CCO\n"),
+        ("init", true, "", 10, ""),
+    ];
+    for (command, create, script, status, put) in rows {
+        let disks = (FileDisk::at(&rt, path, create), FileDisk::none());
+        let words = [command, path];
+        let answer = call_on(&rt, alloc, &words, script.as_bytes(), PLAIN, disks)?;
+        assert_eq!(rt; answer.status, status, "at {command} {script:?}");
+        assert_eq!(rt; put_by(&answer), put.as_bytes(), "at {command} {script:?}");
+    }
+    assert_eq!(rt; fs::read(&rt, path)?.as_slice(), ONE_COMMIT);
+    fs::remove_file(&rt, path)?;
     Ok(())
 }
