@@ -1,7 +1,11 @@
 //! The top call over a source and a sink in memory.
 ghost use Rattle.std.specs.Prelude.{◌≡◌, ◌<◌, length, IfOk};
+ghost use Rattle.chem_shell.specs.Words.{texts, Asks, AsksFor};
+ghost use Rattle.chem_shell.specs.declared.request.Plan.{Plan as ThePlan};
 
 use chem_shell::top::{End, Outcome, chemdb};
+use chem_shell::{PlanFault, plan};
+use disk_edge::{Disk, MemDisk};
 use io_edge::{MemSink, MemSource};
 use std::alloc::{AllocError, Global};
 use std::process::Abort;
@@ -11,6 +15,7 @@ use std::thread::Threads;
 
 mod bulk;
 mod cursors;
+mod disk;
 mod failing;
 mod patterns;
 mod refused;
@@ -19,7 +24,7 @@ mod turns;
 mod words;
 
 // What a call left of its one end.
-type Answer = Outcome<(), MemSource, MemSink>;
+type Answer = Outcome<MemDisk, MemSource, MemSink>;
 
 // How a script is given, and which takes and puts fail, by their numbers from 0 on.
 #[derive(Clone, Copy)]
@@ -36,7 +41,7 @@ const PLAIN: Ways<'static> = Ways {
     puts: &[],
 };
 
-// What the words do over one end, whose source has this script.
+// What the words do over empty disks and the ends that they have, each with a source of this script.
 fn call<R: Threads + Wait + Sync>(
     rt: &R,
     alloc: Global,
@@ -46,32 +51,64 @@ fn call<R: Threads + Wait + Sync>(
 ) -> Result<Answer, AllocError>
     requires { 0 < ways.piece }
 {
-    let ends = one_end(alloc, script, ways)?;
-    Ok(chemdb(rt, alloc, words, (), (), ends))
+    let disks = (MemDisk::new(alloc), MemDisk::new(alloc));
+    call_on(rt, alloc, words, script, ways, disks)
 }
 
-fn one_end(
+// The same over these disks.
+fn call_on<R: Threads + Wait + Sync, D: Disk + Send + Drop>(
+    rt: &R,
     alloc: Global,
+    words: &[&str],
+    script: &[u8],
+    ways: Ways<'_>,
+    disks: (D, D),
+) -> Result<Outcome<D, MemSource, MemSink>, AllocError>
+    requires { 0 < ways.piece }
+{
+    let count = ends_of(alloc, words)?;
+    let ends = ends(alloc, count, script, ways)?;
+    let (a, b) = disks;
+    Ok(chemdb(rt, alloc, words, a, b, ends))
+}
+
+// How many ends the words have. Where they ask for nothing, it is one.
+fn ends_of(alloc: Global, words: &[&str]) -> Result<u32, AllocError>
+    ensures { IfOk result (λ count. Asks (texts words.now)
+        → (plan : ThePlan) × AsksFor (texts words.now) plan × (count ≡ plan.ends)) }
+{
+    match plan(alloc, words) {
+        Ok(plan) => Ok(plan.ends),
+        Err(PlanFault::Usage) => Ok(1),
+        Err(PlanFault::NoMemory) => Err(AllocError),
+    }
+}
+
+fn ends(
+    alloc: Global,
+    count: u32,
     script: &[u8],
     ways: Ways<'_>,
 ) -> Result<Vec<End<MemSource, MemSink>>, AllocError>
     requires { 0 < ways.piece }
-    ensures { IfOk result (λ ends. length ends.items ≡ 1) }
+    ensures { IfOk result (λ ends. length ends.items ≡ count) }
 {
-    let script = Vec::from_slice(alloc, script)?;
-    let takes = Vec::from_slice(alloc, ways.takes)?;
-    let puts = Vec::from_slice(alloc, ways.puts)?;
     let mut ends = Vec::new(alloc);
-    ends.push(End {
-        source: MemSource::new(script, ways.piece, takes),
-        sink: MemSink::new(alloc, puts),
-        status: 0,
-    })?;
+    for _ in 0..count {
+        let script = Vec::from_slice(alloc, script)?;
+        let takes = Vec::from_slice(alloc, ways.takes)?;
+        let puts = Vec::from_slice(alloc, ways.puts)?;
+        ends.push(End {
+            source: MemSource::new(script, ways.piece, takes),
+            sink: MemSink::new(alloc, puts),
+            status: 0,
+        })?;
+    }
     Ok(ends)
 }
 
 // What was put.
-fn put_by(answer: &Answer) -> &[u8] {
+fn put_by<D: Drop>(answer: &Outcome<D, MemSource, MemSink>) -> &[u8] {
     match answer.ends.first() {
         Some(end) => end.sink.bytes(),
         None => &[],

@@ -5,8 +5,9 @@ use Rattle.std.proofs.lemmas.Fmt.{decimal_injective}
 use Rattle.clap.specs.Words.{Row, Text, fault_of, first_of, matches_of}
 use Rattle.store_core.specs.declared.store.TheConstants.{MOST_COMMITS}
 use Rattle.chem_shell.specs.declared.request.Plan.{Plan}
+use Rattle.chem_shell.specs.declared.request.Verb.TheVariants.{Mem, Init, Run, Bulk}
 use Rattle.chem_shell.specs.declared.words.TheConstants.{LAST_SEED, MOST_STRUCTURES}
-use Rattle.chem_shell.specs.Words.{Asks, AsksFor, IsBulk, IsMem, IsNumber, IsRow, IsSetting, IsWithinLimits, chemdb_app}
+use Rattle.chem_shell.specs.Words.{Asks, AsksFor, IsBulk, IsFile, IsInit, IsMem, IsNumber, IsRow, IsRunOf, IsSetting, IsWithinLimits, chemdb_app}
 
 pub none_of_image : {X Y : Type 0} (f : X → Y) (o : Option X) (v : Option Y) → option_map f o ≡ v → v ≡ None → o ≡ None
 none_of_image f None v same none = refl
@@ -81,9 +82,38 @@ bulk_within found p a =
       few_commits = omega (arith, a.commits);
     }
 
+init_within : (found : List Row) (p : Plan) → IsInit found p → IsWithinLimits p
+init_within found p a = record {
+  some_workers = omega (arith, a.workers);
+  few_workers = omega (arith, a.workers);
+  some_records = omega (arith, a.page);
+  few_records = omega (arith, a.page);
+  some_commits = omega (arith, a.commits);
+  few_commits = omega (arith, a.commits);
+}
+
+run_within : (found : List Row) (p : Plan) → IsRunOf found p → IsWithinLimits p
+run_within found p a =
+    let workers =
+    setting_within (first_of (codes "workers") found) 16 1 p.workers (omega arith) (omega arith) a.sizes.0 in
+    let page = setting_within (first_of (codes "page") found) 256 256 p.page (omega arith) (omega arith) a.sizes.1 in
+    let commits =
+    setting_within (first_of (codes "commits") found) MOST_COMMITS MOST_COMMITS p.commits (omega arith)
+    (omega arith) a.commits in
+    record {
+      some_workers = workers.0;
+      few_workers = workers.1;
+      some_records = page.0;
+      few_records = page.1;
+      some_commits = commits.0;
+      few_commits = commits.1;
+    }
+
 row_within : (command : Option Text) (found : List Row) (p : Plan) → IsRow command found p → IsWithinLimits p
 row_within command found p (inl a) = mem_within found p a.1
-row_within command found p (inr a) = bulk_within found p a.1
+row_within command found p (inr (inl a)) = init_within found p a.1
+row_within command found p (inr (inr (inl a))) = run_within found p a.1
+row_within command found p (inr (inr (inr a))) = bulk_within found p a.1
 
 -- a plan's settings are within their limits
 pub plan_within : (words : List Text) (p : Plan) → AsksFor words p → IsWithinLimits p
@@ -93,6 +123,7 @@ plan_within words p a =
 -- two plans have the same command, and ask for the same of it
 pub record SamePlan (p q : Plan) : Type 0 where
   pub command : p.command ≡ q.command
+  pub ends : p.ends ≡ q.ends
   pub commits : p.commits ≡ q.commits
   pub page : p.page ≡ q.page
   pub seed : p.seed ≡ q.seed
@@ -101,6 +132,28 @@ pub record SamePlan (p q : Plan) : Type 0 where
 one_mem : (found : List Row) (p q : Plan) → IsMem found p → IsMem found q → SamePlan p q
 one_mem found p q a b = record {
   command = a.command ∙ sym b.command;
+  ends = a.ends ∙ sym b.ends;
+  commits = one_setting (first_of (codes "commits") found) MOST_COMMITS MOST_COMMITS p.commits q.commits
+      (omega arith) a.commits b.commits;
+  page = one_setting (first_of (codes "page") found) 256 256 p.page q.page (omega arith) a.sizes.1 b.sizes.1;
+  seed = a.seed ∙ sym b.seed;
+  count = a.count ∙ sym b.count;
+}
+
+one_init : (found : List Row) (p q : Plan) → IsInit found p → IsInit found q → SamePlan p q
+one_init found p q a b = record {
+  command = a.command ∙ sym b.command;
+  ends = a.ends ∙ sym b.ends;
+  commits = a.commits ∙ sym b.commits;
+  page = a.page ∙ sym b.page;
+  seed = a.seed ∙ sym b.seed;
+  count = a.count ∙ sym b.count;
+}
+
+one_run : (found : List Row) (p q : Plan) → IsRunOf found p → IsRunOf found q → SamePlan p q
+one_run found p q a b = record {
+  command = a.command ∙ sym b.command;
+  ends = a.ends ∙ sym b.ends;
   commits = one_setting (first_of (codes "commits") found) MOST_COMMITS MOST_COMMITS p.commits q.commits
       (omega arith) a.commits b.commits;
   page = one_setting (first_of (codes "page") found) 256 256 p.page q.page (omega arith) a.sizes.1 b.sizes.1;
@@ -118,6 +171,7 @@ one_bulk found p q a b =
     (sym a.args.two ∙ b.args.two) in
     record {
       command = a.command ∙ sym b.command;
+      ends = a.ends ∙ sym b.ends;
       commits = a.commits ∙ sym b.commits;
       page = one_setting (first_of (codes "page") found) 256 256 p.page q.page (omega arith) a.sizes.1 b.sizes.1;
       seed = one_number a.args.seed_word b.args.seed_word 1 LAST_SEED p.seed q.seed
@@ -127,18 +181,72 @@ one_bulk found p q a b =
     }
 
 -- no word is two commands
-two_commands : (command : Option Text) → command ≡ Some (codes "mem") → command ≡ Some (codes "bulk") → ⊥
-two_commands command a b =
-    let same : codes "mem" ≡ codes "bulk" = some_same (codes "mem") (codes "bulk") (sym a ∙ b) in
+pub two_words : (o : Option Text) (v w : Text) → o ≡ Some v → o ≡ Some w → v ≢ w → ⊥
+two_words o v w a b apart = apart (some_same v w (sym a ∙ b))
+
+pub mem_init : codes "mem" ≢ codes "init"
+mem_init same =
+    let bad : 109 ≡ 105 = ap (λ word. get_or word 0 0) same in
+    omega (arith, bad)
+
+pub mem_run : codes "mem" ≢ codes "run"
+mem_run same =
+    let bad : 109 ≡ 114 = ap (λ word. get_or word 0 0) same in
+    omega (arith, bad)
+
+pub mem_bulk : codes "mem" ≢ codes "bulk"
+mem_bulk same =
     let bad : 109 ≡ 98 = ap (λ word. get_or word 0 0) same in
     omega (arith, bad)
 
-one_row : (command : Option Text) (found : List Row) (p q : Plan) → IsRow command found p → IsRow command found q
-    → SamePlan p q
-one_row command found p q (inl a) (inl b) = one_mem found p q a.1 b.1
-one_row command found p q (inl a) (inr b) = absurd (two_commands command a.0 b.0)
-one_row command found p q (inr a) (inl b) = absurd (two_commands command b.0 a.0)
-one_row command found p q (inr a) (inr b) = one_bulk found p q a.1 b.1
+pub init_run : codes "init" ≢ codes "run"
+init_run same =
+    let bad : 105 ≡ 114 = ap (λ word. get_or word 0 0) same in
+    omega (arith, bad)
+
+pub init_bulk : codes "init" ≢ codes "bulk"
+init_bulk same =
+    let bad : 105 ≡ 98 = ap (λ word. get_or word 0 0) same in
+    omega (arith, bad)
+
+pub run_bulk : codes "run" ≢ codes "bulk"
+run_bulk same =
+    let bad : 114 ≡ 98 = ap (λ word. get_or word 0 0) same in
+    omega (arith, bad)
+
+-- a row is that of its command
+pub row_of_mem : (o : Option Text) (found : List Row) (p : Plan) → o ≡ Some (codes "mem") → IsRow o found p → IsMem found p
+row_of_mem o found p e (inl a) = a.1
+row_of_mem o found p e (inr (inl a)) = absurd (two_words o (codes "mem") (codes "init") e a.0 mem_init)
+row_of_mem o found p e (inr (inr (inl a))) = absurd (two_words o (codes "mem") (codes "run") e a.0 mem_run)
+row_of_mem o found p e (inr (inr (inr a))) = absurd (two_words o (codes "mem") (codes "bulk") e a.0 mem_bulk)
+
+pub row_of_init : (o : Option Text) (found : List Row) (p : Plan) → o ≡ Some (codes "init") → IsRow o found p
+    → IsInit found p
+row_of_init o found p e (inl a) = absurd (two_words o (codes "mem") (codes "init") a.0 e mem_init)
+row_of_init o found p e (inr (inl a)) = a.1
+row_of_init o found p e (inr (inr (inl a))) = absurd (two_words o (codes "init") (codes "run") e a.0 init_run)
+row_of_init o found p e (inr (inr (inr a))) = absurd (two_words o (codes "init") (codes "bulk") e a.0 init_bulk)
+
+pub row_of_run : (o : Option Text) (found : List Row) (p : Plan) → o ≡ Some (codes "run") → IsRow o found p
+    → IsRunOf found p
+row_of_run o found p e (inl a) = absurd (two_words o (codes "mem") (codes "run") a.0 e mem_run)
+row_of_run o found p e (inr (inl a)) = absurd (two_words o (codes "init") (codes "run") a.0 e init_run)
+row_of_run o found p e (inr (inr (inl a))) = a.1
+row_of_run o found p e (inr (inr (inr a))) = absurd (two_words o (codes "run") (codes "bulk") e a.0 run_bulk)
+
+pub row_of_bulk : (o : Option Text) (found : List Row) (p : Plan) → o ≡ Some (codes "bulk") → IsRow o found p
+    → IsBulk found p
+row_of_bulk o found p e (inl a) = absurd (two_words o (codes "mem") (codes "bulk") a.0 e mem_bulk)
+row_of_bulk o found p e (inr (inl a)) = absurd (two_words o (codes "init") (codes "bulk") a.0 e init_bulk)
+row_of_bulk o found p e (inr (inr (inl a))) = absurd (two_words o (codes "run") (codes "bulk") a.0 e run_bulk)
+row_of_bulk o found p e (inr (inr (inr a))) = a.1
+
+one_row : (o : Option Text) (found : List Row) (p q : Plan) → IsRow o found p → IsRow o found q → SamePlan p q
+one_row o found p q (inl a) b = one_mem found p q a.1 (row_of_mem o found q a.0 b)
+one_row o found p q (inr (inl a)) b = one_init found p q a.1 (row_of_init o found q a.0 b)
+one_row o found p q (inr (inr (inl a))) b = one_run found p q a.1 (row_of_run o found q a.0 b)
+one_row o found p q (inr (inr (inr a))) b = one_bulk found p q a.1 (row_of_bulk o found q a.0 b)
 
 -- words ask for one thing
 pub one_plan : (words : List Text) (p q : Plan) → AsksFor words p → AsksFor words q → SamePlan p q
@@ -154,12 +262,28 @@ asks_mem words rows p taken is command row = record {
   row = inl (ap (first_of (codes "command")) (sym is) ∙ command, subst (λ found. IsMem found p) is row);
 }
 
+pub asks_init : (words : List Text) (rows : List Row) (p : Plan) → fault_of chemdb_app words ≡ []
+    → rows ≡ matches_of chemdb_app words
+    → first_of (codes "command") rows ≡ Some (codes "init") → IsInit rows p → AsksFor words p
+asks_init words rows p taken is command row = record {
+  taken = taken;
+  row = inr (inl (ap (first_of (codes "command")) (sym is) ∙ command, subst (λ found. IsInit found p) is row));
+}
+
+pub asks_run : (words : List Text) (rows : List Row) (p : Plan) → fault_of chemdb_app words ≡ []
+    → rows ≡ matches_of chemdb_app words
+    → first_of (codes "command") rows ≡ Some (codes "run") → IsRunOf rows p → AsksFor words p
+asks_run words rows p taken is command row = record {
+  taken = taken;
+  row = inr (inr (inl (ap (first_of (codes "command")) (sym is) ∙ command, subst (λ found. IsRunOf found p) is row)));
+}
+
 pub asks_bulk : (words : List Text) (rows : List Row) (p : Plan) → fault_of chemdb_app words ≡ []
     → rows ≡ matches_of chemdb_app words
     → first_of (codes "command") rows ≡ Some (codes "bulk") → IsBulk rows p → AsksFor words p
 asks_bulk words rows p taken is command row = record {
   taken = taken;
-  row = inr (ap (first_of (codes "command")) (sym is) ∙ command, subst (λ found. IsBulk found p) is row);
+  row = inr (inr (inr (ap (first_of (codes "command")) (sym is) ∙ command, subst (λ found. IsBulk found p) is row)));
 }
 
 no_row : (words : List Text) (rows : List Row) → rows ≡ matches_of chemdb_app words
@@ -170,23 +294,62 @@ no_row words rows is none asks =
 pub no_mem : (words : List Text) (rows : List Row) → rows ≡ matches_of chemdb_app words
     → first_of (codes "command") rows ≡ Some (codes "mem")
     → ((p : Plan) → ¬ IsMem rows p) → ¬ Asks words
-no_mem words rows is command none = no_row words rows is (λ p row. elim row [
-  | inl a ↦ none p a.1
-  | inr a ↦ two_commands (first_of (codes "command") rows) command a.0
-])
+no_mem words rows is command none =
+    no_row words rows is (λ p row. none p (row_of_mem (first_of (codes "command") rows) rows p command row))
+
+pub no_init : (words : List Text) (rows : List Row) → rows ≡ matches_of chemdb_app words
+    → first_of (codes "command") rows ≡ Some (codes "init")
+    → ((p : Plan) → ¬ IsInit rows p) → ¬ Asks words
+no_init words rows is command none =
+    no_row words rows is (λ p row. none p (row_of_init (first_of (codes "command") rows) rows p command row))
+
+pub no_run : (words : List Text) (rows : List Row) → rows ≡ matches_of chemdb_app words
+    → first_of (codes "command") rows ≡ Some (codes "run")
+    → ((p : Plan) → ¬ IsRunOf rows p) → ¬ Asks words
+no_run words rows is command none =
+    no_row words rows is (λ p row. none p (row_of_run (first_of (codes "command") rows) rows p command row))
 
 pub no_bulk : (words : List Text) (rows : List Row) → rows ≡ matches_of chemdb_app words
     → first_of (codes "command") rows ≡ Some (codes "bulk")
     → ((p : Plan) → ¬ IsBulk rows p) → ¬ Asks words
-no_bulk words rows is command none = no_row words rows is (λ p row. elim row [
-  | inl a ↦ two_commands (first_of (codes "command") rows) a.0 command
-  | inr a ↦ none p a.1
-])
+no_bulk words rows is command none =
+    no_row words rows is (λ p row. none p (row_of_bulk (first_of (codes "command") rows) rows p command row))
 
 pub no_command : (words : List Text) (rows : List Row) → rows ≡ matches_of chemdb_app words
-    → first_of (codes "command") rows ≢ Some (codes "mem") → first_of (codes "command") rows ≢ Some (codes "bulk")
+    → first_of (codes "command") rows ≢ Some (codes "mem") → first_of (codes "command") rows ≢ Some (codes "init")
+    → first_of (codes "command") rows ≢ Some (codes "run") → first_of (codes "command") rows ≢ Some (codes "bulk")
     → ¬ Asks words
-no_command words rows is mem bulk = no_row words rows is (λ p row. elim row [
+no_command words rows is mem init run bulk = no_row words rows is (λ p row. elim row [
   | inl a ↦ mem a.0
-  | inr a ↦ bulk a.0
+  | inr (inl a) ↦ init a.0
+  | inr (inr (inl a)) ↦ run a.0
+  | inr (inr (inr a)) ↦ bulk a.0
 ])
+
+-- a plan that makes a store has no end, and every other has one
+pub ends_of_plan : (words : List Text) (p : Plan) → AsksFor words p → p.command ≢ Init → p.ends ≡ 1
+ends_of_plan words p a serves = of_row (first_of (codes "command") (matches_of chemdb_app words)) (matches_of chemdb_app words) a.row
+  where
+    of_row : (o : Option Text) (found : List Row) → IsRow o found p → p.ends ≡ 1
+    of_row o found (inl r) = r.1.ends
+    of_row o found (inr (inl r)) = absurd (serves r.1.command)
+    of_row o found (inr (inr (inl r))) = r.1.ends
+    of_row o found (inr (inr (inr r))) = r.1.ends
+
+pub no_ends_of_plan : (words : List Text) (p : Plan) → AsksFor words p → p.command ≡ Init → p.ends ≡ 0
+no_ends_of_plan words p a makes = of_row (first_of (codes "command") (matches_of chemdb_app words)) (matches_of chemdb_app words) a.row
+  where
+    of_row : (o : Option Text) (found : List Row) → IsRow o found p → p.ends ≡ 0
+    of_row o found (inl r) = absurd (apart (sym r.1.command ∙ makes))
+      where
+        apart : Mem ≡ Init → ⊥
+        apart e = cc e
+    of_row o found (inr (inl r)) = r.1.ends
+    of_row o found (inr (inr (inl r))) = absurd (apart (sym r.1.command ∙ makes))
+      where
+        apart : Run ≡ Init → ⊥
+        apart e = cc e
+    of_row o found (inr (inr (inr r))) = absurd (apart (sym r.1.command ∙ makes))
+      where
+        apart : Bulk ≡ Init → ⊥
+        apart e = cc e

@@ -1,5 +1,5 @@
 -- Facts of each end, from what serving it leaves.
-use Rattle.std.proofs.Common.{◌≡◌, ℕ, Option, List, [], ◌∷◌, length, map, refl, sym, ap, ◌∙◌, subst, inl, inr, arith}
+use Rattle.std.proofs.Common.{◌≡◌, ◌≤◌, ℕ, Option, List, [], ◌∷◌, length, map, refl, sym, ap, ◌∙◌, subst, inl, inr, arith}
 use Rattle.std.specs.Prelude.{All}
 use Rattle.std.specs.List.{AllZip}
 use Rattle.std.proofs.lemmas.List.Elements.{All-nil, All-cons}
@@ -7,11 +7,12 @@ use Rattle.io_edge.specs.Faults.{Rose}
 use Rattle.session_run.specs.Served.{TakesExactly}
 use Rattle.chem_shell.specs.declared.request.Plan.{Plan}
 use Rattle.chem_shell.specs.declared.request.Verb.{Verb}
-use Rattle.chem_shell.specs.declared.request.Verb.TheVariants.{Mem, Bulk}
+use Rattle.chem_shell.specs.declared.request.Verb.TheVariants.{Mem, Init, Run, Bulk}
 use Rattle.chem_shell.specs.declared.top.End.{End}
 use Rattle.chem_shell.specs.declared.top.TheConstants.{SOURCE_FAULT, SINK_FAULT, INPUT_TOO_LONG, INPUT_LIMIT}
-use Rattle.chem_shell.specs.Status.{first_fault, IsEndStatus, IsSinkStatus}
-use Rattle.chem_shell.specs.Ends.{with_status, Serves, ServesBulk, ServesMem}
+use Rattle.chem_shell.specs.Status.{first_fault, IsCreationStatus, IsSinkStatus}
+use Rattle.chem_shell.specs.Ends.{with_status, ServesBulk, ServesMem}
+use Rattle.chem_shell.specs.Loading.{Serves, ServesRun}
 
 pub zip_weaker : {A B : Type 0} (R Q : A → B → Type 0) → ((x : A) (y : B) → R x y → Q x y) → (xs : List A) (ys : List B)
     → AllZip R xs ys → AllZip Q xs ys
@@ -60,20 +61,7 @@ fault_of_all_alike [] new n e f = absurd (omega arith)
 fault_of_all_alike (end ∷ []) new n e f = sym (ap (λ ends. first_fault (map (λ x. x.status) ends)) f ∙ first_of_one n)
 fault_of_all_alike (end ∷ other ∷ rest) new n e f = absurd (omega arith)
 
--- no end has the status of words that ask for nothing
-pub never_usage : (n : ℕ) → IsEndStatus n → n ≡ 2 → ⊥
-never_usage n (inl a) e = omega arith
-never_usage n (inr (inl a)) e = omega arith
-never_usage n (inr (inr (inl a))) e = omega arith
-never_usage n (inr (inr (inr (inl a)))) e = omega arith
-never_usage n (inr (inr (inr (inr a)))) e = omega arith
-
 -- what serving leaves of an end, clause by clause
-end_of_sink : (n : ℕ) → IsSinkStatus n → IsEndStatus n
-end_of_sink n (inl a) = inl a
-end_of_sink n (inr (inl a)) = inr (inr (inl a))
-end_of_sink n (inr (inr a)) = inr (inr (inr (inl a)))
-
 no_source_fault : (n : ℕ) → IsSinkStatus n → n ≡ SOURCE_FAULT → ⊥
 no_source_fault n (inl a) e = omega arith
 no_source_fault n (inr (inl a)) e = omega arith
@@ -84,36 +72,57 @@ no_long_input n (inl a) e = omega arith
 no_long_input n (inr (inl a)) e = omega arith
 no_long_input n (inr (inr a)) e = omega arith
 
-module _ {S K : Type 0} (left : S → Option (List ℕ)) (source_faults : S → ℕ) (written : K → Option (List ℕ))
-    (sink_faults : K → ℕ) where
-  pub status_served : (verb : Verb) (plan : Plan) (old new : End S K)
-      → Serves verb plan left source_faults written sink_faults old new → IsEndStatus new.status
-  status_served Mem plan old new s = s.status
-  status_served Bulk plan old new s = end_of_sink new.status s.status
+-- no creation has the status of words that ask for nothing
+pub never_created_usage : (n : ℕ) → IsCreationStatus n → n ≡ 2 → ⊥
+never_created_usage n (inl a) e = omega arith
+never_created_usage n (inr (inl a)) e = omega arith
+never_created_usage n (inr (inr (inl a))) e = omega arith
+never_created_usage n (inr (inr (inr a))) e = omega arith
 
-  pub source_fault_served : (verb : Verb) (plan : Plan) (old new : End S K)
-      → Serves verb plan left source_faults written sink_faults old new
+module _ {D S K : Type 0} (content : D → Option (List ℕ)) (images : D → List ℕ → Type 0) (clock : D → ℕ)
+    (between : D → ℕ → ℕ → List ℕ → Type 0) (faults : D → ℕ) (bound : D → Option ℕ)
+    (left : S → Option (List ℕ)) (source_faults : S → ℕ) (written : K → Option (List ℕ))
+    (sink_faults : K → ℕ) (a a' : D) where
+  abbrev Left : Verb → Plan → End S K → End S K → Type 0
+  Left verb plan old new =
+      Serves verb content images clock between faults bound plan left source_faults written sink_faults a a' old new
+
+  pub source_fault_served : (verb : Verb) (plan : Plan) (old new : End S K) → Left verb plan old new
       → new.status ≡ SOURCE_FAULT → Rose (source_faults old.source) (source_faults new.source)
-  source_fault_served Mem plan old new s = s.source_fault
-  source_fault_served Bulk plan old new s = λ e. absurd (no_source_fault new.status s.status e)
+  source_fault_served Mem plan old new s = s.1.source_fault
+  source_fault_served Bulk plan old new s = λ e. absurd (no_source_fault new.status s.1.status e)
+  source_fault_served Run plan old new s = s.source_fault
+  source_fault_served Init plan old new s = absurd s
 
-  pub sink_fault_served : (verb : Verb) (plan : Plan) (old new : End S K)
-      → Serves verb plan left source_faults written sink_faults old new
+  pub sink_fault_served : (verb : Verb) (plan : Plan) (old new : End S K) → Left verb plan old new
       → new.status ≡ SINK_FAULT → Rose (sink_faults old.sink) (sink_faults new.sink)
-  sink_fault_served Mem plan old new s = s.sink_fault
-  sink_fault_served Bulk plan old new s = s.sink_fault
+  sink_fault_served Mem plan old new s = s.1.sink_fault
+  sink_fault_served Bulk plan old new s = s.1.sink_fault
+  sink_fault_served Run plan old new s = s.sink_fault
+  sink_fault_served Init plan old new s = absurd s
 
-  pub too_long_served : (verb : Verb) (plan : Plan) (old new : End S K)
-      → Serves verb plan left source_faults written sink_faults old new
+  pub too_long_served : (verb : Verb) (plan : Plan) (old new : End S K) → Left verb plan old new
       → new.status ≡ INPUT_TOO_LONG → TakesExactly (left old.source) (left new.source) INPUT_LIMIT
-  too_long_served Mem plan old new s = s.input_too_long
-  too_long_served Bulk plan old new s = λ e. absurd (no_long_input new.status s.status e)
+  too_long_served Mem plan old new s = s.1.input_too_long
+  too_long_served Bulk plan old new s = λ e. absurd (no_long_input new.status s.1.status e)
+  too_long_served Run plan old new s = s.input_too_long
+  too_long_served Init plan old new s = absurd s
 
-  pub mem_served : (verb : Verb) (plan : Plan) (old new : End S K) → verb ≡ Mem
-      → Serves verb plan left source_faults written sink_faults old new
-      → ServesMem plan left source_faults written sink_faults old new
-  mem_served verb plan old new e s = subst (λ v. Serves v plan left source_faults written sink_faults old new) e s
+  pub mem_served : (verb : Verb) (plan : Plan) (old new : End S K) → verb ≡ Mem → Left verb plan old new
+      → (a' ≡ a) × ServesMem plan left source_faults written sink_faults old new
+  mem_served verb plan old new e s = subst (λ v. Left v plan old new) e s
 
-  pub bulk_served : (verb : Verb) (plan : Plan) (old new : End S K) → verb ≡ Bulk
-      → Serves verb plan left source_faults written sink_faults old new → ServesBulk plan written sink_faults old new
-  bulk_served verb plan old new e s = subst (λ v. Serves v plan left source_faults written sink_faults old new) e s
+  pub bulk_served : (verb : Verb) (plan : Plan) (old new : End S K) → verb ≡ Bulk → Left verb plan old new
+      → (a' ≡ a) × ServesBulk plan written sink_faults old new
+  bulk_served verb plan old new e s = subst (λ v. Left v plan old new) e s
+
+  pub run_served : (verb : Verb) (plan : Plan) (old new : End S K) → verb ≡ Run → Left verb plan old new
+      → ServesRun content images clock between faults bound plan left source_faults written sink_faults a a' old new
+  run_served verb plan old new e s = subst (λ v. Left v plan old new) e s
+
+-- a fact of every one of some ends
+pub of_one : {A : Type 0} (R : A → A → Type 0) (P : Type 0) → ((x y : A) → R x y → P) → (xs ys : List A)
+    → 1 ≤ length xs → AllZip R xs ys → P
+of_one R P f [] ys few h = absurd (omega (arith, few))
+of_one R P f (x ∷ xs) [] few h = absurd h
+of_one R P f (x ∷ xs) (y ∷ ys) few h = f x y h.0

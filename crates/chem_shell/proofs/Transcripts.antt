@@ -61,7 +61,7 @@ nothing_begins page lines = (
 )
 
 -- a session that is not worn put a prefix
-served_begins : (ended : EndStatus) (page : ℕ) (lines : List TextLine) (calls : Calls) (text : List ℕ) → ended ≢ Worn
+pub served_begins : (ended : EndStatus) (page : ℕ) (lines : List TextLine) (calls : Calls) (text : List ℕ) → ended ≢ Worn
     → session.IsServed ended page lines calls text → script.IsTranscriptPrefix page lines calls text
 served_begins Done page lines calls text fit served = whole_begins page lines calls text served
 served_begins Worn page lines calls text fit served = absurd (fit refl)
@@ -71,7 +71,7 @@ served_begins NoMemory page lines calls text fit served = served
 served_begins InputTooLong page lines calls text fit served = answered_begins page lines calls text served
 
 -- the same of what is true of them
-true_begins : (ended : EndStatus) (h : List Change) (page : ℕ) (lines : List TextLine) (calls : Calls) (text : List ℕ)
+pub true_begins : (ended : EndStatus) (h : List Change) (page : ℕ) (lines : List TextLine) (calls : Calls) (text : List ℕ)
     → ended ≢ Worn → IsTrueService ended h page lines calls text → IsTrueBeginning h page lines calls text
 true_begins Done h page lines calls text fit t = record {
   exchanges = t.exchanges;
@@ -115,7 +115,7 @@ nothing_is_true h page lines = record {
 none_of_run : (commits : ℕ) → AreOfRun commits []
 none_of_run commits = record { steps = []; last = empty commits; run = refl; calm = tt; all = refl }
 
-writes_as : (before after : Option (List ℕ)) (P Q : List ℕ → Type 0) → ((text : List ℕ) → P text → Q text)
+pub writes_as : (before after : Option (List ℕ)) (P Q : List ℕ → Type 0) → ((text : List ℕ) → P text → Q text)
     → Writes before after P → Writes before after Q
 writes_as None after P Q f h = tt
 writes_as (Some old) after P Q f h = (h.0, h.1, f h.0 h.2)

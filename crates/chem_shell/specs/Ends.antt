@@ -4,8 +4,6 @@ use Rattle.std.specs.Prelude.{◌≡◌, ℕ, Option, List}
 use Rattle.io_edge.specs.Faults.{Rose}
 use Rattle.session_run.specs.Served.{TakesExactly, Writes}
 use Rattle.chem_shell.specs.declared.request.Plan.{Plan}
-use Rattle.chem_shell.specs.declared.request.Verb.{Verb}
-use Rattle.chem_shell.specs.declared.request.Verb.TheVariants.{Mem, Bulk}
 use Rattle.chem_shell.specs.declared.top.End.{End}
 use Rattle.chem_shell.specs.declared.top.TheConstants.{DONE, SOURCE_FAULT, SINK_FAULT, NO_MEMORY, INPUT_TOO_LONG, INPUT_LIMIT}
 use Rattle.chem_shell.specs.Served.{WritesPrefix, WritesAll}
@@ -35,10 +33,3 @@ pub record ServesBulk {S K : Type 0} (plan : Plan)
   pub prefix : new.status ≡ SINK_FAULT → Writes (written old.sink) (written new.sink) (IsSummaryPrefix plan)
   pub nothing : new.status ≡ NO_MEMORY → WritesNothing (written old.sink) (written new.sink)
   pub sink_fault : new.status ≡ SINK_FAULT → Rose (sink_faults old.sink) (sink_faults new.sink)
-
--- what the command of a plan leaves of an end
-abbrev pub Serves : {S K : Type 0} → Verb → Plan → (S → Option (List ℕ)) → (S → ℕ) → (K → Option (List ℕ)) → (K → ℕ)
-    → End S K → End S K → Type 0
-Serves Mem plan left source_faults written sink_faults old new =
-    ServesMem plan left source_faults written sink_faults old new
-Serves Bulk plan left source_faults written sink_faults old new = ServesBulk plan written sink_faults old new

@@ -5,3 +5,5 @@ pub mod Summed
 pub mod Status
 pub mod Serving
 pub mod Ends
+pub mod OnDisk
+pub mod Loading

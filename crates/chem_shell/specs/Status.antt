@@ -2,7 +2,7 @@
 use Rattle.std.specs.Prelude.{◌≡◌, ◌⊎◌, ℕ, List, [], ◌∷◌, if◌then◌else◌, ◌==◌}
 use Rattle.session_run.specs.declared.settings.EndStatus.{EndStatus}
 use Rattle.session_run.specs.declared.settings.EndStatus.TheVariants.{Done, SourceFault, SinkFault, NoMemory, InputTooLong, Worn}
-use Rattle.chem_shell.specs.declared.top.TheConstants.{DONE, SOURCE_FAULT, SINK_FAULT, NO_MEMORY, INPUT_TOO_LONG}
+use Rattle.chem_shell.specs.declared.top.TheConstants.{DONE, SOURCE_FAULT, SINK_FAULT, DISK_FAULT, NOT_A_STORE, DAMAGED, NO_MEMORY, INPUT_TOO_LONG, NOT_EMPTY}
 
 -- done, a fault of the source or of the sink, want of memory, an input that is too long
 abbrev pub IsEndStatus : ℕ → Type 0
@@ -14,12 +14,22 @@ IsEndStatus status =
 abbrev pub IsSinkStatus : ℕ → Type 0
 IsSinkStatus status = (status ≡ DONE) ⊎ ((status ≡ SINK_FAULT) ⊎ (status ≡ NO_MEMORY))
 
+-- a creation: done, a fault of the disk, want of memory, a disk that is not empty
+abbrev pub IsCreationStatus : ℕ → Type 0
+IsCreationStatus status =
+    (status ≡ DONE) ⊎ ((status ≡ DISK_FAULT) ⊎ ((status ≡ NO_MEMORY) ⊎ (status ≡ NOT_EMPTY)))
+
+-- a loading that is refused: a fault of the disk, no store, a damaged one, want of memory
+abbrev pub IsLoadStatus : ℕ → Type 0
+IsLoadStatus status =
+    (status ≡ DISK_FAULT) ⊎ ((status ≡ NOT_A_STORE) ⊎ ((status ≡ DAMAGED) ⊎ (status ≡ NO_MEMORY)))
+
 -- the first status that is not `DONE`, if there is one
 abbrev pub first_fault : List ℕ → ℕ
 first_fault [] = DONE
 first_fault (status ∷ more) = if status == DONE then first_fault more else status
 
--- the status of an end whose session ended so; a store in memory is never worn
+-- the status of an end whose session ended so; a store is never worn
 abbrev pub IsStatusOf : EndStatus → ℕ → Type 0
 IsStatusOf Done status = status ≡ DONE
 IsStatusOf SourceFault status = status ≡ SOURCE_FAULT

@@ -1,5 +1,5 @@
 -- For callers: what the words of the command line ask for.
-use Rattle.std.specs.Prelude.{◌≡◌, ◌⊎◌, ◌≤◌, ℕ, List, [], ◌∷◌, map, option_map, Option, Some, None, true, codes, decimal}
+use Rattle.std.specs.Prelude.{◌≡◌, ◌≢◌, ◌⊎◌, ◌≤◌, ℕ, List, [], ◌∷◌, map, option_map, Option, Some, None, true, codes, decimal}
 use Rattle.std.specs.Borrow.{Bor}
 use Rattle.clap.specs.Lexer.{usize_max}
 use Rattle.clap.specs.Simple.{new_shape}
@@ -7,7 +7,7 @@ use Rattle.clap.specs.Words.{App, Row, Rule, Text, all_of, fault_of, first_of, m
 use Rattle.store_core.specs.declared.store.TheConstants.{MOST_COMMITS}
 use Rattle.chem_shell.specs.declared.request.Plan.{Plan}
 use Rattle.chem_shell.specs.declared.request.Verb.{Verb}
-use Rattle.chem_shell.specs.declared.request.Verb.TheVariants.{Mem, Bulk}
+use Rattle.chem_shell.specs.declared.request.Verb.TheVariants.{Mem, Init, Run, Bulk}
 use Rattle.chem_shell.specs.declared.words.TheConstants.{LAST_SEED, MOST_STRUCTURES}
 
 -- the bytes of words
@@ -71,6 +71,43 @@ pub record IsMem (found : List Row) (plan : Plan) : Type 0 where
   pub seed : plan.seed ≡ 0
   pub count : plan.count ≡ 0
 
+-- the args are one word that is not empty, the file
+pub record IsFile (args : Option (List Text)) (file : Text) : Type 0 where
+  pub one : args ≡ Some (file ∷ [])
+  pub some : file ≢ []
+
+-- the plan names the file that the args are
+pub record HasFile (args : Option (List Text)) (plan : Plan) : Type 0 where
+  pub word : Text
+  pub is : IsFile args word
+  pub file : option_map (λ w. w.now) plan.file ≡ Some word
+
+-- `init`: a file, no options, no end
+pub record IsInit (found : List Row) (plan : Plan) : Type 0 where
+  pub args : HasFile (all_of (codes "args") found) plan
+  pub no_workers : first_of (codes "workers") found ≡ None
+  pub no_page : first_of (codes "page") found ≡ None
+  pub no_commits : first_of (codes "commits") found ≡ None
+  pub command : plan.command ≡ Init
+  pub ends : plan.ends ≡ 0
+  pub workers : plan.workers ≡ 1
+  pub page : plan.page ≡ 256
+  pub commits : plan.commits ≡ MOST_COMMITS
+  pub scripts : plan.scripts.items ≡ []
+  pub seed : plan.seed ≡ 0
+  pub count : plan.count ≡ 0
+
+-- `run`: a file, 1 to 16,777,215 commits, one end
+pub record IsRunOf (found : List Row) (plan : Plan) : Type 0 where
+  pub args : HasFile (all_of (codes "args") found) plan
+  pub sizes : AreSizes found plan.workers plan.page
+  pub commits : IsSetting (first_of (codes "commits") found) MOST_COMMITS MOST_COMMITS plan.commits
+  pub command : plan.command ≡ Run
+  pub ends : plan.ends ≡ 1
+  pub scripts : plan.scripts.items ≡ []
+  pub seed : plan.seed ≡ 0
+  pub count : plan.count ≡ 0
+
 -- the args are a seed from 1 on and a count of structures
 pub record AreSeedAndCount (args : Option (List Text)) (seed count : ℕ) : Type 0 where
   pub seed_word : Text
@@ -93,7 +130,10 @@ pub record IsBulk (found : List Row) (plan : Plan) : Type 0 where
 -- the table of commands
 abbrev pub IsRow : Option Text → List Row → Plan → Type 0
 IsRow command found plan =
-    ((command ≡ Some (codes "mem")) × IsMem found plan) ⊎ ((command ≡ Some (codes "bulk")) × IsBulk found plan)
+    ((command ≡ Some (codes "mem")) × IsMem found plan)
+    ⊎ (((command ≡ Some (codes "init")) × IsInit found plan)
+    ⊎ (((command ≡ Some (codes "run")) × IsRunOf found plan)
+    ⊎ ((command ≡ Some (codes "bulk")) × IsBulk found plan)))
 
 -- `clap` finds no fault in the words, and their match is a row of the table that has this plan
 pub record AsksFor (words : List Text) (plan : Plan) : Type 0 where

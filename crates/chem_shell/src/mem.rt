@@ -4,11 +4,11 @@ ghost use Rattle.io_edge.specs.Faults.{Rose};
 ghost use Rattle.session_run.specs.Served.{TakesExactly, Writes};
 ghost use Rattle.chem_shell.specs.Ends.{ServesMem};
 ghost use Rattle.chem_shell.specs.Serving.{IsServed};
-ghost use Rattle.chem_shell.specs.Status.{IsStatusOf};
 ghost use Rattle.chem_shell.specs.Words.{IsWithinLimits};
 
 use crate::request::Plan;
-use crate::top::{DONE, End, INPUT_LIMIT, INPUT_TOO_LONG, NO_MEMORY, SINK_FAULT, SOURCE_FAULT};
+use crate::serving::end_status;
+use crate::top::{End, INPUT_LIMIT};
 use io_edge::{Sink, Source};
 use par_search::NoMeter;
 use session_run::{EndStatus, Settings, services_are_true, session};
@@ -27,7 +27,7 @@ pub fn serve_mem<R: Threads + Sync, S: Source + Drop, K: Sink + Drop>(
     ensures { ServesMem plan.now S.left S.faults K.written K.faults end.old end.new }
 {
     let ended = run_script(rt, alloc, plan, &mut end.source, &mut end.sink);
-    end.status = status(ended);
+    end.status = end_status(ended);
 }
 
 /// A session over a store in memory, which is made here.
@@ -55,19 +55,4 @@ pub fn run_script<R: Threads + Sync, I: Source, O: Sink>(
         input_limit: INPUT_LIMIT,
     };
     session(rt, alloc, &mut store, source, sink, &settings, &NoMeter)
-}
-
-// The status of an end whose session ended so. A store in memory is never worn.
-fn status(ended: EndStatus) -> u8
-    requires { ended ≢ EndStatus.Worn }
-    ensures { IsStatusOf ended result }
-{
-    match ended {
-        EndStatus::Done => DONE,
-        EndStatus::SourceFault => SOURCE_FAULT,
-        EndStatus::SinkFault => SINK_FAULT,
-        EndStatus::NoMemory => NO_MEMORY,
-        EndStatus::InputTooLong => INPUT_TOO_LONG,
-        EndStatus::Worn => unreachable!(),
-    }
 }

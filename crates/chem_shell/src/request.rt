@@ -7,6 +7,10 @@ use thiserror::Error;
 pub enum Verb {
     /// One session over a store in memory.
     Mem,
+    /// An empty store is made on disk `a`. No end is served.
+    Init,
+    /// One session over the store of disk `a`.
+    Run,
     /// A generated script on a store in memory, and the summary of its transcript.
     Bulk,
 }

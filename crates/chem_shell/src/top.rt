@@ -1,22 +1,32 @@
 //! The top call: the words, the ends and the disks in, and what became of them out.
-ghost use Rattle.std.specs.Prelude.{◌≡◌, ◌⊎◌, All, length, map};
+ghost use Rattle.std.specs.Prelude.{◌≡◌, ◌≢◌, ◌≤◌, ◌⊎◌, All, [], length, map};
 ghost use Rattle.std.specs.List.{AllZip};
+ghost use Rattle.disk_edge.specs.Disk as disk;
+ghost use Rattle.disk_edge.specs.Disk.{IfTold};
 ghost use Rattle.io_edge.specs.Faults.{Rose};
+ghost use Rattle.journal_core.specs.Records.{IsNoJournal};
 ghost use Rattle.session_run.specs.Served.{TakesExactly, Writes};
-ghost use Rattle.chem_shell.specs.Ends.{with_status, Serves};
+ghost use Rattle.store_disk.specs.Loads.{Damages};
+ghost use Rattle.chem_shell.specs.Ends.{with_status};
+ghost use Rattle.chem_shell.specs.Loading.{HasCauses, Serves};
+ghost use Rattle.chem_shell.specs.OnDisk.{IsEmptyStore, IsRefused, RunsOn, Stays};
 ghost use Rattle.chem_shell.specs.Served.{WritesPrefix, WritesAll};
-ghost use Rattle.chem_shell.specs.Status.{IsEndStatus, IsSinkStatus, first_fault};
+ghost use Rattle.chem_shell.specs.Status.{IsCreationStatus, IsEndStatus, IsSinkStatus, first_fault};
 ghost use Rattle.chem_shell.specs.Summed.{IsSummary, IsSummaryPrefix, WritesNothing};
+ghost use Rattle.chem_shell.specs.declared.request.Plan.{Plan as ThePlan};
 ghost use Rattle.chem_shell.specs.Words.{texts, Asks, AsksFor, IsWithinLimits, OnPlan};
 
 use crate::bulk::serve_bulk;
+use crate::disk::{create, serve_run};
 use crate::mem::serve_mem;
 use crate::request::{Plan, PlanFault, Verb};
 use crate::words::plan;
+use disk_edge::Disk;
 use io_edge::{Sink, Source};
 use std::alloc::Global;
 use std::sync::Wait;
 use std::thread::Threads;
+use store_disk::Disks;
 
 /// The most bytes that are taken of an input.
 pub const INPUT_LIMIT: u64 = 4_294_967_296;
@@ -33,11 +43,23 @@ pub const SOURCE_FAULT: u8 = 3;
 /// A sink failed.
 pub const SINK_FAULT: u8 = 4;
 
+/// Disk `a` failed as a store was made there or loaded.
+pub const DISK_FAULT: u8 = 5;
+
+/// Disk `a` has no store.
+pub const NOT_A_STORE: u8 = 6;
+
+/// The store of disk `a` is damaged.
+pub const DAMAGED: u8 = 7;
+
 /// Memory ran out.
 pub const NO_MEMORY: u8 = 8;
 
 /// As many bytes were taken of an input as may be, and it goes on.
 pub const INPUT_TOO_LONG: u8 = 9;
+
+/// Disk `a` has bytes already, and no store was made there.
+pub const NOT_EMPTY: u8 = 10;
 
 /// One end that is served: where its script comes from, where the replies go, and how it ended.
 #[derive(Drop)]
@@ -60,28 +82,29 @@ pub struct Outcome<D, S, K> {
 }
 
 /// The program over the objects that it is handed: what the words ask for is done with the ends and the disks, and the
-/// statuses say how it ended. No disk is used yet. `mem` serves one end by a session over a store in memory; `bulk` puts a
-/// summary to one.
+/// statuses say how it ended. `mem` serves one end by a session over a store in memory, and `run` over the store of disk
+/// `a`; `bulk` puts a summary to one; `init` makes a store on disk `a`, and has no end. Disk `b` is not used yet.
 pub fn chemdb<
     R: Threads + Wait + Sync,
-    D: Send + Drop,
+    D: Disk + Send + Drop,
     S: Source + Send + Drop,
     K: Sink + Send + Drop,
->(rt: &R, alloc: Global, words: &[&str], a: D, b: D, mut ends: Vec<End<S, K>>) -> Outcome<D, S, K>
-    requires one_end { Asks (texts words.now) → length ends.items ≡ 1 }
+>(rt: &R, alloc: Global, words: &[&str], a: D, b: D, ends: Vec<End<S, K>>) -> Outcome<D, S, K>
+    requires ends { Asks (texts words.now)
+        → (plan : ThePlan) × AsksFor (texts words.now) plan × (length ends.items ≡ plan.ends) }
 
     // The words ask for nothing, and then nothing is taken or put.
     ensures usage { result.status ≡ USAGE → ¬ Asks (texts words.now) }
     ensures no_plan { ¬ Asks (texts words.now) → (result.status ≡ USAGE) ⊎ (result.status ≡ NO_MEMORY) }
     ensures no_plan_takes_nothing { ¬ Asks (texts words.now)
         → result.ends.items ≡ map (with_status result.status) ends.items }
+    ensures no_plan_disk { ¬ Asks (texts words.now) → result.a ≡ a }
 
-    ensures disk_a { result.a ≡ a }
     ensures disk_b { result.b ≡ b }
-    ensures place { result.place ≡ 0 }
 
-    ensures statuses { Asks (texts words.now) → All (λ end. IsEndStatus end.status) result.ends.items }
-    ensures overall { Asks (texts words.now) → result.status ≡ first_fault (map (λ end. end.status) result.ends.items) }
+    // Where an end is served, the overall status is the first that is not 0.
+    ensures overall { Asks (texts words.now) → 1 ≤ length ends.items
+        → result.status ≡ first_fault (map (λ end. end.status) result.ends.items) }
 
     // A fault comes only where the end's object failed in this call, and only an input of the limit's length is too
     // long.
@@ -93,8 +116,18 @@ pub fn chemdb<
         new.status ≡ INPUT_TOO_LONG → TakesExactly (S.left old.source) (S.left new.source) INPUT_LIMIT)
         ends.items result.ends.items }
 
+    // A fault of the disk comes only where it failed in this call. It has no store where its bytes have no header, and
+    // the place of damage is that of its bytes.
+    ensures disk_fault { result.status ≡ DISK_FAULT → disk.Rose (D.faults a) (D.faults result.a) }
+    ensures not_a_store { result.status ≡ NOT_A_STORE → IfTold (D.content a) IsNoJournal }
+    ensures damaged { result.status ≡ DAMAGED → IfTold (D.content a) (Damages result.place) }
+    ensures place { result.status ≢ DAMAGED → result.place ≡ 0 }
+
     // `mem`: what was written is a prefix of a transcript of the source's bytes, by pages of the plan, in a run of a
     // store in memory that begins empty and may have the plan's commits; all of one where the status is 0.
+    ensures mem_statuses { OnPlan (texts words.now) Verb.Mem (λ _.
+        All (λ end. IsEndStatus end.status) result.ends.items) }
+    ensures mem_disk { OnPlan (texts words.now) Verb.Mem (λ _. result.a ≡ a) }
     ensures mem_prefix { OnPlan (texts words.now) Verb.Mem (λ plan. AllZip (λ old new.
         WritesPrefix plan.commits plan.page (S.left old.source) (K.written old.sink) (K.written new.sink))
         ends.items result.ends.items) }
@@ -102,10 +135,31 @@ pub fn chemdb<
         → WritesAll plan.commits plan.page (S.left old.source) (K.written old.sink) (K.written new.sink))
         ends.items result.ends.items) }
 
-    // `bulk`: nothing is taken. What was written is the summary of a transcript of the generated script, in such a
-    // run; a prefix of one where the sink failed; nothing where memory ran out. No other status comes.
+    // `init`: where it is done, the disk was empty, and has the empty store. Where the disk has bytes or memory ran out,
+    // the disk is as before.
+    ensures init_statuses { OnPlan (texts words.now) Verb.Init (λ _. IsCreationStatus result.status) }
+    ensures init_ends { OnPlan (texts words.now) Verb.Init (λ _. result.ends.items ≡ []) }
+    ensures init_done { OnPlan (texts words.now) Verb.Init (λ _. result.status ≡ DONE
+        → IfTold (D.content a) (λ l. (l ≡ []) × IsEmptyStore (D.content result.a) (D.images result.a))) }
+    ensures init_not_empty { OnPlan (texts words.now) Verb.Init (λ _. result.status ≡ NOT_EMPTY
+        → IfTold (D.content a) (λ l. 1 ≤ length l)) }
+    ensures init_stays { OnPlan (texts words.now) Verb.Init (λ _.
+        (result.status ≡ NOT_EMPTY) ⊎ (result.status ≡ NO_MEMORY)
+        → Stays (D.content a) (D.content result.a) (D.images a) (D.images result.a)) }
+
+    // `run`: where the store was not loaded, nothing was taken or put, and the disk was only read. Else what was written
+    // is a prefix of a transcript of the source's bytes in a run that begins with the commits of the disk, all of one
+    // where the status is 0; and afterwards the disk has the run's history.
+    ensures run { OnPlan (texts words.now) Verb.Run (λ plan. AllZip (λ old new.
+        IsRefused D.content D.images D.clock D.images_between D.faults D.bound a result.a old new
+        ⊎ RunsOn D.content D.images D.faults S.left K.written plan a result.a old new)
+        ends.items result.ends.items) }
+
+    // `bulk`: nothing is taken. What was written is the summary of a transcript of the generated script, in such a run
+    // as for `mem`; a prefix of one where the sink failed; nothing where memory ran out. No other status comes.
     ensures bulk_statuses { OnPlan (texts words.now) Verb.Bulk (λ _.
         All (λ end. IsSinkStatus end.status) result.ends.items) }
+    ensures bulk_disk { OnPlan (texts words.now) Verb.Bulk (λ _. result.a ≡ a) }
     ensures bulk_source { OnPlan (texts words.now) Verb.Bulk (λ _.
         AllZip (λ old new. new.source ≡ old.source) ends.items result.ends.items) }
     ensures bulk_all { OnPlan (texts words.now) Verb.Bulk (λ plan. AllZip (λ old new. new.status ≡ DONE
@@ -120,7 +174,26 @@ pub fn chemdb<
         Err(PlanFault::NoMemory) => return unserved(NO_MEMORY, a, b, ends),
         Ok(plan) => plan,
     };
-    let status = serve_one(rt, alloc, &plan, &mut ends);
+    if plan.command == Verb::Init {
+        created(a, b, ends)
+    } else {
+        serve_one(rt, alloc, &plan, Disks { a, b }, ends)
+    }
+}
+
+// `init`: makes an empty store on disk `a`.
+fn created<D: Disk + Drop, S: Drop, K: Drop>(a: D, b: D, ends: Vec<End<S, K>>) -> Outcome<D, S, K>
+    ensures status { IsCreationStatus result.status }
+    ensures done { result.status ≡ DONE
+        → IfTold (D.content a) (λ l. (l ≡ []) × IsEmptyStore (D.content result.a) (D.images result.a)) }
+    ensures not_empty { result.status ≡ NOT_EMPTY → IfTold (D.content a) (λ l. 1 ≤ length l) }
+    ensures stays { (result.status ≡ NOT_EMPTY) ⊎ (result.status ≡ NO_MEMORY)
+        → Stays (D.content a) (D.content result.a) (D.images a) (D.images result.a) }
+    ensures causes { HasCauses D.content D.faults a result.a result.status result.place }
+    ensures other { result.b ≡ b }
+    ensures ends { result.ends.items ≡ ends.items }
+{
+    let (a, status) = create(a);
     Outcome {
         status,
         place: 0,
@@ -130,38 +203,64 @@ pub fn chemdb<
     }
 }
 
-// Serves the one end, and answers its status.
-fn serve_one<R: Threads + Sync, S: Source + Drop, K: Sink + Drop>(
+// Serves the one end.
+fn serve_one<R: Threads + Sync, D: Disk + Drop, S: Source + Drop, K: Sink + Drop>(
     rt: &R,
     alloc: Global,
     plan: &Plan<'_>,
-    ends: &mut Vec<End<S, K>>,
-) -> u8
+    disks: Disks<D>,
+    ends: Vec<End<S, K>>,
+) -> Outcome<D, S, K>
     requires plan { IsWithinLimits plan.now }
-    requires one_end { length ends.old.items ≡ 1 }
-    ensures served { AllZip (Serves plan.now.command plan.now S.left S.faults K.written K.faults)
-        ends.old.items ends.new.items }
-    ensures overall { result ≡ first_fault (map (λ end. end.status) ends.new.items) }
-    ensures status { IsEndStatus result }
+    requires end { plan.now.command ≢ Verb.Init }
+    requires one_end { length ends.items ≡ 1 }
+    ensures served { AllZip (Serves plan.now.command D.content D.images D.clock D.images_between D.faults D.bound
+        plan.now S.left S.faults K.written K.faults disks.a result.a) ends.items result.ends.items }
+    ensures causes { HasCauses D.content D.faults disks.a result.a result.status result.place }
+    ensures other { result.b ≡ disks.b }
+    ensures overall { result.status ≡ first_fault (map (λ end. end.status) result.ends.items) }
+    ensures status { result.status ≢ USAGE }
 {
+    let mut ends = ends;
     let end = &mut ends[0];
-    serve(rt, alloc, plan, end);
-    ends[0].status
+    let (disks, place) = serve(rt, alloc, plan, disks, end);
+    let status = end.status;
+    Outcome {
+        status,
+        place,
+        a: disks.a,
+        b: disks.b,
+        ends,
+    }
 }
 
-// Serves an end.
-fn serve<R: Threads + Sync, S: Source + Drop, K: Sink + Drop>(
+// Serves an end. The disks come back, with the place of damage on `a`.
+fn serve<R: Threads + Sync, D: Disk + Drop, S: Source + Drop, K: Sink + Drop>(
     rt: &R,
     alloc: Global,
     plan: &Plan<'_>,
+    disks: Disks<D>,
     end: &mut End<S, K>,
-)
-    requires { IsWithinLimits plan.now }
-    ensures { Serves plan.now.command plan.now S.left S.faults K.written K.faults end.old end.new }
+) -> (Disks<D>, u64)
+    requires plan { IsWithinLimits plan.now }
+    requires end { plan.now.command ≢ Verb.Init }
+    ensures serves { Serves plan.now.command D.content D.images D.clock D.images_between D.faults D.bound
+        plan.now S.left S.faults K.written K.faults disks.a result.0.a end.old end.new }
+    ensures causes { HasCauses D.content D.faults disks.a result.0.a end.new.status result.1 }
+    ensures other { result.0.b ≡ disks.b }
+    ensures status { end.new.status ≢ USAGE }
 {
     match plan.command {
-        Verb::Mem => serve_mem(rt, alloc, plan, end),
-        Verb::Bulk => serve_bulk(rt, alloc, plan, end),
+        Verb::Mem => {
+            serve_mem(rt, alloc, plan, end);
+            (disks, 0)
+        }
+        Verb::Bulk => {
+            serve_bulk(rt, alloc, plan, end);
+            (disks, 0)
+        }
+        Verb::Run => serve_run(rt, alloc, plan, disks, end),
+        Verb::Init => unreachable!(),
     }
 }
 

@@ -2,7 +2,7 @@
 ghost use Rattle.std.specs.Prelude.{◌≡◌, ◌≢◌, ◌≤◌, ◌⊎◌, ℕ, [], None, Some, ◌∷◌, false, map, option_map, IfErr, IfOk, IsErrOf, IsNone, IsSome, OnErr, OnOk};
 ghost use Rattle.clap.specs.Words.{Text, app_of, fault_of, found_of, kind_of, matches_of, rows_of, rule_of};
 ghost use Rattle.chem_shell.specs.declared.request.Plan.{Plan as ThePlan};
-ghost use Rattle.chem_shell.specs.Words.{args_of, chemdb_app, option_rule, texts, AreSizes, Asks, AsksFor, IsBulk, IsMem, IsNumber, IsSetting};
+ghost use Rattle.chem_shell.specs.Words.{args_of, chemdb_app, option_rule, texts, AreSizes, Asks, AsksFor, IsBulk, IsFile, IsInit, IsMem, IsNumber, IsRunOf, IsSetting};
 
 use crate::fault::WordFault;
 use crate::request::{Plan, PlanFault, Verb};
@@ -51,6 +51,8 @@ fn read<'w>(alloc: Global, words: &'w [&'w str]) -> Result<Plan<'w>, WordFault<'
     let found = matches(alloc, words)?;
     match found.get_str("command") {
         Some("mem") => mem(alloc, &found),
+        Some("init") => init(alloc, &found),
+        Some("run") => run(alloc, &found),
         Some("bulk") => bulk(alloc, &found),
         Some(word) => Err(WordFault::UnknownCommand(word)),
         None => Err(WordFault::NoCommand),
@@ -141,6 +143,54 @@ fn mem<'w>(alloc: Global, found: &ArgMatches<'w>) -> Result<Plan<'w>, WordFault<
     })
 }
 
+// The plan of `init`, if the match is its row.
+fn init<'w>(alloc: Global, found: &ArgMatches<'w>) -> Result<Plan<'w>, WordFault<'w>>
+    ensures ok { IfOk result (IsInit (rows_of (found_of found.now))) }
+    ensures err { OnErr result ((plan : ThePlan) → ¬ IsInit (rows_of (found_of found.now)) plan) }
+{
+    let file = one_file("init", found.get_raw("args"))?;
+    unused("--workers", found.get_str("workers"))?;
+    unused("--page", found.get_str("page"))?;
+    unused("--commits", found.get_str("commits"))?;
+    Ok(Plan {
+        command: Verb::Init,
+        file: Some(file),
+        scripts: Vec::new(alloc),
+        ends: 0,
+        workers: 1,
+        page: 256,
+        commits: MOST_COMMITS,
+        seed: 0,
+        count: 0,
+    })
+}
+
+// The plan of `run`, if the match is its row.
+fn run<'w>(alloc: Global, found: &ArgMatches<'w>) -> Result<Plan<'w>, WordFault<'w>>
+    ensures ok { IfOk result (IsRunOf (rows_of (found_of found.now))) }
+    ensures err { OnErr result ((plan : ThePlan) → ¬ IsRunOf (rows_of (found_of found.now)) plan) }
+{
+    let file = one_file("run", found.get_raw("args"))?;
+    let (workers, page) = sizes(found)?;
+    let commits = setting(
+        "--commits",
+        found.get_str("commits"),
+        MOST_COMMITS,
+        MOST_COMMITS,
+    )?;
+    Ok(Plan {
+        command: Verb::Run,
+        file: Some(file),
+        scripts: Vec::new(alloc),
+        ends: 1,
+        workers,
+        page,
+        commits,
+        seed: 0,
+        count: 0,
+    })
+}
+
 // The plan of `bulk`, if the match is its row.
 fn bulk<'w>(alloc: Global, found: &ArgMatches<'w>) -> Result<Plan<'w>, WordFault<'w>>
     ensures ok { IfOk result (IsBulk (rows_of (found_of found.now))) }
@@ -189,6 +239,41 @@ fn no_args<'w>(args: Option<&[&'w str]>) -> Result<(), WordFault<'w>>
         Some(words) => Err(WordFault::SurplusWord {
             command: "mem",
             word: words.first().copied().unwrap_or(""),
+        }),
+    }
+}
+
+// The one word of a command on a file.
+fn one_file<'w>(
+    command: &'static str,
+    args: Option<&[&'w str]>,
+) -> Result<&'w str, WordFault<'w>>
+    ensures ok { IfOk result (λ file. IsFile (args_of args.entry) file.now) }
+    ensures err { OnErr result ((file : Text) → ¬ IsFile (args_of args.entry) file) }
+{
+    match args {
+        Some([file]) if !file.is_empty() => Ok(*file),
+        Some([_, word, ..]) => Err(WordFault::SurplusWord {
+            command,
+            word: *word,
+        }),
+        _ => Err(WordFault::MissingWord {
+            command,
+            name: "a FILE",
+        }),
+    }
+}
+
+// `init` takes no options.
+fn unused<'w>(name: &'static str, value: Option<&'w str>) -> Result<(), WordFault<'w>>
+    ensures ok { OnOk result (value.entry ≡ None) }
+    ensures err { OnErr result (value.entry ≢ None) }
+{
+    match value {
+        None => Ok(()),
+        Some(_) => Err(WordFault::UnusedOption {
+            command: "init",
+            name,
         }),
     }
 }

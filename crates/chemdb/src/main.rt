@@ -1,16 +1,18 @@
 //! chemdb: a database of chemical structures with SMARTS substructure search.
 #![tactic(auto)]
 
-ghost use Rattle.std.specs.Prelude.{◌≡◌, [], ◌∷◌, ◌++◌, IfOk};
+ghost use Rattle.std.specs.Prelude.{◌≡◌, IfOk, length};
 
 use chem_shell::top::{self, End, chemdb};
-use chem_shell::word_fault;
+use chem_shell::{PlanFault, Verb, plan, word_fault};
+use disk_edge::FileDisk;
 use io_edge::{StdSink, StdSource};
 use std::alloc::{AllocError, Global};
 use std::env;
-use std::io::{self, ErrorKind};
+use std::fs::File;
+use std::io::{self, ErrorKind, Printer};
 use std::process::ExitCode;
-use std::rt::Env;
+use std::rt::{Env, Files};
 use std::sync::Wait;
 use std::thread::Threads;
 
@@ -20,15 +22,17 @@ usage: chemdb COMMAND [OPTIONS]
 
 commands
   mem              serve the script of standard input over a store in memory
-  bulk SEED COUNT  run a generated script over such a store, and print its summary;
+  init FILE        make an empty store in a file that is not there or is empty
+  run FILE         serve the script of standard input over the store in the file
+  bulk SEED COUNT  run a generated script over a store in memory, and print its summary;
                    SEED is 1 to 2147483646, and COUNT, the structures to register, 0 to 100000
 
 options
   --workers N  threads for matching, 1 to 16; 1 if left out
   --page N     records in a page, 1 to 256; 256 if left out
-  --commits N  of mem: the most commits of the store, 1 to 16777215; 16777215 if left out
+  --commits N  of mem and run: the most commits of the store, 1 to 16777215; 16777215 if left out
 
-Options stand before or behind the command, as --page 3 or --page=3.
+Options, none for init, stand before or behind the command, as --page 3 or --page=3.
 example: printf 'register 1 CCO\\nsearch CO\\n' | chemdb mem --page=64";
 
 fn main(rt: HostRuntime) -> ExitCode {
@@ -36,7 +40,7 @@ fn main(rt: HostRuntime) -> ExitCode {
 }
 
 /// Serves what the words ask for from standard input to standard output, and answers the overall status.
-fn run<R: Env + AllocGlobal + Input + Print + Eprint + Threads + Wait + Sync>(rt: &R) -> u8
+fn run<R: Env + AllocGlobal + Files<File = File> + Input + Print + Eprint + Threads + Wait + Sync>(rt: &R) -> u8
 where
     R::Reader: Send,
 {
@@ -51,7 +55,7 @@ where
 }
 
 /// The same for these words. Where they ask for nothing, it says why.
-fn run_words<R: AllocGlobal + Input + Print + Eprint + Threads + Wait + Sync>(
+fn run_words<R: AllocGlobal + Files<File = File> + Input + Print + Eprint + Threads + Wait + Sync>(
     rt: &R,
     words: &[String],
 ) -> Result<u8, AllocError>
@@ -73,8 +77,9 @@ where
     Ok(status)
 }
 
-/// One end over standard input and output.
-fn serve<R: AllocGlobal + Input + Print + Threads + Wait + Sync>(
+/// The ends are standard input and output. The disk is the file that the words name: `init` makes it where it is not
+/// there, and `run` does not.
+fn serve<R: AllocGlobal + Files<File = File> + Input + Print + Threads + Wait + Sync>(
     rt: &R,
     alloc: Global,
     words: &[&str],
@@ -82,12 +87,17 @@ fn serve<R: AllocGlobal + Input + Print + Threads + Wait + Sync>(
 where
     R::Reader: Send,
 {
-    let ends = one_end(
-        alloc,
-        StdSource::new(rt.reader()),
-        StdSink::new(io::writer(rt)),
-    )?;
-    Ok(chemdb(rt, alloc, words, (), (), ends).status)
+    let plan = match plan(alloc, words) {
+        Ok(plan) => plan,
+        Err(PlanFault::Usage) => return Ok(top::USAGE),
+        Err(PlanFault::NoMemory) => return Err(AllocError),
+    };
+    let ends = ends(rt, alloc, plan.ends)?;
+    let a = match plan.file {
+        Some(path) => FileDisk::at(rt, path, plan.command == Verb::Init),
+        None => FileDisk::none(),
+    };
+    Ok(chemdb(rt, alloc, words, a, FileDisk::none(), ends).status)
 }
 
 /// Prints why the words ask for nothing, and what they may be. The status says it too, where standard error is gone.
@@ -104,19 +114,21 @@ fn words<R: Env + AllocGlobal>(rt: &R) -> io::Result<Vec<String>> {
     Ok(words)
 }
 
-/// A list of one end.
-fn one_end<S: Drop, K: Drop>(
+/// So many ends over standard input and output.
+fn ends<'r, R: Input + Print>(
+    rt: &'r R,
     alloc: Global,
-    source: S,
-    sink: K,
-) -> Result<Vec<End<S, K>>, AllocError>
-    ensures { IfOk result (λ ends. ends.items ≡ record { source = source; sink = sink; status = 0 } ∷ []) }
+    count: u32,
+) -> Result<Vec<End<StdSource<R::Reader>, StdSink<Printer<'r, R>>>>, AllocError>
+    ensures { IfOk result (λ ends. length ends.items ≡ count) }
 {
-    let mut ends = Vec::with_capacity(alloc, 1)?;
-    ends.push(End {
-        source,
-        sink,
-        status: top::DONE,
-    })?;
+    let mut ends = Vec::new(alloc);
+    for _ in 0..count {
+        ends.push(End {
+            source: StdSource::new(rt.reader()),
+            sink: StdSink::new(io::writer(rt)),
+            status: top::DONE,
+        })?;
+    }
     Ok(ends)
 }

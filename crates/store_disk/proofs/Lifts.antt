@@ -152,6 +152,7 @@ module _ {D : Type 0} (content : D → Option (List ℕ)) (images : D → List �
       moments = λ l is. ((omega arith, moments l is), tt);
       past = past;
       untold = untold;
+      other = other;
     };
     own = ap (λ b. cond (b && true) ((e, r) ∷ []) []) call;
   }

@@ -47,6 +47,7 @@ pub record Stretches {D : Type 0} (content : D → Option (List ℕ)) (images : 
   pub moments : IfTold (content new.journal.disk) (λ _. AllByRecursion (IsTimed clock between new.journal.disk) steps)
   pub past : Keeps clock between old.journal.disk new.journal.disk
   pub untold : content old.journal.disk ≡ None → content new.journal.disk ≡ None
+  pub other : new.b ≡ old.b
 
 run-joins : (xs ys : List Step) (s t u : State) → IsRun s xs t → IsRun t ys u → IsRun s (xs ++ ys) u
 run-joins [] ys s t u e r = subst (λ k. IsRun k ys u) e r
@@ -108,6 +109,7 @@ module _ {D : Type 0} (content : D → Option (List ℕ)) (images : D → List �
     moments = λ l is. tt;
     past = keeps-itself clock between a.journal.disk;
     untold = λ e. e;
+    other = refl;
   }
 
   pub joins : (a b c : StoreTerm D) (s t u : State) (xs ys : List Step)
@@ -125,6 +127,7 @@ module _ {D : Type 0} (content : D → Option (List ℕ)) (images : D → List �
         timed-joins clock between b.journal.disk c.journal.disk q.past xs ys (r.moments k.0 k.1) (q.moments l is);
     past = keeps-twice clock between a.journal.disk b.journal.disk c.journal.disk r.past q.past;
     untold = λ e. q.untold (r.untold e);
+    other = q.other ∙ r.other;
   }
 
   pub lands : (a b : StoreTerm D) (s t : State) (xs : List Step)

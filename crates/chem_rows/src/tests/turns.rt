@@ -1,7 +1,9 @@
 //! A session puts the replies to a line before it takes more bytes for the next.
 ghost use Rattle.std.specs.Prelude.{◌<◌, ◌^◌, None};
 
+use super::ends_of;
 use chem_shell::top::{End, chemdb};
+use disk_edge::MemDisk;
 use io_edge::{PutFault, Sink, Source, Take};
 use std::alloc::Global;
 use std::sync::Arc;
@@ -73,7 +75,11 @@ fn replies_are_put_before_more_is_taken(rt: HostRuntime) -> Result<(), Fail> {
         sink,
         status: 0,
     })?;
-    let outcome = chemdb(&rt, alloc, &["mem"], (), (), ends);
+    let words = ["mem"];
+    let count = ends_of(alloc, &words)?;
+    assert_eq!(rt; count, 1);
+    let (a, b) = (MemDisk::new(alloc), MemDisk::new(alloc));
+    let outcome = chemdb(&rt, alloc, &words, a, b, ends);
     assert_eq!(rt; outcome.status, 0);
     assert_eq!(rt; puts.load(Ordering::SeqCst), 3);
     Ok(())

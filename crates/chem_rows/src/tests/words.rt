@@ -39,12 +39,21 @@ fn words_that_ask(rt: HostRuntime) -> Result<(), Fail> {
 #[test]
 fn words_that_ask_for_nothing(rt: HostRuntime) -> Result<(), Fail> {
     let alloc = rt.alloc();
-    let rows: [(&[&str], &str); 31] = [
+    let rows: [(&[&str], &str); 37] = [
         (&[], "a command is missing"),
         (&["--page", "3"], "a command is missing"),
         (&[""], "there is no command \"\""),
         (&["Mem"], "there is no command \"Mem\""),
-        (&["init", "f"], "there is no command \"init\""),
+        (&["serve", "f"], "there is no command \"serve\""),
+        (&["init"], "init wants a FILE"),
+        (&["init", "f", "g"], "init takes no word \"g\""),
+        (&["init", "f", "--page", "2"], "init takes no --page"),
+        (&["run", ""], "run wants a FILE"),
+        (&["run", "f", "g", "h"], "run takes no word \"g\""),
+        (
+            &["run", "f", "--commits", "0"],
+            "--commits is a decimal from 1 to 16777215, not \"0\"",
+        ),
         (&["mem", "x"], "mem takes no word \"x\""),
         (&["mem", "mem"], "mem takes no word \"mem\""),
         (

@@ -1,9 +1,12 @@
-use Rattle.std.proofs.Common.{refl, ap, ◌∙◌, sym, inl, inr, Err}
+use Rattle.std.proofs.Common.{rules, arith, refl, ap, ◌∙◌, sym, inl, inr, Err}
 use Rattle.std.proofs.lemmas.Bool.{eqb-false}
-use Rattle.chem_shell.specs.Ends.{with_status, Serves}
+use Rattle.chem_shell.specs.Ends.{with_status}
+use Rattle.chem_shell.specs.Loading.{Serves}
 use Rattle.chem_shell.specs.Status.{IsEndStatus, IsSinkStatus}
 use Rattle.chem_shell.proofs.Asked.{one_plan, plan_within}
-use Rattle.chem_shell.proofs.Ends.{zip_weaker, zip_right, zip_mapped, all_mapped, fault_of_all_alike, never_usage, status_served, source_fault_served, sink_fault_served, too_long_served, mem_served, bulk_served}
+use Rattle.chem_shell.proofs.Ends.{zip_weaker, zip_right, zip_mapped, all_mapped, fault_of_all_alike, never_created_usage, source_fault_served, sink_fault_served, too_long_served, mem_served, bulk_served, run_served, of_one}
+use Rattle.chem_shell.proofs.EndCounts.{init_bulk_verb, init_mem, init_run_verb, no_and_some, no_ends, none_mapped, none_of_length, one_end, one_end_of, zip_none}
+use Rattle.chem_shell.proofs.Untouched.{refused_unmoved, runs_same, stays_same}
 use Rattle.chem_shell.proofs.Summaries as summaries
 use Rattle.chem_shell.proofs.Transcripts as transcripts
 use Rattle.chem_shell.proofs.top.chemdb.Goals as goal
@@ -20,6 +23,14 @@ pub returns-in-Err-Usage-clause-input_too_long : goal.returns-in-Err-Usage-claus
 returns-in-Err-Usage-clause-input_too_long g c =
     zip_mapped _ (with_status 2) (λ e q. absurd (eqb-false 2 9 refl q)) _ _ c.unserved.ensures.ends
 
+pub returns-in-Err-Usage-clause-mem_statuses : goal.returns-in-Err-Usage-clause-mem_statuses
+returns-in-Err-Usage-clause-mem_statuses g c = λ plan asks verb.
+    absurd (c.in-Err-Usage.ensures.usage (ap Err c.in-Err-Usage.field-0-is) (plan, asks))
+
+pub returns-in-Err-Usage-clause-mem_disk : goal.returns-in-Err-Usage-clause-mem_disk
+returns-in-Err-Usage-clause-mem_disk g c = λ plan asks verb.
+    absurd (c.in-Err-Usage.ensures.usage (ap Err c.in-Err-Usage.field-0-is) (plan, asks))
+
 pub returns-in-Err-Usage-clause-mem_prefix : goal.returns-in-Err-Usage-clause-mem_prefix
 returns-in-Err-Usage-clause-mem_prefix g c = λ plan asks verb.
     absurd (c.in-Err-Usage.ensures.usage (ap Err c.in-Err-Usage.field-0-is) (plan, asks))
@@ -28,8 +39,36 @@ pub returns-in-Err-Usage-clause-mem_all : goal.returns-in-Err-Usage-clause-mem_a
 returns-in-Err-Usage-clause-mem_all g c = λ plan asks verb.
     absurd (c.in-Err-Usage.ensures.usage (ap Err c.in-Err-Usage.field-0-is) (plan, asks))
 
+pub returns-in-Err-Usage-clause-init_statuses : goal.returns-in-Err-Usage-clause-init_statuses
+returns-in-Err-Usage-clause-init_statuses g c = λ plan asks verb.
+    absurd (c.in-Err-Usage.ensures.usage (ap Err c.in-Err-Usage.field-0-is) (plan, asks))
+
+pub returns-in-Err-Usage-clause-init_ends : goal.returns-in-Err-Usage-clause-init_ends
+returns-in-Err-Usage-clause-init_ends g c = λ plan asks verb.
+    absurd (c.in-Err-Usage.ensures.usage (ap Err c.in-Err-Usage.field-0-is) (plan, asks))
+
+pub returns-in-Err-Usage-clause-init_done : goal.returns-in-Err-Usage-clause-init_done
+returns-in-Err-Usage-clause-init_done g c = λ plan asks verb.
+    absurd (c.in-Err-Usage.ensures.usage (ap Err c.in-Err-Usage.field-0-is) (plan, asks))
+
+pub returns-in-Err-Usage-clause-init_not_empty : goal.returns-in-Err-Usage-clause-init_not_empty
+returns-in-Err-Usage-clause-init_not_empty g c = λ plan asks verb.
+    absurd (c.in-Err-Usage.ensures.usage (ap Err c.in-Err-Usage.field-0-is) (plan, asks))
+
+pub returns-in-Err-Usage-clause-init_stays : goal.returns-in-Err-Usage-clause-init_stays
+returns-in-Err-Usage-clause-init_stays g c = λ plan asks verb.
+    absurd (c.in-Err-Usage.ensures.usage (ap Err c.in-Err-Usage.field-0-is) (plan, asks))
+
+pub returns-in-Err-Usage-clause-run : goal.returns-in-Err-Usage-clause-run
+returns-in-Err-Usage-clause-run g c = λ plan asks verb.
+    absurd (c.in-Err-Usage.ensures.usage (ap Err c.in-Err-Usage.field-0-is) (plan, asks))
+
 pub returns-in-Err-Usage-clause-bulk_statuses : goal.returns-in-Err-Usage-clause-bulk_statuses
 returns-in-Err-Usage-clause-bulk_statuses g c = λ plan asks verb.
+    absurd (c.in-Err-Usage.ensures.usage (ap Err c.in-Err-Usage.field-0-is) (plan, asks))
+
+pub returns-in-Err-Usage-clause-bulk_disk : goal.returns-in-Err-Usage-clause-bulk_disk
+returns-in-Err-Usage-clause-bulk_disk g c = λ plan asks verb.
     absurd (c.in-Err-Usage.ensures.usage (ap Err c.in-Err-Usage.field-0-is) (plan, asks))
 
 pub returns-in-Err-Usage-clause-bulk_source : goal.returns-in-Err-Usage-clause-bulk_source
@@ -48,11 +87,6 @@ pub returns-in-Err-Usage-clause-bulk_nothing : goal.returns-in-Err-Usage-clause-
 returns-in-Err-Usage-clause-bulk_nothing g c = λ plan asks verb.
     absurd (c.in-Err-Usage.ensures.usage (ap Err c.in-Err-Usage.field-0-is) (plan, asks))
 
-pub returns-in-Err-NoMemory-clause-statuses : goal.returns-in-Err-NoMemory-clause-statuses
-returns-in-Err-NoMemory-clause-statuses g c = λ asks.
-    all_mapped (λ end. IsEndStatus end.status) (with_status 8) (λ e. inr (inr (inr (inl refl)))) _ _
-    c.unserved-in-Err-NoMemory.ensures.ends
-
 pub returns-in-Err-NoMemory-clause-source_fault : goal.returns-in-Err-NoMemory-clause-source_fault
 returns-in-Err-NoMemory-clause-source_fault g c =
     zip_mapped _ (with_status 8) (λ e q. absurd (eqb-false 8 3 refl q)) _ _ c.unserved-in-Err-NoMemory.ensures.ends
@@ -65,6 +99,11 @@ pub returns-in-Err-NoMemory-clause-input_too_long : goal.returns-in-Err-NoMemory
 returns-in-Err-NoMemory-clause-input_too_long g c =
     zip_mapped _ (with_status 8) (λ e q. absurd (eqb-false 8 9 refl q)) _ _ c.unserved-in-Err-NoMemory.ensures.ends
 
+pub returns-in-Err-NoMemory-clause-mem_statuses : goal.returns-in-Err-NoMemory-clause-mem_statuses
+returns-in-Err-NoMemory-clause-mem_statuses g c = λ plan asks verb.
+    all_mapped (λ end. IsEndStatus end.status) (with_status 8) (λ e. inr (inr (inr (inl refl)))) _ _
+    c.unserved-in-Err-NoMemory.ensures.ends
+
 pub returns-in-Err-NoMemory-clause-mem_prefix : goal.returns-in-Err-NoMemory-clause-mem_prefix
 returns-in-Err-NoMemory-clause-mem_prefix g c = λ plan asks verb.
     zip_mapped _ (with_status 8) (λ e. transcripts.prefix_unmoved _ _ _ _) _ _ c.unserved-in-Err-NoMemory.ensures.ends
@@ -75,8 +114,7 @@ returns-in-Err-NoMemory-clause-mem_all g c = λ plan asks verb.
 
 pub returns-in-Err-NoMemory-clause-bulk_statuses : goal.returns-in-Err-NoMemory-clause-bulk_statuses
 returns-in-Err-NoMemory-clause-bulk_statuses g c = λ plan asks verb.
-    all_mapped (λ end. IsSinkStatus end.status) (with_status 8)
-    (λ e. inr (inr refl)) _ _ c.unserved-in-Err-NoMemory.ensures.ends
+    all_mapped (λ end. IsSinkStatus end.status) (with_status 8) (λ e. inr (inr refl)) _ _ c.unserved-in-Err-NoMemory.ensures.ends
 
 pub returns-in-Err-NoMemory-clause-bulk_source : goal.returns-in-Err-NoMemory-clause-bulk_source
 returns-in-Err-NoMemory-clause-bulk_source g c = λ plan asks verb.
@@ -94,20 +132,143 @@ pub returns-in-Err-NoMemory-clause-bulk_nothing : goal.returns-in-Err-NoMemory-c
 returns-in-Err-NoMemory-clause-bulk_nothing g c = λ plan asks verb.
     zip_mapped _ (with_status 8) (λ e q. summaries.nothing_unmoved _) _ _ c.unserved-in-Err-NoMemory.ensures.ends
 
+pub returns-in-Err-NoMemory-clause-init_ends : goal.returns-in-Err-NoMemory-clause-init_ends
+returns-in-Err-NoMemory-clause-init_ends g c = λ plan asks verb.
+    none_mapped (with_status 8) _ _ (no_ends c.args.ends.items _ plan asks verb c.requires.ends) c.unserved-in-Err-NoMemory.ensures.ends
+
+pub returns-in-Err-NoMemory-clause-init_statuses : goal.returns-in-Err-NoMemory-clause-init_statuses
+returns-in-Err-NoMemory-clause-init_statuses g c = λ plan asks verb. inr (inr (inl c.unserved-in-Err-NoMemory.ensures.status))
+
+pub returns-in-Err-NoMemory-clause-init_done : goal.returns-in-Err-NoMemory-clause-init_done
+returns-in-Err-NoMemory-clause-init_done g c = λ plan asks verb done. absurd (eqb-false 8 0 refl (sym c.unserved-in-Err-NoMemory.ensures.status ∙ done))
+
+pub returns-in-Err-NoMemory-clause-init_not_empty : goal.returns-in-Err-NoMemory-clause-init_not_empty
+returns-in-Err-NoMemory-clause-init_not_empty g c = λ plan asks verb done. absurd (eqb-false 8 10 refl (sym c.unserved-in-Err-NoMemory.ensures.status ∙ done))
+
+pub returns-in-Err-NoMemory-clause-init_stays : goal.returns-in-Err-NoMemory-clause-init_stays
+returns-in-Err-NoMemory-clause-init_stays g c = λ plan asks verb which.
+    stays_same g.D.Disk.content g.D.Disk.images c.args.a c.unserved-in-Err-NoMemory.result.a c.unserved-in-Err-NoMemory.ensures.disk_a
+
+pub returns-in-Err-NoMemory-clause-run : goal.returns-in-Err-NoMemory-clause-run
+returns-in-Err-NoMemory-clause-run g c = λ plan asks verb.
+    zip_mapped _ (with_status 8) (λ e. inl (refused_unmoved g.D.Disk.content g.D.Disk.images g.D.Disk.clock g.D.Disk.images_between g.D.Disk.faults g.D.Disk.bound g.D.Disk.only_now c.args.a c.unserved-in-Err-NoMemory.result.a c.unserved-in-Err-NoMemory.ensures.disk_a e)) _ _ c.unserved-in-Err-NoMemory.ensures.ends
+
 pub returns-in-Err-NoMemory-clause-overall : goal.returns-in-Err-NoMemory-clause-overall
-returns-in-Err-NoMemory-clause-overall g c = λ asks.
+returns-in-Err-NoMemory-clause-overall g c = λ asks some.
     c.unserved-in-Err-NoMemory.ensures.status
-    ∙ fault_of_all_alike c.args.ends.items c.unserved-in-Err-NoMemory.result.ends.items 8 (c.requires.one_end asks)
+    ∙ fault_of_all_alike c.args.ends.items c.unserved-in-Err-NoMemory.result.ends.items 8 (one_end c.args.ends.items _ asks c.requires.ends some)
     c.unserved-in-Err-NoMemory.ensures.ends
 
-pub serve_one-status-requires-clause-plan : goal.serve_one-status-requires-clause-plan
-serve_one-status-requires-clause-plan g c κs within = plan_within _ c.in-Ok.plan c.in-Ok.ensures.ok
+pub returns-then-eq-clause-usage : goal.returns-then-eq-clause-usage
+returns-then-eq-clause-usage g c = λ two asks. never_created_usage c.created.result.status c.created.ensures.status two
 
-pub serve_one-status-requires-clause-one_end : goal.serve_one-status-requires-clause-one_end
-serve_one-status-requires-clause-one_end g c κs within = c.requires.one_end (c.in-Ok.plan, c.in-Ok.ensures.ok)
+pub returns-then-eq-clause-no_plan : goal.returns-then-eq-clause-no_plan
+returns-then-eq-clause-no_plan g c = λ none. absurd (none (c.in-Ok.plan, c.in-Ok.ensures.ok))
+
+pub returns-then-eq-clause-no_plan_takes_nothing : goal.returns-then-eq-clause-no_plan_takes_nothing
+returns-then-eq-clause-no_plan_takes_nothing g c = λ none. absurd (none (c.in-Ok.plan, c.in-Ok.ensures.ok))
+
+pub returns-then-eq-clause-no_plan_disk : goal.returns-then-eq-clause-no_plan_disk
+returns-then-eq-clause-no_plan_disk g c = λ none. absurd (none (c.in-Ok.plan, c.in-Ok.ensures.ok))
+
+pub returns-then-eq-clause-overall : goal.returns-then-eq-clause-overall
+returns-then-eq-clause-overall g c = λ asks some. absurd (no_and_some c.args.ends.items (no_ends c.args.ends.items _ c.in-Ok.plan c.in-Ok.ensures.ok (search rules) c.requires.ends) some)
+
+pub returns-then-eq-clause-source_fault : goal.returns-then-eq-clause-source_fault
+returns-then-eq-clause-source_fault g c =
+    zip_none _ c.args.ends.items c.created.result.ends.items (no_ends c.args.ends.items _ c.in-Ok.plan c.in-Ok.ensures.ok (search rules) c.requires.ends) c.created.ensures.ends
+
+pub returns-then-eq-clause-sink_fault : goal.returns-then-eq-clause-sink_fault
+returns-then-eq-clause-sink_fault g c =
+    zip_none _ c.args.ends.items c.created.result.ends.items (no_ends c.args.ends.items _ c.in-Ok.plan c.in-Ok.ensures.ok (search rules) c.requires.ends) c.created.ensures.ends
+
+pub returns-then-eq-clause-input_too_long : goal.returns-then-eq-clause-input_too_long
+returns-then-eq-clause-input_too_long g c =
+    zip_none _ c.args.ends.items c.created.result.ends.items (no_ends c.args.ends.items _ c.in-Ok.plan c.in-Ok.ensures.ok (search rules) c.requires.ends) c.created.ensures.ends
+
+pub returns-then-eq-clause-disk_fault : goal.returns-then-eq-clause-disk_fault
+returns-then-eq-clause-disk_fault g c = c.created.ensures.causes.disk_fault
+
+pub returns-then-eq-clause-not_a_store : goal.returns-then-eq-clause-not_a_store
+returns-then-eq-clause-not_a_store g c = c.created.ensures.causes.not_a_store
+
+pub returns-then-eq-clause-damaged : goal.returns-then-eq-clause-damaged
+returns-then-eq-clause-damaged g c = c.created.ensures.causes.damaged
+
+pub returns-then-eq-clause-place : goal.returns-then-eq-clause-place
+returns-then-eq-clause-place g c = c.created.ensures.causes.undamaged
+
+pub returns-then-eq-clause-mem_statuses : goal.returns-then-eq-clause-mem_statuses
+returns-then-eq-clause-mem_statuses g c = λ plan asks verb.
+    absurd (init_mem (sym (search rules) ∙ (sym (one_plan _ plan c.in-Ok.plan asks c.in-Ok.ensures.ok).command ∙ verb)))
+
+pub returns-then-eq-clause-mem_disk : goal.returns-then-eq-clause-mem_disk
+returns-then-eq-clause-mem_disk g c = λ plan asks verb.
+    absurd (init_mem (sym (search rules) ∙ (sym (one_plan _ plan c.in-Ok.plan asks c.in-Ok.ensures.ok).command ∙ verb)))
+
+pub returns-then-eq-clause-mem_prefix : goal.returns-then-eq-clause-mem_prefix
+returns-then-eq-clause-mem_prefix g c = λ plan asks verb.
+    absurd (init_mem (sym (search rules) ∙ (sym (one_plan _ plan c.in-Ok.plan asks c.in-Ok.ensures.ok).command ∙ verb)))
+
+pub returns-then-eq-clause-mem_all : goal.returns-then-eq-clause-mem_all
+returns-then-eq-clause-mem_all g c = λ plan asks verb.
+    absurd (init_mem (sym (search rules) ∙ (sym (one_plan _ plan c.in-Ok.plan asks c.in-Ok.ensures.ok).command ∙ verb)))
+
+pub returns-then-eq-clause-run : goal.returns-then-eq-clause-run
+returns-then-eq-clause-run g c = λ plan asks verb.
+    absurd (init_run_verb (sym (search rules) ∙ (sym (one_plan _ plan c.in-Ok.plan asks c.in-Ok.ensures.ok).command ∙ verb)))
+
+pub returns-then-eq-clause-bulk_statuses : goal.returns-then-eq-clause-bulk_statuses
+returns-then-eq-clause-bulk_statuses g c = λ plan asks verb.
+    absurd (init_bulk_verb (sym (search rules) ∙ (sym (one_plan _ plan c.in-Ok.plan asks c.in-Ok.ensures.ok).command ∙ verb)))
+
+pub returns-then-eq-clause-bulk_disk : goal.returns-then-eq-clause-bulk_disk
+returns-then-eq-clause-bulk_disk g c = λ plan asks verb.
+    absurd (init_bulk_verb (sym (search rules) ∙ (sym (one_plan _ plan c.in-Ok.plan asks c.in-Ok.ensures.ok).command ∙ verb)))
+
+pub returns-then-eq-clause-bulk_source : goal.returns-then-eq-clause-bulk_source
+returns-then-eq-clause-bulk_source g c = λ plan asks verb.
+    absurd (init_bulk_verb (sym (search rules) ∙ (sym (one_plan _ plan c.in-Ok.plan asks c.in-Ok.ensures.ok).command ∙ verb)))
+
+pub returns-then-eq-clause-bulk_all : goal.returns-then-eq-clause-bulk_all
+returns-then-eq-clause-bulk_all g c = λ plan asks verb.
+    absurd (init_bulk_verb (sym (search rules) ∙ (sym (one_plan _ plan c.in-Ok.plan asks c.in-Ok.ensures.ok).command ∙ verb)))
+
+pub returns-then-eq-clause-bulk_prefix : goal.returns-then-eq-clause-bulk_prefix
+returns-then-eq-clause-bulk_prefix g c = λ plan asks verb.
+    absurd (init_bulk_verb (sym (search rules) ∙ (sym (one_plan _ plan c.in-Ok.plan asks c.in-Ok.ensures.ok).command ∙ verb)))
+
+pub returns-then-eq-clause-bulk_nothing : goal.returns-then-eq-clause-bulk_nothing
+returns-then-eq-clause-bulk_nothing g c = λ plan asks verb.
+    absurd (init_bulk_verb (sym (search rules) ∙ (sym (one_plan _ plan c.in-Ok.plan asks c.in-Ok.ensures.ok).command ∙ verb)))
+
+pub returns-then-eq-clause-init_statuses : goal.returns-then-eq-clause-init_statuses
+returns-then-eq-clause-init_statuses g c = λ plan asks verb. c.created.ensures.status
+
+pub returns-then-eq-clause-init_ends : goal.returns-then-eq-clause-init_ends
+returns-then-eq-clause-init_ends g c = λ plan asks verb. c.created.ensures.ends ∙ none_of_length c.args.ends.items (no_ends c.args.ends.items _ c.in-Ok.plan c.in-Ok.ensures.ok (search rules) c.requires.ends)
+
+pub returns-then-eq-clause-init_done : goal.returns-then-eq-clause-init_done
+returns-then-eq-clause-init_done g c = λ plan asks verb. c.created.ensures.done
+
+pub returns-then-eq-clause-init_not_empty : goal.returns-then-eq-clause-init_not_empty
+returns-then-eq-clause-init_not_empty g c = λ plan asks verb. c.created.ensures.not_empty
+
+pub returns-then-eq-clause-init_stays : goal.returns-then-eq-clause-init_stays
+returns-then-eq-clause-init_stays g c = λ plan asks verb. c.created.ensures.stays
+
+pub serve_one-requires-clause-plan : goal.serve_one-requires-clause-plan
+serve_one-requires-clause-plan g c = plan_within _ c.in-Ok.plan c.in-Ok.ensures.ok
+
+pub serve_one-requires-clause-end : goal.serve_one-requires-clause-end
+serve_one-requires-clause-end g c = (search rules)
+
+pub serve_one-requires-clause-one_end : goal.serve_one-requires-clause-one_end
+serve_one-requires-clause-one_end g c =
+    one_end_of c.args.ends.items _ c.in-Ok.plan c.in-Ok.ensures.ok (search rules) c.requires.ends
 
 pub returns-clause-usage : goal.returns-clause-usage
-returns-clause-usage g c = λ two asks. never_usage c.serve_one-status.result c.serve_one-status.ensures.status two
+returns-clause-usage g c = λ two asks. c.serve_one.ensures.status two
 
 pub returns-clause-no_plan : goal.returns-clause-no_plan
 returns-clause-no_plan g c = λ none. absurd (none (c.in-Ok.plan, c.in-Ok.ensures.ok))
@@ -115,102 +276,196 @@ returns-clause-no_plan g c = λ none. absurd (none (c.in-Ok.plan, c.in-Ok.ensure
 pub returns-clause-no_plan_takes_nothing : goal.returns-clause-no_plan_takes_nothing
 returns-clause-no_plan_takes_nothing g c = λ none. absurd (none (c.in-Ok.plan, c.in-Ok.ensures.ok))
 
-pub returns-clause-statuses : goal.returns-clause-statuses
-returns-clause-statuses g c = λ asks.
-    zip_right
-    (Serves c.in-Ok.plan.command c.in-Ok.plan g.S.Source.left g.S.Source.faults g.K.Sink.written g.K.Sink.faults)
-    (λ end. IsEndStatus end.status)
-    (λ old new. status_served g.S.Source.left g.S.Source.faults g.K.Sink.written g.K.Sink.faults c.in-Ok.plan.command c.in-Ok.plan old new)
-    c.args.ends.items c.serve_one-status.new.ends.items c.serve_one-status.ensures.served
+pub returns-clause-no_plan_disk : goal.returns-clause-no_plan_disk
+returns-clause-no_plan_disk g c = λ none. absurd (none (c.in-Ok.plan, c.in-Ok.ensures.ok))
+
+pub returns-clause-overall : goal.returns-clause-overall
+returns-clause-overall g c = λ asks some. c.serve_one.ensures.overall
 
 pub returns-clause-source_fault : goal.returns-clause-source_fault
 returns-clause-source_fault g c =
     zip_weaker
-    (Serves c.in-Ok.plan.command c.in-Ok.plan g.S.Source.left g.S.Source.faults g.K.Sink.written g.K.Sink.faults)
-    _ (λ old new. source_fault_served g.S.Source.left g.S.Source.faults g.K.Sink.written g.K.Sink.faults c.in-Ok.plan.command c.in-Ok.plan old new)
-    c.args.ends.items c.serve_one-status.new.ends.items c.serve_one-status.ensures.served
+    (Serves c.in-Ok.plan.command g.D.Disk.content g.D.Disk.images g.D.Disk.clock g.D.Disk.images_between g.D.Disk.faults g.D.Disk.bound
+    c.in-Ok.plan g.S.Source.left g.S.Source.faults g.K.Sink.written g.K.Sink.faults c.args.a c.serve_one.result.a)
+    _ (λ old new. source_fault_served g.D.Disk.content g.D.Disk.images g.D.Disk.clock g.D.Disk.images_between g.D.Disk.faults g.D.Disk.bound
+    g.S.Source.left g.S.Source.faults g.K.Sink.written g.K.Sink.faults c.args.a c.serve_one.result.a c.in-Ok.plan.command c.in-Ok.plan old new)
+    c.args.ends.items c.serve_one.result.ends.items c.serve_one.ensures.served
 
 pub returns-clause-sink_fault : goal.returns-clause-sink_fault
 returns-clause-sink_fault g c =
     zip_weaker
-    (Serves c.in-Ok.plan.command c.in-Ok.plan g.S.Source.left g.S.Source.faults g.K.Sink.written g.K.Sink.faults)
-    _ (λ old new. sink_fault_served g.S.Source.left g.S.Source.faults g.K.Sink.written g.K.Sink.faults c.in-Ok.plan.command c.in-Ok.plan old new)
-    c.args.ends.items c.serve_one-status.new.ends.items c.serve_one-status.ensures.served
+    (Serves c.in-Ok.plan.command g.D.Disk.content g.D.Disk.images g.D.Disk.clock g.D.Disk.images_between g.D.Disk.faults g.D.Disk.bound
+    c.in-Ok.plan g.S.Source.left g.S.Source.faults g.K.Sink.written g.K.Sink.faults c.args.a c.serve_one.result.a)
+    _ (λ old new. sink_fault_served g.D.Disk.content g.D.Disk.images g.D.Disk.clock g.D.Disk.images_between g.D.Disk.faults g.D.Disk.bound
+    g.S.Source.left g.S.Source.faults g.K.Sink.written g.K.Sink.faults c.args.a c.serve_one.result.a c.in-Ok.plan.command c.in-Ok.plan old new)
+    c.args.ends.items c.serve_one.result.ends.items c.serve_one.ensures.served
 
 pub returns-clause-input_too_long : goal.returns-clause-input_too_long
 returns-clause-input_too_long g c =
     zip_weaker
-    (Serves c.in-Ok.plan.command c.in-Ok.plan g.S.Source.left g.S.Source.faults g.K.Sink.written g.K.Sink.faults)
-    _ (λ old new. too_long_served g.S.Source.left g.S.Source.faults g.K.Sink.written g.K.Sink.faults c.in-Ok.plan.command c.in-Ok.plan old new)
-    c.args.ends.items c.serve_one-status.new.ends.items c.serve_one-status.ensures.served
+    (Serves c.in-Ok.plan.command g.D.Disk.content g.D.Disk.images g.D.Disk.clock g.D.Disk.images_between g.D.Disk.faults g.D.Disk.bound
+    c.in-Ok.plan g.S.Source.left g.S.Source.faults g.K.Sink.written g.K.Sink.faults c.args.a c.serve_one.result.a)
+    _ (λ old new. too_long_served g.D.Disk.content g.D.Disk.images g.D.Disk.clock g.D.Disk.images_between g.D.Disk.faults g.D.Disk.bound
+    g.S.Source.left g.S.Source.faults g.K.Sink.written g.K.Sink.faults c.args.a c.serve_one.result.a c.in-Ok.plan.command c.in-Ok.plan old new)
+    c.args.ends.items c.serve_one.result.ends.items c.serve_one.ensures.served
+
+pub returns-clause-disk_fault : goal.returns-clause-disk_fault
+returns-clause-disk_fault g c = c.serve_one.ensures.causes.disk_fault
+
+pub returns-clause-not_a_store : goal.returns-clause-not_a_store
+returns-clause-not_a_store g c = c.serve_one.ensures.causes.not_a_store
+
+pub returns-clause-damaged : goal.returns-clause-damaged
+returns-clause-damaged g c = c.serve_one.ensures.causes.damaged
+
+pub returns-clause-place : goal.returns-clause-place
+returns-clause-place g c = c.serve_one.ensures.causes.undamaged
+
+pub returns-clause-mem_disk : goal.returns-clause-mem_disk
+returns-clause-mem_disk g c = λ plan asks verb.
+    let same = one_plan _ plan c.in-Ok.plan asks c.in-Ok.ensures.ok in
+    let is = sym same.command ∙ verb in
+    of_one
+    (Serves c.in-Ok.plan.command g.D.Disk.content g.D.Disk.images g.D.Disk.clock g.D.Disk.images_between g.D.Disk.faults g.D.Disk.bound
+    c.in-Ok.plan g.S.Source.left g.S.Source.faults g.K.Sink.written g.K.Sink.faults c.args.a c.serve_one.result.a)
+    _ (λ old new s. (mem_served g.D.Disk.content g.D.Disk.images g.D.Disk.clock g.D.Disk.images_between g.D.Disk.faults g.D.Disk.bound
+    g.S.Source.left g.S.Source.faults g.K.Sink.written g.K.Sink.faults c.args.a c.serve_one.result.a c.in-Ok.plan.command c.in-Ok.plan old new is s).0)
+    c.args.ends.items c.serve_one.result.ends.items (omega (arith, (one_end_of c.args.ends.items _ c.in-Ok.plan c.in-Ok.ensures.ok (search rules) c.requires.ends))) c.serve_one.ensures.served
+
+pub returns-clause-bulk_disk : goal.returns-clause-bulk_disk
+returns-clause-bulk_disk g c = λ plan asks verb.
+    let same = one_plan _ plan c.in-Ok.plan asks c.in-Ok.ensures.ok in
+    let is = sym same.command ∙ verb in
+    of_one
+    (Serves c.in-Ok.plan.command g.D.Disk.content g.D.Disk.images g.D.Disk.clock g.D.Disk.images_between g.D.Disk.faults g.D.Disk.bound
+    c.in-Ok.plan g.S.Source.left g.S.Source.faults g.K.Sink.written g.K.Sink.faults c.args.a c.serve_one.result.a)
+    _ (λ old new s. (bulk_served g.D.Disk.content g.D.Disk.images g.D.Disk.clock g.D.Disk.images_between g.D.Disk.faults g.D.Disk.bound
+    g.S.Source.left g.S.Source.faults g.K.Sink.written g.K.Sink.faults c.args.a c.serve_one.result.a c.in-Ok.plan.command c.in-Ok.plan old new is s).0)
+    c.args.ends.items c.serve_one.result.ends.items (omega (arith, (one_end_of c.args.ends.items _ c.in-Ok.plan c.in-Ok.ensures.ok (search rules) c.requires.ends))) c.serve_one.ensures.served
+
+pub returns-clause-mem_statuses : goal.returns-clause-mem_statuses
+returns-clause-mem_statuses g c = λ plan asks verb.
+    let same = one_plan _ plan c.in-Ok.plan asks c.in-Ok.ensures.ok in
+    let is = sym same.command ∙ verb in
+    zip_right
+    (Serves c.in-Ok.plan.command g.D.Disk.content g.D.Disk.images g.D.Disk.clock g.D.Disk.images_between g.D.Disk.faults g.D.Disk.bound
+    c.in-Ok.plan g.S.Source.left g.S.Source.faults g.K.Sink.written g.K.Sink.faults c.args.a c.serve_one.result.a)
+    (λ end. IsEndStatus end.status)
+    (λ old new s. (mem_served g.D.Disk.content g.D.Disk.images g.D.Disk.clock g.D.Disk.images_between g.D.Disk.faults g.D.Disk.bound
+    g.S.Source.left g.S.Source.faults g.K.Sink.written g.K.Sink.faults c.args.a c.serve_one.result.a c.in-Ok.plan.command c.in-Ok.plan old new is s).1.status)
+    c.args.ends.items c.serve_one.result.ends.items c.serve_one.ensures.served
 
 pub returns-clause-mem_prefix : goal.returns-clause-mem_prefix
 returns-clause-mem_prefix g c = λ plan asks verb.
     let same = one_plan _ plan c.in-Ok.plan asks c.in-Ok.ensures.ok in
     let is = sym same.command ∙ verb in
     zip_weaker
-    (Serves c.in-Ok.plan.command c.in-Ok.plan g.S.Source.left g.S.Source.faults g.K.Sink.written g.K.Sink.faults)
+    (Serves c.in-Ok.plan.command g.D.Disk.content g.D.Disk.images g.D.Disk.clock g.D.Disk.images_between g.D.Disk.faults g.D.Disk.bound
+    c.in-Ok.plan g.S.Source.left g.S.Source.faults g.K.Sink.written g.K.Sink.faults c.args.a c.serve_one.result.a)
     _ (λ old new s. transcripts.prefix_same plan c.in-Ok.plan _ _ _ same
-    (mem_served g.S.Source.left g.S.Source.faults g.K.Sink.written g.K.Sink.faults c.in-Ok.plan.command c.in-Ok.plan old new is s).prefix)
-    c.args.ends.items c.serve_one-status.new.ends.items c.serve_one-status.ensures.served
+    (mem_served g.D.Disk.content g.D.Disk.images g.D.Disk.clock g.D.Disk.images_between g.D.Disk.faults g.D.Disk.bound
+    g.S.Source.left g.S.Source.faults g.K.Sink.written g.K.Sink.faults c.args.a c.serve_one.result.a c.in-Ok.plan.command c.in-Ok.plan old new is s).1.prefix)
+    c.args.ends.items c.serve_one.result.ends.items c.serve_one.ensures.served
 
 pub returns-clause-mem_all : goal.returns-clause-mem_all
 returns-clause-mem_all g c = λ plan asks verb.
     let same = one_plan _ plan c.in-Ok.plan asks c.in-Ok.ensures.ok in
     let is = sym same.command ∙ verb in
     zip_weaker
-    (Serves c.in-Ok.plan.command c.in-Ok.plan g.S.Source.left g.S.Source.faults g.K.Sink.written g.K.Sink.faults)
+    (Serves c.in-Ok.plan.command g.D.Disk.content g.D.Disk.images g.D.Disk.clock g.D.Disk.images_between g.D.Disk.faults g.D.Disk.bound
+    c.in-Ok.plan g.S.Source.left g.S.Source.faults g.K.Sink.written g.K.Sink.faults c.args.a c.serve_one.result.a)
     _ (λ old new s done. transcripts.all_same plan c.in-Ok.plan _ _ _ same
-    ((mem_served g.S.Source.left g.S.Source.faults g.K.Sink.written g.K.Sink.faults c.in-Ok.plan.command c.in-Ok.plan old new is s).all done))
-    c.args.ends.items c.serve_one-status.new.ends.items c.serve_one-status.ensures.served
+    ((mem_served g.D.Disk.content g.D.Disk.images g.D.Disk.clock g.D.Disk.images_between g.D.Disk.faults g.D.Disk.bound
+    g.S.Source.left g.S.Source.faults g.K.Sink.written g.K.Sink.faults c.args.a c.serve_one.result.a c.in-Ok.plan.command c.in-Ok.plan old new is s).1.all done))
+    c.args.ends.items c.serve_one.result.ends.items c.serve_one.ensures.served
 
 pub returns-clause-bulk_statuses : goal.returns-clause-bulk_statuses
 returns-clause-bulk_statuses g c = λ plan asks verb.
     let same = one_plan _ plan c.in-Ok.plan asks c.in-Ok.ensures.ok in
     let is = sym same.command ∙ verb in
     zip_right
-    (Serves c.in-Ok.plan.command c.in-Ok.plan g.S.Source.left g.S.Source.faults g.K.Sink.written g.K.Sink.faults)
+    (Serves c.in-Ok.plan.command g.D.Disk.content g.D.Disk.images g.D.Disk.clock g.D.Disk.images_between g.D.Disk.faults g.D.Disk.bound
+    c.in-Ok.plan g.S.Source.left g.S.Source.faults g.K.Sink.written g.K.Sink.faults c.args.a c.serve_one.result.a)
     (λ end. IsSinkStatus end.status)
-    (λ old new s.
-    (bulk_served g.S.Source.left g.S.Source.faults g.K.Sink.written g.K.Sink.faults c.in-Ok.plan.command c.in-Ok.plan old new is s).status)
-    c.args.ends.items c.serve_one-status.new.ends.items c.serve_one-status.ensures.served
+    (λ old new s. (bulk_served g.D.Disk.content g.D.Disk.images g.D.Disk.clock g.D.Disk.images_between g.D.Disk.faults g.D.Disk.bound
+    g.S.Source.left g.S.Source.faults g.K.Sink.written g.K.Sink.faults c.args.a c.serve_one.result.a c.in-Ok.plan.command c.in-Ok.plan old new is s).1.status)
+    c.args.ends.items c.serve_one.result.ends.items c.serve_one.ensures.served
 
 pub returns-clause-bulk_source : goal.returns-clause-bulk_source
 returns-clause-bulk_source g c = λ plan asks verb.
     let same = one_plan _ plan c.in-Ok.plan asks c.in-Ok.ensures.ok in
     let is = sym same.command ∙ verb in
     zip_weaker
-    (Serves c.in-Ok.plan.command c.in-Ok.plan g.S.Source.left g.S.Source.faults g.K.Sink.written g.K.Sink.faults)
-    _ (λ old new s.
-    (bulk_served g.S.Source.left g.S.Source.faults g.K.Sink.written g.K.Sink.faults c.in-Ok.plan.command c.in-Ok.plan old new is s).source)
-    c.args.ends.items c.serve_one-status.new.ends.items c.serve_one-status.ensures.served
+    (Serves c.in-Ok.plan.command g.D.Disk.content g.D.Disk.images g.D.Disk.clock g.D.Disk.images_between g.D.Disk.faults g.D.Disk.bound
+    c.in-Ok.plan g.S.Source.left g.S.Source.faults g.K.Sink.written g.K.Sink.faults c.args.a c.serve_one.result.a)
+    _ (λ old new s. (bulk_served g.D.Disk.content g.D.Disk.images g.D.Disk.clock g.D.Disk.images_between g.D.Disk.faults g.D.Disk.bound
+    g.S.Source.left g.S.Source.faults g.K.Sink.written g.K.Sink.faults c.args.a c.serve_one.result.a c.in-Ok.plan.command c.in-Ok.plan old new is s).1.source)
+    c.args.ends.items c.serve_one.result.ends.items c.serve_one.ensures.served
 
 pub returns-clause-bulk_all : goal.returns-clause-bulk_all
 returns-clause-bulk_all g c = λ plan asks verb.
     let same = one_plan _ plan c.in-Ok.plan asks c.in-Ok.ensures.ok in
     let is = sym same.command ∙ verb in
     zip_weaker
-    (Serves c.in-Ok.plan.command c.in-Ok.plan g.S.Source.left g.S.Source.faults g.K.Sink.written g.K.Sink.faults)
+    (Serves c.in-Ok.plan.command g.D.Disk.content g.D.Disk.images g.D.Disk.clock g.D.Disk.images_between g.D.Disk.faults g.D.Disk.bound
+    c.in-Ok.plan g.S.Source.left g.S.Source.faults g.K.Sink.written g.K.Sink.faults c.args.a c.serve_one.result.a)
     _ (λ old new s done. summaries.all_same plan c.in-Ok.plan _ _ same
-    ((bulk_served g.S.Source.left g.S.Source.faults g.K.Sink.written g.K.Sink.faults c.in-Ok.plan.command c.in-Ok.plan old new is s).all done))
-    c.args.ends.items c.serve_one-status.new.ends.items c.serve_one-status.ensures.served
+    ((bulk_served g.D.Disk.content g.D.Disk.images g.D.Disk.clock g.D.Disk.images_between g.D.Disk.faults g.D.Disk.bound
+    g.S.Source.left g.S.Source.faults g.K.Sink.written g.K.Sink.faults c.args.a c.serve_one.result.a c.in-Ok.plan.command c.in-Ok.plan old new is s).1.all done))
+    c.args.ends.items c.serve_one.result.ends.items c.serve_one.ensures.served
 
 pub returns-clause-bulk_prefix : goal.returns-clause-bulk_prefix
 returns-clause-bulk_prefix g c = λ plan asks verb.
     let same = one_plan _ plan c.in-Ok.plan asks c.in-Ok.ensures.ok in
     let is = sym same.command ∙ verb in
     zip_weaker
-    (Serves c.in-Ok.plan.command c.in-Ok.plan g.S.Source.left g.S.Source.faults g.K.Sink.written g.K.Sink.faults)
+    (Serves c.in-Ok.plan.command g.D.Disk.content g.D.Disk.images g.D.Disk.clock g.D.Disk.images_between g.D.Disk.faults g.D.Disk.bound
+    c.in-Ok.plan g.S.Source.left g.S.Source.faults g.K.Sink.written g.K.Sink.faults c.args.a c.serve_one.result.a)
     _ (λ old new s failed. summaries.prefix_same plan c.in-Ok.plan _ _ same
-    ((bulk_served g.S.Source.left g.S.Source.faults g.K.Sink.written g.K.Sink.faults c.in-Ok.plan.command c.in-Ok.plan old new is s).prefix failed))
-    c.args.ends.items c.serve_one-status.new.ends.items c.serve_one-status.ensures.served
+    ((bulk_served g.D.Disk.content g.D.Disk.images g.D.Disk.clock g.D.Disk.images_between g.D.Disk.faults g.D.Disk.bound
+    g.S.Source.left g.S.Source.faults g.K.Sink.written g.K.Sink.faults c.args.a c.serve_one.result.a c.in-Ok.plan.command c.in-Ok.plan old new is s).1.prefix failed))
+    c.args.ends.items c.serve_one.result.ends.items c.serve_one.ensures.served
 
 pub returns-clause-bulk_nothing : goal.returns-clause-bulk_nothing
 returns-clause-bulk_nothing g c = λ plan asks verb.
     let same = one_plan _ plan c.in-Ok.plan asks c.in-Ok.ensures.ok in
     let is = sym same.command ∙ verb in
     zip_weaker
-    (Serves c.in-Ok.plan.command c.in-Ok.plan g.S.Source.left g.S.Source.faults g.K.Sink.written g.K.Sink.faults)
-    _ (λ old new s none.
-    (bulk_served g.S.Source.left g.S.Source.faults g.K.Sink.written g.K.Sink.faults c.in-Ok.plan.command c.in-Ok.plan old new is s).nothing none)
-    c.args.ends.items c.serve_one-status.new.ends.items c.serve_one-status.ensures.served
+    (Serves c.in-Ok.plan.command g.D.Disk.content g.D.Disk.images g.D.Disk.clock g.D.Disk.images_between g.D.Disk.faults g.D.Disk.bound
+    c.in-Ok.plan g.S.Source.left g.S.Source.faults g.K.Sink.written g.K.Sink.faults c.args.a c.serve_one.result.a)
+    _ (λ old new s none. (bulk_served g.D.Disk.content g.D.Disk.images g.D.Disk.clock g.D.Disk.images_between g.D.Disk.faults g.D.Disk.bound
+    g.S.Source.left g.S.Source.faults g.K.Sink.written g.K.Sink.faults c.args.a c.serve_one.result.a c.in-Ok.plan.command c.in-Ok.plan old new is s).1.nothing none)
+    c.args.ends.items c.serve_one.result.ends.items c.serve_one.ensures.served
+
+pub returns-clause-init_statuses : goal.returns-clause-init_statuses
+returns-clause-init_statuses g c = λ plan asks verb.
+    absurd ((search rules) (sym (one_plan _ plan c.in-Ok.plan asks c.in-Ok.ensures.ok).command ∙ verb))
+
+pub returns-clause-init_ends : goal.returns-clause-init_ends
+returns-clause-init_ends g c = λ plan asks verb.
+    absurd ((search rules) (sym (one_plan _ plan c.in-Ok.plan asks c.in-Ok.ensures.ok).command ∙ verb))
+
+pub returns-clause-init_done : goal.returns-clause-init_done
+returns-clause-init_done g c = λ plan asks verb.
+    absurd ((search rules) (sym (one_plan _ plan c.in-Ok.plan asks c.in-Ok.ensures.ok).command ∙ verb))
+
+pub returns-clause-init_not_empty : goal.returns-clause-init_not_empty
+returns-clause-init_not_empty g c = λ plan asks verb.
+    absurd ((search rules) (sym (one_plan _ plan c.in-Ok.plan asks c.in-Ok.ensures.ok).command ∙ verb))
+
+pub returns-clause-init_stays : goal.returns-clause-init_stays
+returns-clause-init_stays g c = λ plan asks verb.
+    absurd ((search rules) (sym (one_plan _ plan c.in-Ok.plan asks c.in-Ok.ensures.ok).command ∙ verb))
+
+pub returns-clause-run : goal.returns-clause-run
+returns-clause-run g c = λ plan asks verb.
+    let same = one_plan _ plan c.in-Ok.plan asks c.in-Ok.ensures.ok in
+    let is = sym same.command ∙ verb in
+    zip_weaker
+    (Serves c.in-Ok.plan.command g.D.Disk.content g.D.Disk.images g.D.Disk.clock g.D.Disk.images_between g.D.Disk.faults g.D.Disk.bound
+    c.in-Ok.plan g.S.Source.left g.S.Source.faults g.K.Sink.written g.K.Sink.faults c.args.a c.serve_one.result.a)
+    _ (λ old new s. runs_same g.D.Disk.content g.D.Disk.images g.D.Disk.clock g.D.Disk.images_between g.D.Disk.faults g.D.Disk.bound
+    g.S.Source.left g.K.Sink.written plan c.in-Ok.plan c.args.a c.serve_one.result.a old new same.commits same.page
+    (run_served g.D.Disk.content g.D.Disk.images g.D.Disk.clock g.D.Disk.images_between g.D.Disk.faults g.D.Disk.bound
+    g.S.Source.left g.S.Source.faults g.K.Sink.written g.K.Sink.faults c.args.a c.serve_one.result.a c.in-Ok.plan.command c.in-Ok.plan old new is s).runs)
+    c.args.ends.items c.serve_one.result.ends.items c.serve_one.ensures.served

@@ -3,7 +3,7 @@ use Rattle.std.proofs.lemmas.Result.{IfOk-weaker, IfErr-weaker}
 use Rattle.clap.proofs.WalkLemmas.{first_value-rows}
 use Rattle.clap.specs.Words.{found_of, rows_of}
 use Rattle.chem_shell.specs.Words.{texts}
-use Rattle.chem_shell.proofs.Asked.{asks_bulk, asks_mem, no_bulk, no_command, no_mem, some_same}
+use Rattle.chem_shell.proofs.Asked.{asks_bulk, asks_init, asks_mem, asks_run, no_bulk, no_command, no_init, no_mem, no_run, some_same}
 use Rattle.chem_shell.proofs.words.read.Goals as goal
 
 pub returns-in-Some-mem-clause-ok : goal.returns-in-Some-mem-clause-ok
@@ -26,6 +26,48 @@ returns-in-Some-mem-clause-err c =
     IfErr-weaker c.mem.result _ _
     (λ fault none. inr (no_mem (texts c.args.words.now) (rows_of (found_of c.in_ok-found.found)) found.1 command none))
     c.mem.ensures.err
+
+pub returns-in-Some-init-clause-ok : goal.returns-in-Some-init-clause-ok
+returns-in-Some-init-clause-ok c =
+    let found = c.in_ok-found.ensures.ok in
+    let word : option_map (λ s. s.now) c.get_str.result ≡ Some (codes "init") = search rules in
+    let command = sym (first_value-rows (found_of c.in_ok-found.found) (codes "command")) ∙ sym c.get_str.ensures
+    ∙ word in
+    IfOk-weaker c.init.result _ _
+    (λ plan row. asks_init (texts c.args.words.now)
+    (rows_of (found_of c.in_ok-found.found)) plan found.0 found.1 command row)
+    c.init.ensures.ok
+
+pub returns-in-Some-init-clause-err : goal.returns-in-Some-init-clause-err
+returns-in-Some-init-clause-err c =
+    let found = c.in_ok-found.ensures.ok in
+    let word : option_map (λ s. s.now) c.get_str.result ≡ Some (codes "init") = search rules in
+    let command = sym (first_value-rows (found_of c.in_ok-found.found) (codes "command")) ∙ sym c.get_str.ensures
+    ∙ word in
+    IfErr-weaker c.init.result _ _
+    (λ fault none. inr (no_init (texts c.args.words.now) (rows_of (found_of c.in_ok-found.found)) found.1 command none))
+    c.init.ensures.err
+
+pub returns-in-Some-run-clause-ok : goal.returns-in-Some-run-clause-ok
+returns-in-Some-run-clause-ok c =
+    let found = c.in_ok-found.ensures.ok in
+    let word : option_map (λ s. s.now) c.get_str.result ≡ Some (codes "run") = search rules in
+    let command = sym (first_value-rows (found_of c.in_ok-found.found) (codes "command")) ∙ sym c.get_str.ensures
+    ∙ word in
+    IfOk-weaker c.run.result _ _
+    (λ plan row. asks_run (texts c.args.words.now)
+    (rows_of (found_of c.in_ok-found.found)) plan found.0 found.1 command row)
+    c.run.ensures.ok
+
+pub returns-in-Some-run-clause-err : goal.returns-in-Some-run-clause-err
+returns-in-Some-run-clause-err c =
+    let found = c.in_ok-found.ensures.ok in
+    let word : option_map (λ s. s.now) c.get_str.result ≡ Some (codes "run") = search rules in
+    let command = sym (first_value-rows (found_of c.in_ok-found.found) (codes "command")) ∙ sym c.get_str.ensures
+    ∙ word in
+    IfErr-weaker c.run.result _ _
+    (λ fault none. inr (no_run (texts c.args.words.now) (rows_of (found_of c.in_ok-found.found)) found.1 command none))
+    c.run.ensures.err
 
 pub returns-in-Some-bulk-clause-ok : goal.returns-in-Some-bulk-clause-ok
 returns-in-Some-bulk-clause-ok c =
@@ -57,6 +99,12 @@ returns-in-Some-clause-err c =
     (λ mem.
     let same = some_same c.in-Some.word.now (codes "mem") (word ∙ mem) in
     c.in-Some.not-mem (search rules))
+    (λ init.
+    let same = some_same c.in-Some.word.now (codes "init") (word ∙ init) in
+    c.in-Some.not-init (search rules))
+    (λ run.
+    let same = some_same c.in-Some.word.now (codes "run") (word ∙ run) in
+    c.in-Some.not-run (search rules))
     (λ bulk.
     let same = some_same c.in-Some.word.now (codes "bulk") (word ∙ bulk) in
     c.in-Some.not-bulk (search rules)))
@@ -69,6 +117,12 @@ returns-clause-err c =
     inr (no_command (texts c.args.words.now) (rows_of (found_of c.in_ok-found.found)) found.1
     (λ mem.
     let bad : None ≡ Some (codes "mem") = none ∙ mem in
+    cc)
+    (λ init.
+    let bad : None ≡ Some (codes "init") = none ∙ init in
+    cc)
+    (λ run.
+    let bad : None ≡ Some (codes "run") = none ∙ run in
     cc)
     (λ bulk.
     let bad : None ≡ Some (codes "bulk") = none ∙ bulk in

@@ -1,0 +1,140 @@
+-- A session over a store that was loaded: what the disk then has, and what was put.
+use Rattle.std.proofs.Common.{◌≡◌, ◌≢◌, ◌≤◌, ◌++◌, ◌∙◌, ℕ, List, [], ◌∷◌, Option, None, Some, IfSome, option_map, refl, sym, ap, subst, inl, inr, append-nil, arith, true}
+use Rattle.std.proofs.lemmas.List.{map-append}
+use Rattle.disk_edge.specs.Disk.{IfTold}
+use Rattle.io_edge.specs.Lines.{lines_of}
+use Rattle.journal_core.specs.Records.{Opens}
+use Rattle.journal_core.specs.Standing.{Standing}
+use Rattle.session_run.specs.Cursors.{Calls}
+use Rattle.session_run.specs.Served as session
+use Rattle.session_run.specs.Served.{Writes}
+use Rattle.session_run.specs.Truths.{IsInRun, ServicesAreTrue}
+use Rattle.session_run.specs.declared.settings.EndStatus.{EndStatus}
+use Rattle.session_run.specs.declared.settings.EndStatus.TheVariants.{Done, SourceFault, SinkFault, NoMemory, InputTooLong, Worn}
+use Rattle.store_core.specs.Calls as core
+use Rattle.store_disk.specs.Loads.{IsOpened, OpensTo}
+use Rattle.store_disk.specs.OnDisk.{Has, StandsFor, StoreTerm}
+use Rattle.store_disk.specs.Payloads.{payload, payloads}
+use Rattle.store_disk.specs.Stored.{Stretches}
+use Rattle.store_machine.specs.declared.machine.Change.{Change}
+use Rattle.store_machine.specs.declared.machine.Faults.{Faults}
+use Rattle.store_machine.specs.declared.machine.State.{State}
+use Rattle.chem_shell.specs.OnDisk.{AreOnDisk, IsTranscriptBy, IsTranscriptPrefixBy, OpensAfter, RunsOn}
+use Rattle.chem_shell.specs.Status.{IsEndStatus, IsStatusOf}
+use Rattle.chem_shell.specs.declared.request.Plan.{Plan}
+use Rattle.chem_shell.specs.declared.top.End.{End}
+use Rattle.chem_shell.specs.declared.top.TheConstants.{DONE}
+use Rattle.chem_shell.proofs.Transcripts.{served_begins, true_begins, writes_as}
+
+-- a status of a session is one of an end
+pub end_of : (ended : EndStatus) (status : ℕ) → IsStatusOf ended status → IsEndStatus status
+end_of Done status is = inl is
+end_of SourceFault status is = inr (inl is)
+end_of SinkFault status is = inr (inr (inl is))
+end_of NoMemory status is = inr (inr (inr (inl is)))
+end_of InputTooLong status is = inr (inr (inr (inr is)))
+end_of Worn status is = absurd is
+
+-- what was put by the calls of a run, as a beginning
+beginning : (ended : EndStatus) (page : ℕ) (calls : Calls) (h : List Change) (input before after : Option (List ℕ))
+    → ended ≢ Worn → ServicesAreTrue → IsInRun calls h
+    → IfSome input (λ bytes. Writes before after (session.IsServed ended page (lines_of bytes) calls))
+    → IfSome input (λ bytes. Writes before after (IsTranscriptPrefixBy page bytes calls h))
+beginning ended page calls h None before after fit law run served = tt
+beginning ended page calls h (Some bytes) before after fit law run served =
+    writes_as before after (session.IsServed ended page (lines_of bytes) calls) (IsTranscriptPrefixBy page bytes calls h)
+    (λ text is. (
+      served_begins ended page (lines_of bytes) calls text fit is,
+      true_begins ended h page (lines_of bytes) calls text fit (law ended page (lines_of bytes) calls text h run is),
+    )) served
+
+-- and as the whole, where the session came to the input's end
+whole : (page : ℕ) (calls : Calls) (h : List Change) (input before after : Option (List ℕ))
+    → ServicesAreTrue → IsInRun calls h
+    → IfSome input (λ bytes. Writes before after (session.IsServed Done page (lines_of bytes) calls))
+    → IfSome input (λ bytes. Writes before after (IsTranscriptBy page bytes calls h))
+whole page calls h None before after law run served = tt
+whole page calls h (Some bytes) before after law run served =
+    writes_as before after (session.IsServed Done page (lines_of bytes) calls) (IsTranscriptBy page bytes calls h)
+    (λ text is. (is, law Done page (lines_of bytes) calls text h run is)) served
+
+whole_of_status : (ended : EndStatus) (status page : ℕ) (calls : Calls) (h : List Change)
+    (input before after : Option (List ℕ)) → IsStatusOf ended status → status ≡ DONE
+    → ServicesAreTrue → IsInRun calls h
+    → IfSome input (λ bytes. Writes before after (session.IsServed ended page (lines_of bytes) calls))
+    → IfSome input (λ bytes. Writes before after (IsTranscriptBy page bytes calls h))
+whole_of_status Done status page calls h input before after is e law run served =
+    whole page calls h input before after law run served
+whole_of_status SourceFault status page calls h input before after is e law run served = absurd (omega (arith, is, e))
+whole_of_status SinkFault status page calls h input before after is e law run served = absurd (omega (arith, is, e))
+whole_of_status NoMemory status page calls h input before after is e law run served = absurd (omega (arith, is, e))
+whole_of_status InputTooLong status page calls h input before after is e law run served = absurd (omega (arith, is, e))
+whole_of_status Worn status page calls h input before after is e law run served = absurd is
+
+module _ {D : Type 0} (content : D → Option (List ℕ)) (images : D → List ℕ → Type 0) (clock : D → ℕ)
+    (between : D → ℕ → ℕ → List ℕ → Type 0) (faults : D → ℕ) where
+  opens_by : (journal : Standing D) (s : State) (doubt : Option Change) → s.doubt ≡ doubt
+      → Has content images journal (payloads s.history) (option_map payload doubt)
+      → IfTold (content journal.disk) (λ _. (image : List ℕ) → images journal.disk image → OpensAfter s image)
+  opens_by journal s None is has l told image i = (s.history, inl refl, (has.1 l told).each image i)
+  opens_by journal s (Some c) is has l told image i = elim ((has.1 l told).each image i) [
+    | inl before ↦ (s.history, inl refl, before)
+    | inr after ↦ (
+      s.history ++ c ∷ [],
+      inr (c, is, refl),
+      subst (λ ps. Opens ps image) (sym (map-append payload s.history (c ∷ []))) after,
+    )
+  ]
+
+  -- each image of a store's disk opens to its history, or to this and the commit in doubt
+  pub opens_after : (store : StoreTerm D) (s : State) → StandsFor content images faults store s
+      → IfTold (content store.journal.disk) (λ _. (image : List ℕ) → images store.journal.disk image → OpensAfter s image)
+  opens_after store s stands = opens_by store.journal s s.doubt refl stands.journal
+
+  in_run : (s : State) (old new : StoreTerm D) (calls : Calls)
+      → (made : core.Calls (Stretches content images clock between faults) (λ _. true) old new s calls)
+      → IsInRun calls made.after.history
+  in_run s old new calls made = record {
+    before = s;
+    after = made.after;
+    steps = made.steps;
+    own = λ _. true;
+    more = [];
+    sound = made.stands.begins.sound;
+    run = made.stands.run;
+    calm = made.stands.calm;
+    made = made.own ∙ sym (append-nil calls);
+    is = refl;
+  }
+
+  pub runs_on : ServicesAreTrue → {S K : Type 0} (left : S → Option (List ℕ)) (written : K → Option (List ℕ))
+      (plan : Plan) (a a' : D) (s : State) (old new : StoreTerm D) (calls : Calls) (ended : EndStatus)
+      (before after : End S K)
+      → IsOpened plan.commits s → IfTold (content a) (OpensTo s.history) → faults a ≤ s.faults.a
+      → core.Calls (Stretches content images clock between faults) (λ _. true) old new s calls
+      → a' ≡ new.journal.disk → ended ≢ Worn → IsStatusOf ended after.status
+      → IfSome (left before.source) (λ bytes. Writes (written before.sink) (written after.sink)
+      (session.IsServed ended plan.page (lines_of bytes) calls))
+      → RunsOn content images faults left written plan a a' before after
+  runs_on law left written plan a a' s old new calls ended before after opened opens count made same fit is served = record {
+    status = end_of ended after.status is;
+    calls = calls;
+    on = record {
+      first = s;
+      steps = made.steps;
+      last = made.after;
+      opened = opened;
+      opens = opens;
+      run = made.stands.run;
+      calm = made.stands.calm;
+      all = made.own;
+      left = subst (λ d. IfTold (content d) (λ _. (image : List ℕ) → images d image → OpensAfter made.after image))
+          (sym same) (opens_after new made.after made.stands.ends);
+      begins = count;
+      ends = ap (λ (f : Faults). f.a) made.stands.ends.counts ∙ ap faults (sym same);
+    };
+    prefix = beginning ended plan.page calls made.after.history (left before.source) (written before.sink)
+        (written after.sink) fit law (in_run s old new calls made) served;
+    all = λ e. whole_of_status ended after.status plan.page calls made.after.history (left before.source)
+        (written before.sink) (written after.sink) is e law (in_run s old new calls made) served;
+  }

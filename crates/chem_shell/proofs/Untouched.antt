@@ -1,0 +1,57 @@
+-- Where nothing was done, and the same at a plan that asks for the same.
+use Rattle.std.proofs.Common.{◌≡◌, ◌⊎◌, ◌∙◌, ℕ, List, Option, refl, sym, ap, subst, inl, inr}
+use Rattle.disk_edge.specs.Disk.{Same}
+use Rattle.journal_core.specs.LookLaws.{narrows_none}
+use Rattle.journal_core.specs.Looks.{Narrows}
+use Rattle.chem_shell.specs.Ends.{with_status}
+use Rattle.chem_shell.specs.OnDisk.{IsRefused, RunsOn, Stays}
+use Rattle.chem_shell.specs.declared.request.Plan.{Plan}
+use Rattle.chem_shell.specs.declared.top.End.{End}
+
+pub stays_same : {D : Type 0} (content : D → Option (List ℕ)) (images : D → List ℕ → Type 0) (a a' : D) → a' ≡ a
+    → Stays (content a) (content a') (images a) (images a')
+stays_same content images a a' same =
+    (ap content same, subst (λ d. Same (images a) (images d)) (sym same) (record { no_more = λ c i. i; no_fewer = λ c i. i }))
+
+module _ {D S K : Type 0} (content : D → Option (List ℕ)) (images : D → List ℕ → Type 0) (clock : D → ℕ)
+    (between : D → ℕ → ℕ → List ℕ → Type 0) (faults : D → ℕ) (bound : D → Option ℕ) where
+  pub refused_unmoved : ((d : D) (c : List ℕ) → between d (clock d) (clock d) c → images d c) → (a a' : D) → a' ≡ a
+      → (end : End S K) → IsRefused content images clock between faults bound a a' end (with_status 8 end)
+  refused_unmoved only_now a a' same end = record {
+    status = inr (inr (inr refl));
+    end = refl;
+    disk = subst (λ d. Narrows content images clock between faults bound a d) (sym same)
+        (narrows_none content images clock between faults bound a (only_now a));
+  }
+
+  pub runs_same : (left : S → Option (List ℕ)) (written : K → Option (List ℕ)) (p q : Plan) (a a' : D) (old new : End S K)
+      → p.commits ≡ q.commits → p.page ≡ q.page
+      → IsRefused content images clock between faults bound a a' old new
+      ⊎ RunsOn content images faults left written q a a' old new
+      → IsRefused content images clock between faults bound a a' old new
+      ⊎ RunsOn content images faults left written p a a' old new
+  runs_same left written p q a a' old new commits page (inl r) = inl r
+  runs_same left written p q a a' old new commits page (inr r) = inr (record {
+    status = r.status;
+    calls = r.calls;
+    on = record {
+      first = r.on.first;
+      steps = r.on.steps;
+      last = r.on.last;
+      opened = record {
+        limit = r.on.opened.limit ∙ sym commits;
+        pins = r.on.opened.pins;
+        doubt = r.on.opened.doubt;
+        kept = r.on.opened.kept;
+      };
+      opens = r.on.opens;
+      run = r.on.run;
+      calm = r.on.calm;
+      all = r.on.all;
+      left = r.on.left;
+      begins = r.on.begins;
+      ends = r.on.ends;
+    };
+    prefix = rw page r.prefix;
+    all = λ e. rw page (r.all e);
+  })

@@ -1,0 +1,84 @@
+-- For callers: what `init` and `run` leave of disk `a`. What the disk tells, its images and its counts are told by
+-- functions.
+use Rattle.std.specs.Prelude.{◌≡◌, ◌≢◌, ◌⊎◌, ◌≤◌, ℕ, List, [], length, Option, Some, IfSome, true}
+use Rattle.disk_edge.specs.Disk.{Exactly, IfTold, Rose, Same}
+use Rattle.io_edge.specs.Lines.{lines_of}
+use Rattle.journal_core.specs.Looks.{Narrows}
+use Rattle.journal_core.specs.Records.{IsNoJournal, Opens, text}
+use Rattle.session_run.specs.Cursors.{Calls}
+use Rattle.session_run.specs.Served.{Writes}
+use Rattle.session_run.specs.Transcript as session
+use Rattle.session_run.specs.Truths.{IsTrueBeginning, IsTrueTranscript}
+use Rattle.store_disk.specs.Loads.{Damages, IsOpened, OpensTo}
+use Rattle.store_disk.specs.Payloads.{payloads}
+use Rattle.store_machine.specs.Machine.{Recovers}
+use Rattle.store_machine.specs.Runs.{IsCalm, IsRun, calls_of}
+use Rattle.store_machine.specs.declared.machine.Change.{Change}
+use Rattle.store_machine.specs.declared.machine.State.{State}
+use Rattle.store_machine.specs.declared.machine.Step.{Step}
+use Rattle.chem_shell.specs.Ends.{with_status}
+use Rattle.chem_shell.specs.Status.{IsEndStatus, IsLoadStatus}
+use Rattle.chem_shell.specs.declared.request.Plan.{Plan}
+use Rattle.chem_shell.specs.declared.top.End.{End}
+use Rattle.chem_shell.specs.declared.top.TheConstants.{DONE}
+
+-- what a read gives is the empty store, and so is the only image
+abbrev pub IsEmptyStore : Option (List ℕ) → (List ℕ → Type 0) → Type 0
+IsEmptyStore content images = (content ≡ Some (text [])) × Exactly (text []) images
+
+-- what a read gives stays, and so do the images
+abbrev pub Stays : Option (List ℕ) → Option (List ℕ) → (List ℕ → Type 0) → (List ℕ → Type 0) → Type 0
+Stays old new old_images new_images = (new ≡ old) × Same old_images new_images
+
+-- the bytes open to the state's history, or to this and the commit in doubt
+abbrev pub OpensAfter : State → List ℕ → Type 0
+OpensAfter s bytes = (h : List Change) × Recovers s h × Opens (payloads h) bytes
+
+-- The calls are all of a run without a crash that begins with the commits of the disk. Afterwards each image opens to the
+-- run's history, or to this and the commit in doubt; the counts of faults in the run's states are the disk's.
+pub record AreOnDisk {D : Type 0} (content : D → Option (List ℕ)) (images : D → List ℕ → Type 0) (faults : D → ℕ)
+    (commits : ℕ) (old new : D) (calls : Calls) : Type 0 where
+  pub first : State
+  pub steps : List Step
+  pub last : State
+  pub opened : IsOpened commits first
+  pub opens : IfTold (content old) (OpensTo first.history)
+  pub run : IsRun first steps last
+  pub calm : IsCalm steps
+  pub all : calls_of (λ _. true) steps ≡ calls
+  pub left : IfTold (content new) (λ _. (image : List ℕ) → images new image → OpensAfter last image)
+  pub begins : faults old ≤ first.faults.a
+  pub ends : last.faults.a ≡ faults new
+
+-- The text is a transcript of the script by these calls, by pages of a size. Each search and each cursor that came to its
+-- end listed exactly the hits of the history
+abbrev pub IsTranscriptBy : ℕ → List ℕ → Calls → List Change → List ℕ → Type 0
+IsTranscriptBy page script calls history text =
+    session.IsTranscript page (lines_of script) calls text × IsTrueTranscript history page (lines_of script) calls text
+
+-- the same of a prefix of one
+abbrev pub IsTranscriptPrefixBy : ℕ → List ℕ → Calls → List Change → List ℕ → Type 0
+IsTranscriptPrefixBy page script calls history text =
+    session.IsTranscriptPrefix page (lines_of script) calls text
+    × IsTrueBeginning history page (lines_of script) calls text
+
+-- `run` after the store was loaded: what was written is a prefix of a transcript of the source's bytes by the calls of a
+-- run on the disk, and all of one where the status is 0
+pub record RunsOn {D S K : Type 0} (content : D → Option (List ℕ)) (images : D → List ℕ → Type 0) (faults : D → ℕ)
+    (left : S → Option (List ℕ)) (written : K → Option (List ℕ)) (plan : Plan) (a a' : D) (old new : End S K)
+    : Type 0 where
+  pub status : IsEndStatus new.status
+  pub calls : Calls
+  pub on : AreOnDisk content images faults plan.commits a a' calls
+  pub prefix : IfSome (left old.source) (λ script. Writes (written old.sink) (written new.sink)
+      (IsTranscriptPrefixBy plan.page script calls on.last.history))
+  pub all : new.status ≡ DONE → IfSome (left old.source) (λ script. Writes (written old.sink) (written new.sink)
+      (IsTranscriptBy plan.page script calls on.last.history))
+
+-- `run` where the store was not loaded: nothing was taken or put, and the disk was only read
+pub record IsRefused {D S K : Type 0} (content : D → Option (List ℕ)) (images : D → List ℕ → Type 0) (clock : D → ℕ)
+    (images_between : D → ℕ → ℕ → List ℕ → Type 0) (faults : D → ℕ) (bound : D → Option ℕ)
+    (a a' : D) (old new : End S K) : Type 0 where
+  pub status : IsLoadStatus new.status
+  pub end : new ≡ with_status new.status old
+  pub disk : Narrows content images clock images_between faults bound a a'
