@@ -1,5 +1,5 @@
 //! The top call: the words, the ends and the disks in, and what became of them out.
-ghost use Rattle.std.specs.Prelude.{◌≡◌, ◌≢◌, ◌≤◌, ◌⊎◌, All, [], length, map};
+ghost use Rattle.std.specs.Prelude.{◌≡◌, ◌≢◌, ◌≤◌, ◌⊎◌, All, [], false, length, map, true};
 ghost use Rattle.std.specs.List.{AllZip};
 ghost use Rattle.disk_edge.specs.Disk as disk;
 ghost use Rattle.disk_edge.specs.Disk.{IfTold};
@@ -174,10 +174,21 @@ pub fn chemdb<
         Err(PlanFault::NoMemory) => return unserved(NO_MEMORY, a, b, ends),
         Ok(plan) => plan,
     };
-    if plan.command == Verb::Init {
+    if makes_store(plan.command) {
         created(a, b, ends)
     } else {
         serve_one(rt, alloc, &plan, Disks { a, b }, ends)
+    }
+}
+
+// `init` makes a store, and has no end.
+fn makes_store(command: Verb) -> bool
+    ensures yes { result ≡ true → command ≡ Verb.Init }
+    ensures no { result ≡ false → command ≢ Verb.Init }
+{
+    match command {
+        Verb::Init => true,
+        Verb::Mem | Verb::Run | Verb::Bulk => false,
     }
 }
 
