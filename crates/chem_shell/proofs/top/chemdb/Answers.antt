@@ -151,7 +151,7 @@ returns-in-Err-NoMemory-clause-init_stays g c = λ plan asks verb which.
 
 pub returns-in-Err-NoMemory-clause-run : goal.returns-in-Err-NoMemory-clause-run
 returns-in-Err-NoMemory-clause-run g c = λ plan asks verb.
-    zip_mapped _ (with_status 8) (λ e. inl (refused_unmoved g.D.Disk.content g.D.Disk.images g.D.Disk.clock g.D.Disk.images_between g.D.Disk.faults g.D.Disk.bound g.met.D.Disk.only_now c.args.a c.unserved-in-Err-NoMemory.result.a c.unserved-in-Err-NoMemory.ensures.disk_a e)) _ _ c.unserved-in-Err-NoMemory.ensures.ends
+    zip_mapped _ (with_status 8) (λ e. inl (refused_unmoved g.D.Disk.content g.D.Disk.images g.D.Disk.clock g.D.Disk.images_between g.D.Disk.faults g.D.Disk.bound c.args.a c.unserved-in-Err-NoMemory.result.a c.unserved-in-Err-NoMemory.ensures.read e)) _ _ c.unserved-in-Err-NoMemory.ensures.ends
 
 pub returns-in-Err-NoMemory-clause-overall : goal.returns-in-Err-NoMemory-clause-overall
 returns-in-Err-NoMemory-clause-overall g c = λ asks some.
