@@ -1,7 +1,6 @@
 -- Where nothing was done, and the same at a plan that asks for the same.
 use Rattle.std.proofs.Common.{◌≡◌, ◌⊎◌, ◌∙◌, ℕ, List, Option, refl, sym, ap, subst, inl, inr}
 use Rattle.disk_edge.specs.Disk.{Same}
-use Rattle.journal_core.specs.LookLaws.{narrows_none}
 use Rattle.journal_core.specs.Looks.{Narrows}
 use Rattle.chem_shell.specs.Ends.{with_status}
 use Rattle.chem_shell.specs.OnDisk.{IsRefused, RunsOn, Stays}
@@ -15,14 +14,9 @@ stays_same content images a a' same =
 
 module _ {D S K : Type 0} (content : D → Option (List ℕ)) (images : D → List ℕ → Type 0) (clock : D → ℕ)
     (between : D → ℕ → ℕ → List ℕ → Type 0) (faults : D → ℕ) (bound : D → Option ℕ) where
-  pub refused_unmoved : ((d : D) (c : List ℕ) → between d (clock d) (clock d) c → images d c) → (a a' : D) → a' ≡ a
-      → (end : End S K) → IsRefused content images clock between faults bound a a' end (with_status 8 end)
-  refused_unmoved only_now a a' same end = record {
-    status = inr (inr (inr refl));
-    end = refl;
-    disk = subst (λ d. Narrows content images clock between faults bound a d) (sym same)
-        (narrows_none content images clock between faults bound a (only_now a));
-  }
+  pub refused_unmoved : (a a' : D) → Narrows content images clock between faults bound a a' → (end : End S K)
+      → IsRefused content images clock between faults bound a a' end (with_status 8 end)
+  refused_unmoved a a' read end = record { status = inr (inr (inr refl)); end = refl; disk = read }
 
   pub runs_same : (left : S → Option (List ℕ)) (written : K → Option (List ℕ)) (p q : Plan) (a a' : D) (old new : End S K)
       → p.commits ≡ q.commits → p.page ≡ q.page

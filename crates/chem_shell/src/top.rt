@@ -1,9 +1,10 @@
 //! The top call: the words, the ends and the disks in, and what became of them out.
-ghost use Rattle.std.specs.Prelude.{◌≡◌, ◌≢◌, ◌≤◌, ◌⊎◌, All, [], length, map};
+ghost use Rattle.std.specs.Prelude.{◌≡◌, ◌≢◌, ◌≤◌, ◌⊎◌, All, [], false, length, map, true};
 ghost use Rattle.std.specs.List.{AllZip};
 ghost use Rattle.disk_edge.specs.Disk as disk;
 ghost use Rattle.disk_edge.specs.Disk.{IfTold};
 ghost use Rattle.io_edge.specs.Faults.{Rose};
+ghost use Rattle.journal_core.specs.Looks.{Narrows};
 ghost use Rattle.journal_core.specs.Records.{IsNoJournal};
 ghost use Rattle.session_run.specs.Served.{TakesExactly, Writes};
 ghost use Rattle.store_disk.specs.Loads.{Damages};
@@ -174,10 +175,21 @@ pub fn chemdb<
         Err(PlanFault::NoMemory) => return unserved(NO_MEMORY, a, b, ends),
         Ok(plan) => plan,
     };
-    if plan.command == Verb::Init {
+    if makes_store(plan.command) {
         created(a, b, ends)
     } else {
         serve_one(rt, alloc, &plan, Disks { a, b }, ends)
+    }
+}
+
+// `init` makes a store, and has no end.
+fn makes_store(command: Verb) -> bool
+    ensures yes { result ≡ true → command ≡ Verb.Init }
+    ensures no { result ≡ false → command ≢ Verb.Init }
+{
+    match command {
+        Verb::Init => true,
+        Verb::Mem | Verb::Run | Verb::Bulk => false,
     }
 }
 
@@ -265,7 +277,7 @@ fn serve<R: Threads + Sync, D: Disk + Drop, S: Source + Drop, K: Sink + Drop>(
 }
 
 // The outcome where no end was served: each has the status, and nothing else changed.
-fn unserved<D: Drop, S: Drop, K: Drop>(
+fn unserved<D: Disk + Drop, S: Drop, K: Drop>(
     status: u8,
     a: D,
     b: D,
@@ -275,6 +287,7 @@ fn unserved<D: Drop, S: Drop, K: Drop>(
     ensures place { result.place ≡ 0 }
     ensures disk_a { result.a ≡ a }
     ensures disk_b { result.b ≡ b }
+    ensures read { Narrows D.content D.images D.clock D.images_between D.faults D.bound a result.a }
     ensures ends { result.ends.items ≡ map (with_status status) ends.items }
 {
     set_status(&mut ends, status);

@@ -1,4 +1,4 @@
-use Rattle.std.proofs.Common.{rules, arith, refl, ap, ◌∙◌, sym, inl, inr, Err}
+use Rattle.std.proofs.Common.{arith, refl, ap, ◌∙◌, sym, inl, inr, Err}
 use Rattle.std.proofs.lemmas.Bool.{eqb-false}
 use Rattle.chem_shell.specs.Ends.{with_status}
 use Rattle.chem_shell.specs.Loading.{Serves}
@@ -151,7 +151,7 @@ returns-in-Err-NoMemory-clause-init_stays g c = λ plan asks verb which.
 
 pub returns-in-Err-NoMemory-clause-run : goal.returns-in-Err-NoMemory-clause-run
 returns-in-Err-NoMemory-clause-run g c = λ plan asks verb.
-    zip_mapped _ (with_status 8) (λ e. inl (refused_unmoved g.D.Disk.content g.D.Disk.images g.D.Disk.clock g.D.Disk.images_between g.D.Disk.faults g.D.Disk.bound g.D.Disk.only_now c.args.a c.unserved-in-Err-NoMemory.result.a c.unserved-in-Err-NoMemory.ensures.disk_a e)) _ _ c.unserved-in-Err-NoMemory.ensures.ends
+    zip_mapped _ (with_status 8) (λ e. inl (refused_unmoved g.D.Disk.content g.D.Disk.images g.D.Disk.clock g.D.Disk.images_between g.D.Disk.faults g.D.Disk.bound c.args.a c.unserved-in-Err-NoMemory.result.a c.unserved-in-Err-NoMemory.ensures.read e)) _ _ c.unserved-in-Err-NoMemory.ensures.ends
 
 pub returns-in-Err-NoMemory-clause-overall : goal.returns-in-Err-NoMemory-clause-overall
 returns-in-Err-NoMemory-clause-overall g c = λ asks some.
@@ -159,113 +159,113 @@ returns-in-Err-NoMemory-clause-overall g c = λ asks some.
     ∙ fault_of_all_alike c.args.ends.items c.unserved-in-Err-NoMemory.result.ends.items 8 (one_end c.args.ends.items _ asks c.requires.ends some)
     c.unserved-in-Err-NoMemory.ensures.ends
 
-pub returns-then-eq-clause-usage : goal.returns-then-eq-clause-usage
-returns-then-eq-clause-usage g c = λ two asks. never_created_usage c.created.result.status c.created.ensures.status two
+pub returns-then-makes_store-clause-usage : goal.returns-then-makes_store-clause-usage
+returns-then-makes_store-clause-usage g c = λ two asks. never_created_usage c.created.result.status c.created.ensures.status two
 
-pub returns-then-eq-clause-no_plan : goal.returns-then-eq-clause-no_plan
-returns-then-eq-clause-no_plan g c = λ none. absurd (none (c.in-Ok.plan, c.in-Ok.ensures.ok))
+pub returns-then-makes_store-clause-no_plan : goal.returns-then-makes_store-clause-no_plan
+returns-then-makes_store-clause-no_plan g c = λ none. absurd (none (c.in-Ok.plan, c.in-Ok.ensures.ok))
 
-pub returns-then-eq-clause-no_plan_takes_nothing : goal.returns-then-eq-clause-no_plan_takes_nothing
-returns-then-eq-clause-no_plan_takes_nothing g c = λ none. absurd (none (c.in-Ok.plan, c.in-Ok.ensures.ok))
+pub returns-then-makes_store-clause-no_plan_takes_nothing : goal.returns-then-makes_store-clause-no_plan_takes_nothing
+returns-then-makes_store-clause-no_plan_takes_nothing g c = λ none. absurd (none (c.in-Ok.plan, c.in-Ok.ensures.ok))
 
-pub returns-then-eq-clause-no_plan_disk : goal.returns-then-eq-clause-no_plan_disk
-returns-then-eq-clause-no_plan_disk g c = λ none. absurd (none (c.in-Ok.plan, c.in-Ok.ensures.ok))
+pub returns-then-makes_store-clause-no_plan_disk : goal.returns-then-makes_store-clause-no_plan_disk
+returns-then-makes_store-clause-no_plan_disk g c = λ none. absurd (none (c.in-Ok.plan, c.in-Ok.ensures.ok))
 
-pub returns-then-eq-clause-overall : goal.returns-then-eq-clause-overall
-returns-then-eq-clause-overall g c = λ asks some. absurd (no_and_some c.args.ends.items (no_ends c.args.ends.items _ c.in-Ok.plan c.in-Ok.ensures.ok (search rules) c.requires.ends) some)
+pub returns-then-makes_store-clause-overall : goal.returns-then-makes_store-clause-overall
+returns-then-makes_store-clause-overall g c = λ asks some. absurd (no_and_some c.args.ends.items (no_ends c.args.ends.items _ c.in-Ok.plan c.in-Ok.ensures.ok (c.makes_store.ensures.yes c.if-makes_store.true) c.requires.ends) some)
 
-pub returns-then-eq-clause-source_fault : goal.returns-then-eq-clause-source_fault
-returns-then-eq-clause-source_fault g c =
-    zip_none _ c.args.ends.items c.created.result.ends.items (no_ends c.args.ends.items _ c.in-Ok.plan c.in-Ok.ensures.ok (search rules) c.requires.ends) c.created.ensures.ends
+pub returns-then-makes_store-clause-source_fault : goal.returns-then-makes_store-clause-source_fault
+returns-then-makes_store-clause-source_fault g c =
+    zip_none _ c.args.ends.items c.created.result.ends.items (no_ends c.args.ends.items _ c.in-Ok.plan c.in-Ok.ensures.ok (c.makes_store.ensures.yes c.if-makes_store.true) c.requires.ends) c.created.ensures.ends
 
-pub returns-then-eq-clause-sink_fault : goal.returns-then-eq-clause-sink_fault
-returns-then-eq-clause-sink_fault g c =
-    zip_none _ c.args.ends.items c.created.result.ends.items (no_ends c.args.ends.items _ c.in-Ok.plan c.in-Ok.ensures.ok (search rules) c.requires.ends) c.created.ensures.ends
+pub returns-then-makes_store-clause-sink_fault : goal.returns-then-makes_store-clause-sink_fault
+returns-then-makes_store-clause-sink_fault g c =
+    zip_none _ c.args.ends.items c.created.result.ends.items (no_ends c.args.ends.items _ c.in-Ok.plan c.in-Ok.ensures.ok (c.makes_store.ensures.yes c.if-makes_store.true) c.requires.ends) c.created.ensures.ends
 
-pub returns-then-eq-clause-input_too_long : goal.returns-then-eq-clause-input_too_long
-returns-then-eq-clause-input_too_long g c =
-    zip_none _ c.args.ends.items c.created.result.ends.items (no_ends c.args.ends.items _ c.in-Ok.plan c.in-Ok.ensures.ok (search rules) c.requires.ends) c.created.ensures.ends
+pub returns-then-makes_store-clause-input_too_long : goal.returns-then-makes_store-clause-input_too_long
+returns-then-makes_store-clause-input_too_long g c =
+    zip_none _ c.args.ends.items c.created.result.ends.items (no_ends c.args.ends.items _ c.in-Ok.plan c.in-Ok.ensures.ok (c.makes_store.ensures.yes c.if-makes_store.true) c.requires.ends) c.created.ensures.ends
 
-pub returns-then-eq-clause-disk_fault : goal.returns-then-eq-clause-disk_fault
-returns-then-eq-clause-disk_fault g c = c.created.ensures.causes.disk_fault
+pub returns-then-makes_store-clause-disk_fault : goal.returns-then-makes_store-clause-disk_fault
+returns-then-makes_store-clause-disk_fault g c = c.created.ensures.causes.disk_fault
 
-pub returns-then-eq-clause-not_a_store : goal.returns-then-eq-clause-not_a_store
-returns-then-eq-clause-not_a_store g c = c.created.ensures.causes.not_a_store
+pub returns-then-makes_store-clause-not_a_store : goal.returns-then-makes_store-clause-not_a_store
+returns-then-makes_store-clause-not_a_store g c = c.created.ensures.causes.not_a_store
 
-pub returns-then-eq-clause-damaged : goal.returns-then-eq-clause-damaged
-returns-then-eq-clause-damaged g c = c.created.ensures.causes.damaged
+pub returns-then-makes_store-clause-damaged : goal.returns-then-makes_store-clause-damaged
+returns-then-makes_store-clause-damaged g c = c.created.ensures.causes.damaged
 
-pub returns-then-eq-clause-place : goal.returns-then-eq-clause-place
-returns-then-eq-clause-place g c = c.created.ensures.causes.undamaged
+pub returns-then-makes_store-clause-place : goal.returns-then-makes_store-clause-place
+returns-then-makes_store-clause-place g c = c.created.ensures.causes.undamaged
 
-pub returns-then-eq-clause-mem_statuses : goal.returns-then-eq-clause-mem_statuses
-returns-then-eq-clause-mem_statuses g c = λ plan asks verb.
-    absurd (init_mem (sym (search rules) ∙ (sym (one_plan _ plan c.in-Ok.plan asks c.in-Ok.ensures.ok).command ∙ verb)))
+pub returns-then-makes_store-clause-mem_statuses : goal.returns-then-makes_store-clause-mem_statuses
+returns-then-makes_store-clause-mem_statuses g c = λ plan asks verb.
+    absurd (init_mem (sym (c.makes_store.ensures.yes c.if-makes_store.true) ∙ (sym (one_plan _ plan c.in-Ok.plan asks c.in-Ok.ensures.ok).command ∙ verb)))
 
-pub returns-then-eq-clause-mem_disk : goal.returns-then-eq-clause-mem_disk
-returns-then-eq-clause-mem_disk g c = λ plan asks verb.
-    absurd (init_mem (sym (search rules) ∙ (sym (one_plan _ plan c.in-Ok.plan asks c.in-Ok.ensures.ok).command ∙ verb)))
+pub returns-then-makes_store-clause-mem_disk : goal.returns-then-makes_store-clause-mem_disk
+returns-then-makes_store-clause-mem_disk g c = λ plan asks verb.
+    absurd (init_mem (sym (c.makes_store.ensures.yes c.if-makes_store.true) ∙ (sym (one_plan _ plan c.in-Ok.plan asks c.in-Ok.ensures.ok).command ∙ verb)))
 
-pub returns-then-eq-clause-mem_prefix : goal.returns-then-eq-clause-mem_prefix
-returns-then-eq-clause-mem_prefix g c = λ plan asks verb.
-    absurd (init_mem (sym (search rules) ∙ (sym (one_plan _ plan c.in-Ok.plan asks c.in-Ok.ensures.ok).command ∙ verb)))
+pub returns-then-makes_store-clause-mem_prefix : goal.returns-then-makes_store-clause-mem_prefix
+returns-then-makes_store-clause-mem_prefix g c = λ plan asks verb.
+    absurd (init_mem (sym (c.makes_store.ensures.yes c.if-makes_store.true) ∙ (sym (one_plan _ plan c.in-Ok.plan asks c.in-Ok.ensures.ok).command ∙ verb)))
 
-pub returns-then-eq-clause-mem_all : goal.returns-then-eq-clause-mem_all
-returns-then-eq-clause-mem_all g c = λ plan asks verb.
-    absurd (init_mem (sym (search rules) ∙ (sym (one_plan _ plan c.in-Ok.plan asks c.in-Ok.ensures.ok).command ∙ verb)))
+pub returns-then-makes_store-clause-mem_all : goal.returns-then-makes_store-clause-mem_all
+returns-then-makes_store-clause-mem_all g c = λ plan asks verb.
+    absurd (init_mem (sym (c.makes_store.ensures.yes c.if-makes_store.true) ∙ (sym (one_plan _ plan c.in-Ok.plan asks c.in-Ok.ensures.ok).command ∙ verb)))
 
-pub returns-then-eq-clause-run : goal.returns-then-eq-clause-run
-returns-then-eq-clause-run g c = λ plan asks verb.
-    absurd (init_run_verb (sym (search rules) ∙ (sym (one_plan _ plan c.in-Ok.plan asks c.in-Ok.ensures.ok).command ∙ verb)))
+pub returns-then-makes_store-clause-run : goal.returns-then-makes_store-clause-run
+returns-then-makes_store-clause-run g c = λ plan asks verb.
+    absurd (init_run_verb (sym (c.makes_store.ensures.yes c.if-makes_store.true) ∙ (sym (one_plan _ plan c.in-Ok.plan asks c.in-Ok.ensures.ok).command ∙ verb)))
 
-pub returns-then-eq-clause-bulk_statuses : goal.returns-then-eq-clause-bulk_statuses
-returns-then-eq-clause-bulk_statuses g c = λ plan asks verb.
-    absurd (init_bulk_verb (sym (search rules) ∙ (sym (one_plan _ plan c.in-Ok.plan asks c.in-Ok.ensures.ok).command ∙ verb)))
+pub returns-then-makes_store-clause-bulk_statuses : goal.returns-then-makes_store-clause-bulk_statuses
+returns-then-makes_store-clause-bulk_statuses g c = λ plan asks verb.
+    absurd (init_bulk_verb (sym (c.makes_store.ensures.yes c.if-makes_store.true) ∙ (sym (one_plan _ plan c.in-Ok.plan asks c.in-Ok.ensures.ok).command ∙ verb)))
 
-pub returns-then-eq-clause-bulk_disk : goal.returns-then-eq-clause-bulk_disk
-returns-then-eq-clause-bulk_disk g c = λ plan asks verb.
-    absurd (init_bulk_verb (sym (search rules) ∙ (sym (one_plan _ plan c.in-Ok.plan asks c.in-Ok.ensures.ok).command ∙ verb)))
+pub returns-then-makes_store-clause-bulk_disk : goal.returns-then-makes_store-clause-bulk_disk
+returns-then-makes_store-clause-bulk_disk g c = λ plan asks verb.
+    absurd (init_bulk_verb (sym (c.makes_store.ensures.yes c.if-makes_store.true) ∙ (sym (one_plan _ plan c.in-Ok.plan asks c.in-Ok.ensures.ok).command ∙ verb)))
 
-pub returns-then-eq-clause-bulk_source : goal.returns-then-eq-clause-bulk_source
-returns-then-eq-clause-bulk_source g c = λ plan asks verb.
-    absurd (init_bulk_verb (sym (search rules) ∙ (sym (one_plan _ plan c.in-Ok.plan asks c.in-Ok.ensures.ok).command ∙ verb)))
+pub returns-then-makes_store-clause-bulk_source : goal.returns-then-makes_store-clause-bulk_source
+returns-then-makes_store-clause-bulk_source g c = λ plan asks verb.
+    absurd (init_bulk_verb (sym (c.makes_store.ensures.yes c.if-makes_store.true) ∙ (sym (one_plan _ plan c.in-Ok.plan asks c.in-Ok.ensures.ok).command ∙ verb)))
 
-pub returns-then-eq-clause-bulk_all : goal.returns-then-eq-clause-bulk_all
-returns-then-eq-clause-bulk_all g c = λ plan asks verb.
-    absurd (init_bulk_verb (sym (search rules) ∙ (sym (one_plan _ plan c.in-Ok.plan asks c.in-Ok.ensures.ok).command ∙ verb)))
+pub returns-then-makes_store-clause-bulk_all : goal.returns-then-makes_store-clause-bulk_all
+returns-then-makes_store-clause-bulk_all g c = λ plan asks verb.
+    absurd (init_bulk_verb (sym (c.makes_store.ensures.yes c.if-makes_store.true) ∙ (sym (one_plan _ plan c.in-Ok.plan asks c.in-Ok.ensures.ok).command ∙ verb)))
 
-pub returns-then-eq-clause-bulk_prefix : goal.returns-then-eq-clause-bulk_prefix
-returns-then-eq-clause-bulk_prefix g c = λ plan asks verb.
-    absurd (init_bulk_verb (sym (search rules) ∙ (sym (one_plan _ plan c.in-Ok.plan asks c.in-Ok.ensures.ok).command ∙ verb)))
+pub returns-then-makes_store-clause-bulk_prefix : goal.returns-then-makes_store-clause-bulk_prefix
+returns-then-makes_store-clause-bulk_prefix g c = λ plan asks verb.
+    absurd (init_bulk_verb (sym (c.makes_store.ensures.yes c.if-makes_store.true) ∙ (sym (one_plan _ plan c.in-Ok.plan asks c.in-Ok.ensures.ok).command ∙ verb)))
 
-pub returns-then-eq-clause-bulk_nothing : goal.returns-then-eq-clause-bulk_nothing
-returns-then-eq-clause-bulk_nothing g c = λ plan asks verb.
-    absurd (init_bulk_verb (sym (search rules) ∙ (sym (one_plan _ plan c.in-Ok.plan asks c.in-Ok.ensures.ok).command ∙ verb)))
+pub returns-then-makes_store-clause-bulk_nothing : goal.returns-then-makes_store-clause-bulk_nothing
+returns-then-makes_store-clause-bulk_nothing g c = λ plan asks verb.
+    absurd (init_bulk_verb (sym (c.makes_store.ensures.yes c.if-makes_store.true) ∙ (sym (one_plan _ plan c.in-Ok.plan asks c.in-Ok.ensures.ok).command ∙ verb)))
 
-pub returns-then-eq-clause-init_statuses : goal.returns-then-eq-clause-init_statuses
-returns-then-eq-clause-init_statuses g c = λ plan asks verb. c.created.ensures.status
+pub returns-then-makes_store-clause-init_statuses : goal.returns-then-makes_store-clause-init_statuses
+returns-then-makes_store-clause-init_statuses g c = λ plan asks verb. c.created.ensures.status
 
-pub returns-then-eq-clause-init_ends : goal.returns-then-eq-clause-init_ends
-returns-then-eq-clause-init_ends g c = λ plan asks verb. c.created.ensures.ends ∙ none_of_length c.args.ends.items (no_ends c.args.ends.items _ c.in-Ok.plan c.in-Ok.ensures.ok (search rules) c.requires.ends)
+pub returns-then-makes_store-clause-init_ends : goal.returns-then-makes_store-clause-init_ends
+returns-then-makes_store-clause-init_ends g c = λ plan asks verb. c.created.ensures.ends ∙ none_of_length c.args.ends.items (no_ends c.args.ends.items _ c.in-Ok.plan c.in-Ok.ensures.ok (c.makes_store.ensures.yes c.if-makes_store.true) c.requires.ends)
 
-pub returns-then-eq-clause-init_done : goal.returns-then-eq-clause-init_done
-returns-then-eq-clause-init_done g c = λ plan asks verb. c.created.ensures.done
+pub returns-then-makes_store-clause-init_done : goal.returns-then-makes_store-clause-init_done
+returns-then-makes_store-clause-init_done g c = λ plan asks verb. c.created.ensures.done
 
-pub returns-then-eq-clause-init_not_empty : goal.returns-then-eq-clause-init_not_empty
-returns-then-eq-clause-init_not_empty g c = λ plan asks verb. c.created.ensures.not_empty
+pub returns-then-makes_store-clause-init_not_empty : goal.returns-then-makes_store-clause-init_not_empty
+returns-then-makes_store-clause-init_not_empty g c = λ plan asks verb. c.created.ensures.not_empty
 
-pub returns-then-eq-clause-init_stays : goal.returns-then-eq-clause-init_stays
-returns-then-eq-clause-init_stays g c = λ plan asks verb. c.created.ensures.stays
+pub returns-then-makes_store-clause-init_stays : goal.returns-then-makes_store-clause-init_stays
+returns-then-makes_store-clause-init_stays g c = λ plan asks verb. c.created.ensures.stays
 
 pub serve_one-requires-clause-plan : goal.serve_one-requires-clause-plan
-serve_one-requires-clause-plan g c = plan_within _ c.in-Ok.plan c.in-Ok.ensures.ok
+serve_one-requires-clause-plan g c κs within = plan_within _ c.in-Ok.plan c.in-Ok.ensures.ok
 
 pub serve_one-requires-clause-end : goal.serve_one-requires-clause-end
-serve_one-requires-clause-end g c = (search rules)
+serve_one-requires-clause-end g c κs within = (c.makes_store.ensures.no c.if-makes_store.false)
 
 pub serve_one-requires-clause-one_end : goal.serve_one-requires-clause-one_end
-serve_one-requires-clause-one_end g c =
-    one_end_of c.args.ends.items _ c.in-Ok.plan c.in-Ok.ensures.ok (search rules) c.requires.ends
+serve_one-requires-clause-one_end g c κs within =
+    one_end_of c.args.ends.items _ c.in-Ok.plan c.in-Ok.ensures.ok (c.makes_store.ensures.no c.if-makes_store.false) c.requires.ends
 
 pub returns-clause-usage : goal.returns-clause-usage
 returns-clause-usage g c = λ two asks. c.serve_one.ensures.status two
@@ -330,7 +330,7 @@ returns-clause-mem_disk g c = λ plan asks verb.
     c.in-Ok.plan g.S.Source.left g.S.Source.faults g.K.Sink.written g.K.Sink.faults c.args.a c.serve_one.result.a)
     _ (λ old new s. (mem_served g.D.Disk.content g.D.Disk.images g.D.Disk.clock g.D.Disk.images_between g.D.Disk.faults g.D.Disk.bound
     g.S.Source.left g.S.Source.faults g.K.Sink.written g.K.Sink.faults c.args.a c.serve_one.result.a c.in-Ok.plan.command c.in-Ok.plan old new is s).0)
-    c.args.ends.items c.serve_one.result.ends.items (omega (arith, (one_end_of c.args.ends.items _ c.in-Ok.plan c.in-Ok.ensures.ok (search rules) c.requires.ends))) c.serve_one.ensures.served
+    c.args.ends.items c.serve_one.result.ends.items (omega (arith, (one_end_of c.args.ends.items _ c.in-Ok.plan c.in-Ok.ensures.ok (c.makes_store.ensures.no c.if-makes_store.false) c.requires.ends))) c.serve_one.ensures.served
 
 pub returns-clause-bulk_disk : goal.returns-clause-bulk_disk
 returns-clause-bulk_disk g c = λ plan asks verb.
@@ -341,7 +341,7 @@ returns-clause-bulk_disk g c = λ plan asks verb.
     c.in-Ok.plan g.S.Source.left g.S.Source.faults g.K.Sink.written g.K.Sink.faults c.args.a c.serve_one.result.a)
     _ (λ old new s. (bulk_served g.D.Disk.content g.D.Disk.images g.D.Disk.clock g.D.Disk.images_between g.D.Disk.faults g.D.Disk.bound
     g.S.Source.left g.S.Source.faults g.K.Sink.written g.K.Sink.faults c.args.a c.serve_one.result.a c.in-Ok.plan.command c.in-Ok.plan old new is s).0)
-    c.args.ends.items c.serve_one.result.ends.items (omega (arith, (one_end_of c.args.ends.items _ c.in-Ok.plan c.in-Ok.ensures.ok (search rules) c.requires.ends))) c.serve_one.ensures.served
+    c.args.ends.items c.serve_one.result.ends.items (omega (arith, (one_end_of c.args.ends.items _ c.in-Ok.plan c.in-Ok.ensures.ok (c.makes_store.ensures.no c.if-makes_store.false) c.requires.ends))) c.serve_one.ensures.served
 
 pub returns-clause-mem_statuses : goal.returns-clause-mem_statuses
 returns-clause-mem_statuses g c = λ plan asks verb.
@@ -439,23 +439,23 @@ returns-clause-bulk_nothing g c = λ plan asks verb.
 
 pub returns-clause-init_statuses : goal.returns-clause-init_statuses
 returns-clause-init_statuses g c = λ plan asks verb.
-    absurd ((search rules) (sym (one_plan _ plan c.in-Ok.plan asks c.in-Ok.ensures.ok).command ∙ verb))
+    absurd ((c.makes_store.ensures.no c.if-makes_store.false) (sym (one_plan _ plan c.in-Ok.plan asks c.in-Ok.ensures.ok).command ∙ verb))
 
 pub returns-clause-init_ends : goal.returns-clause-init_ends
 returns-clause-init_ends g c = λ plan asks verb.
-    absurd ((search rules) (sym (one_plan _ plan c.in-Ok.plan asks c.in-Ok.ensures.ok).command ∙ verb))
+    absurd ((c.makes_store.ensures.no c.if-makes_store.false) (sym (one_plan _ plan c.in-Ok.plan asks c.in-Ok.ensures.ok).command ∙ verb))
 
 pub returns-clause-init_done : goal.returns-clause-init_done
 returns-clause-init_done g c = λ plan asks verb.
-    absurd ((search rules) (sym (one_plan _ plan c.in-Ok.plan asks c.in-Ok.ensures.ok).command ∙ verb))
+    absurd ((c.makes_store.ensures.no c.if-makes_store.false) (sym (one_plan _ plan c.in-Ok.plan asks c.in-Ok.ensures.ok).command ∙ verb))
 
 pub returns-clause-init_not_empty : goal.returns-clause-init_not_empty
 returns-clause-init_not_empty g c = λ plan asks verb.
-    absurd ((search rules) (sym (one_plan _ plan c.in-Ok.plan asks c.in-Ok.ensures.ok).command ∙ verb))
+    absurd ((c.makes_store.ensures.no c.if-makes_store.false) (sym (one_plan _ plan c.in-Ok.plan asks c.in-Ok.ensures.ok).command ∙ verb))
 
 pub returns-clause-init_stays : goal.returns-clause-init_stays
 returns-clause-init_stays g c = λ plan asks verb.
-    absurd ((search rules) (sym (one_plan _ plan c.in-Ok.plan asks c.in-Ok.ensures.ok).command ∙ verb))
+    absurd ((c.makes_store.ensures.no c.if-makes_store.false) (sym (one_plan _ plan c.in-Ok.plan asks c.in-Ok.ensures.ok).command ∙ verb))
 
 pub returns-clause-run : goal.returns-clause-run
 returns-clause-run g c = λ plan asks verb.
