@@ -244,10 +244,7 @@ fn no_args<'w>(args: Option<&[&'w str]>) -> Result<(), WordFault<'w>>
 }
 
 // The one word of a command on a file.
-fn one_file<'w>(
-    command: &'static str,
-    args: Option<&[&'w str]>,
-) -> Result<&'w str, WordFault<'w>>
+fn one_file<'w>(command: &'static str, args: Option<&[&'w str]>) -> Result<&'w str, WordFault<'w>>
     ensures ok { IfOk result (λ file. IsFile (args_of args.entry) file.now) }
     ensures err { OnErr result ((file : Text) → ¬ IsFile (args_of args.entry) file) }
 {

@@ -40,7 +40,9 @@ fn main(rt: HostRuntime) -> ExitCode {
 }
 
 /// Serves what the words ask for from standard input to standard output, and answers the overall status.
-fn run<R: Env + AllocGlobal + Files<File = File> + Input + Print + Eprint + Threads + Wait + Sync>(rt: &R) -> u8
+fn run<R: Env + AllocGlobal + Files<File = File> + Input + Print + Eprint + Threads + Wait + Sync>(
+    rt: &R,
+) -> u8
 where
     R::Reader: Send,
 {

@@ -70,8 +70,18 @@ fn bytes_that_are_run(rt: HostRuntime) -> Result<(), Fail> {
         (b"ZCHEMDB1", 7, 8, ""),
         (b"ZCHEMDB1Z\x01\0\0\0\x04\0", 7, 8, ""),
         (b"ZCHEMDB1Z\x09\0\0\0\x01\x01\0\0\0\x01CCO", 7, 22, ""),
-        (b"ZCHEMDB1Z\x07\0\0\0\x01\x01\0\0\0\x01C\0more", 0, 0, "stats version 1 live 1 withdrawn 0 kept 1 pins 0\n"),
-        (b"ZCHEMDB1Z\x07\0\0\0\x01\x01\0\0\0\x01CZ\x07\0\0\0\x01\x01\0\0\0\x01C\0", 7, 20, ""),
+        (
+            b"ZCHEMDB1Z\x07\0\0\0\x01\x01\0\0\0\x01C\0more",
+            0,
+            0,
+            "stats version 1 live 1 withdrawn 0 kept 1 pins 0\n",
+        ),
+        (
+            b"ZCHEMDB1Z\x07\0\0\0\x01\x01\0\0\0\x01CZ\x07\0\0\0\x01\x01\0\0\0\x01C\0",
+            7,
+            20,
+            "",
+        ),
     ];
     for (bytes, status, place, put) in rows {
         let answer = run(&rt, alloc, disk_of(alloc, bytes)?, "stats\n")?;
@@ -119,7 +129,10 @@ fn fails_once<R: Abort + Threads + Wait + Sync>(
         assert_eq!(rt; later.status, 0, "at {call}");
         let text = put_by(&later);
         let version = text.get(14).copied().unwrap_or(0).saturating_sub(b'0') as usize;
-        assert!(rt; version == sure || version == sure.saturating_add(1), "at {call}");
+        assert!(rt;
+            version == sure || version == sure.saturating_add(1),
+            "at {call}"
+        );
     }
     Ok(())
 }
@@ -147,7 +160,13 @@ fn a_store_in_a_file(rt: HostRuntime) -> Result<(), Fail> {
         ("run", false, "stats\n", 5u8, ""),
         ("init", true, "", 0, ""),
         ("run", false, "register 1 CCO\n", 0, "ok 1\n"),
-        ("run", false, "show 1\n", 0, "record 1 version 1 smiles CCO\n"),
+        (
+            "run",
+            false,
+            "show 1\n",
+            0,
+            "record 1 version 1 smiles CCO\n",
+        ),
         ("init", true, "", 10, ""),
     ];
     for (command, create, script, status, put) in rows {
