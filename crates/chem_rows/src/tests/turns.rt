@@ -1,14 +1,14 @@
 //! A session puts the replies to a line before it takes more bytes for the next.
 ghost use Rattle.std.specs.Prelude.{◌<◌, ◌^◌, None};
 
-use super::ends_of;
-use chem_shell::top::{End, chemdb};
-use disk_edge::MemDisk;
 use io_edge::{PutFault, Sink, Source, Take};
+use par_search::NoMeter;
+use session_run::{EndStatus, Settings, session};
 use std::alloc::Global;
 use std::sync::Arc;
 use std::sync::atomic::{AtomicU64, Ordering};
 use std::test::Fail;
+use store_core::Store;
 
 // Gives one line at each take. From the second on, it fails where the other end has not got a reply to each line
 // before.
@@ -61,26 +61,30 @@ impl Sink for Teller {
 fn replies_are_put_before_more_is_taken(rt: HostRuntime) -> Result<(), Fail> {
     let alloc = rt.alloc();
     let puts = Arc::new(alloc, AtomicU64::new(0))?;
-    let source = Asker {
+    let mut source = Asker {
         taken: 0,
         puts: Arc::try_clone(&puts)?,
         faults: 0,
     };
-    let sink = Teller {
+    let mut sink = Teller {
         puts: Arc::try_clone(&puts)?,
     };
-    let mut ends = Vec::new(alloc);
-    ends.push(End {
-        source,
-        sink,
-        status: 0,
-    })?;
-    let words = ["mem"];
-    let count = ends_of(alloc, &words)?;
-    assert_eq!(rt; count, 1);
-    let (a, b) = (MemDisk::new(alloc), MemDisk::new(alloc));
-    let outcome = chemdb(&rt, alloc, &words, a, b, ends);
-    assert_eq!(rt; outcome.status, 0);
+    let mut store = Store::fresh(alloc, 1);
+    let settings = Settings {
+        workers: 1,
+        page: 1,
+        input_limit: 65_536,
+    };
+    let end = session(
+        &rt,
+        alloc,
+        &mut store,
+        &mut source,
+        &mut sink,
+        &settings,
+        &NoMeter,
+    );
+    assert_eq!(rt; end, EndStatus::Done);
     assert_eq!(rt; puts.load(Ordering::SeqCst), 3);
     Ok(())
 }
