@@ -146,7 +146,8 @@ links-more bonds rings gives k d before after within h same step =
     record {
       count = length-map after (λ v. v.items) ∙ same ∙ sym (length-map before (λ v. v.items)) ∙ h.count;
       each = λ a n b.
-          let more = link-more (ends_among bonds) rings gives k (get_or bonds k d).a (get_or bonds k d).b here a n b in (
+          let more = link-more (ends_among bonds) rings gives k (get_or bonds k d).a (get_or bonds k d).b here a n b
+          in (
             λ q. more.1 (elim ((step a n b).0 q) [ inl old ↦ inl ((h.each a n b).0 old) | inr new ↦ inr new ]),
             λ q. (step a n b).1 (elim (more.0 q) [ inl old ↦ inl ((h.each a n b).1 old) | inr new ↦ inr new ]),
           );

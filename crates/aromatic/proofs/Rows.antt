@@ -46,7 +46,8 @@ outer RingAndOxygen = 1
 outer Oxygen = 1
 outer Hetero = 1
 
-counts : (d : Doubles) (x : Environment) → has_doubles d x ≡ true → (x.ring_doubles ≡ inner d) × (x.outer_doubles ≡ outer d)
+counts : (d : Doubles) (x : Environment) → has_doubles d x ≡ true → (x.ring_doubles ≡ inner d)
+    × (x.outer_doubles ≡ outer d)
 counts Absent x h = let p = both _ _ h in (eqb-true _ _ p.0, eqb-true _ _ p.1)
 counts Ring x h = let p = both _ _ h in (eqb-true _ _ p.0, eqb-true _ _ p.1)
 counts RingAndOxygen x h = let p = both _ _ h in let q = both _ _ p.0 in (eqb-true _ _ q.0, eqb-true _ _ q.1)
@@ -57,7 +58,8 @@ abbrev agree : Option ℕ → Option ℕ → Bool
 agree (Some m) (Some n) = eqb m n
 agree _ _ = true
 
-agree-found : (m n : Option ℕ) (x : Environment) → has_connected m x ≡ true → has_connected n x ≡ true → agree m n ≡ true
+agree-found : (m n : Option ℕ) (x : Environment) → has_connected m x ≡ true → has_connected n x ≡ true
+    → agree m n ≡ true
 agree-found (Some m) (Some n) x one other = eq-eqb m n (sym (eqb-true _ m one) ∙ eqb-true _ n other)
 agree-found (Some m) None x one other = refl
 agree-found None (Some n) x one other = refl
@@ -127,7 +129,8 @@ ordered : (x : Environment) (i j : ℕ) (d : Row) → i < j → j < length rows 
 ordered x i j d lt within one other = false≢true (sym (unlike rows i j d table_unlike lt within)
     ∙ alike-found (get_or rows i d) (get_or rows j d) x one other)
 
-pub row-once : (x : Environment) (i j : ℕ) (d : Row) → i < length rows → j < length rows → fits (get_or rows i d) x ≡ true
+pub row-once : (x : Environment) (i j : ℕ) (d : Row) → i < length rows → j < length rows
+    → fits (get_or rows i d) x ≡ true
     → fits (get_or rows j d) x ≡ true → i ≡ j
 row-once x i j d hi hj one other = elim (cases_eq i j) [
   | inl e ↦ e

@@ -43,23 +43,24 @@ few_pairs n bonds rings i graph =
       length-take i (zip bonds rings),
     )
 
-counted : (e : Bool) (x : Environment) (ring higher inner outer oxygen hetero : Bool) → ◌≡◌ {A = Environment} (record x {
-  neighbours = x.neighbours + (if e && true then 1 else 0);
-  ring_bonds = x.ring_bonds + (if e && ring then 1 else 0);
-  higher = x.higher + (if e && higher then 1 else 0);
-  ring_doubles = x.ring_doubles + (if e && inner then 1 else 0);
-  outer_doubles = x.outer_doubles + (if e && outer then 1 else 0);
-  to_oxygen = x.to_oxygen + (if e && oxygen then 1 else 0);
-  to_hetero = x.to_hetero + (if e && hetero then 1 else 0);
-}) (if e then record x {
-  neighbours = x.neighbours + 1;
-  ring_bonds = more x.ring_bonds ring;
-  higher = more x.higher higher;
-  ring_doubles = more x.ring_doubles inner;
-  outer_doubles = more x.outer_doubles outer;
-  to_oxygen = more x.to_oxygen oxygen;
-  to_hetero = more x.to_hetero hetero;
-} else x)
+counted : (e : Bool) (x : Environment) (ring higher inner outer oxygen hetero : Bool)
+    → ◌≡◌ {A = Environment} (record x {
+      neighbours = x.neighbours + (if e && true then 1 else 0);
+      ring_bonds = x.ring_bonds + (if e && ring then 1 else 0);
+      higher = x.higher + (if e && higher then 1 else 0);
+      ring_doubles = x.ring_doubles + (if e && inner then 1 else 0);
+      outer_doubles = x.outer_doubles + (if e && outer then 1 else 0);
+      to_oxygen = x.to_oxygen + (if e && oxygen then 1 else 0);
+      to_hetero = x.to_hetero + (if e && hetero then 1 else 0);
+    }) (if e then record x {
+      neighbours = x.neighbours + 1;
+      ring_bonds = more x.ring_bonds ring;
+      higher = more x.higher higher;
+      ring_doubles = more x.ring_doubles inner;
+      outer_doubles = more x.outer_doubles outer;
+      to_oxygen = more x.to_oxygen oxygen;
+      to_hetero = more x.to_hetero hetero;
+    } else x)
 counted true x ring higher inner outer oxygen hetero = refl
 counted false x ring higher inner outer oxygen hetero = simp add-zero
 
@@ -71,16 +72,19 @@ environment_among-push : (atoms : List SketchAtom) (a : ℕ) (x : SketchAtom) (p
 environment_among-push atoms a x pairs bond ring =
     simp sum_by_push (counted (ends_at a bond) (environment_among atoms a x pairs) _ _ _ _ _ _)
 
-environment_among-more : (atoms : List SketchAtom) (bonds : List SketchBond) (rings : List Bool) (a i : ℕ) (x : SketchAtom)
+environment_among-more : (atoms : List SketchAtom) (bonds : List SketchBond) (rings : List Bool) (a i : ℕ)
+    (x : SketchAtom)
     (d : SketchBond) → i < length bonds → length rings ≡ length bonds → (let bond : SketchBond = get_or bonds i d in
     environment_among atoms a x (take (i + 1) (zip bonds rings))
-    ≡ (if ends_at a bond then add (environment_among atoms a x (take i (zip bonds rings))) bond.kind (get_or rings i false)
+    ≡ (if ends_at a bond then add (environment_among atoms a x (take i (zip bonds rings))) bond.kind
+    (get_or rings i false)
     (element_beyond atoms a bond) else environment_among atoms a x (take i (zip bonds rings))))
 environment_among-more atoms bonds rings a i x d within same =
     let within' : i < length (zip bonds rings) = omega (arith, length-zip bonds rings) in
     let read : get_or (zip bonds rings) i (d, false) ≡ (get_or bonds i d, get_or rings i false) =
     get_or-zip bonds rings i (d, false) within (omega arith) in
-    rw (take_more (zip bonds rings) i (d, false) within', read) (environment_among-push atoms a x (take i (zip bonds rings))
+    rw (take_more (zip bonds rings) i (d, false) within', read)
+    (environment_among-push atoms a x (take i (zip bonds rings))
     (get_or bonds i d) (get_or rings i false))
 
 counts_small : (pairs : List (SketchBond × Bool)) (a : ℕ) (test : SketchBond → Bool → Bool) → length pairs < 1000
@@ -102,62 +106,77 @@ environment_among-small atoms a x pairs few = record {
 -- ---- of each atom
 
 abbrev pub AreEnvironmentsBelow : List SketchAtom → List (SketchBond × Bool) → List Environment → Type 0
-AreEnvironmentsBelow atoms pairs environments = (a : ℕ) (x : SketchAtom) (d : Environment) → slice_get atoms a ≡ Some x → get_or environments a d
+AreEnvironmentsBelow atoms pairs environments = (a : ℕ) (x : SketchAtom) (d : Environment) → slice_get atoms a ≡ Some x
+    → get_or environments a d
     ≡ environment_among atoms a x pairs
 
 -- no bond
-pub environments-none : (atoms : List SketchAtom) (environments : List Environment) → environments ≡ map without_bonds atoms → AreEnvironmentsBelow atoms [] environments
+pub environments-none : (atoms : List SketchAtom) (environments : List Environment)
+    → environments ≡ map without_bonds atoms → AreEnvironmentsBelow atoms [] environments
 environments-none atoms environments is a x d here =
     rw is (get_or-map without_bonds atoms a x d (slice_get_within atoms a x here)
     ∙ ap without_bonds (get_or_from_slice_get atoms a x x here))
 
 -- one more bond
-pub environment-more : (atoms : List SketchAtom) (bonds : List SketchBond) (rings : List Bool) (a i : ℕ) (x : SketchAtom)
+pub environment-more : (atoms : List SketchAtom) (bonds : List SketchBond) (rings : List Bool) (a i : ℕ)
+    (x : SketchAtom)
     (e : SketchBond) (environment after : Environment) → i < length bonds → length rings ≡ length bonds
-    → environment ≡ environment_among atoms a x (take i (zip bonds rings)) → (let bond : SketchBond = get_or bonds i e in
-    after ≡ (if ends_at a bond then add environment bond.kind (get_or rings i false) (element_beyond atoms a bond) else environment))
+    → environment ≡ environment_among atoms a x (take i (zip bonds rings))
+    → (let bond : SketchBond = get_or bonds i e in
+    after ≡ (if ends_at a bond then add environment bond.kind (get_or rings i false) (element_beyond atoms a bond)
+    else environment))
     → after ≡ environment_among atoms a x (take (i + 1) (zip bonds rings))
 environment-more atoms bonds rings a i x e environment after within same old new =
     let bond : SketchBond = get_or bonds i e in
     new ∙ ap (λ y. if ends_at a bond then add y bond.kind (get_or rings i false) (element_beyond atoms a bond) else y)
     old ∙ sym (environment_among-more atoms bonds rings a i x e within same)
 
-pub environments-more : (atoms : List SketchAtom) (bonds : List SketchBond) (rings : List Bool) (environments after : List Environment)
+pub environments-more : (atoms : List SketchAtom) (bonds : List SketchBond) (rings : List Bool)
+    (environments after : List Environment)
     (i : ℕ) (e : SketchBond) → i < length bonds → length rings ≡ length bonds
     → AreEnvironmentsBelow atoms (take i (zip bonds rings)) environments → (let bond : SketchBond = get_or bonds i e in
     (a : ℕ) (d : Environment) → get_or after a d
-    ≡ (if ends_at a bond then add (get_or environments a d) bond.kind (get_or rings i false) (element_beyond atoms a bond)
+    ≡ (if ends_at a bond then add (get_or environments a d) bond.kind (get_or rings i false)
+    (element_beyond atoms a bond)
     else get_or environments a d)) → AreEnvironmentsBelow atoms (take (i + 1) (zip bonds rings)) after
 environments-more atoms bonds rings environments after i e within same old new a x d here =
-    environment-more atoms bonds rings a i x e (get_or environments a d) (get_or after a d) within same (old a x d here) (new a d)
+    environment-more atoms bonds rings a i x e (get_or environments a d) (get_or after a d) within same (old a x d here)
+    (new a d)
 
 pub environments-small : (atoms : List SketchAtom) (pairs : List (SketchBond × Bool)) (environments : List Environment)
-    → length environments ≡ length atoms → length pairs < 1000 → AreEnvironmentsBelow atoms pairs environments → All (λ x. HasFewBonds x) environments
+    → length environments ≡ length atoms → length pairs < 1000 → AreEnvironmentsBelow atoms pairs environments
+    → All (λ x. HasFewBonds x) environments
 environments-small atoms pairs environments count few are k d within =
     let here = some_element atoms k (omega arith) in
     subst (λ x. HasFewBonds x) (sym (are k here.0 d here.1)) (environment_among-small atoms k here.0 pairs few)
 
 -- all bonds
-pub environments-whole : (atoms : List SketchAtom) (bonds : List SketchBond) (rings : List Bool) (environments : List Environment) (i : ℕ)
-    → length environments ≡ length atoms → length bonds ≤ i → AreEnvironmentsBelow atoms (take i (zip bonds rings)) environments
+pub environments-whole : (atoms : List SketchAtom) (bonds : List SketchBond) (rings : List Bool)
+    (environments : List Environment) (i : ℕ)
+    → length environments ≡ length atoms → length bonds ≤ i
+    → AreEnvironmentsBelow atoms (take i (zip bonds rings)) environments
     → AreEnvironments atoms (zip bonds rings) environments
 environments-whole atoms bonds rings environments i count past are = record {
   count = count;
   each = λ a x here.
       let within = slice_get_within atoms a x here in
       let whole = take_all i (zip bonds rings) (omega (arith, length-zip bonds rings)) in
-      slice_get-get_or environments a (without_bonds x) (omega arith) ∙ ap (λ y. Some y) (are a x (without_bonds x) here)
+      slice_get-get_or environments a (without_bonds x) (omega arith)
+      ∙ ap (λ y. Some y) (are a x (without_bonds x) here)
       ∙ ap (λ ps. Some (environment_among atoms a x ps)) whole;
 }
 
 pub rows-are : (s : SketchTerm) (rings : List Bool) (environments : List Environment) (rows : List (Option Row))
-    → AreEnvironments s.atoms (zip s.bonds rings) environments → rows ≡ map candidate_row environments → AreRows s rings rows
+    → AreEnvironments s.atoms (zip s.bonds rings) environments → rows ≡ map candidate_row environments
+    → AreRows s rings rows
 rows-are s rings environments rows are is = record {
   count = ap (λ rs. length rs) is ∙ length-map environments candidate_row ∙ are.count;
   each = λ a within.
       let there = some_element s.atoms a within in
-      let read : slice_get rows a ≡ Some (candidate_row (environment_of s rings a there.0)) = ap (λ rs. slice_get rs a) is
-      ∙ slice_get-map candidate_row environments a ∙ ap (λ o. option_map candidate_row o) (are.each a there.0 there.1) in
+      let read : slice_get rows a ≡ Some (candidate_row (environment_of s rings a there.0)) = ap
+      (λ rs. slice_get rs a) is
+      ∙ slice_get-map candidate_row environments a ∙ ap (λ o. option_map candidate_row o) (are.each a there.0 there.1)
+      in
       sym (unwrap_or-slice_get rows a None) ∙ ap (λ o. unwrap_or o None) read
       ∙ sym (ap (λ o. option_and_then (λ x. candidate_row (environment_of s rings a x)) o) there.1);
 }

@@ -49,7 +49,8 @@ pub record HasFewBonds (x : Environment) : Type 0 where
   pub to_hetero : x.to_hetero < 1000
 
 -- what the table reads of each atom and of these bonds, by the atom's place
-pub record AreEnvironments (atoms : List SketchAtom) (pairs : List (SketchBond × Bool)) (environments : List Environment) : Type 0 where
+pub record AreEnvironments (atoms : List SketchAtom) (pairs : List (SketchBond × Bool))
+    (environments : List Environment) : Type 0 where
   pub count : length environments ≡ length atoms
   pub each : (a : ℕ) (x : SketchAtom) → slice_get atoms a ≡ Some x → slice_get environments a
       ≡ Some (environment_among atoms a x pairs)

@@ -51,7 +51,8 @@ pub fn environments(
 ) -> Result<Vec<Environment>, AllocError>
     requires sound { IsSound (record { atoms = atoms.now; bonds = bonds.now }) }
     requires rings { length bond_in_ring.now ≡ length bonds.now }
-    ensures { IfOk result (λ environments. AreEnvironments atoms.now (zip bonds.now bond_in_ring.now) environments.items) }
+    ensures { IfOk result (λ environments. AreEnvironments atoms.now
+        (zip bonds.now bond_in_ring.now) environments.items) }
 {
     let mut environments = without_bonds_each(alloc, atoms)?;
     count_bonds(&mut environments, atoms, bonds, bond_in_ring);

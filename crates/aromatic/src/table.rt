@@ -74,7 +74,8 @@ impl Row {
 /// A law: at most one row fits an atom, so the order of the rows does not count.
 pub fn one_row()
     ensures { (environment : Environment) (i j : ℕ) (d : Row) → i < length rows → j < length rows
-        → fits (slice_index_or rows i d) environment ≡ true → fits (slice_index_or rows j d) environment ≡ true → i ≡ j }
+        → fits (slice_index_or rows i d) environment ≡ true → fits (slice_index_or rows j d) environment ≡ true
+        → i ≡ j }
 {}
 
 /// The row that fits an atom, if one does.

@@ -49,8 +49,8 @@ type Neighbours = SmallVec<(u16, u16), 4>;
 
 /// A molecule: atoms and bonds as they are meant, for each atom its neighbours, and what lies on rings.
 ///
-/// It has at most `MOST_ATOMS` atoms and `MOST_BONDS` bonds, and at most `MOST_NEIGHBOURS` neighbours at an atom. No two
-/// bonds join the same atoms, and none joins an atom to itself. Atoms and bonds are named by their places, from 0.
+/// It has at most `MOST_ATOMS` atoms and `MOST_BONDS` bonds, and at most `MOST_NEIGHBOURS` neighbours at an atom. No
+/// two bonds join the same atoms, and none joins an atom to itself. Atoms and bonds are named by their places, from 0.
 /// Contracts see it as its two lists.
 #[derive(Debug, Drop)]
 pub struct Mol {

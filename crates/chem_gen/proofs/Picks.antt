@@ -6,7 +6,8 @@ use Rattle.std.proofs.lemmas.List.{append_assoc, append-nil}
 use Rattle.chem_gen.specs.Script.{next, fragments, patterns, picked, structure_text, after_structure, registrations}
 use Rattle.chem_gen.specs.Summary.{outcome, outcomes}
 
-pub picked_more : (n x : ℕ) (out : List ℕ) → (out ++ get_or fragments (next x % 8) []) ++ picked n (next x) ≡ out ++ picked (suc n) x
+pub picked_more : (n x : ℕ) (out : List ℕ) → (out ++ get_or fragments (next x % 8) []) ++ picked n (next x) ≡ out
+    ++ picked (suc n) x
 unfolding picked
 picked_more n x out = append_assoc out (get_or fragments (next x % 8) []) (picked n (next x))
 
@@ -18,11 +19,13 @@ picked_none x out = append-nil out
 abbrev pub registration : ℕ → ℕ → List ℕ
 registration id x = codes "register " ++ decimal id ++ codes " " ++ structure_text x ++ 10 ∷ []
 
-pub registrations_more : (n id x : ℕ) (out : List ℕ) → (out ++ registration id x) ++ registrations n (id + 1) (after_structure x) ≡ out ++ registrations (suc n) id x
+pub registrations_more : (n id x : ℕ) (out : List ℕ) → (out ++ registration id x)
+    ++ registrations n (id + 1) (after_structure x) ≡ out ++ registrations (suc n) id x
 unfolding registrations
 registrations_more n id x out =
     append_assoc out (registration id x) (registrations n (id + 1) (after_structure x))
-    ∙ ap (λ t. out ++ t) (append_assoc (codes "register " ++ decimal id ++ codes " " ++ structure_text x) (10 ∷ []) (registrations n (id + 1) (after_structure x)))
+    ∙ ap (λ t. out ++ t) (append_assoc (codes "register " ++ decimal id ++ codes " " ++ structure_text x) (10 ∷ [])
+    (registrations n (id + 1) (after_structure x)))
 
 pub registrations_none : (id x : ℕ) (out : List ℕ) → out ++ registrations zero id x ≡ out
 unfolding registrations
@@ -38,7 +41,8 @@ drop_next (suc i) (x ∷ xs) h =
 abbrev pub searches_from : ℕ → List ℕ
 searches_from place = flat_map (λ pattern. codes "search " ++ pattern ++ 10 ∷ []) (drop place patterns)
 
-pub searches_more : (place : ℕ) (out pattern : List ℕ) → place < 5 → pattern ≡ get_or patterns place [] → (out ++ (codes "search " ++ pattern ++ 10 ∷ [])) ++ searches_from (place + 1) ≡ out ++ searches_from place
+pub searches_more : (place : ℕ) (out pattern : List ℕ) → place < 5 → pattern ≡ get_or patterns place []
+    → (out ++ (codes "search " ++ pattern ++ 10 ∷ [])) ++ searches_from (place + 1) ≡ out ++ searches_from place
 searches_more place out pattern h is =
     let line : List ℕ → List ℕ = λ pattern. codes "search " ++ pattern ++ 10 ∷ [] in
     append_assoc out (line pattern) (searches_from (place + 1))
@@ -47,8 +51,10 @@ searches_more place out pattern h is =
 
 -- ---- outcomes
 
-pub outcomes_more : (place : ℕ) (out pattern ending : List ℕ) (endings : List (List ℕ)) → place < 5 → pattern ≡ get_or patterns place []
-    → (out ++ (codes "search " ++ pattern ++ codes " " ++ outcome ending ++ 10 ∷ [])) ++ outcomes (drop (place + 1) patterns) endings ≡ out ++ outcomes (drop place patterns) (ending ∷ endings)
+pub outcomes_more : (place : ℕ) (out pattern ending : List ℕ) (endings : List (List ℕ)) → place < 5
+    → pattern ≡ get_or patterns place []
+    → (out ++ (codes "search " ++ pattern ++ codes " " ++ outcome ending ++ 10 ∷ []))
+    ++ outcomes (drop (place + 1) patterns) endings ≡ out ++ outcomes (drop place patterns) (ending ∷ endings)
 unfolding outcomes
 outcomes_more place out pattern ending endings h is =
     let front : List ℕ → List ℕ = λ pattern. codes "search " ++ pattern ++ codes " " ++ outcome ending in

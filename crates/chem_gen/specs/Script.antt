@@ -1,4 +1,5 @@
--- The generated script of a seed and a count, for callers. The numbers are those of Park and Miller's generator with the multiplier 48271.
+-- The generated script of a seed and a count, for callers. The numbers are those of Park and Miller's generator with
+-- the multiplier 48271.
 use Rattle.std.specs.Prelude.{ℕ, zero, suc, ◌+◌, ◌*◌, ◌%◌, List, [], ◌∷◌, ◌++◌, slice_index_or, codes, decimal}
 use Rattle.std.specs.List.{flat_map}
 
@@ -12,7 +13,8 @@ later zero x = x
 later (suc n) x = later n (next x)
 
 abbrev pub fragments : List (List ℕ)
-fragments = codes "C" ∷ codes "N" ∷ codes "O" ∷ codes "C(=O)" ∷ codes "C(C)" ∷ codes "c1ccc(cc1)" ∷ codes "C(F)" ∷ codes "S" ∷ []
+fragments = codes "C" ∷ codes "N" ∷ codes "O" ∷ codes "C(=O)" ∷ codes "C(C)" ∷ codes "c1ccc(cc1)" ∷ codes "C(F)"
+    ∷ codes "S" ∷ []
 
 abbrev pub patterns : List (List ℕ)
 patterns = codes "C=O" ∷ codes "c1ccccc1" ∷ codes "[N;H1]" ∷ codes "[$(C(=O)N)]" ∷ codes "F" ∷ []
@@ -37,7 +39,8 @@ after_structure x = later (fragment_count x) (next x)
 -- so many registrations from an identifier on, by the numbers after x
 unfoldable pub registrations : ℕ → ℕ → ℕ → List ℕ
 registrations zero id x = []
-registrations (suc n) id x = codes "register " ++ decimal id ++ codes " " ++ structure_text x ++ 10 ∷ registrations n (id + 1) (after_structure x)
+registrations (suc n) id x = codes "register " ++ decimal id ++ codes " " ++ structure_text x ++ 10
+    ∷ registrations n (id + 1) (after_structure x)
 
 -- a search for each pattern
 abbrev pub searches : List ℕ

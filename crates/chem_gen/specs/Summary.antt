@@ -26,7 +26,8 @@ outcome line = if begins line (codes "end at ") then after_first (λ b. b == 32)
 unfoldable pub outcomes : List (List ℕ) → List (List ℕ) → List ℕ
 outcomes [] endings = []
 outcomes (pattern ∷ more) [] = []
-outcomes (pattern ∷ more) (ending ∷ endings) = codes "search " ++ pattern ++ codes " " ++ outcome ending ++ 10 ∷ outcomes more endings
+outcomes (pattern ∷ more) (ending ∷ endings) = codes "search " ++ pattern ++ codes " " ++ outcome ending ++ 10
+    ∷ outcomes more endings
 
 -- the endings in lines
 abbrev pub endings_in : List (List ℕ) → List (List ℕ)
@@ -36,4 +37,5 @@ endings_in lines = filter is_ending lines
 abbrev pub summary_of : ℕ → ℕ → List ℕ → List ℕ
 summary_of seed count transcript =
     codes "bulk seed " ++ decimal seed ++ codes " count " ++ decimal count
-    ++ codes "\nversion " ++ last_version (lines_of transcript) ++ 10 ∷ outcomes patterns (endings_in (drop count (lines_of transcript)))
+    ++ codes "\nversion " ++ last_version (lines_of transcript) ++ 10
+    ∷ outcomes patterns (endings_in (drop count (lines_of transcript)))

@@ -9,8 +9,8 @@ use std::alloc::{AllocError, Global};
 /// How many patterns are searched for.
 pub const PATTERNS: usize = 5;
 
-/// The script: for each identifier from 1 to the count a registration, of a structure that follows from the seed, and then
-/// the searches. Fails only for want of memory.
+/// The script: for each identifier from 1 to the count a registration, of a structure that follows from the seed, and
+/// then the searches. Fails only for want of memory.
 pub fn script(alloc: Global, seed: u32, count: u32) -> Result<Vec<u8>, AllocError>
     ensures { IfOk result (λ text. text.items ≡ script_of seed count) }
 {

@@ -1,4 +1,5 @@
-//! Generated scripts: registrations of structures that follow from a seed, then searches; and summaries of their transcripts.
+//! Generated scripts: registrations of structures that follow from a seed, then searches; and summaries of their
+//! transcripts.
 #![tactic(auto)]
 
 mod generate;

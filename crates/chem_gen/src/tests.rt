@@ -1,3 +1,5 @@
+//! Seeds with their scripts and summaries, by hand.
+
 use crate::{script, summary};
 use std::test::Fail;
 

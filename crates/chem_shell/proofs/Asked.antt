@@ -215,7 +215,8 @@ run_bulk same =
     omega (arith, bad)
 
 -- a row is that of its command
-pub row_of_mem : (o : Option Text) (found : List Row) (p : Plan) → o ≡ Some (codes "mem") → IsRow o found p → IsMem found p
+pub row_of_mem : (o : Option Text) (found : List Row) (p : Plan) → o ≡ Some (codes "mem") → IsRow o found p
+    → IsMem found p
 row_of_mem o found p e (inl a) = a.1
 row_of_mem o found p e (inr (inl a)) = absurd (two_words o (codes "mem") (codes "init") e a.0 mem_init)
 row_of_mem o found p e (inr (inr (inl a))) = absurd (two_words o (codes "mem") (codes "run") e a.0 mem_run)
@@ -328,7 +329,8 @@ no_command words rows is mem init run bulk = no_row words rows is (λ p row. eli
 
 -- a plan that makes a store has no end, and every other has one
 pub ends_of_plan : (words : List Text) (p : Plan) → AsksFor words p → p.command ≢ Init → p.ends ≡ 1
-ends_of_plan words p a serves = of_row (first_of (codes "command") (matches_of chemdb_app words)) (matches_of chemdb_app words) a.row
+ends_of_plan words p a serves = of_row (first_of (codes "command") (matches_of chemdb_app words))
+    (matches_of chemdb_app words) a.row
   where
     of_row : (o : Option Text) (found : List Row) → IsRow o found p → p.ends ≡ 1
     of_row o found (inl r) = r.1.ends
@@ -337,7 +339,8 @@ ends_of_plan words p a serves = of_row (first_of (codes "command") (matches_of c
     of_row o found (inr (inr (inr r))) = r.1.ends
 
 pub no_ends_of_plan : (words : List Text) (p : Plan) → AsksFor words p → p.command ≡ Init → p.ends ≡ 0
-no_ends_of_plan words p a makes = of_row (first_of (codes "command") (matches_of chemdb_app words)) (matches_of chemdb_app words) a.row
+no_ends_of_plan words p a makes = of_row (first_of (codes "command") (matches_of chemdb_app words))
+    (matches_of chemdb_app words) a.row
   where
     of_row : (o : Option Text) (found : List Row) → IsRow o found p → p.ends ≡ 0
     of_row o found (inl r) = absurd (apart (sym r.1.command ∙ makes))

@@ -42,7 +42,8 @@ beginning : (ended : EndStatus) (page : ℕ) (calls : Calls) (h : List Change) (
     → IfSome input (λ bytes. Writes before after (IsTranscriptPrefixBy page bytes calls h))
 beginning ended page calls h None before after fit law run served = tt
 beginning ended page calls h (Some bytes) before after fit law run served =
-    writes_as before after (session.IsServed ended page (lines_of bytes) calls) (IsTranscriptPrefixBy page bytes calls h)
+    writes_as before after (session.IsServed ended page (lines_of bytes) calls)
+    (IsTranscriptPrefixBy page bytes calls h)
     (λ text is. (
       served_begins ended page (lines_of bytes) calls text fit is,
       true_begins ended h page (lines_of bytes) calls text fit (law ended page (lines_of bytes) calls text h run is),
@@ -88,7 +89,8 @@ module _ {D : Type 0} (content : D → Option (List ℕ)) (images : D → List �
 
   -- each image of a store's disk opens to its history, or to this and the commit in doubt
   pub opens_after : (store : StoreTerm D) (s : State) → StandsFor content images faults store s
-      → IfTold (content store.journal.disk) (λ _. (image : List ℕ) → images store.journal.disk image → OpensAfter s image)
+      → IfTold (content store.journal.disk) (λ _. (image : List ℕ) → images store.journal.disk image
+      → OpensAfter s image)
   opens_after store s stands = opens_by store.journal s s.doubt refl stands.journal
 
   in_run : (s : State) (old new : StoreTerm D) (calls : Calls)
@@ -116,25 +118,26 @@ module _ {D : Type 0} (content : D → Option (List ℕ)) (images : D → List �
       → IfSome (left before.source) (λ bytes. Writes (written before.sink) (written after.sink)
       (session.IsServed ended plan.page (lines_of bytes) calls))
       → RunsOn content images faults left written plan a a' before after
-  runs_on law left written plan a a' s old new calls ended before after opened opens count made same fit is served = record {
-    status = end_of ended after.status is;
-    calls = calls;
-    on = record {
-      first = s;
-      steps = made.steps;
-      last = made.after;
-      opened = opened;
-      opens = opens;
-      run = made.stands.run;
-      calm = made.stands.calm;
-      all = made.own;
-      left = subst (λ d. IfTold (content d) (λ _. (image : List ℕ) → images d image → OpensAfter made.after image))
-          (sym same) (opens_after new made.after made.stands.ends);
-      begins = count;
-      ends = ap (λ (f : Faults). f.a) made.stands.ends.counts ∙ ap faults (sym same);
-    };
-    prefix = beginning ended plan.page calls made.after.history (left before.source) (written before.sink)
-        (written after.sink) fit law (in_run s old new calls made) served;
-    all = λ e. whole_of_status ended after.status plan.page calls made.after.history (left before.source)
-        (written before.sink) (written after.sink) is e law (in_run s old new calls made) served;
-  }
+  runs_on law left written plan a a' s old new calls ended before after opened opens count made same fit is
+      served = record {
+        status = end_of ended after.status is;
+        calls = calls;
+        on = record {
+          first = s;
+          steps = made.steps;
+          last = made.after;
+          opened = opened;
+          opens = opens;
+          run = made.stands.run;
+          calm = made.stands.calm;
+          all = made.own;
+          left = subst (λ d. IfTold (content d) (λ _. (image : List ℕ) → images d image → OpensAfter made.after image))
+              (sym same) (opens_after new made.after made.stands.ends);
+          begins = count;
+          ends = ap (λ (f : Faults). f.a) made.stands.ends.counts ∙ ap faults (sym same);
+        };
+        prefix = beginning ended plan.page calls made.after.history (left before.source) (written before.sink)
+            (written after.sink) fit law (in_run s old new calls made) served;
+        all = λ e. whole_of_status ended after.status plan.page calls made.after.history (left before.source)
+            (written before.sink) (written after.sink) is e law (in_run s old new calls made) served;
+      }

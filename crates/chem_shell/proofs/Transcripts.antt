@@ -61,7 +61,8 @@ nothing_begins page lines = (
 )
 
 -- a session that is not worn put a prefix
-pub served_begins : (ended : EndStatus) (page : ℕ) (lines : List TextLine) (calls : Calls) (text : List ℕ) → ended ≢ Worn
+pub served_begins : (ended : EndStatus) (page : ℕ) (lines : List TextLine) (calls : Calls) (text : List ℕ)
+    → ended ≢ Worn
     → session.IsServed ended page lines calls text → script.IsTranscriptPrefix page lines calls text
 served_begins Done page lines calls text fit served = whole_begins page lines calls text served
 served_begins Worn page lines calls text fit served = absurd (fit refl)
@@ -71,7 +72,8 @@ served_begins NoMemory page lines calls text fit served = served
 served_begins InputTooLong page lines calls text fit served = answered_begins page lines calls text served
 
 -- the same of what is true of them
-pub true_begins : (ended : EndStatus) (h : List Change) (page : ℕ) (lines : List TextLine) (calls : Calls) (text : List ℕ)
+pub true_begins : (ended : EndStatus) (h : List Change) (page : ℕ) (lines : List TextLine) (calls : Calls)
+    (text : List ℕ)
     → ended ≢ Worn → IsTrueService ended h page lines calls text → IsTrueBeginning h page lines calls text
 true_begins Done h page lines calls text fit t = record {
   exchanges = t.exchanges;

@@ -9,8 +9,11 @@ use Rattle.chem_shell.specs.declared.top.End.{End}
 
 pub stays_same : {D : Type 0} (content : D → Option (List ℕ)) (images : D → List ℕ → Type 0) (a a' : D) → a' ≡ a
     → Stays (content a) (content a') (images a) (images a')
-stays_same content images a a' same =
-    (ap content same, subst (λ d. Same (images a) (images d)) (sym same) (record { no_more = λ c i. i; no_fewer = λ c i. i }))
+stays_same content images a a' same = (
+  ap content same,
+  subst (λ d. Same (images a) (images d)) (sym same)
+      (record { no_more = λ c i. i; no_fewer = λ c i. i }),
+)
 
 module _ {D S K : Type 0} (content : D → Option (List ℕ)) (images : D → List ℕ → Type 0) (clock : D → ℕ)
     (between : D → ℕ → ℕ → List ℕ → Type 0) (faults : D → ℕ) (bound : D → Option ℕ) where
@@ -18,7 +21,8 @@ module _ {D S K : Type 0} (content : D → Option (List ℕ)) (images : D → Li
       → IsRefused content images clock between faults bound a a' end (with_status 8 end)
   refused_unmoved a a' read end = record { status = inr (inr (inr refl)); end = refl; disk = read }
 
-  pub runs_same : (left : S → Option (List ℕ)) (written : K → Option (List ℕ)) (p q : Plan) (a a' : D) (old new : End S K)
+  pub runs_same : (left : S → Option (List ℕ)) (written : K → Option (List ℕ)) (p q : Plan) (a a' : D)
+      (old new : End S K)
       → p.commits ≡ q.commits → p.page ≡ q.page
       → IsRefused content images clock between faults bound a a' old new
       ⊎ RunsOn content images faults left written q a a' old new

@@ -34,8 +34,8 @@ Stays old new old_images new_images = (new ≡ old) × Same old_images new_image
 abbrev pub OpensAfter : State → List ℕ → Type 0
 OpensAfter s bytes = (h : List Change) × Recovers s h × Opens (payloads h) bytes
 
--- The calls are all of a run without a crash that begins with the commits of the disk. Afterwards each image opens to the
--- run's history, or to this and the commit in doubt; the counts of faults in the run's states are the disk's.
+-- The calls are all of a run without a crash that begins with the commits of the disk. Afterwards each image opens to
+-- the run's history, or to this and the commit in doubt; the counts of faults in the run's states are the disk's.
 pub record AreOnDisk {D : Type 0} (content : D → Option (List ℕ)) (images : D → List ℕ → Type 0) (faults : D → ℕ)
     (commits : ℕ) (old new : D) (calls : Calls) : Type 0 where
   pub first : State
@@ -50,8 +50,8 @@ pub record AreOnDisk {D : Type 0} (content : D → Option (List ℕ)) (images : 
   pub begins : faults old ≤ first.faults.a
   pub ends : last.faults.a ≡ faults new
 
--- The text is a transcript of the script by these calls, by pages of a size. Each search and each cursor that came to its
--- end listed exactly the hits of the history
+-- The text is a transcript of the script by these calls, by pages of a size. Each search and each cursor that came to
+-- its end listed exactly the hits of the history
 abbrev pub IsTranscriptBy : ℕ → List ℕ → Calls → List Change → List ℕ → Type 0
 IsTranscriptBy page script calls history text =
     session.IsTranscript page (lines_of script) calls text × IsTrueTranscript history page (lines_of script) calls text
@@ -62,8 +62,8 @@ IsTranscriptPrefixBy page script calls history text =
     session.IsTranscriptPrefix page (lines_of script) calls text
     × IsTrueBeginning history page (lines_of script) calls text
 
--- `run` after the store was loaded: what was written is a prefix of a transcript of the source's bytes by the calls of a
--- run on the disk, and all of one where the status is 0
+-- `run` after the store was loaded: what was written is a prefix of a transcript of the source's bytes by the calls of
+-- a run on the disk, and all of one where the status is 0
 pub record RunsOn {D S K : Type 0} (content : D → Option (List ℕ)) (images : D → List ℕ → Type 0) (faults : D → ℕ)
     (left : S → Option (List ℕ)) (written : K → Option (List ℕ)) (plan : Plan) (a a' : D) (old new : End S K)
     : Type 0 where

@@ -17,8 +17,8 @@ pub record AreOfRun (commits : ℕ) (calls : Calls) : Type 0 where
   pub calm : IsCalm steps
   pub all : calls_of (λ _. true) steps ≡ calls
 
--- The text is a transcript of the script in such a run, by pages of a size. Each search and each cursor that came to its
--- end listed exactly the hits of the run's history
+-- The text is a transcript of the script in such a run, by pages of a size. Each search and each cursor that came to
+-- its end listed exactly the hits of the run's history
 abbrev pub IsTranscript : ℕ → ℕ → List ℕ → List ℕ → Type 0
 IsTranscript commits page script text =
     (calls : Calls) × (run : AreOfRun commits calls) × session.IsTranscript page (lines_of script) calls text

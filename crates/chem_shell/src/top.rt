@@ -83,7 +83,8 @@ pub struct Outcome<D, S, K> {
 }
 
 /// The program over the objects that it is handed: what the words ask for is done with the ends and the disks, and the
-/// statuses say how it ended. `mem` serves one end by a session over a store in memory, and `run` over the store of disk
+/// statuses say how it ended. `mem` serves one end by a session over a store in memory, and `run` over the store of
+/// disk
 /// `a`; `bulk` puts a summary to one; `init` makes a store on disk `a`, and has no end. Disk `b` is not used yet.
 pub fn chemdb<
     R: Threads + Wait + Sync,
@@ -136,8 +137,8 @@ pub fn chemdb<
         → WritesAll plan.commits plan.page (S.left old.source) (K.written old.sink) (K.written new.sink))
         ends.items result.ends.items) }
 
-    // `init`: where it is done, the disk was empty, and has the empty store. Where the disk has bytes or memory ran out,
-    // the disk is as before.
+    // `init`: where it is done, the disk was empty, and has the empty store. Where the disk has bytes or memory ran
+    // out, the disk is as before.
     ensures init_statuses { OnPlan (texts words.now) Verb.Init (λ _. IsCreationStatus result.status) }
     ensures init_ends { OnPlan (texts words.now) Verb.Init (λ _. result.ends.items ≡ []) }
     ensures init_done { OnPlan (texts words.now) Verb.Init (λ _. result.status ≡ DONE
@@ -148,9 +149,9 @@ pub fn chemdb<
         (result.status ≡ NOT_EMPTY) ⊎ (result.status ≡ NO_MEMORY)
         → Stays (D.content a) (D.content result.a) (D.images a) (D.images result.a)) }
 
-    // `run`: where the store was not loaded, nothing was taken or put, and the disk was only read. Else what was written
-    // is a prefix of a transcript of the source's bytes in a run that begins with the commits of the disk, all of one
-    // where the status is 0; and afterwards the disk has the run's history.
+    // `run`: where the store was not loaded, nothing was taken or put, and the disk was only read. Else what was
+    // written is a prefix of a transcript of the source's bytes in a run that begins with the commits of the disk, all
+    // of one where the status is 0; and afterwards the disk has the run's history.
     ensures run { OnPlan (texts words.now) Verb.Run (λ plan. AllZip (λ old new.
         IsRefused D.content D.images D.clock D.images_between D.faults D.bound a result.a old new
         ⊎ RunsOn D.content D.images D.faults S.left K.written plan a result.a old new)

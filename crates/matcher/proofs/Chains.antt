@@ -25,10 +25,18 @@ pair x y = (x, y)
 
 along : (b x y : ℕ) → JoinsAt chain b x y → Along b x y
 unfolding pair
-along zero x y (inl e) = let p = same_Some (pair 0 1) (pair x y) e in let l : 0 ≡ x = ap (λ (q : ℕ × ℕ). q.0) p in let r : 1 ≡ y = ap (λ (q : ℕ × ℕ). q.1) p in record { one = omega arith; sum = omega arith; left = omega arith; right = omega arith }
-along zero x y (inr e) = let p = same_Some (pair 0 1) (pair y x) e in let l : 0 ≡ y = ap (λ (q : ℕ × ℕ). q.0) p in let r : 1 ≡ x = ap (λ (q : ℕ × ℕ). q.1) p in record { one = omega arith; sum = omega arith; left = omega arith; right = omega arith }
-along (suc zero) x y (inl e) = let p = same_Some (pair 1 2) (pair x y) e in let l : 1 ≡ x = ap (λ (q : ℕ × ℕ). q.0) p in let r : 2 ≡ y = ap (λ (q : ℕ × ℕ). q.1) p in record { one = omega arith; sum = omega arith; left = omega arith; right = omega arith }
-along (suc zero) x y (inr e) = let p = same_Some (pair 1 2) (pair y x) e in let l : 1 ≡ y = ap (λ (q : ℕ × ℕ). q.0) p in let r : 2 ≡ x = ap (λ (q : ℕ × ℕ). q.1) p in record { one = omega arith; sum = omega arith; left = omega arith; right = omega arith }
+along zero x y (inl e) = let p = same_Some (pair 0 1) (pair x y) e in let l : 0 ≡ x = ap (λ (q : ℕ × ℕ). q.0) p
+    in let r : 1 ≡ y = ap (λ (q : ℕ × ℕ). q.1) p
+    in record { one = omega arith; sum = omega arith; left = omega arith; right = omega arith }
+along zero x y (inr e) = let p = same_Some (pair 0 1) (pair y x) e in let l : 0 ≡ y = ap (λ (q : ℕ × ℕ). q.0) p
+    in let r : 1 ≡ x = ap (λ (q : ℕ × ℕ). q.1) p
+    in record { one = omega arith; sum = omega arith; left = omega arith; right = omega arith }
+along (suc zero) x y (inl e) = let p = same_Some (pair 1 2) (pair x y) e in let l : 1 ≡ x = ap (λ (q : ℕ × ℕ). q.0) p
+    in let r : 2 ≡ y = ap (λ (q : ℕ × ℕ). q.1) p
+    in record { one = omega arith; sum = omega arith; left = omega arith; right = omega arith }
+along (suc zero) x y (inr e) = let p = same_Some (pair 1 2) (pair y x) e in let l : 1 ≡ y = ap (λ (q : ℕ × ℕ). q.0) p
+    in let r : 2 ≡ x = ap (λ (q : ℕ × ℕ). q.1) p
+    in record { one = omega arith; sum = omega arith; left = omega arith; right = omega arith }
 along (suc (suc b)) x y (inl e) = absurd (none-some (pair x y) e)
 along (suc (suc b)) x y (inr e) = absurd (none-some (pair y x) e)
 
@@ -50,8 +58,10 @@ no_cycle atoms cycle =
     let j0 = cycle.joined 0 (omega arith) in
     let j1 = cycle.joined 1 (omega arith) in
     let j2 = cycle.joined 2 (omega arith) in
-    let a0 : Along j0.0 (at 0) (at 1) = subst (λ k. Along j0.0 (at 0) (at k)) turns.0 (along j0.0 (at 0) (at (next_place atoms 0)) j0.1) in
-    let a1 : Along j1.0 (at 1) (at 2) = subst (λ k. Along j1.0 (at 1) (at k)) turns.1 (along j1.0 (at 1) (at (next_place atoms 1)) j1.1) in
+    let a0 : Along j0.0 (at 0) (at 1) = subst (λ k. Along j0.0 (at 0) (at k)) turns.0
+    (along j0.0 (at 0) (at (next_place atoms 0)) j0.1) in
+    let a1 : Along j1.0 (at 1) (at 2) = subst (λ k. Along j1.0 (at 1) (at k)) turns.1
+    (along j1.0 (at 1) (at (next_place atoms 1)) j1.1) in
     let a2 : Along j2.0 (at 2) (at (next_place atoms 2)) = along j2.0 (at 2) (at (next_place atoms 2)) j2.1 in
     let d02 = cycle.distinct 0 2 0 (omega arith) (omega arith) in
     elim turns.2 [
@@ -117,11 +127,13 @@ simple = record {
   few_neighbours = λ a. few a;
   in_range = λ k d l. within k d l;
   distinct = λ k d l. apart k d l;
-  once = λ b c x y p q. let e = along b x y p in let f = along c x y q in let e2 = e.sum in let f2 = f.sum in omega arith;
+  once = λ b c x y p q. let e = along b x y p in let f = along c x y q in let e2 = e.sum in let f2 = f.sum
+      in omega arith;
 }
   where
     few : (a : ℕ) → degree chain a ≤ 12
-    few a = let two = count_by-le-length (λ (e : ℕ × ℕ). eqb e.0 a || eqb e.1 a) chain in let size : length chain ≡ 2 = refl in omega arith
+    few a = let two = count_by-le-length (λ (e : ℕ × ℕ). eqb e.0 a || eqb e.1 a) chain
+        in let size : length chain ≡ 2 = refl in omega arith
 
     within : (k : ℕ) (d : ℕ × ℕ) → k < length chain → ((get_or chain k d).0 < 3) × ((get_or chain k d).1 < 3)
     within zero d l = (omega arith, omega arith)
@@ -135,7 +147,14 @@ simple = record {
 
 -- a pattern of two atoms that are joined
 pub sound_pair : (one other : Term AtomPrim) (expr : Term BondPrim) → NamesBelow 0 one → NamesBelow 0 other
-    → IsSoundPattern (record { top = record { atoms = one ∷ other ∷ []; bonds = record { a = 0; b = 1; expr = expr } ∷ [] }; recs = [] })
+    → IsSoundPattern (record {
+      top = record {
+        atoms = one ∷ other ∷ [];
+        bonds = record { a = 0; b = 1; expr = expr }
+            ∷ [];
+      };
+      recs = [];
+    })
 unfolding pair
 sound_pair one other expr h k = record {
   top = record {

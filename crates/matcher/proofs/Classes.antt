@@ -20,18 +20,22 @@ pub class_below : (number : ℕ) (aromatic : Bool) → class_at number aromatic 
 class_below number true = omega arith
 class_below number false = omega arith
 
-either_class : (number : ℕ) (aromatic : Bool) → (class_at number aromatic ≡ class_at number false) ⊎ (class_at number aromatic ≡ class_at number true)
+either_class : (number : ℕ) (aromatic : Bool) → (class_at number aromatic ≡ class_at number false)
+    ⊎ (class_at number aromatic ≡ class_at number true)
 either_class number true = inr refl
 either_class number false = inl refl
 
-prim_may_be : (parts : Parts) (p : AtomPrim) (m : Molecule) (a : ℕ) (x : Atom) → AtomPrimTrue parts p m a x → PrimMayBe p (class_of x)
+prim_may_be : (parts : Parts) (p : AtomPrim) (m : Molecule) (a : ℕ) (x : Atom) → AtomPrimTrue parts p m a x
+    → PrimMayBe p (class_of x)
 prim_may_be parts (atoms.Symbol number lower) m a x h = ap (λ n. class_at n x.aromatic) h.0 ∙ ap (class_at number) h.1
-prim_may_be parts (atoms.Number number) m a x h = subst (λ n. (class_at n x.aromatic ≡ class_at number false) ⊎ (class_at n x.aromatic ≡ class_at number true)) (sym h) (either_class number x.aromatic)
+prim_may_be parts (atoms.Number number) m a x h = subst (λ n. (class_at n x.aromatic ≡ class_at number false)
+    ⊎ (class_at n x.aromatic ≡ class_at number true)) (sym h) (either_class number x.aromatic)
 prim_may_be parts _ m a x h = tt
 
 pub may_be_true : (parts : Parts) (e : Term AtomPrim) (m : Molecule) (a : ℕ) (x : Atom) → slice_get m.atoms a ≡ Some x
     → AtomTrue parts e m a → MayBe e (class_of x)
-may_be_true parts (Prim p) m a x get h = subst (λ y. PrimMayBe p (class_of y)) (same_Some h.0 x (sym h.1 ∙ get)) (prim_may_be parts p m a h.0 h.2)
+may_be_true parts (Prim p) m a x get h = subst (λ y. PrimMayBe p (class_of y)) (same_Some h.0 x (sym h.1 ∙ get))
+    (prim_may_be parts p m a h.0 h.2)
 may_be_true parts (Not e) m a x get h = tt
 may_be_true parts (And e f) m a x get h = (may_be_true parts e m a x get h.0, may_be_true parts f m a x get h.1)
 may_be_true parts (Or e f) m a x get (inl h) = inl (may_be_true parts e m a x get h)
@@ -58,7 +62,8 @@ pub stands_in : (parts : Parts) (m : Molecule) (a classes : ℕ) (e : Term AtomP
     → a < length m.atoms → AtomTrue parts e m a → bit_at classes (class_of (get_or m.atoms a no_element)) ≡ 1
 stands_in parts m a classes e covers within h =
     let x = get_or m.atoms a no_element in
-    covers (class_of x) (class_below x.number x.aromatic) (may_be_true parts e m a x (slice_get-get_or m.atoms a no_element within) h)
+    covers (class_of x) (class_below x.number x.aromatic)
+    (may_be_true parts e m a x (slice_get-get_or m.atoms a no_element within) h)
 
 -- no embedding, where none of the molecule's atoms is of a class of the expression
 pub no_atom : (parts : Parts) (g : GraphTerm) (m : Molecule) (k : ℕ) (e : Term AtomPrim) (classes present : ℕ)
@@ -68,7 +73,8 @@ no_atom parts g m k e classes present get covers all none image h =
     let place = slice_get_within g.atoms k e get in
     let within : slice_index image k < length m.atoms = h.in_range k 0 (omega (arith, h.one_each)) in
     let c : ℕ = class_of (get_or m.atoms (slice_index image k) no_element) in
-    let both = and_both classes present c (stands_in parts m (slice_index image k) classes e covers within (h.atoms k e get)) (all (slice_index image k) no_element within) in
+    let both = and_both classes present c (stands_in parts m (slice_index image k) classes e covers within
+    (h.atoms k e get)) (all (slice_index image k) no_element within) in
     let zero : bit_at (bit_and classes present) c ≡ 0 = ap (λ n. bit_at n c) none ∙ bit_at-zero c in
     omega arith
 
@@ -80,7 +86,9 @@ pub stands_next : (parts : Parts) (g : GraphTerm) (m : Molecule) (steps : List S
 stands_next parts g m steps front atom ready few within p =
     let e : Term AtomPrim = get_or g.atoms (length front) (Prim atoms.Any) in
     let last = IsPartial-last parts g m front atom p in
-    stands_in parts m atom (step_at steps (length front)).classes e (ready.covered (length front) few (Prim atoms.Any)) within (last.1 e (slice_get-get_or g.atoms (length front) (Prim atoms.Any) few))
+    stands_in parts m atom (step_at steps (length front)).classes e
+    (ready.covered (length front) few (Prim atoms.Any)) within
+    (last.1 e (slice_get-get_or g.atoms (length front) (Prim atoms.Any) few))
 
 -- the same of any place of an embedding
 pub stands_at : (parts : Parts) (g : GraphTerm) (m : Molecule) (steps : List Step) (image : List ℕ) (place atom : ℕ)
@@ -90,4 +98,6 @@ stands_at parts g m steps image place atom ready few h is =
     let e : Term AtomPrim = get_or g.atoms place (Prim atoms.Any) in
     let within : slice_index image place < length m.atoms = h.in_range place 0 (omega (arith, h.one_each)) in
     subst (λ a. bit_at (step_at steps place).classes (class_of (get_or m.atoms a no_element)) ≡ 1) is
-    (stands_in parts m (slice_index image place) (step_at steps place).classes e (ready.covered place few (Prim atoms.Any)) within (h.atoms place e (slice_get-get_or g.atoms place (Prim atoms.Any) few)))
+    (stands_in parts m (slice_index image place) (step_at steps place).classes e
+    (ready.covered place few (Prim atoms.Any)) within
+    (h.atoms place e (slice_get-get_or g.atoms place (Prim atoms.Any) few)))

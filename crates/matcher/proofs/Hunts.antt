@@ -16,7 +16,8 @@ use Rattle.matcher.proofs.Joins.{among_neighbours, joined_back, neighbour_joined
 use Rattle.matcher.proofs.Plans.{high_below}
 
 -- a bond of the graph as it is read from memory
-read_bond : (bonds : List PatBond) (k : ℕ) (b : PatBond) → k < length bonds → b ≡ get_or bonds k b → (d : BondTerm) → get_or (map bond_of bonds) k d ≡ bond_of b
+read_bond : (bonds : List PatBond) (k : ℕ) (b : PatBond) → k < length bonds → b ≡ get_or bonds k b → (d : BondTerm)
+    → get_or (map bond_of bonds) k d ≡ bond_of b
 read_bond bonds k b l is d = get_or-map bond_of bonds k b d l ∙ ap bond_of (sym is)
 
 -- what a bond to a place that is taken asks
@@ -31,15 +32,22 @@ asks_bond task taken place bond other b ready l is ends at d whole h =
     let within : bond < length g.bonds = subst (λ n. bond < n) (sym (length-map bonds bond_of)) l in
     let both : max b.a b.b < length g.atoms = high_below bonds g bond b l is ready.searchable.ends in
     let size : length whole ≡ length g.atoms = h.embeds.one_each in
-    let j : BondEmbeds m whole (bond_of b) = subst (BondEmbeds m whole) (read_bond bonds bond b l is d) (h.embeds.bonds bond d within) in
+    let j : BondEmbeds m whole (bond_of b) = subst (BondEmbeds m whole) (read_bond bonds bond b l is d)
+    (h.embeds.bonds bond d within) in
     let true' = subst (λ (t : BondTerm). BondTrue t.expr m j.0) (sym (read_bond bonds bond b l is d)) j.2 in
     elim ends [
       | inl e ↦
-          let there : slice_index whole b.b ≡ slice_index taken other = ap (λ q. slice_index whole q) e.1 ∙ h.agrees other (let f : b.b ≡ other = e.1 in omega arith) at in
-          let here = subst (λ x. JoinsAt (ends_of m) j.0 (slice_index whole x) (slice_index whole b.b)) e.0 j.1 in
-          (j.0, subst (λ x. JoinsAt (ends_of m) j.0 x (slice_index whole place)) there (joined_back (ends_of m) j.0 (slice_index whole place) (slice_index whole b.b) here), true')
+          let there : slice_index whole b.b ≡ slice_index taken other = ap (λ q. slice_index whole q) e.1
+          ∙ h.agrees other (let f : b.b ≡ other = e.1 in omega arith) at in
+          let here = subst (λ x. JoinsAt (ends_of m) j.0 (slice_index whole x) (slice_index whole b.b)) e.0 j.1 in (
+            j.0,
+            subst (λ x. JoinsAt (ends_of m) j.0 x (slice_index whole place)) there
+                (joined_back (ends_of m) j.0 (slice_index whole place) (slice_index whole b.b) here),
+            true',
+          )
       | inr e ↦
-          let there : slice_index whole b.a ≡ slice_index taken other = ap (λ q. slice_index whole q) e.0 ∙ h.agrees other (let f : b.a ≡ other = e.0 in omega arith) at in
+          let there : slice_index whole b.a ≡ slice_index taken other = ap (λ q. slice_index whole q) e.0
+          ∙ h.agrees other (let f : b.a ≡ other = e.0 in omega arith) at in
           let here = subst (λ x. JoinsAt (ends_of m) j.0 (slice_index whole b.a) (slice_index whole x)) e.1 j.1 in
           (j.0, subst (λ x. JoinsAt (ends_of m) j.0 x (slice_index whole place)) there here, true')
     ]
@@ -54,7 +62,8 @@ asked_at task taken whole place from bond atom b asks l is h e =
     let w = asks (bond_of b) whole h in (
       w.0,
       subst (λ x. JoinsAt (ends_of task.mol.now) w.0 from x) e w.1,
-      subst (λ (t : BondTerm). BondTrue t.expr task.mol.now w.0) (read_bond task.graph.now.bonds.items bond b l is (bond_of b)) w.2,
+      subst (λ (t : BondTerm). BondTrue t.expr task.mol.now w.0)
+          (read_bond task.graph.now.bonds.items bond b l is (bond_of b)) w.2,
     )
 
 -- not at a neighbour by a bond that is not as asked
@@ -66,7 +75,9 @@ pub not_near : (task : Task) (taken whole : List ℕ) (place from bond : ℕ) (b
     → Continues task taken whole → slice_index whole place ≡ (get_or pairs k (0, 0)).0 → ⊥
 not_near task taken whole place from bond b pairs k asks l is near kl lacks h e =
     let w = asked_at task taken whole place from bond (get_or pairs k (0, 0)).0 b asks l is h e in
-    let one : w.0 ≡ (get_or pairs k (0, 0)).1 = one_bond (ends_of task.mol.now) from (get_or pairs k (0, 0)).0 pairs near w.0 (get_or pairs k (0, 0)).1 w.1 (neighbour_joined (ends_of task.mol.now) from pairs k (0, 0) near kl) in
+    let one : w.0 ≡ (get_or pairs k (0, 0)).1 = one_bond (ends_of task.mol.now) from
+    (get_or pairs k (0, 0)).0 pairs near w.0 (get_or pairs k (0, 0)).1 w.1
+    (neighbour_joined (ends_of task.mol.now) from pairs k (0, 0) near kl) in
     lacks (subst (BondTrue (term_of b.expr) task.mol.now) one w.2)
 
 abbrev any_bond : BondTerm
@@ -75,7 +86,8 @@ any_bond = record { a = 0; b = 0; expr = Prim prims.Any }
 -- nowhere, where at none of the neighbours
 pub nowhere_near : (task : Task) (taken : List ℕ) (place from bond : ℕ) (pairs : List (ℕ × ℕ))
     → Asks task taken place from bond → AreNeighbours (ends_of task.mol.now) from pairs
-    → ((k : ℕ) → k < length pairs → (whole : List ℕ) → Continues task taken whole → slice_index whole place ≡ (get_or pairs k (0, 0)).0 → ⊥)
+    → ((k : ℕ) → k < length pairs → (whole : List ℕ) → Continues task taken whole
+    → slice_index whole place ≡ (get_or pairs k (0, 0)).0 → ⊥)
     → (whole : List ℕ) → Continues task taken whole → ⊥
 nowhere_near task taken place from bond pairs asks near none whole h =
     let w = asks any_bond whole h in
@@ -88,9 +100,11 @@ pub taken_more : (task : Task) (taken whole : List ℕ) (place atom : ℕ) → p
 taken_more task taken whole place atom l h e = record {
   embeds = h.embeds;
   agrees = λ q lq at. elim (cases_eq q place) [
-    | inl same ↦ ap (λ i. slice_index whole i) same ∙ e ∙ sym (ap (λ i. slice_index (set taken place atom) i) same ∙ get_or-set_same taken place atom 0 l)
+    | inl same ↦ ap (λ i. slice_index whole i) same ∙ e
+        ∙ sym (ap (λ i. slice_index (set taken place atom) i) same ∙ get_or-set_same taken place atom 0 l)
     | inr apart ↦
-        let kept : slice_index (set taken place atom) q ≡ slice_index taken q = get_or-set_other taken place q atom 0 apart in
+        let kept : slice_index (set taken place atom) q ≡ slice_index taken q = get_or-set_other taken place q atom 0
+        apart in
         h.agrees q lq (subst (λ x. x < length task.mol.now.atoms) kept at) ∙ sym kept
   ];
 }
@@ -104,10 +118,12 @@ taken_twice task taken whole place atom n size room few in_range free w h e =
     let q : ℕ = w.0 in
     let short : length (take n taken) ≡ n = length-take-le n taken room in
     let before : q < n = subst (λ k. q < k) short w.1 in
-    let read : slice_index taken q ≡ atom = sym (get_or-take n taken q 0 before) ∙ get_or_default (take n taken) q 0 atom w.1 ∙ w.2 in
+    let read : slice_index taken q ≡ atom = sym (get_or-take n taken q 0 before)
+    ∙ get_or_default (take n taken) q 0 atom w.1 ∙ w.2 in
     let there : slice_index whole q ≡ atom = h.agrees q (omega arith) (omega arith) ∙ read in
     elim (cases_order q place) [
-      | inl same ↦ let moved : slice_index taken q ≡ slice_index taken place = ap (λ i. slice_index taken i) same in omega arith
+      | inl same ↦ let moved : slice_index taken q ≡ slice_index taken place = ap (λ i. slice_index taken i) same
+          in omega arith
       | inr apart ↦ elim apart [
         | inl lower ↦ h.embeds.distinct q place 0 lower (omega arith) (there ∙ sym e)
         | inr higher ↦ h.embeds.distinct place q 0 higher (omega arith) (e ∙ sym there)

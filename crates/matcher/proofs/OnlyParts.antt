@@ -18,7 +18,8 @@ use Rattle.matcher.proofs.PartsHeld.{part_holds}
 use Rattle.matcher.proofs.Places.{all_apart}
 
 -- the only element of a list
-pub one_element : {X Y : Type 0} (f : X → Y) (xs : List X) (x : X) → length xs ≡ 1 → x ≡ get_or xs 0 x → map f xs ≡ f x ∷ []
+pub one_element : {X Y : Type 0} (f : X → Y) (xs : List X) (x : X) → length xs ≡ 1 → x ≡ get_or xs 0 x
+    → map f xs ≡ f x ∷ []
 one_element f [] x l e = absurd (omega arith)
 one_element f (y ∷ []) x l e = ap (λ z. f z ∷ []) (sym e)
 one_element f (y ∷ (z ∷ zs)) x l e = absurd (omega arith)
@@ -28,23 +29,27 @@ all_one P a h zero d l = h
 all_one P a h (suc i) d l = absurd (omega arith)
 
 -- the one expression is true at the one atom
-one_true : (parts : Parts) (m : Molecule) (a i : ℕ) (t e : Term AtomPrim) → AtomTrue parts t m a → slice_get (t ∷ []) i ≡ Some e → AtomTrue parts e m (slice_index (a ∷ []) i)
+one_true : (parts : Parts) (m : Molecule) (a i : ℕ) (t e : Term AtomPrim) → AtomTrue parts t m a
+    → slice_get (t ∷ []) i ≡ Some e → AtomTrue parts e m (slice_index (a ∷ []) i)
 one_true parts m a zero t e h get = subst (λ x. AtomTrue parts x m a) (same_Some t e get) h
 one_true parts m a (suc i) t e h get = absurd (none-some e get)
 
 -- a graph of one atom has no bond
-no_bonds : (n : ℕ) (g : GraphTerm) → IsSoundGraph n g → length g.atoms ≡ 1 → (k : ℕ) (d : BondTerm) → k < length g.bonds → ⊥
+no_bonds : (n : ℕ) (g : GraphTerm) → IsSoundGraph n g → length g.atoms ≡ 1 → (k : ℕ) (d : BondTerm) → k < length g.bonds
+    → ⊥
 no_bonds n g sound one k d l =
     let bond : BondTerm = get_or g.bonds k d in
     let within = subst (λ n. k < n) (sym (length-map g.bonds (λ (b : BondTerm). (b.a, b.b)))) l in
     let both : (bond.a < length g.atoms) × (bond.b < length g.atoms) =
-    subst (λ (e : ℕ × ℕ). (e.0 < length g.atoms) × (e.1 < length g.atoms)) (get_or-map (λ (b : BondTerm). (b.a, b.b)) g.bonds k d (0, 0) l) (sound.in_range k (0, 0) within) in
+    subst (λ (e : ℕ × ℕ). (e.0 < length g.atoms) × (e.1 < length g.atoms))
+    (get_or-map (λ (b : BondTerm). (b.a, b.b)) g.bonds k d (0, 0) l) (sound.in_range k (0, 0) within) in
     let left : bond.a < length g.atoms = both.0 in
     let right : bond.b < length g.atoms = both.1 in
     let apart : bond.a ≢ bond.b = all_apart g sound.distinct k d l in
     apart (omega arith)
 
-pub only_part_holds : (p : PatternTerm) (m : Molecule) (k : ℕ) (g : GraphTerm) (table : Table) → IsSoundPattern p → k + 1 ≡ length p.recs
+pub only_part_holds : (p : PatternTerm) (m : Molecule) (k : ℕ) (g : GraphTerm) (table : Table) → IsSoundPattern p
+    → k + 1 ≡ length p.recs
     → p.top.atoms ≡ Prim (atoms.Rec k) ∷ [] → slice_get p.recs k ≡ Some g → AreNoted p.recs m k table
     → CanComplete (HoldsIn table) g m [] ↔ Matches p m
 only_part_holds p m k g table sound last is get noted =
@@ -62,7 +67,8 @@ only_part_holds p m k g table sound last is get noted =
               one_each = sym one;
               in_range = all_one (λ x. x < length m.atoms) a first.1;
               distinct = λ i j d l r. absurd (omega arith);
-              atoms = λ i e at. one_true (PartsHold p.recs m n) m a i (Prim (atoms.Rec k)) e (get_or m.atoms a no_element, slice_get-get_or m.atoms a no_element first.1, here)
+              atoms = λ i e at. one_true (PartsHold p.recs m n) m a i (Prim (atoms.Rec k)) e
+                  (get_or m.atoms a no_element, slice_get-get_or m.atoms a no_element first.1, here)
                   (subst (λ xs. slice_get xs i ≡ Some e) is at);
               bonds = λ i d l. absurd (no_bonds n p.top sound.top one i d l);
             },
@@ -70,5 +76,6 @@ only_part_holds p m k g table sound last is get noted =
       λ w.
           let a : ℕ = slice_index w.0 0 in
           let there = w.1.atoms 0 (Prim (atoms.Rec k)) (ap (λ (xs : List (Term AtomPrim)). slice_get xs 0) is) in
-          CanComplete-more (HoldsIn table) g m [] a ((holds a).1 (subst (λ j. PartsHold p.recs m j k a) (sym next) there.2)),
+          CanComplete-more (HoldsIn table) g m [] a
+          ((holds a).1 (subst (λ j. PartsHold p.recs m j k a) (sym next) there.2)),
     )

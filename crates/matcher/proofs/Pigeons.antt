@@ -35,7 +35,8 @@ unfolding counted
 marks_map p xs = sym (counted-marks (map p xs)) ∙ is_count_by (λ ys. counted (map p ys)) p refl (λ x ys. refl) xs
 
 -- different places at marked atoms: as many atoms are marked
-pub pigeons : (f : ℕ → ℕ) (places : List Bool) (k : ℕ) (atoms : List Bool) → k ≤ length places → ((i : ℕ) → i < k → get_or places i false ≡ true → get_or atoms (f i) false ≡ true)
+pub pigeons : (f : ℕ → ℕ) (places : List Bool) (k : ℕ) (atoms : List Bool) → k ≤ length places
+    → ((i : ℕ) → i < k → get_or places i false ≡ true → get_or atoms (f i) false ≡ true)
     → ((i j : ℕ) → i < j → j < k → f i ≡ f j → ⊥) → marks (take k places) ≤ marks atoms
 pigeons f places zero atoms l within apart = omega arith
 pigeons f places (suc k) atoms l within apart =
@@ -43,13 +44,18 @@ pigeons f places (suc k) atoms l within apart =
     elim (cases_Bool (get_or places k false)) [
       | inl yes' ↦
           let here : get_or atoms (f k) false ≡ true = within k (omega arith) yes' in
-          let rest : marks (take k places) ≤ marks (set atoms (f k) false) = pigeons f places k (set atoms (f k) false) (omega arith)
-          (λ i m h. get_or-set_other atoms (f k) (f i) false false (apart i k m (omega arith)) ∙ within i (omega arith) h) (λ i j m n. apart i j m (omega arith)) in
-          let more : marks (take (k + 1) places) ≡ marks (take k places) + 1 = count_by_more_yes (λ (x : Bool). x) places k false (omega arith) yes' in
+          let rest : marks (take k places) ≤ marks (set atoms (f k) false) = pigeons f places k (set atoms (f k) false)
+          (omega arith)
+          (λ i m h. get_or-set_other atoms (f k) (f i) false false (apart i k m (omega arith))
+          ∙ within i (omega arith) h) (λ i j m n. apart i j m (omega arith)) in
+          let more : marks (take (k + 1) places) ≡ marks (take k places) + 1 = count_by_more_yes
+          (λ (x : Bool). x) places k false (omega arith) yes' in
           let less = marks_set atoms (f k) here in
           subst (λ n. marks (take n places) ≤ marks atoms) next (omega arith)
       | inr no' ↦
-          let rest : marks (take k places) ≤ marks atoms = pigeons f places k atoms (omega arith) (λ i m. within i (omega arith)) (λ i j m n. apart i j m (omega arith)) in
-          let same : marks (take (k + 1) places) ≡ marks (take k places) = count_by_more_no (λ (x : Bool). x) places k false (omega arith) no' in
+          let rest : marks (take k places) ≤ marks atoms = pigeons f places k atoms (omega arith)
+          (λ i m. within i (omega arith)) (λ i j m n. apart i j m (omega arith)) in
+          let same : marks (take (k + 1) places) ≡ marks (take k places) = count_by_more_no
+          (λ (x : Bool). x) places k false (omega arith) no' in
           subst (λ n. marks (take n places) ≤ marks atoms) next (omega arith)
     ]

@@ -7,13 +7,16 @@ use Rattle.smarts_parse.specs.Pattern.{BondTerm, GraphTerm}
 use Rattle.smarts_parse.specs.Sound.{pattern_ends}
 
 -- an element's image at its place
-pub get_map : {X Y : Type 0} (f : Y → X) (ys : List Y) (k : ℕ) (y : Y) → k < length ys → y ≡ get_or ys k y → slice_get (map f ys) k ≡ Some (f y)
-get_map f ys k y l e = slice_get-get_or (map f ys) k (f y) (subst (λ n. k < n) (sym (length-map ys f)) l) ∙ ap Some (get_or-map f ys k y (f y) l ∙ ap f (sym e))
+pub get_map : {X Y : Type 0} (f : Y → X) (ys : List Y) (k : ℕ) (y : Y) → k < length ys → y ≡ get_or ys k y
+    → slice_get (map f ys) k ≡ Some (f y)
+get_map f ys k y l e = slice_get-get_or (map f ys) k (f y) (subst (λ n. k < n) (sym (length-map ys f)) l)
+    ∙ ap Some (get_or-map f ys k y (f y) l ∙ ap f (sym e))
 
 -- the ends of each bond are apart
 pub all_apart : (g : GraphTerm) → All (λ e. e.0 ≢ e.1) (pattern_ends g) → All (λ (b : BondTerm). b.a ≢ b.b) g.bonds
 all_apart g h k d l =
-    subst (λ (e : ℕ × ℕ). e.0 ≢ e.1) (get_or-map (λ (b : BondTerm). (b.a, b.b)) g.bonds k d (0, 0) l) (h k (0, 0) (subst (λ n. k < n) (sym (length-map g.bonds (λ (b : BondTerm). (b.a, b.b)))) l))
+    subst (λ (e : ℕ × ℕ). e.0 ≢ e.1) (get_or-map (λ (b : BondTerm). (b.a, b.b)) g.bonds k d (0, 0) l)
+    (h k (0, 0) (subst (λ n. k < n) (sym (length-map g.bonds (λ (b : BondTerm). (b.a, b.b)))) l))
 
 -- a list that was written whole
 pub take_all : {X : Type 0} (n : ℕ) (xs ys : List X) → n ≡ length xs → take n (xs ++ ys) ≡ xs
@@ -25,7 +28,8 @@ shorter zero xs = refl
 shorter (suc n) [] = refl
 shorter (suc n) (x ∷ xs) = ap (λ ys. x ∷ ys) (shorter n xs)
 
-pub kept_less : (k : ℕ) (new old : List ℕ) (a : ℕ) → take (k + 1) new ≡ take (k + 1) (set old k a) → take k new ≡ take k old
+pub kept_less : (k : ℕ) (new old : List ℕ) (a : ℕ) → take (k + 1) new ≡ take (k + 1) (set old k a)
+    → take k new ≡ take k old
 kept_less k new old a e =
     let next : k + 1 ≡ suc k = omega arith in
     let same : take (suc k) new ≡ take (suc k) (set old k a) = subst (λ n. take n new ≡ take n (set old k a)) next e in

@@ -24,7 +24,8 @@ pub record IsPartial (parts : Parts) (g : GraphTerm) (m : Molecule) (image : Lis
   pub few : length image ≤ length g.atoms
   pub in_range : All (λ a. a < length m.atoms) image
   pub distinct : AllPairs ◌≢◌ image
-  pub atoms : (k : ℕ) (e : Term AtomPrim) → k < length image → slice_get g.atoms k ≡ Some e → AtomTrue parts e m (slice_index image k)
+  pub atoms : (k : ℕ) (e : Term AtomPrim) → k < length image → slice_get g.atoms k ≡ Some e
+      → AtomTrue parts e m (slice_index image k)
   pub bonds : All (λ bond. max bond.a bond.b < length image → BondEmbeds m image bond) g.bonds
 
 -- some embedding begins so

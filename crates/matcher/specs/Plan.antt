@@ -10,17 +10,21 @@ use Rattle.matcher.specs.Partial.{IsSearchable}
 abbrev pub step_at : List Step → ℕ → Step
 step_at steps k = slice_index_or steps k (record { from = 0; to = 0; classes = 0 })
 
--- Each of the first n bonds stands in the step of its higher end, and a step that is not empty begins with a bond whose higher end is its atom.
+-- Each of the first n bonds stands in the step of its higher end, and a step that is not empty begins with a bond whose
+-- higher end is its atom.
 pub record ArePlanned (bonds : List BondTerm) (n atoms : ℕ) (steps : List Step) : Type 0 where
   pub room : atoms ≤ length steps
-  pub within : (k : ℕ) (d : BondTerm) → k < n → let bond = slice_index_or bonds k d in ((step_at steps (max bond.a bond.b)).from ≤ k) × (k < (step_at steps (max bond.a bond.b)).to)
+  pub within : (k : ℕ) (d : BondTerm) → k < n → let bond = slice_index_or bonds k d
+      in ((step_at steps (max bond.a bond.b)).from ≤ k) × (k < (step_at steps (max bond.a bond.b)).to)
   pub ends : (k : ℕ) → k < atoms → (step_at steps k).to ≤ n
   pub proper : (k : ℕ) → k < atoms → ((step_at steps k).to ≡ 0) ⊎ ((step_at steps k).from < (step_at steps k).to)
-  pub first : (k : ℕ) (d : BondTerm) → k < atoms → (step_at steps k).from < (step_at steps k).to → let bond = slice_index_or bonds (step_at steps k).from d in max bond.a bond.b ≡ k
+  pub first : (k : ℕ) (d : BondTerm) → k < atoms → (step_at steps k).from < (step_at steps k).to
+      → let bond = slice_index_or bonds (step_at steps k).from d in max bond.a bond.b ≡ k
 
 -- each step has the classes of the atoms at which its atom may stand
 abbrev pub AreCovered : List (Term AtomPrim) → ℕ → List Step → Type 0
-AreCovered atoms n steps = (k : ℕ) → k < n → (d : Term AtomPrim) → Covers (step_at steps k).classes (slice_index_or atoms k d)
+AreCovered atoms n steps = (k : ℕ) → k < n → (d : Term AtomPrim)
+    → Covers (step_at steps k).classes (slice_index_or atoms k d)
 
 -- a graph that can be searched for, and its steps
 pub record IsReady (g : GraphTerm) (steps : List Step) : Type 0 where

@@ -33,4 +33,6 @@ IsBonded task place = (step_at task.steps.now place).from < (step_at task.steps.
 
 -- if the next atom has a bond to an earlier one, the first of these embeds with it there
 abbrev pub FirstEmbeds : Task → ℕ → List ℕ → ℕ → Type 0
-FirstEmbeds task place front atom = (d : BondTerm) → IsBonded task place → BondEmbeds task.mol.now (front ++ atom ∷ []) (slice_index_or (graph_of task.graph.now).bonds (step_at task.steps.now place).from d)
+FirstEmbeds task place front atom = (d : BondTerm) → IsBonded task place
+    → BondEmbeds task.mol.now (front ++ atom ∷ [])
+    (slice_index_or (graph_of task.graph.now).bonds (step_at task.steps.now place).from d)

@@ -156,8 +156,8 @@ fn may_join(task: &Task, bond: &PatBond, one: u16, two: u16) -> bool
     may_stand(task, &[], usize::from(bond.b), two)
 }
 
-/// Whether a place that is not in front may stand at an atom, where the atoms in front are taken, as far as is seen from
-/// the atom alone.
+/// Whether a place that is not in front may stand at an atom, where the atoms in front are taken, as far as is seen
+/// from the atom alone.
 pub fn may_stand(task: &Task, front: &[u16], place: usize, atom: u16) -> bool
     requires ready { IsReadyTask task.now }
     requires place { place < length task.now.graph.now.atoms.items }

@@ -1,3 +1,5 @@
+//! Least embeddings, by hand.
+
 ghost use Rattle.std.specs.Prelude.{IfOk};
 ghost use Rattle.smarts_parse.specs.Pattern.{pattern_of, term_of};
 ghost use Rattle.smarts_parse.specs.Sound.{IsSoundPattern, NamesBelow};

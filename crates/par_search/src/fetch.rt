@@ -27,7 +27,9 @@ pub fn fetch<S: Service>(
     requires some { 1 ≤ limit }
     requires few { limit ≤ MOST_RECORDS }
     requires room { limit ≤ page.old.room }
-    ensures call { (s : State) → S.at service.old s → Calls S.stretch (S.owns service.old) service.old service.new s (fetch_calls pin.now.slot want.now from limit page.new.records result) }
+    ensures call { (s : State) → S.at service.old s
+        → Calls S.stretch (S.owns service.old) service.old service.new s
+        (fetch_calls pin.now.slot want.now from limit page.new.records result) }
     ensures few { length page.new.records ≤ limit }
     ensures in_range { All (λ (r : Shared). IsId (arc_value r).id) page.new.records }
     ensures err { OnErr result (page.new.records ≡ []) }
@@ -56,7 +58,9 @@ fn fetch_by<S: Service, L: Ledger>(
     requires some { 1 ≤ limit }
     requires few { limit ≤ MOST_RECORDS }
     requires room { limit ≤ page.old.room }
-    ensures call { (s : State) → S.at service.old s → Calls S.stretch (S.owns service.old) service.old service.new s (fetch_calls pin.now.slot want.now from limit page.new.records result) }
+    ensures call { (s : State) → S.at service.old s
+        → Calls S.stretch (S.owns service.old) service.old service.new s
+        (fetch_calls pin.now.slot want.now from limit page.new.records result) }
     ensures few { length page.new.records ≤ limit }
     ensures in_range { All (λ (r : Shared). IsId (arc_value r).id) page.new.records }
     ensures err { OnErr result (page.new.records ≡ []) }

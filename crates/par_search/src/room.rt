@@ -73,7 +73,9 @@ impl Room {
     ) -> Result<bool, CallFault>
         requires held { S.holds service.old pin.now.slot pin.now.version }
         requires room { IsRoom self.old }
-        ensures call { (s : State) → S.at service.old s → Calls S.stretch (S.owns service.old) service.old service.new s (fetch_calls pin.now.slot want.now from self.old.size self.new.page.records result) }
+        ensures call { (s : State) → S.at service.old s
+            → Calls S.stretch (S.owns service.old) service.old service.new s
+            (fetch_calls pin.now.slot want.now from self.old.size self.new.page.records result) }
         ensures few { length self.new.page.records ≤ self.old.size }
         ensures in_range { All (λ (r : Shared). IsId (arc_value r).id) self.new.page.records }
         ensures room { SameRoom self.old self.new }

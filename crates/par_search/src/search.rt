@@ -86,7 +86,8 @@ impl Search {
         requires few_workers { workers ≤ MOST_WORKERS }
         requires some { 1 ≤ page }
         requires few { page ≤ MOST_RECORDS }
-        ensures call { (s : State) → S.at service.old s → Calls S.stretch (S.owns service.old) service.old service.new s (start_calls result) }
+        ensures call { (s : State) → S.at service.old s
+            → Calls S.stretch (S.owns service.old) service.old service.new s (start_calls result) }
         ensures begun { IfOk result (λ search. HasBegun pattern page search) }
         ensures memory { result ≡ Err NoMemory → service.new ≡ service.old }
         ensures worn { result ≢ Err NoMemory → WornAs (S.worn service.old) (S.worn service.new) (is_worn result) }
@@ -120,8 +121,10 @@ impl Search {
         meter: &M,
     ) -> Result<PageHits<'_>, SearchFault>
         requires held { S.holds service.old self.old.slot self.old.version }
-        ensures call { (s : State) → S.at service.old s → Calls S.stretch (S.owns service.old) service.old service.new s (next_calls self.old result) }
-        ensures hits { IfOk result (λ page. AreMatched (pattern_of self.old.pattern) (founds page.records.now) page.hits.now) }
+        ensures call { (s : State) → S.at service.old s
+            → Calls S.stretch (S.owns service.old) service.old service.new s (next_calls self.old result) }
+        ensures hits { IfOk result (λ page. AreMatched (pattern_of self.old.pattern)
+            (founds page.records.now) page.hits.now) }
         ensures tried { IfOk result (λ page. page.tried ≡ length page.records.now) }
         ensures* moves { sem 𝓛 (Moves self.entry result) }
         ensures ended { self.old.place ≡ End → IsEnded result × (service.new ≡ service.old) }
@@ -150,11 +153,13 @@ impl Search {
     /// Gives the pin back.
     pub fn close<S: Service>(self, service: &mut S) -> Result<(), SearchFault>
         requires held { S.holds service.old self.slot self.version }
-        ensures call { (s : State) → S.at service.old s → Calls S.stretch (S.owns service.old) service.old service.new s (close_calls self.slot result) }
+        ensures call { (s : State) → S.at service.old s
+            → Calls S.stretch (S.owns service.old) service.old service.new s (close_calls self.slot result) }
         ensures only_worn { IfErr result (λ fault. fault ≡ Worn) }
         ensures worn { WornAs (S.worn service.old) (S.worn service.new) (is_worn result) }
         ensures held { (slot version : ℕ)
-            → S.holds service.new slot version ↔ (S.holds service.old slot version × ¬ IsReturned result self.slot slot) }
+            → S.holds service.new slot version ↔ (S.holds service.old slot version
+            × ¬ IsReturned result self.slot slot) }
         ensures bounds { NotRaised (S.bounds service.old) (S.bounds service.new) }
     {
         match service.unpin(self.pin) {

@@ -20,7 +20,8 @@ use Rattle.path_print.specs.Texts.{digits, own_bit, IsTextInside}
 pub length-digits : (k n : ℕ) → length (digits k n) ≡ k
 unfolding digits
 length-digits zero n = refl
-length-digits (suc k) n = length-append (digits k (n / 256)) (n % 256 ∷ []) ∙ rw (length-digits k (n / 256)) (omega arith)
+length-digits (suc k) n = length-append (digits k (n / 256)) (n % 256 ∷ [])
+    ∙ rw (length-digits k (n / 256)) (omega arith)
 
 digits-push : (k n c : ℕ) → c < 256 → digits (suc k) (256 * n + c) ≡ digits k n ++ c ∷ []
 unfolding digits
@@ -29,7 +30,8 @@ digits-push k n c h =
     let r : (256 * n + c) % 256 ≡ c = omega arith in
     rw (q, r)
 
-pub digits-push_three : (k n a b c : ℕ) → a < 256 → b < 256 → c < 256 → digits (k + 3) (n * 16777216 + (65536 * a + 256 * b + c)) ≡ digits k n ++ a ∷ b ∷ c ∷ []
+pub digits-push_three : (k n a b c : ℕ) → a < 256 → b < 256 → c < 256
+    → digits (k + 3) (n * 16777216 + (65536 * a + 256 * b + c)) ≡ digits k n ++ a ∷ b ∷ c ∷ []
 digits-push_three k n a b c ha hb hc =
     let e : k + 3 ≡ suc (suc (suc k)) = omega arith in
     let is : n * 16777216 + (65536 * a + 256 * b + c) ≡ 256 * (256 * (256 * n + a) + b) + c = omega arith in
@@ -55,7 +57,8 @@ digits-join j (suc k) u n h =
     let q : (u * 256 ^ suc k + n) / 256 ≡ u * 256 ^ k + n / 256 = rw is (omega arith) in
     let r : (u * 256 ^ suc k + n) % 256 ≡ n % 256 = rw is (omega arith) in
     let fits : n / 256 < 256 ^ k = omega arith in
-    rw (e, q, r) (ap (λ xs. xs ++ n % 256 ∷ []) (digits-join j k u (n / 256) fits) ∙ append_assoc (digits j u) (digits k (n / 256)) (n % 256 ∷ []))
+    rw (e, q, r) (ap (λ xs. xs ++ n % 256 ∷ []) (digits-join j k u (n / 256) fits)
+    ∙ append_assoc (digits j u) (digits k (n / 256)) (n % 256 ∷ []))
 
 -- ---- order
 
@@ -64,7 +67,8 @@ then-assoc Less p q = refl
 then-assoc Equal p q = refl
 then-assoc Greater p q = refl
 
-slice_cmp-push : (xs ys : List ℕ) (x y : ℕ) → length xs ≡ length ys → slice_cmp nat_cmp (xs ++ x ∷ []) (ys ++ y ∷ []) ≡ ordering_then (slice_cmp nat_cmp xs ys) (nat_cmp x y)
+slice_cmp-push : (xs ys : List ℕ) (x y : ℕ) → length xs ≡ length ys
+    → slice_cmp nat_cmp (xs ++ x ∷ []) (ys ++ y ∷ []) ≡ ordering_then (slice_cmp nat_cmp xs ys) (nat_cmp x y)
 slice_cmp-push [] [] x y h = at (nat_cmp x y)
   where
     at : (o : Ordering) → ordering_then o Equal ≡ o
@@ -74,7 +78,8 @@ slice_cmp-push [] [] x y h = at (nat_cmp x y)
 slice_cmp-push [] (b ∷ ys) x y h = absurd (omega arith)
 slice_cmp-push (a ∷ xs) [] x y h = absurd (omega arith)
 slice_cmp-push (a ∷ xs) (b ∷ ys) x y h =
-    ap (ordering_then (nat_cmp a b)) (slice_cmp-push xs ys x y (omega arith)) ∙ then-assoc (nat_cmp a b) (slice_cmp nat_cmp xs ys) (nat_cmp x y)
+    ap (ordering_then (nat_cmp a b)) (slice_cmp-push xs ys x y (omega arith))
+    ∙ then-assoc (nat_cmp a b) (slice_cmp nat_cmp xs ys) (nat_cmp x y)
 
 less : (m n : ℕ) → m < n → nat_cmp m n ≡ Less
 less m n h = sym (nat_cmp_is m n Less h)
@@ -108,8 +113,10 @@ slice_cmp-digits (suc k) m n hm hn =
     let p : 256 ^ suc k ≡ 256 * 256 ^ k = pow-succ' 256 k in
     let hm' : m < 256 * 256 ^ k = rw p at hm in
     let hn' : n < 256 * 256 ^ k = rw p at hn in
-    slice_cmp-push (digits k (m / 256)) (digits k (n / 256)) (m % 256) (n % 256) (length-digits k (m / 256) ∙ sym (length-digits k (n / 256)))
-    ∙ ap (λ o. ordering_then o (nat_cmp (m % 256) (n % 256))) (slice_cmp-digits k (m / 256) (n / 256) (omega arith) (omega arith))
+    slice_cmp-push (digits k (m / 256)) (digits k (n / 256)) (m % 256) (n % 256) (length-digits k (m / 256)
+    ∙ sym (length-digits k (n / 256)))
+    ∙ ap (λ o. ordering_then o (nat_cmp (m % 256) (n % 256)))
+    (slice_cmp-digits k (m / 256) (n / 256) (omega arith) (omega arith))
     ∙ nat_cmp-parts m n
 
 -- ---- hashes
@@ -128,7 +135,8 @@ sum_from h (x ∷ xs) =
     let two = sum_from (131 * 0 + x) xs in
     one ∙ rw p (sym (ap (λ s. h * (131 * 131 ^ length xs) + s) two ∙ grind arith))
 
-hash_from : (h : ℕ) (xs : List ℕ) → h < 65521 → fold (λ s b. (131 * s + b) % 65521) h xs ≡ (h * 131 ^ length xs + sum_of_bytes xs) % 65521
+hash_from : (h : ℕ) (xs : List ℕ) → h < 65521 → fold (λ s b. (131 * s + b) % 65521) h xs
+    ≡ (h * 131 ^ length xs + sum_of_bytes xs) % 65521
 unfolding sum_of_bytes
 hash_from h [] low = omega arith
 hash_from h (x ∷ xs) low =
@@ -145,10 +153,12 @@ hash_small : (xs : List ℕ) → hash_of xs < 65521
 hash_small xs = rw (hash_from 7 xs (omega arith)) (omega arith)
 
 -- the hash after three more bytes
-hash-push_three : (h a b c : ℕ) (xs : List ℕ) → h ≡ hash_of xs → (h * 131 * 131 * 131 + (17161 * a + 131 * b + c)) % 65521 ≡ hash_of (xs ++ a ∷ b ∷ c ∷ [])
+hash-push_three : (h a b c : ℕ) (xs : List ℕ) → h ≡ hash_of xs
+    → (h * 131 * 131 * 131 + (17161 * a + 131 * b + c)) % 65521 ≡ hash_of (xs ++ a ∷ b ∷ c ∷ [])
 unfolding sum_of_bytes
 hash-push_three h a b c xs is =
-    let same : h * 131 * 131 * 131 + (17161 * a + 131 * b + c) ≡ h * 2248091 + (131 * (131 * (131 * 0 + a) + b) + c) = omega arith in
+    let same : h * 131 * 131 * 131 + (17161 * a + 131 * b + c)
+    ≡ h * 2248091 + (131 * (131 * (131 * 0 + a) + b) + c) = omega arith in
     ap (λ n. n % 65521) same
     ∙ ap (λ k. (k * 2248091 + (131 * (131 * (131 * 0 + a) + b) + c)) % 65521) is
     ∙ sym (hash_from (hash_of xs) (a ∷ b ∷ c ∷ []) (hash_small xs))
@@ -161,7 +171,8 @@ hash_two a b =
     ap (λ n. n % 65521) same ∙ sym (hash_from 7 (a ∷ b ∷ []) (omega arith))
 
 -- the bit from what is kept
-pub own_bit-yes : (k m n h : ℕ) → m < 256 ^ k → n < 256 ^ k → h ≡ hash_of (digits k m) → m ≤ n → Some (h % 1024) ≡ own_bit (record { there = digits k m; back = digits k n })
+pub own_bit-yes : (k m n h : ℕ) → m < 256 ^ k → n < 256 ^ k → h ≡ hash_of (digits k m) → m ≤ n
+    → Some (h % 1024) ≡ own_bit (record { there = digits k m; back = digits k n })
 own_bit-yes k m n h hm hn is le =
     let order = slice_cmp-digits k n m hn hm in
     elim (cases_eq n m) [
@@ -169,7 +180,8 @@ own_bit-yes k m n h hm hn is le =
       | inr d ↦ rw (order, greater n m (omega arith)) (ap (λ g. Some (g % 1024)) is)
     ]
 
-pub own_bit-no : (k m n : ℕ) → m < 256 ^ k → n < 256 ^ k → n < m → None ≡ own_bit (record { there = digits k m; back = digits k n })
+pub own_bit-no : (k m n : ℕ) → m < 256 ^ k → n < 256 ^ k → n < m
+    → None ≡ own_bit (record { there = digits k m; back = digits k n })
 own_bit-no k m n hm hn lt = rw (slice_cmp-digits k n m hn hm, less n m lt)
 
 -- ---- texts
@@ -181,11 +193,15 @@ digits-two n a b ha hb is =
     let high : n / 256 % 256 ≡ a = omega arith in
     rw (low, high)
 
-pub two_inside : (n s a b : ℕ) → a < 256 → b < 256 → n ≡ 65536 * 0 + 256 * a + b → s ≡ 17161 * 0 + 131 * a + b → IsTextInside 2 n n ((7 * 131 * 131 + s) % 65521) × (digits 2 n ≡ a ∷ b ∷ [])
+pub two_inside : (n s a b : ℕ) → a < 256 → b < 256 → n ≡ 65536 * 0 + 256 * a + b → s ≡ 17161 * 0 + 131 * a + b
+    → IsTextInside 2 n n ((7 * 131 * 131 + s) % 65521) × (digits 2 n ≡ a ∷ b ∷ [])
 two_inside n s a b ha hb is adds =
     let two = digits-two n a b ha hb is in
-    let hash : (7 * 131 * 131 + s) % 65521 ≡ hash_of (digits 2 n) = rw two (ap (λ t. (7 * 131 * 131 + t) % 65521) adds ∙ hash_two a b) in
-    (record { few = lit≤ tt; there_fits = omega arith; back_fits = omega arith; hashes = hash; small = omega arith }, two)
+    let hash : (7 * 131 * 131 + s) % 65521 ≡ hash_of (digits 2 n) = rw two (ap (λ t. (7 * 131 * 131 + t) % 65521) adds
+    ∙ hash_two a b) in (
+      record { few = lit≤ tt; there_fits = omega arith; back_fits = omega arith; hashes = hash; small = omega arith },
+      two,
+    )
 
 digits-three : (n a b c : ℕ) → a < 256 → b < 256 → c < 256 → n ≡ 65536 * a + 256 * b + c → digits 3 n ≡ a ∷ b ∷ c ∷ []
 unfolding digits
@@ -219,7 +235,9 @@ pow_three k =
     let p3 = pow-succ' 256 (suc (suc k)) in
     rw e (omega arith)
 
-module _ (k there back hash byte l r tail tail_sum head : ℕ) (room : k ≤ 11) (inside : IsTextInside k there back hash) (hb : byte < 256) (hl : l < 256) (hr : r < 256) (is_tail : tail ≡ 65536 * byte + 256 * l + r) (is_tail_sum : tail_sum ≡ 17161 * byte + 131 * l + r) (is_head : head ≡ 65536 * l + 256 * r + byte) where
+module _ (k there back hash byte l r tail tail_sum head : ℕ) (room : k ≤ 11) (inside : IsTextInside k there back hash)
+    (hb : byte < 256) (hl : l < 256) (hr : r < 256) (is_tail : tail ≡ 65536 * byte + 256 * l + r)
+    (is_tail_sum : tail_sum ≡ 17161 * byte + 131 * l + r) (is_head : head ≡ 65536 * l + 256 * r + byte) where
   there_whole : there * 16777216 % 2 ^ 128 ≡ there * 16777216
   there_whole =
       let fits : there < 2 ^ (8 * k) = rw pow_bits at inside.there_fits in
@@ -236,9 +254,11 @@ module _ (k there back hash byte l r tail tail_sum head : ℕ) (room : k ≤ 11)
   pub longer_back : digits (k + 3) (head * 2 ^ (8 * k) % 2 ^ 128 + back) ≡ l ∷ r ∷ byte ∷ digits k back
   longer_back =
       let e : k + 3 ≡ 3 + k = omega arith in
-      rw (back_whole, e) (digits-join 3 k head back inside.back_fits ∙ ap (λ xs. xs ++ digits k back) (digits-three head l r byte hl hr hb is_head))
+      rw (back_whole, e) (digits-join 3 k head back inside.back_fits
+      ∙ ap (λ xs. xs ++ digits k back) (digits-three head l r byte hl hr hb is_head))
 
-  pub longer_inside : IsTextInside (k + 3) (there * 16777216 % 2 ^ 128 + tail) (head * 2 ^ (8 * k) % 2 ^ 128 + back) ((hash * 131 * 131 * 131 + tail_sum) % 65521)
+  pub longer_inside : IsTextInside (k + 3) (there * 16777216 % 2 ^ 128 + tail) (head * 2 ^ (8 * k) % 2 ^ 128 + back)
+      ((hash * 131 * 131 * 131 + tail_sum) % 65521)
   longer_inside =
       let pw = pow_three k in
       let lo = inside.there_fits in

@@ -38,25 +38,33 @@ byte_above (Not e) n h = absurd (none-some n h)
 byte_above (And e f) n h = ⊎_elim (byte_above e n) (byte_above f n) (either_some (implied_byte e) (implied_byte f) n h)
 byte_above (Or e f) n h = byte_above e n (alike_some _ (implied_byte e) (implied_byte f) n h).0
 
-pub graph_symmetric : (g : GraphTerm) (family : Family) (x y : ℕ) → (graph_view g family).byte x y ≡ (graph_view g family).byte y x
+pub graph_symmetric : (g : GraphTerm) (family : Family) (x y : ℕ)
+    → (graph_view g family).byte x y ≡ (graph_view g family).byte y x
 graph_symmetric g family x y =
-    ap (option_and_then (λ bond. implied_byte bond.expr)) (find_same (λ bond. are_ends x y bond.a bond.b) (λ bond. are_ends y x bond.a bond.b) (λ bond. ends_swap x y bond.a bond.b) g.bonds)
+    ap (option_and_then (λ bond. implied_byte bond.expr))
+    (find_same (λ bond. are_ends x y bond.a bond.b) (λ bond. are_ends y x bond.a bond.b)
+    (λ bond. ends_swap x y bond.a bond.b) g.bonds)
 
 -- ---- one more bond in the square
 
-find_push_some : {A : Type 0} (p : A → Bool) (xs : List A) (x y : A) → find p xs ≡ Some y → find p (xs ++ x ∷ []) ≡ Some y
+find_push_some : {A : Type 0} (p : A → Bool) (xs : List A) (x y : A) → find p xs ≡ Some y
+    → find p (xs ++ x ∷ []) ≡ Some y
 find_push_some p [] x y h = absurd (none-some y h)
 find_push_some p (z ∷ zs) x y h = at (p z) h (find_push_some p zs x y)
   where
-    at : (b : Bool) → cond b (Some z) (find p zs) ≡ Some y → (find p zs ≡ Some y → find p (zs ++ x ∷ []) ≡ Some y) → cond b (Some z) (find p (zs ++ x ∷ [])) ≡ Some y
+    at : (b : Bool) → cond b (Some z) (find p zs) ≡ Some y → (find p zs ≡ Some y → find p (zs ++ x ∷ []) ≡ Some y)
+        → cond b (Some z) (find p (zs ++ x ∷ [])) ≡ Some y
     at true g more = g
     at false g more = more g
 
-find_push_none : {A : Type 0} (p : A → Bool) (xs : List A) (x : A) → find p xs ≡ None → find p (xs ++ x ∷ []) ≡ cond (p x) (Some x) None
+find_push_none : {A : Type 0} (p : A → Bool) (xs : List A) (x : A) → find p xs ≡ None
+    → find p (xs ++ x ∷ []) ≡ cond (p x) (Some x) None
 find_push_none p [] x h = refl
 find_push_none p (z ∷ zs) x h = at (p z) h (find_push_none p zs x)
   where
-    at : (b : Bool) → cond b (Some z) (find p zs) ≡ None → (find p zs ≡ None → find p (zs ++ x ∷ []) ≡ cond (p x) (Some x) None) → cond b (Some z) (find p (zs ++ x ∷ [])) ≡ cond (p x) (Some x) None
+    at : (b : Bool) → cond b (Some z) (find p zs) ≡ None
+        → (find p zs ≡ None → find p (zs ++ x ∷ []) ≡ cond (p x) (Some x) None)
+        → cond b (Some z) (find p (zs ++ x ∷ [])) ≡ cond (p x) (Some x) None
     at true g more = absurd (none-some z (sym g))
     at false g more = more g
 
@@ -70,19 +78,26 @@ bool_cases false = inr refl
 
 -- what stands in the square for two atoms
 abbrev value_of : List BondTerm → ℕ → ℕ → ℕ
-value_of bs x y = unwrap_or (option_and_then (λ bond. implied_byte bond.expr) (find (λ bond. are_ends x y bond.a bond.b) bs)) 0
+value_of bs x y = unwrap_or (option_and_then (λ bond. implied_byte bond.expr)
+    (find (λ bond. are_ends x y bond.a bond.b) bs)) 0
 
-pub square_step : (bs : List BondTerm) (b : BondTerm) (old new : List ℕ) → IsSquare bs old → length old ≡ 65536 → b.a < 256 → b.b < 256
+pub square_step : (bs : List BondTerm) (b : BondTerm) (old new : List ℕ) → IsSquare bs old → length old ≡ 65536
+    → b.a < 256 → b.b < 256
     → ((x y : ℕ) → are_ends x y b.a b.b ≡ true → find (λ bond. are_ends x y bond.a bond.b) bs ≡ None)
-    → ((implied_byte b.expr ≡ None) × (new ≡ old)) ⊎ ((n : ℕ) × (implied_byte b.expr ≡ Some n) × (new ≡ set (set old (256 * b.a + b.b) n) (256 * b.b + b.a) n))
+    → ((implied_byte b.expr ≡ None) × (new ≡ old))
+    ⊎ ((n : ℕ) × (implied_byte b.expr ≡ Some n) × (new ≡ set (set old (256 * b.a + b.b) n) (256 * b.b + b.a) n))
     → IsSquare (bs ++ b ∷ []) new
 square_step bs b old new square size ha hb fresh cases x y hx hy =
     elim (bool_cases (are_ends x y b.a b.b)) [
       | inl ends ↦
           let none = fresh x y ends in
-          let found : find (λ bond. are_ends x y bond.a bond.b) (bs ++ b ∷ []) ≡ Some b = find_push_none (λ bond. are_ends x y bond.a bond.b) bs b none ∙ ap (λ c. cond c (Some b) None) ends in
-          let is : value_of (bs ++ b ∷ []) x y ≡ unwrap_or (implied_byte b.expr) 0 = ap (λ o. unwrap_or (option_and_then (λ bond. implied_byte bond.expr) o) 0) found in
-          let was : get_or old (256 * x + y) 0 ≡ 0 = square x y hx hy ∙ ap (λ o. unwrap_or (option_and_then (λ bond. implied_byte bond.expr) o) 0) none in
+          let found : find (λ bond. are_ends x y bond.a bond.b) (bs ++ b ∷ [])
+          ≡ Some b = find_push_none (λ bond. are_ends x y bond.a bond.b) bs b none
+          ∙ ap (λ c. cond c (Some b) None) ends in
+          let is : value_of (bs ++ b ∷ []) x y ≡ unwrap_or (implied_byte b.expr) 0 = ap
+          (λ o. unwrap_or (option_and_then (λ bond. implied_byte bond.expr) o) 0) found in
+          let was : get_or old (256 * x + y) 0 ≡ 0 = square x y hx hy
+          ∙ ap (λ o. unwrap_or (option_and_then (λ bond. implied_byte bond.expr) o) 0) none in
           elim cases [
             | inl q ↦ ap (λ zs. get_or zs (256 * x + y) 0) q.1 ∙ was ∙ sym (is ∙ ap (λ o. unwrap_or o 0) q.0)
             | inr q ↦
@@ -105,11 +120,15 @@ square_step bs b old new square size ha hb fresh cases x y hx hy =
                 ap (λ zs. get_or zs (256 * x + y) 0) q.2 ∙ there ∙ sym (is ∙ ap (λ o. unwrap_or o 0) q.1)
           ]
       | inr apart ↦
-          let found : find (λ bond. are_ends x y bond.a bond.b) (bs ++ b ∷ []) ≡ find (λ bond. are_ends x y bond.a bond.b) bs = elim (option_cases (find (λ bond. are_ends x y bond.a bond.b) bs)) [
-            | inl none ↦ find_push_none (λ bond. are_ends x y bond.a bond.b) bs b none ∙ ap (λ c. cond c (Some b) None) apart ∙ sym none
+          let found : find (λ bond. are_ends x y bond.a bond.b) (bs ++ b ∷ [])
+          ≡ find (λ bond. are_ends x y bond.a bond.b) bs = elim
+          (option_cases (find (λ bond. are_ends x y bond.a bond.b) bs)) [
+            | inl none ↦ find_push_none (λ bond. are_ends x y bond.a bond.b) bs b none
+                ∙ ap (λ c. cond c (Some b) None) apart ∙ sym none
             | inr some ↦ find_push_some (λ bond. are_ends x y bond.a bond.b) bs b some.0 some.1 ∙ sym some.1
           ] in
-          let is : value_of (bs ++ b ∷ []) x y ≡ value_of bs x y = ap (λ o. unwrap_or (option_and_then (λ bond. implied_byte bond.expr) o) 0) found in
+          let is : value_of (bs ++ b ∷ []) x y ≡ value_of bs x y = ap
+          (λ o. unwrap_or (option_and_then (λ bond. implied_byte bond.expr) o) 0) found in
           let kept : get_or new (256 * x + y) 0 ≡ get_or old (256 * x + y) 0 = elim cases [
             | inl q ↦ ap (λ zs. get_or zs (256 * x + y) 0) q.1
             | inr q ↦
@@ -124,7 +143,8 @@ square_step bs b old new square size ha hb fresh cases x y hx hy =
                 let ea : x ≡ b.b = omega arith in
                 let eb : y ≡ b.a = omega arith in
                 false≢true (sym apart ∙ rw (ea, eb) (ends_back b.b b.a)) in
-                ap (λ zs. get_or zs (256 * x + y) 0) q.2 ∙ get_or-set_other (set old i n) j (256 * x + y) n 0 nj ∙ get_or-set_other old i (256 * x + y) n 0 ni
+                ap (λ zs. get_or zs (256 * x + y) 0) q.2 ∙ get_or-set_other (set old i n) j (256 * x + y) n 0 nj
+                ∙ get_or-set_other old i (256 * x + y) n 0 ni
           ] in
           kept ∙ square x y hx hy ∙ sym is
     ]
@@ -134,13 +154,15 @@ square_step bs b old new square size ha hb fresh cases x y hx hy =
 value_some : (e : Option ℕ) (f : ℕ) → e ≡ Some f → unwrap_or e 0 ≡ f
 value_some e f h = ap (λ o. unwrap_or o 0) h
 
-module _ (g : GraphTerm) (known : List Known) (square : List ℕ) (sheet : IsSheet g known square) (family : Family) (x y : ℕ) (hx : x < length g.atoms) (hy : y < length g.atoms) where
+module _ (g : GraphTerm) (known : List Known) (square : List ℕ) (sheet : IsSheet g known square) (family : Family)
+    (x y : ℕ) (hx : x < length g.atoms) (hy : y < length g.atoms) where
   square_at : get_or square (256 * x + y) 0 ≡ value_of g.bonds x y
   square_at =
       let few = sheet.few in
       sheet.bonds x y (omega arith) (omega arith)
 
-  pub byte_from_square : get_or square (256 * x + y) 0 ≢ 0 → (graph_view g family).byte x y ≡ Some (get_or square (256 * x + y) 0)
+  pub byte_from_square : get_or square (256 * x + y) 0 ≢ 0
+      → (graph_view g family).byte x y ≡ Some (get_or square (256 * x + y) 0)
   byte_from_square above =
       elim (option_cases ((graph_view g family).byte x y)) [
         | inl none ↦ absurd (above (square_at ∙ ap (λ o. unwrap_or o 0) none))
@@ -156,51 +178,74 @@ module _ (g : GraphTerm) (known : List Known) (square : List ℕ) (sheet : IsShe
   label_from_known d =
       let few = sheet.few in
       let room = sheet.room in
-      let got : Some (get_or known y d) ≡ option_map implied (slice_get g.atoms y) = sym (slice_get-get_or known y d (omega arith)) ∙ sheet.atoms y hy in
+      let got : Some (get_or known y d) ≡ option_map implied (slice_get g.atoms y) = sym
+      (slice_get-get_or known y d (omega arith)) ∙ sheet.atoms y hy in
       at (slice_get g.atoms y) (get_or known y d) got
     where
-      at : (o : Option (Term _)) (k : Known) → Some k ≡ option_map implied o → option_and_then (λ e. label_of family (implied e)) o ≡ label_of family k
+      at : (o : Option (Term _)) (k : Known) → Some k ≡ option_map implied o
+          → option_and_then (λ e. label_of family (implied e)) o ≡ label_of family k
       at None k h = absurd (none-some k (sym h))
       at (Some e) k h = ap (label_of family) (sym (same_Some k (implied e) h))
 
-pub byte_within : (g : GraphTerm) → IsSimplePattern (length g.atoms) g.bonds → (family : Family) (x y b : ℕ) → (graph_view g family).byte x y ≡ Some b → y < length g.atoms
+pub byte_within : (g : GraphTerm) → IsSimplePattern (length g.atoms) g.bonds → (family : Family) (x y b : ℕ)
+    → (graph_view g family).byte x y ≡ Some b → y < length g.atoms
 byte_within g simple family x y b h =
     let q = and_then_some _ (find (λ bond. are_ends x y bond.a bond.b) g.bonds) b h in
     let there = find_there (λ bond. are_ends x y bond.a bond.b) g.bonds q.0 q.1 in
     let ok = simple.in_range there.0 q.0 (slice_get_within g.bonds there.0 q.0 there.1) in
-    let ok' : (q.0.a < length g.atoms) × (q.0.b < length g.atoms) = subst (λ (z : BondTerm). (z.a < length g.atoms) × (z.b < length g.atoms)) (get_or_from_slice_get g.bonds there.0 q.0 q.0 there.1) ok in
-    elim (ends_cases x y q.0.a q.0.b there.2) [ inl r ↦ subst (λ z. z < length g.atoms) r.1 ok'.1 | inr r ↦ subst (λ z. z < length g.atoms) r.0 ok'.0 ]
+    let ok' : (q.0.a < length g.atoms) × (q.0.b < length g.atoms) = subst
+    (λ (z : BondTerm). (z.a < length g.atoms) × (z.b < length g.atoms))
+    (get_or_from_slice_get g.bonds there.0 q.0 q.0 there.1) ok in
+    elim (ends_cases x y q.0.a q.0.b there.2) [
+      | inl r ↦ subst (λ z. z < length g.atoms) r.1 ok'.1
+      | inr r ↦ subst
+          (λ z. z < length g.atoms) r.0 ok'.0
+    ]
 
-pub graph_label_within : (g : GraphTerm) (family : Family) (x : ℕ) (l : ℕ × ℕ) → (graph_view g family).label x ≡ Some l → x < length g.atoms
-graph_label_within g family x l h = let q = and_then_some _ (slice_get g.atoms x) l h in slice_get_within g.atoms x q.0 q.1
+pub graph_label_within : (g : GraphTerm) (family : Family) (x : ℕ) (l : ℕ × ℕ) → (graph_view g family).label x ≡ Some l
+    → x < length g.atoms
+graph_label_within g family x l h = let q = and_then_some _ (slice_get g.atoms x) l h
+    in slice_get_within g.atoms x q.0 q.1
 
 -- ---- what is written
 
 -- one more atom
-pub known_more : (g : GraphTerm) (known : List Known) (i : ℕ) (v : Known) (e : Term _) → i < length known → slice_get g.atoms i ≡ Some e → v ≡ implied e → ((j : ℕ) → j < i → slice_get known j ≡ option_map implied (slice_get g.atoms j)) → (j : ℕ) → j < i + 1 → slice_get (set known i v) j ≡ option_map implied (slice_get g.atoms j)
+pub known_more : (g : GraphTerm) (known : List Known) (i : ℕ) (v : Known) (e : Term _) → i < length known
+    → slice_get g.atoms i ≡ Some e → v ≡ implied e
+    → ((j : ℕ) → j < i → slice_get known j ≡ option_map implied (slice_get g.atoms j)) → (j : ℕ) → j < i + 1
+    → slice_get (set known i v) j ≡ option_map implied (slice_get g.atoms j)
 known_more g known i v e within at is before j h =
     elim (cases_eq j i) [
       | inl same ↦
-          let here : slice_get (set known i v) i ≡ Some v = slice_get-get_or (set known i v) i v (rw length-set within) ∙ ap Some (get_or-set_same known i v v within) in
+          let here : slice_get (set known i v) i ≡ Some v = slice_get-get_or (set known i v) i v (rw length-set within)
+          ∙ ap Some (get_or-set_same known i v v within) in
           rw same (here ∙ ap Some is ∙ sym (ap (option_map implied) at))
       | inr other ↦
           let lt : j < i = omega arith in
-          slice_get-get_or (set known i v) j v (rw length-set (omega arith)) ∙ ap Some (get_or-set_other known i j v v other) ∙ sym (slice_get-get_or known j v (omega arith)) ∙ before j lt
+          slice_get-get_or (set known i v) j v (rw length-set (omega arith))
+          ∙ ap Some (get_or-set_other known i j v v other) ∙ sym (slice_get-get_or known j v (omega arith))
+          ∙ before j lt
     ]
 
 -- no bond before joins the same two
-pub fresh_bond : (n : ℕ) (bs : List BondTerm) (b : BondTerm) (whole : List BondTerm) → IsSimplePattern n whole → ((j : ℕ) (c : BondTerm) → slice_get bs j ≡ Some c → slice_get whole j ≡ Some c) → slice_get whole (length bs) ≡ Some b → (x y : ℕ) → are_ends x y b.a b.b ≡ true → find (λ bond. are_ends x y bond.a bond.b) bs ≡ None
+pub fresh_bond : (n : ℕ) (bs : List BondTerm) (b : BondTerm) (whole : List BondTerm) → IsSimplePattern n whole
+    → ((j : ℕ) (c : BondTerm) → slice_get bs j ≡ Some c → slice_get whole j ≡ Some c)
+    → slice_get whole (length bs) ≡ Some b → (x y : ℕ) → are_ends x y b.a b.b ≡ true
+    → find (λ bond. are_ends x y bond.a bond.b) bs ≡ None
 fresh_bond n bs b whole simple begins at x y ends =
     elim (option_cases (find (λ bond. are_ends x y bond.a bond.b) bs)) [
       | inl none ↦ none
       | inr some ↦
           let there = find_there (λ bond. are_ends x y bond.a bond.b) bs some.0 some.1 in
           let low = slice_get_within bs there.0 some.0 there.1 in
-          let same = simple.once there.0 (length bs) x y (joins_at whole there.0 some.0 (begins there.0 some.0 there.1) there.2) (joins_at whole (length bs) b at ends) in
+          let same = simple.once there.0 (length bs) x y
+          (joins_at whole there.0 some.0 (begins there.0 some.0 there.1) there.2)
+          (joins_at whole (length bs) b at ends) in
           absurd (omega (arith, low, same))
     ]
   where
-    joins_at : (zs : List BondTerm) (j : ℕ) (c : BondTerm) → slice_get zs j ≡ Some c → are_ends x y c.a c.b ≡ true → JoinsAt (map (λ bond. (bond.a, bond.b)) zs) j x y
+    joins_at : (zs : List BondTerm) (j : ℕ) (c : BondTerm) → slice_get zs j ≡ Some c → are_ends x y c.a c.b ≡ true
+        → JoinsAt (map (λ bond. (bond.a, bond.b)) zs) j x y
     joins_at zs j c here e =
         let ends : BondTerm → ℕ × ℕ = λ bond. (bond.a, bond.b) in
         let pair : slice_get (map ends zs) j ≡ Some (ends c) = slice_get-map ends zs j ∙ ap (option_map ends) here in
@@ -210,7 +255,8 @@ pub simple_within : (g : GraphTerm) (n : ℕ) → IsSoundGraph n g → IsSimpleP
 simple_within g n sound = record {
   in_range = λ k d h.
       let ends : BondTerm → ℕ × ℕ = λ bond. (bond.a, bond.b) in
-      let at : get_or (map ends g.bonds) k (ends d) ≡ ends (get_or g.bonds k d) = get_or-map ends g.bonds k d (ends d) h in
+      let at : get_or (map ends g.bonds) k (ends d) ≡ ends (get_or g.bonds k d) = get_or-map ends g.bonds k d (ends d) h
+      in
       let ok = sound.in_range k (ends d) (rw length-map h) in
       subst (λ (e : ℕ × ℕ). (e.0 < length g.atoms) × (e.1 < length g.atoms)) at ok;
   once = sound.once;
@@ -225,29 +271,38 @@ simple_wider m n bs le simple = record {
 pub zeros : (n i : ℕ) → ◌≡◌ {A = ℕ} (get_or (replicate n 0) i 0) 0
 zeros n i =
     let blank : List ℕ = replicate n 0 in
-    elim (cases_lt i n) [ inl l ↦ get_or-replicate n i 0 0 l | inr past ↦ get_or_past blank i 0 (rw length-replicate past) ]
+    elim (cases_lt i n) [
+      | inl l ↦ get_or-replicate n i 0 0 l
+      | inr past ↦ get_or_past blank i 0
+          (rw length-replicate past)
+    ]
 
-begins_take : (i : ℕ) (xs : List BondTerm) (j : ℕ) (c : BondTerm) → slice_get (take i xs) j ≡ Some c → slice_get xs j ≡ Some c
+begins_take : (i : ℕ) (xs : List BondTerm) (j : ℕ) (c : BondTerm) → slice_get (take i xs) j ≡ Some c
+    → slice_get xs j ≡ Some c
 begins_take zero xs j c h = absurd (none-some c h)
 begins_take (suc i) [] j c h = absurd (none-some c h)
 begins_take (suc i) (x ∷ xs) zero c h = h
 begins_take (suc i) (x ∷ xs) (suc j) c h = begins_take i xs j c h
 
 -- the ends of a bond
-pub ends_small : (n : ℕ) (whole : List BondTerm) (i : ℕ) (b : BondTerm) → IsSimplePattern n whole → slice_get whole i ≡ Some b → (b.a < n) × (b.b < n)
+pub ends_small : (n : ℕ) (whole : List BondTerm) (i : ℕ) (b : BondTerm) → IsSimplePattern n whole
+    → slice_get whole i ≡ Some b → (b.a < n) × (b.b < n)
 ends_small n whole i b simple at =
     let ok = simple.in_range i b (slice_get_within whole i b at) in
     subst (λ (z : BondTerm). (z.a < n) × (z.b < n)) (get_or_from_slice_get whole i b b at) ok
 
 -- one more bond of a graph
-pub square_more : (whole : List BondTerm) (i : ℕ) (b : BondTerm) (old new : List ℕ) → IsSimplePattern 256 whole → slice_get whole i ≡ Some b → IsSquare (take i whole) old → length old ≡ 65536
-    → ((implied_byte b.expr ≡ None) × (new ≡ old)) ⊎ ((n : ℕ) × (implied_byte b.expr ≡ Some n) × (new ≡ set (set old (256 * b.a + b.b) n) (256 * b.b + b.a) n))
+pub square_more : (whole : List BondTerm) (i : ℕ) (b : BondTerm) (old new : List ℕ) → IsSimplePattern 256 whole
+    → slice_get whole i ≡ Some b → IsSquare (take i whole) old → length old ≡ 65536
+    → ((implied_byte b.expr ≡ None) × (new ≡ old))
+    ⊎ ((n : ℕ) × (implied_byte b.expr ≡ Some n) × (new ≡ set (set old (256 * b.a + b.b) n) (256 * b.b + b.a) n))
     → IsSquare (take (i + 1) whole) new
 square_more whole i b old new simple at square size cases =
     let ends = ends_small 256 whole i b simple at in
     let within = slice_get_within whole i b at in
     let long : length (take i whole) ≡ i = length-take-le i whole (omega arith) in
-    let next : take (i + 1) whole ≡ take i whole ++ b ∷ [] = take_more whole i b within ∙ ap (λ z. take i whole ++ z ∷ []) (get_or_from_slice_get whole i b b at) in
+    let next : take (i + 1) whole ≡ take i whole ++ b ∷ [] = take_more whole i b within
+    ∙ ap (λ z. take i whole ++ z ∷ []) (get_or_from_slice_get whole i b b at) in
     rw next
     (square_step (take i whole) b old new square size ends.0 ends.1
     (fresh_bond 256 (take i whole) b whole simple (begins_take i whole) (ap (slice_get whole) long ∙ at)) cases)

@@ -25,7 +25,9 @@ IsBitVia views atoms to i bit = (k : ℕ) × (k < i) × IsBitFrom views (atoms +
 
 -- ---- bits that are set
 
-pub sets_more : (H : ℕ → Type 0) (F : ℕ → ℕ → Type 0) (i : ℕ) (a b c : List Bool) → SetsBits (λ bit. H bit ⊎ ((k : ℕ) × (k < i) × F k bit)) a b → SetsBits (F i) b c → SetsBits (λ bit. H bit ⊎ ((k : ℕ) × (k < i + 1) × F k bit)) a c
+pub sets_more : (H : ℕ → Type 0) (F : ℕ → ℕ → Type 0) (i : ℕ) (a b c : List Bool)
+    → SetsBits (λ bit. H bit ⊎ ((k : ℕ) × (k < i) × F k bit)) a b → SetsBits (F i) b c
+    → SetsBits (λ bit. H bit ⊎ ((k : ℕ) × (k < i + 1) × F k bit)) a c
 sets_more H F i a b c first second = record {
   size = second.size ∙ first.size;
   bits = λ bit. (
@@ -50,9 +52,14 @@ sets_more H F i a b c first second = record {
 }
 
 pub sets_none : (F : ℕ → Type 0) (a : List Bool) → ((bit : ℕ) → F bit → ⊥) → SetsBits F a a
-sets_none F a none = record { size = refl; bits = λ bit. (λ h. inl h, λ h. ⊎_elim (λ g. g) (λ f. absurd (none bit f)) h) }
+sets_none F a none = record {
+  size = refl;
+  bits = λ bit.
+      (λ h. inl h, λ h. ⊎_elim (λ g. g) (λ f. absurd (none bit f)) h);
+}
 
-pub sets_same : (F G : ℕ → Type 0) (a b : List Bool) → ((bit : ℕ) → F bit → G bit) → ((bit : ℕ) → G bit → F bit) → SetsBits F a b → SetsBits G a b
+pub sets_same : (F G : ℕ → Type 0) (a b : List Bool) → ((bit : ℕ) → F bit → G bit) → ((bit : ℕ) → G bit → F bit)
+    → SetsBits F a b → SetsBits G a b
 sets_same F G a b there back sets = record {
   size = sets.size;
   bits = λ bit. (
@@ -73,24 +80,37 @@ last-push xs y =
     at (z ∷ zs) = at zs
 
 -- the text of a family, by its atoms, goes on to one more atom
-module _ (views : Family → View) (symmetric : (family : Family) (x y : ℕ) → (views family).byte x y ≡ (views family).byte y x) (p : PathTerm) (on : IsOn views p) (y b : ℕ) (known : Known) (byte : (family : Family) → (views family).byte (last_of p.atoms) y ≡ Some b) (label : (family : Family) → (views family).label y ≡ label_of family known) where
-  there_on : (family : Family) (o : Option TextTerm) → option_map (λ t. t.there) o ≡ string_of (views family) p.atoms → option_map (λ t. t.there) (longer_if o b (label_of family known)) ≡ string_of (views family) (p.atoms ++ y ∷ [])
+module _ (views : Family → View) (symmetric : (family : Family) (x y : ℕ)
+    → (views family).byte x y ≡ (views family).byte y x) (p : PathTerm) (on : IsOn views p) (y b : ℕ) (known : Known)
+    (byte : (family : Family) → (views family).byte (last_of p.atoms) y ≡ Some b) (label : (family : Family)
+    → (views family).label y ≡ label_of family known) where
+  there_on : (family : Family) (o : Option TextTerm) → option_map (λ t. t.there) o ≡ string_of (views family) p.atoms
+      → option_map (λ t. t.there) (longer_if o b (label_of family known)) ≡ string_of (views family) (p.atoms ++ y ∷ [])
   there_on family o is =
       let whole = split_last p.atoms on.some in
-      let step = there_longer (views family) (take (length p.atoms - 1) p.atoms) (last_of p.atoms) y b o (is ∙ ap (string_of (views family)) whole) (byte family) in
-      ap (λ l. option_map (λ t. t.there) (longer_if o b l)) (sym (label family)) ∙ step ∙ sym (ap (λ xs. string_of (views family) (xs ++ y ∷ [])) whole)
+      let step = there_longer (views family) (take (length p.atoms - 1) p.atoms) (last_of p.atoms) y b o (is
+      ∙ ap (string_of (views family)) whole) (byte family) in
+      ap (λ l. option_map (λ t. t.there) (longer_if o b l)) (sym (label family)) ∙ step
+      ∙ sym (ap (λ xs. string_of (views family) (xs ++ y ∷ [])) whole)
 
-  back_on : (family : Family) (o : Option TextTerm) → option_map (λ t. t.back) o ≡ string_of (views family) (reverse p.atoms) → option_map (λ t. t.back) (longer_if o b (label_of family known)) ≡ string_of (views family) (reverse (p.atoms ++ y ∷ []))
+  back_on : (family : Family) (o : Option TextTerm) → option_map (λ t. t.back) o
+      ≡ string_of (views family) (reverse p.atoms) → option_map (λ t. t.back) (longer_if o b (label_of family known))
+      ≡ string_of (views family) (reverse (p.atoms ++ y ∷ []))
   back_on family o is =
       let whole = split_last p.atoms on.some in
-      let step = back_longer (views family) (take (length p.atoms - 1) p.atoms) (last_of p.atoms) y b o (is ∙ ap (λ xs. string_of (views family) (reverse xs)) whole) (symmetric family y (last_of p.atoms) ∙ byte family) in
-      ap (λ l. option_map (λ t. t.back) (longer_if o b l)) (sym (label family)) ∙ step ∙ sym (ap (λ xs. string_of (views family) (reverse (xs ++ y ∷ []))) whole)
+      let step = back_longer (views family) (take (length p.atoms - 1) p.atoms) (last_of p.atoms) y b o (is
+      ∙ ap (λ xs. string_of (views family) (reverse xs)) whole) (symmetric family y (last_of p.atoms) ∙ byte family)
+      in
+      ap (λ l. option_map (λ t. t.back) (longer_if o b l)) (sym (label family)) ∙ step
+      ∙ sym (ap (λ xs. string_of (views family) (reverse (xs ++ y ∷ []))) whole)
 
-  longer_there : (family : Family) → option_map (λ t. t.there) (text_in (path_longer p y b known) family) ≡ string_of (views family) (p.atoms ++ y ∷ [])
+  longer_there : (family : Family) → option_map (λ t. t.there) (text_in (path_longer p y b known) family)
+      ≡ string_of (views family) (p.atoms ++ y ∷ [])
   longer_there exact = there_on exact p.exact (on.there exact)
   longer_there plain = there_on plain p.plain (on.there plain)
 
-  longer_back : (family : Family) → option_map (λ t. t.back) (text_in (path_longer p y b known) family) ≡ string_of (views family) (reverse (p.atoms ++ y ∷ []))
+  longer_back : (family : Family) → option_map (λ t. t.back) (text_in (path_longer p y b known) family)
+      ≡ string_of (views family) (reverse (p.atoms ++ y ∷ []))
   longer_back exact = back_on exact p.exact (on.back exact)
   longer_back plain = back_on plain p.plain (on.back plain)
 
@@ -103,7 +123,8 @@ module _ (views : Family → View) (symmetric : (family : Family) (x y : ℕ) �
       record {
         some = some;
         short = short;
-        distinct = all_pairs_push ◌≢◌ p.atoms y on.distinct (λ k d within same. new (k, within, Contains_at p.atoms k d y within same));
+        distinct = all_pairs_push ◌≢◌ p.atoms y on.distinct
+            (λ k d within same. new (k, within, Contains_at p.atoms k d y within same));
         there = longer_there;
         back = longer_back;
       }
@@ -112,21 +133,28 @@ module _ (views : Family → View) (symmetric : (family : Family) (x y : ℕ) �
       Contains_at xs k d y within same = get_or_default xs k y d within ∙ same
 
   -- no path goes on so where the path is full, where the atom is in it, and where no text goes on
-  pub none_from : (length p.atoms ≡ 5) ⊎ (Contains p.atoms y ⊎ (((path_longer p y b known).exact ≡ None) × ((path_longer p y b known).plain ≡ None))) → (bit : ℕ) → IsBitFrom views (p.atoms ++ y ∷ []) bit → ⊥
+  pub none_from : (length p.atoms ≡ 5) ⊎ (Contains p.atoms y
+      ⊎ (((path_longer p y b known).exact ≡ None) × ((path_longer p y b known).plain ≡ None))) → (bit : ℕ)
+      → IsBitFrom views (p.atoms ++ y ∷ []) bit → ⊥
   none_from why bit from =
       let family : Family = from.0 in
       let more : List ℕ = from.1 in
       let path = from.4 in
       let count : length (p.atoms ++ y ∷ []) ≡ length p.atoms + 1 = length-append p.atoms (y ∷ []) in
-      let count2 : length ((p.atoms ++ y ∷ []) ++ more) ≡ length (p.atoms ++ y ∷ []) + length more = length-append (p.atoms ++ y ∷ []) more in
+      let count2 : length ((p.atoms ++ y ∷ []) ++ more) ≡ length (p.atoms ++ y ∷ []) + length more = length-append
+      (p.atoms ++ y ∷ []) more in
       elim why [
         | inl full ↦ let short = path.short in omega (arith, short, count, count2, full)
         | inr rest ↦ elim rest [
           | inl there ↦
               let lo : there.0 < length p.atoms = there.1 in
               let hi : length p.atoms < length ((p.atoms ++ y ∷ []) ++ more) = omega arith in
-              let first : get_or ((p.atoms ++ y ∷ []) ++ more) there.0 y ≡ y = get_or_append_left (p.atoms ++ y ∷ []) more y there.0 (omega arith) ∙ get_or_append_left p.atoms (y ∷ []) y there.0 lo ∙ there.2 in
-              let second : get_or ((p.atoms ++ y ∷ []) ++ more) (length p.atoms) y ≡ y = get_or_append_left (p.atoms ++ y ∷ []) more y (length p.atoms) (omega arith) ∙ get_or-push p.atoms y in
+              let first : get_or ((p.atoms ++ y ∷ []) ++ more) there.0 y
+              ≡ y = get_or_append_left (p.atoms ++ y ∷ []) more y there.0 (omega arith)
+              ∙ get_or_append_left p.atoms (y ∷ []) y there.0 lo ∙ there.2 in
+              let second : get_or ((p.atoms ++ y ∷ []) ++ more) (length p.atoms) y
+              ≡ y = get_or_append_left (p.atoms ++ y ∷ []) more y (length p.atoms) (omega arith)
+              ∙ get_or-push p.atoms y in
               path.distinct there.0 (length p.atoms) y lo hi (first ∙ sym second)
           | inr none ↦
               let prefix = string_prefix (views family) p.atoms y more from.2 path.reads in
@@ -138,44 +166,65 @@ module _ (views : Family → View) (symmetric : (family : Family) (x y : ℕ) �
       get_or-push [] y = refl
       get_or-push (x ∷ xs) y = get_or-push xs y
 
-      no_text : (family : Family) → ((path_longer p y b known).exact ≡ None) × ((path_longer p y b known).plain ≡ None) → (r : List ℕ) → string_of (views family) (p.atoms ++ y ∷ []) ≡ Some r → ⊥
+      no_text : (family : Family) → ((path_longer p y b known).exact ≡ None) × ((path_longer p y b known).plain ≡ None)
+          → (r : List ℕ) → string_of (views family) (p.atoms ++ y ∷ []) ≡ Some r → ⊥
       no_text exact none r is = none-some r (sym (ap (option_map (λ t. t.there)) none.0) ∙ longer_there exact ∙ is)
       no_text plain none r is = none-some r (sym (ap (option_map (λ t. t.there)) none.1) ∙ longer_there plain ∙ is)
 
   -- what a step gives
-  pub step_some : (r : Option PathTerm) → IfSome r (λ q. q ≡ path_longer p y b known) → IfSome r (λ _. Contains p.atoms y → ⊥) → IfSome r (λ _. length p.atoms < 5) → IfSome r (IsOneLonger views p y)
+  pub step_some : (r : Option PathTerm) → IfSome r (λ q. q ≡ path_longer p y b known)
+      → IfSome r (λ _. Contains p.atoms y → ⊥) → IfSome r (λ _. length p.atoms < 5) → IfSome r (IsOneLonger views p y)
   step_some None is new room = tt
-  step_some (Some q) is new room = record { on = subst (IsOn views) (sym is) (longer_on new room); atoms = ap (λ z. z.atoms) is; last = ap (λ z. last_of z.atoms) is ∙ last-push p.atoms y }
+  step_some (Some q) is new room = record {
+    on = subst (IsOn views) (sym is) (longer_on new room);
+    atoms = ap
+        (λ z. z.atoms) is;
+    last = ap (λ z. last_of z.atoms) is ∙ last-push p.atoms y;
+  }
 
-  pub step_none : (r : Option PathTerm) → IfNone r ((length p.atoms ≡ 5) ⊎ Contains p.atoms y ⊎ (((path_longer p y b known).exact ≡ None) × ((path_longer p y b known).plain ≡ None))) → IfNone r (NoneFrom views (p.atoms ++ y ∷ []))
+  pub step_none : (r : Option PathTerm) → IfNone r ((length p.atoms ≡ 5) ⊎ Contains p.atoms y
+      ⊎ (((path_longer p y b known).exact ≡ None) × ((path_longer p y b known).plain ≡ None)))
+      → IfNone r (NoneFrom views (p.atoms ++ y ∷ []))
   step_none None why = none_from why
   step_none (Some q) why = tt
 
 -- ---- all steps
 
 -- a text is its two strings
-parts_of : (t : TextTerm) (there back : List ℕ) → t.there ≡ there → t.back ≡ back → ◌≡◌ {A = TextTerm} t (record { there = there; back = back })
+parts_of : (t : TextTerm) (there back : List ℕ) → t.there ≡ there → t.back ≡ back
+    → ◌≡◌ {A = TextTerm} t (record { there = there; back = back })
 parts_of t there back e f = rw (sym e, sym f)
 
 -- what goes on from a path: nothing, or a step to an atom by a bond with a byte
-pub from_cases : (views : Family → View) (p : PathTerm) → IsOn views p → (bit : ℕ) → IsBitFrom views p.atoms bit → IsBitHere p bit ⊎ ((y : ℕ) × ((family : Family) × (b : ℕ) × ((views family).byte (last_of p.atoms) y ≡ Some b)) × IsBitFrom views (p.atoms ++ y ∷ []) bit)
+pub from_cases : (views : Family → View) (p : PathTerm) → IsOn views p → (bit : ℕ) → IsBitFrom views p.atoms bit
+    → IsBitHere p bit ⊎ ((y : ℕ) × ((family : Family) × (b : ℕ) × ((views family).byte (last_of p.atoms) y ≡ Some b))
+    × IsBitFrom views (p.atoms ++ y ∷ []) bit)
 from_cases views p on bit from = at from.0 from.1 from.2 from.3 from.4 from.5
   where
-    at : (family : Family) (more there back : List ℕ) → IsPath (views family) (p.atoms ++ more) there back → own_bit (record { there = there; back = back }) ≡ Some bit → IsBitHere p bit ⊎ ((y : ℕ) × ((family : Family) × (b : ℕ) × ((views family).byte (last_of p.atoms) y ≡ Some b)) × IsBitFrom views (p.atoms ++ y ∷ []) bit)
+    at : (family : Family) (more there back : List ℕ) → IsPath (views family) (p.atoms ++ more) there back
+        → own_bit (record { there = there; back = back }) ≡ Some bit → IsBitHere p bit
+        ⊎ ((y : ℕ) × ((family : Family) × (b : ℕ) × ((views family).byte (last_of p.atoms) y ≡ Some b))
+        × IsBitFrom views (p.atoms ++ y ∷ []) bit)
     at family [] there back path is =
-        let t = map_some (λ t. t.there) (text_in p family) there (on.there family ∙ sym (ap (string_of (views family)) (append-nil p.atoms)) ∙ path.reads) in
-        let u = map_some (λ t. t.back) (text_in p family) back (on.back family ∙ sym (ap (λ xs. string_of (views family) (reverse xs)) (append-nil p.atoms)) ∙ path.reads_back) in
+        let t = map_some (λ t. t.there) (text_in p family) there (on.there family
+        ∙ sym (ap (string_of (views family)) (append-nil p.atoms)) ∙ path.reads) in
+        let u = map_some (λ t. t.back) (text_in p family) back (on.back family
+        ∙ sym (ap (λ xs. string_of (views family) (reverse xs)) (append-nil p.atoms)) ∙ path.reads_back) in
         let one : u.0 ≡ t.0 = same_Some u.0 t.0 (sym u.1 ∙ t.1) in
         inl (family, t.0, t.1, ap own_bit (parts_of t.0 there back t.2 (ap (λ t. t.back) (sym one) ∙ u.2)) ∙ is)
     at family (y ∷ ys) there back path is =
         let whole = split_last p.atoms on.some in
         let same : p.atoms ++ y ∷ ys ≡ (p.atoms ++ y ∷ []) ++ ys = sym (append_assoc p.atoms (y ∷ []) ys) in
-        let path' : IsPath (views family) ((p.atoms ++ y ∷ []) ++ ys) there back = subst (λ xs. IsPath (views family) xs there back) same path in
-        let reads : string_of (views family) (((take (length p.atoms - 1) p.atoms ++ last_of p.atoms ∷ []) ++ y ∷ []) ++ ys) ≡ Some there = sym (ap (λ xs. string_of (views family) ((xs ++ y ∷ []) ++ ys)) whole) ∙ path'.reads in
+        let path' : IsPath (views family) ((p.atoms ++ y ∷ []) ++ ys) there back = subst
+        (λ xs. IsPath (views family) xs there back) same path in
+        let reads : string_of (views family) (((take (length p.atoms - 1) p.atoms ++ last_of p.atoms ∷ []) ++ y ∷ [])
+        ++ ys) ≡ Some there = sym (ap (λ xs. string_of (views family) ((xs ++ y ∷ []) ++ ys)) whole) ∙ path'.reads
+        in
         let b = step_byte (views family) (take (length p.atoms - 1) p.atoms) (last_of p.atoms) y ys there reads in
         inr (y, (family, b.0, b.1), (family, ys, there, back, path', is))
 
-pub from_here : (views : Family → View) (p : PathTerm) → IsOn views p → (bit : ℕ) → IsBitHere p bit → IsBitFrom views p.atoms bit
+pub from_here : (views : Family → View) (p : PathTerm) → IsOn views p → (bit : ℕ) → IsBitHere p bit
+    → IsBitFrom views p.atoms bit
 from_here views p on bit here =
     let family : Family = here.0 in
     let t : TextTerm = here.1 in
@@ -188,15 +237,30 @@ from_here views p on bit here =
     } in
     (family, [], t.there, t.back, subst (λ xs. IsPath (views family) xs t.there t.back) (sym same) path, here.3)
 
-pub from_step : (views : Family → View) (atoms : List ℕ) (y bit : ℕ) → IsBitFrom views (atoms ++ y ∷ []) bit → IsBitFrom views atoms bit
-from_step views atoms y bit from =
-    (from.0, y ∷ from.1, from.2, from.3, subst (λ xs. IsPath (views from.0) xs from.2 from.3) (append_assoc atoms (y ∷ []) from.1) from.4, from.5)
+pub from_step : (views : Family → View) (atoms : List ℕ) (y bit : ℕ) → IsBitFrom views (atoms ++ y ∷ []) bit
+    → IsBitFrom views atoms bit
+from_step views atoms y bit from = (
+  from.0,
+  y ∷ from.1,
+  from.2,
+  from.3,
+  subst (λ xs. IsPath (views from.0) xs from.2 from.3)
+      (append_assoc atoms (y ∷ []) from.1) from.4,
+  from.5,
+)
 
 -- the bits here and by all steps are those of all paths that begin so
-pub sets_from : (views : Family → View) (p : PathTerm) → IsOn views p → (to : ℕ → ℕ) (n : ℕ) → ((family : Family) (y b : ℕ) → (views family).byte (last_of p.atoms) y ≡ Some b → (k : ℕ) × (k < n) × (to k ≡ y)) → (old new : List Bool) → SetsBits (λ bit. IsBitHere p bit ⊎ IsBitVia views p.atoms to n bit) old new → SetsBits (IsBitFrom views p.atoms) old new
+pub sets_from : (views : Family → View) (p : PathTerm) → IsOn views p → (to : ℕ → ℕ) (n : ℕ)
+    → ((family : Family) (y b : ℕ) → (views family).byte (last_of p.atoms) y ≡ Some b → (k : ℕ) × (k < n) × (to k ≡ y))
+    → (old new : List Bool) → SetsBits (λ bit. IsBitHere p bit ⊎ IsBitVia views p.atoms to n bit) old new
+    → SetsBits (IsBitFrom views p.atoms) old new
 sets_from views p on to n all old new sets =
     sets_same (λ bit. IsBitHere p bit ⊎ IsBitVia views p.atoms to n bit) (IsBitFrom views p.atoms) old new
-    (λ bit h. elim h [ inl here ↦ from_here views p on bit here | inr via ↦ from_step views p.atoms (to via.0) bit via.2 ])
+    (λ bit h. elim h [
+      | inl here ↦ from_here views p on bit here
+      | inr via ↦ from_step views p.atoms
+          (to via.0) bit via.2
+    ])
     (λ bit h. elim (from_cases views p on bit h) [
       | inl here ↦ inl here
       | inr step ↦
@@ -206,7 +270,8 @@ sets_from views p on to n all old new sets =
     sets
 
 -- from a full path nothing goes on
-pub sets_full : (views : Family → View) (p : PathTerm) → IsOn views p → length p.atoms ≡ 5 → (old new : List Bool) → SetsBits (IsBitHere p) old new → SetsBits (IsBitFrom views p.atoms) old new
+pub sets_full : (views : Family → View) (p : PathTerm) → IsOn views p → length p.atoms ≡ 5 → (old new : List Bool)
+    → SetsBits (IsBitHere p) old new → SetsBits (IsBitFrom views p.atoms) old new
 sets_full views p on full old new sets =
     sets_same (IsBitHere p) (IsBitFrom views p.atoms) old new (from_here views p on)
     (λ bit h. elim (from_cases views p on bit h) [
@@ -215,7 +280,8 @@ sets_full views p on full old new sets =
           let from = step.2 in
           let short = from.4.short in
           let count : length (p.atoms ++ step.0 ∷ []) ≡ length p.atoms + 1 = length-append p.atoms (step.0 ∷ []) in
-          let count2 : length ((p.atoms ++ step.0 ∷ []) ++ from.1) ≡ length (p.atoms ++ step.0 ∷ []) + length from.1 = length-append (p.atoms ++ step.0 ∷ []) from.1 in
+          let count2 : length ((p.atoms ++ step.0 ∷ []) ++ from.1) ≡ length
+          (p.atoms ++ step.0 ∷ []) + length from.1 = length-append (p.atoms ++ step.0 ∷ []) from.1 in
           absurd (omega (arith, short, count, count2, full))
     ])
     sets
@@ -223,7 +289,8 @@ sets_full views p on full old new sets =
 -- ---- from the start
 
 -- the path of one atom
-pub start_on : (views : Family → View) (atom : ℕ) (known : Known) → ((family : Family) → (views family).label atom ≡ label_of family known) → IsOn views (path_start atom known)
+pub start_on : (views : Family → View) (atom : ℕ) (known : Known)
+    → ((family : Family) → (views family).label atom ≡ label_of family known) → IsOn views (path_start atom known)
 start_on views atom known label = record {
   some = lit≤ tt;
   short = lit≤ tt;
@@ -236,15 +303,18 @@ start_on views atom known label = record {
     two None = refl
     two (Some l) = refl
 
-    two_back : (o : Option (ℕ × ℕ)) → option_map (λ t. t.back) (option_map of_label o) ≡ option_map (λ l. l.0 ∷ l.1 ∷ []) o
+    two_back : (o : Option (ℕ × ℕ)) → option_map (λ t. t.back) (option_map of_label o)
+        ≡ option_map (λ l. l.0 ∷ l.1 ∷ []) o
     two_back None = refl
     two_back (Some l) = refl
 
-    there : (family : Family) → option_map (λ t. t.there) (text_in (path_start atom known) family) ≡ string_of (views family) (atom ∷ [])
+    there : (family : Family) → option_map (λ t. t.there) (text_in (path_start atom known) family)
+        ≡ string_of (views family) (atom ∷ [])
     there exact = two (label_of exact known) ∙ ap (option_map (λ l. l.0 ∷ l.1 ∷ [])) (sym (label exact))
     there plain = two (label_of plain known) ∙ ap (option_map (λ l. l.0 ∷ l.1 ∷ [])) (sym (label plain))
 
-    back : (family : Family) → option_map (λ t. t.back) (text_in (path_start atom known) family) ≡ string_of (views family) (atom ∷ [])
+    back : (family : Family) → option_map (λ t. t.back) (text_in (path_start atom known) family)
+        ≡ string_of (views family) (atom ∷ [])
     back exact = two_back (label_of exact known) ∙ ap (option_map (λ l. l.0 ∷ l.1 ∷ [])) (sym (label exact))
     back plain = two_back (label_of plain known) ∙ ap (option_map (λ l. l.0 ∷ l.1 ∷ [])) (sym (label plain))
 
@@ -252,10 +322,16 @@ start_on views atom known label = record {
 abbrev pub IsBitBelow : (Family → View) → ℕ → ℕ → Type 0
 IsBitBelow views n bit = (k : ℕ) × (k < n) × IsBitFrom views (k ∷ []) bit
 
-pub below_none : (views : Family → View) (print : List Bool) → ((bit : ℕ) → HasBit print bit → ⊥) → SetsBits (IsBitBelow views 0) print print
-below_none views print none = record { size = refl; bits = λ bit. (λ h. inl h, λ h. ⊎_elim (λ g. g) (λ f. absurd (omega (arith, f.1))) h) }
+pub below_none : (views : Family → View) (print : List Bool) → ((bit : ℕ) → HasBit print bit → ⊥)
+    → SetsBits (IsBitBelow views 0) print print
+below_none views print none = record {
+  size = refl;
+  bits = λ bit.
+      (λ h. inl h, λ h. ⊎_elim (λ g. g) (λ f. absurd (omega (arith, f.1))) h);
+}
 
-pub below_more : (views : Family → View) (i : ℕ) (a b c : List Bool) → SetsBits (IsBitBelow views i) a b → SetsBits (IsBitFrom views (i ∷ [])) b c → SetsBits (IsBitBelow views (i + 1)) a c
+pub below_more : (views : Family → View) (i : ℕ) (a b c : List Bool) → SetsBits (IsBitBelow views i) a b
+    → SetsBits (IsBitFrom views (i ∷ [])) b c → SetsBits (IsBitBelow views (i + 1)) a c
 below_more views i a b c first second = record {
   size = second.size ∙ first.size;
   bits = λ bit. (
@@ -275,7 +351,8 @@ below_more views i a b c first second = record {
 
 -- ---- the two ends of a path
 
-own_is_bit : (there back : List ℕ) (bit : ℕ) → own_bit (record { there = there; back = back }) ≡ Some bit → bit ≡ bit_of there back
+own_is_bit : (there back : List ℕ) (bit : ℕ) → own_bit (record { there = there; back = back }) ≡ Some bit
+    → bit ≡ bit_of there back
 own_is_bit there back bit h = at (is_lt (slice_cmp nat_cmp back there)) h
   where
     at : (b : Bool) → cond b None (Some (hash_of there % 1024)) ≡ Some bit → bit ≡ hash_of (cond b back there) % 1024
@@ -283,10 +360,14 @@ own_is_bit there back bit h = at (is_lt (slice_cmp nat_cmp back there)) h
     at false e = sym (same_Some (hash_of there % 1024) bit e)
 
 -- the bit is told from one end or the other
-own_or_other : (there back : List ℕ) → (own_bit (record { there = there; back = back }) ≡ Some (bit_of there back)) ⊎ (own_bit (record { there = back; back = there }) ≡ Some (bit_of there back))
-own_or_other there back = at (slice_cmp nat_cmp back there) (slice_cmp nat_cmp there back) (nat_list_cmp_total.antisymm there back)
+own_or_other : (there back : List ℕ) → (own_bit (record { there = there; back = back }) ≡ Some (bit_of there back))
+    ⊎ (own_bit (record { there = back; back = there }) ≡ Some (bit_of there back))
+own_or_other there back = at (slice_cmp nat_cmp back there) (slice_cmp nat_cmp there back)
+    (nat_list_cmp_total.antisymm there back)
   where
-    at : (o p : Ordering) → p ≡ ordering_reverse o → (cond (is_lt o) None (Some (hash_of there % 1024)) ≡ Some (hash_of (cond (is_lt o) back there) % 1024)) ⊎ (cond (is_lt p) None (Some (hash_of back % 1024)) ≡ Some (hash_of (cond (is_lt o) back there) % 1024))
+    at : (o p : Ordering) → p ≡ ordering_reverse o
+        → (cond (is_lt o) None (Some (hash_of there % 1024)) ≡ Some (hash_of (cond (is_lt o) back there) % 1024))
+        ⊎ (cond (is_lt p) None (Some (hash_of back % 1024)) ≡ Some (hash_of (cond (is_lt o) back there) % 1024))
     at Less p e = inr (ap (λ q. cond (is_lt q) None (Some (hash_of back % 1024))) e)
     at Equal p e = inl refl
     at Greater p e = inl refl
@@ -297,42 +378,56 @@ path_back v atoms there back path = record {
   short = rw length-reverse path.short;
   distinct = λ i j d lo hi same.
       let hj : j < length atoms = rw length-reverse at hi in
-      let ti : get_or (reverse atoms) i d ≡ get_or atoms (length atoms - 1 - i) d = get_or-reverse atoms i d (omega arith) in
+      let ti : get_or (reverse atoms) i d ≡ get_or atoms (length atoms - 1 - i) d = get_or-reverse atoms i d
+      (omega arith) in
       let tj : get_or (reverse atoms) j d ≡ get_or atoms (length atoms - 1 - j) d = get_or-reverse atoms j d hj in
-      path.distinct (length atoms - 1 - j) (length atoms - 1 - i) d (omega arith) (omega arith) (sym tj ∙ sym same ∙ ti);
+      path.distinct (length atoms - 1 - j) (length atoms - 1 - i) d (omega arith) (omega arith) (sym tj ∙ sym same
+      ∙ ti);
   reads = path.reads_back;
   reads_back = ap (string_of v) (reverse-reverse atoms) ∙ path.reads;
 }
 
 -- all atoms: the bits of all paths
-pub below_all : (views : Family → View) (n : ℕ) (empty print : List Bool) → ((family : Family) (x : ℕ) (l : ℕ × ℕ) → (views family).label x ≡ Some l → x < n) → length empty ≡ 1024 → ((bit : ℕ) → HasBit empty bit → ⊥) → SetsBits (IsBitBelow views n) empty print → HasPathBits views print
+pub below_all : (views : Family → View) (n : ℕ) (empty print : List Bool)
+    → ((family : Family) (x : ℕ) (l : ℕ × ℕ) → (views family).label x ≡ Some l → x < n) → length empty ≡ 1024
+    → ((bit : ℕ) → HasBit empty bit → ⊥) → SetsBits (IsBitBelow views n) empty print → HasPathBits views print
 below_all views n empty print within size none sets = record {
   size = sets.size ∙ size;
   bits = λ bit. (
     λ h. elim ((sets.bits bit).0 h) [
       | inl old ↦ absurd (none bit old)
-      | inr new ↦ let from = new.2 in (from.0, (new.0 ∷ from.1, from.2, from.3, from.4, own_is_bit from.2 from.3 bit from.5))
+      | inr new ↦ let from = new.2 in (
+        from.0,
+        (new.0 ∷ from.1, from.2, from.3, from.4, own_is_bit from.2 from.3 bit from.5),
+      )
     ],
     λ h. (sets.bits bit).1 (inr (either_end h.0 bit h.1.0 h.1.1 h.1.2 h.1.3 h.1.4)),
   );
 }
   where
-    first : (family : Family) (bit : ℕ) (atoms there back : List ℕ) → IsPath (views family) atoms there back → own_bit (record { there = there; back = back }) ≡ Some bit → IsBitBelow views n bit
+    first : (family : Family) (bit : ℕ) (atoms there back : List ℕ) → IsPath (views family) atoms there back
+        → own_bit (record { there = there; back = back }) ≡ Some bit → IsBitBelow views n bit
     first family bit [] there back path is = absurd (none-some there path.reads)
     first family bit (x ∷ xs) there back path is =
         let l = labels_in (views family) (x ∷ xs) there path.reads 0 0 (omega arith) in
         (x, within family x l.0 l.1, (family, xs, there, back, path, is))
 
-    either_end : (family : Family) (bit : ℕ) (atoms there back : List ℕ) → IsPath (views family) atoms there back → bit ≡ bit_of there back → IsBitBelow views n bit
+    either_end : (family : Family) (bit : ℕ) (atoms there back : List ℕ) → IsPath (views family) atoms there back
+        → bit ≡ bit_of there back → IsBitBelow views n bit
     either_end family bit atoms there back path is = elim (own_or_other there back) [
       | inl here ↦ first family bit atoms there back path (here ∙ ap Some (sym is))
-      | inr other ↦ first family bit (reverse atoms) back there (path_back (views family) atoms there back path) (other ∙ ap Some (sym is))
+      | inr other ↦ first family bit (reverse atoms) back there (path_back (views family) atoms there back path) (other
+          ∙ ap Some (sym is))
     ]
 
 -- without a bond that has a byte no path goes on
-pub none_without_byte : (views : Family → View) (p : PathTerm) → IsOn views p → (y : ℕ) → ((family : Family) (b : ℕ) → (views family).byte (last_of p.atoms) y ≡ Some b → ⊥) → NoneFrom views (p.atoms ++ y ∷ [])
+pub none_without_byte : (views : Family → View) (p : PathTerm) → IsOn views p → (y : ℕ)
+    → ((family : Family) (b : ℕ) → (views family).byte (last_of p.atoms) y ≡ Some b → ⊥)
+    → NoneFrom views (p.atoms ++ y ∷ [])
 none_without_byte views p on y none = λ bit from.
     let whole = split_last p.atoms on.some in
-    let reads : string_of (views from.0) (((take (length p.atoms - 1) p.atoms ++ last_of p.atoms ∷ []) ++ y ∷ []) ++ from.1) ≡ Some from.2 = sym (ap (λ xs. string_of (views from.0) ((xs ++ y ∷ []) ++ from.1)) whole) ∙ from.4.reads in
+    let reads : string_of (views from.0) (((take (length p.atoms - 1) p.atoms ++ last_of p.atoms ∷ []) ++ y ∷ [])
+    ++ from.1) ≡ Some from.2 = sym (ap (λ xs. string_of (views from.0) ((xs ++ y ∷ []) ++ from.1)) whole)
+    ∙ from.4.reads in
     let b = step_byte (views from.0) (take (length p.atoms - 1) p.atoms) (last_of p.atoms) y from.1 from.2 reads in
     none from.0 b.0 b.1

@@ -25,7 +25,8 @@ alike eq None y = None
 alike eq (Some x) None = None
 alike eq (Some x) (Some y) = if eq x y then Some x else None
 
--- A symbol says number and whether aromatic, `#n` the number of an element, `a` and `A` whether aromatic; nothing else says any of these.
+-- A symbol says number and whether aromatic, `#n` the number of an element, `a` and `A` whether aromatic; nothing else
+-- says any of these.
 abbrev pub prim_implies : AtomPrim → Known
 prim_implies (atoms.Symbol number lower) = record { number = Some number; aromatic = Some lower }
 prim_implies (atoms.Number n) = record { number = (if nat_le n 103 then Some n else None); aromatic = None }

@@ -1,5 +1,5 @@
--- Paths and their bits, for callers. Fingerprints of this kind are described in the Daylight Theory Manual, chapter Fingerprints; labels, hash and
--- number of bits are this product's own.
+-- Paths and their bits, for callers. Fingerprints of this kind are described in the Daylight Theory Manual, chapter
+-- Fingerprints; labels, hash and number of bits are this product's own.
 use Rattle.std.specs.Prelude.{◌≡◌, ◌≢◌, ℕ, ◌+◌, ◌*◌, ◌%◌, ◌≤◌, Bool, true, false, List, [], ◌∷◌, length, reverse, fold, AllPairs, Option, None, Some, option_map, option_and_then, if◌then◌else◌}
 use Rattle.std.specs.Ordering.{nat_cmp, is_lt}
 use Rattle.std.specs.Cmp.Lexicographic.{slice_cmp}
@@ -26,7 +26,8 @@ label_of exact k = do
   Some (number, flag_of aromatic)
 label_of plain k = option_map (λ number. (number, 2)) k.number
 
--- A structure as its paths see it: the label of an atom, and the byte of the bond that joins two atoms. None where there is none.
+-- A structure as its paths see it: the label of an atom, and the byte of the bond that joins two atoms. None where
+-- there is none.
 pub record View : Type 0 where
   pub label : ℕ → Option (ℕ × ℕ)
   pub byte : ℕ → ℕ → Option ℕ

@@ -13,12 +13,14 @@ AreKnown g known = (i : ℕ) → i < length g.atoms → slice_get known i ≡ op
 -- A square of 256 rows and columns: for two atoms the byte of the bond between them, and 0 where none is implied.
 abbrev pub IsSquare : List BondTerm → List ℕ → Type 0
 IsSquare bonds square = (x y : ℕ) → x < 256 → y < 256
-    → slice_index square (256 * x + y) ≡ unwrap_or (option_and_then (λ bond. implied_byte bond.expr) (find (λ bond. are_ends x y bond.a bond.b) bonds)) 0
+    → slice_index square (256 * x + y) ≡ unwrap_or
+    (option_and_then (λ bond. implied_byte bond.expr) (find (λ bond. are_ends x y bond.a bond.b) bonds)) 0
 
 -- the ends of the bonds are below n, and no two bonds have the same
 pub record IsSimplePattern (n : ℕ) (bonds : List BondTerm) : Type 0 where
   pub in_range : All (λ bond. (bond.a < n) × (bond.b < n)) bonds
-  pub once : (b c x y : ℕ) → JoinsAt (map (λ bond. (bond.a, bond.b)) bonds) b x y → JoinsAt (map (λ bond. (bond.a, bond.b)) bonds) c x y → b ≡ c
+  pub once : (b c x y : ℕ) → JoinsAt (map (λ bond. (bond.a, bond.b)) bonds) b x y
+      → JoinsAt (map (λ bond. (bond.a, bond.b)) bonds) c x y → b ≡ c
 
 -- a graph, and what its expressions imply
 pub record IsSheet (g : GraphTerm) (known : List Known) (square : List ℕ) : Type 0 where

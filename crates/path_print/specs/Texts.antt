@@ -55,7 +55,12 @@ longer_if text byte label = do
 
 -- the path of one atom
 abbrev pub path_start : ℕ → Known → PathTerm
-path_start atom known = record { atoms = atom ∷ []; exact = option_map of_label (label_of exact known); plain = option_map of_label (label_of plain known) }
+path_start atom known = record {
+  atoms = atom ∷ [];
+  exact = option_map of_label
+      (label_of exact known);
+  plain = option_map of_label (label_of plain known);
+}
 
 -- the path that goes on to one more atom
 abbrev pub path_longer : PathTerm → ℕ → ℕ → Known → PathTerm
@@ -87,7 +92,8 @@ pub record IsOn (views : Family → View) (p : PathTerm) : Type 0 where
   pub short : length p.atoms ≤ 5
   pub distinct : AllPairs ◌≢◌ p.atoms
   pub there : (family : Family) → option_map (λ t. t.there) (text_in p family) ≡ string_of (views family) p.atoms
-  pub back : (family : Family) → option_map (λ t. t.back) (text_in p family) ≡ string_of (views family) (reverse p.atoms)
+  pub back : (family : Family) → option_map (λ t. t.back) (text_in p family)
+      ≡ string_of (views family) (reverse p.atoms)
 
 -- the bit of the path as far as it goes, in one of the families, if its string there comes first
 abbrev pub IsBitHere : PathTerm → ℕ → Type 0
@@ -95,7 +101,8 @@ IsBitHere p bit = (family : Family) × (t : TextTerm) × (text_in p family ≡ S
 
 -- the bit of some path that begins so, if its string there comes first
 abbrev pub IsBitFrom : (Family → View) → List ℕ → ℕ → Type 0
-IsBitFrom views atoms bit = (family : Family) × (more there back : List ℕ) × IsPath (views family) (atoms ++ more) there back × (own_bit (record { there = there; back = back }) ≡ Some bit)
+IsBitFrom views atoms bit = (family : Family) × (more there back : List ℕ)
+    × IsPath (views family) (atoms ++ more) there back × (own_bit (record { there = there; back = back }) ≡ Some bit)
 
 -- the bits are set, and those that were
 pub record SetsBits (IsBit : ℕ → Type 0) (old new : List Bool) : Type 0 where

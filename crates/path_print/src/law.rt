@@ -23,7 +23,8 @@ pub fn screen_law()
 /// A law: where an expression is true, the atom has the label that is implied, and the bond the byte.
 pub fn implied_is_so()
     ensures atoms { (recs : List GraphTerm) (n : ℕ) (family : Family) (e : Term AtomPrim) (m : Molecule) (a : ℕ)
-        (l : ℕ × ℕ) → AtomTrue (PartsHold recs m n) e m a → label_of family (implied e) ≡ Some l → (molecule_view m family).label a ≡ Some l }
+        (l : ℕ × ℕ) → AtomTrue (PartsHold recs m n) e m a → label_of family (implied e) ≡ Some l
+        → (molecule_view m family).label a ≡ Some l }
     ensures bonds { (e : Term BondPrim) (m : Molecule) (b n : ℕ) → BondTrue e m b → implied_byte e ≡ Some n
         → (x : Bond) × (slice_get m.bonds b ≡ Some x) × (kind_byte x.kind ≡ n) }
 {}
@@ -31,7 +32,8 @@ pub fn implied_is_so()
 /// A law: an embedding carries a path of the pattern to a path of the molecule with the same strings.
 pub fn path_is_carried()
     ensures { (recs : List GraphTerm) (n : ℕ) (family : Family) (g : GraphTerm) (m : Molecule)
-        (image atoms there back : List ℕ) → IsMolecule m → IsEmbedding (PartsHold recs m n) g m image → IsPath (graph_view g family) atoms there back
+        (image atoms there back : List ℕ) → IsMolecule m → IsEmbedding (PartsHold recs m n) g m image
+        → IsPath (graph_view g family) atoms there back
         → IsPath (molecule_view m family) (map (slice_index image) atoms) there back }
 {}
 

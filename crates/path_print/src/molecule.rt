@@ -20,8 +20,8 @@ pub fn print(mol: &Mol) -> Print
     print
 }
 
-// The walk on from a path, one for each number of atoms that may still follow. Each has the next one in its loop, so that
-// the compiler keeps a path under way in registers.
+// The walk on from a path, one for each number of atoms that may still follow. Each has the next one in its loop, so
+// that the compiler keeps a path under way in registers.
 trait Walk {
     // how many atoms may follow
     ghost left: { ℕ };

@@ -77,7 +77,8 @@ impl Path {
         ensures new { IfSome result (λ _. Contains self.now.atoms atom → ⊥) }
         ensures room { IfSome result (λ _. length self.now.atoms < MOST) }
         ensures none { IfNone result ((length self.now.atoms ≡ MOST) ⊎ Contains self.now.atoms atom
-            ⊎ ((path_longer self.now atom byte known).exact ≡ None) × ((path_longer self.now atom byte known).plain ≡ None)) }
+            ⊎ ((path_longer self.now atom byte known).exact ≡ None)
+            × ((path_longer self.now atom byte known).plain ≡ None)) }
     {
         if self.is_full() || self.has(atom) {
             return None;

@@ -1,7 +1,7 @@
 //! The string of a path in its two directions, kept as two numbers, and the hash of the one as far as it goes.
 //!
-//! Each path is walked from both of its ends. So the bit is told from the end from which the string comes first, and the
-//! hash grows at its end alone.
+//! Each path is walked from both of its ends. So the bit is told from the end from which the string comes first, and
+//! the hash grows at its end alone.
 ghost use Rattle.std.specs.Prelude.{◌≡◌, ◌<◌, ◌≤◌, ◌+◌, ◌*◌, length, IfSome};
 ghost use Rattle.path_print.specs.Texts.{of_label, longer_text, own_bit};
 

@@ -26,7 +26,8 @@ records-append [] gs = refl
 records-append (f ∷ fs) gs = ap (λ l. f.records ++ l) (records-append fs gs)
     ∙ sym (append_assoc f.records (records_of fs) (records_of gs))
 
-pub search-append : (want : List Bool) (a b d : Place) (fs gs : List Fetched) → IsSearch want a fs b → IsSearch want b gs d
+pub search-append : (want : List Bool) (a b d : Place) (fs gs : List Fetched) → IsSearch want a fs b
+    → IsSearch want b gs d
     → IsSearch want a (fs ++ gs) d
 search-append want a b d [] gs s t = subst (λ (p : Place). IsSearch want p gs d) s t
 search-append want a b d (f ∷ fs) gs s t = (s.0, s.1, search-append want (place_after f) b d fs gs s.2 t)

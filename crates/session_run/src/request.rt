@@ -43,10 +43,12 @@ pub fn next_request<I: Source>(
     text: &mut Vec<u8>,
     source: &mut I,
 ) -> Result<Next, LineFault>
-    ensures takes { IfOk result (λ next. Takes next lines.old lines.new (I.left source.old) (I.left source.new) text.new.items) }
+    ensures takes { IfOk result (λ next. Takes next lines.old lines.new (I.left source.old)
+        (I.left source.new) text.new.items) }
     ensures part { OnErr result
         (TakesPart lines.old lines.new (I.left source.old) (I.left source.new) IsPartOfRequest) }
-    ensures reads { ReadsOn (I.left source.old) (I.left source.new) (I.faults source.old) (I.faults source.new) lines.old lines.new }
+    ensures reads { ReadsOn (I.left source.old) (I.left source.new) (I.faults source.old)
+        (I.faults source.new) lines.old lines.new }
     ensures progress { IfOk result (λ read. read ≢ next.End → done_bytes lines.old < done_bytes lines.new) }
     ensures source_fault { result ≡ Err LineFault.Source → Rose (I.faults source.old) (I.faults source.new) }
     ensures too_long { result ≡ Err LineFault.TooLong → lines.new.taken ≡ lines.new.limit }
@@ -74,7 +76,8 @@ fn take_molfile<I: Source>(
     ensures taken { IfOk result (λ taken. (molfile : List TextLine) × IsMolfile taken molfile text.new.items
         × TakesMolfileLines lines.old lines.new (I.left source.old) (I.left source.new) molfile) }
     ensures part { OnErr result (TakesPart lines.old lines.new (I.left source.old) (I.left source.new) HasNoLast) }
-    ensures reads { ReadsOn (I.left source.old) (I.left source.new) (I.faults source.old) (I.faults source.new) lines.old lines.new }
+    ensures reads { ReadsOn (I.left source.old) (I.left source.new) (I.faults source.old)
+        (I.faults source.new) lines.old lines.new }
     ensures source_fault { result ≡ Err LineFault.Source → Rose (I.faults source.old) (I.faults source.new) }
     ensures too_long { result ≡ Err LineFault.TooLong → lines.new.taken ≡ lines.new.limit }
 {

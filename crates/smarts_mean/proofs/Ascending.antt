@@ -41,7 +41,14 @@ with_new [] b up none = record {
 with_new (x ∷ xs) b up none = elim (cases_lt b x) [
   | inl low ↦ record {
     list = b ∷ (x ∷ xs);
-    ascends = (λ y h. elim (contains_cases x xs y h) [ inl e ↦ omega arith | inr q ↦ let far = up.0 y q in omega arith ], up);
+    ascends = (
+      λ y h. elim (contains_cases x xs y h) [
+        | inl e ↦ omega arith
+        | inr q ↦ let far = up.0 y q
+            in omega arith
+      ],
+      up,
+    );
     longer = omega arith;
     from = λ y h. contains_cases b (x ∷ xs) y h;
     new = contains_first b (x ∷ xs);
@@ -54,9 +61,17 @@ with_new (x ∷ xs) b up none = elim (cases_lt b x) [
           list = x ∷ rest.list;
           ascends = (λ y h. elim (rest.from y h) [ inl e ↦ omega arith | inr q ↦ up.0 y q ], rest.ascends);
           longer = let l = rest.longer in omega arith;
-          from = λ y h. elim (contains_cases x rest.list y h) [ inl e ↦ inr (subst (λ z. Contains (x ∷ xs) z) e (contains_first x xs)) | inr q ↦ elim (rest.from y q) [ inl e ↦ inl e | inr r ↦ inr (contains_rest x xs y r) ] ];
+          from = λ y h. elim (contains_cases x rest.list y h) [
+            | inl e ↦ inr (subst (λ z. Contains (x ∷ xs) z) e (contains_first x xs))
+            | inr q ↦ elim (rest.from y q)
+                [ inl e ↦ inl e | inr r ↦ inr (contains_rest x xs y r) ]
+          ];
           new = contains_rest x rest.list b rest.new;
-          kept = λ y h. elim (contains_cases x xs y h) [ inl e ↦ subst (λ z. Contains (x ∷ rest.list) z) e (contains_first x rest.list) | inr q ↦ contains_rest x rest.list y (rest.kept y q) ];
+          kept = λ y h. elim (contains_cases x xs y h) [
+            | inl e ↦ subst (λ z. Contains (x ∷ rest.list) z) e
+                (contains_first x rest.list)
+            | inr q ↦ contains_rest x rest.list y (rest.kept y q)
+          ];
         }
   ]
 ]
@@ -82,7 +97,8 @@ ascends_from (x ∷ xs) up = (
 )
 
 -- two lists that ascend and have the same elements are as long
-pub same_length : (xs ys : List ℕ) → Ascends xs → Ascends ys → ((b : ℕ) → Contains xs b → Contains ys b) → ((b : ℕ) → Contains ys b → Contains xs b) → length xs ≡ length ys
+pub same_length : (xs ys : List ℕ) → Ascends xs → Ascends ys → ((b : ℕ) → Contains xs b → Contains ys b)
+    → ((b : ℕ) → Contains ys b → Contains xs b) → length xs ≡ length ys
 same_length [] [] up0 up1 to from = refl
 same_length [] (y ∷ ys) up0 up1 to from = let q = from y (contains_first y ys) in absurd (omega (arith, q.1))
 same_length (x ∷ xs) [] up0 up1 to from = let q = to x (contains_first x xs) in absurd (omega (arith, q.1))
@@ -97,11 +113,13 @@ same_length (x ∷ xs) (y ∷ ys) up0 up1 to from =
             absurd (omega arith)
       ]
     ] in
-    let to' : (b : ℕ) → Contains xs b → Contains ys b = λ b q. elim (contains_cases y ys b (to b (contains_rest x xs b q))) [
+    let to' : (b : ℕ) → Contains xs b → Contains ys b = λ b q. elim
+    (contains_cases y ys b (to b (contains_rest x xs b q))) [
       | inl e ↦ let low = up0.0 b q in absurd (omega arith)
       | inr r ↦ r
     ] in
-    let from' : (b : ℕ) → Contains ys b → Contains xs b = λ b q. elim (contains_cases x xs b (from b (contains_rest y ys b q))) [
+    let from' : (b : ℕ) → Contains ys b → Contains xs b = λ b q. elim
+    (contains_cases x xs b (from b (contains_rest y ys b q))) [
       | inl e ↦ let low = up1.0 b q in absurd (omega arith)
       | inr r ↦ r
     ] in

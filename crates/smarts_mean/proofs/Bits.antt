@@ -7,23 +7,33 @@ use Rattle.std.proofs.lemmas.Nat.Bits.{bit_at-zero, shr_and_one}
 use Rattle.smarts_mean.specs.Table.{holds_at}
 
 -- what the code computes of a word is the entry
-pub entry_read : (words : List ℕ) (part atom word : ℕ) → 16 * part + atom / 64 < length words → word ≡ get_or words (16 * part + atom / 64) word → eqb (bit_and (word / 2 ^ (atom % 64)) 1) 1 ≡ holds_at (record { words = words }) part atom
+pub entry_read : (words : List ℕ) (part atom word : ℕ) → 16 * part + atom / 64 < length words
+    → word ≡ get_or words (16 * part + atom / 64) word → eqb (bit_and (word / 2 ^ (atom % 64)) 1) 1
+    ≡ holds_at (record { words = words }) part atom
 unfolding holds_at
 entry_read words part atom word within is =
-    let read : word ≡ get_or words (16 * part + atom / 64) 0 = is ∙ get_or_default words (16 * part + atom / 64) word 0 within in
+    let read : word ≡ get_or words (16 * part + atom / 64) 0 = is
+    ∙ get_or_default words (16 * part + atom / 64) word 0 within in
     rw shr_and_one (ap (λ n. eqb (bit_at n (atom % 64)) 1) read)
 
 pub no_entry : (n part atom : ℕ) → holds_at (record { words = replicate n 0 }) part atom ≡ false
 unfolding holds_at
 no_entry n part atom = elim (cases_lt (16 * part + atom / 64) n) [
   | inl l ↦ rw (get_or-replicate {A = ℕ} n (16 * part + atom / 64) 0 0 l, bit_at-zero)
-  | inr past ↦ rw (get_or_past {X = ℕ} (replicate n 0) (16 * part + atom / 64) 0 (rw (length-replicate {A = ℕ} n 0) past), bit_at-zero)
+  | inr past ↦ rw (
+    get_or_past {X = ℕ} (replicate n 0) (16 * part + atom / 64) 0
+        (rw (length-replicate {A = ℕ} n 0) past),
+    bit_at-zero,
+  )
 ]
 
 -- the entry is written, where the word's bit is, and no other bit of it
-pub entry_put : (words : List ℕ) (part atom old word : ℕ) (holds : Bool) → old ≡ get_or words (16 * part + atom / 64) old → 16 * part + atom / 64 < length words → eqb (bit_at word (atom % 64)) 1 ≡ holds
+pub entry_put : (words : List ℕ) (part atom old word : ℕ) (holds : Bool)
+    → old ≡ get_or words (16 * part + atom / 64) old → 16 * part + atom / 64 < length words
+    → eqb (bit_at word (atom % 64)) 1 ≡ holds
     → ((i : ℕ) → i < 64 → i ≢ atom % 64 → bit_at word i ≡ bit_at old i)
-    → (p a : ℕ) → a < 999 → atom < 999 → holds_at (record { words = set words (16 * part + atom / 64) word }) p a ≡ cond (eqb p part && eqb a atom) holds (holds_at (record { words = words }) p a)
+    → (p a : ℕ) → a < 999 → atom < 999 → holds_at (record { words = set words (16 * part + atom / 64) word }) p a
+    ≡ cond (eqb p part && eqb a atom) holds (holds_at (record { words = words }) p a)
 unfolding holds_at
 entry_put words part atom old word holds was within now others p a few few' =
     let place : ℕ = 16 * part + atom / 64 in
@@ -43,7 +53,8 @@ entry_put words part atom old word holds was within now others p a few few' =
                 rw (read, and_right (eqb p part) _ (ne_eqb a atom column), others (a % 64) low apart, before, same)
           ]
       | inr apart ↦
-          let kept : get_or (set words place word) at 0 ≡ get_or words at 0 = get_or-set_other words place at word 0 apart in
+          let kept : get_or (set words place word) at 0 ≡ get_or words at 0 = get_or-set_other words place at word 0
+          apart in
           let test : (eqb p part && eqb a atom) ≡ false = elim (cases_eq p part) [
             | inl row ↦ and_right (eqb p part) _ (ne_eqb a atom (λ q. apart (omega arith)))
             | inr row ↦ and_left _ (eqb a atom) (ne_eqb p part row)

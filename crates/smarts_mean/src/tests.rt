@@ -1,3 +1,5 @@
+//! Primitives at one atom.
+
 use crate::{RecTable, atom_true};
 use chem_core::{Atom, Mol};
 use smarts_parse::{AtomPrim, Expr};

@@ -17,11 +17,13 @@ tree_begins tree rest is =
     let node = tree.first in
     let rings = walk.node_text smarts_words node in
     begins-append BeginsAtom (walk.spelling smarts_words tree) rest
-    (begins-append BeginsAtom (walk.node_text smarts_words node) (walk.tail_text smarts_words tree.tail) (begins-append BeginsAtom (smarts_words.atom_text node.atom) _ (smarts_apart.atom_begins node.atom is.0.0)))
+    (begins-append BeginsAtom (walk.node_text smarts_words node) (walk.tail_text smarts_words tree.tail)
+    (begins-append BeginsAtom (smarts_words.atom_text node.atom) _ (smarts_apart.atom_begins node.atom is.0.0)))
 
 pub not_open : (tree : Tree) (rest bytes inside : List ℕ) → walk.IsTree smarts_words tree
     → bytes ≡ walk.spelling smarts_words tree ++ rest → bytes ≡ 40 ∷ inside → ⊥
-not_open tree rest bytes inside is e f = begins_clash BeginsAtom (λ b. b ≡ 40) (walk.spelling smarts_words tree ++ rest) (40 ∷ inside) (λ b h k. smarts_apart.atom_or_walk b h (inl k)) (tree_begins tree rest is) refl (sym e ∙ f)
+not_open tree rest bytes inside is e f = begins_clash BeginsAtom (λ b. b ≡ 40) (walk.spelling smarts_words tree ++ rest)
+    (40 ∷ inside) (λ b h k. smarts_apart.atom_or_walk b h (inl k)) (tree_begins tree rest is) refl (sym e ∙ f)
 
 pub group_text : (tree : Tree) (rest : List ℕ)
     → item_text (group tree) ++ rest ≡ 40 ∷ (walk.spelling smarts_words tree ++ 41 ∷ rest)
@@ -45,7 +47,8 @@ group_read front old new bytes inside rest left e f p = record {
   item = group p.tree;
   is = record {
     tree = p.is.0;
-    spelled = e ∙ ap (λ (v : List ℕ). 40 ∷ v) (p.is.1 ∙ ap (λ v. walk.spelling smarts_words p.tree ++ v) f) ∙ sym (group_text p.tree left);
+    spelled = e ∙ ap (λ (v : List ℕ). 40 ∷ v) (p.is.1 ∙ ap (λ v. walk.spelling smarts_words p.tree ++ v) f)
+        ∙ sym (group_text p.tree left);
     stops = tt;
   };
   holds = p.holds;
@@ -57,7 +60,8 @@ group_read front old new bytes inside rest left e f p = record {
 pub group_first : (bytes inside : List ℕ) → bytes ≡ 40 ∷ inside → (x : Item) (rest : List ℕ) → IsItemOf bytes x rest
     → (tree : Tree) × walk.IsPartOf smarts_words inside tree (41 ∷ rest)
 group_first bytes inside e (plain tree) rest is = absurd (not_open tree rest bytes inside is.tree is.spelled e)
-group_first bytes inside e (group tree) rest is = (tree, (is.tree, tails 40 40 inside _ (sym e ∙ is.spelled ∙ group_text tree rest)))
+group_first bytes inside e (group tree) rest
+    is = (tree, (is.tree, tails 40 40 inside _ (sym e ∙ is.spelled ∙ group_text tree rest)))
 
 pub plain_first : (bytes : List ℕ) → ((inside : List ℕ) → bytes ≢ 40 ∷ inside) → (x : Item) (rest : List ℕ)
     → IsItemOf bytes x rest

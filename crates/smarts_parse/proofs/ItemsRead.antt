@@ -70,7 +70,11 @@ first_tree x [] are = are
 first_tree x (y ∷ ys) are = are.0
 
 pub first_item : (rest : List ℕ) → (left : AreLeft rest) → IsItemOf rest left.first (others_text left.others)
-first_item rest left = record { tree = first_tree left.first left.others left.are; spelled = left.spelled; stops = stops_after left.first left.others left.are }
+first_item rest left = record {
+  tree = first_tree left.first left.others left.are;
+  spelled = left.spelled;
+  stops = stops_after left.first left.others left.are;
+}
 
 left_more : (x : Item) (xs : List Item) (next : List ℕ) → AreItems x xs → 46 ∷ next ≡ others_text xs → AreLeft next
 left_more x [] next are e = absurd (cc)
@@ -83,7 +87,8 @@ may_meet (group s) (group t) next after stops is e = tt
 may_meet (group s) (plain t) next after stops is e = tt
 may_meet (plain s) (group t) next after stops is e = tt
 may_meet (plain s) (plain t) next after (inl f) is e = absurd (omega arith)
-may_meet (plain s) (plain t) next after (inr f) is e = begins_clash BeginsAtom (λ b. b ≡ 40) _ next (λ b h k. smarts_apart.atom_or_walk b h (inl k)) (tree_begins t after is) f.1 (sym e)
+may_meet (plain s) (plain t) next after (inr f) is e = begins_clash BeginsAtom (λ b. b ≡ 40) _ next
+    (λ b h k. smarts_apart.atom_or_walk b h (inl k)) (tree_begins t after is) f.1 (sym e)
 
 before_more : (ds : List Item) (x y : Item) → AreBefore ds x → walk.IsTree smarts_words (tree_of x) → MayMeet x y
     → AreBefore (ds ++ x ∷ []) y
@@ -95,16 +100,21 @@ dotted_more : (ds : List Item) (x : Item) (next : List ℕ)
     → dotted ds ++ (item_text x ++ 46 ∷ next) ≡ dotted (ds ++ x ∷ []) ++ next
 dotted_more [] x next = sym (append_assoc (item_text x) (46 ∷ []) next)
 dotted_more (d ∷ ds) x next =
-    append_assoc (item_text d) (46 ∷ dotted ds) (item_text x ++ 46 ∷ next) ∙ ap (λ v. item_text d ++ 46 ∷ v) (dotted_more ds x next) ∙ sym (append_assoc (item_text d) (46 ∷ dotted (ds ++ x ∷ [])) next)
+    append_assoc (item_text d) (46 ∷ dotted ds) (item_text x ++ 46 ∷ next)
+    ∙ ap (λ v. item_text d ++ 46 ∷ v) (dotted_more ds x next)
+    ∙ sym (append_assoc (item_text d) (46 ∷ dotted (ds ++ x ∷ [])) next)
 
 nodes_push : (n : ℕ) (ds : List Item) (x : Item)
     → nodes_from n (ds ++ x ∷ []) ≡ nodes_from n ds ++ placed_at (n + length (nodes_from n ds)) (tree_of x)
-nodes_push n [] x = append-nil (placed_at n (tree_of x)) ∙ ap (λ k. placed_at k (tree_of x)) (let e : n ≡ n + 0 = omega arith in e)
+nodes_push n [] x = append-nil (placed_at n (tree_of x))
+    ∙ ap (λ k. placed_at k (tree_of x)) (let e : n ≡ n + 0 = omega arith in e)
 nodes_push n (d ∷ ds) x =
     let p = placed_at n (tree_of d) in
     let m = n + length p in
-    let l : m + length (nodes_from m ds) ≡ n + length (p ++ nodes_from m ds) = omega (arith, length-append p (nodes_from m ds)) in
-    ap (λ v. p ++ v) (nodes_push m ds x ∙ ap (λ k. nodes_from m ds ++ placed_at k (tree_of x)) l) ∙ sym (append_assoc p (nodes_from m ds) (placed_at (n + length (p ++ nodes_from m ds)) (tree_of x)))
+    let l : m + length (nodes_from m ds) ≡ n + length (p ++ nodes_from m ds) = omega
+    (arith, length-append p (nodes_from m ds)) in
+    ap (λ v. p ++ v) (nodes_push m ds x ∙ ap (λ k. nodes_from m ds ++ placed_at k (tree_of x)) l)
+    ∙ sym (append_assoc p (nodes_from m ds) (placed_at (n + length (p ++ nodes_from m ds)) (tree_of x)))
 
 depth_push : (ds : List Item) (x : Item)
     → items_depth (ds ++ x ∷ []) ≡ max (items_depth ds) (walk.depth_of (tree_of x).tail)
@@ -117,13 +127,16 @@ or_false false = refl
 
 group_push : (ds : List Item) (x : Item) (g b : Bool) → g ≡ list_any is_group ds → b ≡ is_group x
     → (g || b) ≡ list_any is_group (ds ++ x ∷ [])
-group_push ds x g b e f = ap (λ v. v || b) e ∙ ap (λ v. list_any is_group ds || v) (f ∙ sym (or_false (is_group x))) ∙ sym (list_any-append is_group ds (x ∷ []))
+group_push ds x g b e f = ap (λ v. v || b) e ∙ ap (λ v. list_any is_group ds || v) (f ∙ sym (or_false (is_group x)))
+    ∙ sym (list_any-append is_group ds (x ∷ []))
 
-module _ (text rest after : List ℕ) (old new : Read) (g b : Bool) (s : SoFar text rest old g) (r : IsItemRead (nodes_from 0 s.done) old new rest b after) where
+module _ (text rest after : List ℕ) (old new : Read) (g b : Bool) (s : SoFar text rest old g)
+    (r : IsItemRead (nodes_from 0 s.done) old new rest b after) where
   holds_more : Holds smarts_words (nodes_from 0 (s.done ++ r.item ∷ [])) new
   holds_more =
       let P : Nodes → Type 0 = λ v. Holds smarts_words v new in
-      subst P (sym (nodes_push 0 s.done r.item ∙ ap (λ k. nodes_from 0 s.done ++ placed_at k (tree_of r.item)) (let e : 0 + length (nodes_from 0 s.done) ≡ length (nodes_from 0 s.done) = omega arith in e))) r.holds
+      subst P (sym (nodes_push 0 s.done r.item ∙ ap (λ k. nodes_from 0 s.done ++ placed_at k (tree_of r.item))
+      (let e : 0 + length (nodes_from 0 s.done) ≡ length (nodes_from 0 s.done) = omega arith in e))) r.holds
 
   depth_more : new.depth ≡ items_depth (s.done ++ r.item ∷ [])
   depth_more = r.depth ∙ ap (λ v. max v (walk.depth_of (tree_of r.item).tail)) s.depth ∙ sym (depth_push s.done r.item)
@@ -136,11 +149,13 @@ module _ (text rest after : List ℕ) (old new : Read) (g b : Bool) (s : SoFar t
     closed = closed;
     depth = depth_more;
     grouped = group_push s.done r.item g b s.grouped r.grouped;
-    spelled = s.spelled ∙ ap (λ v. dotted s.done ++ v) (r.is.spelled ∙ ap (λ v. item_text r.item ++ v) e) ∙ dotted_more s.done r.item next;
+    spelled = s.spelled ∙ ap (λ v. dotted s.done ++ v) (r.is.spelled ∙ ap (λ v. item_text r.item ++ v) e)
+        ∙ dotted_more s.done r.item next;
     before = λ y left is f.
         before_more s.done r.item y (s.before r.item after r.is.tree r.is.spelled) r.is.tree
         (may_meet r.item y next left (let P : List ℕ → Type 0 = λ v. StopsAfter r.item v in subst P e r.is.stops) is f);
-    only = λ all. let l = s.only all in left_more l.first l.others next l.are (sym e ∙ only l.first (others_text l.others) (first_item rest l));
+    only = λ all. let l = s.only all in left_more l.first l.others next l.are (sym e
+        ∙ only l.first (others_text l.others) (first_item rest l));
   }
 
   -- the last item
@@ -164,16 +179,19 @@ module _ (text rest after : List ℕ) (old new : Read) (g b : Bool) (s : SoFar t
 
   others_joined : (ds : List Item) (x : Item) → 46 ∷ (dotted ds ++ item_text x) ≡ others_text (ds ++ x ∷ [])
   others_joined [] x = ap (λ (v : List ℕ). 46 ∷ v) (sym (append-nil (item_text x)))
-  others_joined (d ∷ ds) x = ap (λ (v : List ℕ). 46 ∷ v) (append_assoc (item_text d) (46 ∷ dotted ds) (item_text x) ∙ ap (λ v. item_text d ++ v) (others_joined ds x))
+  others_joined (d ∷ ds) x = ap (λ (v : List ℕ). 46 ∷ v) (append_assoc (item_text d) (46 ∷ dotted ds) (item_text x)
+      ∙ ap (λ v. item_text d ++ v) (others_joined ds x))
 
   joined_text : (ds : List Item) (x : Item)
       → dotted ds ++ item_text x ≡ item_text (first_of ds x) ++ others_text (others_of ds x)
   joined_text [] x = sym (append-nil (item_text x))
-  joined_text (d ∷ ds) x = append_assoc (item_text d) (46 ∷ dotted ds) (item_text x) ∙ ap (λ v. item_text d ++ v) (others_joined ds x)
+  joined_text (d ∷ ds) x = append_assoc (item_text d) (46 ∷ dotted ds) (item_text x)
+      ∙ ap (λ v. item_text d ++ v) (others_joined ds x)
 
   pub so_far_all : length after ≡ 0 → AreItemsRead text new (g || b)
   so_far_all none =
-      let e : item_text r.item ++ after ≡ item_text r.item = ap (λ v. item_text r.item ++ v) (nil_from_length after none) ∙ append-nil (item_text r.item) in
+      let e : item_text r.item ++ after ≡ item_text r.item = ap (λ v. item_text r.item ++ v)
+      (nil_from_length after none) ∙ append-nil (item_text r.item) in
       let t = together s.done r.item in
       let P : List Item → Type 0 = λ v. Holds smarts_words (nodes_from 0 v) new in
       record {

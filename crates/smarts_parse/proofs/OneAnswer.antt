@@ -43,7 +43,8 @@ module _ (text : List ℕ) where
   one_meaning : AreOne IsPattern
   one_meaning r s h k =
       let P : Whole → Type 0 = λ w. IsPatternOf w k.pattern in
-      let e = one_pattern h.whole h.pattern k.pattern h.means (subst P (one_whole text k.whole h.whole k.is h.is) k.means) in
+      let e = one_pattern h.whole h.pattern k.pattern h.means
+      (subst P (one_whole text k.whole h.whole k.is h.is) k.means) in
       let F : PatternTerm → Answer = λ p. Ok p in
       h.answer ∙ ap F e ∙ sym k.answer
 
@@ -73,10 +74,13 @@ module _ (text : List ℕ) where
   FromLength = Choice (length text ≤ most_bytes) Limit FromReaction
 
   one_stereo : AreOne FromStereo
-  one_stereo = one_choice _ Stereo FromRingSet (one_choice _ RingSet FromRing (one_choice _ Ring FromLimit (one_choice _ Limit FromGroup (one_choice _ Grouping IsPattern one_meaning))))
+  one_stereo = one_choice _ Stereo FromRingSet
+      (one_choice _ RingSet FromRing (one_choice _ Ring FromLimit
+      (one_choice _ Limit FromGroup (one_choice _ Grouping IsPattern one_meaning))))
 
   one_length : AreOne FromLength
-  one_length = one_choice _ Limit FromReaction (one_choice _ Reaction FromSyntax (one_choice _ Syntax FromStereo one_stereo))
+  one_length = one_choice _ Limit FromReaction (one_choice _ Reaction FromSyntax
+      (one_choice _ Syntax FromStereo one_stereo))
 
   -- a text that passes the tests
   is_read : (r : Answer) (w : Whole) → IsRead text w → FromStereo r → FromLength r
@@ -97,7 +101,11 @@ module _ (text : List ℕ) where
   by_tests : (r : Answer) → IsReading text r → r ≢ Err NoMemory → FromLength r
   by_tests (Ok p) h n =
       let w = h.0 in
-      no_limit (Ok p) w h.1 (inr (of_whole (λ v. ¬ HasGroup v) w h.1.0.0.0.0.is h.2, record { whole = w; is = h.1.0.0.0.0.is; pattern = p; means = h.3; answer = refl }))
+      no_limit (Ok p) w h.1 (inr (
+        of_whole (λ v. ¬ HasGroup v) w h.1.0.0.0.0.is h.2,
+        record
+            { whole = w; is = h.1.0.0.0.0.is; pattern = p; means = h.3; answer = refl },
+      ))
   by_tests (Err Reaction) h n = inr (h.0, inl (λ k. k h.1, refl))
   by_tests (Err Syntax) h n = inr (h.0, inr (h.1, inl (λ k. h.2 k.0 k.1, refl)))
   by_tests (Err Stereo) h n = is_read (Err Stereo) h.0 h.1 (inl (λ k. k h.0 h.1.is h.2, refl))

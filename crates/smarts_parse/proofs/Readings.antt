@@ -48,7 +48,8 @@ module _ (text : List ℕ) (s : Survey) (l : Looked text s) where
   no_ring n e f = (no_ring_set n e, l.survey.pair f)
 
   pub within : IsSmall s → IsWithinLimits l.whole
-  within h = let a = l.survey.atoms in let p = l.survey.parts in let n = l.survey.nesting in let d = l.survey.depth in record { atoms = omega arith; parts = omega arith; nesting = omega arith; depth = omega arith }
+  within h = let a = l.survey.atoms in let p = l.survey.parts in let n = l.survey.nesting in let d = l.survey.depth
+      in record { atoms = omega arith; parts = omega arith; nesting = omega arith; depth = omega arith }
 
   pub no_limit : ¬ HasMark text s → s.ring_set ≡ false → s.rings ≡ false → IsSmall s → NoLimit text l.whole
   no_limit n e f h = (no_ring n e f, within h)
@@ -89,9 +90,11 @@ plain_by (plain t) (plain u ∷ ys) are n = absurd are.1
 plain_by (plain t) (group u ∷ ys) are n = absurd (n refl)
 
 pub plain_whole : (text : List ℕ) (whole : Whole) → IsWholeOf text whole → ¬ HasGroup whole → IsPlain whole
-plain_whole text whole is n = let p = plain_by whole.first whole.others is.items n in record { tree = p.0; first = p.1; others = p.2 }
+plain_whole text whole is n = let p = plain_by whole.first whole.others is.items n
+    in record { tree = p.0; first = p.1; others = p.2 }
 
-module _ (text : List ℕ) (s : Survey) (l : Looked text s) (marks : ¬ HasMark text s) (ring_set : s.ring_set ≡ false) (rings : s.rings ≡ false) (small : IsSmall s) (groups : s.grouped ≡ false) where
+module _ (text : List ℕ) (s : Survey) (l : Looked text s) (marks : ¬ HasMark text s) (ring_set : s.ring_set ≡ false)
+    (rings : s.rings ≡ false) (small : IsSmall s) (groups : s.grouped ≡ false) where
   pub one : IsPlain l.whole
   one = plain_whole text l.whole l.read.is (no_group text s l groups)
 
@@ -108,7 +111,8 @@ module _ (text : List ℕ) (s : Survey) (l : Looked text s) (marks : ¬ HasMark 
   one_nodes = ap nodes_of is_plain ∙ append-nil (placed_nodes one.tree)
 
   abbrev AnyStereo : Nodes → Type 0
-  AnyStereo v = list_any (λ a. list_any is_stereo a.steps) (atoms_by smarts_words v ++ parts_atoms l.whole.parts) ≡ false
+  AnyStereo v = list_any (λ a. list_any is_stereo a.steps) (atoms_by smarts_words v ++ parts_atoms l.whole.parts)
+      ≡ false
 
   pub buildable : IsBuildable text one.tree l.whole.parts 8 0
   buildable =
@@ -131,12 +135,14 @@ module _ (text : List ℕ) (s : Survey) (l : Looked text s) (marks : ¬ HasMark 
       }
 
   abbrev Built : List Graph → List Graph → Graph → Type 0
-  Built old new g = (tree : Tree) (parts : Parts) → IsBuildable text tree parts 8 (length old) → IsGraphTerm (placed_nodes tree) (numbers_from (length old) parts) (graph_of g)
+  Built old new g = (tree : Tree) (parts : Parts) → IsBuildable text tree parts 8 (length old)
+      → IsGraphTerm (placed_nodes tree) (numbers_from (length old) parts) (graph_of g)
       × (gs : List GraphTerm) × ArePartTerms (length old) parts gs × (map graph_of new ≡ map graph_of old ++ gs)
 
   pub needs : (old : List Graph) → old ≡ []
       → (tree : Tree) × (parts : Parts) × IsBuildable text tree parts 8 (length old)
-  needs old e = let P : List Graph → Type 0 = λ v. IsBuildable text one.tree l.whole.parts 8 (length v) in (one.tree, l.whole.parts, subst P (sym e) buildable)
+  needs old e = let P : List Graph → Type 0 = λ v. IsBuildable text one.tree l.whole.parts 8 (length v)
+      in (one.tree, l.whole.parts, subst P (sym e) buildable)
 
   pattern_by : (new : List Graph) (g : Graph) → Built [] new g
       → IsPatternOf l.whole (record { top = graph_of g; recs = map graph_of new })
@@ -155,7 +161,12 @@ module _ (text : List ℕ) (s : Survey) (l : Looked text s) (marks : ¬ HasMark 
 
 pub looked : (text : List ℕ) (s : Survey) → length text ≤ 4096 → ¬ Contains text 62
     → (whole : Whole) × IsWholeOf text whole × IsSurveyOf whole s → Looked text s
-looked text s short reaction f = record { whole = f.0; read = record { short = short; reaction = reaction; is = f.1 }; survey = f.2 }
+looked text s short reaction f = record {
+  whole = f.0;
+  read = record
+      { short = short; reaction = reaction; is = f.1 };
+  survey = f.2;
+}
 
 -- what a test that failed says
 pub not_by : (r : Bool) (P : Type 0) → r ≡ false → (IsTrue r ↔ P) → ¬ P

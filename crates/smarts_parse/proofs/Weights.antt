@@ -54,7 +54,12 @@ more_weight (x ∷ xs) =
     let h = operand_weight x.1 in
     let k = more_weight xs in
     let e = weight-append (part_of x.1.prim) (flat_map (λ y. part_of y.1.prim) xs) in
-    omega (arith, length-append (joining_text x.0) (operand_text x.1 ++ more_text xs), length-append (operand_text x.1) (more_text xs))
+    omega (
+      arith,
+      length-append (joining_text x.0) (operand_text x.1 ++ more_text xs),
+      length-append (operand_text x.1)
+          (more_text xs),
+    )
 
 expression_weight : (e : Expression Prim)
     → weight (expression.expression_parts prim_text IsPrim FollowsPrim word_of part_of e) ≤ length (expression_text e)
@@ -69,16 +74,22 @@ some_begins P [] h = absurd h
 some_begins P (x ∷ xs) h = omega arith
 
 bracket_weight : (inside : Inside) (class : _)
-    → 1 + weight (value_of_atom (bracket (record { inside = inside; class = class }))).parts ≤ length (bracket_text (record { inside = inside; class = class }))
+    → 1 + weight (value_of_atom (bracket (record { inside = inside; class = class }))).parts ≤ length
+    (bracket_text (record { inside = inside; class = class }))
 bracket_weight (hydro h) class = omega arith
-bracket_weight (low e) class = let k = expression_weight e in omega (arith, length-append (expression_text e) (end_text class))
+bracket_weight (low e) class = let k = expression_weight e
+    in omega (arith, length-append (expression_text e) (end_text class))
 
 atom_weight : (x : Atom) → IsAtom x → 1 + weight (value_of_atom x).parts ≤ length (atom_text x)
 atom_weight star is = let h = some_begins BeginsAtom (atom_text star) (smarts_apart.atom_begins star is) in omega arith
-atom_weight aromatic is = let h = some_begins BeginsAtom (atom_text aromatic) (smarts_apart.atom_begins aromatic is) in omega arith
-atom_weight aliphatic is = let h = some_begins BeginsAtom (atom_text aliphatic) (smarts_apart.atom_begins aliphatic is) in omega arith
-atom_weight (organic x) is = let h = some_begins BeginsAtom (atom_text (organic x)) (smarts_apart.atom_begins (organic x) is) in omega arith
-atom_weight (small x) is = let h = some_begins BeginsAtom (atom_text (small x)) (smarts_apart.atom_begins (small x) is) in omega arith
+atom_weight aromatic is = let h = some_begins BeginsAtom (atom_text aromatic) (smarts_apart.atom_begins aromatic is)
+    in omega arith
+atom_weight aliphatic is = let h = some_begins BeginsAtom (atom_text aliphatic) (smarts_apart.atom_begins aliphatic is)
+    in omega arith
+atom_weight (organic x) is = let h = some_begins BeginsAtom (atom_text (organic x))
+    (smarts_apart.atom_begins (organic x) is) in omega arith
+atom_weight (small x) is = let h = some_begins BeginsAtom (atom_text (small x)) (smarts_apart.atom_begins (small x) is)
+    in omega arith
 atom_weight (bracket x) is = bracket_weight x.inside x.class
 
 -- atoms, and the texts of their recursive parts
@@ -93,7 +104,8 @@ parts_of x = (value_of_atom x.atom).parts
 
 total-cons : (x : Placed Atom (Expression BondPrim)) (xs : Nodes)
     → total (x ∷ xs) ≡ 1 + weight (value_of_atom x.node.atom).parts + total xs
-total-cons x xs = let e = weight-append (value_of_atom x.node.atom).parts (part_texts (atoms_by smarts_words xs)) in omega arith
+total-cons x xs = let e = weight-append (value_of_atom x.node.atom).parts (part_texts (atoms_by smarts_words xs))
+    in omega arith
 
 total-append : (xs ys : Nodes) → total (xs ++ ys) ≡ total xs + total ys
 total-append [] ys = omega arith
@@ -105,7 +117,8 @@ total-append (x ∷ xs) ys =
 
 node_weight : (x : TreeNode) → walk.IsNode smarts_words x
     → 1 + weight (value_of_atom x.atom).parts ≤ length (walk.node_text smarts_words x)
-node_weight x is = let h = atom_weight x.atom is.0 in omega (arith, length-append (atom_text x.atom) (flat_map (walk.ring_text smarts_words) x.rings))
+node_weight x is = let h = atom_weight x.atom is.0
+    in omega (arith, length-append (atom_text x.atom) (flat_map (walk.ring_text smarts_words) x.rings))
 
 tail_weight : (at n : ℕ) (t : Tail Atom (Expression BondPrim)) → walk.IsTail smarts_words t
     → total (placed_from at n t) ≤ length (walk.tail_text smarts_words t)
@@ -114,15 +127,29 @@ tail_weight at n (next joint node tail) is =
     let h = node_weight node is.1 in
     let k = tail_weight n (n + 1) tail is.2 in
     let e = total-cons (record { node = node; before = joined_to at joint }) (placed_from n (n + 1) tail) in
-    omega (arith, length-append (walk.joint_text smarts_words joint) (walk.node_text smarts_words node ++ walk.tail_text smarts_words tail), length-append (walk.node_text smarts_words node) (walk.tail_text smarts_words tail))
+    omega (
+      arith,
+      length-append (walk.joint_text smarts_words joint)
+          (walk.node_text smarts_words node ++ walk.tail_text smarts_words tail),
+      length-append
+          (walk.node_text smarts_words node) (walk.tail_text smarts_words tail),
+    )
 tail_weight at n (branch joint node inner tail) is =
     let h = node_weight node is.1 in
     let i = tail_weight n (n + 1) inner is.2 in
     let k = tail_weight at (n + 1 + size_of inner) tail is.3 in
     let a = total-append (placed_from n (n + 1) inner) (placed_from at (n + 1 + size_of inner) tail) in
-    let e = total-cons (record { node = node; before = joined_to at joint }) (placed_from n (n + 1) inner ++ placed_from at (n + 1 + size_of inner) tail) in
+    let e = total-cons (record { node = node; before = joined_to at joint })
+    (placed_from n (n + 1) inner ++ placed_from at (n + 1 + size_of inner) tail) in
     let text = walk.tail_text smarts_words inner ++ 41 ∷ walk.tail_text smarts_words tail in
-    omega (arith, length-append (walk.joint_text smarts_words joint) (walk.node_text smarts_words node ++ text), length-append (walk.node_text smarts_words node) text, length-append (walk.tail_text smarts_words inner) (41 ∷ walk.tail_text smarts_words tail))
+    omega (
+      arith,
+      length-append (walk.joint_text smarts_words joint)
+          (walk.node_text smarts_words node ++ text),
+      length-append (walk.node_text smarts_words node) text,
+      length-append
+          (walk.tail_text smarts_words inner) (41 ∷ walk.tail_text smarts_words tail),
+    )
 
 pub tree_weight : (n : ℕ) (tree : Tree) → walk.IsTree smarts_words tree
     → total (placed_at n tree) ≤ length (walk.spelling smarts_words tree)
@@ -139,7 +166,8 @@ text_weight text tree is = let h = tree_weight 0 tree is.0 in let e = ap length 
 item_weight : (n : ℕ) (x : Item) → walk.IsTree smarts_words (tree_of x)
     → total (placed_at n (tree_of x)) ≤ length (item_text x)
 item_weight n (plain t) is = tree_weight n t is
-item_weight n (group t) is = let h = tree_weight n t is in omega (arith, length-append (walk.spelling smarts_words t) (41 ∷ []))
+item_weight n (group t) is = let h = tree_weight n t is
+    in omega (arith, length-append (walk.spelling smarts_words t) (41 ∷ []))
 
 pub items_weight : (n : ℕ) (x : Item) (xs : List Item) → AreItems x xs
     → total (nodes_from n (x ∷ xs)) ≤ length (item_text x ++ others_text xs)

@@ -84,10 +84,21 @@ nesting-join (x ∷ xs) ys (part tree inner others) q h = let e = nesting-join x
 
 -- nothing was taken in before
 abbrev pub blank : Bool → Survey
-blank g = record { stereo = false; ring_set = false; rings = false; grouped = g; atoms = 0; parts = 0; nesting = 0; depth = 0 }
+blank g = record {
+  stereo = false;
+  ring_set = false;
+  rings = false;
+  grouped = g;
+  atoms = 0;
+  parts = 0;
+  nesting = 0;
+  depth = 0;
+}
 
-module _ (text : List ℕ) (first : Item) (others : List Item) (are : AreItems first others) (spelled : text ≡ item_text first ++ others_text others)
-    (g : Bool) (grouped : g ≡ list_any is_group (first ∷ others)) (s : Survey) (deep : ℕ) (deep_is : deep ≡ items_depth (first ∷ others))
+module _ (text : List ℕ) (first : Item) (others : List Item) (are : AreItems first others)
+    (spelled : text ≡ item_text first ++ others_text others)
+    (g : Bool) (grouped : g ≡ list_any is_group (first ∷ others)) (s : Survey) (deep : ℕ)
+    (deep_is : deep ≡ items_depth (first ∷ others))
     (taken : IsTaken (blank g) s (nodes_from 0 (first ∷ others)) deep 0) where
   abbrev tops : List AtomValue
   tops = atoms_by smarts_words (nodes_from 0 (first ∷ others))
@@ -103,8 +114,10 @@ module _ (text : List ℕ) (first : Item) (others : List Item) (are : AreItems f
       let n = taken.nesting in
       let l = level_nesting 0 (part_texts tops) p h in
       record {
-        stereo = list_any-append HasStereo tops (parts_atoms p) ∙ ap (λ v. v || list_any HasStereo (parts_atoms p)) (sym taken.stereo);
-        ring_set = list_any-append HasRingSet tops (parts_atoms p) ∙ ap (λ v. v || list_any HasRingSet (parts_atoms p)) (sym taken.ring_set);
+        stereo = list_any-append HasStereo tops (parts_atoms p)
+            ∙ ap (λ v. v || list_any HasStereo (parts_atoms p)) (sym taken.stereo);
+        ring_set = list_any-append HasRingSet tops (parts_atoms p)
+            ∙ ap (λ v. v || list_any HasRingSet (parts_atoms p)) (sym taken.ring_set);
         pair = λ e k. ((taken.pair e).1, k);
         inner = λ k. k.1;
         apart = λ e k. elim (taken.apart e) [ inl f ↦ absurd (cc) | inr f ↦ f k.0 ];
@@ -126,9 +139,11 @@ module _ (text : List ℕ) (first : Item) (others : List Item) (are : AreItems f
       let e = texts-level 1 (part_texts tops) in
       let P : Parts → List (List ℕ) → Type 0 = λ p v. AreParts v p in
       record {
-        found = λ p h. let k = subst (P p) e h in (with_parts p, record { items = are; spelled = spelled; parts = k }, start_so_far p k);
+        found = λ p h. let k = subst (P p) e h
+            in (with_parts p, record { items = are; spelled = spelled; parts = k }, start_so_far p k);
         only = λ whole is. let o = start_only whole is in (o.0, subst (P o.0) (sym e) o.1);
-        fits = let w = items_weight 0 first others are in let a = taken.atoms in let c = taken.parts in let k = ap weight e in let l = ap length spelled in omega arith;
+        fits = let w = items_weight 0 first others are in let a = taken.atoms in let c = taken.parts
+            in let k = ap weight e in let l = ap length spelled in omega arith;
         level = let c = taken.parts in let l = top-level 1 (part_texts tops) in omega arith;
       }
 
@@ -167,16 +182,22 @@ or_moved false false false true = refl
 or_moved false false false false = refl
 
 any_moved : (P : AtomValue → Bool) (b : Bool) (q r : Parts) (tree : Tree)
-    → (b || list_any P (parts_atoms (join q (part tree r none)))) ≡ ((b || list_any P (tree_atoms tree)) || list_any P (parts_atoms (join q r)))
+    → (b || list_any P (parts_atoms (join q (part tree r none))))
+    ≡ ((b || list_any P (tree_atoms tree)) || list_any P (parts_atoms (join q r)))
 any_moved P b q r tree =
     let one = parts_atoms (part tree r none) in
-    let e : list_any P (parts_atoms (join q (part tree r none))) ≡ (list_any P (parts_atoms q) || (list_any P (tree_atoms tree) || (list_any P (parts_atoms r) || false))) =
+    let e : list_any P (parts_atoms (join q (part tree r none)))
+    ≡ (list_any P (parts_atoms q) || (list_any P (tree_atoms tree) || (list_any P (parts_atoms r) || false))) =
     ap (list_any P) (atoms-join q (part tree r none)) ∙ list_any-append P (parts_atoms q) one
-    ∙ ap (λ v. list_any P (parts_atoms q) || v) (list_any-append P (tree_atoms tree) (parts_atoms r ++ []) ∙ ap (λ v. list_any P (tree_atoms tree) || v) (list_any-append P (parts_atoms r) [])) in
-    let f : list_any P (parts_atoms (join q r)) ≡ (list_any P (parts_atoms q) || list_any P (parts_atoms r)) = ap (list_any P) (atoms-join q r) ∙ list_any-append P (parts_atoms q) (parts_atoms r) in
-    ap (λ v. b || v) e ∙ or_moved b (list_any P (parts_atoms q)) (list_any P (tree_atoms tree)) (list_any P (parts_atoms r)) ∙ ap (λ v. (b || list_any P (tree_atoms tree)) || v) (sym f)
+    ∙ ap (λ v. list_any P (parts_atoms q) || v) (list_any-append P (tree_atoms tree) (parts_atoms r ++ [])
+    ∙ ap (λ v. list_any P (tree_atoms tree) || v) (list_any-append P (parts_atoms r) [])) in
+    let f : list_any P (parts_atoms (join q r)) ≡ (list_any P (parts_atoms q) || list_any P (parts_atoms r)) = ap
+    (list_any P) (atoms-join q r) ∙ list_any-append P (parts_atoms q) (parts_atoms r) in
+    ap (λ v. b || v) e ∙ or_moved b (list_any P (parts_atoms q)) (list_any P (tree_atoms tree))
+    (list_any P (parts_atoms r)) ∙ ap (λ v. (b || list_any P (tree_atoms tree)) || v) (sym f)
 
-module _ (text : List ℕ) (s t : Survey) (init : List Left) (x : Left) (tree : Tree) (deep : ℕ) (is : walk.IsTreeOf smarts_words x.text tree) (deep_is : deep ≡ walk.depth_of tree.tail)
+module _ (text : List ℕ) (s t : Survey) (init : List Left) (x : Left) (tree : Tree) (deep : ℕ)
+    (is : walk.IsTreeOf smarts_words x.text tree) (deep_is : deep ≡ walk.depth_of tree.tail)
     (taken : IsTaken s t (placed_nodes tree) deep x.level) (w : Worklist text s (init ++ x ∷ [])) where
   abbrev inner_texts : List (List ℕ)
   inner_texts = part_texts (tree_atoms tree)
@@ -191,7 +212,8 @@ module _ (text : List ℕ) (s t : Survey) (init : List Left) (x : Left) (tree : 
   old_texts = map-append (λ y. y.text) init (x ∷ [])
 
   new_texts : texts_of new_left ≡ texts_of init ++ inner_texts
-  new_texts = map-append (λ y. y.text) init (at_level (x.level + 1) inner_texts) ∙ ap (λ v. texts_of init ++ v) (texts-level (x.level + 1) inner_texts)
+  new_texts = map-append (λ y. y.text) init (at_level (x.level + 1) inner_texts)
+      ∙ ap (λ v. texts_of init ++ v) (texts-level (x.level + 1) inner_texts)
 
   whole_part : (q r : Parts) → AreParts (texts_of init) q → AreParts inner_texts r
       → AreParts (texts_of (init ++ x ∷ [])) (join q (part tree r none))
@@ -219,13 +241,23 @@ module _ (text : List ℕ) (s t : Survey) (init : List Left) (x : Left) (tree : 
       let old_depth = depth-join q one in
       let new_depth = depth-join q r in
       record {
-        stereo = i.stereo ∙ any_moved HasStereo s.stereo q r tree ∙ ap (λ v. v || list_any HasStereo (parts_atoms (join q r))) (sym taken.stereo);
-        ring_set = i.ring_set ∙ any_moved HasRingSet s.ring_set q r tree ∙ ap (λ v. v || list_any HasRingSet (parts_atoms (join q r))) (sym taken.ring_set);
-        pair = λ e j. let v = pair-join q r j in let y = taken.pair e in i.pair y.0 (pair_both q one v.0 (y.1, v.1, tt));
+        stereo = i.stereo ∙ any_moved HasStereo s.stereo q r tree
+            ∙ ap (λ v. v || list_any HasStereo (parts_atoms (join q r))) (sym taken.stereo);
+        ring_set = i.ring_set ∙ any_moved HasRingSet s.ring_set q r tree
+            ∙ ap (λ v. v || list_any HasRingSet (parts_atoms (join q r))) (sym taken.ring_set);
+        pair = λ e j. let v = pair-join q r j in let y = taken.pair e
+            in i.pair y.0 (pair_both q one v.0 (y.1, v.1, tt));
         inner = λ j. let v = pair-join q one (i.inner j) in pair_both q r v.0 v.1.1;
         apart = λ e j. elim (taken.apart e) [ inl f ↦ i.apart f j | inr f ↦ f (pair-join q one (i.inner j)).1.0 ];
         grouped = taken.grouped ∙ i.grouped;
-        atoms = omega (arith, length-append (parts_atoms q) (parts_atoms one), length-append (tree_atoms tree) (parts_atoms r ++ []), length-append (parts_atoms r) [], length-append (parts_atoms q) (parts_atoms r));
+        atoms = omega (
+          arith,
+          length-append (parts_atoms q) (parts_atoms one),
+          length-append (tree_atoms tree)
+              (parts_atoms r ++ []),
+          length-append (parts_atoms r) [],
+          length-append (parts_atoms q) (parts_atoms r),
+        );
         parts = omega (arith, count-join q one, count-join q r);
         nesting = omega arith;
         depth = omega arith;
@@ -290,4 +322,5 @@ module _ (text : List ℕ) (s : Survey) (init : List Left) (x : Left) (w : Workl
   last_level = let l = w.level in let e = top-append init (x ∷ []) in omega arith
 
   pub last_fits : s.parts + 1 ≤ length text
-  last_fits = let f = w.fits in let e = ap weight last_texts ∙ weight-append (texts_of init) (x.text ∷ []) in omega arith
+  last_fits = let f = w.fits in let e = ap weight last_texts ∙ weight-append (texts_of init) (x.text ∷ [])
+      in omega arith

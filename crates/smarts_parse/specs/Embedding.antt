@@ -8,10 +8,12 @@ use Rattle.smarts_parse.specs.Truth.{AtomTrue, BondTrue}
 
 -- the molecule has a bond between the images of the ends, and the expression is true at it
 abbrev pub BondEmbeds : Molecule → List ℕ → BondTerm → Type 0
-BondEmbeds m image bond = (b : ℕ) × JoinsAt (ends_of m) b (slice_index image bond.a) (slice_index image bond.b) × BondTrue bond.expr m b
+BondEmbeds m image bond = (b : ℕ) × JoinsAt (ends_of m) b (slice_index image bond.a) (slice_index image bond.b)
+    × BondTrue bond.expr m b
 
--- An embedding: distinct atoms of the molecule, one for each atom of the pattern, at which its expression is true; for each bond of the pattern
--- a bond of the molecule between the two. Bonds that the pattern does not name may stand between them.
+-- An embedding: distinct atoms of the molecule, one for each atom of the pattern, at which its expression is true; for
+-- each bond of the pattern a bond of the molecule between the two. Bonds that the pattern does not name may stand
+-- between them.
 pub record IsEmbedding (parts : ℕ → ℕ → Type 0) (g : GraphTerm) (m : Molecule) (image : List ℕ) : Type 0 where
   pub one_each : length image ≡ length g.atoms
   pub in_range : All (λ a. a < length m.atoms) image
@@ -24,7 +26,8 @@ abbrev pub PartsHold : List GraphTerm → Molecule → ℕ → ℕ → ℕ → T
 PartsHold recs m zero k a = ⊥
 PartsHold recs m (suc n) k a =
     MatchBool (k == n)
-    ((g : GraphTerm) × (slice_get recs n ≡ Some g) × (image : List ℕ) × IsEmbedding (PartsHold recs m n) g m image × (slice_get image 0 ≡ Some a))
+    ((g : GraphTerm) × (slice_get recs n ≡ Some g) × (image : List ℕ) × IsEmbedding (PartsHold recs m n) g m image
+    × (slice_get image 0 ≡ Some a))
     (PartsHold recs m n k a)
 
 -- the pattern has an embedding in the molecule

@@ -1,4 +1,5 @@
--- What a pattern's text means: its graphs, with the numbers of recursive parts and the numbers that are not written. For callers.
+-- What a pattern's text means: its graphs, with the numbers of recursive parts and the numbers that are not written.
+-- For callers.
 use Rattle.std.specs.Prelude.{◌≡◌, ℕ, zero, suc, ◌+◌, List, [], ◌∷◌, ◌++◌, length, map, drop, Option, None, Some, unwrap_or}
 use Rattle.line_walk.specs.Places.{placed_nodes, entries_from, atoms_by}
 use Rattle.line_walk.specs.Partners.{IsGraph}
@@ -27,7 +28,8 @@ postfix (Not e) = postfix e ++ steps.Not ∷ []
 postfix (And e f) = postfix e ++ (postfix f ++ steps.And ∷ [])
 postfix (Or e f) = postfix e ++ (postfix f ++ steps.Or ∷ [])
 
--- A letter and its number. Where no number is written it is 1, or at least 1 for `h` and `x`; `R` and `r` then ask for any ring.
+-- A letter and its number. Where no number is written it is 1, or at least 1 for `h` and `x`; `R` and `r` then ask for
+-- any ring.
 abbrev pub count_prim : Letter → Option ℕ → AtomPrim
 count_prim letters.Degree n = atoms.Degree (unwrap_or n 1)
 count_prim letters.TotalH n = atoms.TotalH (unwrap_or n 1)
@@ -101,7 +103,8 @@ AreBondTerms [] [] = Unit {0}
 AreBondTerms (x ∷ xs) (y ∷ ys) = IsBondTerm x y × AreBondTerms xs ys
 AreBondTerms _ _ = ⊥
 
--- The graph of nodes, whose recursive parts have these numbers: their atoms, and the bonds of the chain and of ring numbers
+-- The graph of nodes, whose recursive parts have these numbers: their atoms, and the bonds of the chain and of ring
+-- numbers
 pub record IsGraphTerm (nodes : Nodes) (numbers : List ℕ) (g : GraphTerm) : Type 0 where
   pub atoms : map postfix g.atoms ≡ atoms_steps numbers (atoms_by smarts_words nodes)
   pub links : List (Link (List (Step BondWord)))
@@ -118,8 +121,10 @@ abbrev pub ArePartTerms : ℕ → Parts → List GraphTerm → Type 0
 ArePartTerms n none gs = gs ≡ []
 ArePartTerms n (part tree inner others) gs =
     (before : List GraphTerm) × (g : GraphTerm) × (after : List GraphTerm) × (gs ≡ before ++ g ∷ after)
-    × ArePartTerms n inner before × IsGraphTerm (placed_nodes tree) (numbers_from n inner) g × ArePartTerms (n + count_of inner + 1) others after
+    × ArePartTerms n inner before × IsGraphTerm (placed_nodes tree) (numbers_from n inner) g
+    × ArePartTerms (n + count_of inner + 1) others after
 
 -- the pattern of a whole text
 abbrev pub IsPatternOf : Whole → PatternTerm → Type 0
-IsPatternOf whole p = ArePartTerms 0 whole.parts p.recs × IsGraphTerm (nodes_of whole) (numbers_from 0 whole.parts) p.top
+IsPatternOf whole p = ArePartTerms 0 whole.parts p.recs × IsGraphTerm (nodes_of whole)
+    (numbers_from 0 whole.parts) p.top

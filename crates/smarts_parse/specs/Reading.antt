@@ -1,4 +1,5 @@
--- The answer to a text: the pattern that it means, or the first of its faults in this order. Want of memory may come at any text. For callers.
+-- The answer to a text: the pattern that it means, or the first of its faults in this order. Want of memory may come at
+-- any text. For callers.
 use Rattle.std.specs.Prelude.{◌≡◌, ◌⊎◌, ℕ, zero, suc, ◌<◌, ◌≤◌, Bool, true, false, List, ◌∷◌, length, Contains, Some, Result, Ok, Err}
 use Rattle.std.specs.List.{list_any}
 use Rattle.line_walk.specs.Places.{placed_nodes, entries_from}
@@ -32,16 +33,19 @@ is_ring_set (steps.Prim (words.Count letters.Rings (Some zero))) = false
 is_ring_set (steps.Prim (words.Count letters.Rings (Some (suc n)))) = true
 is_ring_set _ = false
 
--- a configuration stands at an atom, or `/` or `\`, which stand for nothing but the configuration of a bond, in the text
+-- a configuration stands at an atom, or `/` or `\`, which stand for nothing but the configuration of a bond, in the
+-- text
 abbrev pub HasStereo : List ℕ → Whole → Type 0
-HasStereo text whole = (list_any (λ a. list_any is_stereo a.steps) (all_atoms whole) ≡ true) ⊎ Contains text 47 ⊎ Contains text 92
+HasStereo text whole = (list_any (λ a. list_any is_stereo a.steps) (all_atoms whole) ≡ true) ⊎ Contains text 47
+    ⊎ Contains text 92
 
 abbrev pub HasRingSet : Whole → Type 0
 HasRingSet whole = list_any (λ a. list_any is_ring_set a.steps) (all_atoms whole) ≡ true
 
 -- the ring numbers of nodes pair
 abbrev pub DoPair : Nodes → Type 0
-DoPair nodes = (links : List (Link (List (Step BondWord)))) × IsGraph smarts_words.agreed (entries_from smarts_words 0 nodes) links
+DoPair nodes = (links : List (Link (List (Step BondWord))))
+    × IsGraph smarts_words.agreed (entries_from smarts_words 0 nodes) links
 
 -- a recursive part has ring numbers of its own
 abbrev pub DoPartsPair : Parts → Type 0
@@ -88,7 +92,8 @@ NoLimit text whole = NoRing text whole × IsWithinLimits whole
 abbrev pub IsReading : List ℕ → Result PatternTerm SmartsFault → Type 0
 IsReading text (Ok pattern) = (whole : Whole) × NoLimit text whole × ¬ HasGroup whole × IsPatternOf whole pattern
 IsReading text (Err Reaction) = (length text ≤ most_bytes) × Contains text 62
-IsReading text (Err Syntax) = (length text ≤ most_bytes) × ¬ Contains text 62 × ((whole : Whole) → IsWholeOf text whole → ⊥)
+IsReading text (Err Syntax) = (length text ≤ most_bytes) × ¬ Contains text 62
+    × ((whole : Whole) → IsWholeOf text whole → ⊥)
 IsReading text (Err Stereo) = (whole : Whole) × IsRead text whole × HasStereo text whole
 IsReading text (Err RingSet) = (whole : Whole) × NoStereo text whole × HasRingSet whole
 IsReading text (Err Ring) = (whole : Whole) × NoRingSet text whole × ¬ DoRingsPair whole

@@ -21,7 +21,8 @@ NamesBelow n (Not e) = NamesBelow n e
 NamesBelow n (And e f) = NamesBelow n e × NamesBelow n f
 NamesBelow n (Or e f) = NamesBelow n e × NamesBelow n f
 
--- a graph has an atom, its bonds' ends are distinct and in range, no two bonds join the same atoms, and it names parts below n alone
+-- a graph has an atom, its bonds' ends are distinct and in range, no two bonds join the same atoms, and it names parts
+-- below n alone
 pub record IsSoundGraph (n : ℕ) (g : GraphTerm) : Type 0 where
   pub some : 0 < length g.atoms
   pub in_range : All (λ e. (e.0 < length g.atoms) × (e.1 < length g.atoms)) (pattern_ends g)

@@ -31,12 +31,13 @@ pub record IsItemOf (bytes : List ℕ) (item : Item) (rest : List ℕ) : Type 0 
   pub stops : StopsAfter item rest
 
 -- an item was read: the reader held the nodes of `front`, and holds those of the item too
-pub record IsItemRead (front : Nodes) (old new : Read) (bytes : List ℕ) (is_grouped : Bool) (rest : List ℕ) : Type 0 where
-  pub item : Item
-  pub is : IsItemOf bytes item rest
-  pub holds : Holds smarts_words (front ++ placed_at (length front) (tree_of item)) new
-  pub depth : new.depth ≡ max old.depth (walk.depth_of (tree_of item).tail)
-  pub grouped : is_grouped ≡ is_group item
+pub record IsItemRead (front : Nodes) (old new : Read) (bytes : List ℕ) (is_grouped : Bool) (rest : List ℕ) : Type 0
+  where
+    pub item : Item
+    pub is : IsItemOf bytes item rest
+    pub holds : Holds smarts_words (front ++ placed_at (length front) (tree_of item)) new
+    pub depth : new.depth ≡ max old.depth (walk.depth_of (tree_of item).tail)
+    pub grouped : is_grouped ≡ is_group item
 
 -- the items of a text were read
 pub record AreItemsRead (text : List ℕ) (reader : Read) (is_grouped : Bool) : Type 0 where
@@ -63,7 +64,8 @@ pub record IsSurveyOf (whole : Whole) (s : Survey) : Type 0 where
 -- the nodes of one text are taken in, which stands within so many recursive parts, itself included
 pub record IsTaken (old new : Survey) (placed : Nodes) (deep level : ℕ) : Type 0 where
   pub stereo : new.stereo ≡ (old.stereo || list_any (λ a. list_any is_stereo a.steps) (atoms_by smarts_words placed))
-  pub ring_set : new.ring_set ≡ (old.ring_set || list_any (λ a. list_any is_ring_set a.steps) (atoms_by smarts_words placed))
+  pub ring_set : new.ring_set ≡ (old.ring_set || list_any (λ a. list_any is_ring_set a.steps)
+      (atoms_by smarts_words placed))
   pub pair : new.rings ≡ false → (old.rings ≡ false) × DoPair placed
   pub apart : new.rings ≡ true → (old.rings ≡ true) ⊎ (¬ DoPair placed)
   pub grouped : new.grouped ≡ old.grouped

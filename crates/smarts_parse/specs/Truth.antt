@@ -1,4 +1,5 @@
--- When an expression is true (Daylight Theory Manual, chapter SMARTS, sections 4.1 to 4.3). What the recursive parts hold at is given by `parts`: number, atom.
+-- When an expression is true (Daylight Theory Manual, chapter SMARTS, sections 4.1 to 4.3). What the recursive parts
+-- hold at is given by `parts`: number, atom.
 use Rattle.std.specs.Prelude.{◌≡◌, ◌⊎◌, ℕ, ◌+◌, ◌≤◌, Bool, true, false, ◌==◌, ◌&&◌, ◌||◌, slice_get, count_by, None, Some, option_map, unwrap_or}
 use Rattle.chem_core.specs.declared.mol.Atom.{Atom}
 use Rattle.chem_core.specs.declared.mol.Bond.{Bond}
@@ -17,7 +18,8 @@ is_hydrogen m a = unwrap_or (option_map (λ x. x.number == 1) (slice_get m.atoms
 
 -- how many neighbours of the atom are hydrogen
 abbrev pub hydrogen_neighbours : Molecule → ℕ → ℕ
-hydrogen_neighbours m a = count_by (λ e. ((e.0 == a) && is_hydrogen m e.1) || ((e.1 == a) && is_hydrogen m e.0)) (ends_of m)
+hydrogen_neighbours m a = count_by (λ e. ((e.0 == a) && is_hydrogen m e.1) || ((e.1 == a) && is_hydrogen m e.0))
+    (ends_of m)
 
 -- A primitive at the atom x, which stands at place a.
 abbrev pub AtomPrimTrue : (ℕ → ℕ → Type 0) → AtomPrim → Molecule → ℕ → Atom → Type 0

@@ -1,5 +1,5 @@
--- The whole grammar of patterns: items, and in their atoms recursive parts (Daylight Theory Manual, sections 4.4 and 4.5). A text is a pattern's exactly
--- where some Whole that is one is spelled so. For callers.
+-- The whole grammar of patterns: items, and in their atoms recursive parts (Daylight Theory Manual, sections 4.4 and
+-- 4.5). A text is a pattern's exactly where some Whole that is one is spelled so. For callers.
 use Rattle.std.specs.Prelude.{◌≡◌, ℕ, ◌+◌, max, List, [], ◌∷◌, ◌++◌, length}
 use Rattle.std.specs.List.{flat_map}
 use Rattle.line_walk.specs.Tree as walk

@@ -26,8 +26,8 @@ pub enum SmartsFault {
     /// A ring closure that is open at the end, has two bonds that differ, or joins atoms that are one or bonded.
     #[error("a ring closure")]
     Ring,
-    /// More than 4,096 bytes; or more than 256 atoms, 64 recursive parts, 8 of these within one another, or 256 branches
-    /// open at once.
+    /// More than 4,096 bytes; or more than 256 atoms, 64 recursive parts, 8 of these within one another, or 256
+    /// branches open at once.
     #[error("above a limit")]
     Limit,
     /// Parentheses round components: which molecule of several an atom is in is not asked.

@@ -1,4 +1,5 @@
-//! SMARTS patterns: what they are, what makes them true, and how they are read (Daylight Theory Manual, chapter SMARTS).
+//! SMARTS patterns: what they are, what makes them true, and how they are read (Daylight Theory Manual, chapter
+//! SMARTS).
 //!
 //! A text is surveyed first, with its recursive parts: whether all of it is in the grammar, and what of it is refused.
 //! Then the graphs are built, those of recursive parts in the order in which their parentheses close.

@@ -23,7 +23,8 @@ pub fn atom_at(bytes: &[u8]) -> Option<(SketchAtom, &[u8])>
     }
 }
 
-/// The atomic number of the element of the organic subset whose symbol is the one letter (OpenSMILES 1.0, section 3.1.5).
+/// The atomic number of the element of the organic subset whose symbol is the one letter (OpenSMILES 1.0, section
+/// 3.1.5).
 pub fn organic_number(byte: u8) -> Option<u8>
     ensures { MatchOption result ((x : Organic) → symbol_bytes x ≢ byte ∷ [])
         (λ number. (x : Organic) × (symbol_bytes x ≡ byte ∷ []) × (number ≡ atomic_number x)) }

@@ -20,11 +20,13 @@ pins-versions [] (v ∷ vs) e = absurd (omega (arith, e))
 pins-versions (s ∷ ss) [] e = absurd (omega (arith, e))
 pins-versions (s ∷ ss) (v ∷ vs) e = ap (λ l. v ∷ l) (pins-versions ss vs (omega (arith, e)))
 
-pub pins-pushed : (ss vs : List ℕ) (s v : ℕ) → length vs ≡ length ss → pins_of (ss ++ s ∷ []) (vs ++ v ∷ []) ≡ pins_of ss vs ++ record { slot = s; version = v } ∷ []
+pub pins-pushed : (ss vs : List ℕ) (s v : ℕ) → length vs ≡ length ss
+    → pins_of (ss ++ s ∷ []) (vs ++ v ∷ []) ≡ pins_of ss vs ++ record { slot = s; version = v } ∷ []
 pins-pushed [] [] s v e = refl
 pins-pushed [] (w ∷ vs) s v e = absurd (omega (arith, e))
 pins-pushed (r ∷ ss) [] s v e = absurd (omega (arith, e))
-pins-pushed (r ∷ ss) (w ∷ vs) s v e = ap (λ l. record { slot = r; version = w } ∷ l) (pins-pushed ss vs s v (omega (arith, e)))
+pins-pushed (r ∷ ss) (w ∷ vs) s v e = ap (λ l. record { slot = r; version = w } ∷ l)
+    (pins-pushed ss vs s v (omega (arith, e)))
 
 -- this slot is not among these
 abbrev pub Misses : ℕ → List ℕ → Type 0
@@ -49,7 +51,8 @@ others-stay slot [] vs m = refl
 others-stay slot (s ∷ ss) [] m = refl
 others-stay slot (s ∷ ss) (v ∷ vs) m =
     let p : Pin = record { slot = s; version = v } in
-    cond-true (not (s == slot)) (p ∷ filter (is_other slot) (pins_of ss vs)) (filter (is_other slot) (pins_of ss vs)) (is-other s slot m.0) ∙ ap (λ l. p ∷ l) (others-stay slot ss vs m.1)
+    cond-true (not (s == slot)) (p ∷ filter (is_other slot) (pins_of ss vs)) (filter (is_other slot) (pins_of ss vs))
+    (is-other s slot m.0) ∙ ap (λ l. p ∷ l) (others-stay slot ss vs m.1)
 
 -- no slot stands twice
 abbrev pub Differ : List ℕ → Type 0
@@ -58,8 +61,11 @@ Differ (s ∷ ss) = Misses s ss × Differ ss
 
 pub differ : (ss : List ℕ) → ((i j : ℕ) (d : ℕ) → i < j → j < length ss → get_or ss i d ≢ get_or ss j d) → Differ ss
 differ [] h = tt
-differ (s ∷ ss) h =
-    (misses s ss (λ k d less e. h 0 (suc k) d (omega arith) (omega (arith, less)) (sym e)), differ ss (λ i j d less within. h (suc i) (suc j) d (omega (arith, less)) (omega (arith, within))))
+differ (s ∷ ss) h = (
+  misses s ss (λ k d less e. h 0 (suc k) d (omega arith) (omega (arith, less)) (sym e)),
+  differ ss
+      (λ i j d less within. h (suc i) (suc j) d (omega (arith, less)) (omega (arith, within))),
+)
 
 misses-at : (slot : ℕ) (ss : List ℕ) (i : ℕ) → Misses slot ss → i < length ss → slice_index ss i ≢ slot
 misses-at slot [] i m less e = omega (arith, less)
@@ -67,19 +73,22 @@ misses-at slot (s ∷ ss) zero m less e = m.0 e
 misses-at slot (s ∷ ss) (suc i) m less e = misses-at slot ss i m.1 (omega (arith, less)) e
 
 -- without the pin at a place there are the others
-pub pins-removed : (slot : ℕ) (ss vs : List ℕ) (i : ℕ) → Differ ss → length vs ≡ length ss → i < length ss → slice_index ss i ≡ slot
+pub pins-removed : (slot : ℕ) (ss vs : List ℕ) (i : ℕ) → Differ ss → length vs ≡ length ss → i < length ss
+    → slice_index ss i ≡ slot
     → pins_of (remove ss i) (remove vs i) ≡ filter (is_other slot) (pins_of ss vs)
 pins-removed slot [] vs i apart e less at = absurd (omega (arith, less))
 pins-removed slot (s ∷ ss) [] i apart e less at = absurd (omega (arith, e))
 pins-removed slot (s ∷ ss) (v ∷ vs) zero apart e less at =
     let p : Pin = record { slot = s; version = v } in
-    sym (cond-false (not (s == slot)) (p ∷ filter (is_other slot) (pins_of ss vs)) (filter (is_other slot) (pins_of ss vs)) (ap not (eq-eqb s slot at))
+    sym (cond-false (not (s == slot)) (p ∷ filter (is_other slot) (pins_of ss vs))
+    (filter (is_other slot) (pins_of ss vs)) (ap not (eq-eqb s slot at))
     ∙ others-stay slot ss vs (subst (λ k. Misses k ss) at apart.0))
 pins-removed slot (s ∷ ss) (v ∷ vs) (suc i) apart e less at =
     let p : Pin = record { slot = s; version = v } in
     let other : s ≢ slot = λ same. misses-at s ss i apart.0 (omega (arith, less)) (at ∙ sym same) in
     ap (λ l. p ∷ l) (pins-removed slot ss vs i apart.1 (omega (arith, e)) (omega (arith, less)) at)
-    ∙ sym (cond-true (not (s == slot)) (p ∷ filter (is_other slot) (pins_of ss vs)) (filter (is_other slot) (pins_of ss vs)) (is-other s slot other))
+    ∙ sym (cond-true (not (s == slot)) (p ∷ filter (is_other slot) (pins_of ss vs))
+    (filter (is_other slot) (pins_of ss vs)) (is-other s slot other))
 
 rotated-first : (n x : ℕ) (xs : List ℕ) → n ≤ length xs → take n ((take n xs ++ x ∷ []) ++ drop n xs) ≡ take n xs
 rotated-first n x xs le =
@@ -97,42 +106,52 @@ pub rotated : (a k n : ℕ) (xs : List ℕ) → n ≡ a + k → a + k < length x
 rotated a k n [] e less = absurd (omega (arith, less))
 rotated zero k n (x ∷ xs) e less =
     let same : k ≡ n = omega (arith, e) in
-    subst (λ j. take n ((take j xs ++ x ∷ []) ++ drop j xs) ≡ take n xs) (sym same) (rotated-first n x xs (omega (arith, e, less)))
+    subst (λ j. take n ((take j xs ++ x ∷ []) ++ drop j xs) ≡ take n xs) (sym same)
+    (rotated-first n x xs (omega (arith, e, less)))
 rotated (suc a) k zero (x ∷ xs) e less = absurd (omega (arith, e))
 rotated (suc a) k (suc n) (x ∷ xs) e less = ap (λ l. x ∷ l) (rotated a k n xs (omega (arith, e)) (omega (arith, less)))
 
 -- The first n of two arrays, as a registry holds them.
-pub held-count : (n : ℕ) (ss vs : List ℕ) → n ≤ length ss → length vs ≡ length ss → length (pins_of (take n ss) (take n vs)) ≡ n
+pub held-count : (n : ℕ) (ss vs : List ℕ) → n ≤ length ss → length vs ≡ length ss
+    → length (pins_of (take n ss) (take n vs)) ≡ n
 held-count n ss vs le e =
     let s : length (take n ss) ≡ n = length-take-le n ss le in
     let v : length (take n vs) ≡ n = length-take-le n vs (omega (arith, le, e)) in
     pins-length (take n ss) (take n vs) (v ∙ sym s) ∙ s
 
-pub held-versions : (n : ℕ) (ss vs : List ℕ) → n ≤ length ss → length vs ≡ length ss → map (λ (p : Pin). p.version) (pins_of (take n ss) (take n vs)) ≡ take n vs
+pub held-versions : (n : ℕ) (ss vs : List ℕ) → n ≤ length ss → length vs ≡ length ss
+    → map (λ (p : Pin). p.version) (pins_of (take n ss) (take n vs)) ≡ take n vs
 held-versions n ss vs le e =
     let s : length (take n ss) ≡ n = length-take-le n ss le in
     let v : length (take n vs) ≡ n = length-take-le n vs (omega (arith, le, e)) in
     pins-versions (take n ss) (take n vs) (v ∙ sym s)
 
 pub held-pushed : (n v : ℕ) (ss vs : List ℕ) → n < length ss → length vs ≡ length ss
-    → pins_of (take (n + 1) ss) (take (n + 1) (slice_set vs n v)) ≡ pins_of (take n ss) (take n vs) ++ record { slot = get_or ss n 0; version = v } ∷ []
+    → pins_of (take (n + 1) ss) (take (n + 1) (slice_set vs n v)) ≡ pins_of (take n ss) (take n vs)
+    ++ record { slot = get_or ss n 0; version = v } ∷ []
 held-pushed n v ss vs less e =
     let s : length (take n ss) ≡ n = length-take-le n ss (omega (arith, less)) in
     let w : length (take n vs) ≡ n = length-take-le n vs (omega (arith, less, e)) in
     let slots : take (n + 1) ss ≡ take n ss ++ get_or ss n 0 ∷ [] = take_more ss n 0 less in
-    let versions : take (n + 1) (slice_set vs n v) ≡ take n vs ++ v ∷ [] = take_more_set vs n v (omega (arith, less, e)) in
+    let versions : take (n + 1) (slice_set vs n v) ≡ take n vs ++ v ∷ [] = take_more_set vs n v (omega (arith, less, e))
+    in
     ap₂ pins_of slots versions ∙ pins-pushed (take n ss) (take n vs) (get_or ss n 0) v (w ∙ sym s)
 
-pub held-free : (n : ℕ) (ss vs : List ℕ) → AllPairs (λ s t. s ≢ t) ss → n < length ss → IsFree (get_or ss n 0) (pins_of (take n ss) (take n vs))
+pub held-free : (n : ℕ) (ss vs : List ℕ) → AllPairs (λ s t. s ≢ t) ss → n < length ss
+    → IsFree (get_or ss n 0) (pins_of (take n ss) (take n vs))
 held-free n ss vs apart less =
     pins-free (get_or ss n 0) (take n ss) (take n vs)
-    (misses (get_or ss n 0) (take n ss) (λ k d within. early k d (omega (arith, within, length-take-le n ss (omega (arith, less))))))
+    (misses (get_or ss n 0) (take n ss) (λ k d within. early k d
+    (omega (arith, within, length-take-le n ss (omega (arith, less))))))
   where
     early : (k d : ℕ) → k < n → get_or (take n ss) k d ≢ get_or ss n 0
-    early k d before same = apart k n 0 before less (sym (get_or_default_zero ss k d (omega (arith, before, less))) ∙ (sym (get_or-take n ss k d before) ∙ same))
+    early k d before same = apart k n 0 before less (sym (get_or_default_zero ss k d (omega (arith, before, less)))
+        ∙ (sym (get_or-take n ss k d before) ∙ same))
 
-pub held-removed : (a k n slot : ℕ) (ss vs : List ℕ) → AllPairs (λ s t. s ≢ t) ss → length vs ≡ length ss → n ≡ a + k → a + k < length ss → slice_index ss a ≡ slot
-    → pins_of (remove (take (suc n) ss) a) (remove (take (suc n) vs) a) ≡ filter (is_other slot) (pins_of (take (suc n) ss) (take (suc n) vs))
+pub held-removed : (a k n slot : ℕ) (ss vs : List ℕ) → AllPairs (λ s t. s ≢ t) ss → length vs ≡ length ss → n ≡ a + k
+    → a + k < length ss → slice_index ss a ≡ slot
+    → pins_of (remove (take (suc n) ss) a) (remove (take (suc n) vs) a) ≡ filter (is_other slot)
+    (pins_of (take (suc n) ss) (take (suc n) vs))
 held-removed a k n slot ss vs apart e same less at =
     let s : length (take (suc n) ss) ≡ suc n = length-take-le (suc n) ss (omega (arith, same, less)) in
     let v : length (take (suc n) vs) ≡ suc n = length-take-le (suc n) vs (omega (arith, same, less, e)) in
@@ -150,16 +169,23 @@ pub slot-held : (p : Pin) (ss vs : List ℕ) → Contains (pins_of ss vs) p → 
 slot-held p [] vs c = absurd (omega (arith, c.1))
 slot-held p (s ∷ ss) [] c = absurd (omega (arith, c.1))
 slot-held p (s ∷ ss) (v ∷ vs) (zero, less, e) = (0, omega arith, ap (λ (q : Pin). q.slot) e)
-slot-held p (s ∷ ss) (v ∷ vs) (suc k, less, e) = let rest = slot-held p ss vs (k, omega (arith, less), e) in (suc rest.0, omega (arith, rest.1), rest.2)
+slot-held p (s ∷ ss) (v ∷ vs) (suc k, less, e) = let rest = slot-held p ss vs (k, omega (arith, less), e)
+    in (suc rest.0, omega (arith, rest.1), rest.2)
 
 abbrev pub Leaves : ℕ → ℕ → ℕ → ℕ → ℕ → List ℕ → List ℕ → Type 0
-Leaves a w m held slot ss vs = pins_of (take m (turned a w ss)) (take m (turned a w vs)) ≡ filter (is_other slot) (pins_of (take held ss) (take held vs))
+Leaves a w m held slot ss vs = pins_of (take m (turned a w ss)) (take m (turned a w vs))
+    ≡ filter (is_other slot) (pins_of (take held ss) (take held vs))
 
-leaves : (a k n slot : ℕ) (ss vs : List ℕ) → AllPairs (λ s t. s ≢ t) ss → length vs ≡ length ss → n ≡ a + k → a + k < length ss → slice_index ss a ≡ slot → Leaves a (suc k) n (suc n) slot ss vs
+leaves : (a k n slot : ℕ) (ss vs : List ℕ) → AllPairs (λ s t. s ≢ t) ss → length vs ≡ length ss → n ≡ a + k
+    → a + k < length ss → slice_index ss a ≡ slot → Leaves a (suc k) n (suc n) slot ss vs
 leaves a k n slot ss vs apart e same less at =
-    ap₂ pins_of (rotated a k n ss same less) (rotated a k n vs same (omega (arith, e, less))) ∙ held-removed a k n slot ss vs apart e same less at
+    ap₂ pins_of (rotated a k n ss same less) (rotated a k n vs same (omega (arith, e, less)))
+    ∙ held-removed a k n slot ss vs apart e same less at
 
-pub held-turned : (a k n w m held slot : ℕ) (ss vs : List ℕ) → AllPairs (λ s t. s ≢ t) ss → length vs ≡ length ss → n ≡ a + k → a + k < length ss → slice_index ss a ≡ slot
+pub held-turned : (a k n w m held slot : ℕ) (ss vs : List ℕ) → AllPairs (λ s t. s ≢ t) ss → length vs ≡ length ss
+    → n ≡ a + k → a + k < length ss → slice_index ss a ≡ slot
     → w ≡ suc k → m ≡ n → held ≡ suc n → Leaves a w m held slot ss vs
 held-turned a k n w m held slot ss vs apart e same less at p q r =
-    subst (λ w. Leaves a w m held slot ss vs) (sym p) (subst (λ m. Leaves a (suc k) m held slot ss vs) (sym q) (subst (λ h. Leaves a (suc k) n h slot ss vs) (sym r) (leaves a k n slot ss vs apart e same less at)))
+    subst (λ w. Leaves a w m held slot ss vs) (sym p)
+    (subst (λ m. Leaves a (suc k) m held slot ss vs) (sym q)
+    (subst (λ h. Leaves a (suc k) n h slot ss vs) (sym r) (leaves a k n slot ss vs apart e same less at)))

@@ -34,11 +34,14 @@ flips a b = grind arith
 pub slots-apart : (slots : List ℕ) → AreSlots slots → AllPairs (λ s t. s ≢ t) slots
 slots-apart slots all =
     AllPairs-from_IsDistinct Decides-eqb slots
-    (IsDistinct-IsPermutation (λ a b. a == b) flips (range_with_len 0 64) slots all (IsDistinct-from_AllPairs Decides-eqb (range_with_len 0 64) range-apart))
+    (IsDistinct-IsPermutation (λ a b. a == b) flips (range_with_len 0 64) slots all
+    (IsDistinct-from_AllPairs Decides-eqb (range_with_len 0 64) range-apart))
 
 -- an array that was filled with its places
 pub counted : (slots : List ℕ) → length slots ≡ 64 → ((k : ℕ) → k < 64 → get_or slots k 0 ≡ k) → AreSlots slots
-counted slots n filled = subst AreSlots (same_number_lists (range_with_len 0 64) slots (length-range_with_len 0 64 ∙ sym n) (λ k less. at k (omega (arith, less, length-range_with_len 0 64)))) (IsPermutation-refl (range_with_len 0 64))
+counted slots n filled = subst AreSlots (same_number_lists (range_with_len 0 64) slots (length-range_with_len 0 64
+    ∙ sym n) (λ k less. at k (omega (arith, less, length-range_with_len 0 64))))
+    (IsPermutation-refl (range_with_len 0 64))
   where
     at : (k : ℕ) → k < 64 → get_or (range_with_len 0 64) k 0 ≡ get_or slots k 0
     at k within = let e = get_or-range_with_len 0 64 k 0 within in let f = filled k within in omega (arith, e, f)

@@ -57,7 +57,8 @@ impl Registry {
 
     /// Pins a version, in some free slot. `None` exactly where 64 pins are held; then nothing changes.
     pub fn pin(&mut self, version: u32) -> Option<Pin>
-        ensures pinned { MatchOption result (self.new ≡ self.old) (λ p. (p.version ≡ version) × (self.new ≡ self.old ++ p ∷ [])) }
+        ensures pinned { MatchOption result (self.new ≡ self.old) (λ p. (p.version ≡ version)
+            × (self.new ≡ self.old ++ p ∷ [])) }
         ensures none { MatchOption result (length self.old ≡ MOST_PINS) (λ _. length self.old < MOST_PINS) }
         ensures free { MatchOption result Unit (λ p. (p.slot < MOST_PINS) × IsFree p.slot self.old) }
     {

@@ -1,3 +1,5 @@
+//! Pins and their order, worked by hand.
+
 use crate::{MOST_PINS, Registry};
 
 #[test]

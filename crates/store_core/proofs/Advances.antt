@@ -21,12 +21,15 @@ use Rattle.store_core.proofs.Commits.{Committing, Laws, commit-gives, done-stand
 use Rattle.store_core.proofs.OneCall.{one-call, serves}
 
 -- what a `?` returns is why
-pub why-result : {X : Type 0} (store : StoreTerm) (c : Change) (f : CommitFault) (r : Result X CommitFault) → IsErrAnd r (λ e. e ≡ f)
-    → ((s : State) → StandsFor store s → IsWhy s (change_of c) f) → IfErr r (λ e. (s : State) → StandsFor store s → IsWhy s (change_of c) e)
+pub why-result : {X : Type 0} (store : StoreTerm) (c : Change) (f : CommitFault) (r : Result X CommitFault)
+    → IsErrAnd r (λ e. e ≡ f)
+    → ((s : State) → StandsFor store s → IsWhy s (change_of c) f)
+    → IfErr r (λ e. (s : State) → StandsFor store s → IsWhy s (change_of c) e)
 why-result store c f (Ok x) is why = tt
 why-result store c f (Err e) is why = λ s h. subst (IsWhy s (change_of c)) (sym is) (why s h)
 
-refused-why : KeptIsRead → StatesStay → (store : StoreTerm) (s : State) (c : Change) (f : CommitFault) (o : Option Kept) → StandsFor store s → o ≡ latest store.version (chain_of store.chains (id_of (change_of c)))
+refused-why : KeptIsRead → StatesStay → (store : StoreTerm) (s : State) (c : Change) (f : CommitFault) (o : Option Kept)
+    → StandsFor store s → o ≡ latest store.version (chain_of store.chains (id_of (change_of c)))
     → IsRefusal f (refusal_by (option_map status_of o) c) → IsWhy s (change_of c) f
 refused-why read stay store s c fault.Known o h e r = now-is read stay store s c o h e ∙ r
 refused-why read stay store s c fault.Absent o h e r = now-is read stay store s c o h e ∙ r
@@ -36,49 +39,74 @@ refused-why read stay store s c (fault.DiskFault doubt) o h e r = absurd r
 refused-why read stay store s c fault.Worn o h e r = absurd r
 refused-why read stay store s c fault.NoMemory o h e r = tt
 
-pub why-refused : {X : Type 0} → KeptIsRead → StatesStay → (store : StoreTerm) (c : Change) (f : CommitFault) (o : Option Kept) (r : Result X CommitFault) → IsErrAnd r (λ e. e ≡ f)
-    → o ≡ latest store.version (chain_of store.chains (id_of (change_of c))) → IsRefusal f (refusal_by (option_map status_of o) c)
+pub why-refused : {X : Type 0} → KeptIsRead → StatesStay
+    → (store : StoreTerm) (c : Change) (f : CommitFault) (o : Option Kept) (r : Result X CommitFault)
+    → IsErrAnd r (λ e. e ≡ f)
+    → o ≡ latest store.version (chain_of store.chains (id_of (change_of c)))
+    → IsRefusal f (refusal_by (option_map status_of o) c)
     → IfErr r (λ e. (s : State) → StandsFor store s → IsWhy s (change_of c) e)
-why-refused read stay store c f o r is e refusal = why-result store c f r is (λ s h. refused-why read stay store s c f o h e refusal)
+why-refused read stay store c f o r is e refusal = why-result store c f r is
+    (λ s h. refused-why read stay store s c f o h e refusal)
 
-pub why-full : KeptIsRead → StatesStay → (store : StoreTerm) (s : State) (c : Change) (o : Option Kept) → StandsFor store s → o ≡ latest store.version (chain_of store.chains (id_of (change_of c)))
+pub why-full : KeptIsRead → StatesStay → (store : StoreTerm) (s : State) (c : Change) (o : Option Kept)
+    → StandsFor store s → o ≡ latest store.version (chain_of store.chains (id_of (change_of c)))
     → refusal_by (option_map status_of o) c ≡ None → store.limit ≤ store.version → IsWhy s (change_of c) fault.Full
-why-full read stay store s c o h e allowed full = (now-is read stay store s c o h e ∙ allowed, omega (arith, full, h.version, h.limit))
+why-full read stay store s c o h e allowed full = (
+  now-is read stay store s c o h e
+      ∙ allowed,
+  omega (arith, full, h.version, h.limit),
+)
 
 -- what is committed
-pub adds : KeptIsRead → Laws → (store new : StoreTerm) (s : State) (c : Change) (k : Kept) (o : Option Kept) → StandsFor store s → o ≡ latest store.version (chain_of store.chains (id_of (change_of c)))
-    → refusal_by (option_map status_of o) c ≡ None → Committing store new c k → MayAdd s (change_of c) × StandsFor new (committed s (change_of c))
-adds read laws store new s c k o h e allowed m =
-    ((commit-gives laws store new s c k h m (now-is read laws.states store s c o h e ∙ allowed)).1.0, done-stands read laws store new s c k o h e allowed m)
+pub adds : KeptIsRead → Laws → (store new : StoreTerm) (s : State) (c : Change) (k : Kept) (o : Option Kept)
+    → StandsFor store s → o ≡ latest store.version (chain_of store.chains (id_of (change_of c)))
+    → refusal_by (option_map status_of o) c ≡ None → Committing store new c k
+    → MayAdd s (change_of c) × StandsFor new (committed s (change_of c))
+adds read laws store new s c k o h e allowed m = (
+  (commit-gives laws store new s c k h m (now-is read laws.states store s c o h e ∙ allowed)).1.0,
+  done-stands read
+      laws store new s c k o h e allowed m,
+)
 
 -- both as answers of a service
-pub refused-row : (store : StoreTerm) (s : State) (c : Change) (f : CommitFault) → StandsFor store s → IsWhy s (change_of c) f → Calls Stretches (λ _. true) store store s (commit_calls c (Err f))
-refused-row store s c fault.Known h why = one-call store store s s 0 (event.Commit (change_of c)) reply.Known refl h (serves s h.serves, (why, refl)) h
-refused-row store s c fault.Absent h why = one-call store store s s 0 (event.Commit (change_of c)) reply.Absent refl h (serves s h.serves, (why, refl)) h
-refused-row store s c fault.Withdrawn h why = one-call store store s s 0 (event.Commit (change_of c)) reply.Withdrawn refl h (serves s h.serves, (why, refl)) h
-refused-row store s c fault.Full h why = one-call store store s s 0 (event.Commit (change_of c)) reply.Full refl h (serves s h.serves, (why.0, why.1, refl)) h
+pub refused-row : (store : StoreTerm) (s : State) (c : Change) (f : CommitFault) → StandsFor store s
+    → IsWhy s (change_of c) f → Calls Stretches (λ _. true) store store s (commit_calls c (Err f))
+refused-row store s c fault.Known h why = one-call store store s s 0 (event.Commit (change_of c)) reply.Known refl h
+    (serves s h.serves, (why, refl)) h
+refused-row store s c fault.Absent h why = one-call store store s s 0 (event.Commit (change_of c)) reply.Absent refl h
+    (serves s h.serves, (why, refl)) h
+refused-row store s c fault.Withdrawn h why = one-call store store s s 0
+    (event.Commit (change_of c)) reply.Withdrawn refl h (serves s h.serves, (why, refl)) h
+refused-row store s c fault.Full h why = one-call store store s s 0 (event.Commit (change_of c)) reply.Full refl h
+    (serves s h.serves, (why.0, why.1, refl)) h
 refused-row store s c (fault.DiskFault doubt) h why = absurd why
 refused-row store s c fault.Worn h why = absurd why
-refused-row store s c fault.NoMemory h why = one-call store store s s 0 (event.Commit (change_of c)) reply.NoMemory refl h (serves s h.serves, inl refl) h
+refused-row store s c fault.NoMemory h why = one-call store store s s 0
+    (event.Commit (change_of c)) reply.NoMemory refl h (serves s h.serves, inl refl) h
 
-pub refused-result : (store new : StoreTerm) (s : State) (c : Change) (f : CommitFault) (r : Result ℕ CommitFault) → IsErrAnd r (λ e. e ≡ f) → new ≡ store → StandsFor store s → IsWhy s (change_of c) f
+pub refused-result : (store new : StoreTerm) (s : State) (c : Change) (f : CommitFault) (r : Result ℕ CommitFault)
+    → IsErrAnd r (λ e. e ≡ f) → new ≡ store → StandsFor store s → IsWhy s (change_of c) f
     → Calls Stretches (λ _. true) store new s (commit_calls c r)
 refused-result store new s c f (Ok x) is same h why = absurd is
 refused-result store new s c f (Err e) is same h why =
-    subst (λ x. Calls Stretches (λ _. true) store x s (commit_calls c (Err e))) (sym same) (refused-row store s c e h (subst (IsWhy s (change_of c)) (sym is) why))
+    subst (λ x. Calls Stretches (λ _. true) store x s (commit_calls c (Err e))) (sym same)
+    (refused-row store s c e h (subst (IsWhy s (change_of c)) (sym is) why))
 
-pub committed-row : (store new : StoreTerm) (s : State) (c : Change) → StandsFor store s → MayAdd s (change_of c) × StandsFor new (committed s (change_of c))
+pub committed-row : (store new : StoreTerm) (s : State) (c : Change) → StandsFor store s
+    → MayAdd s (change_of c) × StandsFor new (committed s (change_of c))
     → Calls Stretches (λ _. true) store new s ((event.Commit (change_of c), reply.Committed new.version) ∷ [])
 committed-row store new s c h m =
     one-call store new s (committed s (change_of c)) 0 (event.Commit (change_of c)) (reply.Committed new.version) refl h
     (serves s h.serves, (m.0, omega (arith, m.1.version, length-append s.history (change_of c ∷ [])), refl)) m.1
 
 -- a store in memory is never worn
-pub not-worn : {X : Type 0} (f : CommitFault) (r : Result X CommitFault) → IsErrAnd r (λ e. e ≡ f) → is_worn_out {X = X} (Err f) ≡ false → is_worn_out r ≡ false
+pub not-worn : {X : Type 0} (f : CommitFault) (r : Result X CommitFault) → IsErrAnd r (λ e. e ≡ f)
+    → is_worn_out {X = X} (Err f) ≡ false → is_worn_out r ≡ false
 not-worn f (Ok x) is not = refl
 not-worn {X} f (Err e) is not = ap (λ (g : CommitFault). is_worn_out {X = X} (Err g)) is ∙ not
 
-pub refused-not-worn : {X : Type 0} (f : CommitFault) (refusal : Option Reply) (r : Result X CommitFault) → IsErrAnd r (λ e. e ≡ f) → IsRefusal f refusal → is_worn_out r ≡ false
+pub refused-not-worn : {X : Type 0} (f : CommitFault) (refusal : Option Reply) (r : Result X CommitFault)
+    → IsErrAnd r (λ e. e ≡ f) → IsRefusal f refusal → is_worn_out r ≡ false
 refused-not-worn fault.Known refusal r is h = not-worn fault.Known r is refl
 refused-not-worn fault.Absent refusal r is h = not-worn fault.Absent r is refl
 refused-not-worn fault.Withdrawn refusal r is h = not-worn fault.Withdrawn r is refl
@@ -87,5 +115,6 @@ refused-not-worn (fault.DiskFault doubt) refusal r is h = absurd h
 refused-not-worn fault.Worn refusal r is h = absurd h
 refused-not-worn fault.NoMemory refusal r is h = absurd h
 
-pub worn-result : {X : Type 0} (f : CommitFault) (r : Result X CommitFault) → IsErrAnd r (λ e. e ≡ f) → is_worn_out {X = X} (Err f) ≡ false → WornAs ⊥ ⊥ (is_worn_out r)
+pub worn-result : {X : Type 0} (f : CommitFault) (r : Result X CommitFault) → IsErrAnd r (λ e. e ≡ f)
+    → is_worn_out {X = X} (Err f) ≡ false → WornAs ⊥ ⊥ (is_worn_out r)
 worn-result f r is not = ((λ never. absurd never), (λ worn. true≢false (sym worn ∙ not-worn f r is not)))

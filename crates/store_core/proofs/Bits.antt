@@ -41,7 +41,8 @@ unfolding first-bit
 has-first [] h = h
 has-first (b ∷ bs) h = h
 
-join : (w : Bool) (ws print : List Bool) → (w ≡ true → first-bit print ≡ true) → AreIn ws (other-bits print) → AreIn (w ∷ ws) print
+join : (w : Bool) (ws print : List Bool) → (w ≡ true → first-bit print ≡ true) → AreIn ws (other-bits print)
+    → AreIn (w ∷ ws) print
 join w ws print f i zero h = has-first print (f h)
 join w ws print f i (suc k) h = all-of print k (i k h)
 
@@ -53,12 +54,14 @@ decide (w ∷ ws) print =
       | inr n ↦ inr (λ h. n (λ bit b. others print bit (h (suc bit) b)))
     ]
   where
-    go : (w b : Bool) → first-bit print ≡ b → AreIn ws (other-bits print) → AreIn (w ∷ ws) print ⊎ ¬ AreIn (w ∷ ws) print
+    go : (w b : Bool) → first-bit print ≡ b → AreIn ws (other-bits print)
+        → AreIn (w ∷ ws) print ⊎ ¬ AreIn (w ∷ ws) print
     go false b e i = inl (join false ws print (λ q. absurd (true≢false (sym q))) i)
     go true true e i = inl (join true ws print (λ _. e) i)
     go true false e i = inr (λ h. true≢false (sym (first print (h 0 refl)) ∙ e))
 
-pub decide-record : OneStructure → (want : List Bool) (r : RecordTerm) → IsRecord r → IsScreened want r.format r.text ⊎ ¬ IsScreened want r.format r.text
+pub decide-record : OneStructure → (want : List Bool) (r : RecordTerm) → IsRecord r
+    → IsScreened want r.format r.text ⊎ ¬ IsScreened want r.format r.text
 decide-record one want r is =
     let both = screened one r.format r.text r.mol r.print want is.structure is.print in
     elim (decide want r.print) [

@@ -46,25 +46,30 @@ made_by version (told.Register id format text) = Live version format text
 made_by version (told.Revise id format text) = Live version format text
 made_by version (told.Withdraw id) = Withdrawn version
 
-inserts : (version : ℕ) (c : Told) (states : Snapshot) → after_change version c states ≡ insert states (id_of c) (made_by version c)
+inserts : (version : ℕ) (c : Told) (states : Snapshot) → after_change version c states
+    ≡ insert states (id_of c) (made_by version c)
 inserts version (told.Register id format text) states = refl
 inserts version (told.Revise id format text) states = refl
 inserts version (told.Withdraw id) states = refl
 
-shared-status : (version : ℕ) (r : Shared) (left : Option Shared) → IsShared r left → status_in version left ≡ Live version (arc_value r).format (arc_value r).text
+shared-status : (version : ℕ) (r : Shared) (left : Option Shared) → IsShared r left
+    → status_in version left ≡ Live version (arc_value r).format (arc_value r).text
 shared-status version r None h = absurd h
 shared-status version r (Some q) h = ap (λ x. Live version x.format x.text) h
 
-left-status : (version : ℕ) (c : Change) (left : Option Shared) → IsLeft c left → status_in version left ≡ made_by version (change_of c)
+left-status : (version : ℕ) (c : Change) (left : Option Shared) → IsLeft c left
+    → status_in version left ≡ made_by version (change_of c)
 left-status version (Register r) left h = shared-status version r left h
 left-status version (Revise r) left h = shared-status version r left h
 left-status version (Withdraw id) left h = ap (status_in version) h
 
-shared-entry : (r : Shared) (left : Option Shared) → IsShared r left → IsRecord (arc_value r) → IsEntryOf (arc_value r).id left
+shared-entry : (r : Shared) (left : Option Shared) → IsShared r left → IsRecord (arc_value r)
+    → IsEntryOf (arc_value r).id left
 shared-entry r None h sound = absurd h
 shared-entry r (Some q) h sound = (subst IsRecord (sym h) sound, ap (λ x. x.id) h)
 
-left-entry : (c : Change) (left : Option Shared) → IsLeft c left → IsSoundChange c → IsEntryOf (id_of (change_of c)) left
+left-entry : (c : Change) (left : Option Shared) → IsLeft c left → IsSoundChange c
+    → IsEntryOf (id_of (change_of c)) left
 left-entry (Register r) left h sound = shared-entry r left h sound
 left-entry (Revise r) left h sound = shared-entry r left h sound
 left-entry (Withdraw id) left h sound = subst (IsEntryOf id) (sym h) tt
@@ -74,47 +79,67 @@ some-state : (o : Option Status) → unless_live o ≡ None → (status : Status
 some-state None e = absurd (no-some e)
 some-state (Some status) e = (status, refl)
 
-pub valid-change : StatesStay → (s : State) (c : Change) → IsHistory s.history → IsSoundChange c → IsAllowed (now s) (change_of c) → IsValid (change_of c)
+pub valid-change : StatesStay → (s : State) (c : Change) → IsHistory s.history → IsSoundChange c
+    → IsAllowed (now s) (change_of c) → IsValid (change_of c)
 valid-change stay s (Register r) good sound allowed = (sound.id, ((arc_value r).mol, sound.structure, sound.molecule))
 valid-change stay s (Revise r) good sound allowed = (sound.id, ((arc_value r).mol, sound.structure, sound.molecule))
-valid-change stay s (Withdraw id) good sound allowed = let o = some-state (get (now s) id) allowed in (stay s.history (head s.history) id o.0 good o.1).0
+valid-change stay s (Withdraw id) good sound allowed = let o = some-state (get (now s) id) allowed
+    in (stay s.history (head s.history) id o.0 good o.1).0
 
 -- counts, by what the identifier was
-counts-after : (version : ℕ) (c : Change) (o : Option Status) (live withdrawn live' withdrawn' a a' b b' : ℕ) → refusal_by o c ≡ None → Counts c live withdrawn live' withdrawn' → live ≡ a → withdrawn ≡ b
+counts-after : (version : ℕ) (c : Change) (o : Option Status) (live withdrawn live' withdrawn' a a' b b' : ℕ)
+    → refusal_by o c ≡ None → Counts c live withdrawn live' withdrawn' → live ≡ a → withdrawn ≡ b
     → a' + one_in is_live o ≡ a + one_if (is_live (made_by version (change_of c)))
     → b' + one_in (λ x. not (is_live x)) o ≡ b + one_if (not (is_live (made_by version (change_of c))))
     → (live' ≡ a') × (withdrawn' ≡ b')
-counts-after version (Register r) None live withdrawn live' withdrawn' a a' b b' allowed counts e f g h = (omega (arith, counts.0, e, g), omega (arith, counts.1, f, h))
-counts-after version (Register r) (Some status) live withdrawn live' withdrawn' a a' b b' allowed counts e f g h = absurd (no-some allowed)
-counts-after version (Revise r) None live withdrawn live' withdrawn' a a' b b' allowed counts e f g h = absurd (no-some allowed)
-counts-after version (Revise r) (Some (Live v format text)) live withdrawn live' withdrawn' a a' b b' allowed counts e f g h = (omega (arith, counts.0, e, g), omega (arith, counts.1, f, h))
-counts-after version (Revise r) (Some (Withdrawn v)) live withdrawn live' withdrawn' a a' b b' allowed counts e f g h = absurd (no-some allowed)
-counts-after version (Withdraw id) None live withdrawn live' withdrawn' a a' b b' allowed counts e f g h = absurd (no-some allowed)
-counts-after version (Withdraw id) (Some (Live v format text)) live withdrawn live' withdrawn' a a' b b' allowed counts e f g h = (omega (arith, counts.0, e, g), omega (arith, counts.1, f, h))
-counts-after version (Withdraw id) (Some (Withdrawn v)) live withdrawn live' withdrawn' a a' b b' allowed counts e f g h = absurd (no-some allowed)
+counts-after version (Register r) None live withdrawn live' withdrawn' a a' b b' allowed counts e f g
+    h = (omega (arith, counts.0, e, g), omega (arith, counts.1, f, h))
+counts-after version (Register r) (Some status) live withdrawn live' withdrawn' a a' b b' allowed counts e f g
+    h = absurd (no-some allowed)
+counts-after version (Revise r) None live withdrawn live' withdrawn' a a' b b' allowed counts e f g h = absurd
+    (no-some allowed)
+counts-after version (Revise r) (Some (Live v format text)) live withdrawn live' withdrawn' a a' b b' allowed counts e f
+    g h = (omega (arith, counts.0, e, g), omega (arith, counts.1, f, h))
+counts-after version (Revise r) (Some (Withdrawn v)) live withdrawn live' withdrawn' a a' b b' allowed counts e f g
+    h = absurd (no-some allowed)
+counts-after version (Withdraw id) None live withdrawn live' withdrawn' a a' b b' allowed counts e f g h = absurd
+    (no-some allowed)
+counts-after version (Withdraw id) (Some (Live v format text)) live withdrawn live' withdrawn' a a' b b' allowed counts
+    e f g h = (omega (arith, counts.0, e, g), omega (arith, counts.1, f, h))
+counts-after version (Withdraw id) (Some (Withdrawn v)) live withdrawn live' withdrawn' a a' b b' allowed counts e f g
+    h = absurd (no-some allowed)
 
 -- they stay as few as the commits
-counts-few : (c : Change) (live withdrawn live' withdrawn' version : ℕ) → Counts c live withdrawn live' withdrawn' → live + withdrawn ≤ version → live' + withdrawn' ≤ version + 1
+counts-few : (c : Change) (live withdrawn live' withdrawn' version : ℕ) → Counts c live withdrawn live' withdrawn'
+    → live + withdrawn ≤ version → live' + withdrawn' ≤ version + 1
 counts-few (Register r) live withdrawn live' withdrawn' version counts le = omega (arith, counts.0, counts.1, le)
 counts-few (Revise r) live withdrawn live' withdrawn' version counts le = omega (arith, counts.0, counts.1, le)
 counts-few (Withdraw id) live withdrawn live' withdrawn' version counts le = omega (arith, counts.0, counts.1, le)
 
 -- a change is refused by what its identifier is
-pub refusal-is : (states : Snapshot) (c : Change) → refusal states (change_of c) ≡ refusal_by (get states (id_of (change_of c))) c
+pub refusal-is : (states : Snapshot) (c : Change) → refusal states (change_of c)
+    ≡ refusal_by (get states (id_of (change_of c))) c
 refusal-is states (Register r) = refl
 refusal-is states (Revise r) = refl
 refusal-is states (Withdraw id) = refl
 
-ascending-pushed : (ks : List Kept) (k : Kept) → AreAscending ks → ((l : Kept) → Contains ks l → l.version < k.version) → AreAscending (ks ++ k ∷ [])
+ascending-pushed : (ks : List Kept) (k : Kept) → AreAscending ks → ((l : Kept) → Contains ks l → l.version < k.version)
+    → AreAscending (ks ++ k ∷ [])
 ascending-pushed [] k up late = ((λ l c. absurd (omega (arith, c.1))), tt)
 ascending-pushed (x ∷ xs) k up late = (
-  (λ l c. elim (contains-last k l xs c) [ inl d ↦ up.0 l d | inr e ↦ subst (λ (y : Kept). x.version < y.version) e (late x (contains-here x x xs refl)) ]),
+  (λ l c. elim (contains-last k l xs c) [
+    | inl d ↦ up.0 l d
+    | inr e ↦ subst (λ (y : Kept). x.version < y.version) e
+        (late x (contains-here x x xs refl))
+  ]),
   ascending-pushed xs k up.1 (λ l c. late l (contains-there x l xs c)),
 )
 
 -- what a chain held it holds after the commit
 module _ (snapshots : SnapshotsStay) (s : State) (c : Told) where
-  then-state : (q : ℕ) (k : Kept) → k.version ≤ head s.history → get (snapshot s.history k.version) q ≡ Some (status_of k) → get (snapshot (s.history ++ c ∷ []) k.version) q ≡ Some (status_of k)
+  then-state : (q : ℕ) (k : Kept) → k.version ≤ head s.history
+      → get (snapshot s.history k.version) q ≡ Some (status_of k)
+      → get (snapshot (s.history ++ c ∷ []) k.version) q ≡ Some (status_of k)
   then-state q k le e = ap (λ m. get m q) (snapshots s.history (c ∷ []) k.version le) ∙ e
 
   later-head : head (s.history ++ c ∷ []) ≡ head s.history + 1
@@ -130,22 +155,26 @@ module _ (snapshots : SnapshotsStay) (s : State) (c : Told) where
     only = λ k d. kept-still q k.version (h.only k d);
     states = λ k d. then-state q k (h.late k d) (h.states k d);
     records = h.records;
-    all = λ version k. elim (contains-last (record { id = id_of c; version = head s.history + 1 }) (record { id = q; version = version }) s.kept k) [
-      | inl old ↦ h.all version old
-      | inr new ↦ absurd (other (ap (λ (x : Entry). x.id) new))
-    ];
+    all = λ version k. elim (contains-last (record { id = id_of c; version = head s.history + 1 })
+        (record { id = q; version = version }) s.kept k) [
+          | inl old ↦ h.all version old
+          | inr new ↦ absurd (other (ap (λ (x : Entry). x.id) new))
+        ];
   }
 
-  module _ (change : CommitsChange) (ks : List Kept) (k : Kept) (at : k.version ≡ head s.history + 1) (is : status_of k ≡ made_by (head s.history + 1) c) (entry : IsEntryOf (id_of c) k.entry) where
+  module _ (change : CommitsChange) (ks : List Kept) (k : Kept) (at : k.version ≡ head s.history + 1)
+      (is : status_of k ≡ made_by (head s.history + 1) c) (entry : IsEntryOf (id_of c) k.entry) where
     new-state : get (snapshot (s.history ++ c ∷ []) k.version) (id_of c) ≡ Some (status_of k)
     new-state =
         ap (λ v. get (snapshot (s.history ++ c ∷ []) v) (id_of c)) at
         ∙ (ap (λ m. get m (id_of c)) (change s.history c ∙ inserts (head s.history + 1) c (now s))
         ∙ (get-insert nat_cmp_total (now s) (id_of c) (made_by (head s.history + 1) c) (id_of c)
-        ∙ (cond-true (eq_by_cmp nat_cmp (id_of c) (id_of c)) (Some (made_by (head s.history + 1) c)) (get (now s) (id_of c)) (tied (id_of c)) ∙ ap (λ x. Some x) (sym is))))
+        ∙ (cond-true (eq_by_cmp nat_cmp (id_of c) (id_of c)) (Some (made_by (head s.history + 1) c))
+        (get (now s) (id_of c)) (tied (id_of c)) ∙ ap (λ x. Some x) (sym is))))
 
     kept-new : IsKept (committed s c) (id_of c) k.version
-    kept-new = subst (IsKept (committed s c) (id_of c)) (sym at) (Contains-push s.kept (record { id = id_of c; version = head s.history + 1 }))
+    kept-new = subst (IsKept (committed s c) (id_of c)) (sym at)
+        (Contains-push s.kept (record { id = id_of c; version = head s.history + 1 }))
 
     each : (P : Kept → Type 0) → ((l : Kept) → Contains ks l → P l) → P k → (l : Kept) → Contains (ks ++ k ∷ []) l → P l
     each P old new l d = elim (contains-last k l ks d) [ inl e ↦ old l e | inr e ↦ subst P e new ]
@@ -153,14 +182,18 @@ module _ (snapshots : SnapshotsStay) (s : State) (c : Told) where
     new-chain : IsChain s (id_of c) ks → IsChain (committed s c) (id_of c) (ks ++ k ∷ [])
     new-chain h = record {
       ascending = ascending-pushed ks k h.ascending (λ l d. omega (arith, h.late l d, at));
-      late = each (λ l. l.version ≤ head (s.history ++ c ∷ [])) (λ l d. omega (arith, h.late l d, later-head)) (omega (arith, at, later-head));
-      only = each (λ l. IsKept (committed s c) (id_of c) l.version) (λ l d. kept-still (id_of c) l.version (h.only l d)) kept-new;
-      states = each (λ l. get (snapshot (s.history ++ c ∷ []) l.version) (id_of c) ≡ Some (status_of l)) (λ l d. then-state (id_of c) l (h.late l d) (h.states l d)) new-state;
+      late = each (λ l. l.version ≤ head (s.history ++ c ∷ [])) (λ l d. omega (arith, h.late l d, later-head))
+          (omega (arith, at, later-head));
+      only = each (λ l. IsKept (committed s c) (id_of c) l.version)
+          (λ l d. kept-still (id_of c) l.version (h.only l d)) kept-new;
+      states = each (λ l. get (snapshot (s.history ++ c ∷ []) l.version) (id_of c) ≡ Some (status_of l))
+          (λ l d. then-state (id_of c) l (h.late l d) (h.states l d)) new-state;
       records = each (λ l. IsEntryOf (id_of c) l.entry) h.records entry;
-      all = λ version d. elim (contains-last (record { id = id_of c; version = head s.history + 1 }) (record { id = id_of c; version = version }) s.kept d) [
-        | inl old ↦ let l = h.all version old in (l.0, Contains-append_left ks _ _ l.1, l.2)
-        | inr new ↦ (k, Contains-push ks k, at ∙ ap (λ (x : Entry). x.version) new)
-      ];
+      all = λ version d. elim (contains-last (record { id = id_of c; version = head s.history + 1 })
+          (record { id = id_of c; version = version }) s.kept d) [
+            | inl old ↦ let l = h.all version old in (l.0, Contains-append_left ks _ _ l.1, l.2)
+            | inr new ↦ (k, Contains-push ks k, at ∙ ap (λ (x : Entry). x.version) new)
+          ];
     }
 
 -- the chains after it, by identifier
@@ -188,26 +221,44 @@ pub record Laws : Type 0 where
   pub snapshots : SnapshotsStay
   pub states : StatesStay
 
-pub commit-gives : Laws → (store new : StoreTerm) (s : State) (c : Change) (k : Kept) → StandsFor store s → Committing store new c k → IsAllowed (now s) (change_of c)
+pub commit-gives : Laws → (store new : StoreTerm) (s : State) (c : Change) (k : Kept) → StandsFor store s
+    → Committing store new c k → IsAllowed (now s) (change_of c)
     → Gives s 0 (event.Commit (change_of c)) (reply.Committed new.version) (committed s (change_of c))
-commit-gives laws store new s c k h m allowed =
-    (serves s h.serves, ((valid-change laws.states s c h.sound.history m.sound allowed, allowed, omega (arith, m.room, h.version, h.limit)), omega (arith, m.version, h.version), refl))
+commit-gives laws store new s c k h m allowed = (
+  serves s h.serves,
+  (
+    (
+      valid-change laws.states s c h.sound.history m.sound allowed,
+      allowed,
+      omega
+          (arith, m.room, h.version, h.limit),
+    ),
+    omega (arith, m.version, h.version),
+    refl,
+  ),
+)
 
-pub commit-stands : Laws → (store new : StoreTerm) (s : State) (c : Change) (k : Kept) → StandsFor store s → Committing store new c k → IsAllowed (now s) (change_of c)
+pub commit-stands : Laws → (store new : StoreTerm) (s : State) (c : Change) (k : Kept) → StandsFor store s
+    → Committing store new c k → IsAllowed (now s) (change_of c)
     → StandsFor new (committed s (change_of c))
 commit-stands laws store new s c k h m allowed =
     let told = change_of c in
     let t : State = committed s told in
     let at : k.version ≡ head s.history + 1 = omega (arith, m.at, h.version) in
-    let is : status_of k ≡ made_by (head s.history + 1) told = left-status k.version c k.entry m.left ∙ ap (λ v. made_by v told) at in
+    let is : status_of k ≡ made_by (head s.history + 1) told = left-status k.version c k.entry m.left
+    ∙ ap (λ v. made_by v told) at in
     let state : now t ≡ insert (now s) (id_of told) (made_by (head s.history + 1) told) =
-    ap (λ v. snapshot (s.history ++ told ∷ []) v) (length-append s.history (told ∷ [])) ∙ (laws.commits s.history told ∙ inserts (head s.history + 1) told (now s)) in
+    ap (λ v. snapshot (s.history ++ told ∷ []) v) (length-append s.history (told ∷ []))
+    ∙ (laws.commits s.history told ∙ inserts (head s.history + 1) told (now s)) in
     let live = ap (λ (n : Snapshot). count_by (λ e. is_live e.1) (entries n)) state in
     let gone = ap (λ (n : Snapshot). count_by (λ e. not (is_live e.1)) (entries n)) state in
-    let counted = counts-after (head s.history + 1) c (get (now s) (id_of told)) store.live store.withdrawn new.live new.withdrawn _ _ _ _ (sym (refusal-is (now s) c) ∙ allowed) m.counts h.live h.withdrawn
-    (count-insert is_live (now s) (id_of told) (made_by (head s.history + 1) told)) (count-insert (λ x. not (is_live x)) (now s) (id_of told) (made_by (head s.history + 1) told)) in
+    let counted = counts-after (head s.history + 1) c (get (now s) (id_of told)) store.live store.withdrawn new.live
+    new.withdrawn _ _ _ _ (sym (refusal-is (now s) c) ∙ allowed) m.counts h.live h.withdrawn
+    (count-insert is_live (now s) (id_of told) (made_by (head s.history + 1) told))
+    (count-insert (λ x. not (is_live x)) (now s) (id_of told) (made_by (head s.history + 1) told)) in
     record {
-      sound = sound-after laws.sound s t 0 (event.Commit told) (reply.Committed new.version) (commit-gives laws store new s c k h m allowed) h.sound;
+      sound = sound-after laws.sound s t 0 (event.Commit told) (reply.Committed new.version)
+          (commit-gives laws store new s c k h m allowed) h.sound;
       serves = h.serves;
       doubt = refl;
       version = omega (arith, m.version, h.version, length-append s.history (told ∷ []));
@@ -215,51 +266,70 @@ commit-stands laws store new s c k h m allowed =
       most = omega (arith, m.limit, h.most);
       within = omega (arith, m.version, m.room, h.limit, h.most);
       pins = h.pins ∙ sym m.pins;
-      kept = omega (arith, m.kept, h.kept, length-append s.kept (record { id = id_of told; version = head s.history + 1 } ∷ []));
+      kept = omega (
+        arith,
+        m.kept,
+        h.kept,
+        length-append s.kept
+            (record { id = id_of told; version = head s.history + 1 } ∷ []),
+      );
       few = omega (arith, m.kept, m.version, h.few);
       sum = omega (arith, m.sum, h.sum, m.kept);
       live = counted.0 ∙ sym live;
       withdrawn = counted.1 ∙ sym gone;
-      ids = let few = counts-few c store.live store.withdrawn new.live new.withdrawn store.version m.counts h.ids in omega (arith, few, m.version);
+      ids = let few = counts-few c store.live store.withdrawn new.live new.withdrawn store.version m.counts h.ids
+          in omega (arith, few, m.version);
       ordered = m.ordered;
       chains = λ q. elim (q == id_of told) as (λ b. (q == id_of told) ≡ b → IsChain t q (chain_of new.chains q)) [
         | true ↦ λ e.
             subst (IsChain t q) (sym (m.chains q ∙ cond-true (q == id_of told) _ _ e))
             (subst (λ i. IsChain t i (chain_of store.chains (id_of told) ++ k ∷ [])) (sym (eqb-true q (id_of told) e))
-            (new-chain laws.snapshots s told laws.commits (chain_of store.chains (id_of told)) k at is (left-entry c k.entry m.left m.sound) (h.chains (id_of told))))
+            (new-chain laws.snapshots s told laws.commits (chain_of store.chains (id_of told)) k at is
+            (left-entry c k.entry m.left m.sound) (h.chains (id_of told))))
         | false ↦ λ e.
             subst (IsChain t q) (sym (m.chains q ∙ cond-false (q == id_of told) _ _ e))
-            (old-chain laws.snapshots s told q (chain_of store.chains q) (λ same. true≢false (sym (eq-eqb q (id_of told) (sym same)) ∙ e)) (h.chains q))
+            (old-chain laws.snapshots s told q (chain_of store.chains q)
+            (λ same. true≢false (sym (eq-eqb q (id_of told) (sym same)) ∙ e)) (h.chains q))
       ] refl;
     }
 
 -- why a change is refused, as the store finds it
-pub now-is : KeptIsRead → StatesStay → (store : StoreTerm) (s : State) (c : Change) (o : Option Kept) → StandsFor store s → o ≡ latest store.version (chain_of store.chains (id_of (change_of c)))
+pub now-is : KeptIsRead → StatesStay → (store : StoreTerm) (s : State) (c : Change) (o : Option Kept)
+    → StandsFor store s → o ≡ latest store.version (chain_of store.chains (id_of (change_of c)))
     → refusal (now s) (change_of c) ≡ refusal_by (option_map status_of o) c
 now-is read stay store s c o h e =
     refusal-is (now s) c
     ∙ ap (λ x. refusal_by x c)
     (seen-at read stay store s (head s.history) (id_of (change_of c)) h (head-used s)
-    ∙ (ap (λ v. seen v (chain_of store.chains (id_of (change_of c)))) (sym h.version) ∙ ap (option_map status_of) (sym e)))
+    ∙ (ap (λ v. seen v (chain_of store.chains (id_of (change_of c)))) (sym h.version)
+    ∙ ap (option_map status_of) (sym e)))
 
 -- a live identifier is counted
-counts-one : (c : Change) (o : Option Status) (live : ℕ) → refusal_by o c ≡ None → one_in is_live o ≤ live → MayCount c live
+counts-one : (c : Change) (o : Option Status) (live : ℕ) → refusal_by o c ≡ None → one_in is_live o ≤ live
+    → MayCount c live
 counts-one (Register r) o live allowed le = tt
 counts-one (Revise r) o live allowed le = tt
 counts-one (Withdraw id) None live allowed le = absurd (no-some allowed)
 counts-one (Withdraw id) (Some (Live v format text)) live allowed le = omega (arith, le)
 counts-one (Withdraw id) (Some (Withdrawn v)) live allowed le = absurd (no-some allowed)
 
-pub may-count : KeptIsRead → StatesStay → (store : StoreTerm) (s : State) (c : Change) (o : Option Kept) → StandsFor store s → o ≡ latest store.version (chain_of store.chains (id_of (change_of c)))
+pub may-count : KeptIsRead → StatesStay → (store : StoreTerm) (s : State) (c : Change) (o : Option Kept)
+    → StandsFor store s → o ≡ latest store.version (chain_of store.chains (id_of (change_of c)))
     → refusal_by (option_map status_of o) c ≡ None → MayCount c store.live
 may-count read stay store s c o h e allowed =
     let counted = count-get is_live (now s) (id_of (change_of c)) in
-    counts-one c (get (now s) (id_of (change_of c))) store.live (sym (refusal-is (now s) c) ∙ (now-is read stay store s c o h e ∙ allowed)) (omega (arith, counted, h.live))
+    counts-one c (get (now s) (id_of (change_of c))) store.live (sym (refusal-is (now s) c)
+    ∙ (now-is read stay store s c o h e ∙ allowed)) (omega (arith, counted, h.live))
 
 -- what the head is of an identifier, at an equal store
-pub head-at : (store other : StoreTerm) (id key : ℕ) (o : Option Kept) → other ≡ store → key ≡ id → o ≡ latest store.version (chain_of store.chains key) → o ≡ latest other.version (chain_of other.chains id)
-head-at store other id key o e f h = h ∙ (ap (λ i. latest store.version (chain_of store.chains i)) f ∙ ap (λ (x : StoreTerm). latest x.version (chain_of x.chains id)) (sym e))
+pub head-at : (store other : StoreTerm) (id key : ℕ) (o : Option Kept) → other ≡ store → key ≡ id
+    → o ≡ latest store.version (chain_of store.chains key) → o ≡ latest other.version (chain_of other.chains id)
+head-at store other id key o e f h = h ∙ (ap (λ i. latest store.version (chain_of store.chains i)) f
+    ∙ ap (λ (x : StoreTerm). latest x.version (chain_of x.chains id)) (sym e))
 
-pub done-stands : KeptIsRead → Laws → (store new : StoreTerm) (s : State) (c : Change) (k : Kept) (o : Option Kept) → StandsFor store s → o ≡ latest store.version (chain_of store.chains (id_of (change_of c)))
-    → refusal_by (option_map status_of o) c ≡ None → Committing store new c k → StandsFor new (committed s (change_of c))
-done-stands read laws store new s c k o h e allowed m = commit-stands laws store new s c k h m (now-is read laws.states store s c o h e ∙ allowed)
+pub done-stands : KeptIsRead → Laws → (store new : StoreTerm) (s : State) (c : Change) (k : Kept) (o : Option Kept)
+    → StandsFor store s → o ≡ latest store.version (chain_of store.chains (id_of (change_of c)))
+    → refusal_by (option_map status_of o) c ≡ None → Committing store new c k
+    → StandsFor new (committed s (change_of c))
+done-stands read laws store new s c k o h e allowed m = commit-stands laws store new s c k h m
+    (now-is read laws.states store s c o h e ∙ allowed)

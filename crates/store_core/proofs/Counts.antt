@@ -30,56 +30,77 @@ module _ {X : Type 0} where
   find-below k a [] le h = refl
   find-below k a (e ∷ es) le h =
       let parts = both-hold _ _ h in
-      ap (λ b. cond b (Some e.1) (find nat_cmp k es)) (apart k e.0 (let less = less-of a e.0 (nat_cmp a e.0) refl parts.0 in omega (arith, le, less)))
+      ap (λ b. cond b (Some e.1) (find nat_cmp k es))
+      (apart k e.0 (let less = less-of a e.0 (nat_cmp a e.0) refl parts.0 in omega (arith, le, less)))
       ∙ find-below k a es le parts.1
 
-  count-cons : (p : X → Bool) (e : ℕ × X) (es : List (ℕ × X)) → count_by (λ x. p x.1) (e ∷ es) ≡ one_if (p e.1) + count_by (λ x. p x.1) es
+  count-cons : (p : X → Bool) (e : ℕ × X) (es : List (ℕ × X))
+      → count_by (λ x. p x.1) (e ∷ es) ≡ one_if (p e.1) + count_by (λ x. p x.1) es
   count-cons p e es = sum_by-cons (λ (x : ℕ × X). cond (p x.1) 1 0) e es
 
-  put-one : (p : X → Bool) (k : ℕ) (v : X) (e : ℕ × X) (es : List (ℕ × X)) (o : Ordering) → o ≡ nat_cmp k e.0 → T (below_all nat_cmp e.0 es)
-      → count_by (λ x. p x.1) (put nat_cmp k v es) + one_in p (find nat_cmp k es) ≡ count_by (λ x. p x.1) es + one_if (p v)
-      → count_by (λ x. p x.1) (by_order o ((k, v) ∷ e ∷ es) ((e.0, v) ∷ es) (e ∷ put nat_cmp k v es)) + one_in p (cond (is_eq o) (Some e.1) (find nat_cmp k es))
+  put-one : (p : X → Bool) (k : ℕ) (v : X) (e : ℕ × X) (es : List (ℕ × X)) (o : Ordering) → o ≡ nat_cmp k e.0
+      → T (below_all nat_cmp e.0 es)
+      → count_by (λ x. p x.1) (put nat_cmp k v es) + one_in p (find nat_cmp k es)
+      ≡ count_by (λ x. p x.1) es + one_if (p v)
+      → count_by (λ x. p x.1) (by_order o ((k, v) ∷ e ∷ es) ((e.0, v) ∷ es) (e ∷ put nat_cmp k v es)) + one_in p
+      (cond (is_eq o) (Some e.1) (find nat_cmp k es))
       ≡ count_by (λ x. p x.1) (e ∷ es) + one_if (p v)
   put-one p k v e es Less q below rest =
       let less : k < e.0 = ranked k e.0 Less q in
       let none : one_in p (find nat_cmp k es) ≡ 0 = ap (one_in p) (find-below k e.0 es (omega (arith, less)) below) in
-      let first : count_by (λ (x : ℕ × X). p x.1) ((k, v) ∷ e ∷ es) ≡ one_if (p v) + count_by (λ (x : ℕ × X). p x.1) (e ∷ es) = count-cons p (k, v) (e ∷ es) in
+      let first : count_by (λ (x : ℕ × X). p x.1) ((k, v) ∷ e ∷ es) ≡ one_if (p v) + count_by (λ (x : ℕ × X). p x.1)
+      (e ∷ es) = count-cons p (k, v) (e ∷ es) in
       omega (arith, none, first)
   put-one p k v e es Equal q below rest =
-      let new : count_by (λ (x : ℕ × X). p x.1) ((e.0, v) ∷ es) ≡ one_if (p v) + count_by (λ (x : ℕ × X). p x.1) es = count-cons p (e.0, v) es in
-      let old : count_by (λ (x : ℕ × X). p x.1) (e ∷ es) ≡ one_if (p e.1) + count_by (λ (x : ℕ × X). p x.1) es = count-cons p e es in
+      let new : count_by (λ (x : ℕ × X). p x.1) ((e.0, v) ∷ es) ≡ one_if (p v) + count_by
+      (λ (x : ℕ × X). p x.1) es = count-cons p (e.0, v) es in
+      let old : count_by (λ (x : ℕ × X). p x.1) (e ∷ es) ≡ one_if (p e.1) + count_by
+      (λ (x : ℕ × X). p x.1) es = count-cons p e es in
       omega (arith, new, old)
   put-one p k v e es Greater q below rest =
-      let new : count_by (λ (x : ℕ × X). p x.1) (e ∷ put nat_cmp k v es) ≡ one_if (p e.1) + count_by (λ (x : ℕ × X). p x.1) (put nat_cmp k v es) = count-cons p e (put nat_cmp k v es) in
-      let old : count_by (λ (x : ℕ × X). p x.1) (e ∷ es) ≡ one_if (p e.1) + count_by (λ (x : ℕ × X). p x.1) es = count-cons p e es in
+      let new : count_by (λ (x : ℕ × X). p x.1) (e ∷ put nat_cmp k v es)
+      ≡ one_if (p e.1) + count_by (λ (x : ℕ × X). p x.1) (put nat_cmp k v es) = count-cons p e (put nat_cmp k v es)
+      in
+      let old : count_by (λ (x : ℕ × X). p x.1) (e ∷ es) ≡ one_if (p e.1) + count_by
+      (λ (x : ℕ × X). p x.1) es = count-cons p e es in
       omega (arith, new, old, rest)
 
   count-put : (p : X → Bool) (k : ℕ) (v : X) (es : List (ℕ × X)) → T (is_sorted nat_cmp es)
-      → count_by (λ e. p e.1) (put nat_cmp k v es) + one_in p (find nat_cmp k es) ≡ count_by (λ e. p e.1) es + one_if (p v)
-  count-put p k v [] h = let new : count_by (λ (x : ℕ × X). p x.1) ((k, v) ∷ []) ≡ one_if (p v) + count_by (λ (x : ℕ × X). p x.1) [] = count-cons p (k, v) [] in omega (arith, new)
+      → count_by (λ e. p e.1) (put nat_cmp k v es) + one_in p (find nat_cmp k es)
+      ≡ count_by (λ e. p e.1) es + one_if (p v)
+  count-put p k v [] h = let new : count_by (λ (x : ℕ × X). p x.1) ((k, v) ∷ [])
+      ≡ one_if (p v) + count_by (λ (x : ℕ × X). p x.1) [] = count-cons p (k, v) [] in omega (arith, new)
   count-put p k v (e ∷ es) h =
       let parts = both-hold _ _ h in
       put-one p k v e es (nat_cmp k e.0) refl parts.0 (count-put p k v es parts.1)
 
   pub count-insert : (p : X → Bool) (m : FinMap nat_cmp X) (k : ℕ) (v : X)
-      → count_by (λ e. p e.1) (entries (insert m k v)) + one_in p (get m k) ≡ count_by (λ e. p e.1) (entries m) + one_if (p v)
+      → count_by (λ e. p e.1) (entries (insert m k v)) + one_in p (get m k)
+      ≡ count_by (λ e. p e.1) (entries m) + one_if (p v)
   count-insert p m k v =
       let put-it = count-put p k v (entries m) (entries_sorted m) in
-      let is : count_by (λ (e : ℕ × X). p e.1) (entries (insert m k v)) ≡ count_by (λ (e : ℕ × X). p e.1) (put nat_cmp k v (entries m)) = ap (λ es. count_by (λ (e : ℕ × X). p e.1) es) (entries-insert nat_cmp_total m k v) in
+      let is : count_by (λ (e : ℕ × X). p e.1) (entries (insert m k v)) ≡ count_by (λ (e : ℕ × X). p e.1)
+      (put nat_cmp k v (entries m)) = ap (λ es. count_by (λ (e : ℕ × X). p e.1) es)
+      (entries-insert nat_cmp_total m k v) in
       let was : one_in p (get m k) ≡ one_in p (find nat_cmp k (entries m)) = ap (one_in p) (get-entries m k) in
       omega (arith, put-it, is, was)
 
   -- an entry that passes is counted
-  found-one : (p : X → Bool) (b : Bool) (x : X) (rest : Option X) (n : ℕ) → one_in p rest ≤ n → one_in p (cond b (Some x) rest) ≤ one_if (p x) + n
+  found-one : (p : X → Bool) (b : Bool) (x : X) (rest : Option X) (n : ℕ) → one_in p rest ≤ n
+      → one_in p (cond b (Some x) rest) ≤ one_if (p x) + n
   found-one p true x rest n h = omega arith
   found-one p false x rest n h = omega (arith, h)
 
   count-find : (p : X → Bool) (k : ℕ) (es : List (ℕ × X)) → one_in p (find nat_cmp k es) ≤ count_by (λ e. p e.1) es
   count-find p k [] = omega arith
   count-find p k (e ∷ es) =
-      let old : count_by (λ (x : ℕ × X). p x.1) (e ∷ es) ≡ one_if (p e.1) + count_by (λ (x : ℕ × X). p x.1) es = count-cons p e es in
-      let le : one_in p (cond (eq_by_cmp nat_cmp k e.0) (Some e.1) (find nat_cmp k es)) ≤ one_if (p e.1) + count_by (λ (x : ℕ × X). p x.1) es = found-one p (eq_by_cmp nat_cmp k e.0) e.1 (find nat_cmp k es) (count_by (λ (x : ℕ × X). p x.1) es) (count-find p k es) in
+      let old : count_by (λ (x : ℕ × X). p x.1) (e ∷ es) ≡ one_if (p e.1) + count_by
+      (λ (x : ℕ × X). p x.1) es = count-cons p e es in
+      let le : one_in p (cond (eq_by_cmp nat_cmp k e.0) (Some e.1) (find nat_cmp k es)) ≤ one_if (p e.1) + count_by
+      (λ (x : ℕ × X). p x.1) es = found-one p (eq_by_cmp nat_cmp k e.0) e.1 (find nat_cmp k es)
+      (count_by (λ (x : ℕ × X). p x.1) es) (count-find p k es) in
       subst (λ n. one_in p (cond (eq_by_cmp nat_cmp k e.0) (Some e.1) (find nat_cmp k es)) ≤ n) (sym old) le
 
   pub count-get : (p : X → Bool) (m : FinMap nat_cmp X) (k : ℕ) → one_in p (get m k) ≤ count_by (λ e. p e.1) (entries m)
-  count-get p m k = let found = count-find p k (entries m) in let was = ap (one_in p) (get-entries m k) in omega (arith, found, was)
+  count-get p m k = let found = count-find p k (entries m) in let was = ap (one_in p) (get-entries m k)
+      in omega (arith, found, was)

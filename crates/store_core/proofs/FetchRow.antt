@@ -36,7 +36,8 @@ use Rattle.store_core.proofs.Screened.{OneStructure}
 use Rattle.store_core.proofs.Sees.{seen-at}
 use Rattle.store_core.proofs.Walks.{Between}
 
-pinned-version : (pin : Pin) (ps : List Held) → Contains (map pin_of ps) pin → Contains (map (λ (p : Held). p.version) ps) pin.version
+pinned-version : (pin : Pin) (ps : List Held) → Contains (map pin_of ps) pin
+    → Contains (map (λ (p : Held). p.version) ps) pin.version
 pinned-version pin [] c = absurd (omega (arith, c.1))
 pinned-version pin (p ∷ ps) c =
     elim (contains-split (pin_of p) pin (map pin_of ps) c) [
@@ -59,14 +60,18 @@ record Lives (entry : Option Shared) (format : Format) (text : List ℕ) : Type 
   same-format : (arc_value shared).format ≡ format
   same-text : (arc_value shared).text ≡ text
 
-lives : (version : ℕ) (entry : Option Shared) (n : ℕ) (format : Format) (text : List ℕ) → status_in version entry ≡ Live n format text → Lives entry format text
+lives : (version : ℕ) (entry : Option Shared) (n : ℕ) (format : Format) (text : List ℕ)
+    → status_in version entry ≡ Live n format text → Lives entry format text
 unfolding format_in text_in
 lives version None n format text e = absurd (true≢false (sym (ap is_live e)))
-lives version (Some q) n format text e = record { shared = q; is = refl; same-format = ap (format_in format) e; same-text = ap text_in e }
+lives version (Some q) n format text e = record
+    { shared = q; is = refl; same-format = ap (format_in format) e; same-text = ap text_in e }
 
-module _ (read : KeptIsRead) (stay : StatesStay) (one : OneStructure) (store : StoreTerm) (s : State) (h : StandsFor store s) (pin : Pin) (held : Contains store.pins pin) (want : List Bool) where
+module _ (read : KeptIsRead) (stay : StatesStay) (one : OneStructure) (store : StoreTerm) (s : State)
+    (h : StandsFor store s) (pin : Pin) (held : Contains store.pins pin) (want : List Bool) where
   used : Contains (in_use s) pin.version
-  used = Contains-append_left (map (λ (p : Held). p.version) s.pins) (head s.history ∷ []) pin.version (pinned-version pin s.pins (subst (λ l. Contains l pin) (sym h.pins) held))
+  used = Contains-append_left (map (λ (p : Held). p.version) s.pins) (head s.history ∷ []) pin.version
+      (pinned-version pin s.pins (subst (λ l. Contains l pin) (sym h.pins) held))
 
   up : Rise store.chains
   up = rises store.chains h.ordered
@@ -74,28 +79,38 @@ module _ (read : KeptIsRead) (stay : StatesStay) (one : OneStructure) (store : S
   own : AreOwn store.chains
   own = own-from store.chains up (λ id k c. (h.chains id).records k c)
 
-  is-live : (all : List Found) (r : Found) → ArePicked pin.version want store.chains all → Contains all r → IsLive (snapshot s.history pin.version) r × IsScreened want r.format r.text
+  is-live : (all : List Found) (r : Found) → ArePicked pin.version want store.chains all → Contains all r
+      → IsLive (snapshot s.history pin.version) r × IsScreened want r.format r.text
   is-live all r p c =
       let k = picked-from pin.version want store.chains all r up own p c in
       let o = of-state pin.version (chain_of store.chains r.id) k.shared k.live in (
         (
           o.k.version,
-          seen-at read stay store s pin.version r.id h used ∙ (ap (option_map status_of) o.latest-is ∙ (ap (λ e. Some (status_in o.k.version e)) o.entry ∙ ap (λ (x : Found). Some (Live o.k.version x.format x.text)) k.is)),
+          seen-at read stay store s pin.version r.id h used
+              ∙ (ap (option_map status_of) o.latest-is
+              ∙ (ap (λ e. Some (status_in o.k.version e)) o.entry
+              ∙ ap (λ (x : Found). Some (Live o.k.version x.format x.text)) k.is)),
         ),
         subst (λ (x : Found). IsScreened want x.format x.text) k.is k.wanted,
       )
 
-  is-picked : (all : List Found) (r : Found) → ArePicked pin.version want store.chains all → IsLive (snapshot s.history pin.version) r → IsScreened want r.format r.text → Contains all r
+  is-picked : (all : List Found) (r : Found) → ArePicked pin.version want store.chains all
+      → IsLive (snapshot s.history pin.version) r → IsScreened want r.format r.text → Contains all r
   is-picked all r p live asked =
       let ks = chain_of store.chains r.id in
-      let found = of-kept (Live live.0 r.format r.text) (latest pin.version ks) (sym (seen-at read stay store s pin.version r.id h used) ∙ live.1) in
+      let found = of-kept (Live live.0 r.format r.text) (latest pin.version ks)
+      (sym (seen-at read stay store s pin.version r.id h used) ∙ live.1) in
       let l = lives found.0.version found.0.entry live.0 r.format r.text found.2 in
       let there : live_at pin.version ks ≡ Some l.shared = ap entry_in found.1 ∙ l.is in
-      let id : (arc_value l.shared).id ≡ r.id = (own-entry r.id pin.version ks l.shared (h.chains r.id).records there).1 in
-      let same : found_of (arc_value l.shared) ≡ r = λ i. record { id = id i; format = l.same-format i; text = l.same-text i } in
-      subst (Contains all) same (picked-in pin.version want store.chains all r.id l.shared p there (subst (λ (x : Found). IsScreened want x.format x.text) (sym same) asked))
+      let id : (arc_value l.shared).id ≡ r.id = (own-entry r.id pin.version ks l.shared (h.chains r.id).records there).1
+      in
+      let same : found_of (arc_value l.shared) ≡ r = λ i. record
+      { id = id i; format = l.same-format i; text = l.same-text i } in
+      subst (Contains all) same (picked-in pin.version want store.chains all r.id l.shared p there
+      (subst (λ (x : Found). IsScreened want x.format x.text) (sym same) asked))
 
-  found-all : (all : List Found) → ArePicked pin.version want store.chains all → AreFound (IsScreened want) (snapshot s.history pin.version) all
+  found-all : (all : List Found) → ArePicked pin.version want store.chains all
+      → AreFound (IsScreened want) (snapshot s.history pin.version) all
   found-all all p = record {
     ascending = picked-increases pin.version want store.chains all up own p;
     only = λ r c. is-live all r p c;
@@ -104,23 +119,37 @@ module _ (read : KeptIsRead) (stay : StatesStay) (one : OneStructure) (store : S
 
   module _ (from limit : ℕ) where
     abbrev Answered : List Shared → Result Bool CallFault → Type 0
-    Answered records result = Calls Stretches (λ _. true) store store s (fetch_calls pin.slot want from limit records result)
+    Answered records result = Calls Stretches (λ _. true) store store s
+        (fetch_calls pin.slot want from limit records result)
 
     -- a page
-    pub fetch-page : (records filled : List Shared) (result : Result Bool CallFault) (last : Bool) → records ≡ filled → result ≡ Ok last
-        → ((all : List Found) → ArePicked pin.version want (Between from store.chains) all → (founds filled ≡ take limit all) × (last ≡ nat_le (length all) limit)) → Answered records result
+    pub fetch-page : (records filled : List Shared) (result : Result Bool CallFault) (last : Bool) → records ≡ filled
+        → result ≡ Ok last
+        → ((all : List Found) → ArePicked pin.version want (Between from store.chains) all
+        → (founds filled ≡ take limit all) × (last ≡ nat_le (length all) limit)) → Answered records result
     fetch-page records filled result last same ok answer =
         let owner = held-in pin s.pins h.sound.slots (subst (λ l. Contains l pin) (sym h.pins) held) in
         let all = pick one pin.version want store.chains own in
         let is = answer (from_on from all.0) (picked-between pin.version want from store.chains all.0 own all.1) in
         let call : Answered filled (Ok last) =
-        one-call store store s s owner.0 (event.Fetch pin.slot want from limit) (reply.Page (founds filled) last) refl h
-        (serves s h.serves, (pin.version, owner.1, record { all = all.0; found = found-all all.0 all.1; first = is.0; end = is.1 }, refl)) h in
+        one-call store store s s owner.0 (event.Fetch pin.slot want from limit) (reply.Page (founds filled) last) refl h (
+          serves s h.serves,
+          (
+            pin.version,
+            owner.1,
+            record
+                { all = all.0; found = found-all all.0 all.1; first = is.0; end = is.1 },
+            refl,
+          ),
+        ) h in
         subst (λ l. Answered l result) (sym same) (subst (Answered filled) (sym ok) call)
 
     -- want of memory
-    pub fetch-none : (records : List Shared) (result : Result Bool CallFault) → result ≡ Err call.NoMemory → Answered records result
+    pub fetch-none : (records : List Shared) (result : Result Bool CallFault) → result ≡ Err call.NoMemory
+        → Answered records result
     fetch-none records result err =
         let owner = held-in pin s.pins h.sound.slots (subst (λ l. Contains l pin) (sym h.pins) held) in
-        let none : Answered records (Err call.NoMemory) = one-call store store s s owner.0 (event.Fetch pin.slot want from limit) reply.NoMemory refl h (serves s h.serves, (pin.version, owner.1, refl)) h in
+        let none : Answered records (Err call.NoMemory) = one-call store store s s owner.0
+        (event.Fetch pin.slot want from limit) reply.NoMemory refl h
+        (serves s h.serves, (pin.version, owner.1, refl)) h in
         subst (Answered records) (sym err) none

@@ -54,7 +54,9 @@ empty-chain commits id = record {
 abbrev no-chains : List (ℕ × List Kept)
 no-chains = []
 
-stands : (commits : ℕ) → commits ≤ 16777215 → IsStrictlySortedBy nat_cmp (keys_of no-chains) → StandsFor (record { chains = []; pins = []; version = 0; limit = commits; kept = 0; live = 0; withdrawn = 0 }) (empty commits)
+stands : (commits : ℕ) → commits ≤ 16777215 → IsStrictlySortedBy nat_cmp (keys_of no-chains)
+    → StandsFor (record { chains = []; pins = []; version = 0; limit = commits; kept = 0; live = 0; withdrawn = 0 })
+    (empty commits)
 stands commits few ordered =
     let start : Snapshot = none in
     let size : length (entries start) ≡ 0 = sym (len-entries start) ∙ len-empty nat_cmp Status in
@@ -77,9 +79,34 @@ stands commits few ordered =
       chains = λ id. empty-chain commits id;
     }
 
-pub fresh-stands : (commits : ℕ) (chains : List (ℕ × List Kept)) (pins : List Pin) → commits ≤ 16777215 → chains ≡ [] → pins ≡ [] → IsStrictlySortedBy nat_cmp (keys_of chains)
-    → StandsFor (record { chains = chains; pins = pins; version = 0; limit = commits; kept = 0; live = 0; withdrawn = 0 }) (empty commits)
+pub fresh-stands : (commits : ℕ) (chains : List (ℕ × List Kept)) (pins : List Pin) → commits ≤ 16777215 → chains ≡ []
+    → pins ≡ [] → IsStrictlySortedBy nat_cmp (keys_of chains)
+    → StandsFor (record {
+      chains = chains;
+      pins = pins;
+      version = 0;
+      limit = commits;
+      kept = 0;
+      live = 0;
+      withdrawn = 0;
+    }) (empty commits)
 fresh-stands commits chains pins few e f ordered =
-    subst (λ l. StandsFor (record { chains = l; pins = pins; version = 0; limit = commits; kept = 0; live = 0; withdrawn = 0 }) (empty commits)) (sym e)
-    (subst (λ l. StandsFor (record { chains = []; pins = l; version = 0; limit = commits; kept = 0; live = 0; withdrawn = 0 }) (empty commits)) (sym f)
+    subst (λ l. StandsFor (record {
+      chains = l;
+      pins = pins;
+      version = 0;
+      limit = commits;
+      kept = 0;
+      live = 0;
+      withdrawn = 0;
+    }) (empty commits)) (sym e)
+    (subst (λ l. StandsFor (record {
+      chains = [];
+      pins = l;
+      version = 0;
+      limit = commits;
+      kept = 0;
+      live = 0;
+      withdrawn = 0;
+    }) (empty commits)) (sym f)
     (stands commits few (subst (λ l. IsStrictlySortedBy nat_cmp (keys_of l)) e ordered)))

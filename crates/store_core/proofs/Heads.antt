@@ -28,12 +28,14 @@ pub latest-within : (v : ℕ) (ks : List Kept) (k : Kept) → latest v ks ≡ So
 latest-within v [] k e = absurd (none-some e)
 latest-within v (x ∷ xs) k e = go (latest v xs) (nat_le x.version v) (λ f. latest-within v xs k f) e
   where
-    go : (o : Option Kept) (b : Bool) → (o ≡ Some k → Contains xs k) → or_else o (cond b (Some x) None) ≡ Some k → Contains (x ∷ xs) k
+    go : (o : Option Kept) (b : Bool) → (o ≡ Some k → Contains xs k) → or_else o (cond b (Some x) None) ≡ Some k
+        → Contains (x ∷ xs) k
     go None true rest e = contains-here x k xs (same-kept x k e)
     go None false rest e = absurd (none-some e)
     go (Some y) b rest e = contains-there x k xs (rest e)
 
-pub head-entry : (id v : ℕ) (ks : List Kept) (r : Option (Bor Kept)) → option_copied r ≡ latest v ks → ((k : Kept) → Contains ks k → IsEntryOf id k.entry) → IfSome r (λ k. IsEntryOf id k.now.entry)
+pub head-entry : (id v : ℕ) (ks : List Kept) (r : Option (Bor Kept)) → option_copied r ≡ latest v ks
+    → ((k : Kept) → Contains ks k → IsEntryOf id k.entry) → IfSome r (λ k. IsEntryOf id k.now.entry)
 head-entry id v ks None e all = tt
 head-entry id v ks (Some b) e all = all b.now (latest-within v ks b.now (sym e))
 
@@ -48,22 +50,34 @@ on-err (Err e) f p = f p
 abbrev pub total : List (ℕ × List Kept) → ℕ
 total es = sum_by (λ ks. length ks) (values_of es)
 
-pub one-more : (id : ℕ) (es : List (ℕ × List Kept)) (ks new : List Kept) (k : Kept) → Some ks ≡ lookup (is_at (nat_cmp id)) es → new ≡ ks ++ k ∷ [] → total (set_value (is_at (nat_cmp id)) es new) ≡ total es + 1
+pub one-more : (id : ℕ) (es : List (ℕ × List Kept)) (ks new : List Kept) (k : Kept)
+    → Some ks ≡ lookup (is_at (nat_cmp id)) es → new ≡ ks ++ k ∷ []
+    → total (set_value (is_at (nat_cmp id)) es new) ≡ total es + 1
 one-more id es ks new k e f =
     let sums = sum_by-set_value (λ (l : List Kept). length l) (is_at (nat_cmp id)) es ks new (sym e) in
     omega (arith, sums, ap (λ (l : List Kept). length l) f, length-append ks (k ∷ []))
 
-pub one-less : (id : ℕ) (es : List (ℕ × List Kept)) (ks new : List Kept) → Some ks ≡ lookup (is_at (nat_cmp id)) es → new ≡ but_last ks → 1 ≤ length (chain_of es id) → total (set_value (is_at (nat_cmp id)) es new) + 1 ≡ total es
+pub one-less : (id : ℕ) (es : List (ℕ × List Kept)) (ks new : List Kept) → Some ks ≡ lookup (is_at (nat_cmp id)) es
+    → new ≡ but_last ks → 1 ≤ length (chain_of es id) → total (set_value (is_at (nat_cmp id)) es new) + 1 ≡ total es
 one-less id es ks new e f some =
     let sums = sum_by-set_value (λ (l : List Kept). length l) (is_at (nat_cmp id)) es ks new (sym e) in
     let size : length ks ≡ length (chain_of es id) = ap (λ o. length (states_in o)) e in
     omega (arith, sums, some, size, ap (λ (l : List Kept). length l) f, length-take (length ks - 1) ks)
 
-pub as-before : (id : ℕ) (es : List (ℕ × List Kept)) (ks new : List Kept) → Some ks ≡ lookup (is_at (nat_cmp id)) es → new ≡ ks → set_value (is_at (nat_cmp id)) es new ≡ es
-as-before id es ks new e f = ap (λ l. set_value (is_at (nat_cmp id)) es l) f ∙ set_value_same (is_at (nat_cmp id)) es ks (sym e)
+pub as-before : (id : ℕ) (es : List (ℕ × List Kept)) (ks new : List Kept) → Some ks ≡ lookup (is_at (nat_cmp id)) es
+    → new ≡ ks → set_value (is_at (nat_cmp id)) es new ≡ es
+as-before id es ks new e f = ap (λ l. set_value (is_at (nat_cmp id)) es l) f
+    ∙ set_value_same (is_at (nat_cmp id)) es ks (sym e)
 
-pub first-more : (id : ℕ) (es : List (ℕ × List Kept)) (chain : List Kept) (k : Kept) → IsStrictlySortedBy nat_cmp (keys_of es) → lookup (is_at (nat_cmp id)) es ≡ None → chain ≡ k ∷ []
+pub first-more : (id : ℕ) (es : List (ℕ × List Kept)) (chain : List Kept) (k : Kept)
+    → IsStrictlySortedBy nat_cmp (keys_of es) → lookup (is_at (nat_cmp id)) es ≡ None → chain ≡ k ∷ []
     → total (insert_entry nat_cmp es id chain) ≡ total es + 1
 first-more id es chain k sorted none e =
     let sums = sum_by-insert_entry (λ (l : List Kept). length l) nat_cmp_total es id chain sorted in
-    omega (arith, sums, ap (λ (o : Option (List Kept)). unwrap_or (option_map (λ l. length l) o) 0) none, ap (λ (l : List Kept). length l) e)
+    omega (
+      arith,
+      sums,
+      ap (λ (o : Option (List Kept)). unwrap_or (option_map (λ l. length l) o) 0) none,
+      ap
+          (λ (l : List Kept). length l) e,
+    )

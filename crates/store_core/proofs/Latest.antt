@@ -16,19 +16,27 @@ or_else-none : (a : Option Kept) → or_else a None ≡ a
 or_else-none None = refl
 or_else-none (Some k) = refl
 
-pub latest-pushed : (v : ℕ) (ks : List Kept) (k : Kept) → latest v (ks ++ k ∷ []) ≡ or_else (cond (nat_le k.version v) (Some k) None) (latest v ks)
+pub latest-pushed : (v : ℕ) (ks : List Kept) (k : Kept) → latest v (ks ++ k ∷ [])
+    ≡ or_else (cond (nat_le k.version v) (Some k) None) (latest v ks)
 latest-pushed v [] k = sym (or_else-none (one v k))
-latest-pushed v (l ∷ ls) k = ap (λ o. or_else o (one v l)) (latest-pushed v ls k) ∙ or_else-assoc (one v k) (latest v ls) (one v l)
+latest-pushed v (l ∷ ls) k = ap (λ o. or_else o (one v l)) (latest-pushed v ls k)
+    ∙ or_else-assoc (one v k) (latest v ls) (one v l)
 
-taken : (n : ℕ) (ks : List Kept) (k : Kept) → 0 < n → n ≤ length ks → k ≡ get_or ks (n - 1) k → take n ks ≡ take (n - 1) ks ++ k ∷ []
+taken : (n : ℕ) (ks : List Kept) (k : Kept) → 0 < n → n ≤ length ks → k ≡ get_or ks (n - 1) k
+    → take n ks ≡ take (n - 1) ks ++ k ∷ []
 taken n ks k some le e =
     let next : n ≡ n - 1 + 1 = omega (arith, some) in
-    ap (λ m. take m ks) next ∙ (take_more ks (n - 1) k (omega (arith, some, le)) ∙ ap (λ (x : Kept). take (n - 1) ks ++ x ∷ []) (sym e))
+    ap (λ m. take m ks) next ∙ (take_more ks (n - 1) k (omega (arith, some, le))
+    ∙ ap (λ (x : Kept). take (n - 1) ks ++ x ∷ []) (sym e))
 
-pub latest-here : (v n : ℕ) (ks : List Kept) (k : Kept) → 0 < n → n ≤ length ks → k ≡ get_or ks (n - 1) k → k.version ≤ v → latest v (take n ks) ≡ Some k
+pub latest-here : (v n : ℕ) (ks : List Kept) (k : Kept) → 0 < n → n ≤ length ks → k ≡ get_or ks (n - 1) k
+    → k.version ≤ v → latest v (take n ks) ≡ Some k
 latest-here v n ks k some le e early =
-    ap (latest v) (taken n ks k some le e) ∙ (latest-pushed v (take (n - 1) ks) k ∙ ap (λ b. or_else (cond b (Some k) None) (latest v (take (n - 1) ks))) (le-leb k.version v early))
+    ap (latest v) (taken n ks k some le e) ∙ (latest-pushed v (take (n - 1) ks) k
+    ∙ ap (λ b. or_else (cond b (Some k) None) (latest v (take (n - 1) ks))) (le-leb k.version v early))
 
-pub latest-before : (v n : ℕ) (ks : List Kept) (k : Kept) → 0 < n → n ≤ length ks → k ≡ get_or ks (n - 1) k → v < k.version → latest v (take n ks) ≡ latest v (take (n - 1) ks)
+pub latest-before : (v n : ℕ) (ks : List Kept) (k : Kept) → 0 < n → n ≤ length ks → k ≡ get_or ks (n - 1) k
+    → v < k.version → latest v (take n ks) ≡ latest v (take (n - 1) ks)
 latest-before v n ks k some le e late =
-    ap (latest v) (taken n ks k some le e) ∙ (latest-pushed v (take (n - 1) ks) k ∙ ap (λ b. or_else (cond b (Some k) None) (latest v (take (n - 1) ks))) (lt-leb k.version v late))
+    ap (latest v) (taken n ks k some le e) ∙ (latest-pushed v (take (n - 1) ks) k
+    ∙ ap (λ b. or_else (cond b (Some k) None) (latest v (take (n - 1) ks))) (lt-leb k.version v late))

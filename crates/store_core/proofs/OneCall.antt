@@ -11,9 +11,19 @@ use Rattle.store_core.specs.Stored.{StandsFor, StoreTerm, Stretches}
 
 -- of whichever owner
 abbrev pub step_of : ℕ → Event → Reply → State → State → Step
-step_of owner e r s t = record { owner = owner; event = e; reply = r; before = s; after = t; begin = record { a = 0; b = 0 }; end = record { a = 0; b = 0 } }
+step_of owner e r s t = record {
+  owner = owner;
+  event = e;
+  reply = r;
+  before = s;
+  after = t;
+  begin = record
+      { a = 0; b = 0 };
+  end = record { a = 0; b = 0 };
+}
 
-pub one-call : (old new : StoreTerm) (s t : State) (owner : ℕ) (e : Event) (r : Reply) → is_call e ≡ true → StandsFor old s → Gives s owner e r t → StandsFor new t
+pub one-call : (old new : StoreTerm) (s t : State) (owner : ℕ) (e : Event) (r : Reply) → is_call e ≡ true
+    → StandsFor old s → Gives s owner e r t → StandsFor new t
     → Calls Stretches (λ _. true) old new s ((e, r) ∷ [])
 one-call old new s t owner e r call stands gives after = record {
   steps = step_of owner e r s t ∷ [];

@@ -41,12 +41,15 @@ needed-fewer live [] = omega arith
 needed-fewer live (x ∷ []) = omega arith
 needed-fewer live (x ∷ y ∷ ys) =
     let rest = needed-fewer live (y ∷ ys) in
-    elim (list_any (is_between x.version y.version) live) as (λ b. length (cond b (x ∷ needed live (y ∷ ys)) (needed live (y ∷ ys))) ≤ length (x ∷ y ∷ ys)) [ true ↦ omega (arith, rest) | false ↦ omega (arith, rest) ]
+    elim (list_any (is_between x.version y.version) live) as
+    (λ b. length (cond b (x ∷ needed live (y ∷ ys)) (needed live (y ∷ ys))) ≤ length (x ∷ y ∷ ys))
+    [ true ↦ omega (arith, rest) | false ↦ omega (arith, rest) ]
 
 pub total-fewer : (live : List ℕ) (es : List (ℕ × List Kept)) → total (pruned live es) ≤ total es
 total-fewer live [] = omega arith
 total-fewer live (e ∷ es) =
-    let new : total (pruned live (e ∷ es)) ≡ length (needed live e.1) + total (pruned live es) = sum_by-cons (λ (ks : List Kept). length ks) (needed live e.1) (values_of (pruned live es)) in
+    let new : total (pruned live (e ∷ es)) ≡ length (needed live e.1) + total (pruned live es) = sum_by-cons
+    (λ (ks : List Kept). length ks) (needed live e.1) (values_of (pruned live es)) in
     let old : total (e ∷ es) ≡ length e.1 + total es = sum_by-cons (λ (ks : List Kept). length ks) e.1 (values_of es) in
     omega (arith, new, old, needed-fewer live e.1, total-fewer live es)
 
@@ -62,30 +65,36 @@ abbrev entry-at : ℕ → ℕ → Entry
 entry-at id version = record { id = id; version = version }
 
 -- the state that a reader sees is that of a kept one
-pub of-kept : (status : Status) (o : Option Kept) → option_map status_of o ≡ Some status → (k : Kept) × (o ≡ Some k) × (status_of k ≡ status)
+pub of-kept : (status : Status) (o : Option Kept) → option_map status_of o ≡ Some status
+    → (k : Kept) × (o ≡ Some k) × (status_of k ≡ status)
 of-kept status None e = absurd (none-some e)
   where
     none-some : {X : Type 0} {x : X} → None ≡ Some x → ⊥
     none-some e = cc
 of-kept status (Some k) e = (k, refl, same-status (status_of k) status e)
 
-module _ (read : KeptIsRead) (stay : StatesStay) (sound : RunsStaySound) (store : StoreTerm) (s : State) (h : StandsFor store s) (live : List ℕ) (is : live ≡ versions store.pins) where
+module _ (read : KeptIsRead) (stay : StatesStay) (sound : RunsStaySound) (store : StoreTerm) (s : State)
+    (h : StandsFor store s) (live : List ℕ) (is : live ≡ versions store.pins) where
   used-live : (at : ℕ) → Contains live at ⊎ (head s.history ≡ at) → Contains (in_use s) at
-  used-live at (inl u) = Contains-append_left (map (λ (p : Held). p.version) s.pins) (head s.history ∷ []) at (subst (λ l. Contains l at) (is ∙ (ap versions (sym h.pins) ∙ same-versions s.pins)) u)
-  used-live at (inr e) = subst (Contains (in_use s)) e (Contains-push (map (λ (p : Held). p.version) s.pins) (head s.history))
+  used-live at (inl u) = Contains-append_left (map (λ (p : Held). p.version) s.pins) (head s.history ∷ []) at
+      (subst (λ l. Contains l at) (is ∙ (ap versions (sym h.pins) ∙ same-versions s.pins)) u)
+  used-live at (inr e) = subst (Contains (in_use s)) e
+      (Contains-push (map (λ (p : Held). p.version) s.pins) (head s.history))
 
   live-used : (at : ℕ) → Contains (in_use s) at → Contains live at ⊎ (head s.history ≡ at)
   live-used at c =
       elim (Contains-append_cases (map (λ (p : Held). p.version) s.pins) (head s.history ∷ []) at c) [
         | inl u ↦ inl (subst (λ l. Contains l at) (sym (is ∙ (ap versions (sym h.pins) ∙ same-versions s.pins))) u)
-        | inr d ↦ inr (elim (contains-split (head s.history) at [] d) [ inl e ↦ e | inr f ↦ absurd (omega (arith, f.1)) ])
+        | inr d ↦ inr (elim (contains-split (head s.history) at [] d)
+            [ inl e ↦ e | inr f ↦ absurd (omega (arith, f.1)) ])
       ]
 
   chain-now : (id : ℕ) → chain_of (pruned live store.chains) id ≡ needed live (chain_of store.chains id)
   chain-now id = chain-pruned live store.chains id
 
   up-now : Rise (pruned live store.chains)
-  up-now = rises (pruned live store.chains) (subst (IsStrictlySortedBy nat_cmp) (sym (keys-pruned live store.chains)) h.ordered)
+  up-now = rises (pruned live store.chains) (subst (IsStrictlySortedBy nat_cmp)
+      (sym (keys-pruned live store.chains)) h.ordered)
 
   is-needed : (entry : Entry) → Contains (listed (pruned live store.chains)) entry → IsNeeded s.history (in_use s) entry
   is-needed entry c =
@@ -93,32 +102,50 @@ module _ (read : KeptIsRead) (stay : StatesStay) (sound : RunsStaySound) (store 
       let k = there.0 in
       let ks = chain_of store.chains entry.id in
       let chain = h.chains entry.id in
-      let r = needed-read live (head s.history) ks k chain.ascending chain.late (subst (λ l. Contains l k) (chain-now entry.id) there.1) in
+      let r = needed-read live (head s.history) ks k chain.ascending chain.late
+      (subst (λ l. Contains l k) (chain-now entry.id) there.1) in
       let used = used-live r.at r.used in
-      record { at = r.at; used = used; status = status_of k; state = seen-at read stay store s r.at entry.id h used ∙ ap (option_map status_of) r.reads; made = made-of k ∙ there.2 }
+      record {
+        at = r.at;
+        used = used;
+        status = status_of k;
+        state = seen-at read stay store s r.at entry.id h used
+            ∙ ap (option_map status_of) r.reads;
+        made = made-of k ∙ there.2;
+      }
 
   needed-is : (entry : Entry) → IsNeeded s.history (in_use s) entry → Contains (listed (pruned live store.chains)) entry
   needed-is entry n =
       let ks = chain_of store.chains entry.id in
       let chain = h.chains entry.id in
-      let found = of-kept n.status (latest n.at ks) (sym (seen-at read stay store s n.at entry.id h n.used) ∙ n.state) in
+      let found = of-kept n.status (latest n.at ks) (sym (seen-at read stay store s n.at entry.id h n.used) ∙ n.state)
+      in
       let k = found.0 in
-      let stays : Contains (needed live ks) k = read-needed live (head s.history) ks k chain.late (record { at = n.at; used = live-used n.at n.used; reads = found.1 }) in
-      let same : entry_of entry.id k ≡ entry = ap (entry-at entry.id) (sym (made-of k) ∙ (ap made_at found.2 ∙ n.made)) in
-      subst (Contains (listed (pruned live store.chains))) same (listed-in (pruned live store.chains) entry.id k (subst (λ l. Contains l k) (sym (chain-now entry.id)) stays))
+      let stays : Contains (needed live ks) k = read-needed live (head s.history) ks k chain.late
+      (record { at = n.at; used = live-used n.at n.used; reads = found.1 }) in
+      let same : entry_of entry.id k ≡ entry = ap (entry-at entry.id) (sym (made-of k) ∙ (ap made_at found.2 ∙ n.made))
+      in
+      subst (Contains (listed (pruned live store.chains))) same
+      (listed-in (pruned live store.chains) entry.id k (subst (λ l. Contains l k) (sym (chain-now entry.id)) stays))
 
   pub are-needed : AreNeeded s (listed (pruned live store.chains))
   are-needed = record {
     exactly = λ entry. (is-needed entry, needed-is entry);
-    distinct = listed-distinct (pruned live store.chains) up-now (λ id. subst AreAscending (sym (chain-now id)) (needed-ascends live (chain_of store.chains id) (h.chains id).ascending));
+    distinct = listed-distinct (pruned live store.chains) up-now
+        (λ id. subst AreAscending (sym (chain-now id))
+        (needed-ascends live (chain_of store.chains id) (h.chains id).ascending));
   }
 
-  chain-left : (id : ℕ) → IsChain (record s { kept = listed (pruned live store.chains) }) id (chain_of (pruned live store.chains) id)
+  chain-left : (id : ℕ) → IsChain (record s { kept = listed (pruned live store.chains) }) id
+      (chain_of (pruned live store.chains) id)
   chain-left id =
-      let old : (k : Kept) → Contains (chain_of (pruned live store.chains) id) k → Contains (chain_of store.chains id) k = λ k c. needed-old live (chain_of store.chains id) k (subst (λ l. Contains l k) (chain-now id) c) in
+      let old : (k : Kept) → Contains (chain_of (pruned live store.chains) id) k
+      → Contains (chain_of store.chains id) k = λ k c. needed-old live (chain_of store.chains id) k
+      (subst (λ l. Contains l k) (chain-now id) c) in
       let chain = h.chains id in
       record {
-        ascending = subst AreAscending (sym (chain-now id)) (needed-ascends live (chain_of store.chains id) chain.ascending);
+        ascending = subst AreAscending (sym (chain-now id))
+            (needed-ascends live (chain_of store.chains id) chain.ascending);
         late = λ k c. chain.late k (old k c);
         only = λ k c. listed-in (pruned live store.chains) id k c;
         states = λ k c. chain.states k (old k c);
@@ -128,12 +155,23 @@ module _ (read : KeptIsRead) (stay : StatesStay) (sound : RunsStaySound) (store 
 
   -- so many states are left
   module _ (left : ℕ) (count : left ≡ total (pruned live store.chains)) where
-    pub prune-gives : Gives s 0 event.Prune (reply.Pruned (store.kept - left)) (record s { kept = listed (pruned live store.chains) })
-    prune-gives = (serves s h.serves, (are-needed, omega (arith, count, length-listed (pruned live store.chains), total-fewer live store.chains, h.sum, h.kept), refl))
+    pub prune-gives : Gives s 0 event.Prune (reply.Pruned (store.kept - left))
+        (record s { kept = listed (pruned live store.chains) })
+    prune-gives = (
+      serves s h.serves,
+      (
+        are-needed,
+        omega
+            (arith, count, length-listed (pruned live store.chains), total-fewer live store.chains, h.sum, h.kept),
+        refl,
+      ),
+    )
 
-    pub prune-stands : StandsFor (record store { chains = pruned live store.chains; kept = left }) (record s { kept = listed (pruned live store.chains) })
+    pub prune-stands : StandsFor (record store { chains = pruned live store.chains; kept = left })
+        (record s { kept = listed (pruned live store.chains) })
     prune-stands = record {
-      sound = sound-after sound s (record s { kept = listed (pruned live store.chains) }) 0 event.Prune (reply.Pruned (store.kept - left)) prune-gives h.sound;
+      sound = sound-after sound s (record s { kept = listed (pruned live store.chains) }) 0 event.Prune
+          (reply.Pruned (store.kept - left)) prune-gives h.sound;
       serves = h.serves;
       doubt = h.doubt;
       version = h.version;
@@ -152,11 +190,17 @@ module _ (read : KeptIsRead) (stay : StatesStay) (sound : RunsStaySound) (store 
     }
 
   -- the chains that are left, and how many states they have
-  module _ (chains : List (ℕ × List Kept)) (left : ℕ) (same : chains ≡ pruned live store.chains) (count : left ≡ total chains) where
-    pub store-left : StandsFor (record store { chains = chains; kept = left }) (record s { kept = listed (pruned live store.chains) })
-    store-left = subst (λ es. StandsFor (record store { chains = es; kept = left }) (record s { kept = listed (pruned live store.chains) })) (sym same) (prune-stands left (count ∙ ap total same))
+  module _ (chains : List (ℕ × List Kept)) (left : ℕ) (same : chains ≡ pruned live store.chains)
+      (count : left ≡ total chains) where
+    pub store-left : StandsFor (record store { chains = chains; kept = left })
+        (record s { kept = listed (pruned live store.chains) })
+    store-left = subst (λ es. StandsFor (record store { chains = es; kept = left })
+        (record s { kept = listed (pruned live store.chains) })) (sym same) (prune-stands left (count ∙ ap total same))
 
-    pub prune-call : Calls Stretches (λ _. true) store (record store { chains = chains; kept = left }) s ((event.Prune, reply.Pruned (store.kept - left)) ∷ [])
+    pub prune-call : Calls Stretches (λ _. true) store (record store { chains = chains; kept = left }) s
+        ((event.Prune, reply.Pruned (store.kept - left)) ∷ [])
     prune-call =
-        one-call store (record store { chains = chains; kept = left }) s (record s { kept = listed (pruned live store.chains) }) 0 event.Prune (reply.Pruned (store.kept - left)) refl h
+        one-call store (record store { chains = chains; kept = left }) s
+        (record s { kept = listed (pruned live store.chains) }) 0 event.Prune
+        (reply.Pruned (store.kept - left)) refl h
         (prune-gives left (count ∙ ap total same)) store-left

@@ -13,10 +13,13 @@ use Rattle.store_core.proofs.Sees.{latest-is}
 abbrev pub pruned : List ℕ → List (ℕ × List Kept) → List (ℕ × List Kept)
 pruned live es = map (λ e. (e.0, needed live e.1)) es
 
-pub chain-pruned : (live : List ℕ) (es : List (ℕ × List Kept)) (id : ℕ) → chain_of (pruned live es) id ≡ needed live (chain_of es id)
+pub chain-pruned : (live : List ℕ) (es : List (ℕ × List Kept)) (id : ℕ)
+    → chain_of (pruned live es) id ≡ needed live (chain_of es id)
 chain-pruned live [] id = refl
 chain-pruned live (e ∷ es) id =
-    elim (is_at (nat_cmp id) e.0) as (λ b. states_in (cond b (Some (needed live e.1)) (lookup (is_at (nat_cmp id)) (pruned live es))) ≡ needed live (states_in (cond b (Some e.1) (lookup (is_at (nat_cmp id)) es)))) [
+    elim (is_at (nat_cmp id) e.0) as (λ b. states_in
+    (cond b (Some (needed live e.1)) (lookup (is_at (nat_cmp id)) (pruned live es)))
+    ≡ needed live (states_in (cond b (Some e.1) (lookup (is_at (nat_cmp id)) es)))) [
       | true ↦ refl
       | false ↦ chain-pruned live es id
     ]
@@ -30,8 +33,10 @@ pub needed-old : (live : List ℕ) (ks : List Kept) (k : Kept) → Contains (nee
 needed-old live [] k c = c
 needed-old live (x ∷ []) k c = c
 needed-old live (x ∷ y ∷ ys) k c =
-    elim (list_any (is_between x.version y.version) live) as (λ b. Contains (cond b (x ∷ needed live (y ∷ ys)) (needed live (y ∷ ys))) k → Contains (x ∷ y ∷ ys) k) [
-      | true ↦ λ d. elim (contains-split x k (needed live (y ∷ ys)) d) [ inl e ↦ contains-here x k (y ∷ ys) e | inr f ↦ contains-there x k (y ∷ ys) (needed-old live (y ∷ ys) k f) ]
+    elim (list_any (is_between x.version y.version) live) as
+    (λ b. Contains (cond b (x ∷ needed live (y ∷ ys)) (needed live (y ∷ ys))) k → Contains (x ∷ y ∷ ys) k) [
+      | true ↦ λ d. elim (contains-split x k (needed live (y ∷ ys)) d)
+          [ inl e ↦ contains-here x k (y ∷ ys) e | inr f ↦ contains-there x k (y ∷ ys) (needed-old live (y ∷ ys) k f) ]
       | false ↦ λ d. contains-there x k (y ∷ ys) (needed-old live (y ∷ ys) k d)
     ] c
 
@@ -40,7 +45,8 @@ pub needed-ascends : (live : List ℕ) (ks : List Kept) → AreAscending ks → 
 needed-ascends live [] up = tt
 needed-ascends live (x ∷ []) up = up
 needed-ascends live (x ∷ y ∷ ys) up =
-    elim (list_any (is_between x.version y.version) live) as (λ b. AreAscending (cond b (x ∷ needed live (y ∷ ys)) (needed live (y ∷ ys)))) [
+    elim (list_any (is_between x.version y.version) live) as
+    (λ b. AreAscending (cond b (x ∷ needed live (y ∷ ys)) (needed live (y ∷ ys)))) [
       | true ↦ ((λ l c. up.0 l (needed-old live (y ∷ ys) l c)), needed-ascends live (y ∷ ys) up.1)
       | false ↦ needed-ascends live (y ∷ ys) up.1
     ]
@@ -50,7 +56,8 @@ any-one : (p : ℕ → Bool) (vs : List ℕ) → list_any p vs ≡ true → (v :
 any-one p [] e = absurd (true≢false (sym e))
 any-one p (v ∷ vs) e = go (p v) refl (λ f. any-one p vs f) e
   where
-    go : (b : Bool) → p v ≡ b → (list_any p vs ≡ true → (w : ℕ) × Contains vs w × (p w ≡ true)) → (b || list_any p vs) ≡ true → (w : ℕ) × Contains (v ∷ vs) w × (p w ≡ true)
+    go : (b : Bool) → p v ≡ b → (list_any p vs ≡ true → (w : ℕ) × Contains vs w × (p w ≡ true))
+        → (b || list_any p vs) ≡ true → (w : ℕ) × Contains (v ∷ vs) w × (p w ≡ true)
     go true q rest f = (v, contains-here v v vs refl, q)
     go false q rest f = let r = rest f in (r.0, contains-there v r.0 vs r.1, r.2)
 
@@ -93,11 +100,18 @@ pub record IsReadAt (live : List ℕ) (head : ℕ) (ks : List Kept) (k : Kept) :
   pub used : Contains live at ⊎ (head ≡ at)
   pub reads : latest at ks ≡ Some k
 
-read-behind : (live : List ℕ) (head : ℕ) (x : Kept) (ks : List Kept) (k : Kept) → IsReadAt live head ks k → IsReadAt live head (x ∷ ks) k
-read-behind live head x ks k r = record { at = r.at; used = r.used; reads = ap (λ o. or_else o (cond (nat_le x.version r.at) (Some x) None)) r.reads }
+read-behind : (live : List ℕ) (head : ℕ) (x : Kept) (ks : List Kept) (k : Kept) → IsReadAt live head ks k
+    → IsReadAt live head (x ∷ ks) k
+read-behind live head x ks k r = record {
+  at = r.at;
+  used = r.used;
+  reads = ap
+      (λ o. or_else o (cond (nat_le x.version r.at) (Some x) None)) r.reads;
+}
 
 -- where no other is between
-first-read : (v : ℕ) (x y : Kept) (ys : List Kept) → AreAscending (x ∷ y ∷ ys) → x.version ≤ v → v < y.version → latest v (x ∷ y ∷ ys) ≡ Some x
+first-read : (v : ℕ) (x y : Kept) (ys : List Kept) → AreAscending (x ∷ y ∷ ys) → x.version ≤ v → v < y.version
+    → latest v (x ∷ y ∷ ys) ≡ Some x
 first-read v x y ys up from to =
     latest-is v (x ∷ y ∷ ys) x up (contains-here x x (y ∷ ys) refl) from
     (λ l c le. elim (contains-split x l (y ∷ ys) c) [
@@ -108,22 +122,39 @@ first-read v x y ys up from to =
       ]
     ])
 
-pub needed-read : (live : List ℕ) (head : ℕ) (ks : List Kept) (k : Kept) → AreAscending ks → ((l : Kept) → Contains ks l → l.version ≤ head) → Contains (needed live ks) k → IsReadAt live head ks k
+pub needed-read : (live : List ℕ) (head : ℕ) (ks : List Kept) (k : Kept) → AreAscending ks
+    → ((l : Kept) → Contains ks l → l.version ≤ head) → Contains (needed live ks) k → IsReadAt live head ks k
 needed-read live head [] k up late c = absurd (omega (arith, c.1))
 needed-read live head (x ∷ []) k up late c =
     elim (contains-split x k [] c) [
-      | inl e ↦ record { at = head; used = inr refl; reads = latest-is head (x ∷ []) k up (contains-here x k [] e) (late k (contains-here x k [] e)) (λ l d le. elim (contains-split x l [] d) [ inl f ↦ omega (arith, ap (λ (y : Kept). y.version) f, ap (λ (y : Kept). y.version) e) | inr f ↦ absurd (omega (arith, f.1)) ]) }
+      | inl e ↦ record {
+        at = head;
+        used = inr refl;
+        reads = latest-is head (x ∷ []) k up (contains-here x k [] e)
+            (late k (contains-here x k [] e)) (λ l d le. elim (contains-split x l [] d) [
+              | inl f ↦ omega (arith, ap (λ (y : Kept). y.version) f, ap (λ (y : Kept). y.version) e)
+              | inr f ↦ absurd
+                  (omega (arith, f.1))
+            ]);
+      }
       | inr d ↦ absurd (omega (arith, d.1))
     ]
 needed-read live head (x ∷ y ∷ ys) k up late c =
     let rest : Contains (needed live (y ∷ ys)) k → IsReadAt live head (x ∷ y ∷ ys) k =
-    λ d. read-behind live head x (y ∷ ys) k (needed-read live head (y ∷ ys) k up.1 (λ l f. late l (contains-there x l (y ∷ ys) f)) d) in
-    elim (list_any (is_between x.version y.version) live) as (λ b. list_any (is_between x.version y.version) live ≡ b → Contains (cond b (x ∷ needed live (y ∷ ys)) (needed live (y ∷ ys))) k → IsReadAt live head (x ∷ y ∷ ys) k) [
+    λ d. read-behind live head x (y ∷ ys) k (needed-read live head (y ∷ ys) k up.1
+    (λ l f. late l (contains-there x l (y ∷ ys) f)) d) in
+    elim (list_any (is_between x.version y.version) live) as (λ b. list_any (is_between x.version y.version) live ≡ b
+    → Contains (cond b (x ∷ needed live (y ∷ ys)) (needed live (y ∷ ys))) k → IsReadAt live head (x ∷ y ∷ ys) k) [
       | true ↦ λ t d. elim (contains-split x k (needed live (y ∷ ys)) d) [
         | inl e ↦
             let v = any-one (is_between x.version y.version) live t in
             let parts = both-true _ _ v.2 in
-            record { at = v.0; used = inl v.1; reads = first-read v.0 x y ys up (leb-true x.version v.0 parts.0) (ltb-true v.0 y.version parts.1) ∙ ap (λ l. Some l) e }
+            record {
+              at = v.0;
+              used = inl v.1;
+              reads = first-read v.0 x y ys up (leb-true x.version v.0 parts.0)
+                  (ltb-true v.0 y.version parts.1) ∙ ap (λ l. Some l) e;
+            }
         | inr f ↦ rest f
       ]
       | false ↦ λ t d. rest d
@@ -137,25 +168,35 @@ not-yet v y ys e = go (latest v ys) (nat_le y.version v) refl e
     go None false q f = grind (arith, q)
     go (Some l) b q f = absurd (some-none f)
 
-pub read-needed : (live : List ℕ) (head : ℕ) (ks : List Kept) (k : Kept) → ((l : Kept) → Contains ks l → l.version ≤ head) → IsReadAt live head ks k → Contains (needed live ks) k
+pub read-needed : (live : List ℕ) (head : ℕ) (ks : List Kept) (k : Kept)
+    → ((l : Kept) → Contains ks l → l.version ≤ head) → IsReadAt live head ks k → Contains (needed live ks) k
 read-needed live head [] k late r = absurd (some-none (sym r.reads))
 read-needed live head (x ∷ []) k late r = contains-here x k [] (only-one (nat_le x.version r.at) r.reads)
   where
     only-one : (b : Bool) → or_else None (cond b (Some x) None) ≡ Some k → x ≡ k
     only-one true e = same-kept x k e
     only-one false e = absurd (some-none (sym e))
-read-needed live head (x ∷ y ∷ ys) k late r = go (λ i. read-needed live head (y ∷ ys) k (λ m f. late m (contains-there x m (y ∷ ys) f)) i) (latest r.at (y ∷ ys)) refl r.reads
+read-needed live head (x ∷ y ∷ ys) k late r = go
+    (λ i. read-needed live head (y ∷ ys) k (λ m f. late m (contains-there x m (y ∷ ys) f)) i)
+    (latest r.at (y ∷ ys)) refl r.reads
   where
     further : Contains (needed live (y ∷ ys)) k → Contains (needed live (x ∷ y ∷ ys)) k
-    further d = cond_both (list_any (is_between x.version y.version) live) (x ∷ needed live (y ∷ ys)) (needed live (y ∷ ys)) (λ l. Contains l k) (λ _. contains-there x k (needed live (y ∷ ys)) d) (λ _. d)
+    further d = cond_both (list_any (is_between x.version y.version) live) (x ∷ needed live (y ∷ ys))
+        (needed live (y ∷ ys)) (λ l. Contains l k) (λ _. contains-there x k (needed live (y ∷ ys)) d) (λ _. d)
 
-    here : v-used live head r.at → r.at < y.version → (b : Bool) → nat_le x.version r.at ≡ b → cond b (Some x) None ≡ Some k → Contains (needed live (x ∷ y ∷ ys)) k
+    here : v-used live head r.at → r.at < y.version → (b : Bool) → nat_le x.version r.at ≡ b
+        → cond b (Some x) None ≡ Some k → Contains (needed live (x ∷ y ∷ ys)) k
     here (inl u) to true q e =
-        subst (λ b. Contains (cond b (x ∷ needed live (y ∷ ys)) (needed live (y ∷ ys))) k) (sym (one-any (is_between x.version y.version) live r.at u (ap₂ (λ a b. a && b) q (lt-ltb r.at y.version to))))
+        subst (λ b. Contains (cond b (x ∷ needed live (y ∷ ys)) (needed live (y ∷ ys))) k)
+        (sym (one-any (is_between x.version y.version) live r.at u
+        (ap₂ (λ a b. a && b) q (lt-ltb r.at y.version to))))
         (contains-here x k (needed live (y ∷ ys)) (same-kept x k e))
-    here (inr h) to true q e = let top = late y (contains-there x y (y ∷ ys) (contains-here y y ys refl)) in absurd (omega (arith, top, to, h))
+    here (inr h) to true q e = let top = late y (contains-there x y (y ∷ ys) (contains-here y y ys refl))
+        in absurd (omega (arith, top, to, h))
     here u to false q e = absurd (some-none (sym e))
 
-    go : (IsReadAt live head (y ∷ ys) k → Contains (needed live (y ∷ ys)) k) → (o : Option Kept) → latest r.at (y ∷ ys) ≡ o → or_else o (cond (nat_le x.version r.at) (Some x) None) ≡ Some k → Contains (needed live (x ∷ y ∷ ys)) k
+    go : (IsReadAt live head (y ∷ ys) k → Contains (needed live (y ∷ ys)) k) → (o : Option Kept)
+        → latest r.at (y ∷ ys) ≡ o → or_else o (cond (nat_le x.version r.at) (Some x) None) ≡ Some k
+        → Contains (needed live (x ∷ y ∷ ys)) k
     go rest None q e = here r.used (not-yet r.at y ys q) (nat_le x.version r.at) refl e
     go rest (Some l) q e = further (rest (record { at = r.at; used = r.used; reads = q ∙ e }))

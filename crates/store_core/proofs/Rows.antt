@@ -27,13 +27,23 @@ use Rattle.store_core.proofs.OneCall.{one-call, serves, step_of}
 use Rattle.store_core.proofs.Sees.{head-used, seen-at}
 
 -- a step keeps a sound state sound
-pub sound-after : RunsStaySound → (s t : State) (owner : ℕ) (e : Event) (r : Reply) → Gives s owner e r t → IsSound s → IsSound t
+pub sound-after : RunsStaySound → (s t : State) (owner : ℕ) (e : Event) (r : Reply) → Gives s owner e r t → IsSound s
+    → IsSound t
 sound-after law s t owner e r gives sound = law s t (step_of owner e r s t ∷ []) (refl, gives, refl) sound
 
-chain-of : (s : State) (pins : List Held) (id : ℕ) (ks : List Kept) → IsChain s id ks → IsChain (record s { pins = pins }) id ks
-chain-of s pins id ks h = record { ascending = h.ascending; late = h.late; only = h.only; states = h.states; records = h.records; all = h.all }
+chain-of : (s : State) (pins : List Held) (id : ℕ) (ks : List Kept) → IsChain s id ks
+    → IsChain (record s { pins = pins }) id ks
+chain-of s pins id ks h = record {
+  ascending = h.ascending;
+  late = h.late;
+  only = h.only;
+  states = h.states;
+  records = h.records;
+  all = h.all;
+}
 
-pub other-pins : (store : StoreTerm) (s : State) (pins : List Held) (held : List Pin) → StandsFor store s → IsSound (record s { pins = pins }) → map pin_of pins ≡ held
+pub other-pins : (store : StoreTerm) (s : State) (pins : List Held) (held : List Pin) → StandsFor store s
+    → IsSound (record s { pins = pins }) → map pin_of pins ≡ held
     → StandsFor (record store { pins = held }) (record s { pins = pins })
 other-pins store s pins held h sound e = record {
   sound = sound;
@@ -59,7 +69,8 @@ free-slot : (slot : ℕ) (ps : List Held) → IsFree slot (map pin_of ps) → pi
 free-slot slot [] free = refl
 free-slot slot (p ∷ ps) free =
     let other : p.slot ≢ slot = free 0 (pin_of p) (omega arith) in
-    cond-false (p.slot == slot) (Some p) (pin_in slot ps) (false_from_ne_true (p.slot == slot) (λ t. other (eqb-true p.slot slot t)))
+    cond-false (p.slot == slot) (Some p) (pin_in slot ps)
+    (false_from_ne_true (p.slot == slot) (λ t. other (eqb-true p.slot slot t)))
     ∙ free-slot slot ps (λ k d less. free (suc k) d (omega (arith, less)))
 
 -- what a Pin leaves
@@ -68,17 +79,36 @@ pub record Outcome (store : StoreTerm) (s : State) (pins : List Pin) (e : Event)
   pub stands : StandsFor (record store { pins = pins }) after
   pub gives : Gives s 0 e r after
 
-pin-taken : RunsStaySound → (store : StoreTerm) (s : State) (p : Pin) (pins : List Pin) → StandsFor store s → p.version ≡ store.version → pins ≡ store.pins ++ p ∷ [] → length store.pins < 64 → p.slot < 64 → IsFree p.slot store.pins
+pin-taken : RunsStaySound → (store : StoreTerm) (s : State) (p : Pin) (pins : List Pin) → StandsFor store s
+    → p.version ≡ store.version → pins ≡ store.pins ++ p ∷ [] → length store.pins < 64 → p.slot < 64
+    → IsFree p.slot store.pins
     → Outcome store s pins event.Pin (reply.Pinned p.slot p.version)
 pin-taken law store s p pins h v e few below free =
     let t : State = pinned s p.slot 0 in
     let at : p.version ≡ head s.history = v ∙ h.version in
     let count : length s.pins < 64 = omega (arith, few, ap (λ l. length l) h.pins, length-map s.pins pin_of) in
-    let gives : Gives s 0 event.Pin (reply.Pinned p.slot p.version) t = (serves s h.serves, (count, below, free-slot p.slot s.pins (subst (IsFree p.slot) (sym h.pins) free), at, refl)) in
+    let gives : Gives s 0 event.Pin (reply.Pinned p.slot p.version)
+    t = (
+      serves s h.serves,
+      (
+        count,
+        below,
+        free-slot p.slot s.pins
+            (subst (IsFree p.slot) (sym h.pins) free),
+        at,
+        refl,
+      ),
+    ) in
     let new : map pin_of t.pins ≡ pins =
     map-append pin_of s.pins (record { slot = p.slot; owner = 0; version = head s.history } ∷ [])
-    ∙ (ap (λ l. l ++ record { slot = p.slot; version = head s.history } ∷ []) h.pins ∙ (ap (λ n. store.pins ++ record { slot = p.slot; version = n } ∷ []) (sym at) ∙ sym e)) in
-    record { after = t; stands = other-pins store s t.pins pins h (sound-after law s t 0 event.Pin (reply.Pinned p.slot p.version) gives h.sound) new; gives = gives }
+    ∙ (ap (λ l. l ++ record { slot = p.slot; version = head s.history } ∷ []) h.pins
+    ∙ (ap (λ n. store.pins ++ record { slot = p.slot; version = n } ∷ []) (sym at) ∙ sym e)) in
+    record {
+      after = t;
+      stands = other-pins store s t.pins pins h
+          (sound-after law s t 0 event.Pin (reply.Pinned p.slot p.version) gives h.sound) new;
+      gives = gives;
+    }
 
 pub pin-outcome : RunsStaySound → (store : StoreTerm) (s : State) (r : Option Pin) (pins : List Pin) → StandsFor store s
     → MatchOption r (pins ≡ store.pins) (λ p. (p.version ≡ store.version) × (pins ≡ store.pins ++ p ∷ []))
@@ -93,24 +123,37 @@ pin-outcome law store s None pins h same full free = record {
 pin-outcome law store s (Some p) pins h new few free = pin-taken law store s p pins h new.0 new.1 few free.0 free.1
 
 -- a pin of the registry is held, by some owner
-pub held-in : (pin : Pin) (ps : List Held) → SlotsApart ps → Contains (map pin_of ps) pin → (owner : ℕ) × (pin_in pin.slot ps ≡ Some (record { slot = pin.slot; owner = owner; version = pin.version }))
+pub held-in : (pin : Pin) (ps : List Held) → SlotsApart ps → Contains (map pin_of ps) pin
+    → (owner : ℕ) × (pin_in pin.slot ps ≡ Some (record { slot = pin.slot; owner = owner; version = pin.version }))
 held-in pin [] apart c = absurd (omega (arith, c.1))
 held-in pin (p ∷ ps) apart c =
     elim (contains-split (pin_of p) pin (map pin_of ps) c) [
-      | inl e ↦ (p.owner, cond-true (p.slot == pin.slot) (Some p) (pin_in pin.slot ps) (eq-eqb p.slot pin.slot (ap (λ (q : Pin). q.slot) e)) ∙ ap (λ (q : Pin). Some (record { slot = q.slot; owner = p.owner; version = q.version })) e)
+      | inl e ↦ (
+        p.owner,
+        cond-true (p.slot == pin.slot) (Some p) (pin_in pin.slot ps)
+            (eq-eqb p.slot pin.slot (ap (λ (q : Pin). q.slot) e))
+            ∙ ap (λ (q : Pin). Some (record { slot = q.slot; owner = p.owner; version = q.version })) e,
+      )
       | inr d ↦
-          let rest = held-in pin ps apart.2 d in
-          (rest.0, cond-false (p.slot == pin.slot) (Some p) (pin_in pin.slot ps) (false_from_ne_true (p.slot == pin.slot) (λ t. none-some (sym (subst (λ k. pin_in k ps ≡ None) (eqb-true p.slot pin.slot t) apart.1) ∙ rest.1))) ∙ rest.1)
+          let rest = held-in pin ps apart.2 d in (
+            rest.0,
+            cond-false (p.slot == pin.slot) (Some p) (pin_in pin.slot ps)
+                (false_from_ne_true (p.slot == pin.slot)
+                (λ t. none-some (sym (subst (λ k. pin_in k ps ≡ None) (eqb-true p.slot pin.slot t) apart.1) ∙ rest.1)))
+                ∙ rest.1,
+          )
     ]
   where
     none-some : {X : Type 0} {x : X} → None ≡ Some x → ⊥
     none-some e = cc
 
-others-mapped : (slot : ℕ) (ps : List Held) → map pin_of (filter (λ p. not (p.slot == slot)) ps) ≡ filter (is_other slot) (map pin_of ps)
+others-mapped : (slot : ℕ) (ps : List Held) → map pin_of (filter (λ p. not (p.slot == slot)) ps)
+    ≡ filter (is_other slot) (map pin_of ps)
 others-mapped slot [] = refl
 others-mapped slot (p ∷ ps) =
     let rest = filter (λ (q : Held). not (q.slot == slot)) ps in
-    elim (not (p.slot == slot)) as (λ b. map pin_of (cond b (p ∷ rest) rest) ≡ cond b (pin_of p ∷ filter (is_other slot) (map pin_of ps)) (filter (is_other slot) (map pin_of ps))) [
+    elim (not (p.slot == slot)) as (λ b. map pin_of (cond b (p ∷ rest) rest)
+    ≡ cond b (pin_of p ∷ filter (is_other slot) (map pin_of ps)) (filter (is_other slot) (map pin_of ps))) [
       | true ↦ ap (λ l. pin_of p ∷ l) (others-mapped slot ps)
       | false ↦ others-mapped slot ps
     ]
@@ -122,59 +165,112 @@ pub record Given (store : StoreTerm) (s : State) (pin : Pin) (pins : List Pin) :
   pub stands : StandsFor (record store { pins = pins }) after
   pub gives : Gives s owner (event.Unpin pin.slot) reply.Unpinned after
 
-pub unpin-given : RunsStaySound → (store : StoreTerm) (s : State) (pin : Pin) (pins : List Pin) → StandsFor store s → Contains store.pins pin → pins ≡ filter (is_other pin.slot) store.pins → Given store s pin pins
+pub unpin-given : RunsStaySound → (store : StoreTerm) (s : State) (pin : Pin) (pins : List Pin) → StandsFor store s
+    → Contains store.pins pin → pins ≡ filter (is_other pin.slot) store.pins → Given store s pin pins
 unpin-given law store s pin pins h c e =
     let t : State = unpinned s pin.slot in
     let held = held-in pin s.pins h.sound.slots (subst (λ l. Contains l pin) (sym h.pins) c) in
-    let gives : Gives s held.0 (event.Unpin pin.slot) reply.Unpinned t = (serves s h.serves, (pin.version, held.1, refl)) in
-    let new : map pin_of t.pins ≡ pins = others-mapped pin.slot s.pins ∙ (ap (λ l. filter (is_other pin.slot) l) h.pins ∙ sym e) in
-    record { owner = held.0; after = t; stands = other-pins store s t.pins pins h (sound-after law s t held.0 (event.Unpin pin.slot) reply.Unpinned gives h.sound) new; gives = gives }
+    let gives : Gives s held.0 (event.Unpin pin.slot) reply.Unpinned
+    t = (serves s h.serves, (pin.version, held.1, refl)) in
+    let new : map pin_of t.pins ≡ pins = others-mapped pin.slot s.pins
+    ∙ (ap (λ l. filter (is_other pin.slot) l) h.pins ∙ sym e) in
+    record {
+      owner = held.0;
+      after = t;
+      stands = other-pins store s t.pins pins h
+          (sound-after law s t held.0 (event.Unpin pin.slot) reply.Unpinned gives h.sound) new;
+      gives = gives;
+    }
 
 -- Stats
-pub stats-gives : (store : StoreTerm) (s : State) (pins : ℕ) → StandsFor store s → pins ≡ length store.pins → Gives s 0 event.Stats (reply.Counted store.version store.live store.withdrawn store.kept pins) s
-stats-gives store s pins h e = (serves s h.serves, (h.version, h.live, h.withdrawn, h.kept, e ∙ (ap (λ l. length l) (sym h.pins) ∙ length-map s.pins pin_of), refl))
+pub stats-gives : (store : StoreTerm) (s : State) (pins : ℕ) → StandsFor store s → pins ≡ length store.pins
+    → Gives s 0 event.Stats (reply.Counted store.version store.live store.withdrawn store.kept pins) s
+stats-gives store s pins h e = (
+  serves s h.serves,
+  (
+    h.version,
+    h.live,
+    h.withdrawn,
+    h.kept,
+    e
+        ∙ (ap (λ l. length l) (sym h.pins) ∙ length-map s.pins pin_of),
+    refl,
+  ),
+)
 
 -- of the registry's pins those of other slots stay
-pub others-held : (pin : Pin) (slot version : ℕ) (ps : List Pin) → Contains (filter (is_other pin.slot) ps) (record { slot = slot; version = version }) ↔ (Contains ps (record { slot = slot; version = version }) × ¬ (pin.slot ≡ slot))
+pub others-held : (pin : Pin) (slot version : ℕ) (ps : List Pin)
+    → Contains (filter (is_other pin.slot) ps) (record { slot = slot; version = version })
+    ↔ (Contains ps (record { slot = slot; version = version }) × ¬ (pin.slot ≡ slot))
 others-held pin slot version ps = (go ps, λ h. back ps h.0 h.1)
   where
     x : Pin
     x = record { slot = slot; version = version }
 
-    go : (ps : List Pin) → Contains (filter (is_other pin.slot) ps) (record { slot = slot; version = version }) → Contains ps (record { slot = slot; version = version }) × ¬ (pin.slot ≡ slot)
+    go : (ps : List Pin) → Contains (filter (is_other pin.slot) ps) (record { slot = slot; version = version })
+        → Contains ps (record { slot = slot; version = version }) × ¬ (pin.slot ≡ slot)
     go [] c = absurd (omega (arith, c.1))
     go (p ∷ ps) c =
-        elim (p.slot == pin.slot) as (λ b. (p.slot == pin.slot) ≡ b → Contains (cond (not b) (p ∷ filter (is_other pin.slot) ps) (filter (is_other pin.slot) ps)) (record { slot = slot; version = version }) → Contains (p ∷ ps) (record { slot = slot; version = version }) × ¬ (pin.slot ≡ slot)) [
+        elim (p.slot == pin.slot) as (λ b. (p.slot == pin.slot) ≡ b
+        → Contains (cond (not b) (p ∷ filter (is_other pin.slot) ps) (filter (is_other pin.slot) ps))
+        (record { slot = slot; version = version }) → Contains (p ∷ ps) (record { slot = slot; version = version })
+        × ¬ (pin.slot ≡ slot)) [
           | true ↦ λ e d. let r = go ps d in (contains-there p _ ps r.0, r.1)
-          | false ↦ λ e d. elim (contains-split p (record { slot = slot; version = version }) (filter (is_other pin.slot) ps) d) [
-            | inl f ↦ (contains-here p _ ps f, λ g. true≢false (sym (eq-eqb p.slot pin.slot (ap (λ (q : Pin). q.slot) f ∙ sym g)) ∙ e))
-            | inr f ↦ let r = go ps f in (contains-there p _ ps r.0, r.1)
-          ]
+          | false ↦ λ e d. elim (contains-split p (record { slot = slot; version = version })
+              (filter (is_other pin.slot) ps) d) [
+                | inl f ↦ (
+                  contains-here p _ ps f,
+                  λ g. true≢false
+                      (sym (eq-eqb p.slot pin.slot (ap (λ (q : Pin). q.slot) f ∙ sym g)) ∙ e),
+                )
+                | inr f ↦ let r = go ps f in (contains-there p _ ps r.0, r.1)
+              ]
         ] refl c
 
-    back : (ps : List Pin) → Contains ps (record { slot = slot; version = version }) → ¬ (pin.slot ≡ slot) → Contains (filter (is_other pin.slot) ps) (record { slot = slot; version = version })
+    back : (ps : List Pin) → Contains ps (record { slot = slot; version = version }) → ¬ (pin.slot ≡ slot)
+        → Contains (filter (is_other pin.slot) ps) (record { slot = slot; version = version })
     back [] c other = absurd (omega (arith, c.1))
     back (p ∷ ps) c other =
         elim (contains-split p (record { slot = slot; version = version }) ps c) [
           | inl f ↦
-              subst (λ b. Contains (cond (not b) (p ∷ filter (is_other pin.slot) ps) (filter (is_other pin.slot) ps)) (record { slot = slot; version = version }))
-              (sym (false_from_ne_true (p.slot == pin.slot) (λ t. other (sym (eqb-true p.slot pin.slot t) ∙ ap (λ (q : Pin). q.slot) f))))
+              subst (λ b. Contains (cond (not b) (p ∷ filter (is_other pin.slot) ps) (filter (is_other pin.slot) ps))
+              (record { slot = slot; version = version }))
+              (sym (false_from_ne_true (p.slot == pin.slot)
+              (λ t. other (sym (eqb-true p.slot pin.slot t) ∙ ap (λ (q : Pin). q.slot) f))))
               (contains-here p _ (filter (is_other pin.slot) ps) f)
-          | inr d ↦ cond_both (not (p.slot == pin.slot)) (p ∷ filter (is_other pin.slot) ps) (filter (is_other pin.slot) ps) (λ l. Contains l (record { slot = slot; version = version }))
+          | inr d ↦ cond_both (not (p.slot == pin.slot)) (p ∷ filter (is_other pin.slot) ps)
+              (filter (is_other pin.slot) ps) (λ l. Contains l (record { slot = slot; version = version }))
               (λ _. contains-there p _ (filter (is_other pin.slot) ps) (back ps d other)) (λ _. back ps d other)
         ]
 
 -- Look
-pub look-gives : KeptIsRead → StatesStay → (store : StoreTerm) (s : State) (id : ℕ) (status : Option Status) → StandsFor store s → status ≡ seen store.version (chain_of store.chains id) → Gives s 0 (event.Look id) (reply.Looked status) s
-look-gives read stay store s id status h e = (serves s h.serves, (e ∙ (ap (λ v. seen v (chain_of store.chains id)) h.version ∙ sym (seen-at read stay store s (head s.history) id h (head-used s))), refl))
+pub look-gives : KeptIsRead → StatesStay → (store : StoreTerm) (s : State) (id : ℕ) (status : Option Status)
+    → StandsFor store s → status ≡ seen store.version (chain_of store.chains id)
+    → Gives s 0 (event.Look id) (reply.Looked status) s
+look-gives read stay store s id status h e = (
+  serves s h.serves,
+  (
+    e
+        ∙ (ap (λ v. seen v (chain_of store.chains id)) h.version
+        ∙ sym (seen-at read stay store s (head s.history) id h (head-used s))),
+    refl,
+  ),
+)
 
-look-ok : KeptIsRead → StatesStay → (store : StoreTerm) (s : State) (id : ℕ) (status : Option Status) → StandsFor store s → status ≡ seen store.version (chain_of store.chains id) → Calls Stretches (λ _. true) store store s ((event.Look id, reply.Looked status) ∷ [])
-look-ok read stay store s id status h e = one-call store store s s 0 (event.Look id) (reply.Looked status) refl h (look-gives read stay store s id status h e) h
+look-ok : KeptIsRead → StatesStay → (store : StoreTerm) (s : State) (id : ℕ) (status : Option Status)
+    → StandsFor store s → status ≡ seen store.version (chain_of store.chains id)
+    → Calls Stretches (λ _. true) store store s ((event.Look id, reply.Looked status) ∷ [])
+look-ok read stay store s id status h e = one-call store store s s 0 (event.Look id) (reply.Looked status) refl h
+    (look-gives read stay store s id status h e) h
 
-pub look-call : KeptIsRead → StatesStay → (store : StoreTerm) (s : State) (id : ℕ) (k : Kept) (r : Result Look CallFault) → StandsFor store s → Some k ≡ latest store.version (chain_of store.chains id)
-    → IfOk r (λ l. looked l ≡ Some (status_of k)) → IfErr r (λ e. e ≡ call.NoMemory) → Calls Stretches (λ _. true) store store s (look_calls id r)
-look-call read stay store s id k (Ok l) h at ok err = look-ok read stay store s id (looked l) h (ok ∙ ap (option_map status_of) at)
-look-call read stay store s id k (Err call.NoMemory) h at ok err = one-call store store s s 0 (event.Look id) reply.NoMemory refl h (serves s h.serves, refl) h
+pub look-call : KeptIsRead → StatesStay → (store : StoreTerm) (s : State) (id : ℕ) (k : Kept)
+    (r : Result Look CallFault) → StandsFor store s → Some k ≡ latest store.version (chain_of store.chains id)
+    → IfOk r (λ l. looked l ≡ Some (status_of k)) → IfErr r (λ e. e ≡ call.NoMemory)
+    → Calls Stretches (λ _. true) store store s (look_calls id r)
+look-call read stay store s id k (Ok l) h at ok err = look-ok read stay store s id (looked l) h (ok
+    ∙ ap (option_map status_of) at)
+look-call read stay store s id k (Err call.NoMemory) h at ok err = one-call store store s s 0
+    (event.Look id) reply.NoMemory refl h (serves s h.serves, refl) h
 look-call read stay store s id k (Err call.Worn) h at ok err = absurd (other-fault err)
   where
     is-worn : CallFault → Bool
@@ -184,5 +280,7 @@ look-call read stay store s id k (Err call.Worn) h at ok err = absurd (other-fau
     other-fault : call.Worn ≡ call.NoMemory → ⊥
     other-fault e = true≢false (ap is-worn e)
 
-pub look-none : KeptIsRead → StatesStay → (store : StoreTerm) (s : State) (id : ℕ) → StandsFor store s → None ≡ latest store.version (chain_of store.chains id) → Calls Stretches (λ _. true) store store s ((event.Look id, reply.Looked None) ∷ [])
+pub look-none : KeptIsRead → StatesStay → (store : StoreTerm) (s : State) (id : ℕ) → StandsFor store s
+    → None ≡ latest store.version (chain_of store.chains id)
+    → Calls Stretches (λ _. true) store store s ((event.Look id, reply.Looked None) ∷ [])
 look-none read stay store s id h at = look-ok read stay store s id None h (ap (option_map status_of) at)

@@ -7,9 +7,11 @@ use Rattle.mol_finish.specs.declared.fault.Format.{Format}
 use Rattle.store_machine.specs.Structures.{HasAll, IsPrintOf, IsScreened}
 
 abbrev pub OneStructure : Type 0
-OneStructure = (format : Format) (text : List ℕ) (m n : Molecule) → HasMolecule format text m → HasMolecule format text n → m ≡ n
+OneStructure = (format : Format) (text : List ℕ) (m n : Molecule) → HasMolecule format text m
+    → HasMolecule format text n → m ≡ n
 
-pub screened : OneStructure → (format : Format) (text : List ℕ) (m : Molecule) (print want : List Bool) → HasMolecule format text m → IsPrintOf m print
+pub screened : OneStructure → (format : Format) (text : List ℕ) (m : Molecule) (print want : List Bool)
+    → HasMolecule format text m → IsPrintOf m print
     → ((bit : ℕ) → HasBit want bit → HasBit print bit) ↔ IsScreened want format text
 screened one format text m print want h is = (
   λ holds. (m, h, λ bit w. (is bit).0 (holds bit w)),

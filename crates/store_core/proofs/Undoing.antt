@@ -14,7 +14,8 @@ use Rattle.store_core.proofs.Heads.{total}
 
 -- the store after a change and the store without it, as fields
 pub record TakesBack (after : StoreTerm) (undo : Undo) (new : StoreTerm) : Type 0 where
-  pub chains : (q : ℕ) → chain_of new.chains q ≡ cond (q == undo.id) (but_last (chain_of after.chains undo.id)) (chain_of after.chains q)
+  pub chains : (q : ℕ) → chain_of new.chains q ≡ cond (q == undo.id) (but_last (chain_of after.chains undo.id))
+      (chain_of after.chains q)
   pub sum : 1 ≤ length (chain_of after.chains undo.id) → total new.chains + 1 ≡ total after.chains
   pub ordered : IsStrictlySortedBy nat_cmp (keys_of new.chains)
   pub pins : new.pins ≡ after.pins
@@ -29,52 +30,67 @@ but-last-push ks k =
     let size : length (ks ++ k ∷ []) - 1 ≡ length ks = omega (arith, length-append ks (k ∷ [])) in
     ap (λ n. take n (ks ++ k ∷ [])) size ∙ take_at ks (k ∷ []) (length ks) refl
 
-module _ (before after new : StoreTerm) (undo : Undo) (f : Follows before undo after) (b : TakesBack after undo new) where
-  the-chain : chain_of after.chains undo.id ≡ chain_of before.chains undo.id ++ f.last ∷ []
-  the-chain = f.chains undo.id ∙ cond-true (undo.id == undo.id) _ _ (eq-eqb undo.id undo.id refl)
+module _ (before after new : StoreTerm) (undo : Undo) (f : Follows before undo after) (b : TakesBack after undo new)
+  where
+    the-chain : chain_of after.chains undo.id ≡ chain_of before.chains undo.id ++ f.last ∷ []
+    the-chain = f.chains undo.id ∙ cond-true (undo.id == undo.id) _ _ (eq-eqb undo.id undo.id refl)
 
-  back : (q : ℕ) → chain_of new.chains q ≡ chain_of before.chains q
-  back q =
-      elim (q == undo.id) as (λ t. (q == undo.id) ≡ t → chain_of new.chains q ≡ chain_of before.chains q) [
-        | true ↦ λ e.
-            b.chains q ∙ (cond-true (q == undo.id) _ _ e ∙ (ap but_last the-chain ∙ (but-last-push (chain_of before.chains undo.id) f.last
-            ∙ ap (λ i. chain_of before.chains i) (sym (eqb-true q undo.id e)))))
-        | false ↦ λ e. b.chains q ∙ (cond-false (q == undo.id) _ _ e ∙ (f.chains q ∙ cond-false (q == undo.id) _ _ e))
-      ] refl
+    back : (q : ℕ) → chain_of new.chains q ≡ chain_of before.chains q
+    back q =
+        elim (q == undo.id) as (λ t. (q == undo.id) ≡ t → chain_of new.chains q ≡ chain_of before.chains q) [
+          | true ↦ λ e.
+              b.chains q ∙ (cond-true (q == undo.id) _ _ e
+              ∙ (ap but_last the-chain ∙ (but-last-push (chain_of before.chains undo.id) f.last
+              ∙ ap (λ i. chain_of before.chains i) (sym (eqb-true q undo.id e)))))
+          | false ↦ λ e. b.chains q ∙ (cond-false (q == undo.id) _ _ e ∙ (f.chains q ∙ cond-false (q == undo.id) _ _ e))
+        ] refl
 
-  some-state : 1 ≤ length (chain_of after.chains undo.id)
-  some-state = omega (arith, ap (λ (ks : List Kept). length ks) the-chain, length-append (chain_of before.chains undo.id) (f.last ∷ []))
+    some-state : 1 ≤ length (chain_of after.chains undo.id)
+    some-state = omega (
+      arith,
+      ap (λ (ks : List Kept). length ks) the-chain,
+      length-append
+          (chain_of before.chains undo.id) (f.last ∷ []),
+    )
 
-  pub back-pins : new.pins ≡ before.pins
-  back-pins = b.pins ∙ f.pins
+    pub back-pins : new.pins ≡ before.pins
+    back-pins = b.pins ∙ f.pins
 
-  pub back-version : new.version ≡ before.version
-  back-version = omega (arith, b.version, f.version)
+    pub back-version : new.version ≡ before.version
+    back-version = omega (arith, b.version, f.version)
 
-  pub stands-again : (s : State) → StandsFor before s → StandsFor new s
-  stands-again s h = record {
-    sound = h.sound;
-    serves = h.serves;
-    doubt = h.doubt;
-    version = back-version ∙ h.version;
-    limit = b.limit ∙ (f.limit ∙ h.limit);
-    most = omega (arith, b.limit, f.limit, h.most);
-    within = omega (arith, back-version, h.within);
-    pins = h.pins ∙ sym back-pins;
-    kept = omega (arith, b.kept, f.kept, h.kept);
-    few = omega (arith, b.kept, f.kept, back-version, h.few);
-    sum = omega (arith, b.sum some-state, f.sum, h.sum, b.kept, f.kept);
-    live = b.live ∙ (f.live ∙ h.live);
-    withdrawn = b.withdrawn ∙ (f.withdrawn ∙ h.withdrawn);
-    ids = omega (arith, b.live, f.live, b.withdrawn, f.withdrawn, back-version, h.ids);
-    ordered = b.ordered;
-    chains = λ q. subst (IsChain s q) (sym (back q)) (h.chains q);
-  }
+    pub stands-again : (s : State) → StandsFor before s → StandsFor new s
+    stands-again s h = record {
+      sound = h.sound;
+      serves = h.serves;
+      doubt = h.doubt;
+      version = back-version ∙ h.version;
+      limit = b.limit ∙ (f.limit ∙ h.limit);
+      most = omega (arith, b.limit, f.limit, h.most);
+      within = omega (arith, back-version, h.within);
+      pins = h.pins ∙ sym back-pins;
+      kept = omega (arith, b.kept, f.kept, h.kept);
+      few = omega (arith, b.kept, f.kept, back-version, h.few);
+      sum = omega (arith, b.sum some-state, f.sum, h.sum, b.kept, f.kept);
+      live = b.live ∙ (f.live ∙ h.live);
+      withdrawn = b.withdrawn ∙ (f.withdrawn ∙ h.withdrawn);
+      ids = omega (arith, b.live, f.live, b.withdrawn, f.withdrawn, back-version, h.ids);
+      ordered = b.ordered;
+      chains = λ q. subst (IsChain s q) (sym (back q)) (h.chains q);
+    }
 
 -- the limit is another
-pub relimited : (store : StoreTerm) (s : State) (commits : ℕ) → commits ≤ 16777215 → StandsFor store s → StandsFor (record store { limit = commits }) (record s { limit = commits })
+pub relimited : (store : StoreTerm) (s : State) (commits : ℕ) → commits ≤ 16777215 → StandsFor store s
+    → StandsFor (record store { limit = commits }) (record s { limit = commits })
 relimited store s commits few h = record {
-  sound = record { history = h.sound.history; doubt = h.sound.doubt; slots = h.sound.slots; pins = h.sound.pins; kept = h.sound.kept; made = h.sound.made };
+  sound = record {
+    history = h.sound.history;
+    doubt = h.sound.doubt;
+    slots = h.sound.slots;
+    pins = h.sound.pins;
+    kept = h.sound.kept;
+    made = h.sound.made;
+  };
   serves = h.serves;
   doubt = h.doubt;
   version = h.version;
@@ -89,5 +105,6 @@ relimited store s commits few h = record {
   withdrawn = h.withdrawn;
   ids = h.ids;
   ordered = h.ordered;
-  chains = λ id. let k = h.chains id in record { ascending = k.ascending; late = k.late; only = k.only; states = k.states; records = k.records; all = k.all };
+  chains = λ id. let k = h.chains id in record
+      { ascending = k.ascending; late = k.late; only = k.only; states = k.states; records = k.records; all = k.all };
 }

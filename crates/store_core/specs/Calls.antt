@@ -12,7 +12,8 @@ use Rattle.store_core.specs.declared.words.CommitFault.{CommitFault}
 use Rattle.store_core.specs.declared.words.CommitFault.TheVariants as commit
 
 -- there is a stretch in which the caller's own calls are these
-pub record Calls {S : Type 0} (stretch : S → S → State → List Step → State → Type 0) (owns : ℕ → Bool) (old new : S) (s : State) (calls : List (Event × Reply)) : Type 0 where
+pub record Calls {S : Type 0} (stretch : S → S → State → List Step → State → Type 0) (owns : ℕ → Bool) (old new : S)
+    (s : State) (calls : List (Event × Reply)) : Type 0 where
   pub steps : List Step
   pub after : State
   pub stands : stretch old new s steps after

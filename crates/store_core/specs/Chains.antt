@@ -46,7 +46,8 @@ is_between from to v = nat_le from v && nat_lt v to
 abbrev pub needed : List ℕ → List Kept → List Kept
 needed live [] = []
 needed live (k ∷ []) = k ∷ []
-needed live (k ∷ l ∷ ls) = if list_any (is_between k.version l.version) live then k ∷ needed live (l ∷ ls) else needed live (l ∷ ls)
+needed live (k ∷ l ∷ ls) = if list_any (is_between k.version l.version) live then k ∷ needed live (l ∷ ls)
+    else needed live (l ∷ ls)
 
 -- the chain of an identifier, where there is one
 abbrev pub states_in : Option (List Kept) → List Kept

@@ -91,7 +91,8 @@ abbrev pub pin_calls : Result (Option Pin) CallFault → List (Event × Reply)
 pin_calls result = calls event.Pin pin_reply result
 
 abbrev pub fetch_calls : ℕ → List Bool → ℕ → ℕ → List Shared → Result Bool CallFault → List (Event × Reply)
-fetch_calls slot want from limit records result = calls (event.Fetch slot want from limit) (λ last. reply.Page (founds records) last) result
+fetch_calls slot want from limit records result = calls (event.Fetch slot want from limit)
+    (λ last. reply.Page (founds records) last) result
 
 abbrev pub unpin_calls : ℕ → Result (Unit {0}) CallFault → List (Event × Reply)
 unpin_calls slot result = calls (event.Unpin slot) (λ _. reply.Unpinned) result

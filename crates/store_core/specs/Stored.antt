@@ -68,7 +68,16 @@ IsStore store = (s : State) × StandsFor store s
 
 -- nothing was committed, and nothing is held
 abbrev pub empty : ℕ → State
-empty commits = record { history = []; limit = commits; pins = []; kept = []; doubt = None; faults = record { a = 0; b = 0 }; serves = true }
+empty commits = record {
+  history = [];
+  limit = commits;
+  pins = [];
+  kept = [];
+  doubt = None;
+  faults = record
+      { a = 0; b = 0 };
+  serves = true;
+}
 
 abbrev pub HoldsPin : StoreTerm → ℕ → ℕ → Type 0
 HoldsPin store slot version = Contains store.pins (record { slot = slot; version = version })
@@ -90,10 +99,17 @@ calm-joins : (xs ys : List Step) → IsCalm xs → IsCalm ys → IsCalm (xs ++ y
 calm-joins [] ys a b = b
 calm-joins (x ∷ xs) ys a b = (a.0, calm-joins xs ys a.1 b)
 
-pub joins : (a b c : StoreTerm) (s t u : State) (xs ys : List Step) → Stretches a b s xs t → Stretches b c t ys u → Stretches a c s (xs ++ ys) u
-joins a b c s t u xs ys r q = record { begins = r.begins; ends = q.ends; run = run-joins xs ys s t u r.run q.run; calm = calm-joins xs ys r.calm q.calm }
+pub joins : (a b c : StoreTerm) (s t u : State) (xs ys : List Step) → Stretches a b s xs t → Stretches b c t ys u
+    → Stretches a c s (xs ++ ys) u
+joins a b c s t u xs ys r q = record {
+  begins = r.begins;
+  ends = q.ends;
+  run = run-joins xs ys s t u r.run q.run;
+  calm = calm-joins xs ys r.calm q.calm;
+}
 
-pub lands : (a b : StoreTerm) (s t : State) (xs : List Step) → Stretches a b s xs t → StandsFor b t × IsRun s xs t × IsCalm xs
+pub lands : (a b : StoreTerm) (s t : State) (xs : List Step) → Stretches a b s xs t
+    → StandsFor b t × IsRun s xs t × IsCalm xs
 lands a b s t xs r = (r.ends, r.run, r.calm)
 
 pub same : (a b : StoreTerm) (s t : State) (xs : List Step) (n : ℕ) → Stretches a b s xs t → true ≡ true

@@ -29,7 +29,8 @@ IsWhy s c commit.NoMemory = Unit {0}
 pub record Follows (before : StoreTerm) (undo : Undo) (after : StoreTerm) : Type 0 where
   pub was : IsStore before
   pub last : Kept
-  pub chains : (id : ℕ) → chain_of after.chains id ≡ (if id == undo.id then chain_of before.chains undo.id ++ last ∷ [] else chain_of before.chains id)
+  pub chains : (id : ℕ) → chain_of after.chains id ≡ (if id == undo.id then chain_of before.chains undo.id ++ last ∷ []
+      else chain_of before.chains id)
   pub sum : sum_by (λ ks. length ks) (values_of after.chains) ≡ sum_by (λ ks. length ks) (values_of before.chains) + 1
   pub pins : after.pins ≡ before.pins
   pub version : after.version ≡ before.version + 1

@@ -31,7 +31,8 @@ impl Model for Record {
 
     ghost view = { λ r. record { id = r.id; format = r.format; text = r.text.items; mol = r.mol; print = r.print } };
 
-    ghost invariant = { λ r. IsRecord (record { id = r.id; format = r.format; text = r.text.items; mol = r.mol; print = r.print }) };
+    ghost invariant = { λ r. IsRecord (record
+        { id = r.id; format = r.format; text = r.text.items; mol = r.mol; print = r.print }) };
 }
 
 impl Record {

@@ -16,8 +16,8 @@ use chem_core::Print;
 use snap_registry::Pin;
 use std::sync::ledger::Ledger;
 
-/// The machine as one caller sees it. Each call is a step of one run, in which others may have steps too; a call that is
-/// answered `Worn` is none. No call but `commit`, `fetch` and `look` wants memory.
+/// The machine as one caller sees it. Each call is a step of one run, in which others may have steps too; a call that
+/// is answered `Worn` is none. No call but `commit`, `fetch` and `look` wants memory.
 pub trait Service {
     /// The states that the value may be at, as far as its caller knows.
     ghost at: { Self → State → Type 0 };
@@ -37,17 +37,19 @@ pub trait Service {
     /// For each of two disks a number that its count of faults never exceeds, where it tells one.
     ghost bounds: { Self → Option ℕ × Option ℕ };
 
-    /// Commits a change, and answers the version that it makes. After a fault the history, the pins and the kept entries
-    /// are as before.
+    /// Commits a change, and answers the version that it makes. After a fault the history, the pins and the kept
+    /// entries are as before.
     fn commit(&mut self, change: Change) -> Result<u32, CommitFault>
-        ensures call { (s : State) → at self.old s → Calls stretch (owns self.old) self.old self.new s (commit_calls change result) }
+        ensures call { (s : State) → at self.old s
+            → Calls stretch (owns self.old) self.old self.new s (commit_calls change result) }
         ensures worn { WornAs (worn self.old) (worn self.new) (is_worn_out result) }
         ensures held { SameHeld (holds self.old) (holds self.new) }
         ensures bounds { NotRaised (bounds self.old) (bounds self.new) };
 
     /// Pins the head. `None` exactly where 64 pins are held.
     fn pin(&mut self) -> Result<Option<Pin>, CallFault>
-        ensures call { (s : State) → at self.old s → Calls stretch (owns self.old) self.old self.new s (pin_calls result) }
+        ensures call { (s : State) → at self.old s
+            → Calls stretch (owns self.old) self.old self.new s (pin_calls result) }
         ensures worn { WornAs (worn self.old) (worn self.new) (is_worn result) }
         ensures held { (slot version : ℕ)
             → holds self.new slot version ↔ (holds self.old slot version ⊎ IsTaken result slot version) }
@@ -55,8 +57,8 @@ pub trait Service {
         ensures memory { NeedsNone result }
         ensures bounds { NotRaised (bounds self.old) (bounds self.new) };
 
-    /// The next page of a pinned version: the records of the first `limit` identifiers from `from` on that are live there
-    /// and whose print holds what is wanted. Answers whether no other follows. After a fault the page is empty.
+    /// The next page of a pinned version: the records of the first `limit` identifiers from `from` on that are live
+    /// there and whose print holds what is wanted. Answers whether no other follows. After a fault the page is empty.
     fn fetch<L: Ledger>(
         &mut self,
         pin: &Pin,
@@ -70,7 +72,9 @@ pub trait Service {
         requires some { 1 ≤ limit }
         requires few { limit ≤ MOST_RECORDS }
         requires room { limit ≤ page.old.room }
-        ensures call { (s : State) → at self.old s → Calls stretch (owns self.old) self.old self.new s (fetch_calls pin.now.slot want.now from limit page.new.records result) }
+        ensures call { (s : State) → at self.old s
+            → Calls stretch (owns self.old) self.old self.new s
+            (fetch_calls pin.now.slot want.now from limit page.new.records result) }
         ensures few { length page.new.records ≤ limit }
         ensures in_range { All (λ (r : Shared). IsId (arc_value r).id) page.new.records }
         ensures err { OnErr result (page.new.records ≡ []) }
@@ -83,7 +87,8 @@ pub trait Service {
     /// Gives a pin back.
     fn unpin(&mut self, pin: Pin) -> Result<(), CallFault>
         requires held { holds self.old pin.slot pin.version }
-        ensures call { (s : State) → at self.old s → Calls stretch (owns self.old) self.old self.new s (unpin_calls pin.slot result) }
+        ensures call { (s : State) → at self.old s
+            → Calls stretch (owns self.old) self.old self.new s (unpin_calls pin.slot result) }
         ensures worn { WornAs (worn self.old) (worn self.new) (is_worn result) }
         ensures held { (slot version : ℕ)
             → holds self.new slot version ↔ (holds self.old slot version × ¬ IsReturned result pin slot) }
@@ -92,7 +97,8 @@ pub trait Service {
 
     /// Drops the entries that neither a pinned version nor the head reads, and answers how many.
     fn prune(&mut self) -> Result<u32, CallFault>
-        ensures call { (s : State) → at self.old s → Calls stretch (owns self.old) self.old self.new s (prune_calls result) }
+        ensures call { (s : State) → at self.old s
+            → Calls stretch (owns self.old) self.old self.new s (prune_calls result) }
         ensures worn { WornAs (worn self.old) (worn self.new) (is_worn result) }
         ensures held { SameHeld (holds self.old) (holds self.new) }
         ensures memory { NeedsNone result }
@@ -100,7 +106,8 @@ pub trait Service {
 
     /// What an identifier is at the head.
     fn look(&mut self, id: u32) -> Result<Look, CallFault>
-        ensures call { (s : State) → at self.old s → Calls stretch (owns self.old) self.old self.new s (look_calls id result) }
+        ensures call { (s : State) → at self.old s
+            → Calls stretch (owns self.old) self.old self.new s (look_calls id result) }
         ensures entry { IfOk result (λ l. IsLookOf id l) }
         ensures worn { WornAs (worn self.old) (worn self.new) (is_worn result) }
         ensures held { SameHeld (holds self.old) (holds self.new) }
@@ -108,7 +115,8 @@ pub trait Service {
 
     /// Counts at the head.
     fn stats(&mut self) -> Result<Stats, CallFault>
-        ensures call { (s : State) → at self.old s → Calls stretch (owns self.old) self.old self.new s (stats_calls result) }
+        ensures call { (s : State) → at self.old s
+            → Calls stretch (owns self.old) self.old self.new s (stats_calls result) }
         ensures worn { WornAs (worn self.old) (worn self.new) (is_worn result) }
         ensures held { SameHeld (holds self.old) (holds self.new) }
         ensures memory { NeedsNone result }
@@ -118,10 +126,12 @@ pub trait Service {
     ghost stays: { (a : Self) (s : State) → at a s → stretch a a s [] s };
 
     /// Two stretches that follow each other are one.
-    ghost joins: { (a b c : Self) (s t u : State) (xs ys : List Step) → stretch a b s xs t → stretch b c t ys u → stretch a c s (xs ++ ys) u };
+    ghost joins: { (a b c : Self) (s t u : State) (xs ys : List Step) → stretch a b s xs t → stretch b c t ys u
+        → stretch a c s (xs ++ ys) u };
 
     /// A stretch is a part of a run without a crash, and ends where the value is.
-    ghost lands: { (a b : Self) (s t : State) (xs : List Step) → stretch a b s xs t → at b t × IsRun s xs t × IsCalm xs };
+    ghost lands: { (a b : Self) (s t : State) (xs : List Step) → stretch a b s xs t
+        → at b t × IsRun s xs t × IsCalm xs };
 
     /// The caller's numbers stay.
     ghost same: { (a b : Self) (s t : State) (xs : List Step) (n : ℕ) → stretch a b s xs t → owns b n ≡ owns a n };

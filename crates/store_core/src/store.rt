@@ -1,7 +1,7 @@
 //! The store in memory: for each identifier the chain of its kept states, in the order of identifiers.
 //!
-//! It keeps no history. A commit and a look read one chain; a fetch walks the chains from its identifier on and stops at
-//! its page's end; a prune walks each chain once.
+//! It keeps no history. A commit and a look read one chain; a fetch walks the chains from its identifier on and stops
+//! at its page's end; a prune walks each chain once.
 ghost use Rattle.std.specs.Prelude.{◌≡◌, ◌≤◌, ◌+◌, ◌++◌, ◌∷◌, [], ◌==◌, false, IfErr, IfOk, IfSome, OnErr, OnOk, if◌then◌else◌, length, None, option_copied, ℕ};
 ghost use Rattle.store_machine.specs.Machine.{MayAdd, committed};
 ghost use Rattle.store_machine.specs.declared.machine.State.{State};
@@ -52,9 +52,25 @@ impl Model for Store {
 
     ghost Value = { StoreTerm };
 
-    ghost view = { λ s. record { chains = s.chains.entries; pins = s.registry; version = s.version; limit = s.limit; kept = s.kept; live = s.live; withdrawn = s.withdrawn } };
+    ghost view = { λ s. record {
+      chains = s.chains.entries;
+      pins = s.registry;
+      version = s.version;
+      limit = s.limit;
+      kept = s.kept;
+      live = s.live;
+      withdrawn = s.withdrawn;
+    } };
 
-    ghost invariant = { λ s. IsStore (record { chains = s.chains.entries; pins = s.registry; version = s.version; limit = s.limit; kept = s.kept; live = s.live; withdrawn = s.withdrawn }) };
+    ghost invariant = { λ s. IsStore (record {
+      chains = s.chains.entries;
+      pins = s.registry;
+      version = s.version;
+      limit = s.limit;
+      kept = s.kept;
+      live = s.live;
+      withdrawn = s.withdrawn;
+    }) };
 }
 
 impl Store {
@@ -259,7 +275,8 @@ fn keep(
     state: Kept,
 ) -> Result<(), AllocError>
     ensures ok { OnOk result ((q : ℕ)
-        → chain_of chains.new.entries q ≡ (if q == id then chain_of chains.old.entries id ++ state ∷ [] else chain_of chains.old.entries q)) }
+        → chain_of chains.new.entries q ≡ (if q == id then chain_of chains.old.entries id ++ state ∷ []
+        else chain_of chains.old.entries q)) }
     ensures one_more { OnOk result (sum_by (λ ks. length ks) (values_of chains.new.entries)
         ≡ sum_by (λ ks. length ks) (values_of chains.old.entries) + 1) }
     ensures err { OnErr result (chains.new.entries ≡ chains.old.entries) }

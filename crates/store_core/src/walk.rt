@@ -44,7 +44,8 @@ pub fn fill(
     requires empty { page.old.records ≡ [] }
     requires room { limit ≤ page.old.room }
     ensures page { (all : List Found)
-        → ArePicked version want.now (entries_between nat_cmp (Bound.Included from) Bound.Unbounded chains.now.entries) all
+        → ArePicked version want.now (entries_between nat_cmp (Bound.Included from) Bound.Unbounded chains.now.entries)
+        all
         → IfOk result (λ last. (founds page.new.records ≡ take limit all) × (last ≡ nat_le (length all) limit)) }
     ensures few { length page.new.records ≤ limit }
     ensures in_range { All (λ (r : Shared). IsId (arc_value r).id) page.new.records }

@@ -56,31 +56,56 @@ both-own own x e = second (is_call x.event) (own x.owner) e
     second true b e = e
     second false b e = absurd (true≢false (sym e))
 
-behind : (own : ℕ → Bool) (x : Step) (xs : List Step) (e : Event) (r : Reply) (later : List (Event × Reply)) → Parted own xs e r later → Parted own (x ∷ xs) e r later
-behind own x xs e r later p = record { front = x ∷ p.front; step = p.step; back = p.back; is = ap (λ l. x ∷ l) p.is; by = p.by; event = p.event; reply = p.reply; rest = p.rest }
+behind : (own : ℕ → Bool) (x : Step) (xs : List Step) (e : Event) (r : Reply) (later : List (Event × Reply))
+    → Parted own xs e r later → Parted own (x ∷ xs) e r later
+behind own x xs e r later p = record {
+  front = x ∷ p.front;
+  step = p.step;
+  back = p.back;
+  is = ap
+      (λ l. x ∷ l) p.is;
+  by = p.by;
+  event = p.event;
+  reply = p.reply;
+  rest = p.rest;
+}
 
 none-there : (before later : List (Event × Reply)) (c : Event × Reply) → [] ≡ before ++ c ∷ later → ⊥
 none-there [] later c e = cc
 none-there (b ∷ bs) later c e = cc
 
-parted : (own : ℕ → Bool) (steps : List Step) (before : List (Event × Reply)) (e : Event) (r : Reply) (later : List (Event × Reply))
+parted : (own : ℕ → Bool) (steps : List Step) (before : List (Event × Reply)) (e : Event) (r : Reply)
+    (later : List (Event × Reply))
     → calls_of own steps ≡ before ++ (e, r) ∷ later → Parted own steps e r later
 parted own [] before e r later is = absurd (none-there before later (e, r) is)
 parted own (x ∷ xs) [] e r later is =
-    elim (is_own own x) as (λ b. is_own own x ≡ b → cond b ((x.event, x.reply) ∷ calls_of own xs) (calls_of own xs) ≡ (e, r) ∷ later → Parted own (x ∷ xs) e r later) [
+    elim (is_own own x) as (λ b. is_own own x ≡ b → cond b ((x.event, x.reply) ∷ calls_of own xs) (calls_of own xs)
+    ≡ (e, r) ∷ later → Parted own (x ∷ xs) e r later) [
       | true ↦ λ o i.
           let first : (x.event, x.reply) ≡ (e, r) = same-head _ _ _ _ i in
-          record { front = []; step = x; back = xs; is = refl; by = both-own own x o; event = ap (λ c. c.0) first; reply = ap (λ c. c.1) first; rest = same-tail _ _ _ _ i }
+          record {
+            front = [];
+            step = x;
+            back = xs;
+            is = refl;
+            by = both-own own x o;
+            event = ap
+                (λ c. c.0) first;
+            reply = ap (λ c. c.1) first;
+            rest = same-tail _ _ _ _ i;
+          }
       | false ↦ λ o i. behind own x xs e r later (parted own xs [] e r later i)
     ] refl is
 parted own (x ∷ xs) (b ∷ bs) e r later is =
-    elim (is_own own x) as (λ t. cond t ((x.event, x.reply) ∷ calls_of own xs) (calls_of own xs) ≡ b ∷ (bs ++ (e, r) ∷ later) → Parted own (x ∷ xs) e r later) [
+    elim (is_own own x) as (λ t. cond t ((x.event, x.reply) ∷ calls_of own xs) (calls_of own xs) ≡ b
+    ∷ (bs ++ (e, r) ∷ later) → Parted own (x ∷ xs) e r later) [
       | true ↦ λ i. behind own x xs e r later (parted own xs bs e r later (same-tail _ _ _ _ i))
       | false ↦ λ i. behind own x xs e r later (parted own xs (b ∷ bs) e r later i)
     ] is
 
 -- a run up to a step, and from it on
-run-parts : (s s' : State) (front : List Step) (x : Step) (back : List Step) → IsRun s (front ++ x ∷ back) s' → IsRun s front x.before × IsRun x.before (x ∷ back) s'
+run-parts : (s s' : State) (front : List Step) (x : Step) (back : List Step) → IsRun s (front ++ x ∷ back) s'
+    → IsRun s front x.before × IsRun x.before (x ∷ back) s'
 run-parts s s' [] x back run = (run.0, (refl, run.1, run.2))
 run-parts s s' (f ∷ fs) x back run = let rest = run-parts f.after s' fs x back run.2 in ((run.0, run.1, rest.0), rest.1)
 
@@ -88,12 +113,16 @@ calm-behind : (front : List Step) (x : Step) (back : List Step) → IsCalm (fron
 calm-behind [] x back calm = calm.1
 calm-behind (f ∷ fs) x back calm = calm-behind fs x back calm.1
 
-pub run-grows : (s s' : State) (steps : List Step) → IsRun s steps s' → (more : List Change) × (s'.history ≡ s.history ++ more)
+pub run-grows : (s s' : State) (steps : List Step) → IsRun s steps s' → (more : List Change)
+    × (s'.history ≡ s.history ++ more)
 run-grows s s' [] run = ([], ap (λ (x : State). x.history) run ∙ sym (append-nil s.history))
 run-grows s s' (x ∷ xs) run =
     let one = grows x.before x.owner x.event x.reply x.after run.1 in
-    let rest = run-grows x.after s' xs run.2 in
-    (one.0 ++ rest.0, rest.1 ∙ (ap (λ h. h ++ rest.0) (one.1 ∙ ap (λ (b : State). b.history ++ one.0) run.0) ∙ append_assoc s.history one.0 rest.0))
+    let rest = run-grows x.after s' xs run.2 in (
+      one.0 ++ rest.0,
+      rest.1 ∙ (ap (λ h. h ++ rest.0) (one.1 ∙ ap (λ (b : State). b.history ++ one.0) run.0)
+          ∙ append_assoc s.history one.0 rest.0),
+    )
 
 pub longer : (h h' more : List Change) → h' ≡ h ++ more → head h ≤ head h'
 longer h h' more e = omega (arith, ap length e, length-append h more)
@@ -108,21 +137,27 @@ pages-at one s s' slot version from want place pin back own sound early le run c
     let prefix = pages-are-a-prefix own pin back slot version want (At from) place c in
     let more = run-grows pin.before s' (pin ∷ back) run in
     let old : version ≤ head pin.before.history = le_of_eq prefix.0 in
-    let stays : snapshot pin.before.history version ≡ snapshot s'.history version = sym (ap (λ h. snapshot h version) more.1 ∙ snapshots-stay pin.before.history more.0 version old) in
-    let back-then : (all : List Found) → AreFound (IsScreened want) (snapshot s'.history version) all → AreFound (IsScreened want) (snapshot pin.before.history version) all =
+    let stays : snapshot pin.before.history version ≡ snapshot s'.history version = sym
+    (ap (λ h. snapshot h version) more.1 ∙ snapshots-stay pin.before.history more.0 version old) in
+    let back-then : (all : List Found) → AreFound (IsScreened want) (snapshot s'.history version) all
+    → AreFound (IsScreened want) (snapshot pin.before.history version) all =
     λ all found. subst (λ (m : Snapshot). AreFound (IsScreened want) m all) (sym stays) found in
     let found : place ≡ End → AreFound (IsScreened want) (snapshot s'.history version) (records_of pages) =
     λ ended. subst (λ (m : Snapshot). AreFound (IsScreened want) m (records_of pages)) stays
-    (all-found own pin back slot version from want sound.history le (subst (λ p. Searching own pin back slot version want (At from) p) ended c)) in
+    (all-found own pin back slot version from want sound.history le
+    (subst (λ p. Searching own pin back slot version want (At from) p) ended c)) in
     record {
       not_before = omega (arith, early, prefix.0);
       not_after = omega (arith, prefix.0, longer pin.before.history s'.history more.0 more.1);
-      so_far = λ all f. prefix.1 all (back-then all f) ∙ from-start pin.before.history version from want all sound.history le (back-then all f);
-      pieces = λ all size f sized. pages-are-pieces own pin back slot version from size want place sound.history le c sized all (back-then all f);
+      so_far = λ all f. prefix.1 all (back-then all f)
+          ∙ from-start pin.before.history version from want all sound.history le (back-then all f);
+      pieces = λ all size f sized. pages-are-pieces own pin back slot version from size want place sound.history le c
+          sized all (back-then all f);
       found = found;
       tried = λ ended. found-tried want s'.history version (records_of pages) (found ended);
       hits = λ ended pattern hits screens matched.
-          found-hits one pattern want s'.history version (records_of pages) hits (runs-stay-sound pin.before s' (pin ∷ back) run sound).history screens (found ended) matched;
+          found-hits one pattern want s'.history version (records_of pages) hits
+          (runs-stay-sound pin.before s' (pin ∷ back) run sound).history screens (found ended) matched;
     }
 
 pub calls-give-pages : OneStructure → CallsGivePages

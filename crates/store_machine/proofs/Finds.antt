@@ -22,12 +22,14 @@ Ascends-increasing a [] h k less = absurd (omega (arith, less))
 Ascends-increasing a (r ∷ []) h k less = absurd (omega (arith, less))
 Ascends-increasing a (r ∷ q ∷ qs) h zero less = omega (arith, h.1.0)
 Ascends-increasing a (r ∷ q ∷ qs) h (suc k) less =
-    let rest : slice_index (ids (q ∷ qs)) k < slice_index (ids (q ∷ qs)) (k + 1) = Ascends-increasing (r.id + 1) (q ∷ qs) h.1 k (omega (arith, less)) in
+    let rest : slice_index (ids (q ∷ qs)) k < slice_index (ids (q ∷ qs)) (k + 1) = Ascends-increasing (r.id + 1)
+    (q ∷ qs) h.1 k (omega (arith, less)) in
     rw add-one (rw add-one at rest)
 
 behind : (r q : Found) (qs : List Found) → IsStrictlyIncreasing (ids (r ∷ q ∷ qs)) → IsStrictlyIncreasing (ids (q ∷ qs))
 behind r q qs up k less =
-    let rest : slice_index (ids (r ∷ q ∷ qs)) (suc k) < slice_index (ids (r ∷ q ∷ qs)) (suc k + 1) = up (suc k) (omega (arith, less)) in
+    let rest : slice_index (ids (r ∷ q ∷ qs)) (suc k) < slice_index (ids (r ∷ q ∷ qs)) (suc k + 1) = up (suc k)
+    (omega (arith, less)) in
     rw add-one (rw add-one at rest)
 
 -- the first is not before this identifier
@@ -51,7 +53,8 @@ above a (q ∷ qs) r h c =
     ]
 
 -- lists that ascend and have the same members are one
-first-same : (x y : Found) (xs ys : List Found) → Ascends (x.id + 1) xs → Ascends (y.id + 1) ys → Contains (y ∷ ys) x → Contains (x ∷ xs) y → x ≡ y
+first-same : (x y : Found) (xs ys : List Found) → Ascends (x.id + 1) xs → Ascends (y.id + 1) ys → Contains (y ∷ ys) x
+    → Contains (x ∷ xs) y → x ≡ y
 first-same x y xs ys up vp c d =
     elim (contains-split y x ys c) [
       | inl e ↦ sym e
@@ -63,39 +66,50 @@ first-same x y xs ys up vp c d =
 
 tail-has : (x y r : Found) (ys : List Found) → x ≡ y → x.id + 1 ≤ r.id → Contains (y ∷ ys) r → Contains ys r
 tail-has x y r ys same late c =
-    elim (contains-split y r ys c) [ inl e ↦ absurd (omega (arith, late, ap (λ (z : Found). z.id) (same ∙ e))) | inr d ↦ d ]
+    elim (contains-split y r ys c) [
+      | inl e ↦ absurd (omega (arith, late, ap (λ (z : Found). z.id) (same ∙ e)))
+      | inr d ↦
+          d
+    ]
 
 none-in : (r : Found) → Contains [] r → ⊥
 none-in r c = omega (arith, c.1)
 
-pub one-list : (a b : ℕ) (xs ys : List Found) → Ascends a xs → Ascends b ys → ((r : Found) → Contains xs r → Contains ys r) → ((r : Found) → Contains ys r → Contains xs r) → xs ≡ ys
+pub one-list : (a b : ℕ) (xs ys : List Found) → Ascends a xs → Ascends b ys
+    → ((r : Found) → Contains xs r → Contains ys r) → ((r : Found) → Contains ys r → Contains xs r) → xs ≡ ys
 one-list a b [] [] up vp to from = refl
 one-list a b [] (y ∷ ys) up vp to from = absurd (none-in y (from y (contains-here y y ys refl)))
 one-list a b (x ∷ xs) [] up vp to from = absurd (none-in x (to x (contains-here x x xs refl)))
 one-list a b (x ∷ xs) (y ∷ ys) up vp to from =
-    let same : x ≡ y = first-same x y xs ys up.1 vp.1 (to x (contains-here x x xs refl)) (from y (contains-here y y ys refl)) in
+    let same : x ≡ y = first-same x y xs ys up.1 vp.1 (to x (contains-here x x xs refl))
+    (from y (contains-here y y ys refl)) in
     let rest : xs ≡ ys =
     one-list (x.id + 1) (y.id + 1) xs ys up.1 vp.1
     (λ r c. tail-has x y r ys same (above (x.id + 1) xs r up.1 c) (to r (contains-there x r xs c)))
     (λ r c. tail-has y x r xs (sym same) (above (y.id + 1) ys r vp.1 c) (from r (contains-there y r ys c))) in
     λ i. same i ∷ rest i
 
-pub found-ascends : (want : List Bool) (states : Snapshot) (rs : List Found) → AreFound (IsScreened want) states rs → Ascends 0 rs
+pub found-ascends : (want : List Bool) (states : Snapshot) (rs : List Found) → AreFound (IsScreened want) states rs
+    → Ascends 0 rs
 found-ascends want states rs f = increasing-Ascends 0 rs (any rs) f.ascending
   where
     any : (rs : List Found) → Starts 0 rs
     any [] = tt
     any (r ∷ rs) = omega arith
 
-pub answers-are-one : (want : List Bool) (states : Snapshot) (xs ys : List Found) → AreFound (IsScreened want) states xs → AreFound (IsScreened want) states ys → xs ≡ ys
+pub answers-are-one : (want : List Bool) (states : Snapshot) (xs ys : List Found) → AreFound (IsScreened want) states xs
+    → AreFound (IsScreened want) states ys → xs ≡ ys
 answers-are-one want states xs ys f g =
     one-list 0 0 xs ys (found-ascends want states xs f) (found-ascends want states ys g)
     (λ r c. let o = f.only r c in g.all r o.0 o.1)
     (λ r c. let o = g.only r c in f.all r o.0 o.1)
 
 -- in a history identifiers are at least 1
-pub found-from-one : (want : List Bool) (h : List Change) (v : ℕ) (rs : List Found) → IsHistory h → AreFound (IsScreened want) (snapshot h v) rs → Ascends 1 rs
-found-from-one want h v rs good f = increasing-Ascends 1 rs (any rs (λ r c. let live = (f.only r c).0 in (state-valid h v r.id (Live live.0 r.format r.text) good live.1).0)) f.ascending
+pub found-from-one : (want : List Bool) (h : List Change) (v : ℕ) (rs : List Found) → IsHistory h
+    → AreFound (IsScreened want) (snapshot h v) rs → Ascends 1 rs
+found-from-one want h v rs good f = increasing-Ascends 1 rs
+    (any rs (λ r c. let live = (f.only r c).0 in (state-valid h v r.id (Live live.0 r.format r.text) good live.1).0))
+    f.ascending
   where
     any : (rs : List Found) → ((r : Found) → Contains rs r → 1 ≤ r.id) → Starts 1 rs
     any [] all = tt
@@ -112,7 +126,8 @@ with-id [] id c = absurd (omega (arith, c.1))
 with-id (r ∷ rs) id c =
     elim (contains-split r.id id (ids rs) c) [
       | inl e ↦ record { record-of = r; within = contains-here r r rs refl; is = e }
-      | inr d ↦ let w = with-id rs id d in record { record-of = w.record-of; within = contains-there r w.record-of rs w.within; is = w.is }
+      | inr d ↦ let w = with-id rs id d in record
+          { record-of = w.record-of; within = contains-there r w.record-of rs w.within; is = w.is }
     ]
 
 id-of : (rs : List Found) (r : Found) → Contains rs r → Contains (ids rs) r.id
@@ -123,14 +138,23 @@ id-of (q ∷ qs) r c =
       | inr d ↦ contains-there q.id r.id (ids qs) (id-of qs r d)
     ]
 
-pub found-tried : (want : List Bool) (h : List Change) (v : ℕ) (rs : List Found) → AreFound (IsScreened want) (snapshot h v) rs → AreTried h v want (ids rs)
+pub found-tried : (want : List Bool) (h : List Change) (v : ℕ) (rs : List Found)
+    → AreFound (IsScreened want) (snapshot h v) rs → AreTried h v want (ids rs)
 found-tried want h v rs f = record {
   ascending = f.ascending;
   only = λ id c.
       let w = with-id rs id c in
       let o = f.only w.record-of w.within in
-      record { version = o.0.0; format = w.record-of.format; text = w.record-of.text; state = subst (λ k. get (snapshot h v) k ≡ Some (Live o.0.0 w.record-of.format w.record-of.text)) w.is o.0.1; asked = o.1 };
-  all = λ id a. id-of rs (record { id = id; format = a.format; text = a.text }) (f.all (record { id = id; format = a.format; text = a.text }) (a.version, a.state) a.asked);
+      record {
+        version = o.0.0;
+        format = w.record-of.format;
+        text = w.record-of.text;
+        state = subst
+            (λ k. get (snapshot h v) k ≡ Some (Live o.0.0 w.record-of.format w.record-of.text)) w.is o.0.1;
+        asked = o.1;
+      };
+  all = λ id a. id-of rs (record { id = id; format = a.format; text = a.text })
+      (f.all (record { id = id; format = a.format; text = a.text }) (a.version, a.state) a.asked);
 }
 
 -- numbers, each at or past one, and past the one before it
@@ -147,28 +171,35 @@ Rising-increasing a [] h k less = absurd (omega (arith, less))
 Rising-increasing a (x ∷ []) h k less = absurd (omega (arith, less))
 Rising-increasing a (x ∷ y ∷ ys) h zero less = omega (arith, h.1.0)
 Rising-increasing a (x ∷ y ∷ ys) h (suc k) less =
-    let rest : slice_index (y ∷ ys) k < slice_index (y ∷ ys) (k + 1) = Rising-increasing (x + 1) (y ∷ ys) h.1 k (omega (arith, less)) in
+    let rest : slice_index (y ∷ ys) k < slice_index (y ∷ ys) (k + 1) = Rising-increasing (x + 1) (y ∷ ys) h.1 k
+    (omega (arith, less)) in
     rw add-one (rw add-one at rest)
 
 abbrev further : (r : Found) (rs : List Found) (id : ℕ) → With rs id → With (r ∷ rs) id
 further r rs id w = record { record-of = w.record-of; within = contains-there r w.record-of rs w.within; is = w.is }
 
 -- those of the records that match
-Ascends-matched : (pattern : PatternTerm) (a : ℕ) (rs : List Found) (hits : List ℕ) → Ascends a rs → AreMatched pattern rs hits → Rising a hits
+Ascends-matched : (pattern : PatternTerm) (a : ℕ) (rs : List Found) (hits : List ℕ) → Ascends a rs
+    → AreMatched pattern rs hits → Rising a hits
 Ascends-matched pattern a [] hits up m = subst (Rising a) (sym m) tt
-Ascends-matched pattern a (r ∷ rs) hits up (inl m) = subst (Rising a) (sym m.2) (up.0, Ascends-matched pattern (r.id + 1) rs m.1 up.1 m.3)
-Ascends-matched pattern a (r ∷ rs) hits up (inr m) = Rising-weaker a (r.id + 1) hits (omega (arith, up.0)) (Ascends-matched pattern (r.id + 1) rs hits up.1 m.1)
+Ascends-matched pattern a (r ∷ rs) hits up (inl m) = subst (Rising a) (sym m.2)
+    (up.0, Ascends-matched pattern (r.id + 1) rs m.1 up.1 m.3)
+Ascends-matched pattern a (r ∷ rs) hits up (inr m) = Rising-weaker a (r.id + 1) hits (omega (arith, up.0))
+    (Ascends-matched pattern (r.id + 1) rs hits up.1 m.1)
 
-matched-only : (pattern : PatternTerm) (rs : List Found) (hits : List ℕ) (id : ℕ) → AreMatched pattern rs hits → Contains hits id → (w : With rs id) × IsMatched pattern w.record-of.format w.record-of.text
+matched-only : (pattern : PatternTerm) (rs : List Found) (hits : List ℕ) (id : ℕ) → AreMatched pattern rs hits
+    → Contains hits id → (w : With rs id) × IsMatched pattern w.record-of.format w.record-of.text
 matched-only pattern [] hits id m c = absurd (omega (arith, (subst (λ (l : List ℕ). Contains l id) m c).1))
 matched-only pattern (r ∷ rs) hits id (inl m) c =
     elim (contains-split r.id id m.1 (subst (λ l. Contains l id) m.2 c)) [
       | inl e ↦ (record { record-of = r; within = contains-here r r rs refl; is = e }, m.0)
       | inr d ↦ let w = matched-only pattern rs m.1 id m.3 d in (further r rs id w.0, w.1)
     ]
-matched-only pattern (r ∷ rs) hits id (inr m) c = let w = matched-only pattern rs hits id m.1 c in (further r rs id w.0, w.1)
+matched-only pattern (r ∷ rs) hits id (inr m) c = let w = matched-only pattern rs hits id m.1 c
+    in (further r rs id w.0, w.1)
 
-matched-all : (pattern : PatternTerm) (rs : List Found) (hits : List ℕ) (r : Found) → AreMatched pattern rs hits → Contains rs r → IsMatched pattern r.format r.text → Contains hits r.id
+matched-all : (pattern : PatternTerm) (rs : List Found) (hits : List ℕ) (r : Found) → AreMatched pattern rs hits
+    → Contains rs r → IsMatched pattern r.format r.text → Contains hits r.id
 matched-all pattern [] hits r m c is = absurd (none-in r c)
 matched-all pattern (q ∷ qs) hits r (inl m) c is =
     subst (λ l. Contains l r.id) (sym m.2)
@@ -202,7 +233,14 @@ found-hits one pattern want h v rs hits good screens f m = record {
   only = λ id c.
       let w = matched-only pattern rs hits id m c in
       let o = f.only w.0.record-of w.0.within in
-      record { version = o.0.0; format = w.0.record-of.format; text = w.0.record-of.text; state = subst (λ k. get (snapshot h v) k ≡ Some (Live o.0.0 w.0.record-of.format w.0.record-of.text)) w.0.is o.0.1; asked = w.1 };
+      record {
+        version = o.0.0;
+        format = w.0.record-of.format;
+        text = w.0.record-of.text;
+        state = subst
+            (λ k. get (snapshot h v) k ≡ Some (Live o.0.0 w.0.record-of.format w.0.record-of.text)) w.0.is o.0.1;
+        asked = w.1;
+      };
   all = λ id a.
       let r : Found = record { id = id; format = a.format; text = a.text } in
       let molecule = within-limits one h v id a.version a.format a.text a.asked.0 good a.state a.asked.1 in

@@ -18,10 +18,13 @@ use Rattle.store_machine.proofs.Pushed.{changed, snapshot-pushed}
 abbrev versions : List Held → List ℕ
 versions ps = map (λ p. p.version) ps
 
-pinned-kept : (s : State) (at : ℕ) (entry : Entry) (status : Status) → KeepsNeeded s → Contains (in_use s) at → get (snapshot s.history at) entry.id ≡ Some status → made_at status ≡ entry.version → Contains s.kept entry
-pinned-kept s at entry status keeps used state made = keeps entry (record { at = at; used = used; status = status; state = state; made = made })
+pinned-kept : (s : State) (at : ℕ) (entry : Entry) (status : Status) → KeepsNeeded s → Contains (in_use s) at
+    → get (snapshot s.history at) entry.id ≡ Some status → made_at status ≡ entry.version → Contains s.kept entry
+pinned-kept s at entry status keeps used state made = keeps entry
+    (record { at = at; used = used; status = status; state = state; made = made })
 
-same-entry : (entry : Entry) (id version : ℕ) → id ≡ entry.id → version ≡ entry.version → record { id = id; version = version } ≡ entry
+same-entry : (entry : Entry) (id version : ℕ) → id ≡ entry.id → version ≡ entry.version
+    → record { id = id; version = version } ≡ entry
 same-entry entry id version e f = λ i. record { id = e i; version = f i }
 
 commit-needed : (s : State) (c : Change) (version : ℕ) → version ≡ head s.history + 1 → PinsThePast s → KeepsNeeded s
@@ -29,25 +32,33 @@ commit-needed : (s : State) (c : Change) (version : ℕ) → version ≡ head s.
     → get (snapshot (s.history ++ c ∷ []) at) entry.id ≡ Some status → made_at status ≡ entry.version
     → Contains (s.kept ++ record { id = id_of c; version = version } ∷ []) entry
 commit-needed s c version e past keeps entry at status (inl used) state made =
-    let before : get (snapshot s.history at) entry.id ≡ Some status = ap (λ m. get m entry.id) (sym (snapshots-stay s.history (c ∷ []) at (past at used))) ∙ state in
-    Contains-append_left s.kept _ entry (pinned-kept s at entry status keeps (Contains-append_left (versions s.pins) (head s.history ∷ []) at used) before made)
+    let before : get (snapshot s.history at) entry.id ≡ Some status = ap (λ m. get m entry.id)
+    (sym (snapshots-stay s.history (c ∷ []) at (past at used))) ∙ state in
+    Contains-append_left s.kept _ entry (pinned-kept s at entry status keeps
+    (Contains-append_left (versions s.pins) (head s.history ∷ []) at used) before made)
 commit-needed s c version e past keeps entry at status (inr here) state made =
     let is : at ≡ version = omega (arith, length-append s.history (c ∷ []), here) in
     let after = snapshot-pushed s.history c version e in
-    elim (changed version c (snapshot s.history (head s.history)) entry.id status (ap (λ m. get m entry.id) (sym after) ∙ (ap (λ k. get (snapshot (s.history ++ c ∷ []) k) entry.id) (sym is) ∙ state))) [
-      | inl new ↦ Contains-append_right s.kept _ entry (contains-here _ entry [] (same-entry entry (id_of c) version new.0 (new.1 ∙ made)))
-      | inr old ↦ Contains-append_left s.kept _ entry (pinned-kept s (head s.history) entry status keeps (Contains-push (versions s.pins) (head s.history)) old made)
+    elim (changed version c (snapshot s.history (head s.history)) entry.id status (ap (λ m. get m entry.id) (sym after)
+    ∙ (ap (λ k. get (snapshot (s.history ++ c ∷ []) k) entry.id) (sym is) ∙ state))) [
+      | inl new ↦ Contains-append_right s.kept _ entry
+          (contains-here _ entry [] (same-entry entry (id_of c) version new.0 (new.1 ∙ made)))
+      | inr old ↦ Contains-append_left s.kept _ entry
+          (pinned-kept s (head s.history) entry status keeps (Contains-push (versions s.pins) (head s.history)) old
+          made)
     ]
 
 pub commit-kept : (s : State) (c : Change) → PinsThePast s → KeepsNeeded s → KeepsNeeded (committed s c)
 commit-kept s c past keeps entry n =
-    commit-needed s c (head s.history + 1) refl past keeps entry n.at n.status (contains-last (head (s.history ++ c ∷ [])) n.at (versions s.pins) n.used) n.state n.made
+    commit-needed s c (head s.history + 1) refl past keeps entry n.at n.status
+    (contains-last (head (s.history ++ c ∷ [])) n.at (versions s.pins) n.used) n.state n.made
 
 pub commit-past : (s : State) (c : Change) → PinsThePast s → PinsThePast (committed s c)
 commit-past s c past v held = omega (arith, past v held, length-append s.history (c ∷ []))
 
 -- other pins, all of versions in use before
-pub pins-kept : (s : State) (ps : List Held) → ((v : ℕ) → Contains (versions ps) v → Contains (in_use s) v) → KeepsNeeded s → KeepsNeeded (record s { pins = ps })
+pub pins-kept : (s : State) (ps : List Held) → ((v : ℕ) → Contains (versions ps) v → Contains (in_use s) v)
+    → KeepsNeeded s → KeepsNeeded (record s { pins = ps })
 pins-kept s ps less keeps entry n =
     pinned-kept s n.at entry n.status keeps
     (elim (contains-last (head s.history) n.at (versions ps) n.used) [
@@ -56,18 +67,24 @@ pins-kept s ps less keeps entry n =
     ]) n.state n.made
 
 in_use-past : (s : State) (v : ℕ) → PinsThePast s → Contains (in_use s) v → v ≤ head s.history
-in_use-past s v past c = elim (contains-last (head s.history) v (versions s.pins) c) [ inl u ↦ past v u | inr h ↦ le_of_eq (sym h) ]
+in_use-past s v past c = elim (contains-last (head s.history) v (versions s.pins) c)
+    [ inl u ↦ past v u | inr h ↦ le_of_eq (sym h) ]
 
-pub pins-past : (s : State) (ps : List Held) → ((v : ℕ) → Contains (versions ps) v → Contains (in_use s) v) → PinsThePast s → PinsThePast (record s { pins = ps })
+pub pins-past : (s : State) (ps : List Held) → ((v : ℕ) → Contains (versions ps) v → Contains (in_use s) v)
+    → PinsThePast s → PinsThePast (record s { pins = ps })
 pins-past s ps less past v held = in_use-past s v past (less v held)
 
 -- a pin more, at the head
-pub pushed-in_use : (s : State) (p : Held) → p.version ≡ head s.history → (v : ℕ) → Contains (versions (s.pins ++ p ∷ [])) v → Contains (in_use s) v
+pub pushed-in_use : (s : State) (p : Held) → p.version ≡ head s.history → (v : ℕ)
+    → Contains (versions (s.pins ++ p ∷ [])) v → Contains (in_use s) v
 pushed-in_use s p e v c =
-    elim (contains-last p.version v (versions s.pins) (subst (λ l. Contains l v) (map-append (λ (q : Held). q.version) s.pins (p ∷ [])) c)) [
+    elim (contains-last p.version v (versions s.pins)
+    (subst (λ l. Contains l v) (map-append (λ (q : Held). q.version) s.pins (p ∷ [])) c)) [
       | inl u ↦ Contains-append_left (versions s.pins) (head s.history ∷ []) v u
       | inr h ↦ subst (Contains (in_use s)) (sym e ∙ h) (Contains-push (versions s.pins) (head s.history))
     ]
 
-pub filtered-in_use : (s : State) (p : Held → Bool) (v : ℕ) → Contains (versions (filter p s.pins)) v → Contains (in_use s) v
-filtered-in_use s p v c = Contains-append_left (versions s.pins) (head s.history ∷ []) v (contains-filtered (λ q. q.version) p v s.pins c)
+pub filtered-in_use : (s : State) (p : Held → Bool) (v : ℕ) → Contains (versions (filter p s.pins)) v
+    → Contains (in_use s) v
+filtered-in_use s p v c = Contains-append_left (versions s.pins) (head s.history ∷ []) v
+    (contains-filtered (λ q. q.version) p v s.pins c)

@@ -22,16 +22,22 @@ made_in : Option Status → ℕ
 made_in None = 0
 made_in (Some status) = made_at status
 
-same-made : (now : Option Status) (status : Status) (version : ℕ) → now ≡ Some status → Since version now → version ≤ made_at status
+same-made : (now : Option Status) (status : Status) (version : ℕ) → now ≡ Some status → Since version now
+    → version ≤ made_at status
 unfolding made_in
-same-made now status version e since = let same : made_at status ≡ made_at since.0 = ap made_in (sym e ∙ since.1) in omega (arith, same, since.2)
+same-made now status version e since = let same : made_at status ≡ made_at since.0 = ap made_in (sym e ∙ since.1)
+    in omega (arith, same, since.2)
 
-pub read : (s : State) (v id : ℕ) (now : Option Status) → get (snapshot s.history v) id ≡ now → IsSound s → s.serves ≡ true → Contains (in_use s) v
+pub read : (s : State) (v id : ℕ) (now : Option Status) → get (snapshot s.history v) id ≡ now → IsSound s
+    → s.serves ≡ true → Contains (in_use s) v
     → MatchOption now ((version : ℕ) → IsKept s id version → v < version)
-    (λ status. IsKept s id (made_at status) × (made_at status ≤ v) × ((version : ℕ) → IsKept s id version → version ≤ v → version ≤ made_at status))
-read s v id None e sound serves used = λ version kept. later v version (λ le. not-none _ version e (made-before s.history v id version (sound.made serves _ kept) le))
+    (λ status. IsKept s id (made_at status) × (made_at status ≤ v)
+    × ((version : ℕ) → IsKept s id version → version ≤ v → version ≤ made_at status))
+read s v id None e sound serves used = λ version kept. later v version
+    (λ le. not-none _ version e (made-before s.history v id version (sound.made serves _ kept) le))
 read s v id (Some status) e sound serves used = (
-  sound.kept serves (record { id = id; version = made_at status }) (record { at = v; used = used; status = status; state = e; made = refl }),
+  sound.kept serves (record { id = id; version = made_at status })
+      (record { at = v; used = used; status = status; state = e; made = refl }),
   (snapshot-made s.history v id status e).1,
   λ version kept le. same-made _ status version e (made-before s.history v id version (sound.made serves _ kept) le),
 )

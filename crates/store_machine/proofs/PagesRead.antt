@@ -32,9 +32,13 @@ page-read : (s : State) (by : ℕ) (e : Event) (r : Reply) (s' : State) (slot ow
     → Gives s by e r s' → Holds s slot owner version → AreRead (snapshot s.history version) pages
     → AreRead (snapshot s.history version) (cons_option (page_in slot e r) pages)
 page-read s by (Fetch pin want from limit) (Page records last) s' slot owner version pages g h rest =
-    elim (pin == slot) as (λ b. (pin == slot) ≡ b → AreRead (snapshot s.history version) (cons_option (cond b (Some (record { want = want; from = from; limit = limit; records = records; last = last })) None) pages)) [
+    elim (pin == slot) as (λ b. (pin == slot) ≡ b
+    → AreRead (snapshot s.history version)
+    (cons_option (cond b (Some (record { want = want; from = from; limit = limit; records = records; last = last }))
+    None) pages)) [
       | true ↦ λ e.
-          let same : g.1.0 ≡ version = one-version s slot owner version by g.1.0 h (subst (λ k. Holds s k by g.1.0) (eqb-true pin slot e) g.1.1) in
+          let same : g.1.0 ≡ version = one-version s slot owner version by g.1.0 h
+          (subst (λ k. Holds s k by g.1.0) (eqb-true pin slot e) g.1.1) in
           (subst (λ v. IsPage (snapshot s.history v) want from limit records last) same g.1.2, rest)
       | false ↦ λ e. rest
     ] refl
@@ -47,11 +51,13 @@ Calls = List (Event × Reply)
 abbrev own : Bool → Event → Reply → Calls → Calls
 own b e r calls = cond b ((e, r) ∷ calls) calls
 
-keeps-here : (b : Bool) (slot : ℕ) (e : Event) (r : Reply) (calls : Calls) → KeepsPin slot (own b e r calls) → b ≡ true → unpins slot e ≡ false
+keeps-here : (b : Bool) (slot : ℕ) (e : Event) (r : Reply) (calls : Calls) → KeepsPin slot (own b e r calls) → b ≡ true
+    → unpins slot e ≡ false
 keeps-here true slot e r calls k is = k.0
 keeps-here false slot e r calls k is = cc
 
-keeps-later : (b : Bool) (slot : ℕ) (e : Event) (r : Reply) (calls : Calls) → KeepsPin slot (own b e r calls) → KeepsPin slot calls
+keeps-later : (b : Bool) (slot : ℕ) (e : Event) (r : Reply) (calls : Calls) → KeepsPin slot (own b e r calls)
+    → KeepsPin slot calls
 keeps-later true slot e r calls k = k.1
 keeps-later false slot e r calls k = k
 
@@ -60,7 +66,8 @@ own-here : (mine : ℕ → Bool) (x : Step) → is_call x.event ≡ true → min
 own-here mine x calm m = ap₂ (λ a b. a && b) calm m
 
 -- a pin after a step of a run
-held-after : (x : Step) (s : State) (mine : ℕ → Bool) (slot owner version : ℕ) (calls : Calls) → mine owner ≡ true → is_call x.event ≡ true
+held-after : (x : Step) (s : State) (mine : ℕ → Bool) (slot owner version : ℕ) (calls : Calls) → mine owner ≡ true
+    → is_call x.event ≡ true
     → x.before ≡ s → IsStep x → Holds s slot owner version → KeepsPin slot (own (is_own mine x) x.event x.reply calls)
     → Holds x.after slot owner version
 held-after x s mine slot owner version calls m calm e g h keeps =
@@ -77,7 +84,8 @@ pins-stay s s' (x ∷ xs) mine slot owner version run calm m h keeps =
 
 -- an own call more, or none
 own-read : (b : Bool) (states : Snapshot) (slot : ℕ) (e : Event) (r : Reply) (calls : Calls)
-    → AreRead states (fetched slot calls) → (b ≡ true → AreRead states (cons_option (page_in slot e r) (fetched slot calls)))
+    → AreRead states (fetched slot calls) → (b ≡ true
+    → AreRead states (cons_option (page_in slot e r) (fetched slot calls)))
     → AreRead states (fetched slot (own b e r calls))
 own-read true states slot e r calls rest all = all refl
 own-read false states slot e r calls rest all = rest
@@ -86,18 +94,23 @@ grown-le : (h h' more : List Change) → h' ≡ h ++ more → (v : ℕ) → v �
 grown-le h h' more e v le = omega (arith, ap length e, length-append h more)
 
 pub pages-read : (states : Snapshot) (s s' : State) (steps : List Step) (mine : ℕ → Bool) (slot owner version : ℕ)
-    → IsRun s steps s' → IsCalm steps → mine owner ≡ true → Holds s slot owner version → version ≤ head s.history → snapshot s.history version ≡ states → KeepsPin slot (calls_of mine steps)
+    → IsRun s steps s' → IsCalm steps → mine owner ≡ true → Holds s slot owner version → version ≤ head s.history
+    → snapshot s.history version ≡ states → KeepsPin slot (calls_of mine steps)
     → AreRead states (fetched slot (calls_of mine steps))
 pages-read states s s' [] mine slot owner version run calm m h le is keeps = tt
 pages-read states s s' (x ∷ xs) mine slot owner version run calm m h le is keeps =
     let calls = calls_of mine xs in
     let more = grows x.before x.owner x.event x.reply x.after run.1 in
     let past : version ≤ head x.before.history = subst (λ (b : State). version ≤ head b.history) (sym run.0) le in
-    let there : snapshot x.before.history version ≡ states = ap (λ (b : State). snapshot b.history version) run.0 ∙ is in
-    let next : snapshot x.after.history version ≡ states = ap (λ h. snapshot h version) more.1 ∙ (snapshots-stay x.before.history more.0 version past ∙ there) in
+    let there : snapshot x.before.history version ≡ states = ap (λ (b : State). snapshot b.history version) run.0 ∙ is
+    in
+    let next : snapshot x.after.history version ≡ states = ap (λ h. snapshot h version) more.1
+    ∙ (snapshots-stay x.before.history more.0 version past ∙ there) in
     let rest : AreRead states (fetched slot calls) =
-    pages-read states x.after s' xs mine slot owner version run.2 calm.1 m (held-after x s mine slot owner version calls m calm.0 run.0 run.1 h keeps)
-    (grown-le x.before.history x.after.history more.0 more.1 version past) next (keeps-later (is_own mine x) slot x.event x.reply calls keeps) in
+    pages-read states x.after s' xs mine slot owner version run.2 calm.1 m
+    (held-after x s mine slot owner version calls m calm.0 run.0 run.1 h keeps)
+    (grown-le x.before.history x.after.history more.0 more.1 version past) next
+    (keeps-later (is_own mine x) slot x.event x.reply calls keeps) in
     own-read (is_own mine x) states slot x.event x.reply calls rest
     (λ _. subst (λ m. AreRead m (cons_option (page_in slot x.event x.reply) (fetched slot calls))) there
     (page-read x.before x.owner x.event x.reply x.after slot owner version (fetched slot calls) run.1

@@ -26,53 +26,69 @@ use Rattle.store_machine.proofs.PagesRead.{AreRead, IsRead, pages-read}
 ahead-after : (last : Bool) (from limit : ℕ) (records all : List Found) → Ascends 0 all
     → records ≡ take limit (from_on from all) → last ≡ nat_le (length (from_on from all)) limit
     → ahead (cond last End (At (past from records))) all ≡ drop limit (from_on from all)
-ahead-after true from limit records all h e l = sym (drop_of_length-le (from_on from all) (leb-true (length (from_on from all)) limit (sym l)))
+ahead-after true from limit records all h e l = sym
+    (drop_of_length-le (from_on from all) (leb-true (length (from_on from all)) limit (sym l)))
 ahead-after false from limit records all h e l =
     let here = from_on from all in
     let up : Ascends from here = Ascends-from_on from 0 all h in
     let k = past from (take limit here) in
-    ap (λ rs. from_on (past from rs) all) e ∙ (sym (from_on-twice from k all (past-le from limit here up)) ∙ from_on-past from limit here up)
+    ap (λ rs. from_on (past from rs) all) e ∙ (sym (from_on-twice from k all (past-le from limit here up))
+    ∙ from_on-past from limit here up)
 
 -- the records and the end of a page, in one list of what is found
 record Of (all : List Found) (f : Fetched) : Type 0 where
   first : f.records ≡ take f.limit (from_on f.from all)
   end : f.last ≡ nat_le (length (from_on f.from all)) f.limit
 
-page-of : (states : Snapshot) (want : List Bool) (all : List Found) (f : Fetched) → f.want ≡ want → AreFound (IsScreened want) states all → IsRead states f → Of all f
+page-of : (states : Snapshot) (want : List Bool) (all : List Found) (f : Fetched) → f.want ≡ want
+    → AreFound (IsScreened want) states all → IsRead states f → Of all f
 page-of states want all f e found read =
-    let page : IsPage states want f.from f.limit f.records f.last = subst (λ w. IsPage states w f.from f.limit f.records f.last) e read in
+    let page : IsPage states want f.from f.limit f.records f.last = subst
+    (λ w. IsPage states w f.from f.limit f.records f.last) e read in
     let one : page.all ≡ all = answers-are-one want states page.all all page.found found in
-    record { first = page.first ∙ ap (λ l. take f.limit (from_on f.from l)) one; end = page.end ∙ ap (λ l. nat_le (length (from_on f.from l)) f.limit) one }
+    record {
+      first = page.first ∙ ap (λ l. take f.limit (from_on f.from l)) one;
+      end = page.end
+          ∙ ap (λ l. nat_le (length (from_on f.from l)) f.limit) one;
+    }
 
 paged : (states : Snapshot) (want : List Bool) (all : List Found) (place : Place) (fs : List Fetched) (place' : Place)
     → AreFound (IsScreened want) states all → AreRead states fs → IsSearch want place fs place'
     → records_of fs ++ ahead place' all ≡ ahead place all
 paged states want all place [] place' found read search = ap (λ p. ahead p all) search
 paged states want all place (f ∷ fs) place' found read search =
-    let rest : records_of fs ++ ahead place' all ≡ ahead (place_after f) all = paged states want all (place_after f) fs place' found read.1 search.2 in
+    let rest : records_of fs ++ ahead place' all ≡ ahead (place_after f) all = paged states want all
+    (place_after f) fs place' found read.1 search.2 in
     let page = page-of states want all f search.1 found read.0 in
-    let after : ahead (place_after f) all ≡ drop f.limit (from_on f.from all) = ahead-after f.last f.from f.limit f.records all (found-ascends want states all found) page.first page.end in
+    let after : ahead (place_after f) all ≡ drop f.limit (from_on f.from all) = ahead-after f.last f.from f.limit
+    f.records all (found-ascends want states all found) page.first page.end in
     append_assoc f.records (records_of fs) (ahead place' all) ∙ (ap (λ rs. f.records ++ rs) (rest ∙ after)
-    ∙ (ap (λ rs. rs ++ drop f.limit (from_on f.from all)) page.first ∙ (take-append-drop f.limit (from_on f.from all) ∙ sym (ap (λ p. ahead p all) search.0))))
+    ∙ (ap (λ rs. rs ++ drop f.limit (from_on f.from all)) page.first
+    ∙ (take-append-drop f.limit (from_on f.from all) ∙ sym (ap (λ p. ahead p all) search.0))))
 
-pieces : (states : Snapshot) (want : List Bool) (all : List Found) (size : ℕ) (place : Place) (fs : List Fetched) (place' : Place) (left : List Found)
-    → AreFound (IsScreened want) states all → AreRead states fs → IsSearch want place fs place' → AllByRecursion (λ f. f.limit ≡ size) fs → ahead place all ≡ left
+pieces : (states : Snapshot) (want : List Bool) (all : List Found) (size : ℕ) (place : Place) (fs : List Fetched)
+    (place' : Place) (left : List Found)
+    → AreFound (IsScreened want) states all → AreRead states fs → IsSearch want place fs place'
+    → AllByRecursion (λ f. f.limit ≡ size) fs → ahead place all ≡ left
     → ArePieces size left fs
 pieces states want all size place [] place' left found read search sized is = tt
 pieces states want all size place (f ∷ fs) place' left found read search sized is =
     let page = page-of states want all f search.1 found read.0 in
     let here : from_on f.from all ≡ left = ap (λ p. ahead p all) (sym search.0) ∙ is in
     let after : ahead (place_after f) all ≡ drop size left =
-    ahead-after f.last f.from f.limit f.records all (found-ascends want states all found) page.first page.end ∙ ap₂ (λ n rs. drop n rs) sized.0 here in (
+    ahead-after f.last f.from f.limit f.records all (found-ascends want states all found) page.first page.end
+    ∙ ap₂ (λ n rs. drop n rs) sized.0 here in (
       page.first ∙ ap₂ (λ n rs. take n rs) sized.0 here,
       page.end ∙ ap₂ (λ n rs. nat_le (length rs) n) sized.0 here,
       pieces states want all size (place_after f) fs place' (drop size left) found read.1 search.2 sized.1 after,
     )
 
-pin_in-new : (slot : ℕ) (p : Held) (ps : List Held) → p.slot ≡ slot → pin_in slot ps ≡ None → pin_in slot (ps ++ p ∷ []) ≡ Some p
+pin_in-new : (slot : ℕ) (p : Held) (ps : List Held) → p.slot ≡ slot → pin_in slot ps ≡ None
+    → pin_in slot (ps ++ p ∷ []) ≡ Some p
 pin_in-new slot p [] e h = cond-true (p.slot == slot) (Some p) None (eq-eqb p.slot slot e)
 pin_in-new slot p (x ∷ xs) e h =
-    elim (x.slot == slot) as (λ b. cond b (Some x) (pin_in slot xs) ≡ None → cond b (Some x) (pin_in slot (xs ++ p ∷ [])) ≡ Some p) [
+    elim (x.slot == slot) as (λ b. cond b (Some x) (pin_in slot xs) ≡ None
+    → cond b (Some x) (pin_in slot (xs ++ p ∷ [])) ≡ Some p) [
       | true ↦ λ n. cc
       | false ↦ λ n. pin_in-new slot p xs e n
     ] h
@@ -83,7 +99,8 @@ record Taken (s s' : State) (slot owner version : ℕ) : Type 0 where
   same : s'.history ≡ s.history
   held : Holds s' slot owner version
 
-taken-row : (s s' : State) (slot owner version : ℕ) → Gives s owner Pin (Pinned slot version) s' → Taken s s' slot owner version
+taken-row : (s s' : State) (slot owner version : ℕ) → Gives s owner Pin (Pinned slot version) s'
+    → Taken s s' slot owner version
 taken-row s s' slot owner version g = record {
   at = g.1.3;
   same = ap (λ x. x.history) g.1.4;
@@ -96,7 +113,8 @@ taken-row s s' slot owner version g = record {
 taken : (s s' : State) (by : ℕ) (e : Event) (r : Reply) (slot version : ℕ)
     → e ≡ Pin → r ≡ Pinned slot version → Gives s by e r s' → Taken s s' slot by version
 taken s s' by e r slot version p q g =
-    taken-row s s' slot by version (subst (λ x. Gives s by x (Pinned slot version) s') p (subst (λ x. Gives s by e x s') q g))
+    taken-row s s' slot by version (subst (λ x. Gives s by x (Pinned slot version) s') p
+    (subst (λ x. Gives s by e x s') q g))
 
 -- along a search the pages are read from the snapshot at its Pin
 record Along (own : ℕ → Bool) (pin : Step) (steps : List Step) (slot version : ℕ) : Type 0 where
@@ -106,22 +124,29 @@ record Along (own : ℕ → Bool) (pin : Step) (steps : List Step) (slot version
 along : (own : ℕ → Bool) (pin : Step) (steps : List Step) (slot version : ℕ) (want : List Bool) (place place' : Place)
     → Searching own pin steps slot version want place place' → Along own pin steps slot version
 along own pin steps slot version want place place' c =
-    let t : Taken pin.before pin.after slot pin.owner version = taken pin.before pin.after pin.owner pin.event pin.reply slot version c.takes.event c.takes.reply c.run.1 in
+    let t : Taken pin.before pin.after slot pin.owner version = taken pin.before pin.after pin.owner pin.event pin.reply
+    slot version c.takes.event c.takes.reply c.run.1 in
     let le : version ≤ head pin.after.history = le_of_eq (t.at ∙ ap (λ h. head h) (sym t.same)) in
     record {
       at = t.at;
-      read = pages-read (snapshot pin.before.history version) pin.after c.after steps own slot pin.owner version c.run.2 c.calm c.takes.by t.held le (ap (λ h. snapshot h version) t.same) c.keeps;
+      read = pages-read (snapshot pin.before.history version) pin.after c.after steps own slot pin.owner version c.run.2
+          c.calm c.takes.by t.held le (ap (λ h. snapshot h version) t.same) c.keeps;
     }
 
 pub pages-are-a-prefix : PagesAreAPrefix
 pages-are-a-prefix own pin steps slot version want place place' c =
-    let t = along own pin steps slot version want place place' c in
-    (t.at, λ all found. paged (snapshot pin.before.history version) want all place (fetched slot (calls_of own steps)) place' found t.read c.search)
+    let t = along own pin steps slot version want place place' c in (
+      t.at,
+      λ all found. paged (snapshot pin.before.history version) want all place
+          (fetched slot (calls_of own steps)) place' found t.read c.search,
+    )
 
 -- from identifier 0 or 1 on stands everything
-pub from-start : (h : List Change) (version from : ℕ) (want : List Bool) (all : List Found) → IsHistory h → from ≤ 1 → AreFound (IsScreened want) (snapshot h version) all
+pub from-start : (h : List Change) (version from : ℕ) (want : List Bool) (all : List Found) → IsHistory h → from ≤ 1
+    → AreFound (IsScreened want) (snapshot h version) all
     → from_on from all ≡ all
-from-start h version from want all good le found = from_on-all from all (Ascends-weaker from 1 all le (found-from-one want h version all good found))
+from-start h version from want all good le found = from_on-all from all
+    (Ascends-weaker from 1 all le (found-from-one want h version all good found))
 
 has-ended : Place → Bool
 has-ended (At n) = false
@@ -132,10 +157,12 @@ unfolding has-ended
 not-ended from e = let b : true ≡ false = ap has-ended e in cc
 
 -- a search that ended has a page, and so a list of what is found
-some-found : (states : Snapshot) (want : List Bool) (from : ℕ) (fs : List Fetched) → AreRead states fs → IsSearch want (At from) fs End → (all : List Found) × AreFound (IsScreened want) states all
+some-found : (states : Snapshot) (want : List Bool) (from : ℕ) (fs : List Fetched) → AreRead states fs
+    → IsSearch want (At from) fs End → (all : List Found) × AreFound (IsScreened want) states all
 some-found states want from [] read search = absurd (not-ended from search)
 some-found states want from (f ∷ fs) read search =
-    let page : IsPage states want f.from f.limit f.records f.last = subst (λ w. IsPage states w f.from f.limit f.records f.last) search.1 read.0 in
+    let page : IsPage states want f.from f.limit f.records f.last = subst
+    (λ w. IsPage states w f.from f.limit f.records f.last) search.1 read.0 in
     (page.all, page.found)
 
 -- the records of a search that ended are all that is found
@@ -148,7 +175,9 @@ all-found own pin steps slot version from want good le c =
     let records = records_of (fetched slot (calls_of own steps)) in
     let some = some-found states want from (fetched slot (calls_of own steps)) t.read c.search in
     let whole : records ≡ some.0 =
-    sym (append-nil records) ∙ (paged states want some.0 (At from) (fetched slot (calls_of own steps)) End some.1 t.read c.search ∙ from-start pin.before.history version from want some.0 good le some.1) in
+    sym (append-nil records) ∙ (paged states want some.0 (At from)
+    (fetched slot (calls_of own steps)) End some.1 t.read c.search
+    ∙ from-start pin.before.history version from want some.0 good le some.1) in
     subst (λ rs. AreFound (IsScreened want) states rs) (sym whole) some.1
 
 pub pages-are-the-answer : OneStructure → PagesAreTheAnswer
@@ -164,5 +193,6 @@ pages-are-the-answer one own pin steps slot version from want good le c =
 pub pages-are-pieces : PagesArePieces
 pages-are-pieces own pin steps slot version from size want place' good le c sized all found =
     let t = along own pin steps slot version want (At from) place' c in
-    pieces (snapshot pin.before.history version) want all size (At from) (fetched slot (calls_of own steps)) place' all found t.read c.search sized
+    pieces (snapshot pin.before.history version) want all size (At from)
+    (fetched slot (calls_of own steps)) place' all found t.read c.search sized
     (from-start pin.before.history version from want all good le found)

@@ -45,7 +45,8 @@ pin-grows s owner NoPin s' g = becomes-grows s s s' refl g.1
 pin-grows s owner (Pinned slot version) s' g = becomes-grows s (pinned s slot owner) s' refl g.4
 pin-grows s owner _ s' g = absurd g
 
-pub fetch-same : (s : State) (owner slot : ℕ) (want : List Bool) (from limit : ℕ) (r : Reply) (s' : State) → FetchGives s owner slot want from limit r s' → Becomes s s'
+pub fetch-same : (s : State) (owner slot : ℕ) (want : List Bool) (from limit : ℕ) (r : Reply) (s' : State)
+    → FetchGives s owner slot want from limit r s' → Becomes s s'
 fetch-same s owner slot want from limit (Page records last) s' g = g.3
 fetch-same s owner slot want from limit NoMemory s' g = g.2
 fetch-same s owner slot want from limit _ s' g = absurd g
@@ -82,7 +83,8 @@ open-grows s _ s' g = absurd g
 pub grows : (s : State) (owner : ℕ) (e : Event) (r : Reply) (s' : State) → Gives s owner e r s' → Grows s s'
 grows s owner (Commit c) r s' g = commit-grows s c r s' g.1
 grows s owner Pin r s' g = pin-grows s owner r s' g.1
-grows s owner (Fetch slot want from limit) r s' g = becomes-grows s s s' refl (fetch-same s owner slot want from limit r s' g.1)
+grows s owner (Fetch slot want from limit) r s' g = becomes-grows s s s' refl
+    (fetch-same s owner slot want from limit r s' g.1)
 grows s owner (Unpin slot) r s' g = unpin-grows s owner slot r s' g.1
 grows s owner Prune r s' g = prune-grows s r s' g.1
 grows s owner (Look id) r s' g = becomes-grows s s s' refl (look-same s id r s' g.1)
@@ -99,18 +101,21 @@ version_in : Option Held → ℕ
 version_in None = 0
 version_in (Some p) = p.version
 
-pub one-owner : (s : State) (slot owner version owner' version' : ℕ) → Holds s slot owner version → Holds s slot owner' version' → owner' ≡ owner
+pub one-owner : (s : State) (slot owner version owner' version' : ℕ) → Holds s slot owner version
+    → Holds s slot owner' version' → owner' ≡ owner
 unfolding owner_in
 one-owner s slot owner version owner' version' h g = ap owner_in (sym g ∙ h)
 
-pub one-version : (s : State) (slot owner version owner' version' : ℕ) → Holds s slot owner version → Holds s slot owner' version' → version' ≡ version
+pub one-version : (s : State) (slot owner version owner' version' : ℕ) → Holds s slot owner version
+    → Holds s slot owner' version' → version' ≡ version
 unfolding version_in
 one-version s slot owner version owner' version' h g = ap version_in (sym g ∙ h)
 
 pin_in-pushed : (slot : ℕ) (p q : Held) (ps : List Held) → pin_in slot ps ≡ Some p → pin_in slot (ps ++ q ∷ []) ≡ Some p
 pin_in-pushed slot p q [] h = cc
 pin_in-pushed slot p q (x ∷ xs) h =
-    elim (x.slot == slot) as (λ b. cond b (Some x) (pin_in slot xs) ≡ Some p → cond b (Some x) (pin_in slot (xs ++ q ∷ [])) ≡ Some p) [
+    elim (x.slot == slot) as (λ b. cond b (Some x) (pin_in slot xs) ≡ Some p
+    → cond b (Some x) (pin_in slot (xs ++ q ∷ [])) ≡ Some p) [
       | true ↦ λ e. e
       | false ↦ λ e. pin_in-pushed slot p q xs e
     ] h
@@ -118,13 +123,16 @@ pin_in-pushed slot p q (x ∷ xs) h =
 apart-from : (a b c : ℕ) → (a == b) ≡ true → (b == c) ≡ false → (a == c) ≡ false
 apart-from a b c e f = ap (λ x. x == c) (eqb-true a b e) ∙ f
 
-pin_in-others : (slot other : ℕ) (ps : List Held) → (other == slot) ≡ false → pin_in slot (filter (λ p. not (p.slot == other)) ps) ≡ pin_in slot ps
+pin_in-others : (slot other : ℕ) (ps : List Held) → (other == slot) ≡ false
+    → pin_in slot (filter (λ p. not (p.slot == other)) ps) ≡ pin_in slot ps
 pin_in-others slot other [] apart = refl
 pin_in-others slot other (x ∷ xs) apart =
     let rest = filter (λ p. not (p.slot == other)) xs in
     let same : pin_in slot rest ≡ pin_in slot xs = pin_in-others slot other xs apart in
-    elim (x.slot == other) as (λ b. (x.slot == other) ≡ b → pin_in slot (cond (not b) (x ∷ rest) rest) ≡ pin_in slot (x ∷ xs)) [
-      | true ↦ λ e. same ∙ sym (cond-false (x.slot == slot) (Some x) (pin_in slot xs) (apart-from x.slot other slot e apart))
+    elim (x.slot == other) as (λ b. (x.slot == other) ≡ b
+    → pin_in slot (cond (not b) (x ∷ rest) rest) ≡ pin_in slot (x ∷ xs)) [
+      | true ↦ λ e. same ∙ sym (cond-false (x.slot == slot) (Some x) (pin_in slot xs)
+          (apart-from x.slot other slot e apart))
       | false ↦ λ e. ap (λ l. cond (x.slot == slot) (Some x) l) same
     ] refl
 
@@ -146,16 +154,21 @@ commit-pins s c NoMemory s' g = doubt-pins s s' g
 commit-pins s c (Committed version) s' g = ap (λ x. x.pins) g.2
 commit-pins s c _ s' g = absurd g
 
-pin-holds : (s : State) (owner : ℕ) (r : Reply) (s' : State) (slot : ℕ) (p : Held) → PinGives s owner r s' → pin_in slot s.pins ≡ Some p → pin_in slot s'.pins ≡ Some p
+pin-holds : (s : State) (owner : ℕ) (r : Reply) (s' : State) (slot : ℕ) (p : Held) → PinGives s owner r s'
+    → pin_in slot s.pins ≡ Some p → pin_in slot s'.pins ≡ Some p
 pin-holds s owner NoPin s' slot p g h = ap (λ x. pin_in slot x.pins) g.1 ∙ h
-pin-holds s owner (Pinned other version) s' slot p g h = ap (λ x. pin_in slot x.pins) g.4 ∙ pin_in-pushed slot p _ s.pins h
+pin-holds s owner (Pinned other version) s' slot p g h = ap (λ x. pin_in slot x.pins) g.4
+    ∙ pin_in-pushed slot p _ s.pins h
 pin-holds s owner _ s' slot p g h = absurd g
 
 -- the slot of another pin, or an Unpin of the owner's own
-unpin-holds : (s : State) (by other : ℕ) (r : Reply) (s' : State) (slot owner version : ℕ) → UnpinGives s by other r s' → (by ≡ owner → (other == slot) ≡ false) → Holds s slot owner version → Holds s' slot owner version
+unpin-holds : (s : State) (by other : ℕ) (r : Reply) (s' : State) (slot owner version : ℕ) → UnpinGives s by other r s'
+    → (by ≡ owner → (other == slot) ≡ false) → Holds s slot owner version → Holds s' slot owner version
 unpin-holds s by other Unpinned s' slot owner version g keeps h =
     elim (other == slot) as (λ b. (other == slot) ≡ b → Holds s' slot owner version) [
-      | true ↦ λ e. absurd (true≢false (sym e ∙ keeps (one-owner s slot owner version by g.0 h (subst (λ k. Holds s k by g.0) (eqb-true other slot e) g.1))))
+      | true ↦ λ e. absurd (true≢false (sym e
+          ∙ keeps (one-owner s slot owner version by g.0 h
+          (subst (λ k. Holds s k by g.0) (eqb-true other slot e) g.1))))
       | false ↦ λ e. ap (λ x. pin_in slot x.pins) g.2 ∙ (pin_in-others slot other s.pins e ∙ h)
     ] refl
 unpin-holds s by other _ s' slot owner version g keeps h = absurd g
@@ -168,11 +181,14 @@ same-pins : (slot : ℕ) (s s' : State) → Becomes s s' → pin_in slot s'.pins
 same-pins slot s s' b = ap (λ x. pin_in slot x.pins) b
 
 pub holds-step : (s : State) (by : ℕ) (e : Event) (r : Reply) (s' : State) (slot owner version : ℕ)
-    → Gives s by e r s' → is_call e ≡ true → (by ≡ owner → unpins slot e ≡ false) → Holds s slot owner version → Holds s' slot owner version
+    → Gives s by e r s' → is_call e ≡ true → (by ≡ owner → unpins slot e ≡ false) → Holds s slot owner version
+    → Holds s' slot owner version
 holds-step s by (Commit c) r s' slot owner version g calm keeps h = ap (pin_in slot) (commit-pins s c r s' g.1) ∙ h
 holds-step s by Pin r s' slot owner version g calm keeps h = pin-holds s by r s' slot _ g.1 h
-holds-step s by (Fetch other want from limit) r s' slot owner version g calm keeps h = same-pins slot s s' (fetch-same s by other want from limit r s' g.1) ∙ h
-holds-step s by (Unpin other) r s' slot owner version g calm keeps h = unpin-holds s by other r s' slot owner version g.1 keeps h
+holds-step s by (Fetch other want from limit) r s' slot owner version g calm keeps h = same-pins slot s s'
+    (fetch-same s by other want from limit r s' g.1) ∙ h
+holds-step s by (Unpin other) r s' slot owner version g calm keeps h = unpin-holds s by other r s' slot owner version
+    g.1 keeps h
 holds-step s by Prune r s' slot owner version g calm keeps h = ap (pin_in slot) (prune-pins s r s' g.1) ∙ h
 holds-step s by (Look id) r s' slot owner version g calm keeps h = same-pins slot s s' (look-same s id r s' g.1) ∙ h
 holds-step s by Stats r s' slot owner version g calm keeps h = same-pins slot s s' (stats-same s r s' g.1) ∙ h

@@ -12,15 +12,19 @@ use Rattle.store_machine.specs.declared.machine.Change.{Change}
 use Rattle.store_machine.specs.declared.machine.Change.TheVariants.{Register, Revise, Withdraw}
 
 after_changes-pushed : (version : ℕ) (cs : List Change) (c : Change) (states : Snapshot)
-    → after_changes version (cs ++ c ∷ []) states ≡ after_change (version + length cs + 1) c (after_changes version cs states)
+    → after_changes version (cs ++ c ∷ []) states ≡ after_change (version + length cs + 1) c
+    (after_changes version cs states)
 after_changes-pushed version [] c states = ap (λ v. after_change v c states) (omega arith)
 after_changes-pushed version (x ∷ xs) c states =
-    after_changes-pushed (version + 1) xs c (after_change (version + 1) x states) ∙ ap (λ v. after_change v c (after_changes (version + 1) xs (after_change (version + 1) x states))) (omega arith)
+    after_changes-pushed (version + 1) xs c (after_change (version + 1) x states)
+    ∙ ap (λ v. after_change v c (after_changes (version + 1) xs (after_change (version + 1) x states)))
+    (omega arith)
 
 pub snapshot-head : (h : List Change) → snapshot h (head h) ≡ after_changes 0 h empty
 snapshot-head h = ap (λ cs. after_changes 0 cs empty) (take_all (length h) h (le_of_eq refl))
 
-pub snapshot-pushed : (h : List Change) (c : Change) (v : ℕ) → v ≡ head h + 1 → snapshot (h ++ c ∷ []) v ≡ after_change v c (snapshot h (head h))
+pub snapshot-pushed : (h : List Change) (c : Change) (v : ℕ) → v ≡ head h + 1
+    → snapshot (h ++ c ∷ []) v ≡ after_change v c (snapshot h (head h))
 snapshot-pushed h c v e =
     let long : v ≡ length (h ++ c ∷ []) = omega (arith, length-append h (c ∷ [])) in
     let at : 0 + length h + 1 ≡ v = omega arith in
@@ -28,12 +32,20 @@ snapshot-pushed h c v e =
     ∙ (ap (λ k. after_change k c (after_changes 0 h empty)) at ∙ ap (after_change v c) (sym (snapshot-head h)))))
 
 AreAllowed-pushed : (version : ℕ) (cs : List Change) (c : Change) (states : Snapshot)
-    → AreAllowed version cs states → IsValid c → IsAllowed (after_changes version cs states) c → AreAllowed version (cs ++ c ∷ []) states
+    → AreAllowed version cs states → IsValid c → IsAllowed (after_changes version cs states) c
+    → AreAllowed version (cs ++ c ∷ []) states
 AreAllowed-pushed version [] c states all valid allowed = (valid, allowed, tt)
-AreAllowed-pushed version (x ∷ xs) c states all valid allowed = (all.0, all.1, AreAllowed-pushed (version + 1) xs c (after_change (version + 1) x states) all.2 valid allowed)
+AreAllowed-pushed version (x ∷ xs) c states all valid allowed = (
+  all.0,
+  all.1,
+  AreAllowed-pushed (version + 1) xs c
+      (after_change (version + 1) x states) all.2 valid allowed,
+)
 
-pub IsHistory-pushed : (h : List Change) (c : Change) → IsHistory h → IsValid c → IsAllowed (snapshot h (head h)) c → IsHistory (h ++ c ∷ [])
-IsHistory-pushed h c all valid allowed = AreAllowed-pushed 0 h c empty all valid (subst (λ states. IsAllowed states c) (snapshot-head h) allowed)
+pub IsHistory-pushed : (h : List Change) (c : Change) → IsHistory h → IsValid c → IsAllowed (snapshot h (head h)) c
+    → IsHistory (h ++ c ∷ [])
+IsHistory-pushed h c all valid allowed = AreAllowed-pushed 0 h c empty all valid
+    (subst (λ states. IsAllowed states c) (snapshot-head h) allowed)
 
 -- a state after a change is the changed one, or was there before
 abbrev pub IsNewOrOld : ℕ → Change → Snapshot → ℕ → Status → Type 0
@@ -48,17 +60,22 @@ same-key a b Less e h = cc
 same-key a b Equal e h = sym (nat_cmp-IsAntisymmetric a b e)
 same-key a b Greater e h = cc
 
-inserted : (states : Snapshot) (key : ℕ) (now : Status) (id : ℕ) (status : Status) → get (insert states key now) id ≡ Some status
+inserted : (states : Snapshot) (key : ℕ) (now : Status) (id : ℕ) (status : Status)
+    → get (insert states key now) id ≡ Some status
     → ((key ≡ id) × (made_at now ≡ made_at status)) ⊎ (get states id ≡ Some status)
 unfolding made_in
 inserted states key now id status e =
-    elim (eq_by_cmp nat_cmp id key) as (λ b. eq_by_cmp nat_cmp id key ≡ b → cond b (Some now) (get states id) ≡ Some status → ((key ≡ id) × (made_at now ≡ made_at status)) ⊎ (get states id ≡ Some status)) [
+    elim (eq_by_cmp nat_cmp id key) as (λ b. eq_by_cmp nat_cmp id key ≡ b
+    → cond b (Some now) (get states id) ≡ Some status → ((key ≡ id) × (made_at now ≡ made_at status))
+    ⊎ (get states id ≡ Some status)) [
       | true ↦ λ t f. inl (same-key id key (nat_cmp id key) refl t, ap made_in f)
       | false ↦ λ t f. inr f
     ] refl (sym (get-insert nat_cmp_total states key now id) ∙ e)
 
-pub changed : (version : ℕ) (c : Change) (states : Snapshot) (id : ℕ) (status : Status) → get (after_change version c states) id ≡ Some status → IsNewOrOld version c states id status
-changed version (Register key format text) states id status e = inserted states key (Live version format text) id status e
+pub changed : (version : ℕ) (c : Change) (states : Snapshot) (id : ℕ) (status : Status)
+    → get (after_change version c states) id ≡ Some status → IsNewOrOld version c states id status
+changed version (Register key format text) states id status e = inserted states key
+    (Live version format text) id status e
 changed version (Revise key format text) states id status e = inserted states key (Live version format text) id status e
 changed version (Withdraw key) states id status e = inserted states key (Withdrawn version) id status e
 

@@ -27,7 +27,8 @@ slots-filtered keeps (p ∷ ps) h =
     cond_both (keeps p) (p ∷ filter keeps ps) (filter keeps ps) SlotsApart
     (λ _. (h.0, pin_in-filtered p.slot keeps ps h.1, slots-filtered keeps ps h.2)) (λ _. slots-filtered keeps ps h.2)
 
-slots-pushed : (p : Held) (ps : List Held) → SlotsApart ps → p.slot < 64 → pin_in p.slot ps ≡ None → SlotsApart (ps ++ p ∷ [])
+slots-pushed : (p : Held) (ps : List Held) → SlotsApart ps → p.slot < 64 → pin_in p.slot ps ≡ None
+    → SlotsApart (ps ++ p ∷ [])
 slots-pushed p [] h less free = (less, refl, tt)
 slots-pushed p (q ∷ qs) h less free =
     let parts = pin_in-parts p.slot q qs free in
@@ -37,27 +38,38 @@ commit-made : (s : State) (c : Change) → KeepsMade s → KeepsMade (committed 
 commit-made s c made entry k =
     elim (contains-last (record { id = id_of c; version = head s.history + 1 }) entry s.kept k) [
       | inl old ↦ made-appended 0 s.history (c ∷ []) entry.id entry.version (made entry old)
-      | inr new ↦ subst (λ (x : Entry). IsMade 0 (s.history ++ c ∷ []) x.id x.version) new (made-pushed 0 s.history c (head s.history + 1) (omega arith))
+      | inr new ↦ subst (λ (x : Entry). IsMade 0 (s.history ++ c ∷ []) x.id x.version) new
+          (made-pushed 0 s.history c (head s.history + 1) (omega arith))
     ]
 
-needed-made : (h : List Change) (versions : List ℕ) (entry : Entry) → IsNeeded h versions entry → IsMade 0 h entry.id entry.version
+needed-made : (h : List Change) (versions : List ℕ) (entry : Entry) → IsNeeded h versions entry
+    → IsMade 0 h entry.id entry.version
 needed-made h versions entry n = subst (IsMade 0 h entry.id) n.made (snapshot-made h n.at entry.id n.status n.state).0
 
 -- nothing of a sound state turns on the counts of faults
 becomes-sound : (s s' : State) → Becomes s s' → IsSound s → IsSound s'
-becomes-sound s s' b h = subst IsSound (sym b) (record { history = h.history; doubt = h.doubt; slots = h.slots; pins = h.pins; kept = h.kept; made = h.made })
+becomes-sound s s' b h = subst IsSound (sym b)
+    (record { history = h.history; doubt = h.doubt; slots = h.slots; pins = h.pins; kept = h.kept; made = h.made })
 
 undoubted : (s : State) → IsSound s → IsSound (record s { doubt = None })
 undoubted s h = record { history = h.history; doubt = tt; slots = h.slots; pins = h.pins; kept = h.kept; made = h.made }
 
 doubted : (s : State) (c : Change) → IsValid c → IsAllowed (now s) c → IsSound s → IsSound (record s { doubt = Some c })
-doubted s c valid allowed h = record { history = h.history; doubt = (valid, allowed); slots = h.slots; pins = h.pins; kept = h.kept; made = h.made }
+doubted s c valid allowed h = record {
+  history = h.history;
+  doubt = (valid, allowed);
+  slots = h.slots;
+  pins = h.pins;
+  kept = h.kept;
+  made = h.made;
+}
 
 doubt-sound : (s s' : State) → EndsDoubt s s' → IsSound s → IsSound s'
 doubt-sound s s' (inl b) h = becomes-sound s s' b h
 doubt-sound s s' (inr b) h = becomes-sound (record s { doubt = None }) s' b (undoubted s h)
 
-after-sound : (s : State) (c : Change) (doubt : Bool) (s' : State) → MayAdd s c → DoubtAfter s c doubt s' → IsSound s → IsSound s'
+after-sound : (s : State) (c : Change) (doubt : Bool) (s' : State) → MayAdd s c → DoubtAfter s c doubt s' → IsSound s
+    → IsSound s'
 after-sound s c true s' may b h = becomes-sound (record s { doubt = Some c }) s' b (doubted s c may.0 may.1 h)
 after-sound s c false s' may b h = doubt-sound s s' b h
 
@@ -81,7 +93,9 @@ commit-sound s c NoMemory s' g h = doubt-sound s s' g h
 commit-sound s c (Committed version) s' g h = becomes-sound (committed s c) s' g.2 (committed-sound s c g.0 h)
 commit-sound s c _ s' g h = absurd g
 
-other-pins : (s : State) (ps : List Held) → SlotsApart ps → ((v : ℕ) → Contains (map (λ p. p.version) ps) v → Contains (in_use s) v) → IsSound s → IsSound (record s { pins = ps })
+other-pins : (s : State) (ps : List Held) → SlotsApart ps
+    → ((v : ℕ) → Contains (map (λ p. p.version) ps) v → Contains (in_use s) v) → IsSound s
+    → IsSound (record s { pins = ps })
 other-pins s ps apart less h = record {
   history = h.history;
   doubt = h.doubt;
@@ -95,16 +109,20 @@ pin-sound : (s : State) (owner : ℕ) (r : Reply) (s' : State) → PinGives s ow
 pin-sound s owner NoPin s' g h = becomes-sound s s' g.1 h
 pin-sound s owner (Pinned slot version) s' g h =
     let p : Held = record { slot = slot; owner = owner; version = head s.history } in
-    becomes-sound (pinned s slot owner) s' g.4 (other-pins s _ (slots-pushed p s.pins h.slots g.1 g.2) (pushed-in_use s p refl) h)
+    becomes-sound (pinned s slot owner) s' g.4 (other-pins s _ (slots-pushed p s.pins h.slots g.1 g.2)
+    (pushed-in_use s p refl) h)
 pin-sound s owner _ s' g h = absurd g
 
-unpin-sound : (s : State) (owner slot : ℕ) (r : Reply) (s' : State) → UnpinGives s owner slot r s' → IsSound s → IsSound s'
+unpin-sound : (s : State) (owner slot : ℕ) (r : Reply) (s' : State) → UnpinGives s owner slot r s' → IsSound s
+    → IsSound s'
 unpin-sound s owner slot Unpinned s' g h =
     becomes-sound (unpinned s slot) s' g.2
-    (other-pins s _ (slots-filtered (λ p. not (p.slot == slot)) s.pins h.slots) (filtered-in_use s (λ p. not (p.slot == slot))) h)
+    (other-pins s _ (slots-filtered (λ p. not (p.slot == slot)) s.pins h.slots)
+    (filtered-in_use s (λ p. not (p.slot == slot))) h)
 unpin-sound s owner slot _ s' g h = absurd g
 
-kept-sound : (s : State) (kept : List Entry) (serves : Bool) → AreNeeded s kept → IsSound s → IsSound (record s { kept = kept; serves = serves })
+kept-sound : (s : State) (kept : List Entry) (serves : Bool) → AreNeeded s kept → IsSound s
+    → IsSound (record s { kept = kept; serves = serves })
 kept-sound s kept serves needed h = record {
   history = h.history;
   doubt = h.doubt;
@@ -115,7 +133,8 @@ kept-sound s kept serves needed h = record {
 }
 
 prune-sound : (s : State) (r : Reply) (s' : State) → PruneGives s r s' → IsSound s → IsSound s'
-prune-sound s (Pruned dropped) s' g h = becomes-sound (record s { kept = s'.kept }) s' g.2 (kept-sound s s'.kept s.serves g.0 h)
+prune-sound s (Pruned dropped) s' g h = becomes-sound (record s { kept = s'.kept }) s' g.2
+    (kept-sound s s'.kept s.serves g.0 h)
 prune-sound s _ s' g h = absurd g
 
 not-served : {X : Type 0} → false ≡ true → X
@@ -124,7 +143,8 @@ not-served e = absurd (true≢false (sym e))
 recovered-history : (s : State) (h : List Change) → Recovers s h → IsSound s → IsHistory h
 recovered-history s h (inl e) sound = subst IsHistory (sym e) sound.history
 recovered-history s h (inr d) sound =
-    let both : IsValid d.0 × IsAllowed (now s) d.0 = subst (λ o. MatchOption o (Unit {0}) (λ c. IsValid c × IsAllowed (now s) c)) d.1 sound.doubt in
+    let both : IsValid d.0 × IsAllowed (now s) d.0 = subst
+    (λ o. MatchOption o (Unit {0}) (λ c. IsValid c × IsAllowed (now s) c)) d.1 sound.doubt in
     subst IsHistory (sym d.2) (IsHistory-pushed s.history d.0 sound.history both.0 both.1)
 
 crash-sound : (s : State) (r : Reply) (s' : State) → CrashGives s r s' → IsSound s → IsSound s'
@@ -139,13 +159,16 @@ crash-sound s Crashed s' g h = subst IsSound (sym g.1) (record {
 crash-sound s _ s' g h = absurd g
 
 open-sound : (s : State) (r : Reply) (s' : State) → OpenGives s r s' → IsSound s → IsSound s'
-open-sound s (Opened commits) s' g h = becomes-sound (record s { kept = s'.kept; serves = true }) s' g.5 (kept-sound s s'.kept true g.2 h)
+open-sound s (Opened commits) s' g h = becomes-sound (record s { kept = s'.kept; serves = true }) s' g.5
+    (kept-sound s s'.kept true g.2 h)
 open-sound s _ s' g h = absurd g
 
-step-sound : (s : State) (owner : ℕ) (e : Event) (r : Reply) (s' : State) → Gives s owner e r s' → IsSound s → IsSound s'
+step-sound : (s : State) (owner : ℕ) (e : Event) (r : Reply) (s' : State) → Gives s owner e r s' → IsSound s
+    → IsSound s'
 step-sound s owner (Commit c) r s' g h = commit-sound s c r s' g.1 h
 step-sound s owner Pin r s' g h = pin-sound s owner r s' g.1 h
-step-sound s owner (Fetch slot want from limit) r s' g h = becomes-sound s s' (fetch-same s owner slot want from limit r s' g.1) h
+step-sound s owner (Fetch slot want from limit) r s' g h = becomes-sound s s'
+    (fetch-same s owner slot want from limit r s' g.1) h
 step-sound s owner (Unpin slot) r s' g h = unpin-sound s owner slot r s' g.1 h
 step-sound s owner Prune r s' g h = prune-sound s r s' g.1 h
 step-sound s owner (Look id) r s' g h = becomes-sound s s' (look-same s id r s' g.1) h
@@ -156,4 +179,5 @@ step-sound s owner Open r s' g h = open-sound s r s' g h
 pub runs-stay-sound : RunsStaySound
 runs-stay-sound s s' [] run h = subst IsSound (sym run) h
 runs-stay-sound s s' (x ∷ xs) run h =
-    runs-stay-sound x.after s' xs run.2 (step-sound x.before x.owner x.event x.reply x.after run.1 (subst IsSound (sym run.0) h))
+    runs-stay-sound x.after s' xs run.2 (step-sound x.before x.owner x.event x.reply x.after run.1
+    (subst IsSound (sym run.0) h))

@@ -1,4 +1,5 @@
--- What a search asks of a snapshot: the live records of whose texts something holds, ascending, and those from an identifier on.
+-- What a search asks of a snapshot: the live records of whose texts something holds, ascending, and those from an
+-- identifier on.
 use Rattle.std.specs.Prelude.{◌≡◌, ◌⊎◌, Bool, Contains, List, [], ◌∷◌, filter, map, nat_le, Some, ℕ}
 use Rattle.std.specs.FinMap.{get}
 use Rattle.std.specs.List.Sorted.{IsStrictlyIncreasing}

@@ -1,4 +1,5 @@
--- What was committed, what each identifier is at each version, and which change is allowed. Version k is the state after the k-th commit.
+-- What was committed, what each identifier is at each version, and which change is allowed. Version k is the state
+-- after the k-th commit.
 use Rattle.std.specs.Prelude.{◌≡◌, ◌+◌, ◌≤◌, List, [], ◌∷◌, None, Option, Some, length, take, ℕ}
 use Rattle.std.specs.FinMap.{FinMap, empty, get, insert}
 use Rattle.std.specs.Ordering.{nat_cmp}
@@ -72,7 +73,8 @@ IsValid (Withdraw id) = IsId id
 -- each commit is valid, and allowed after those before it
 abbrev pub AreAllowed : ℕ → List Change → Snapshot → Type 0
 AreAllowed version [] states = Unit {0}
-AreAllowed version (c ∷ cs) states = IsValid c × IsAllowed states c × AreAllowed (version + 1) cs (after_change (version + 1) c states)
+AreAllowed version (c ∷ cs) states = IsValid c × IsAllowed states c
+    × AreAllowed (version + 1) cs (after_change (version + 1) c states)
 
 abbrev pub IsHistory : List Change → Type 0
 IsHistory h = AreAllowed 0 h empty

@@ -25,7 +25,8 @@ SnapshotsStay = (h more : List Change) (v : ℕ) → v ≤ head h → snapshot (
 
 -- a commit at the head makes its own change
 abbrev pub CommitsChange : Type 0
-CommitsChange = (h : List Change) (c : Change) → snapshot (h ++ c ∷ []) (head h + 1) ≡ after_change (head h + 1) c (snapshot h (head h))
+CommitsChange = (h : List Change) (c : Change) → snapshot (h ++ c ∷ []) (head h + 1)
+    ≡ after_change (head h + 1) c (snapshot h (head h))
 
 -- a state was the same at the version that made it, and is of an identifier in range
 abbrev pub StatesStay : Type 0
@@ -34,7 +35,8 @@ StatesStay = (h : List Change) (v id : ℕ) (status : Status) → IsHistory h �
 
 -- what is found is one list
 abbrev pub AnswersAreOne : Type 0
-AnswersAreOne = (want : List Bool) (states : Snapshot) (xs ys : List Found) → AreFound (IsScreened want) states xs → AreFound (IsScreened want) states ys → xs ≡ ys
+AnswersAreOne = (want : List Bool) (states : Snapshot) (xs ys : List Found) → AreFound (IsScreened want) states xs
+    → AreFound (IsScreened want) states ys → xs ≡ ys
 
 -- a state as it is in every run that begins so
 pub record IsSound (s : State) : Type 0 where
@@ -55,7 +57,8 @@ KeptIsRead = (s : State) (v id : ℕ) → IsSound s → s.serves ≡ true → Co
 -- a pin is held until its owner's Unpin
 abbrev pub PinsStay : Type 0
 PinsStay = (s s' : State) (steps : List Step) (own : ℕ → Bool) (slot owner version : ℕ)
-    → IsRun s steps s' → IsCalm steps → own owner ≡ true → Holds s slot owner version → KeepsPin slot (calls_of own steps) → Holds s' slot owner version
+    → IsRun s steps s' → IsCalm steps → own owner ≡ true → Holds s slot owner version
+    → KeepsPin slot (calls_of own steps) → Holds s' slot owner version
 
 -- a step by which the caller takes the pin at the head
 pub record TakesPin (own : ℕ → Bool) (x : Step) (slot version : ℕ) : Type 0 where
@@ -63,8 +66,10 @@ pub record TakesPin (own : ℕ → Bool) (x : Step) (slot version : ℕ) : Type 
   pub event : x.event ≡ Pin
   pub reply : x.reply ≡ Pinned slot version
 
--- a part of a run that begins with a Pin, without a crash, in which the pin's fetches are a search from a place to another
-pub record Searching (own : ℕ → Bool) (pin : Step) (steps : List Step) (slot version : ℕ) (want : List Bool) (place place' : Place) : Type 0 where
+-- a part of a run that begins with a Pin, without a crash, in which the pin's fetches are a search from a place to
+-- another
+pub record Searching (own : ℕ → Bool) (pin : Step) (steps : List Step) (slot version : ℕ) (want : List Bool)
+    (place place' : Place) : Type 0 where
   pub after : State
   pub run : IsRun pin.before (pin ∷ steps) after
   pub calm : IsCalm steps
@@ -72,9 +77,11 @@ pub record Searching (own : ℕ → Bool) (pin : Step) (steps : List Step) (slot
   pub keeps : KeepsPin slot (calls_of own steps)
   pub search : IsSearch want place (fetched slot (calls_of own steps)) place'
 
--- the version is the head at the Pin; what the pages gave so far and what is ahead are together what the snapshot has from the start on
+-- the version is the head at the Pin; what the pages gave so far and what is ahead are together what the snapshot has
+-- from the start on
 abbrev pub PagesAreAPrefix : Type 0
-PagesAreAPrefix = (own : ℕ → Bool) (pin : Step) (steps : List Step) (slot version : ℕ) (want : List Bool) (place place' : Place)
+PagesAreAPrefix = (own : ℕ → Bool) (pin : Step) (steps : List Step) (slot version : ℕ) (want : List Bool)
+    (place place' : Place)
     → Searching own pin steps slot version want place place'
     → (version ≡ head pin.before.history)
     × ((all : List Found) → AreFound (IsScreened want) (snapshot pin.before.history version) all
@@ -82,18 +89,22 @@ PagesAreAPrefix = (own : ℕ → Bool) (pin : Step) (steps : List Step) (slot ve
 
 -- with one limit, the k-th page is the k-th piece of what is found at the Pin, whether the search has ended or not
 abbrev pub PagesArePieces : Type 0
-PagesArePieces = (own : ℕ → Bool) (pin : Step) (steps : List Step) (slot version from size : ℕ) (want : List Bool) (place' : Place)
+PagesArePieces = (own : ℕ → Bool) (pin : Step) (steps : List Step) (slot version from size : ℕ) (want : List Bool)
+    (place' : Place)
     → IsHistory pin.before.history → from ≤ 1 → Searching own pin steps slot version want (At from) place'
     → AllByRecursion (λ f. f.limit ≡ size) (fetched slot (calls_of own steps))
-    → (all : List Found) → AreFound (IsScreened want) (snapshot pin.before.history version) all → ArePieces size all (fetched slot (calls_of own steps))
+    → (all : List Found) → AreFound (IsScreened want) (snapshot pin.before.history version) all
+    → ArePieces size all (fetched slot (calls_of own steps))
 
--- a search from identifier 0 or 1 to its end lists exactly the answers at the Pin: all that are tried, and, matched, all hits
+-- a search from identifier 0 or 1 to its end lists exactly the answers at the Pin: all that are tried, and, matched,
+-- all hits
 abbrev pub PagesAreTheAnswer : Type 0
 PagesAreTheAnswer = (own : ℕ → Bool) (pin : Step) (steps : List Step) (slot version from : ℕ) (want : List Bool)
     → IsHistory pin.before.history → from ≤ 1 → Searching own pin steps slot version want (At from) End
     → (version ≡ head pin.before.history)
     × AreTried pin.before.history version want (ids (records_of (fetched slot (calls_of own steps))))
-    × ((pattern : PatternTerm) (hits : List ℕ) → Screens pattern want → AreMatched pattern (records_of (fetched slot (calls_of own steps))) hits
+    × ((pattern : PatternTerm) (hits : List ℕ) → Screens pattern want
+    → AreMatched pattern (records_of (fetched slot (calls_of own steps))) hits
     → AreHits pin.before.history version pattern hits)
 
 -- the need of a pattern rules out no structure that it matches

@@ -1,5 +1,5 @@
--- The machine: from a state, an owner's call may be answered so, and leave this state. One definition for each row of the table;
--- what a row does not name is never answered.
+-- The machine: from a state, an owner's call may be answered so, and leave this state. One definition for each row of
+-- the table; what a row does not name is never answered.
 use Rattle.std.specs.Prelude.{◌≡◌, ◌+◌, ◌++◌, ◌<◌, ◌≤◌, ◌==◌, ◌^◌, ◌⊎◌, ◌↔◌, AllPairs, Bool, Contains, List, [], ◌∷◌, count_by, false, filter, if◌then◌else◌, length, nat_le, None, not, Option, Some, take, true, ℕ, ◌≢◌}
 use Rattle.std.specs.FinMap.{entries, get}
 use Rattle.store_machine.specs.Answers.{AreFound, from_on}
@@ -45,7 +45,12 @@ abbrev pub MayAdd : State → Change → Type 0
 MayAdd s c = IsValid c × IsAllowed (now s) c × (length s.history < s.limit)
 
 abbrev pub committed : State → Change → State
-committed s c = record s { history = s.history ++ c ∷ []; kept = s.kept ++ record { id = id_of c; version = head s.history + 1 } ∷ []; doubt = None }
+committed s c = record s {
+  history = s.history ++ c ∷ [];
+  kept = s.kept
+      ++ record { id = id_of c; version = head s.history + 1 } ∷ [];
+  doubt = None;
+}
 
 abbrev pub DoubtAfter : State → Change → Bool → State → Type 0
 DoubtAfter s c true s' = Becomes (record s { doubt = Some c }) s'
@@ -81,19 +86,22 @@ pinned s slot owner = record s { pins = s.pins ++ record { slot = slot; owner = 
 abbrev pub PinGives : State → ℕ → Reply → State → Type 0
 PinGives s owner NoPin s' = (length s.pins ≡ 64) × Becomes s s'
 PinGives s owner (Pinned slot version) s' =
-    (length s.pins < 64) × (slot < 64) × (pin_in slot s.pins ≡ None) × (version ≡ head s.history) × Becomes (pinned s slot owner) s'
+    (length s.pins < 64) × (slot < 64) × (pin_in slot s.pins ≡ None) × (version ≡ head s.history)
+    × Becomes (pinned s slot owner) s'
 PinGives s owner _ s' = ⊥
 
 -- Fetch: the first `limit` of those from `from` on whose print contains what is wanted, and whether no other follows
-pub record IsPage (states : Snapshot) (want : List Bool) (from limit : ℕ) (records : List Found) (last : Bool) : Type 0 where
-  pub all : List Found
-  pub found : AreFound (IsScreened want) states all
-  pub first : records ≡ take limit (from_on from all)
-  pub end : last ≡ nat_le (length (from_on from all)) limit
+pub record IsPage (states : Snapshot) (want : List Bool) (from limit : ℕ) (records : List Found) (last : Bool) : Type 0
+  where
+    pub all : List Found
+    pub found : AreFound (IsScreened want) states all
+    pub first : records ≡ take limit (from_on from all)
+    pub end : last ≡ nat_le (length (from_on from all)) limit
 
 abbrev pub FetchGives : State → ℕ → ℕ → List Bool → ℕ → ℕ → Reply → State → Type 0
 FetchGives s owner slot want from limit (Page records last) s' =
-    (version : ℕ) × Holds s slot owner version × IsPage (snapshot s.history version) want from limit records last × Becomes s s'
+    (version : ℕ) × Holds s slot owner version × IsPage (snapshot s.history version) want from limit records last
+    × Becomes s s'
 FetchGives s owner slot want from limit NoMemory s' = (version : ℕ) × Holds s slot owner version × Becomes s s'
 FetchGives s owner slot want from limit _ s' = ⊥
 
@@ -111,7 +119,8 @@ pub record AreNeeded (s : State) (kept : List Entry) : Type 0 where
   pub distinct : AllPairs (λ x y. x ≢ y) kept
 
 abbrev pub PruneGives : State → Reply → State → Type 0
-PruneGives s (Pruned dropped) s' = AreNeeded s s'.kept × (dropped + length s'.kept ≡ length s.kept) × Becomes (record s { kept = s'.kept }) s'
+PruneGives s (Pruned dropped) s' = AreNeeded s s'.kept × (dropped + length s'.kept ≡ length s.kept)
+    × Becomes (record s { kept = s'.kept }) s'
 PruneGives s _ s' = ⊥
 
 -- Look
@@ -128,7 +137,8 @@ is_live (status.Withdrawn version) = false
 abbrev pub StatsGives : State → Reply → State → Type 0
 StatsGives s (Counted version live withdrawn kept pins) s' =
     (version ≡ head s.history)
-    × (live ≡ count_by (λ e. is_live e.1) (entries (now s))) × (withdrawn ≡ count_by (λ e. not (is_live e.1)) (entries (now s)))
+    × (live ≡ count_by (λ e. is_live e.1) (entries (now s)))
+    × (withdrawn ≡ count_by (λ e. not (is_live e.1)) (entries (now s)))
     × (kept ≡ length s.kept) × (pins ≡ length s.pins) × Becomes s s'
 StatsGives s _ s' = ⊥
 
@@ -138,7 +148,14 @@ Recovers s h = (h ≡ s.history) ⊎ ((c : Change) × (s.doubt ≡ Some c) × (h
 
 abbrev pub CrashGives : State → Reply → State → Type 0
 CrashGives s Crashed s' =
-    Recovers s s'.history × (s' ≡ record s { history = s'.history; pins = []; doubt = None; faults = record { a = 0; b = 0 }; serves = false })
+    Recovers s s'.history × (s' ≡ record s {
+      history = s'.history;
+      pins = [];
+      doubt = None;
+      faults = record
+          { a = 0; b = 0 };
+      serves = false;
+    })
 CrashGives s _ s' = ⊥
 
 -- Open

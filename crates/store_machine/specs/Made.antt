@@ -17,8 +17,10 @@ KeepsMade s = (entry : Entry) → Contains s.kept entry → IsMade 0 s.history e
 abbrev pub IsKept : State → ℕ → ℕ → Type 0
 IsKept s id version = Contains s.kept (record { id = id; version = version })
 
--- of the entries that are kept of an identifier, the latest at or before the version is that of its state there; where it has none, there is none
+-- of the entries that are kept of an identifier, the latest at or before the version is that of its state there; where
+-- it has none, there is none
 abbrev pub ReadsKept : State → ℕ → ℕ → Type 0
 ReadsKept s v id = MatchOption (get (snapshot s.history v) id)
     ((version : ℕ) → IsKept s id version → v < version)
-    (λ status. IsKept s id (made_at status) × (made_at status ≤ v) × ((version : ℕ) → IsKept s id version → version ≤ v → version ≤ made_at status))
+    (λ status. IsKept s id (made_at status) × (made_at status ≤ v)
+    × ((version : ℕ) → IsKept s id version → version ≤ v → version ≤ made_at status))

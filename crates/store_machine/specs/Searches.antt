@@ -1,4 +1,5 @@
--- A search by the fetches of one pin: where it stands, and what its pages gave. Calls of a fetch that found no memory are no pages.
+-- A search by the fetches of one pin: where it stands, and what its pages gave. Calls of a fetch that found no memory
+-- are no pages.
 use Rattle.std.specs.Prelude.{drop, length, nat_le, take, ◌≡◌, ◌+◌, ◌++◌, ◌==◌, Bool, List, [], ◌∷◌, false, filter_map, if◌then◌else◌, None, Option, Some, ℕ}
 use Rattle.store_machine.specs.Answers.{from_on}
 use Rattle.store_machine.specs.declared.machine.Event.{Event}
@@ -17,7 +18,8 @@ pub record Fetched : Type 0 where
 
 abbrev pub page_in : ℕ → Event → Reply → Option Fetched
 page_in slot (Fetch pin want from limit) (Page records last) =
-    if pin == slot then Some (record { want = want; from = from; limit = limit; records = records; last = last }) else None
+    if pin == slot then Some (record { want = want; from = from; limit = limit; records = records; last = last })
+    else None
 page_in slot _ _ = None
 
 abbrev pub fetched : ℕ → List (Event × Reply) → List Fetched
@@ -50,7 +52,8 @@ past from (r ∷ rs) = past (r.id + 1) rs
 abbrev pub place_after : Fetched → Place
 place_after f = if f.last then End else At (past f.from f.records)
 
--- the pages are those of a search for what is wanted, from one place to another: each begins where the one before it ended
+-- the pages are those of a search for what is wanted, from one place to another: each begins where the one before it
+-- ended
 abbrev pub IsSearch : List Bool → Place → List Fetched → Place → Type 0
 IsSearch want place [] place' = place' ≡ place
 IsSearch want place (f ∷ fs) place' = (place ≡ At f.from) × (f.want ≡ want) × IsSearch want (place_after f) fs place'
@@ -63,4 +66,5 @@ ahead End records = []
 -- the pages are a list's pieces of one size, and the first that leaves nothing over says so
 abbrev pub ArePieces : ℕ → List Found → List Fetched → Type 0
 ArePieces size records [] = Unit {0}
-ArePieces size records (f ∷ fs) = (f.records ≡ take size records) × (f.last ≡ nat_le (length records) size) × ArePieces size (drop size records) fs
+ArePieces size records (f ∷ fs) = (f.records ≡ take size records) × (f.last ≡ nat_le (length records) size)
+    × ArePieces size (drop size records) fs

@@ -184,7 +184,8 @@ stays-by_bond s y j d h ends light = false_from_ne_true (is_suppressed s y) (λ 
 light-first : (xs : List SketchAtom) (b : SketchBond) → b.a ≢ b.b → is_heavy xs b.a ≡ false → leads_to_heavy xs b.b b
     ≡ true → ⊥
 light-first xs b apart light h =
-    let p = and_parts (is_single_kind b.kind) ((eqb b.a b.b && is_heavy xs b.b) || (eqb b.b b.b && is_heavy xs b.a)) h in
+    let p = and_parts (is_single_kind b.kind) ((eqb b.a b.b && is_heavy xs b.b) || (eqb b.b b.b && is_heavy xs b.a)) h
+    in
     elim (or_cases (eqb b.a b.b && is_heavy xs b.b) (eqb b.b b.b && is_heavy xs b.a) p.1) [
       | inl t ↦ apart (eqb-true b.a b.b (and_parts (eqb b.a b.b) (is_heavy xs b.b) t).0)
       | inr t ↦ false≢true (sym light ∙ (and_parts (eqb b.b b.b) (is_heavy xs b.a) t).1)
@@ -193,7 +194,8 @@ light-first xs b apart light h =
 light-second : (xs : List SketchAtom) (b : SketchBond) → b.a ≢ b.b → is_heavy xs b.b ≡ false → leads_to_heavy xs b.a b
     ≡ true → ⊥
 light-second xs b apart light h =
-    let p = and_parts (is_single_kind b.kind) ((eqb b.a b.a && is_heavy xs b.b) || (eqb b.b b.a && is_heavy xs b.a)) h in
+    let p = and_parts (is_single_kind b.kind) ((eqb b.a b.a && is_heavy xs b.b) || (eqb b.b b.a && is_heavy xs b.a)) h
+    in
     elim (or_cases (eqb b.a b.a && is_heavy xs b.b) (eqb b.b b.a && is_heavy xs b.a) p.1) [
       | inl t ↦ false≢true (sym light ∙ (and_parts (eqb b.a b.a) (is_heavy xs b.b) t).1)
       | inr t ↦ apart (sym (eqb-true b.b b.a (and_parts (eqb b.b b.a) (is_heavy xs b.a) t).0))

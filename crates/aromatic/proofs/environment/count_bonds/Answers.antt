@@ -18,8 +18,10 @@ count_at_ends-requires-clause-distinct c =
 
 pub count_at_ends-requires-clause-small : goal.count_at_ends-requires-clause-small
 count_at_ends-requires-clause-small c =
-    let count = c.loop-place.auto.environments ∙ ap (λ xs. length xs) c.requires.without_bonds ∙ length-map c.args.atoms.now without_bonds in
-    environments-small c.args.atoms.now _ c.loop-place.environments count (few_pairs _ c.args.bonds.now c.args.bond_in_ring.now
+    let count = c.loop-place.auto.environments ∙ ap (λ xs. length xs) c.requires.without_bonds
+    ∙ length-map c.args.atoms.now without_bonds in
+    environments-small c.args.atoms.now _ c.loop-place.environments count
+    (few_pairs _ c.args.bonds.now c.args.bond_in_ring.now
     c.loop-place.place c.requires.sound.graph) c.loop-place.invariant
 
 pub loop-place-init : goal.loop-place-init
@@ -27,11 +29,14 @@ loop-place-init c = environments-none c.args.atoms.now c.args.environments.now c
 
 pub loop-place-preserved : goal.loop-place-preserved
 loop-place-preserved c =
-    environments-more c.args.atoms.now c.args.bonds.now c.args.bond_in_ring.now c.loop-place.environments c.count_at_ends.new.environments
+    environments-more c.args.atoms.now c.args.bonds.now c.args.bond_in_ring.now c.loop-place.environments
+    c.count_at_ends.new.environments
     c.loop-place.place _ c.loop-place-test.true c.requires.rings c.loop-place.invariant c.count_at_ends.ensures
 
 pub returns : goal.returns
 returns c =
-    let count = c.loop-place.auto.environments ∙ ap (λ xs. length xs) c.requires.without_bonds ∙ length-map c.args.atoms.now without_bonds in
-    environments-whole c.args.atoms.now c.args.bonds.now c.args.bond_in_ring.now c.loop-place.environments c.loop-place.place count
+    let count = c.loop-place.auto.environments ∙ ap (λ xs. length xs) c.requires.without_bonds
+    ∙ length-map c.args.atoms.now without_bonds in
+    environments-whole c.args.atoms.now c.args.bonds.now c.args.bond_in_ring.now c.loop-place.environments
+    c.loop-place.place count
     c.loop-place-test.false c.loop-place.invariant

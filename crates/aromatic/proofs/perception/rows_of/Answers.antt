@@ -10,5 +10,6 @@ if_ok P Q (Err e) more h = h
 pub returns : goal.returns
 returns c =
     let of_environments = rw c.deref.ensures.value at c.rows_by.ensures in
-    if_ok _ _ c.rows_by.result (λ rows is. rows-are _ c.args.bond_in_ring.now c.in_ok-environments.environments.items rows.items
+    if_ok _ _ c.rows_by.result (λ rows is. rows-are _ c.args.bond_in_ring.now c.in_ok-environments.environments.items
+    rows.items
     c.in_ok-environments.ensures is) of_environments

@@ -7,9 +7,11 @@ pub loop-preserved : goal.loop-preserved
 loop-preserved c = record {
   text = λ n e.
       let x = c.loop.numbers.last in
-      let piece : c.fragment.result.now ≡ get_or fragments (next x % 8) [] = c.fragment.ensures ∙ ap (λ k. get_or fragments k []) c.pick.ensures.value in
+      let piece : c.fragment.result.now ≡ get_or fragments (next x % 8) [] = c.fragment.ensures
+      ∙ ap (λ k. get_or fragments k []) c.pick.ensures.value in
       ap (λ y. c.extend_from_slice.new.self.items ++ picked n y) c.pick.ensures.next
-      ∙ ap (λ out. out ++ picked n (next x)) (c.in_ok-extend_from_slice.ensures.items ∙ ap (λ p. c.loop.out.items ++ p) piece)
+      ∙ ap (λ out. out ++ picked n (next x)) (c.in_ok-extend_from_slice.ensures.items
+      ∙ ap (λ p. c.loop.out.items ++ p) piece)
       ∙ picked_more n x c.loop.out.items
       ∙ c.loop.invariant.text (suc n) (omega arith);
   last = λ n e. ap (later n) c.pick.ensures.next ∙ c.loop.invariant.last (suc n) (omega arith);

@@ -8,7 +8,8 @@ loop-place-preserved c = λ n e.
     let x = c.loop-place.numbers.last in
     let id : ℕ = c.loop-place.place + 1 in
     ap (λ y. c.push_registration.new.out.items ++ registrations n (id + 1) y) c.in_ok-push_registration.ensures.numbers
-    ∙ ap (λ out. out ++ registrations n (id + 1) (after_structure x)) (c.in_ok-push_registration.ensures.text ∙ ap (λ k. c.loop-place.out.items ++ registration (k + 1) x) c.from.ensures)
+    ∙ ap (λ out. out ++ registrations n (id + 1) (after_structure x)) (c.in_ok-push_registration.ensures.text
+    ∙ ap (λ k. c.loop-place.out.items ++ registration (k + 1) x) c.from.ensures)
     ∙ registrations_more n id x c.loop-place.out.items
     ∙ c.loop-place.invariant (suc n) (omega arith)
 
@@ -16,4 +17,5 @@ pub returns : goal.returns
 returns c =
     let x = c.loop-place.numbers.last in
     c.in_ok-push_searches.ensures
-    ∙ ap (λ out. out ++ searches) (sym (registrations_none (c.loop-place.place + 1) x c.loop-place.out.items) ∙ c.loop-place.invariant 0 (omega arith))
+    ∙ ap (λ out. out ++ searches) (sym (registrations_none (c.loop-place.place + 1) x c.loop-place.out.items)
+    ∙ c.loop-place.invariant 0 (omega arith))

@@ -5,12 +5,14 @@ use Rattle.chem_gen.proofs.Cuts.{place_some, place_none, drop_past}
 use Rattle.chem_gen.proofs.summarize.cut.Goals as goal
 
 pub returns-in-Some-clause-before : goal.returns-in-Some-clause-before
-returns-in-Some-clause-before c = ap (λ n. take n c.args.text.now) (sym (place_some c.args.byte c.in-Some.place c.args.text.now c.in-Some.ensures))
+returns-in-Some-clause-before c = ap (λ n. take n c.args.text.now)
+    (sym (place_some c.args.byte c.in-Some.place c.args.text.now c.in-Some.ensures))
 
 pub returns-in-Some-clause-after : goal.returns-in-Some-clause-after
 returns-in-Some-clause-after c =
     let text = c.args.text.now in
-    let all : length (drop (c.in-Some.place + 1) text) ≤ length text - (c.in-Some.place + 1) = rw length-drop (omega arith) in
+    let all : length (drop (c.in-Some.place + 1) text) ≤ length text - (c.in-Some.place + 1) = rw length-drop
+    (omega arith) in
     take_all (length text - (c.in-Some.place + 1)) (drop (c.in-Some.place + 1) text) all
     ∙ ap (λ n. drop (n + 1) text) (sym (place_some c.args.byte c.in-Some.place text c.in-Some.ensures))
 

@@ -5,4 +5,5 @@ use Rattle.chem_gen.proofs.summarize.push_outcomes.Given as goal
 
 -- what is written, and the outcomes that are left
 abbrev pub invariant-loop-place : goal.invariant-loop-place
-invariant-loop-place l = l.out.items ++ outcomes (drop l.place patterns) (endings_in (lines_of l.rest)) ≡ l.fn.out.items ++ outcomes patterns (endings_in (lines_of l.text))
+invariant-loop-place l = l.out.items ++ outcomes (drop l.place patterns) (endings_in (lines_of l.rest)) ≡ l.fn.out.items
+    ++ outcomes patterns (endings_in (lines_of l.text))

@@ -5,8 +5,10 @@ use Rattle.chem_shell.proofs.mem.serve_mem.Goals as goal
 pub returns : goal.returns
 returns g c = record {
   status = search rules;
-  prefix = served_prefix c.run_script-ended.result c.args.plan.now.commits c.args.plan.now.page _ _ _ c.run_script-ended.ensures.not_worn c.run_script-ended.ensures.serves;
-  all = λ e. all_of_status c.run_script-ended.result c.end_status-end.result c.args.plan.now.commits c.args.plan.now.page
+  prefix = served_prefix c.run_script-ended.result c.args.plan.now.commits c.args.plan.now.page _ _ _
+      c.run_script-ended.ensures.not_worn c.run_script-ended.ensures.serves;
+  all = λ e. all_of_status c.run_script-ended.result c.end_status-end.result c.args.plan.now.commits
+      c.args.plan.now.page
       _ _ _ c.end_status-end.ensures e c.run_script-ended.ensures.serves;
   source_fault = search rules;
   sink_fault = search rules;

@@ -114,7 +114,8 @@ returns-in-Err-NoMemory-clause-mem_all g c = λ plan asks verb.
 
 pub returns-in-Err-NoMemory-clause-bulk_statuses : goal.returns-in-Err-NoMemory-clause-bulk_statuses
 returns-in-Err-NoMemory-clause-bulk_statuses g c = λ plan asks verb.
-    all_mapped (λ end. IsSinkStatus end.status) (with_status 8) (λ e. inr (inr refl)) _ _ c.unserved-in-Err-NoMemory.ensures.ends
+    all_mapped (λ end. IsSinkStatus end.status) (with_status 8) (λ e. inr (inr refl)) _ _
+    c.unserved-in-Err-NoMemory.ensures.ends
 
 pub returns-in-Err-NoMemory-clause-bulk_source : goal.returns-in-Err-NoMemory-clause-bulk_source
 returns-in-Err-NoMemory-clause-bulk_source g c = λ plan asks verb.
@@ -134,33 +135,42 @@ returns-in-Err-NoMemory-clause-bulk_nothing g c = λ plan asks verb.
 
 pub returns-in-Err-NoMemory-clause-init_ends : goal.returns-in-Err-NoMemory-clause-init_ends
 returns-in-Err-NoMemory-clause-init_ends g c = λ plan asks verb.
-    none_mapped (with_status 8) _ _ (no_ends c.args.ends.items _ plan asks verb c.requires.ends) c.unserved-in-Err-NoMemory.ensures.ends
+    none_mapped (with_status 8) _ _ (no_ends c.args.ends.items _ plan asks verb c.requires.ends)
+    c.unserved-in-Err-NoMemory.ensures.ends
 
 pub returns-in-Err-NoMemory-clause-init_statuses : goal.returns-in-Err-NoMemory-clause-init_statuses
-returns-in-Err-NoMemory-clause-init_statuses g c = λ plan asks verb. inr (inr (inl c.unserved-in-Err-NoMemory.ensures.status))
+returns-in-Err-NoMemory-clause-init_statuses g c = λ plan asks verb. inr
+    (inr (inl c.unserved-in-Err-NoMemory.ensures.status))
 
 pub returns-in-Err-NoMemory-clause-init_done : goal.returns-in-Err-NoMemory-clause-init_done
-returns-in-Err-NoMemory-clause-init_done g c = λ plan asks verb done. absurd (eqb-false 8 0 refl (sym c.unserved-in-Err-NoMemory.ensures.status ∙ done))
+returns-in-Err-NoMemory-clause-init_done g c = λ plan asks verb done. absurd
+    (eqb-false 8 0 refl (sym c.unserved-in-Err-NoMemory.ensures.status ∙ done))
 
 pub returns-in-Err-NoMemory-clause-init_not_empty : goal.returns-in-Err-NoMemory-clause-init_not_empty
-returns-in-Err-NoMemory-clause-init_not_empty g c = λ plan asks verb done. absurd (eqb-false 8 10 refl (sym c.unserved-in-Err-NoMemory.ensures.status ∙ done))
+returns-in-Err-NoMemory-clause-init_not_empty g c = λ plan asks verb done. absurd
+    (eqb-false 8 10 refl (sym c.unserved-in-Err-NoMemory.ensures.status ∙ done))
 
 pub returns-in-Err-NoMemory-clause-init_stays : goal.returns-in-Err-NoMemory-clause-init_stays
 returns-in-Err-NoMemory-clause-init_stays g c = λ plan asks verb which.
-    stays_same g.D.Disk.content g.D.Disk.images c.args.a c.unserved-in-Err-NoMemory.result.a c.unserved-in-Err-NoMemory.ensures.disk_a
+    stays_same g.D.Disk.content g.D.Disk.images c.args.a c.unserved-in-Err-NoMemory.result.a
+    c.unserved-in-Err-NoMemory.ensures.disk_a
 
 pub returns-in-Err-NoMemory-clause-run : goal.returns-in-Err-NoMemory-clause-run
 returns-in-Err-NoMemory-clause-run g c = λ plan asks verb.
-    zip_mapped _ (with_status 8) (λ e. inl (refused_unmoved g.D.Disk.content g.D.Disk.images g.D.Disk.clock g.D.Disk.images_between g.D.Disk.faults g.D.Disk.bound c.args.a c.unserved-in-Err-NoMemory.result.a c.unserved-in-Err-NoMemory.ensures.read e)) _ _ c.unserved-in-Err-NoMemory.ensures.ends
+    zip_mapped _ (with_status 8) (λ e. inl (refused_unmoved g.D.Disk.content g.D.Disk.images g.D.Disk.clock
+    g.D.Disk.images_between g.D.Disk.faults g.D.Disk.bound c.args.a c.unserved-in-Err-NoMemory.result.a
+    c.unserved-in-Err-NoMemory.ensures.read e)) _ _ c.unserved-in-Err-NoMemory.ensures.ends
 
 pub returns-in-Err-NoMemory-clause-overall : goal.returns-in-Err-NoMemory-clause-overall
 returns-in-Err-NoMemory-clause-overall g c = λ asks some.
     c.unserved-in-Err-NoMemory.ensures.status
-    ∙ fault_of_all_alike c.args.ends.items c.unserved-in-Err-NoMemory.result.ends.items 8 (one_end c.args.ends.items _ asks c.requires.ends some)
+    ∙ fault_of_all_alike c.args.ends.items c.unserved-in-Err-NoMemory.result.ends.items 8
+    (one_end c.args.ends.items _ asks c.requires.ends some)
     c.unserved-in-Err-NoMemory.ensures.ends
 
 pub returns-then-makes_store-clause-usage : goal.returns-then-makes_store-clause-usage
-returns-then-makes_store-clause-usage g c = λ two asks. never_created_usage c.created.result.status c.created.ensures.status two
+returns-then-makes_store-clause-usage g c = λ two asks. never_created_usage c.created.result.status
+    c.created.ensures.status two
 
 pub returns-then-makes_store-clause-no_plan : goal.returns-then-makes_store-clause-no_plan
 returns-then-makes_store-clause-no_plan g c = λ none. absurd (none (c.in-Ok.plan, c.in-Ok.ensures.ok))
@@ -172,19 +182,27 @@ pub returns-then-makes_store-clause-no_plan_disk : goal.returns-then-makes_store
 returns-then-makes_store-clause-no_plan_disk g c = λ none. absurd (none (c.in-Ok.plan, c.in-Ok.ensures.ok))
 
 pub returns-then-makes_store-clause-overall : goal.returns-then-makes_store-clause-overall
-returns-then-makes_store-clause-overall g c = λ asks some. absurd (no_and_some c.args.ends.items (no_ends c.args.ends.items _ c.in-Ok.plan c.in-Ok.ensures.ok (c.makes_store.ensures.yes c.if-makes_store.true) c.requires.ends) some)
+returns-then-makes_store-clause-overall g c = λ asks some. absurd
+    (no_and_some c.args.ends.items (no_ends c.args.ends.items _ c.in-Ok.plan c.in-Ok.ensures.ok
+    (c.makes_store.ensures.yes c.if-makes_store.true) c.requires.ends) some)
 
 pub returns-then-makes_store-clause-source_fault : goal.returns-then-makes_store-clause-source_fault
 returns-then-makes_store-clause-source_fault g c =
-    zip_none _ c.args.ends.items c.created.result.ends.items (no_ends c.args.ends.items _ c.in-Ok.plan c.in-Ok.ensures.ok (c.makes_store.ensures.yes c.if-makes_store.true) c.requires.ends) c.created.ensures.ends
+    zip_none _ c.args.ends.items c.created.result.ends.items
+    (no_ends c.args.ends.items _ c.in-Ok.plan c.in-Ok.ensures.ok
+    (c.makes_store.ensures.yes c.if-makes_store.true) c.requires.ends) c.created.ensures.ends
 
 pub returns-then-makes_store-clause-sink_fault : goal.returns-then-makes_store-clause-sink_fault
 returns-then-makes_store-clause-sink_fault g c =
-    zip_none _ c.args.ends.items c.created.result.ends.items (no_ends c.args.ends.items _ c.in-Ok.plan c.in-Ok.ensures.ok (c.makes_store.ensures.yes c.if-makes_store.true) c.requires.ends) c.created.ensures.ends
+    zip_none _ c.args.ends.items c.created.result.ends.items
+    (no_ends c.args.ends.items _ c.in-Ok.plan c.in-Ok.ensures.ok
+    (c.makes_store.ensures.yes c.if-makes_store.true) c.requires.ends) c.created.ensures.ends
 
 pub returns-then-makes_store-clause-input_too_long : goal.returns-then-makes_store-clause-input_too_long
 returns-then-makes_store-clause-input_too_long g c =
-    zip_none _ c.args.ends.items c.created.result.ends.items (no_ends c.args.ends.items _ c.in-Ok.plan c.in-Ok.ensures.ok (c.makes_store.ensures.yes c.if-makes_store.true) c.requires.ends) c.created.ensures.ends
+    zip_none _ c.args.ends.items c.created.result.ends.items
+    (no_ends c.args.ends.items _ c.in-Ok.plan c.in-Ok.ensures.ok
+    (c.makes_store.ensures.yes c.if-makes_store.true) c.requires.ends) c.created.ensures.ends
 
 pub returns-then-makes_store-clause-disk_fault : goal.returns-then-makes_store-clause-disk_fault
 returns-then-makes_store-clause-disk_fault g c = c.created.ensures.causes.disk_fault
@@ -200,53 +218,66 @@ returns-then-makes_store-clause-place g c = c.created.ensures.causes.undamaged
 
 pub returns-then-makes_store-clause-mem_statuses : goal.returns-then-makes_store-clause-mem_statuses
 returns-then-makes_store-clause-mem_statuses g c = λ plan asks verb.
-    absurd (init_mem (sym (c.makes_store.ensures.yes c.if-makes_store.true) ∙ (sym (one_plan _ plan c.in-Ok.plan asks c.in-Ok.ensures.ok).command ∙ verb)))
+    absurd (init_mem (sym (c.makes_store.ensures.yes c.if-makes_store.true)
+    ∙ (sym (one_plan _ plan c.in-Ok.plan asks c.in-Ok.ensures.ok).command ∙ verb)))
 
 pub returns-then-makes_store-clause-mem_disk : goal.returns-then-makes_store-clause-mem_disk
 returns-then-makes_store-clause-mem_disk g c = λ plan asks verb.
-    absurd (init_mem (sym (c.makes_store.ensures.yes c.if-makes_store.true) ∙ (sym (one_plan _ plan c.in-Ok.plan asks c.in-Ok.ensures.ok).command ∙ verb)))
+    absurd (init_mem (sym (c.makes_store.ensures.yes c.if-makes_store.true)
+    ∙ (sym (one_plan _ plan c.in-Ok.plan asks c.in-Ok.ensures.ok).command ∙ verb)))
 
 pub returns-then-makes_store-clause-mem_prefix : goal.returns-then-makes_store-clause-mem_prefix
 returns-then-makes_store-clause-mem_prefix g c = λ plan asks verb.
-    absurd (init_mem (sym (c.makes_store.ensures.yes c.if-makes_store.true) ∙ (sym (one_plan _ plan c.in-Ok.plan asks c.in-Ok.ensures.ok).command ∙ verb)))
+    absurd (init_mem (sym (c.makes_store.ensures.yes c.if-makes_store.true)
+    ∙ (sym (one_plan _ plan c.in-Ok.plan asks c.in-Ok.ensures.ok).command ∙ verb)))
 
 pub returns-then-makes_store-clause-mem_all : goal.returns-then-makes_store-clause-mem_all
 returns-then-makes_store-clause-mem_all g c = λ plan asks verb.
-    absurd (init_mem (sym (c.makes_store.ensures.yes c.if-makes_store.true) ∙ (sym (one_plan _ plan c.in-Ok.plan asks c.in-Ok.ensures.ok).command ∙ verb)))
+    absurd (init_mem (sym (c.makes_store.ensures.yes c.if-makes_store.true)
+    ∙ (sym (one_plan _ plan c.in-Ok.plan asks c.in-Ok.ensures.ok).command ∙ verb)))
 
 pub returns-then-makes_store-clause-run : goal.returns-then-makes_store-clause-run
 returns-then-makes_store-clause-run g c = λ plan asks verb.
-    absurd (init_run_verb (sym (c.makes_store.ensures.yes c.if-makes_store.true) ∙ (sym (one_plan _ plan c.in-Ok.plan asks c.in-Ok.ensures.ok).command ∙ verb)))
+    absurd (init_run_verb (sym (c.makes_store.ensures.yes c.if-makes_store.true)
+    ∙ (sym (one_plan _ plan c.in-Ok.plan asks c.in-Ok.ensures.ok).command ∙ verb)))
 
 pub returns-then-makes_store-clause-bulk_statuses : goal.returns-then-makes_store-clause-bulk_statuses
 returns-then-makes_store-clause-bulk_statuses g c = λ plan asks verb.
-    absurd (init_bulk_verb (sym (c.makes_store.ensures.yes c.if-makes_store.true) ∙ (sym (one_plan _ plan c.in-Ok.plan asks c.in-Ok.ensures.ok).command ∙ verb)))
+    absurd (init_bulk_verb (sym (c.makes_store.ensures.yes c.if-makes_store.true)
+    ∙ (sym (one_plan _ plan c.in-Ok.plan asks c.in-Ok.ensures.ok).command ∙ verb)))
 
 pub returns-then-makes_store-clause-bulk_disk : goal.returns-then-makes_store-clause-bulk_disk
 returns-then-makes_store-clause-bulk_disk g c = λ plan asks verb.
-    absurd (init_bulk_verb (sym (c.makes_store.ensures.yes c.if-makes_store.true) ∙ (sym (one_plan _ plan c.in-Ok.plan asks c.in-Ok.ensures.ok).command ∙ verb)))
+    absurd (init_bulk_verb (sym (c.makes_store.ensures.yes c.if-makes_store.true)
+    ∙ (sym (one_plan _ plan c.in-Ok.plan asks c.in-Ok.ensures.ok).command ∙ verb)))
 
 pub returns-then-makes_store-clause-bulk_source : goal.returns-then-makes_store-clause-bulk_source
 returns-then-makes_store-clause-bulk_source g c = λ plan asks verb.
-    absurd (init_bulk_verb (sym (c.makes_store.ensures.yes c.if-makes_store.true) ∙ (sym (one_plan _ plan c.in-Ok.plan asks c.in-Ok.ensures.ok).command ∙ verb)))
+    absurd (init_bulk_verb (sym (c.makes_store.ensures.yes c.if-makes_store.true)
+    ∙ (sym (one_plan _ plan c.in-Ok.plan asks c.in-Ok.ensures.ok).command ∙ verb)))
 
 pub returns-then-makes_store-clause-bulk_all : goal.returns-then-makes_store-clause-bulk_all
 returns-then-makes_store-clause-bulk_all g c = λ plan asks verb.
-    absurd (init_bulk_verb (sym (c.makes_store.ensures.yes c.if-makes_store.true) ∙ (sym (one_plan _ plan c.in-Ok.plan asks c.in-Ok.ensures.ok).command ∙ verb)))
+    absurd (init_bulk_verb (sym (c.makes_store.ensures.yes c.if-makes_store.true)
+    ∙ (sym (one_plan _ plan c.in-Ok.plan asks c.in-Ok.ensures.ok).command ∙ verb)))
 
 pub returns-then-makes_store-clause-bulk_prefix : goal.returns-then-makes_store-clause-bulk_prefix
 returns-then-makes_store-clause-bulk_prefix g c = λ plan asks verb.
-    absurd (init_bulk_verb (sym (c.makes_store.ensures.yes c.if-makes_store.true) ∙ (sym (one_plan _ plan c.in-Ok.plan asks c.in-Ok.ensures.ok).command ∙ verb)))
+    absurd (init_bulk_verb (sym (c.makes_store.ensures.yes c.if-makes_store.true)
+    ∙ (sym (one_plan _ plan c.in-Ok.plan asks c.in-Ok.ensures.ok).command ∙ verb)))
 
 pub returns-then-makes_store-clause-bulk_nothing : goal.returns-then-makes_store-clause-bulk_nothing
 returns-then-makes_store-clause-bulk_nothing g c = λ plan asks verb.
-    absurd (init_bulk_verb (sym (c.makes_store.ensures.yes c.if-makes_store.true) ∙ (sym (one_plan _ plan c.in-Ok.plan asks c.in-Ok.ensures.ok).command ∙ verb)))
+    absurd (init_bulk_verb (sym (c.makes_store.ensures.yes c.if-makes_store.true)
+    ∙ (sym (one_plan _ plan c.in-Ok.plan asks c.in-Ok.ensures.ok).command ∙ verb)))
 
 pub returns-then-makes_store-clause-init_statuses : goal.returns-then-makes_store-clause-init_statuses
 returns-then-makes_store-clause-init_statuses g c = λ plan asks verb. c.created.ensures.status
 
 pub returns-then-makes_store-clause-init_ends : goal.returns-then-makes_store-clause-init_ends
-returns-then-makes_store-clause-init_ends g c = λ plan asks verb. c.created.ensures.ends ∙ none_of_length c.args.ends.items (no_ends c.args.ends.items _ c.in-Ok.plan c.in-Ok.ensures.ok (c.makes_store.ensures.yes c.if-makes_store.true) c.requires.ends)
+returns-then-makes_store-clause-init_ends g c = λ plan asks verb. c.created.ensures.ends
+    ∙ none_of_length c.args.ends.items (no_ends c.args.ends.items _ c.in-Ok.plan c.in-Ok.ensures.ok
+    (c.makes_store.ensures.yes c.if-makes_store.true) c.requires.ends)
 
 pub returns-then-makes_store-clause-init_done : goal.returns-then-makes_store-clause-init_done
 returns-then-makes_store-clause-init_done g c = λ plan asks verb. c.created.ensures.done
@@ -265,7 +296,8 @@ serve_one-requires-clause-end g c κs within = (c.makes_store.ensures.no c.if-ma
 
 pub serve_one-requires-clause-one_end : goal.serve_one-requires-clause-one_end
 serve_one-requires-clause-one_end g c κs within =
-    one_end_of c.args.ends.items _ c.in-Ok.plan c.in-Ok.ensures.ok (c.makes_store.ensures.no c.if-makes_store.false) c.requires.ends
+    one_end_of c.args.ends.items _ c.in-Ok.plan c.in-Ok.ensures.ok
+    (c.makes_store.ensures.no c.if-makes_store.false) c.requires.ends
 
 pub returns-clause-usage : goal.returns-clause-usage
 returns-clause-usage g c = λ two asks. c.serve_one.ensures.status two
@@ -285,28 +317,37 @@ returns-clause-overall g c = λ asks some. c.serve_one.ensures.overall
 pub returns-clause-source_fault : goal.returns-clause-source_fault
 returns-clause-source_fault g c =
     zip_weaker
-    (Serves c.in-Ok.plan.command g.D.Disk.content g.D.Disk.images g.D.Disk.clock g.D.Disk.images_between g.D.Disk.faults g.D.Disk.bound
+    (Serves c.in-Ok.plan.command g.D.Disk.content g.D.Disk.images g.D.Disk.clock g.D.Disk.images_between g.D.Disk.faults
+    g.D.Disk.bound
     c.in-Ok.plan g.S.Source.left g.S.Source.faults g.K.Sink.written g.K.Sink.faults c.args.a c.serve_one.result.a)
-    _ (λ old new. source_fault_served g.D.Disk.content g.D.Disk.images g.D.Disk.clock g.D.Disk.images_between g.D.Disk.faults g.D.Disk.bound
-    g.S.Source.left g.S.Source.faults g.K.Sink.written g.K.Sink.faults c.args.a c.serve_one.result.a c.in-Ok.plan.command c.in-Ok.plan old new)
+    _ (λ old new. source_fault_served g.D.Disk.content g.D.Disk.images g.D.Disk.clock g.D.Disk.images_between
+    g.D.Disk.faults g.D.Disk.bound
+    g.S.Source.left g.S.Source.faults g.K.Sink.written g.K.Sink.faults c.args.a c.serve_one.result.a
+    c.in-Ok.plan.command c.in-Ok.plan old new)
     c.args.ends.items c.serve_one.result.ends.items c.serve_one.ensures.served
 
 pub returns-clause-sink_fault : goal.returns-clause-sink_fault
 returns-clause-sink_fault g c =
     zip_weaker
-    (Serves c.in-Ok.plan.command g.D.Disk.content g.D.Disk.images g.D.Disk.clock g.D.Disk.images_between g.D.Disk.faults g.D.Disk.bound
+    (Serves c.in-Ok.plan.command g.D.Disk.content g.D.Disk.images g.D.Disk.clock g.D.Disk.images_between g.D.Disk.faults
+    g.D.Disk.bound
     c.in-Ok.plan g.S.Source.left g.S.Source.faults g.K.Sink.written g.K.Sink.faults c.args.a c.serve_one.result.a)
-    _ (λ old new. sink_fault_served g.D.Disk.content g.D.Disk.images g.D.Disk.clock g.D.Disk.images_between g.D.Disk.faults g.D.Disk.bound
-    g.S.Source.left g.S.Source.faults g.K.Sink.written g.K.Sink.faults c.args.a c.serve_one.result.a c.in-Ok.plan.command c.in-Ok.plan old new)
+    _ (λ old new. sink_fault_served g.D.Disk.content g.D.Disk.images g.D.Disk.clock g.D.Disk.images_between
+    g.D.Disk.faults g.D.Disk.bound
+    g.S.Source.left g.S.Source.faults g.K.Sink.written g.K.Sink.faults c.args.a c.serve_one.result.a
+    c.in-Ok.plan.command c.in-Ok.plan old new)
     c.args.ends.items c.serve_one.result.ends.items c.serve_one.ensures.served
 
 pub returns-clause-input_too_long : goal.returns-clause-input_too_long
 returns-clause-input_too_long g c =
     zip_weaker
-    (Serves c.in-Ok.plan.command g.D.Disk.content g.D.Disk.images g.D.Disk.clock g.D.Disk.images_between g.D.Disk.faults g.D.Disk.bound
+    (Serves c.in-Ok.plan.command g.D.Disk.content g.D.Disk.images g.D.Disk.clock g.D.Disk.images_between g.D.Disk.faults
+    g.D.Disk.bound
     c.in-Ok.plan g.S.Source.left g.S.Source.faults g.K.Sink.written g.K.Sink.faults c.args.a c.serve_one.result.a)
-    _ (λ old new. too_long_served g.D.Disk.content g.D.Disk.images g.D.Disk.clock g.D.Disk.images_between g.D.Disk.faults g.D.Disk.bound
-    g.S.Source.left g.S.Source.faults g.K.Sink.written g.K.Sink.faults c.args.a c.serve_one.result.a c.in-Ok.plan.command c.in-Ok.plan old new)
+    _ (λ old new. too_long_served g.D.Disk.content g.D.Disk.images g.D.Disk.clock g.D.Disk.images_between
+    g.D.Disk.faults g.D.Disk.bound
+    g.S.Source.left g.S.Source.faults g.K.Sink.written g.K.Sink.faults c.args.a c.serve_one.result.a
+    c.in-Ok.plan.command c.in-Ok.plan old new)
     c.args.ends.items c.serve_one.result.ends.items c.serve_one.ensures.served
 
 pub returns-clause-disk_fault : goal.returns-clause-disk_fault
@@ -326,33 +367,52 @@ returns-clause-mem_disk g c = λ plan asks verb.
     let same = one_plan _ plan c.in-Ok.plan asks c.in-Ok.ensures.ok in
     let is = sym same.command ∙ verb in
     of_one
-    (Serves c.in-Ok.plan.command g.D.Disk.content g.D.Disk.images g.D.Disk.clock g.D.Disk.images_between g.D.Disk.faults g.D.Disk.bound
+    (Serves c.in-Ok.plan.command g.D.Disk.content g.D.Disk.images g.D.Disk.clock g.D.Disk.images_between g.D.Disk.faults
+    g.D.Disk.bound
     c.in-Ok.plan g.S.Source.left g.S.Source.faults g.K.Sink.written g.K.Sink.faults c.args.a c.serve_one.result.a)
-    _ (λ old new s. (mem_served g.D.Disk.content g.D.Disk.images g.D.Disk.clock g.D.Disk.images_between g.D.Disk.faults g.D.Disk.bound
-    g.S.Source.left g.S.Source.faults g.K.Sink.written g.K.Sink.faults c.args.a c.serve_one.result.a c.in-Ok.plan.command c.in-Ok.plan old new is s).0)
-    c.args.ends.items c.serve_one.result.ends.items (omega (arith, (one_end_of c.args.ends.items _ c.in-Ok.plan c.in-Ok.ensures.ok (c.makes_store.ensures.no c.if-makes_store.false) c.requires.ends))) c.serve_one.ensures.served
+    _ (λ old new s. (mem_served g.D.Disk.content g.D.Disk.images g.D.Disk.clock g.D.Disk.images_between g.D.Disk.faults
+    g.D.Disk.bound
+    g.S.Source.left g.S.Source.faults g.K.Sink.written g.K.Sink.faults c.args.a c.serve_one.result.a
+    c.in-Ok.plan.command c.in-Ok.plan old new is s).0)
+    c.args.ends.items c.serve_one.result.ends.items
+    (omega (
+      arith,
+      (one_end_of c.args.ends.items _ c.in-Ok.plan c.in-Ok.ensures.ok
+          (c.makes_store.ensures.no c.if-makes_store.false) c.requires.ends),
+    )) c.serve_one.ensures.served
 
 pub returns-clause-bulk_disk : goal.returns-clause-bulk_disk
 returns-clause-bulk_disk g c = λ plan asks verb.
     let same = one_plan _ plan c.in-Ok.plan asks c.in-Ok.ensures.ok in
     let is = sym same.command ∙ verb in
     of_one
-    (Serves c.in-Ok.plan.command g.D.Disk.content g.D.Disk.images g.D.Disk.clock g.D.Disk.images_between g.D.Disk.faults g.D.Disk.bound
+    (Serves c.in-Ok.plan.command g.D.Disk.content g.D.Disk.images g.D.Disk.clock g.D.Disk.images_between g.D.Disk.faults
+    g.D.Disk.bound
     c.in-Ok.plan g.S.Source.left g.S.Source.faults g.K.Sink.written g.K.Sink.faults c.args.a c.serve_one.result.a)
-    _ (λ old new s. (bulk_served g.D.Disk.content g.D.Disk.images g.D.Disk.clock g.D.Disk.images_between g.D.Disk.faults g.D.Disk.bound
-    g.S.Source.left g.S.Source.faults g.K.Sink.written g.K.Sink.faults c.args.a c.serve_one.result.a c.in-Ok.plan.command c.in-Ok.plan old new is s).0)
-    c.args.ends.items c.serve_one.result.ends.items (omega (arith, (one_end_of c.args.ends.items _ c.in-Ok.plan c.in-Ok.ensures.ok (c.makes_store.ensures.no c.if-makes_store.false) c.requires.ends))) c.serve_one.ensures.served
+    _ (λ old new s. (bulk_served g.D.Disk.content g.D.Disk.images g.D.Disk.clock g.D.Disk.images_between g.D.Disk.faults
+    g.D.Disk.bound
+    g.S.Source.left g.S.Source.faults g.K.Sink.written g.K.Sink.faults c.args.a c.serve_one.result.a
+    c.in-Ok.plan.command c.in-Ok.plan old new is s).0)
+    c.args.ends.items c.serve_one.result.ends.items
+    (omega (
+      arith,
+      (one_end_of c.args.ends.items _ c.in-Ok.plan c.in-Ok.ensures.ok
+          (c.makes_store.ensures.no c.if-makes_store.false) c.requires.ends),
+    )) c.serve_one.ensures.served
 
 pub returns-clause-mem_statuses : goal.returns-clause-mem_statuses
 returns-clause-mem_statuses g c = λ plan asks verb.
     let same = one_plan _ plan c.in-Ok.plan asks c.in-Ok.ensures.ok in
     let is = sym same.command ∙ verb in
     zip_right
-    (Serves c.in-Ok.plan.command g.D.Disk.content g.D.Disk.images g.D.Disk.clock g.D.Disk.images_between g.D.Disk.faults g.D.Disk.bound
+    (Serves c.in-Ok.plan.command g.D.Disk.content g.D.Disk.images g.D.Disk.clock g.D.Disk.images_between g.D.Disk.faults
+    g.D.Disk.bound
     c.in-Ok.plan g.S.Source.left g.S.Source.faults g.K.Sink.written g.K.Sink.faults c.args.a c.serve_one.result.a)
     (λ end. IsEndStatus end.status)
-    (λ old new s. (mem_served g.D.Disk.content g.D.Disk.images g.D.Disk.clock g.D.Disk.images_between g.D.Disk.faults g.D.Disk.bound
-    g.S.Source.left g.S.Source.faults g.K.Sink.written g.K.Sink.faults c.args.a c.serve_one.result.a c.in-Ok.plan.command c.in-Ok.plan old new is s).1.status)
+    (λ old new s. (mem_served g.D.Disk.content g.D.Disk.images g.D.Disk.clock g.D.Disk.images_between g.D.Disk.faults
+    g.D.Disk.bound
+    g.S.Source.left g.S.Source.faults g.K.Sink.written g.K.Sink.faults c.args.a c.serve_one.result.a
+    c.in-Ok.plan.command c.in-Ok.plan old new is s).1.status)
     c.args.ends.items c.serve_one.result.ends.items c.serve_one.ensures.served
 
 pub returns-clause-mem_prefix : goal.returns-clause-mem_prefix
@@ -360,11 +420,13 @@ returns-clause-mem_prefix g c = λ plan asks verb.
     let same = one_plan _ plan c.in-Ok.plan asks c.in-Ok.ensures.ok in
     let is = sym same.command ∙ verb in
     zip_weaker
-    (Serves c.in-Ok.plan.command g.D.Disk.content g.D.Disk.images g.D.Disk.clock g.D.Disk.images_between g.D.Disk.faults g.D.Disk.bound
+    (Serves c.in-Ok.plan.command g.D.Disk.content g.D.Disk.images g.D.Disk.clock g.D.Disk.images_between g.D.Disk.faults
+    g.D.Disk.bound
     c.in-Ok.plan g.S.Source.left g.S.Source.faults g.K.Sink.written g.K.Sink.faults c.args.a c.serve_one.result.a)
     _ (λ old new s. transcripts.prefix_same plan c.in-Ok.plan _ _ _ same
     (mem_served g.D.Disk.content g.D.Disk.images g.D.Disk.clock g.D.Disk.images_between g.D.Disk.faults g.D.Disk.bound
-    g.S.Source.left g.S.Source.faults g.K.Sink.written g.K.Sink.faults c.args.a c.serve_one.result.a c.in-Ok.plan.command c.in-Ok.plan old new is s).1.prefix)
+    g.S.Source.left g.S.Source.faults g.K.Sink.written g.K.Sink.faults c.args.a c.serve_one.result.a
+    c.in-Ok.plan.command c.in-Ok.plan old new is s).1.prefix)
     c.args.ends.items c.serve_one.result.ends.items c.serve_one.ensures.served
 
 pub returns-clause-mem_all : goal.returns-clause-mem_all
@@ -372,11 +434,13 @@ returns-clause-mem_all g c = λ plan asks verb.
     let same = one_plan _ plan c.in-Ok.plan asks c.in-Ok.ensures.ok in
     let is = sym same.command ∙ verb in
     zip_weaker
-    (Serves c.in-Ok.plan.command g.D.Disk.content g.D.Disk.images g.D.Disk.clock g.D.Disk.images_between g.D.Disk.faults g.D.Disk.bound
+    (Serves c.in-Ok.plan.command g.D.Disk.content g.D.Disk.images g.D.Disk.clock g.D.Disk.images_between g.D.Disk.faults
+    g.D.Disk.bound
     c.in-Ok.plan g.S.Source.left g.S.Source.faults g.K.Sink.written g.K.Sink.faults c.args.a c.serve_one.result.a)
     _ (λ old new s done. transcripts.all_same plan c.in-Ok.plan _ _ _ same
     ((mem_served g.D.Disk.content g.D.Disk.images g.D.Disk.clock g.D.Disk.images_between g.D.Disk.faults g.D.Disk.bound
-    g.S.Source.left g.S.Source.faults g.K.Sink.written g.K.Sink.faults c.args.a c.serve_one.result.a c.in-Ok.plan.command c.in-Ok.plan old new is s).1.all done))
+    g.S.Source.left g.S.Source.faults g.K.Sink.written g.K.Sink.faults c.args.a c.serve_one.result.a
+    c.in-Ok.plan.command c.in-Ok.plan old new is s).1.all done))
     c.args.ends.items c.serve_one.result.ends.items c.serve_one.ensures.served
 
 pub returns-clause-bulk_statuses : goal.returns-clause-bulk_statuses
@@ -384,11 +448,14 @@ returns-clause-bulk_statuses g c = λ plan asks verb.
     let same = one_plan _ plan c.in-Ok.plan asks c.in-Ok.ensures.ok in
     let is = sym same.command ∙ verb in
     zip_right
-    (Serves c.in-Ok.plan.command g.D.Disk.content g.D.Disk.images g.D.Disk.clock g.D.Disk.images_between g.D.Disk.faults g.D.Disk.bound
+    (Serves c.in-Ok.plan.command g.D.Disk.content g.D.Disk.images g.D.Disk.clock g.D.Disk.images_between g.D.Disk.faults
+    g.D.Disk.bound
     c.in-Ok.plan g.S.Source.left g.S.Source.faults g.K.Sink.written g.K.Sink.faults c.args.a c.serve_one.result.a)
     (λ end. IsSinkStatus end.status)
-    (λ old new s. (bulk_served g.D.Disk.content g.D.Disk.images g.D.Disk.clock g.D.Disk.images_between g.D.Disk.faults g.D.Disk.bound
-    g.S.Source.left g.S.Source.faults g.K.Sink.written g.K.Sink.faults c.args.a c.serve_one.result.a c.in-Ok.plan.command c.in-Ok.plan old new is s).1.status)
+    (λ old new s. (bulk_served g.D.Disk.content g.D.Disk.images g.D.Disk.clock g.D.Disk.images_between g.D.Disk.faults
+    g.D.Disk.bound
+    g.S.Source.left g.S.Source.faults g.K.Sink.written g.K.Sink.faults c.args.a c.serve_one.result.a
+    c.in-Ok.plan.command c.in-Ok.plan old new is s).1.status)
     c.args.ends.items c.serve_one.result.ends.items c.serve_one.ensures.served
 
 pub returns-clause-bulk_source : goal.returns-clause-bulk_source
@@ -396,10 +463,13 @@ returns-clause-bulk_source g c = λ plan asks verb.
     let same = one_plan _ plan c.in-Ok.plan asks c.in-Ok.ensures.ok in
     let is = sym same.command ∙ verb in
     zip_weaker
-    (Serves c.in-Ok.plan.command g.D.Disk.content g.D.Disk.images g.D.Disk.clock g.D.Disk.images_between g.D.Disk.faults g.D.Disk.bound
+    (Serves c.in-Ok.plan.command g.D.Disk.content g.D.Disk.images g.D.Disk.clock g.D.Disk.images_between g.D.Disk.faults
+    g.D.Disk.bound
     c.in-Ok.plan g.S.Source.left g.S.Source.faults g.K.Sink.written g.K.Sink.faults c.args.a c.serve_one.result.a)
-    _ (λ old new s. (bulk_served g.D.Disk.content g.D.Disk.images g.D.Disk.clock g.D.Disk.images_between g.D.Disk.faults g.D.Disk.bound
-    g.S.Source.left g.S.Source.faults g.K.Sink.written g.K.Sink.faults c.args.a c.serve_one.result.a c.in-Ok.plan.command c.in-Ok.plan old new is s).1.source)
+    _ (λ old new s. (bulk_served g.D.Disk.content g.D.Disk.images g.D.Disk.clock g.D.Disk.images_between g.D.Disk.faults
+    g.D.Disk.bound
+    g.S.Source.left g.S.Source.faults g.K.Sink.written g.K.Sink.faults c.args.a c.serve_one.result.a
+    c.in-Ok.plan.command c.in-Ok.plan old new is s).1.source)
     c.args.ends.items c.serve_one.result.ends.items c.serve_one.ensures.served
 
 pub returns-clause-bulk_all : goal.returns-clause-bulk_all
@@ -407,11 +477,13 @@ returns-clause-bulk_all g c = λ plan asks verb.
     let same = one_plan _ plan c.in-Ok.plan asks c.in-Ok.ensures.ok in
     let is = sym same.command ∙ verb in
     zip_weaker
-    (Serves c.in-Ok.plan.command g.D.Disk.content g.D.Disk.images g.D.Disk.clock g.D.Disk.images_between g.D.Disk.faults g.D.Disk.bound
+    (Serves c.in-Ok.plan.command g.D.Disk.content g.D.Disk.images g.D.Disk.clock g.D.Disk.images_between g.D.Disk.faults
+    g.D.Disk.bound
     c.in-Ok.plan g.S.Source.left g.S.Source.faults g.K.Sink.written g.K.Sink.faults c.args.a c.serve_one.result.a)
     _ (λ old new s done. summaries.all_same plan c.in-Ok.plan _ _ same
     ((bulk_served g.D.Disk.content g.D.Disk.images g.D.Disk.clock g.D.Disk.images_between g.D.Disk.faults g.D.Disk.bound
-    g.S.Source.left g.S.Source.faults g.K.Sink.written g.K.Sink.faults c.args.a c.serve_one.result.a c.in-Ok.plan.command c.in-Ok.plan old new is s).1.all done))
+    g.S.Source.left g.S.Source.faults g.K.Sink.written g.K.Sink.faults c.args.a c.serve_one.result.a
+    c.in-Ok.plan.command c.in-Ok.plan old new is s).1.all done))
     c.args.ends.items c.serve_one.result.ends.items c.serve_one.ensures.served
 
 pub returns-clause-bulk_prefix : goal.returns-clause-bulk_prefix
@@ -419,11 +491,13 @@ returns-clause-bulk_prefix g c = λ plan asks verb.
     let same = one_plan _ plan c.in-Ok.plan asks c.in-Ok.ensures.ok in
     let is = sym same.command ∙ verb in
     zip_weaker
-    (Serves c.in-Ok.plan.command g.D.Disk.content g.D.Disk.images g.D.Disk.clock g.D.Disk.images_between g.D.Disk.faults g.D.Disk.bound
+    (Serves c.in-Ok.plan.command g.D.Disk.content g.D.Disk.images g.D.Disk.clock g.D.Disk.images_between g.D.Disk.faults
+    g.D.Disk.bound
     c.in-Ok.plan g.S.Source.left g.S.Source.faults g.K.Sink.written g.K.Sink.faults c.args.a c.serve_one.result.a)
     _ (λ old new s failed. summaries.prefix_same plan c.in-Ok.plan _ _ same
     ((bulk_served g.D.Disk.content g.D.Disk.images g.D.Disk.clock g.D.Disk.images_between g.D.Disk.faults g.D.Disk.bound
-    g.S.Source.left g.S.Source.faults g.K.Sink.written g.K.Sink.faults c.args.a c.serve_one.result.a c.in-Ok.plan.command c.in-Ok.plan old new is s).1.prefix failed))
+    g.S.Source.left g.S.Source.faults g.K.Sink.written g.K.Sink.faults c.args.a c.serve_one.result.a
+    c.in-Ok.plan.command c.in-Ok.plan old new is s).1.prefix failed))
     c.args.ends.items c.serve_one.result.ends.items c.serve_one.ensures.served
 
 pub returns-clause-bulk_nothing : goal.returns-clause-bulk_nothing
@@ -431,41 +505,52 @@ returns-clause-bulk_nothing g c = λ plan asks verb.
     let same = one_plan _ plan c.in-Ok.plan asks c.in-Ok.ensures.ok in
     let is = sym same.command ∙ verb in
     zip_weaker
-    (Serves c.in-Ok.plan.command g.D.Disk.content g.D.Disk.images g.D.Disk.clock g.D.Disk.images_between g.D.Disk.faults g.D.Disk.bound
+    (Serves c.in-Ok.plan.command g.D.Disk.content g.D.Disk.images g.D.Disk.clock g.D.Disk.images_between g.D.Disk.faults
+    g.D.Disk.bound
     c.in-Ok.plan g.S.Source.left g.S.Source.faults g.K.Sink.written g.K.Sink.faults c.args.a c.serve_one.result.a)
-    _ (λ old new s none. (bulk_served g.D.Disk.content g.D.Disk.images g.D.Disk.clock g.D.Disk.images_between g.D.Disk.faults g.D.Disk.bound
-    g.S.Source.left g.S.Source.faults g.K.Sink.written g.K.Sink.faults c.args.a c.serve_one.result.a c.in-Ok.plan.command c.in-Ok.plan old new is s).1.nothing none)
+    _ (λ old new s none. (bulk_served g.D.Disk.content g.D.Disk.images g.D.Disk.clock g.D.Disk.images_between
+    g.D.Disk.faults g.D.Disk.bound
+    g.S.Source.left g.S.Source.faults g.K.Sink.written g.K.Sink.faults c.args.a c.serve_one.result.a
+    c.in-Ok.plan.command c.in-Ok.plan old new is s).1.nothing none)
     c.args.ends.items c.serve_one.result.ends.items c.serve_one.ensures.served
 
 pub returns-clause-init_statuses : goal.returns-clause-init_statuses
 returns-clause-init_statuses g c = λ plan asks verb.
-    absurd ((c.makes_store.ensures.no c.if-makes_store.false) (sym (one_plan _ plan c.in-Ok.plan asks c.in-Ok.ensures.ok).command ∙ verb))
+    absurd ((c.makes_store.ensures.no c.if-makes_store.false)
+    (sym (one_plan _ plan c.in-Ok.plan asks c.in-Ok.ensures.ok).command ∙ verb))
 
 pub returns-clause-init_ends : goal.returns-clause-init_ends
 returns-clause-init_ends g c = λ plan asks verb.
-    absurd ((c.makes_store.ensures.no c.if-makes_store.false) (sym (one_plan _ plan c.in-Ok.plan asks c.in-Ok.ensures.ok).command ∙ verb))
+    absurd ((c.makes_store.ensures.no c.if-makes_store.false)
+    (sym (one_plan _ plan c.in-Ok.plan asks c.in-Ok.ensures.ok).command ∙ verb))
 
 pub returns-clause-init_done : goal.returns-clause-init_done
 returns-clause-init_done g c = λ plan asks verb.
-    absurd ((c.makes_store.ensures.no c.if-makes_store.false) (sym (one_plan _ plan c.in-Ok.plan asks c.in-Ok.ensures.ok).command ∙ verb))
+    absurd ((c.makes_store.ensures.no c.if-makes_store.false)
+    (sym (one_plan _ plan c.in-Ok.plan asks c.in-Ok.ensures.ok).command ∙ verb))
 
 pub returns-clause-init_not_empty : goal.returns-clause-init_not_empty
 returns-clause-init_not_empty g c = λ plan asks verb.
-    absurd ((c.makes_store.ensures.no c.if-makes_store.false) (sym (one_plan _ plan c.in-Ok.plan asks c.in-Ok.ensures.ok).command ∙ verb))
+    absurd ((c.makes_store.ensures.no c.if-makes_store.false)
+    (sym (one_plan _ plan c.in-Ok.plan asks c.in-Ok.ensures.ok).command ∙ verb))
 
 pub returns-clause-init_stays : goal.returns-clause-init_stays
 returns-clause-init_stays g c = λ plan asks verb.
-    absurd ((c.makes_store.ensures.no c.if-makes_store.false) (sym (one_plan _ plan c.in-Ok.plan asks c.in-Ok.ensures.ok).command ∙ verb))
+    absurd ((c.makes_store.ensures.no c.if-makes_store.false)
+    (sym (one_plan _ plan c.in-Ok.plan asks c.in-Ok.ensures.ok).command ∙ verb))
 
 pub returns-clause-run : goal.returns-clause-run
 returns-clause-run g c = λ plan asks verb.
     let same = one_plan _ plan c.in-Ok.plan asks c.in-Ok.ensures.ok in
     let is = sym same.command ∙ verb in
     zip_weaker
-    (Serves c.in-Ok.plan.command g.D.Disk.content g.D.Disk.images g.D.Disk.clock g.D.Disk.images_between g.D.Disk.faults g.D.Disk.bound
+    (Serves c.in-Ok.plan.command g.D.Disk.content g.D.Disk.images g.D.Disk.clock g.D.Disk.images_between g.D.Disk.faults
+    g.D.Disk.bound
     c.in-Ok.plan g.S.Source.left g.S.Source.faults g.K.Sink.written g.K.Sink.faults c.args.a c.serve_one.result.a)
-    _ (λ old new s. runs_same g.D.Disk.content g.D.Disk.images g.D.Disk.clock g.D.Disk.images_between g.D.Disk.faults g.D.Disk.bound
+    _ (λ old new s. runs_same g.D.Disk.content g.D.Disk.images g.D.Disk.clock g.D.Disk.images_between g.D.Disk.faults
+    g.D.Disk.bound
     g.S.Source.left g.K.Sink.written plan c.in-Ok.plan c.args.a c.serve_one.result.a old new same.commits same.page
     (run_served g.D.Disk.content g.D.Disk.images g.D.Disk.clock g.D.Disk.images_between g.D.Disk.faults g.D.Disk.bound
-    g.S.Source.left g.S.Source.faults g.K.Sink.written g.K.Sink.faults c.args.a c.serve_one.result.a c.in-Ok.plan.command c.in-Ok.plan old new is s).runs)
+    g.S.Source.left g.S.Source.faults g.K.Sink.written g.K.Sink.faults c.args.a c.serve_one.result.a
+    c.in-Ok.plan.command c.in-Ok.plan old new is s).runs)
     c.args.ends.items c.serve_one.result.ends.items c.serve_one.ensures.served

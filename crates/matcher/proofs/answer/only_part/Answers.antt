@@ -6,7 +6,9 @@ use Rattle.matcher.proofs.answer.only_part.Goals as goal
 
 pub returns : goal.returns
 returns c =
-    let named : term_of c.index.result.now ≡ Prim (atoms.Rec c.from-part.result) = ap term_of c.in-Prim.is ∙ ap Prim c.in-Rec.is ∙ ap (λ k. Prim (atoms.Rec k)) (sym c.from-part.ensures) in (
+    let named : term_of c.index.result.now ≡ Prim (atoms.Rec c.from-part.result) = ap term_of c.in-Prim.is
+    ∙ ap Prim c.in-Rec.is ∙ ap (λ k. Prim (atoms.Rec k)) (sym c.from-part.ensures) in (
       omega (arith, c.args.pattern.now.recs.ok.0),
-      one_element term_of c.args.pattern.now.top.atoms.items c.index.result.now (omega (arith, c.args.pattern.now.top.atoms.ok.0)) c.index.ensures ∙ ap (λ e. e ∷ []) named,
+      one_element term_of c.args.pattern.now.top.atoms.items c.index.result.now
+          (omega (arith, c.args.pattern.now.top.atoms.ok.0)) c.index.ensures ∙ ap (λ e. e ∷ []) named,
     )

@@ -16,6 +16,8 @@ returns-in-And t c = λ k l h.
 
 pub returns-in-Or : goal.returns-in-Or
 returns-in-Or t c = λ k l h. ⊎_elim
-    (λ e. or_one _ _ k (c.classes_of-in-Or.ensures k l (subst (λ x. MayBe (term_of x) k) (sym c.deref-in-Or.ensures) e)))
-    (λ e. or_two _ _ k (c.classes_of-in-Or-2.ensures k l (subst (λ x. MayBe (term_of x) k) (sym c.deref-in-Or-2.ensures) e)))
+    (λ e. or_one _ _ k (c.classes_of-in-Or.ensures k l
+    (subst (λ x. MayBe (term_of x) k) (sym c.deref-in-Or.ensures) e)))
+    (λ e. or_two _ _ k (c.classes_of-in-Or-2.ensures k l
+    (subst (λ x. MayBe (term_of x) k) (sym c.deref-in-Or-2.ensures) e)))
     (subst (λ e. MayBe (term_of e) k) c.in-Or.is h)

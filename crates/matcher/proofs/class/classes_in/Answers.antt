@@ -13,4 +13,5 @@ loop-atom-preserved c =
     let new = c.only-all.result in
     below_more _ _ (λ k l d. or_one old new (class_of (get_or xs k d)) (c.loop-atom.invariant k l d))
     (λ d. or_two old new (class_of (get_or xs i d)) (subst (λ n. bit_at new n ≡ 1)
-    (ap (λ n. class_at n (get_or xs i no_element).aromatic) c.from.ensures ∙ ap class_of (get_or_default xs i no_element d c.loop-atom-test.true)) c.only-all.ensures))
+    (ap (λ n. class_at n (get_or xs i no_element).aromatic) c.from.ensures
+    ∙ ap class_of (get_or_default xs i no_element d c.loop-atom-test.true)) c.only-all.ensures))

@@ -12,5 +12,7 @@ returns c =
     let bond = c.args.bond.now in
     let low : c.from.result ≡ min bond.a bond.b = c.from.ensures ∙ c.min.ensures in
     let both = embeds_joined m c.args.front.now c.args.atom (bond_of bond) c.requires.high c.requires.apart in
-    let here = subst (λ k. IsTrue c.are_joined_by.result ↔ ((b : ℕ) × JoinsAt (ends_of m) b (get_or c.args.front.now k 0) c.args.atom × BondTrue (term_of bond.expr) m b)) low c.are_joined_by.ensures in
+    let here = subst (λ k. IsTrue c.are_joined_by.result
+    ↔ ((b : ℕ) × JoinsAt (ends_of m) b (get_or c.args.front.now k 0) c.args.atom
+    × BondTrue (term_of bond.expr) m b)) low c.are_joined_by.ensures in
     (λ t. both.1 (here.0 t), λ w. here.1 (both.0 w))

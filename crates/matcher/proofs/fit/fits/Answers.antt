@@ -11,18 +11,22 @@ use Rattle.matcher.proofs.Places.{all_apart, get_map}
 use Rattle.matcher.proofs.fit.fits.Goals as goal
 
 pub atom_true-requires-clause-named : goal.atom_true-requires-clause-named
-atom_true-requires-clause-named c = All-image (NamesBelow 64) term_of c.args.task.now.graph.now.atoms.items (length c.args.front.now) c.index.result.now c.requires.few c.index.ensures c.requires.ready.searchable.names
+atom_true-requires-clause-named c = All-image (NamesBelow 64) term_of c.args.task.now.graph.now.atoms.items
+    (length c.args.front.now) c.index.result.now c.requires.few c.index.ensures c.requires.ready.searchable.names
 
 pub bonds_embed-requires-clause-apart : goal.bonds_embed-requires-clause-apart
 bonds_embed-requires-clause-apart c =
     let g = graph_of c.args.task.now.graph.now in
-    rw (c.others-others.ensures, c.deref.ensures.value) (step_of_all c.args.task.now.graph.now.bonds.items g (λ bond. bond.a ≢ bond.b) _ _ refl (all_apart g c.requires.ready.searchable.apart))
+    rw (c.others-others.ensures, c.deref.ensures.value)
+    (step_of_all c.args.task.now.graph.now.bonds.items g (λ bond. bond.a ≢ bond.b) _ _ refl
+    (all_apart g c.requires.ready.searchable.apart))
 
 pub returns-then-not-is_new : goal.returns-then-not-is_new
 returns-then-not-is_new c = (
   λ t. absurd (cc),
   λ p.
-      let last = IsPartial-last (HoldsIn c.args.task.now.table.now) (graph_of c.args.task.now.graph.now) c.args.task.now.mol.now c.args.front.now c.args.atom p in
+      let last = IsPartial-last (HoldsIn c.args.task.now.table.now)
+      (graph_of c.args.task.now.graph.now) c.args.task.now.mol.now c.args.front.now c.args.atom p in
       let is_new = c.is_new.ensures.1 last.0 in
       absurd (cc),
 )
@@ -31,8 +35,11 @@ pub returns-then-not-atom_true : goal.returns-then-not-atom_true
 returns-then-not-atom_true c = (
   λ t. absurd (cc),
   λ p.
-      let last = IsPartial-last (HoldsIn c.args.task.now.table.now) (graph_of c.args.task.now.graph.now) c.args.task.now.mol.now c.args.front.now c.args.atom p in
-      let is_true = c.atom_true.ensures.1 (last.1 (term_of c.index.result.now) (get_map term_of c.args.task.now.graph.now.atoms.items (length c.args.front.now) c.index.result.now c.requires.few c.index.ensures)) in
+      let last = IsPartial-last (HoldsIn c.args.task.now.table.now)
+      (graph_of c.args.task.now.graph.now) c.args.task.now.mol.now c.args.front.now c.args.atom p in
+      let is_true = c.atom_true.ensures.1 (last.1 (term_of c.index.result.now)
+      (get_map term_of c.args.task.now.graph.now.atoms.items
+      (length c.args.front.now) c.index.result.now c.requires.few c.index.ensures)) in
       absurd (cc),
 )
 
@@ -45,11 +52,15 @@ returns c =
     let front = c.args.front.now in
     let bonds = task.graph.now.bonds.items in
     let expr = c.index.result.now in
-    let get : slice_get g.atoms (length front) ≡ Some (term_of expr) = get_map term_of task.graph.now.atoms.items (length front) expr c.requires.few c.index.ensures in
+    let get : slice_get g.atoms (length front) ≡ Some (term_of expr) = get_map term_of task.graph.now.atoms.items
+    (length front) expr c.requires.few c.index.ensures in
     let rest = rw c.deref.ensures.value at c.others-others.ensures in (
-      λ t. IsPartial-push parts g m front c.args.atom (term_of expr) c.requires.partial c.requires.in_range (c.is_new.ensures.0 c.if-not-is_new.false) get (c.atom_true.ensures.0 c.if-not-atom_true.false)
-          (all_of_step bonds g task.steps.now (length front) (BondEmbeds m (front ++ c.args.atom ∷ [])) refl c.requires.ready (rw rest at (c.bonds_embed.ensures.0 t)) c.requires.first),
+      λ t. IsPartial-push parts g m front c.args.atom (term_of expr) c.requires.partial c.requires.in_range
+          (c.is_new.ensures.0 c.if-not-is_new.false) get (c.atom_true.ensures.0 c.if-not-atom_true.false)
+          (all_of_step bonds g task.steps.now (length front) (BondEmbeds m (front ++ c.args.atom ∷ [])) refl
+          c.requires.ready (rw rest at (c.bonds_embed.ensures.0 t)) c.requires.first),
       λ p.
           let last = IsPartial-last parts g m front c.args.atom p in
-          c.bonds_embed.ensures.1 (rw rest (step_of_all bonds g (λ bond. max bond.a bond.b ≡ length front → BondEmbeds m (front ++ c.args.atom ∷ []) bond) _ _ refl last.2)),
+          c.bonds_embed.ensures.1 (rw rest (step_of_all bonds g (λ bond. max bond.a bond.b ≡ length front
+          → BondEmbeds m (front ++ c.args.atom ∷ []) bond) _ _ refl last.2)),
     )

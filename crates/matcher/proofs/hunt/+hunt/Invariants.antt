@@ -19,12 +19,14 @@ decreases-continues_at l = 3 * (length l.stops.now - l.placed)
 abbrev pub invariant-continues_anywhere-loop-atom : goal.invariant-continues_anywhere-loop-atom
 invariant-continues_anywhere-loop-atom l = record {
   kept : l.image ≡ l.initial.image;
-  none : (a : ℕ) → a < l.atom → (whole : List ℕ) → Continues l.task l.initial.image whole → slice_index whole (stop_at l.stops l.placed).place ≡ a → ⊥;
+  none : (a : ℕ) → a < l.atom → (whole : List ℕ) → Continues l.task l.initial.image whole
+      → slice_index whole (stop_at l.stops l.placed).place ≡ a → ⊥;
 }
 
 -- at no neighbour so far can it stand
 abbrev pub invariant-continues_near-loop-atom : goal.invariant-continues_near-loop-atom
 invariant-continues_near-loop-atom l = record {
   kept : l.image ≡ l.initial.image;
-  none : (k : ℕ) → k < l.atom-index → (whole : List ℕ) → Continues l.task l.initial.image whole → slice_index whole (stop_at l.stops l.placed).place ≡ (get_or l.neighbours k (0, 0)).0 → ⊥;
+  none : (k : ℕ) → k < l.atom-index → (whole : List ℕ) → Continues l.task l.initial.image whole
+      → slice_index whole (stop_at l.stops l.placed).place ≡ (get_or l.neighbours k (0, 0)).0 → ⊥;
 }

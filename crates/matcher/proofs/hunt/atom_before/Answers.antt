@@ -8,6 +8,8 @@ returns-then-from-atoms-clause-asks c =
     let bond = c.index.result.now in
     let place = c.args.stop.place in
     let is = subst (λ k. bond ≡ get_or task.graph.now.bonds.items k bond) c.from-2.ensures c.index.ensures in
-    let ends = subst (λ o. ((bond.a ≡ place) × (bond.b ≡ o)) ⊎ ((bond.a ≡ o) × (bond.b ≡ place))) (sym c.from-4.ensures) c.in_ok-other.ensures in
-    let at : slice_index c.args.image.now c.from-4.result < length task.mol.now.atoms = omega (arith, ap length c.atoms.ensures.value) in
+    let ends = subst (λ o. ((bond.a ≡ place) × (bond.b ≡ o)) ⊎ ((bond.a ≡ o) × (bond.b ≡ place)))
+    (sym c.from-4.ensures) c.in_ok-other.ensures in
+    let at : slice_index c.args.image.now c.from-4.result < length task.mol.now.atoms = omega
+    (arith, ap length c.atoms.ensures.value) in
     asks_bond task c.args.image.now place c.args.stop.bond c.from-4.result bond c.requires (omega arith) is ends at

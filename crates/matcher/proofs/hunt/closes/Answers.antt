@@ -9,4 +9,5 @@ returns-then-not-are_joined_by c = λ _ whole h e.
     let bond = c.index-bond.result.now in
     let is = subst (λ k. bond ≡ get_or task.graph.now.bonds.items k bond) c.from-in-Some.ensures c.index-bond.ensures in
     iff_false c.are_joined_by.ensures c.if-not-are_joined_by.true
-    (asked_at task c.args.image.now whole c.args.stop.place c.in-Some.from c.loop-place.place c.args.atom bond c.in-Some.ensures.asks c.in-Some.ensures.bond is h e)
+    (asked_at task c.args.image.now whole c.args.stop.place c.in-Some.from c.loop-place.place c.args.atom bond
+    c.in-Some.ensures.asks c.in-Some.ensures.bond is h e)

@@ -13,7 +13,8 @@ high c =
     let bond = c.bond-item.result in
     let is = rw c.deref-bond-items.ensures.value at c.bond-item.is in
     let within = rw c.deref-bond-items.ensures.value at c.loop-place-test.true in
-    let below : max bond.a bond.b < length (graph_of c.args.graph.now).atoms = high_below c.args.graph.now.bonds.items (graph_of c.args.graph.now) c.loop-place.place bond within is c.requires.searchable.ends in
+    let below : max bond.a bond.b < length (graph_of c.args.graph.now).atoms = high_below c.args.graph.now.bonds.items
+    (graph_of c.args.graph.now) c.loop-place.place bond within is c.requires.searchable.ends in
     subst (λ k. k < length (graph_of c.args.graph.now).atoms) (sym (c.from-high.ensures ∙ c.max.ensures)) below
 
 pub slice_copy_out-with : goal.slice_copy_out-with
@@ -24,7 +25,8 @@ bounds-steps-high c =
     let is = rw c.deref-bond-items.ensures.value at c.bond-item.is in
     let within = rw c.deref-bond-items.ensures.value at c.loop-place-test.true in
     let g = graph_of c.args.graph.now in
-    let below : max c.bond-item.result.a c.bond-item.result.b < length g.atoms = high_below c.args.graph.now.bonds.items g c.loop-place.place c.bond-item.result within is c.requires.searchable.ends in
+    let below : max c.bond-item.result.a c.bond-item.result.b < length g.atoms = high_below c.args.graph.now.bonds.items
+    g c.loop-place.place c.bond-item.result within is c.requires.searchable.ends in
     let top = c.from-high.ensures ∙ c.max.ensures in
     let r = c.loop-place.invariant.planned.room in
     omega (arith, below, top)
@@ -36,12 +38,15 @@ loop-place-preserved c =
     let g = graph_of c.args.graph.now in
     let bonds = c.args.graph.now.bonds.items in
     let top = c.from-high.ensures ∙ c.max.ensures in
-    let below : max c.bond-item.result.a c.bond-item.result.b < length g.atoms = high_below bonds g c.loop-place.place c.bond-item.result within is c.requires.searchable.ends in
+    let below : max c.bond-item.result.a c.bond-item.result.b < length g.atoms = high_below bonds g c.loop-place.place
+    c.bond-item.result within is c.requires.searchable.ends in
     let r = c.loop-place.invariant.planned.room in
     record {
-      planned = planned_next bonds g c.loop-place.place c.loop-place.steps c.from-high.result c.with.result c.bond-item.result refl c.loop-place.invariant.planned within is top
+      planned = planned_next bonds g c.loop-place.place c.loop-place.steps c.from-high.result c.with.result
+          c.bond-item.result refl c.loop-place.invariant.planned within is top
           (subst (λ k. k < length g.atoms) (sym top) below) c.with.ensures.fresh c.with.ensures.again c.with.ensures.to;
-      covered = covered_set g.atoms (length g.atoms) c.loop-place.steps c.from-high.result c.with.result c.loop-place.invariant.covered (omega arith) c.with.ensures.classes;
+      covered = covered_set g.atoms (length g.atoms) c.loop-place.steps c.from-high.result c.with.result
+          c.loop-place.invariant.covered (omega arith) c.with.ensures.classes;
     }
 
 pub loop-atom-preserved : goal.loop-atom-preserved
@@ -57,5 +62,7 @@ loop-atom-preserved c =
       room = subst (λ n. length exprs ≤ n) (sym (length-set steps i next)) room;
       none = none_more steps i next c.loop-atom.invariant.none lt refl;
       covered = covered_more (map term_of exprs) i steps next c.loop-atom.invariant.covered lt
-          (λ d. subst (λ e. Covers next.classes e) (sym (get_or-map term_of exprs i c.index.result.now d within ∙ ap term_of (sym c.index.ensures))) c.classes_of.ensures);
+          (λ d. subst (λ e. Covers next.classes e)
+          (sym (get_or-map term_of exprs i c.index.result.now d within ∙ ap term_of (sym c.index.ensures)))
+          c.classes_of.ensures);
     }

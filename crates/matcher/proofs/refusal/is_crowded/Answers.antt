@@ -12,5 +12,7 @@ returns c =
     let places = c.places_within.ensures in
     let atoms = rw c.atoms.ensures.value at c.atoms_within-atoms.ensures in
     let fewer = c.if-places_within-atoms.false in
-    λ _. crowded (HoldsIn task.table.now) (graph_of task.graph.now) task.mol.now task.steps.now c.len.result (step_at task.steps.now 0).classes
-    c.requires.ready (omega (arith, length-map task.graph.now.atoms.items term_of, task.graph.now.atoms.ok.0)) (omega (arith, places, atoms, fewer))
+    λ _. crowded (HoldsIn task.table.now) (graph_of task.graph.now) task.mol.now task.steps.now c.len.result
+    (step_at task.steps.now 0).classes
+    c.requires.ready (omega (arith, length-map task.graph.now.atoms.items term_of, task.graph.now.atoms.ok.0))
+    (omega (arith, places, atoms, fewer))

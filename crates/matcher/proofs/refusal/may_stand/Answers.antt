@@ -11,21 +11,29 @@ use Rattle.matcher.proofs.Refusals.{cannot_stand, stands_before}
 use Rattle.matcher.proofs.refusal.may_stand.Goals as goal
 
 pub atom_true-requires-clause-named : goal.atom_true-requires-clause-named
-atom_true-requires-clause-named c = All-image (NamesBelow 64) term_of c.args.task.now.graph.now.atoms.items c.args.place c.index.result.now c.requires.place c.index.ensures c.requires.ready.searchable.names
+atom_true-requires-clause-named c = All-image (NamesBelow 64) term_of c.args.task.now.graph.now.atoms.items c.args.place
+    c.index.result.now c.requires.place c.index.ensures c.requires.ready.searchable.names
 
 pub returns-then-not-may_be : goal.returns-then-not-may_be
 returns-then-not-may_be c = λ _ few rest e is.
     let task = c.args.task.now in
     let within = subst (λ n. c.args.place < n) (sym (length-map task.graph.now.atoms.items term_of)) c.requires.place in
     iff_false (rw (c.atoms.ensures.value, c.from.ensures) at c.may_be.ensures) c.if-not-may_be.true
-    (stands_at (HoldsIn task.table.now) (graph_of task.graph.now) task.mol.now task.steps.now (c.args.front.now ++ rest) c.args.place c.args.atom c.requires.ready within e is)
+    (stands_at (HoldsIn task.table.now) (graph_of task.graph.now) task.mol.now task.steps.now
+    (c.args.front.now ++ rest) c.args.place c.args.atom c.requires.ready within e is)
 
 pub returns-then-is_new : goal.returns-then-is_new
 returns-then-is_new c = λ f few rest e is.
-    cannot_stand (HoldsIn c.args.task.now.table.now) (graph_of c.args.task.now.graph.now) c.args.task.now.mol.now c.args.place c.args.atom (term_of c.index.result.now) (c.args.front.now ++ rest)
-    (get_map term_of c.args.task.now.graph.now.atoms.items c.args.place c.index.result.now c.requires.place c.index.ensures) (iff_false c.atom_true.ensures f) e is
+    cannot_stand (HoldsIn c.args.task.now.table.now) (graph_of c.args.task.now.graph.now) c.args.task.now.mol.now
+    c.args.place c.args.atom (term_of c.index.result.now) (c.args.front.now ++ rest)
+    (get_map term_of c.args.task.now.graph.now.atoms.items c.args.place c.index.result.now c.requires.place
+    c.index.ensures) (iff_false c.atom_true.ensures f) e is
 
 pub returns-else-is_new : goal.returns-else-is_new
 returns-else-is_new c = λ f few rest e is.
-    iff_false c.is_new.ensures c.if-is_new.false (λ old. stands_before (HoldsIn c.args.task.now.table.now) (graph_of c.args.task.now.graph.now) c.args.task.now.mol.now c.args.front.now rest c.args.place c.args.atom old few
-    (subst (λ n. c.args.place < n) (sym (length-map c.args.task.now.graph.now.atoms.items term_of)) c.requires.place) e is)
+    iff_false c.is_new.ensures c.if-is_new.false
+    (λ old. stands_before (HoldsIn c.args.task.now.table.now)
+    (graph_of c.args.task.now.graph.now) c.args.task.now.mol.now c.args.front.now rest c.args.place c.args.atom old
+    few
+    (subst (λ n. c.args.place < n) (sym (length-map c.args.task.now.graph.now.atoms.items term_of)) c.requires.place) e
+    is)

@@ -10,7 +10,8 @@ pub returns-clause-lower : goal.returns-clause-lower
 returns-clause-lower c =
     let task = c.args.task.now in
     let few = subst (λ n. c.args.place < n) (sym (length-map task.graph.now.atoms.items term_of)) c.requires.place in
-    let first = first_bond task.graph.now.bonds.items (graph_of task.graph.now) task.steps.now c.args.place c.index-bond.result.now refl c.requires.ready few (omega arith) c.index-bond.ensures in
+    let first = first_bond task.graph.now.bonds.items (graph_of task.graph.now) task.steps.now c.args.place
+    c.index-bond.result.now refl c.requires.ready few (omega arith) c.index-bond.ensures in
     let lower = low_before first.0 first.1 in
     let low = c.from.ensures ∙ c.min.ensures in
     omega arith
@@ -20,7 +21,9 @@ returns-clause-bound c =
     let task = c.args.task.now in
     let bond = c.index-bond.result.now in
     let few = subst (λ n. c.args.place < n) (sym (length-map task.graph.now.atoms.items term_of)) c.requires.place in
-    let first = first_bond task.graph.now.bonds.items (graph_of task.graph.now) task.steps.now c.args.place bond refl c.requires.ready few (omega arith) c.index-bond.ensures in
+    let first = first_bond task.graph.now.bonds.items (graph_of task.graph.now) task.steps.now c.args.place bond refl
+    c.requires.ready few (omega arith) c.index-bond.ensures in
     let end = c.requires.ready.planned.ends c.args.place few in
     let size = length-map task.graph.now.bonds.items bond_of in
-    bound_ends task _ c.args.place c.from.result bond (omega (arith, end, size)) c.index-bond.ensures (high_low bond.a bond.b c.from.result c.args.place (c.from.ensures ∙ c.min.ensures) (sym first.0))
+    bound_ends task _ c.args.place c.from.result bond (omega (arith, end, size)) c.index-bond.ensures
+    (high_low bond.a bond.b c.from.result c.args.place (c.from.ensures ∙ c.min.ensures) (sym first.0))

@@ -21,76 +21,100 @@ extend-returns-then-placed-len-clause-found t c =
     let parts = HoldsIn c.args.task.now.table.now in
     let n = length c.args.task.now.graph.now.atoms.items in
     let front = take c.args.placed c.args.image.now in
-    let room : c.args.placed ≤ length c.args.image.now = let r = c.requires.room in let f = c.requires.few in omega arith in
+    let room : c.args.placed ≤ length c.args.image.now = let r = c.requires.room in let f = c.requires.few
+    in omega arith in
     let size : length front ≡ c.args.placed = length-take-le c.args.placed c.args.image.now room in
     let all : length g.atoms ≡ n = length-map c.args.task.now.graph.now.atoms.items term_of in
     let last : c.args.placed ≡ n = omega (arith, c.args.task.now.graph.now.atoms.ok.0) in
     let full : length front ≡ length g.atoms = size ∙ last ∙ sym all in
     λ _. subst (λ k. IsLeastFrom parts g m front (take k c.args.image.now)) last
-    (least_whole parts g m front full (IsPartial-whole parts g m front c.requires.ready.searchable.ends full c.requires.partial))
+    (least_whole parts g m front full (IsPartial-whole parts g m front c.requires.ready.searchable.ends full
+    c.requires.partial))
 
 pub extend_anywhere-returns-then-extend_at-clause-found : goal.extend_anywhere-returns-then-extend_at-clause-found
 extend_anywhere-returns-then-extend_at-clause-found t c =
     let g = graph_of c.args.task.now.graph.now in
-    let left = left_over term_of c.args.task.now.graph.now.atoms.items c.args.image.now c.args.placed c.requires.room c.requires.few in
-    λ _. found_next (HoldsIn c.args.task.now.table.now) g c.args.task.now.mol.now (take c.args.placed c.args.image.now) (take c.args.placed c.loop-atom.image) c.loop-atom.atom _
+    let left = left_over term_of c.args.task.now.graph.now.atoms.items c.args.image.now c.args.placed c.requires.room
+    c.requires.few in
+    λ _. found_next (HoldsIn c.args.task.now.table.now) g c.args.task.now.mol.now (take c.args.placed c.args.image.now)
+    (take c.args.placed c.loop-atom.image) c.loop-atom.atom _
     c.loop-atom.invariant.kept left c.loop-atom.invariant.none (c.extend_at.ensures.found c.if-extend_at.true)
 
 pub extend_anywhere-loop-atom-preserved : goal.extend_anywhere-loop-atom-preserved
 extend_anywhere-loop-atom-preserved t c = record {
   kept = c.extend_at.ensures.kept ∙ c.loop-atom.invariant.kept;
   none = below_more _ _ c.loop-atom.invariant.none
-      (λ w. c.extend_at.ensures.none c.if-extend_at.false (CanComplete-same (HoldsIn c.args.task.now.table.now) (graph_of c.args.task.now.graph.now) c.args.task.now.mol.now _ _ c.loop-atom.atom c.loop-atom.invariant.kept w));
+      (λ w. c.extend_at.ensures.none c.if-extend_at.false
+      (CanComplete-same (HoldsIn c.args.task.now.table.now) (graph_of c.args.task.now.graph.now)
+      c.args.task.now.mol.now _ _ c.loop-atom.atom c.loop-atom.invariant.kept w));
 }
 
-pub extend_anywhere-loop-atom-preserved-then-not-is_of_class : goal.extend_anywhere-loop-atom-preserved-then-not-is_of_class
+pub extend_anywhere-loop-atom-preserved-then-not-is_of_class :
+    goal.extend_anywhere-loop-atom-preserved-then-not-is_of_class
 extend_anywhere-loop-atom-preserved-then-not-is_of_class t c =
-    let room : c.args.placed ≤ length c.args.image.now = let r = c.requires.room in let f = c.requires.few in omega arith in
+    let room : c.args.placed ≤ length c.args.image.now = let r = c.requires.room in let f = c.requires.few
+    in omega arith in
     record {
       kept = c.loop-atom.invariant.kept;
       none = below_more _ _ c.loop-atom.invariant.none
-          (c.is_of_class.ensures.begins c.if-not-is_of_class.true (take c.args.placed c.args.image.now) (length-take-le c.args.placed c.args.image.now room));
+          (c.is_of_class.ensures.begins c.if-not-is_of_class.true (take c.args.placed c.args.image.now)
+          (length-take-le c.args.placed c.args.image.now room));
     }
 
 pub extend_anywhere-returns-clause-none : goal.extend_anywhere-returns-clause-none
 extend_anywhere-returns-clause-none t c =
-    let left = left_over term_of c.args.task.now.graph.now.atoms.items c.args.image.now c.args.placed c.requires.room c.requires.few in
-    λ _. CanComplete-none (HoldsIn c.args.task.now.table.now) (graph_of c.args.task.now.graph.now) c.args.task.now.mol.now (take c.args.placed c.args.image.now) left
+    let left = left_over term_of c.args.task.now.graph.now.atoms.items c.args.image.now c.args.placed c.requires.room
+    c.requires.few in
+    λ _. CanComplete-none (HoldsIn c.args.task.now.table.now) (graph_of c.args.task.now.graph.now)
+    c.args.task.now.mol.now (take c.args.placed c.args.image.now) left
     (λ a lt. c.loop-atom.invariant.none a (omega (arith, lt, ap length c.atoms.ensures.value)))
 
 pub extend_at-fits-requires-clause-first : goal.extend_at-fits-requires-clause-first
 extend_at-fits-requires-clause-first t c =
     let front = take c.args.placed c.args.image.now in
     let steps = c.args.task.now.steps.now in
-    let room : c.args.placed ≤ length c.args.image.now = let r = c.requires.room in let f = c.requires.few in omega arith in
+    let room : c.args.placed ≤ length c.args.image.now = let r = c.requires.room in let f = c.requires.few
+    in omega arith in
     let size : length front ≡ c.args.placed = length-take-le c.args.placed c.args.image.now room in
     subst (λ k. (d : BondTerm) → (step_at steps k).from < (step_at steps k).to
-    → BondEmbeds c.args.task.now.mol.now (front ++ c.args.atom ∷ []) (slice_index_or (map bond_of c.args.task.now.graph.now.bonds.items) (step_at steps k).from d)) (sym size) c.requires.first
+    → BondEmbeds c.args.task.now.mol.now (front ++ c.args.atom ∷ [])
+    (slice_index_or (map bond_of c.args.task.now.graph.now.bonds.items) (step_at steps k).from d))
+    (sym size) c.requires.first
 
 pub extend_at-returns-then-not-fits-clause-none : goal.extend_at-returns-then-not-fits-clause-none
 extend_at-returns-then-not-fits-clause-none t c = λ _ w.
-    let here = c.fits.ensures.1 (IsPartial-from_completion (HoldsIn c.args.task.now.table.now) (graph_of c.args.task.now.graph.now) c.args.task.now.mol.now (take c.args.placed c.args.image.now ++ c.args.atom ∷ []) w) in
+    let here = c.fits.ensures.1 (IsPartial-from_completion (HoldsIn c.args.task.now.table.now)
+    (graph_of c.args.task.now.graph.now) c.args.task.now.mol.now
+    (take c.args.placed c.args.image.now ++ c.args.atom ∷ []) w) in
     absurd (cc)
 
 pub extend_near-bounds-image-from : goal.extend_near-bounds-image-from
 extend_near-bounds-image-from t c =
     let task = c.args.task.now in
-    let room : c.args.placed ≤ length c.args.image.now = let r = c.requires.room in let f = c.requires.few in omega arith in
-    let low = (near_step (HoldsIn task.table.now) (graph_of task.graph.now) task.mol.now task.graph.now.bonds.items task.steps.now c.args.image.now c.args.placed c.from.result c.index-bond.result.now refl c.requires.ready
-    room (subst (λ n. c.args.placed < n) (sym (length-map task.graph.now.atoms.items term_of)) c.requires.few) c.requires.partial c.requires.bonded c.index-bond.ensures (c.from.ensures ∙ c.min.ensures)).0 in
+    let room : c.args.placed ≤ length c.args.image.now = let r = c.requires.room in let f = c.requires.few
+    in omega arith in
+    let low = (near_step (HoldsIn task.table.now) (graph_of task.graph.now) task.mol.now task.graph.now.bonds.items
+    task.steps.now c.args.image.now c.args.placed c.from.result c.index-bond.result.now refl c.requires.ready
+    room (subst (λ n. c.args.placed < n) (sym (length-map task.graph.now.atoms.items term_of)) c.requires.few)
+    c.requires.partial c.requires.bonded c.index-bond.ensures (c.from.ensures ∙ c.min.ensures)).0 in
     omega (arith, low)
 
 pub extend_near-neighbours-neighbours-requires : goal.extend_near-neighbours-neighbours-requires
 extend_near-neighbours-neighbours-requires t c =
     let task = c.args.task.now in
-    let room : c.args.placed ≤ length c.args.image.now = let r = c.requires.room in let f = c.requires.few in omega arith in
-    (near_step (HoldsIn task.table.now) (graph_of task.graph.now) task.mol.now task.graph.now.bonds.items task.steps.now c.args.image.now c.args.placed c.from.result c.index-bond.result.now refl c.requires.ready
-    room (subst (λ n. c.args.placed < n) (sym (length-map task.graph.now.atoms.items term_of)) c.requires.few) c.requires.partial c.requires.bonded c.index-bond.ensures (c.from.ensures ∙ c.min.ensures)).1.in_range
+    let room : c.args.placed ≤ length c.args.image.now = let r = c.requires.room in let f = c.requires.few
+    in omega arith in
+    (near_step (HoldsIn task.table.now) (graph_of task.graph.now) task.mol.now task.graph.now.bonds.items task.steps.now
+    c.args.image.now c.args.placed c.from.result c.index-bond.result.now refl c.requires.ready
+    room (subst (λ n. c.args.placed < n) (sym (length-map task.graph.now.atoms.items term_of)) c.requires.few)
+    c.requires.partial c.requires.bonded c.index-bond.ensures (c.from.ensures ∙ c.min.ensures)).1.in_range
 
 pub extend_near-bond_true-requires : goal.extend_near-bond_true-requires
 extend_near-bond_true-requires t c =
     let m = c.args.task.now.mol.now in
-    (joins_in_range m _ _ _ c.neighbours-neighbours.ensures.valid (neighbour_joined _ _ c.neighbours-neighbours.result.now c.loop-atom.atom-index (0, 0) c.neighbours-neighbours.ensures.each c.loop-atom-test.true)).0
+    (joins_in_range m _ _ _ c.neighbours-neighbours.ensures.valid
+    (neighbour_joined _ _ c.neighbours-neighbours.result.now c.loop-atom.atom-index
+    (0, 0) c.neighbours-neighbours.ensures.each c.loop-atom-test.true)).0
 
 pub extend_near-extend_at-requires : goal.extend_near-extend_at-requires
 extend_near-extend_at-requires t c =
@@ -100,9 +124,12 @@ extend_near-extend_at-requires t c =
     let pairs = c.neighbours-neighbours.result.now in
     let k = c.loop-atom.atom-index in
     let pair = get_or pairs k (0, 0) in
-    let room : c.args.placed ≤ length c.args.image.now = let r = c.requires.room in let f = c.requires.few in omega arith in
-    let near = (near_step (HoldsIn task.table.now) g m task.graph.now.bonds.items task.steps.now c.args.image.now c.args.placed c.from.result c.index-bond.result.now refl c.requires.ready
-    room (subst (λ n. c.args.placed < n) (sym (length-map task.graph.now.atoms.items term_of)) c.requires.few) c.requires.partial c.requires.bonded c.index-bond.ensures (c.from.ensures ∙ c.min.ensures)).1 in
+    let room : c.args.placed ≤ length c.args.image.now = let r = c.requires.room in let f = c.requires.few
+    in omega arith in
+    let near = (near_step (HoldsIn task.table.now) g m task.graph.now.bonds.items task.steps.now c.args.image.now
+    c.args.placed c.from.result c.index-bond.result.now refl c.requires.ready
+    room (subst (λ n. c.args.placed < n) (sym (length-map task.graph.now.atoms.items term_of)) c.requires.few)
+    c.requires.partial c.requires.bonded c.index-bond.ensures (c.from.ensures ∙ c.min.ensures)).1 in
     let joined = neighbour_joined _ _ pairs k (0, 0) c.neighbours-neighbours.ensures.each c.loop-atom-test.true in
     let front = c.loop-atom.invariant.kept in (
       search rules,
@@ -116,7 +143,8 @@ extend_near-extend_at-requires t c =
               (joins_in_range m _ _ _ c.neighbours-neighbours.ensures.valid joined).1,
               (
                 subst (IsPartial (HoldsIn task.table.now) g m) (sym front) c.requires.partial,
-                λ d _. subst (λ xs. BondEmbeds m (xs ++ pair.0 ∷ []) (slice_index_or g.bonds (step_at task.steps.now c.args.placed).from d)) (sym front)
+                λ d _. subst (λ xs. BondEmbeds m (xs ++ pair.0 ∷ [])
+                    (slice_index_or g.bonds (step_at task.steps.now c.args.placed).from d)) (sym front)
                     (near.embeds pair.0 d (pair.1, joined, c.bond_true.ensures.0 c.if-not-bond_true.false)),
               ),
             ),
@@ -132,12 +160,18 @@ extend_near-returns-then-extend_at-clause-found t c =
     let m = task.mol.now in
     let parts = HoldsIn task.table.now in
     let pairs = c.neighbours-neighbours.result.now in
-    let room : c.args.placed ≤ length c.args.image.now = let r = c.requires.room in let f = c.requires.few in omega arith in
-    let near = (near_step parts g m task.graph.now.bonds.items task.steps.now c.args.image.now c.args.placed c.from.result c.index-bond.result.now refl c.requires.ready
-    room (subst (λ n. c.args.placed < n) (sym (length-map task.graph.now.atoms.items term_of)) c.requires.few) c.requires.partial c.requires.bonded c.index-bond.ensures (c.from.ensures ∙ c.min.ensures)).1 in
-    let left = left_over term_of task.graph.now.atoms.items c.args.image.now c.args.placed c.requires.room c.requires.few in
-    λ _. found_next parts g m (take c.args.placed c.args.image.now) (take c.args.placed c.loop-atom.image) (get_or pairs c.loop-atom.atom-index (0, 0)).0 _ c.loop-atom.invariant.kept left
-    (none_lower parts g m (take c.args.placed c.args.image.now) _ _ _ pairs c.loop-atom.atom-index near c.neighbours-neighbours.ensures.each c.loop-atom-test.true c.loop-atom.invariant.none)
+    let room : c.args.placed ≤ length c.args.image.now = let r = c.requires.room in let f = c.requires.few
+    in omega arith in
+    let near = (near_step parts g m task.graph.now.bonds.items task.steps.now c.args.image.now c.args.placed
+    c.from.result c.index-bond.result.now refl c.requires.ready
+    room (subst (λ n. c.args.placed < n) (sym (length-map task.graph.now.atoms.items term_of)) c.requires.few)
+    c.requires.partial c.requires.bonded c.index-bond.ensures (c.from.ensures ∙ c.min.ensures)).1 in
+    let left = left_over term_of task.graph.now.atoms.items c.args.image.now c.args.placed c.requires.room
+    c.requires.few in
+    λ _. found_next parts g m (take c.args.placed c.args.image.now) (take c.args.placed c.loop-atom.image)
+    (get_or pairs c.loop-atom.atom-index (0, 0)).0 _ c.loop-atom.invariant.kept left
+    (none_lower parts g m (take c.args.placed c.args.image.now) _ _ _ pairs c.loop-atom.atom-index near
+    c.neighbours-neighbours.ensures.each c.loop-atom-test.true c.loop-atom.invariant.none)
     (c.extend_at.ensures.found c.if-extend_at.true)
 
 pub extend_near-loop-atom-preserved-then-not-bond_true : goal.extend_near-loop-atom-preserved-then-not-bond_true
@@ -147,34 +181,45 @@ extend_near-loop-atom-preserved-then-not-bond_true t c =
     let m = task.mol.now in
     let parts = HoldsIn task.table.now in
     let pairs = c.neighbours-neighbours.result.now in
-    let room : c.args.placed ≤ length c.args.image.now = let r = c.requires.room in let f = c.requires.few in omega arith in
-    let near = (near_step parts g m task.graph.now.bonds.items task.steps.now c.args.image.now c.args.placed c.from.result c.index-bond.result.now refl c.requires.ready
-    room (subst (λ n. c.args.placed < n) (sym (length-map task.graph.now.atoms.items term_of)) c.requires.few) c.requires.partial c.requires.bonded c.index-bond.ensures (c.from.ensures ∙ c.min.ensures)).1 in
+    let room : c.args.placed ≤ length c.args.image.now = let r = c.requires.room in let f = c.requires.few
+    in omega arith in
+    let near = (near_step parts g m task.graph.now.bonds.items task.steps.now c.args.image.now c.args.placed
+    c.from.result c.index-bond.result.now refl c.requires.ready
+    room (subst (λ n. c.args.placed < n) (sym (length-map task.graph.now.atoms.items term_of)) c.requires.few)
+    c.requires.partial c.requires.bonded c.index-bond.ensures (c.from.ensures ∙ c.min.ensures)).1 in
     record {
       kept = c.loop-atom.invariant.kept;
       none = below_more _ _ c.loop-atom.invariant.none
-          (near_false parts g m (take c.args.placed c.args.image.now) _ _ _ pairs c.loop-atom.atom-index near c.neighbours-neighbours.ensures.each c.loop-atom-test.true (iff_false c.bond_true.ensures c.if-not-bond_true.true));
+          (near_false parts g m (take c.args.placed c.args.image.now) _ _ _ pairs c.loop-atom.atom-index near
+          c.neighbours-neighbours.ensures.each c.loop-atom-test.true
+          (iff_false c.bond_true.ensures c.if-not-bond_true.true));
     }
 
 pub extend_near-is_of_class-requires-clause-atom : goal.extend_near-is_of_class-requires-clause-atom
 extend_near-is_of_class-requires-clause-atom t c =
     let m = c.args.task.now.mol.now in
-    (joins_in_range m _ _ _ c.neighbours-neighbours.ensures.valid (neighbour_joined _ _ c.neighbours-neighbours.result.now c.loop-atom.atom-index (0, 0) c.neighbours-neighbours.ensures.each c.loop-atom-test.true)).1
+    (joins_in_range m _ _ _ c.neighbours-neighbours.ensures.valid
+    (neighbour_joined _ _ c.neighbours-neighbours.result.now c.loop-atom.atom-index
+    (0, 0) c.neighbours-neighbours.ensures.each c.loop-atom-test.true)).1
 
 pub extend_near-loop-atom-preserved-then-not-is_of_class : goal.extend_near-loop-atom-preserved-then-not-is_of_class
 extend_near-loop-atom-preserved-then-not-is_of_class t c =
-    let room : c.args.placed ≤ length c.args.image.now = let r = c.requires.room in let f = c.requires.few in omega arith in
+    let room : c.args.placed ≤ length c.args.image.now = let r = c.requires.room in let f = c.requires.few
+    in omega arith in
     record {
       kept = c.loop-atom.invariant.kept;
       none = below_more _ _ c.loop-atom.invariant.none
-          (c.is_of_class.ensures.begins c.if-not-is_of_class.true (take c.args.placed c.args.image.now) (length-take-le c.args.placed c.args.image.now room));
+          (c.is_of_class.ensures.begins c.if-not-is_of_class.true (take c.args.placed c.args.image.now)
+          (length-take-le c.args.placed c.args.image.now room));
     }
 
 pub extend_near-loop-atom-preserved : goal.extend_near-loop-atom-preserved
 extend_near-loop-atom-preserved t c = record {
   kept = c.extend_at.ensures.kept ∙ c.loop-atom.invariant.kept;
   none = below_more _ _ c.loop-atom.invariant.none
-      (λ w. c.extend_at.ensures.none c.if-extend_at.false (CanComplete-same (HoldsIn c.args.task.now.table.now) (graph_of c.args.task.now.graph.now) c.args.task.now.mol.now _ _ _ c.loop-atom.invariant.kept w));
+      (λ w. c.extend_at.ensures.none c.if-extend_at.false
+      (CanComplete-same (HoldsIn c.args.task.now.table.now) (graph_of c.args.task.now.graph.now)
+      c.args.task.now.mol.now _ _ _ c.loop-atom.invariant.kept w));
 }
 
 pub extend_near-returns-clause-none : goal.extend_near-returns-clause-none
@@ -184,11 +229,17 @@ extend_near-returns-clause-none t c =
     let m = task.mol.now in
     let parts = HoldsIn task.table.now in
     let pairs = c.neighbours-neighbours.result.now in
-    let room : c.args.placed ≤ length c.args.image.now = let r = c.requires.room in let f = c.requires.few in omega arith in
-    let near = (near_step parts g m task.graph.now.bonds.items task.steps.now c.args.image.now c.args.placed c.from.result c.index-bond.result.now refl c.requires.ready
-    room (subst (λ n. c.args.placed < n) (sym (length-map task.graph.now.atoms.items term_of)) c.requires.few) c.requires.partial c.requires.bonded c.index-bond.ensures (c.from.ensures ∙ c.min.ensures)).1 in
-    let left = left_over term_of task.graph.now.atoms.items c.args.image.now c.args.placed c.requires.room c.requires.few in
-    λ _. none_near parts g m (take c.args.placed c.args.image.now) _ _ _ pairs near c.neighbours-neighbours.ensures.each left (λ k lt. c.loop-atom.invariant.none k (omega (arith, lt)))
+    let room : c.args.placed ≤ length c.args.image.now = let r = c.requires.room in let f = c.requires.few
+    in omega arith in
+    let near = (near_step parts g m task.graph.now.bonds.items task.steps.now c.args.image.now c.args.placed
+    c.from.result c.index-bond.result.now refl c.requires.ready
+    room (subst (λ n. c.args.placed < n) (sym (length-map task.graph.now.atoms.items term_of)) c.requires.few)
+    c.requires.partial c.requires.bonded c.index-bond.ensures (c.from.ensures ∙ c.min.ensures)).1 in
+    let left = left_over term_of task.graph.now.atoms.items c.args.image.now c.args.placed c.requires.room
+    c.requires.few in
+    λ _. none_near parts g m (take c.args.placed c.args.image.now) _ _ _ pairs near c.neighbours-neighbours.ensures.each
+    left (λ k lt. c.loop-atom.invariant.none k (omega (arith, lt)))
 
 pub extend_at-returns-clause-kept : goal.extend_at-returns-clause-kept
-extend_at-returns-clause-kept t c = kept_less c.args.placed c.extend.new.image c.args.image.now c.args.atom c.extend.ensures.kept
+extend_at-returns-clause-kept t c = kept_less c.args.placed c.extend.new.image c.args.image.now c.args.atom
+    c.extend.ensures.kept

@@ -21,12 +21,14 @@ decreases-extend_at l = 3 * (length l.task.now.graph.now.atoms.items - l.placed)
 abbrev pub invariant-extend_anywhere-loop-atom : goal.invariant-extend_anywhere-loop-atom
 invariant-extend_anywhere-loop-atom l = record {
   kept : take l.placed l.image ≡ take l.placed l.initial.image;
-  none : (a : ℕ) → a < l.atom → CanComplete (HoldsIn l.task.table.now) (graph_of l.task.graph.now) l.task.mol.now (take l.placed l.initial.image ++ a ∷ []) → ⊥;
+  none : (a : ℕ) → a < l.atom → CanComplete (HoldsIn l.task.table.now) (graph_of l.task.graph.now) l.task.mol.now
+      (take l.placed l.initial.image ++ a ∷ []) → ⊥;
 }
 
 -- at no neighbour so far can it stand
 abbrev pub invariant-extend_near-loop-atom : goal.invariant-extend_near-loop-atom
 invariant-extend_near-loop-atom l = record {
   kept : take l.placed l.image ≡ take l.placed l.initial.image;
-  none : (k : ℕ) → k < l.atom-index → CanComplete (HoldsIn l.task.table.now) (graph_of l.task.graph.now) l.task.mol.now (take l.placed l.initial.image ++ (get_or l.neighbours k (0, 0)).0 ∷ []) → ⊥;
+  none : (k : ℕ) → k < l.atom-index → CanComplete (HoldsIn l.task.table.now) (graph_of l.task.graph.now) l.task.mol.now
+      (take l.placed l.initial.image ++ (get_or l.neighbours k (0, 0)).0 ∷ []) → ⊥;
 }

@@ -20,7 +20,8 @@ loop-worker-preserved c =
       matched = λ p all.
           let w = c.worker-item.result in
           let its : AreFlags p piece (get_or workers i w).flags =
-          flags-of p size i records rest piece workers w all c.div_ceil-size.ensures c.loop-worker-test.true inv.rest c.cut.ensures.piece in
+          flags-of p size i records rest piece workers w all c.div_ceil-size.ensures c.loop-worker-test.true inv.rest
+          c.cut.ensures.piece in
           let flags : AreFlags p piece c.flags.result.now =
           subst (λ l. AreFlags p piece l)
           (sym (c.flags.ensures ∙ ap (λ (x : WorkerTerm). x.flags) c.worker-item.is)) its in
@@ -39,5 +40,6 @@ loop-worker-preserved c =
 pub returns-clause-matched : goal.returns-clause-matched
 returns-clause-matched c = λ p all.
     let is = all-taken
-    (length c.args.workers.now) c.loop-worker.worker-index c.div_ceil-size.result c.args.records.now c.requires.some c.loop-worker-test.false c.div_ceil-size.ensures in
+    (length c.args.workers.now) c.loop-worker.worker-index c.div_ceil-size.result c.args.records.now c.requires.some
+    c.loop-worker-test.false c.div_ceil-size.ensures in
     subst (λ l. AreMatched p (founds l) c.loop-worker.hits.items) is (c.loop-worker.invariant.matched p all)

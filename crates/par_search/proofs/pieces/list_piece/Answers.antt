@@ -20,7 +20,8 @@ loop-place-preserved c =
           let new = ap (λ v. v.items) w.hits-is ∙ w.push_reserved.ensures.items in
           record {
             matched = λ p before all m.
-                hit one p before piece c.args.flags.now i r c.is_set.result c.id-id.result old c.if-is_set.hits.items c.loop-place-test.true
+                hit one p before piece c.args.flags.now i r c.is_set.result c.id-id.result old c.if-is_set.hits.items
+                c.loop-place-test.true
                 c.index-piece-place.is all c.is_set.ensures w.if-is_set.true sound id new (inv.matched p before all m);
             count = omega (arith, ap (λ l. length l) new, length-append old (c.id-id.result ∷ []), inv.count);
             capacity = ap (λ v. vec_capacity v) w.hits-is ∙ w.push_reserved.ensures.capacity ∙ inv.capacity;

@@ -35,6 +35,7 @@ returns-clause-flags g c =
     let workers = c.loop-number.workers in
     let kept : length workers ≡ length c.args.workers.now = omega (arith, c.loop-number.auto.workers) in
     all-flagged
-    (pattern_of c.args.pattern.now) c.div_ceil-size.result c.args.records.now workers c.loop-number.number c.loop-number.invariant.flags
+    (pattern_of c.args.pattern.now) c.div_ceil-size.result c.args.records.now workers c.loop-number.number
+    c.loop-number.invariant.flags
     (omega (arith, kept, c.loop-number-test.false))
     (c.div_ceil-size.ensures ∙ ap (λ n. div_ceil (length c.args.records.now) n) (sym kept))

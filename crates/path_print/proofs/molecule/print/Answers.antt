@@ -9,11 +9,14 @@ pub loop-place-preserved : goal.loop-place-preserved
 loop-place-preserved c =
     let views = molecule_view c.args.mol.now in
     below_more views c.loop-place.place c.empty-print.result c.loop-place.print c.walk.new.print c.loop-place.invariant
-    (subst (λ xs. SetsBits (IsBitFrom views xs) c.loop-place.print c.walk.new.print) (ap (λ p. p.atoms) c.start.ensures) c.walk.ensures)
+    (subst (λ xs. SetsBits (IsBitFrom views xs) c.loop-place.print c.walk.new.print)
+    (ap (λ p. p.atoms) c.start.ensures) c.walk.ensures)
 
 pub returns : goal.returns
 returns c =
     let views = molecule_view c.args.mol.now in
-    let whole : c.loop-place.place ≡ length c.args.mol.now.atoms = omega (arith, ap length c.atoms-atom-items.ensures.value) in
-    below_all views (length c.args.mol.now.atoms) c.empty-print.result c.loop-place.print (label_within c.args.mol.now) c.empty-print.ensures.length c.empty-print.ensures.none
+    let whole : c.loop-place.place ≡ length c.args.mol.now.atoms = omega
+    (arith, ap length c.atoms-atom-items.ensures.value) in
+    below_all views (length c.args.mol.now.atoms) c.empty-print.result c.loop-place.print
+    (label_within c.args.mol.now) c.empty-print.ensures.length c.empty-print.ensures.none
     (subst (λ n. SetsBits (IsBitBelow views n) c.empty-print.result c.loop-place.print) whole c.loop-place.invariant)

@@ -16,8 +16,12 @@ loop-place-preserved c =
     let lt : c.loop-place.place < length items = rw same at c.loop-place-test.true in
     let size = c.loop-place.invariant.size in
     let within : c.loop-place.place < length c.loop-place.known = omega arith in
-    let here : slice_get items c.loop-place.place ≡ Some expr = rw same at (slice_get_read c.deref-expr-items.result.now (length c.deref-expr-items.result.now) c.loop-place.place expr refl c.loop-place-test.true c.expr-item.is) in
+    let here : slice_get items c.loop-place.place ≡ Some expr = rw same at
+    (slice_get_read c.deref-expr-items.result.now (length c.deref-expr-items.result.now) c.loop-place.place expr
+    refl c.loop-place-test.true c.expr-item.is) in
     record {
       size = length-set c.loop-place.known c.loop-place.place c.implied.result ∙ size;
-      each = known_more g c.loop-place.known c.loop-place.place c.implied.result (term_of expr) within (slice_get-map term_of items c.loop-place.place ∙ ap (option_map term_of) here) c.implied.ensures c.loop-place.invariant.each;
+      each = known_more g c.loop-place.known c.loop-place.place c.implied.result (term_of expr) within
+          (slice_get-map term_of items c.loop-place.place ∙ ap (option_map term_of) here) c.implied.ensures
+          c.loop-place.invariant.each;
     }

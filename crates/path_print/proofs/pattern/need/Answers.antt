@@ -48,18 +48,21 @@ walk-requires-clause-path c =
     } in
     subst (IsOn (graph_view g)) (sym c.start-path.ensures)
     (start_on (graph_view g) c.loop-atom.atom (get_or c.known_atoms-known.result c.loop-atom.atom d)
-    (λ family. label_from_known g c.known_atoms-known.result c.fill.new.square sheet family c.loop-atom.atom c.loop-atom.atom within within d))
+    (λ family. label_from_known g c.known_atoms-known.result c.fill.new.square sheet family c.loop-atom.atom
+    c.loop-atom.atom within within d))
 
 pub loop-atom-preserved : goal.loop-atom-preserved
 loop-atom-preserved c =
     let views = graph_view (graph_of c.args.pattern.now.top) in
     below_more views c.loop-atom.atom c.empty-print.result c.loop-atom.print c.walk.new.print c.loop-atom.invariant
-    (subst (λ xs. SetsBits (IsBitFrom views xs) c.loop-atom.print c.walk.new.print) (ap (λ p. p.atoms) c.start-path.ensures) c.walk.ensures)
+    (subst (λ xs. SetsBits (IsBitFrom views xs) c.loop-atom.print c.walk.new.print)
+    (ap (λ p. p.atoms) c.start-path.ensures) c.walk.ensures)
 
 pub returns : goal.returns
 returns c =
     let g = graph_of c.args.pattern.now.top in
     let views = graph_view g in
     let whole : c.loop-atom.atom ≡ length g.atoms = rw length-map (omega arith) in
-    below_all views (length g.atoms) c.empty-print.result c.loop-atom.print (graph_label_within g) c.empty-print.ensures.length c.empty-print.ensures.none
+    below_all views (length g.atoms) c.empty-print.result c.loop-atom.print
+    (graph_label_within g) c.empty-print.ensures.length c.empty-print.ensures.none
     (subst (λ n. SetsBits (IsBitBelow views n) c.empty-print.result c.loop-atom.print) whole c.loop-atom.invariant)

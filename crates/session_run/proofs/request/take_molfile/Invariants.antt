@@ -7,7 +7,8 @@ use Rattle.session_run.proofs.request.take_molfile.Given as goal
 abbrev pub invariant-loop-taken : goal.invariant-loop-taken
 invariant-loop-taken g l = record {
   taking : IsTaking (g.I.Source.left l.fn.source) (g.I.Source.left l.source) l.fn.lines l.lines l.text.items l.taken;
-  reads : ReadsOn (g.I.Source.left l.fn.source) (g.I.Source.left l.source) (g.I.Source.faults l.fn.source) (g.I.Source.faults l.source) l.fn.lines l.lines;
+  reads : ReadsOn (g.I.Source.left l.fn.source) (g.I.Source.left l.source) (g.I.Source.faults l.fn.source)
+      (g.I.Source.faults l.source) l.fn.lines l.lines;
 }
 
 abbrev pub decreases-loop-taken : goal.decreases-loop-taken

@@ -29,4 +29,9 @@ returns-in_default-2-clause-only c x rest is =
     let k = c.in_ok-read_part-2.ensures.only t.0 (41 ∷ rest) (inl refl) t.1 in
     let l = ap length k in
     let b = ap (λ v. get_or v 0 0) k in
-    elim c.in_default-2.branch [ in_default-2-via-then-branch-lt1 w ↦ absurd (grind (arith, common_steps)) | in_default-2-via-else-branch-lt1+in_default-1 w ↦ absurd (grind (arith, common_steps)) ]
+    elim c.in_default-2.branch [
+      | in_default-2-via-then-branch-lt1 w ↦ absurd
+          (grind (arith, common_steps))
+      | in_default-2-via-else-branch-lt1+in_default-1 w ↦ absurd
+          (grind (arith, common_steps))
+    ]

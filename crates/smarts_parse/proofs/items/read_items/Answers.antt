@@ -10,13 +10,15 @@ use Rattle.smarts_parse.proofs.items.read_items.Goals as goal
 use Rattle.smarts_parse.proofs.items.read_items.Goals.{then-grouped, else-grouped}
 
 pub items-init : goal.items-init
-items-init c = let e = c.no_reader-reader.ensures in so_far_none c.args.text.now c.no_reader-reader.result e.holds e.closed e.depth
+items-init c = let e = c.no_reader-reader.ensures
+    in so_far_none c.args.text.now c.no_reader-reader.result e.holds e.closed e.depth
 
 pub returns-in_err-is_group-clause-only : goal.returns-in_err-is_group-clause-only
 returns-in_err-is_group-clause-only c x xs are spelled =
     let p = err_from_is_err_and c.from_residual.result c.from_residual.ensures.1 in
     let left = c.items.invariant.only (record { first = x; others = xs; are = are; spelled = spelled }) in
-    if_err (λ e. e ≡ NoMemory) c.from_residual.result p.0 p.1 (p.2 ∙ c.in_err-is_group.ensures.only left.first (others_text left.others) (first_item c.items.rest.now left))
+    if_err (λ e. e ≡ NoMemory) c.from_residual.result p.0 p.1 (p.2
+    ∙ c.in_err-is_group.ensures.only left.first (others_text left.others) (first_item c.items.rest.now left))
 
 pub returns-in-empty-clause-found : goal.returns-in-empty-clause-found
 returns-in-empty-clause-found c =
@@ -38,7 +40,8 @@ items-preserved c =
       | else-grouped w ↦ or_other _ _ _ w.if-grouped.false w.grouped-is
     ] in
     let next = take (length c.in_ok-is_group.after.now - 1) (drop 1 c.in_ok-is_group.after.now) in
-    subst (λ v. SoFar c.args.text.now next c.item.new.reader v) (sym e) (so_far_more _ _ _ _ _ _ _ s r _ f c.in_ok-is_group.ensures.closed c.in_ok-is_group.ensures.only)
+    subst (λ v. SoFar c.args.text.now next c.item.new.reader v) (sym e)
+    (so_far_more _ _ _ _ _ _ _ s r _ f c.in_ok-is_group.ensures.closed c.in_ok-is_group.ensures.only)
 
 pub returns-in_default-clause-only : goal.returns-in_default-clause-only
 returns-in_default-clause-only c x xs are spelled =

@@ -26,4 +26,9 @@ returns-clause-found c =
     let none : length c.in_ok-rest.rest.now ≡ 0 = grind (arith, nat_tests) in
     let d = p.depth in
     let e = c.no_reader-reader.ensures.depth in
-    record { tree = p.tree; is = part_whole smarts_words c.args.text.now c.in_ok-rest.rest.now p.tree none p.is; holds = p.holds; depth = omega arith }
+    record {
+      tree = p.tree;
+      is = part_whole smarts_words c.args.text.now c.in_ok-rest.rest.now p.tree none p.is;
+      holds = p.holds;
+      depth = omega arith;
+    }

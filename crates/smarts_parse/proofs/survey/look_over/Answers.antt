@@ -14,8 +14,10 @@ parts-init c =
     let text = c.args.text.now in
     let r = c.in_ok-items.ensures.found in
     let t = c.take.ensures (nodes_from 0 (r.first ∷ r.others)) r.holds in
-    let w = start text r.first r.others r.are r.spelled c.in_ok-items.items.grouped r.grouped c.take.new.self c.in_ok-items.items.reader.depth r.depth t in
-    let e = c.in_ok-put_parts.ensures ∙ ap (λ v. map left_of v ++ at_level 1 (part_texts c.deref.result.now)) c.new-left.ensures.items ∙ ap (λ v. at_level 1 (part_texts v)) (c.deref.ensures.value ∙ r.holds.atoms) in
+    let w = start text r.first r.others r.are r.spelled c.in_ok-items.items.grouped r.grouped c.take.new.self
+    c.in_ok-items.items.reader.depth r.depth t in
+    let e = c.in_ok-put_parts.ensures ∙ ap (λ v. map left_of v ++ at_level 1 (part_texts c.deref.result.now))
+    c.new-left.ensures.items ∙ ap (λ v. at_level 1 (part_texts v)) (c.deref.ensures.value ∙ r.holds.atoms) in
     let P : List Left → Type 0 = λ v. Worklist text c.take.new.self v in
     subst P (sym e) w
 
@@ -72,8 +74,10 @@ parts-preserved c =
     let p = c.in_ok-reader.ensures.found in
     let t = c.take-in-Some.ensures (placed_nodes p.tree) p.holds in
     let Q : List ℕ → Type 0 = λ v. walk.IsTreeOf smarts_words v p.tree in
-    let w = one_more text c.parts.survey c.take-in-Some.new.self init x p.tree c.in_ok-reader.reader.depth (subst Q c.deref-in-Some.ensures.value p.is) p.depth t (subst P e c.parts.invariant) in
-    let f = c.in_ok-put_parts-2.ensures ∙ ap (λ v. map left_of c.pop.new.self.items ++ at_level (c.in-Some.part.level + 1) (part_texts v)) (c.deref-in-Some-2.ensures.value ∙ p.holds.atoms) in
+    let w = one_more text c.parts.survey c.take-in-Some.new.self init x p.tree c.in_ok-reader.reader.depth
+    (subst Q c.deref-in-Some.ensures.value p.is) p.depth t (subst P e c.parts.invariant) in
+    let f = c.in_ok-put_parts-2.ensures ∙ ap (λ v. map left_of c.pop.new.self.items
+    ++ at_level (c.in-Some.part.level + 1) (part_texts v)) (c.deref-in-Some-2.ensures.value ∙ p.holds.atoms) in
     let counted = record c.take-in-Some.new.self { parts = c.take-in-Some.new.self.parts + 1 } in
     let R : List Left → Type 0 = λ v. Worklist text counted v in
     subst R (sym f) w

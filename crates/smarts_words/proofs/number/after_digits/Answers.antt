@@ -8,7 +8,8 @@ pub returns-then-is_empty-clause-only : goal.returns-then-is_empty-clause-only
 returns-then-is_empty-clause-only c digits rest some are follows h =
     let e = c.digits_at.ensures in
     let none : length c.digits_at.result.0.now ≡ 0 = grind (arith, nat_tests) in
-    let same = (same_digits c.digits_at.result.0.now digits c.digits_at.result.1.now rest e.digits are (no_digit c.digits_at.result.1.now e.all) follows
+    let same = (same_digits c.digits_at.result.0.now digits c.digits_at.result.1.now rest e.digits are
+    (no_digit c.digits_at.result.1.now e.all) follows
     (sym e.split ∙ h)).0 in
     let l = subst (λ (v : List ℕ). length v ≡ 0) same none in
     absurd (omega arith)
@@ -22,5 +23,6 @@ returns-clause-found c =
 pub returns-clause-only : goal.returns-clause-only
 returns-clause-only c digits rest some are follows h =
     let e = c.digits_at.ensures in
-    (same_digits c.digits_at.result.0.now digits c.digits_at.result.1.now rest e.digits are (no_digit c.digits_at.result.1.now e.all) follows (sym e.split
+    (same_digits c.digits_at.result.0.now digits c.digits_at.result.1.now rest e.digits are
+    (no_digit c.digits_at.result.1.now e.all) follows (sym e.split
     ∙ h)).1

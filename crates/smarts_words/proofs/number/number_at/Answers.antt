@@ -23,5 +23,6 @@ returns-clause-reads c =
     let e = c.digits_at.ensures in
     let some : 1 ≤ length c.digits_at.result.0.now = grind (arith, nat_tests) in
     digits_taken (λ digits. length digits ≤ 3) number_of c.args.bytes.now c.digits_at.result.0.now
-    c.digits_at.result.1.now _ e.split e.digits (no_digit c.digits_at.result.1.now e.all) (omega arith) (ap (λ n. Some n) c.digits_value.ensures.value
+    c.digits_at.result.1.now _ e.split e.digits (no_digit c.digits_at.result.1.now e.all) (omega arith)
+    (ap (λ n. Some n) c.digits_value.ensures.value
     ∙ sym (some_number c.digits_at.result.0.now some))

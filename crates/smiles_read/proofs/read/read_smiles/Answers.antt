@@ -25,7 +25,8 @@ are_few_neighbours-requires c =
     let graph = c.in_ok-graph.graph in
     let is = c.sketch-2.view_is ∙ c.in_ok-sketch.ensures in
     let same = c.deref.ensures.value ∙ ap (λ (s : SketchTerm). s.bonds) is in
-    let P : List SketchBond → Type 0 = AllByRecursion (λ b. (b.a < c.len.result) × (b.b < c.len.result) × (b.a ≢ b.b)) in
+    let P : List SketchBond → Type 0 = AllByRecursion (λ b. (b.a < c.len.result) × (b.b < c.len.result) × (b.a ≢ b.b))
+    in
     let count = c.len.ensures ∙ c.sketch-2.inside.atoms.ok.0 ∙ ap (λ (s : SketchTerm). length s.atoms) is in
     subst P (sym same) (sketch_ends_apart graph c.len.result count c.in_ok-graph.ensures.ends)
 

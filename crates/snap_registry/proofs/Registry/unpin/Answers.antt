@@ -12,9 +12,11 @@ use Rattle.snap_registry.proofs.Registry.unpin.Goals as goal
 pub place_of-place-requires : goal.place_of-place-requires
 place_of-place-requires c =
     let n = slots-length c.self.inside.slots c.self.invariant.1 in
-    let held : Contains (pins_of (take c.self.inside.held c.self.inside.slots) (take c.self.inside.held c.self.inside.versions)) c.args.pin =
+    let held : Contains (pins_of (take c.self.inside.held c.self.inside.slots)
+    (take c.self.inside.held c.self.inside.versions)) c.args.pin =
     subst (λ l. Contains l c.args.pin) (sym c.self.view_is) c.requires.held in
-    slot-held c.args.pin (take c.self.inside.held c.self.inside.slots) (take c.self.inside.held c.self.inside.versions) held
+    slot-held c.args.pin (take c.self.inside.held c.self.inside.slots)
+    (take c.self.inside.held c.self.inside.versions) held
 
 pub invariant_of-self : goal.invariant_of-self
 invariant_of-self c =
@@ -22,10 +24,12 @@ invariant_of-self c =
     let place = c.place_of-place.result in
     let slots = c.self.inside.slots in
     let versions = c.self.inside.versions in
-    let moved : IsPermutation slots (put_mid place (held - place) slots c.rotate_left.new.self) = IsPermutation-put_mid place (held - place) slots c.rotate_left.new.self c.rotate_left.ensures.permutation in (
+    let moved : IsPermutation slots (put_mid place (held - place) slots c.rotate_left.new.self) = IsPermutation-put_mid
+    place (held - place) slots c.rotate_left.new.self c.rotate_left.ensures.permutation in (
       omega (arith, c.self.invariant.0),
       IsPermutation-trans (range_with_len 0 64) slots _ c.self.invariant.1 moved,
-      length_permutation versions _ (IsPermutation-put_mid place (held - place) versions c.rotate_left-2.new.self c.rotate_left-2.ensures.permutation) ∙ c.self.invariant.2,
+      length_permutation versions _ (IsPermutation-put_mid place
+          (held - place) versions c.rotate_left-2.new.self c.rotate_left-2.ensures.permutation) ∙ c.self.invariant.2,
     )
 
 pub returns : goal.returns
@@ -38,9 +42,14 @@ returns c =
     let n = slots-length slots c.self.invariant.1 in
     let few : length (take held slots) ≡ held = length-take-le held slots (omega (arith, n, c.self.invariant.0)) in
     let within : place < held = omega (arith, few, c.place_of-place.ensures.within) in
-    let at : slice_index slots place ≡ slot = sym (get_or-take held slots place 0 within) ∙ c.place_of-place.ensures.place in
+    let at : slice_index slots place ≡ slot = sym (get_or-take held slots place 0 within)
+    ∙ c.place_of-place.ensures.place in
     let left : Leaves place (held - place) (held - 1) held slot slots versions =
-    held-turned place (held - place - 1) (held - 1) (held - place) (held - 1) held slot slots versions (slots-apart slots c.self.invariant.1)
-    (omega (arith, n, c.self.invariant.2)) (omega (arith, within)) (omega (arith, within, n, c.self.invariant.0)) at (omega (arith, within)) refl (omega (arith, within)) in
-    ap₂ (λ ys zs. pins_of (take (held - 1) (put_mid place (held - place) slots ys)) (take (held - 1) (put_mid place (held - place) versions zs))) c.rotate_left.ensures.after c.rotate_left-2.ensures.after
+    held-turned place (held - place - 1) (held - 1) (held - place) (held - 1) held slot slots versions
+    (slots-apart slots c.self.invariant.1)
+    (omega (arith, n, c.self.invariant.2)) (omega (arith, within)) (omega (arith, within, n, c.self.invariant.0)) at
+    (omega (arith, within)) refl (omega (arith, within)) in
+    ap₂ (λ ys zs. pins_of (take (held - 1) (put_mid place (held - place) slots ys))
+    (take (held - 1) (put_mid place (held - place) versions zs))) c.rotate_left.ensures.after
+    c.rotate_left-2.ensures.after
     ∙ (left ∙ ap (λ l. filter (is_other slot) l) c.self.view_is)

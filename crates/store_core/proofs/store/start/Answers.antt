@@ -4,4 +4,5 @@ use Rattle.store_core.proofs.store.start.Goals as goal
 
 pub returns-in-Ok-clause-one_more : goal.returns-in-Ok-clause-one_more
 returns-in-Ok-clause-one_more c =
-    ap total c.in-Ok.ensures.entries ∙ first-more c.args.id c.args.chains.now.entries c.in_ok-chain.chain c.args.state c.requires.ordered c.requires.absent c.in_ok-chain.ensures
+    ap total c.in-Ok.ensures.entries ∙ first-more c.args.id c.args.chains.now.entries c.in_ok-chain.chain c.args.state
+    c.requires.ordered c.requires.absent c.in_ok-chain.ensures

@@ -16,9 +16,11 @@ loop-bond-preserved c =
       long = rw (length-set, length-set) long;
       each =
           rw (c.from-a.ensures, c.from-b.ensures)
-          (leads-more c.args.atoms.now c.loop-bond.leads c.args.bonds.now c.loop-bond.bond-index c.is_single_to_heavy.result
+          (leads-more c.args.atoms.now c.loop-bond.leads c.args.bonds.now c.loop-bond.bond-index
+          c.is_single_to_heavy.result
           c.is_single_to_heavy-in-loop-bond.result _ _ within (rw long (omega (arith, range.0)))
           (rw long (omega (arith, range.1))) range.0 range.1 (c.requires.distinct _ _ within)
-          (rw c.from-b.ensures at c.is_single_to_heavy.ensures) (rw c.from-a.ensures at c.is_single_to_heavy-in-loop-bond.ensures)
+          (rw c.from-b.ensures at c.is_single_to_heavy.ensures)
+          (rw c.from-a.ensures at c.is_single_to_heavy-in-loop-bond.ensures)
           c.loop-bond.invariant.each);
     }

@@ -14,7 +14,9 @@ pub step-requires-clause-joined : goal.step-requires-clause-joined
 step-requires-clause-joined g c =
     let pairs = c.neighbours-to-items.result.now in
     let pair : ℕ × ℕ = get_or pairs c.loop-to.to-index (0, 0) in
-    let joined : JoinsAt (ends_of c.args.mol.now) pair.1 c.last.result pair.0 = c.neighbours-to-items.ensures.each.joined pair.0 pair.1 (Contains-get_or pairs c.loop-to.to-index (0, 0) c.loop-to-test.true) in
+    let joined : JoinsAt (ends_of c.args.mol.now) pair.1 c.last.result
+    pair.0 = c.neighbours-to-items.ensures.each.joined pair.0 pair.1
+    (Contains-get_or pairs c.loop-to.to-index (0, 0) c.loop-to-test.true) in
     subst (λ x. JoinsAt (ends_of c.args.mol.now) pair.1 x pair.0) c.last.ensures joined
 
 pub loop-to-preserved : goal.loop-to-preserved
@@ -22,34 +24,50 @@ loop-to-preserved g c =
     let views = molecule_view c.args.mol.now in
     let atoms = c.args.path.now.atoms in
     let pairs = c.neighbours-to-items.result.now in
-    sets_more (IsBitHere c.args.path.now) (λ k bit. IsBitFrom views (atoms ++ (get_or pairs k (0, 0)).0 ∷ []) bit) c.loop-to.to-index c.args.print.now c.loop-to.print c.match-step.print c.loop-to.invariant
+    sets_more (IsBitHere c.args.path.now) (λ k bit. IsBitFrom views (atoms ++ (get_or pairs k (0, 0)).0 ∷ []) bit)
+    c.loop-to.to-index c.args.print.now c.loop-to.print c.match-step.print c.loop-to.invariant
     (elim c.match-step.branch [
       | in-Some w ↦
           let longer = w.in-Some.ensures.some in
-          subst (λ print. SetsBits (IsBitFrom views (atoms ++ (get_or pairs c.loop-to.to-index (0, 0)).0 ∷ [])) c.loop-to.print print) (sym w.print-is)
+          subst (λ print. SetsBits (IsBitFrom views (atoms ++ (get_or pairs c.loop-to.to-index (0, 0)).0 ∷ []))
+          c.loop-to.print print) (sym w.print-is)
           (subst (λ xs. SetsBits (IsBitFrom views xs) c.loop-to.print w.walk.new.print) longer.atoms w.walk.ensures)
       | in_default w ↦
-          subst (λ print. SetsBits (IsBitFrom views (atoms ++ (get_or pairs c.loop-to.to-index (0, 0)).0 ∷ [])) c.loop-to.print print) (sym w.print-is)
-          (sets_none (IsBitFrom views (atoms ++ (get_or pairs c.loop-to.to-index (0, 0)).0 ∷ [])) c.loop-to.print w.in_default.ensures.none)
+          subst (λ print. SetsBits (IsBitFrom views (atoms ++ (get_or pairs c.loop-to.to-index (0, 0)).0 ∷ []))
+          c.loop-to.print print) (sym w.print-is)
+          (sets_none (IsBitFrom views (atoms ++ (get_or pairs c.loop-to.to-index (0, 0)).0 ∷ [])) c.loop-to.print
+          w.in_default.ensures.none)
     ])
 
 pub returns : goal.returns
 returns g c =
     let views = molecule_view c.args.mol.now in
     let pairs = c.neighbours-to-items.result.now in
-    let each : AreNeighbours (ends_of c.args.mol.now) (last_of c.args.path.now.atoms) pairs = subst (λ x. AreNeighbours (ends_of c.args.mol.now) x pairs) c.last.ensures c.neighbours-to-items.ensures.each in
+    let each : AreNeighbours (ends_of c.args.mol.now) (last_of c.args.path.now.atoms) pairs = subst
+    (λ x. AreNeighbours (ends_of c.args.mol.now) x pairs) c.last.ensures c.neighbours-to-items.ensures.each in
     let whole : c.loop-to.to-index ≡ length pairs = omega arith in
     sets_from views c.args.path.now c.requires.path (λ k. (get_or pairs k (0, 0)).0) (length pairs)
     (λ family y b h. byte_neighbour c.args.mol.now family (last_of c.args.path.now.atoms) y b pairs each h)
     c.args.print.now c.loop-to.print
-    (subst (λ n. SetsBits (λ bit. IsBitHere c.args.path.now bit ⊎ IsBitVia views c.args.path.now.atoms (λ k. (get_or pairs k (0, 0)).0) n bit) c.args.print.now c.loop-to.print) whole c.loop-to.invariant)
+    (subst (λ n. SetsBits (λ bit. IsBitHere c.args.path.now bit
+    ⊎ IsBitVia views c.args.path.now.atoms (λ k. (get_or pairs k (0, 0)).0) n bit) c.args.print.now c.loop-to.print)
+    whole c.loop-to.invariant)
 
 pub walk-requires : goal.walk-requires
 walk-requires g c =
     let longer = c.in-Some.ensures.some in
-    let one : length c.in-Some.longer.atoms ≡ length c.args.path.now.atoms + 1 = ap length longer.atoms ∙ length-append c.args.path.now.atoms _ in
+    let one : length c.in-Some.longer.atoms ≡ length c.args.path.now.atoms + 1 = ap length longer.atoms
+    ∙ length-append c.args.path.now.atoms _ in
     let pairs = c.neighbours-to-items.result.now in
     let pair : ℕ × ℕ = get_or pairs c.loop-to.to-index (0, 0) in
-    let joined : JoinsAt (ends_of c.args.mol.now) pair.1 c.last.result pair.0 = c.neighbours-to-items.ensures.each.joined pair.0 pair.1 (Contains-get_or pairs c.loop-to.to-index (0, 0) c.loop-to-test.true) in
-    let within : pair.0 < length c.args.mol.now.atoms = (ends_within c.args.mol.now pair.1 c.last.result pair.0 c.neighbours-to-items.ensures.valid joined).2 in
-    record { path = longer.on; atom = subst (λ x. x < length c.args.mol.now.atoms) (sym longer.last) within; left = omega (arith, one, c.requires.left) }
+    let joined : JoinsAt (ends_of c.args.mol.now) pair.1 c.last.result
+    pair.0 = c.neighbours-to-items.ensures.each.joined pair.0 pair.1
+    (Contains-get_or pairs c.loop-to.to-index (0, 0) c.loop-to-test.true) in
+    let within : pair.0 < length c.args.mol.now.atoms = (ends_within c.args.mol.now pair.1 c.last.result pair.0
+    c.neighbours-to-items.ensures.valid joined).2 in
+    record {
+      path = longer.on;
+      atom = subst (λ x. x < length c.args.mol.now.atoms)
+          (sym longer.last) within;
+      left = omega (arith, one, c.requires.left);
+    }

@@ -6,4 +6,5 @@ use Rattle.path_print.proofs.pattern.FullWalk.walk.Goals as goal
 
 pub returns : goal.returns
 returns c =
-    sets_full (graph_view (graph_of c.args._graph.now)) c.args.path.now c.requires.path (omega (arith, c.requires.left)) c.args.print.now c.mark.new.print c.mark.ensures.bits
+    sets_full (graph_view (graph_of c.args._graph.now)) c.args.path.now c.requires.path
+    (omega (arith, c.requires.left)) c.args.print.now c.mark.new.print c.mark.ensures.bits

@@ -12,14 +12,17 @@ pub loop-atom-preserved : goal.loop-atom-preserved
 loop-atom-preserved g c =
     let views = graph_view (graph_of c.args.graph.now) in
     let atoms = c.args.path.now.atoms in
-    sets_more (IsBitHere c.args.path.now) (λ k bit. IsBitFrom views (atoms ++ k ∷ []) bit) c.loop-atom.atom c.args.print.now c.loop-atom.print c.match-step.print c.loop-atom.invariant
+    sets_more (IsBitHere c.args.path.now) (λ k bit. IsBitFrom views (atoms ++ k ∷ []) bit) c.loop-atom.atom
+    c.args.print.now c.loop-atom.print c.match-step.print c.loop-atom.invariant
     (elim c.match-step.branch [
       | in-Some w ↦
           let longer = w.in-Some.ensures.some in
-          subst (λ print. SetsBits (IsBitFrom views (atoms ++ c.loop-atom.atom ∷ [])) c.loop-atom.print print) (sym w.print-is)
+          subst (λ print. SetsBits (IsBitFrom views (atoms ++ c.loop-atom.atom ∷ [])) c.loop-atom.print print)
+          (sym w.print-is)
           (subst (λ xs. SetsBits (IsBitFrom views xs) c.loop-atom.print w.walk.new.print) longer.atoms w.walk.ensures)
       | in_default w ↦
-          subst (λ print. SetsBits (IsBitFrom views (atoms ++ c.loop-atom.atom ∷ [])) c.loop-atom.print print) (sym w.print-is)
+          subst (λ print. SetsBits (IsBitFrom views (atoms ++ c.loop-atom.atom ∷ [])) c.loop-atom.print print)
+          (sym w.print-is)
           (sets_none (IsBitFrom views (atoms ++ c.loop-atom.atom ∷ [])) c.loop-atom.print w.in_default.ensures.none)
     ])
 
@@ -31,4 +34,5 @@ returns g c =
     sets_from views c.args.path.now c.requires.path (λ k. k) (length g.atoms)
     (λ family y b h. (y, byte_within g c.requires.sheet.ends family (last_of c.args.path.now.atoms) y b h, refl))
     c.args.print.now c.loop-atom.print
-    (subst (λ n. SetsBits (λ bit. IsBitHere c.args.path.now bit ⊎ IsBitVia views c.args.path.now.atoms (λ k. k) n bit) c.args.print.now c.loop-atom.print) whole c.loop-atom.invariant)
+    (subst (λ n. SetsBits (λ bit. IsBitHere c.args.path.now bit ⊎ IsBitVia views c.args.path.now.atoms (λ k. k) n bit)
+    c.args.print.now c.loop-atom.print) whole c.loop-atom.invariant)

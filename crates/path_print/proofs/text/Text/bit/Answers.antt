@@ -11,4 +11,5 @@ pub returns-else-self-clause-value : goal.returns-else-self-clause-value
 returns-else-self-clause-value c =
     let i = c.self.inside in
     let inside = c.self.invariant in
-    rw (← c.self.view_is) (own_bit-yes i.length i.there i.back i.hash inside.there_fits inside.back_fits inside.hashes c.if-self.false)
+    rw (← c.self.view_is) (own_bit-yes i.length i.there i.back i.hash inside.there_fits inside.back_fits inside.hashes
+    c.if-self.false)

@@ -62,7 +62,8 @@ returns-clause-call g c =
     c.add.new.self.list.items c.add.result c.in-Ok-room_for.ensures.name c.room_for.ensures.items c.add.ensures.adds in
     let begun = c.begin-begun.ensures in
     added (Makes g.S.Service.at g.S.Service.owns g.S.Service.stretch c.args.service.now c.begin-begun.new.service)
-    c.in-Ok.pattern c.args.settings.now.page name c.args.text.now items c.add.new.self.list.items c.in-Ok.ensures.pattern
+    c.in-Ok.pattern c.args.settings.now.page name c.args.text.now items c.add.new.self.list.items
+    c.in-Ok.ensures.pattern
     (free c.find.result _ (sym c.is_some.ensures ∙ c.if-is_some.false) c.find.ensures.none)
     c.begin-begun.result c.add.result begun.call begun.begun begun.tried begun.hits adds
 

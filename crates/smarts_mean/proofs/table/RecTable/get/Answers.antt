@@ -7,4 +7,5 @@ returns c =
     let words = c.self.inside.words.items in
     let size : length words ≡ 1024 = c.self.invariant in
     let within : 16 * c.args.part + c.args.atom / 64 < length words = omega arith in
-    rw (← c.self.view_is) (entry_read words c.args.part c.args.atom c.index-word.result.now within (rw (c.from.ensures, c.from-2.ensures) at c.index-word.ensures))
+    rw (← c.self.view_is) (entry_read words c.args.part c.args.atom c.index-word.result.now within
+    (rw (c.from.ensures, c.from-2.ensures) at c.index-word.ensures))

@@ -13,6 +13,7 @@ pub loop-end-preserved : goal.loop-end-preserved
 loop-end-preserved c =
     let k = c.index-state.result.now in record {
       within = omega (arith, c.loop-end.invariant.within);
-      same = c.loop-end.invariant.same ∙ latest-before c.args.version c.loop-end.end c.args.self.now k c.loop-end-test.true c.loop-end.invariant.within
+      same = c.loop-end.invariant.same ∙ latest-before c.args.version c.loop-end.end c.args.self.now k
+          c.loop-end-test.true c.loop-end.invariant.within
           (c.index-state.ensures ∙ ap (λ l. get_or l (c.loop-end.end - 1) k) c.self.view_is) c.if-state-version.false;
     }

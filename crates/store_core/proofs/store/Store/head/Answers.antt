@@ -8,4 +8,5 @@ returns-in-Some-clause-entry c =
     let id = c.args.id in
     let ks = c.in-Some.chain.now in
     let is : ks ≡ chain_of c.self.inside.chains.entries id = ap states_in c.in-Some.ensures.value in
-    head-entry id c.self.inside.version ks c.latest.result c.latest.ensures (λ k d. (c.self.invariant.1.chains id).records k (subst (λ l. Contains l k) is d))
+    head-entry id c.self.inside.version ks c.latest.result c.latest.ensures
+    (λ k d. (c.self.invariant.1.chains id).records k (subst (λ l. Contains l k) is d))

@@ -13,7 +13,9 @@ returns-clause-call g c =
     let pin = c.args.pin.now in
     let held = subst (λ (a : StoreTerm). HoldsPin a pin.slot pin.version) (sym c.self.view_is) c.requires.held in
     elim c.match-fill.branch [
-      | in-Ok w ↦ fetch-page law.read law.states c.one_structure.ensures _ s h pin held c.args.want.now c.args.from c.args.limit c.match-fill.page.records c.fill.new.page.records c.match-fill.result w.in-Ok.last
+      | in-Ok w ↦ fetch-page law.read law.states c.one_structure.ensures _ s h pin held c.args.want.now c.args.from
+          c.args.limit c.match-fill.page.records c.fill.new.page.records c.match-fill.result w.in-Ok.last
           (ap (λ (p : PageTerm). p.records) w.page-is) w.result-is w.in-Ok.ensures.page
-      | in-Err w ↦ fetch-none law.read law.states c.one_structure.ensures _ s h pin held c.args.want.now c.args.from c.args.limit c.match-fill.page.records c.match-fill.result w.result-is
+      | in-Err w ↦ fetch-none law.read law.states c.one_structure.ensures _ s h pin held c.args.want.now c.args.from
+          c.args.limit c.match-fill.page.records c.match-fill.result w.result-is
     ])

@@ -7,12 +7,14 @@ use Rattle.store_core.proofs.store.StoreService.pin.Goals as goal
 
 pub invariant_of-self : goal.invariant_of-self
 invariant_of-self c =
-    let o = pin-outcome c.laws.ensures.sound _ c.self.invariant.0 c.pin.result c.pin.new.self c.self.invariant.1 c.pin.ensures.pinned c.pin.ensures.none c.pin.ensures.free in
+    let o = pin-outcome c.laws.ensures.sound _ c.self.invariant.0 c.pin.result c.pin.new.self c.self.invariant.1
+    c.pin.ensures.pinned c.pin.ensures.none c.pin.ensures.free in
     (o.after, o.stands)
 
 pub returns-clause-call : goal.returns-clause-call
 returns-clause-call c =
     rw (sym c.self.view_is)
     (λ s h.
-    let o = pin-outcome c.laws.ensures.sound _ s c.pin.result c.pin.new.self h c.pin.ensures.pinned c.pin.ensures.none c.pin.ensures.free in
+    let o = pin-outcome c.laws.ensures.sound _ s c.pin.result c.pin.new.self h c.pin.ensures.pinned c.pin.ensures.none
+    c.pin.ensures.free in
     one-call _ _ s o.after 0 Pin (pin_reply c.pin.result) refl h o.gives o.stands)

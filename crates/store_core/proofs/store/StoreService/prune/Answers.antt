@@ -10,7 +10,8 @@ pub count-kept-requires : goal.count-kept-requires
 count-kept-requires c =
     let live = c.live-live.result.now in
     let es = c.self.inside.chains.entries in
-    let left : c.retain.new.self.entries ≡ pruned live es = map_same_pairs _ (needed live) _ (λ k v b w f' t. search rules) es c.retain.new.self.entries c.retain.ensures.filtered in
+    let left : c.retain.new.self.entries ≡ pruned live es = map_same_pairs _ (needed live) _
+    (λ k v b w f' t. search rules) es c.retain.new.self.entries c.retain.ensures.filtered in
     let h = c.self.invariant.1 in
     omega (arith, ap total left, total-fewer live es, h.sum, h.few, h.within)
 
@@ -18,17 +19,22 @@ pub overflow_sub-dropped : goal.overflow_sub-dropped
 overflow_sub-dropped c =
     let live = c.live-live.result.now in
     let es = c.self.inside.chains.entries in
-    let left : c.retain.new.self.entries ≡ pruned live es = map_same_pairs _ (needed live) _ (λ k v b w f' t. search rules) es c.retain.new.self.entries c.retain.ensures.filtered in
+    let left : c.retain.new.self.entries ≡ pruned live es = map_same_pairs _ (needed live) _
+    (λ k v b w f' t. search rules) es c.retain.new.self.entries c.retain.ensures.filtered in
     omega (arith, c.count-kept.ensures, ap total left, total-fewer live es, c.self.invariant.1.sum)
 
 pub invariant_of-self : goal.invariant_of-self
 invariant_of-self c =
     let live = c.live-live.result.now in
     let es = c.self.inside.chains.entries in
-    let left : c.retain.new.self.entries ≡ pruned live es = map_same_pairs _ (needed live) _ (λ k v b w f' t. search rules) es c.retain.new.self.entries c.retain.ensures.filtered in
+    let left : c.retain.new.self.entries ≡ pruned live es = map_same_pairs _ (needed live) _
+    (λ k v b w f' t. search rules) es c.retain.new.self.entries c.retain.ensures.filtered in
     let law = c.laws.ensures in
-    let h = c.self.invariant.1 in
-    (_, store-left law.read law.states law.sound _ c.self.invariant.0 h live c.live-live.ensures.versions c.retain.new.self.entries c.count-kept.result left c.count-kept.ensures)
+    let h = c.self.invariant.1 in (
+      _,
+      store-left law.read law.states law.sound _ c.self.invariant.0 h live c.live-live.ensures.versions
+          c.retain.new.self.entries c.count-kept.result left c.count-kept.ensures,
+    )
 
 pub returns-clause-call : goal.returns-clause-call
 returns-clause-call c =
@@ -36,6 +42,8 @@ returns-clause-call c =
     (λ s h.
     let live = c.live-live.result.now in
     let es = c.self.inside.chains.entries in
-    let left : c.retain.new.self.entries ≡ pruned live es = map_same_pairs _ (needed live) _ (λ k v b w f' t. search rules) es c.retain.new.self.entries c.retain.ensures.filtered in
+    let left : c.retain.new.self.entries ≡ pruned live es = map_same_pairs _ (needed live) _
+    (λ k v b w f' t. search rules) es c.retain.new.self.entries c.retain.ensures.filtered in
     let law = c.laws.ensures in
-    prune-call law.read law.states law.sound _ s h live c.live-live.ensures.versions c.retain.new.self.entries c.count-kept.result left c.count-kept.ensures)
+    prune-call law.read law.states law.sound _ s h live c.live-live.ensures.versions c.retain.new.self.entries
+    c.count-kept.result left c.count-kept.ensures)

@@ -12,7 +12,8 @@ held c = subst (λ (x : StoreTerm). Contains x.pins c.args.pin) (sym c.self.view
 pub invariant_of-self : goal.invariant_of-self
 unfolding held
 invariant_of-self c =
-    let g = unpin-given c.laws.ensures.sound _ c.self.invariant.0 c.args.pin c.unpin.new.self c.self.invariant.1 (held c) c.unpin.ensures in
+    let g = unpin-given c.laws.ensures.sound _ c.self.invariant.0 c.args.pin c.unpin.new.self c.self.invariant.1
+    (held c) c.unpin.ensures in
     (g.after, g.stands)
 
 pub returns-clause-call : goal.returns-clause-call
@@ -23,4 +24,5 @@ returns-clause-call c =
     one-call _ _ s g.after g.owner (Unpin c.args.pin.slot) Unpinned refl h g.gives g.stands)
 
 pub returns-clause-held : goal.returns-clause-held
-returns-clause-held c = rw (sym c.self.view_is) (rw c.unpin.ensures (λ slot version. others-held c.args.pin slot version c.self.inside.registry))
+returns-clause-held c = rw (sym c.self.view_is)
+    (rw c.unpin.ensures (λ slot version. others-held c.args.pin slot version c.self.inside.registry))
