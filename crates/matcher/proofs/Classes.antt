@@ -1,8 +1,9 @@
 -- An expression is true only at atoms of its classes.
-use Rattle.std.proofs.Common.{◌≡◌, ◌⊎◌, ℕ, ◌<◌, ◌++◌, ◌∷◌, [], Bool, true, false, bit_and, bit_or, List, length, get_or, slice_index, All, pos, Some, slice_get, sym, ap, ◌∙◌, subst, arith, inl, inr, refl}
+use Rattle.std.proofs.Common.{◌≡◌, ◌⊎◌, ℕ, ◌<◌, take, ◌++◌, ◌∷◌, [], Bool, true, false, bit_and, bit_or, List, length, get_or, slice_index, All, pos, Some, slice_get, sym, ap, ◌∙◌, subst, arith, inl, inr, refl}
 use Rattle.std.specs.Int.{bit_at}
 use Rattle.std.proofs.lemmas.Nat.Bits.{bit_at_and, bit_at_or, bit_at_ones, bit_at-lt, bit_at-zero}
-use Rattle.std.proofs.lemmas.Option.{same_Some, slice_get-get_or, slice_get_within}
+use Rattle.std.proofs.lemmas.List.{get_or-take, length-take-le}
+use Rattle.std.proofs.lemmas.Option.{same_Some, slice_get-get_or}
 use Rattle.chem_core.specs.declared.mol.Atom.{Atom}
 use Rattle.chem_core.specs.Molecule.{Molecule}
 use Rattle.smarts_parse.specs.declared.pattern.AtomPrim.{AtomPrim}
@@ -65,19 +66,6 @@ stands_in parts m a classes e covers within h =
     covers (class_of x) (class_below x.number x.aromatic)
     (may_be_true parts e m a x (slice_get-get_or m.atoms a no_element within) h)
 
--- no embedding, where none of the molecule's atoms is of a class of the expression
-pub no_atom : (parts : Parts) (g : GraphTerm) (m : Molecule) (k : ℕ) (e : Term AtomPrim) (classes present : ℕ)
-    → slice_get g.atoms k ≡ Some e → Covers classes e → All (λ x. bit_at present (class_of x) ≡ 1) m.atoms
-    → bit_and classes present ≡ 0 → (image : List ℕ) → IsEmbedding parts g m image → ⊥
-no_atom parts g m k e classes present get covers all none image h =
-    let place = slice_get_within g.atoms k e get in
-    let within : slice_index image k < length m.atoms = h.in_range k 0 (omega (arith, h.one_each)) in
-    let c : ℕ = class_of (get_or m.atoms (slice_index image k) no_element) in
-    let both = and_both classes present c (stands_in parts m (slice_index image k) classes e covers within
-    (h.atoms k e get)) (all (slice_index image k) no_element within) in
-    let zero : bit_at (bit_and classes present) c ≡ 0 = ap (λ n. bit_at n c) none ∙ bit_at-zero c in
-    omega arith
-
 -- and one that stands at the next place of a graph is of the classes of its step
 pub stands_next : (parts : Parts) (g : GraphTerm) (m : Molecule) (steps : List Step) (front : List ℕ) (atom : ℕ)
     → IsReady g steps → length front < length g.atoms → atom < length m.atoms
@@ -101,3 +89,21 @@ stands_at parts g m steps image place atom ready few h is =
     (stands_in parts m (slice_index image place) (step_at steps place).classes e
     (ready.covered place few (Prim atoms.Any)) within
     (h.atoms place e (slice_get-get_or g.atoms place (Prim atoms.Any) few)))
+
+-- no embedding, where none of the molecule's atoms is of a class of some step
+pub no_atom : (parts : Parts) (g : GraphTerm) (m : Molecule) (steps : List Step) (n k present : ℕ) → IsReady g steps
+    → n ≡ length g.atoms → k < length (take n steps) → All (λ x. bit_at present (class_of x) ≡ 1) m.atoms
+    → bit_and (step_at (take n steps) k).classes present ≡ 0 → (image : List ℕ) → IsEmbedding parts g m image → ⊥
+no_atom parts g m steps n k present ready all short here none image h =
+    let room = ready.planned.room in
+    let few : k < n = omega (arith, length-take-le n steps (omega arith)) in
+    let read : step_at (take n steps) k ≡ step_at steps k = get_or-take n steps k
+    (record { from = 0; to = 0; classes = 0 }) few in
+    let within : slice_index image k < length m.atoms = h.in_range k 0 (omega (arith, h.one_each)) in
+    let c : ℕ = class_of (get_or m.atoms (slice_index image k) no_element) in
+    let both = and_both (step_at steps k).classes present c
+    (stands_at parts g m steps image k (slice_index image k) ready (omega arith) h refl)
+    (here (slice_index image k) no_element within) in
+    let zero : bit_at (bit_and (step_at steps k).classes present) c ≡ 0 =
+    ap (λ (s : Step). bit_at (bit_and s.classes present) c) (sym read) ∙ ap (λ n. bit_at n c) none ∙ bit_at-zero c in
+    omega arith

@@ -2,6 +2,7 @@ pub mod Joins
 pub mod Partials
 pub mod Leasts
 pub mod Plans
+pub mod Layouts
 pub mod Places
 pub mod Near
 pub mod PartsHeld

@@ -4,5 +4,6 @@ pub mod Least
 pub mod Partial
 pub mod Plan
 pub mod Parts
+pub mod Prepared
 pub mod Ring
 pub mod Task

@@ -1,5 +1,5 @@
 -- For private clauses alone: where each atom's bonds to earlier atoms stand among the bonds of a graph.
-use Rattle.std.specs.Prelude.{◌≡◌, ◌⊎◌, ℕ, ◌<◌, ◌≤◌, List, length, max, slice_index_or}
+use Rattle.std.specs.Prelude.{◌≡◌, ◌⊎◌, ℕ, ◌+◌, ◌<◌, ◌≤◌, List, drop, length, max, slice_get, slice_index, slice_index_or, take, Some}
 use Rattle.smarts_parse.specs.declared.pattern.AtomPrim.{AtomPrim}
 use Rattle.smarts_parse.specs.Pattern.{BondTerm, GraphTerm, Term}
 use Rattle.matcher.specs.Class.{Covers}
@@ -31,3 +31,13 @@ pub record IsReady (g : GraphTerm) (steps : List Step) : Type 0 where
   pub searchable : IsSearchable g
   pub planned : ArePlanned g.bonds (length g.bonds) (length g.atoms) steps
   pub covered : AreCovered g.atoms (length g.atoms) steps
+
+-- the steps of a graph stand among others, from a place on
+pub record StandsAt (g : GraphTerm) (steps : List Step) (begin : ℕ) : Type 0 where
+  pub fits : begin + length g.atoms ≤ length steps
+  pub ready : IsReady g (take (length g.atoms) (drop begin steps))
+
+-- and those of each of the first n recursive parts, where it begins
+abbrev pub ArePartsPlanned : List GraphTerm → ℕ → List Step → List ℕ → Type 0
+ArePartsPlanned recs n steps begins = (k : ℕ) (g : GraphTerm) → k < n → slice_get recs k ≡ Some g
+    → StandsAt g steps (slice_index begins k)

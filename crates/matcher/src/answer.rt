@@ -5,19 +5,22 @@ ghost use Rattle.smarts_parse.specs.Embedding.{Matches};
 ghost use Rattle.smarts_parse.specs.Pattern.{graph_of, pattern_of, term_of, Prim};
 ghost use Rattle.smarts_parse.specs.Sound.{IsSoundPattern};
 ghost use Rattle.matcher.specs.Least.{IsLeast};
-ghost use Rattle.matcher.specs.Partial.{CanComplete, IsSearchable};
+ghost use Rattle.matcher.specs.Partial.{CanComplete};
+ghost use Rattle.matcher.specs.Plan.{IsReady};
+ghost use Rattle.matcher.specs.Prepared.{IsPrepared};
 ghost use Rattle.matcher.specs.Task.{Completes, IsReadyTask};
 
 use crate::choices::Choices;
 use crate::class::lacks_atom;
 use crate::fit::Task;
 use crate::hunt::{is_whole, may_continue};
-use crate::lay::{Stop, is_rare, lay, rare_start, start_at};
+use crate::lay::{Stop, is_rare, lay, start_at};
 use crate::parts::note_parts;
-use crate::plan::plan;
+use crate::plan::{Step, is_loose};
+use crate::prepare::Prepared;
 use crate::refusal::{has_bond, is_crowded};
 use crate::ring::lacks_ring;
-use crate::scratch::Scratch;
+use crate::scratch::{Memory, Scratch};
 use crate::search::extend;
 use chem_core::Mol;
 use smarts_parse::{AtomPrim, Expr, Graph, Pattern};
@@ -39,9 +42,10 @@ pub fn first<'s>(pattern: &Pattern, mol: &Mol, scratch: &'s mut Scratch) -> Opti
     ensures some { IfSome result (λ embedding. IsLeast (pattern_of pattern.now) mol.now embedding.atoms.now) }
     ensures none { IfNone result (¬ Matches (pattern_of pattern.now) mol.now) }
 {
-    if find(pattern, mol, scratch) {
+    scratch.prepare(pattern);
+    if find(pattern, &scratch.prepared, mol, &mut scratch.memory) {
         Some(Embedding {
-            atoms: &scratch.image[..pattern.top.atoms.len()],
+            atoms: &scratch.memory.image[..pattern.top.atoms.len()],
         })
     } else {
         None
@@ -55,23 +59,36 @@ pub fn has(pattern: &Pattern, mol: &Mol, scratch: &mut Scratch) -> bool
     requires { IsSoundPattern (pattern_of pattern.now) }
     ensures { IsTrue result ↔ Matches (pattern_of pattern.now) mol.now }
 {
-    if lacks_atom(pattern, mol) {
+    scratch.prepare(pattern);
+    scratch.has(pattern, mol)
+}
+
+/// Whether the pattern, for which all is prepared, has an embedding in the molecule.
+pub fn matches(pattern: &Pattern, prepared: &Prepared, mol: &Mol, memory: &mut Memory) -> bool
+    requires sound { IsSoundPattern (pattern_of pattern.now) }
+    requires prepared { IsPrepared (pattern_of pattern.now) prepared.now }
+    ensures { IsTrue result ↔ Matches (pattern_of pattern.now) mol.now }
+{
+    if lacks_atom(pattern, prepared.plans.top(pattern), mol) {
         return false;
     }
+    let order = prepared.order.stops();
     match only_part(pattern) {
         Some(part) => {
-            note_parts(&pattern.recs, mol, scratch, part);
-            exists(&pattern.recs[part], mol, scratch)
+            note_parts(pattern, prepared, mol, memory, part);
+            let steps = prepared.plans.part(pattern, part);
+            exists(&pattern.recs[part], steps, order, mol, memory)
         }
         None => {
-            note_parts(&pattern.recs, mol, scratch, pattern.recs.len());
-            exists(&pattern.top, mol, scratch)
+            note_parts(pattern, prepared, mol, memory, pattern.recs.len());
+            let steps = prepared.plans.top(pattern);
+            exists(&pattern.top, steps, order, mol, memory)
         }
     }
 }
 
-// The number of the last recursive part, if the pattern asks for this part at one atom and for nothing else.
-fn only_part(pattern: &Pattern) -> Option<usize>
+/// The number of the last recursive part, if the pattern asks for this part at one atom and for nothing else.
+pub fn only_part(pattern: &Pattern) -> Option<usize>
     ensures { IfSome result (λ part. (part + 1 ≡ length pattern.now.recs.items)
         × (map term_of pattern.now.top.atoms.items ≡ Prim (AtomPrim.Rec part) ∷ [])) }
 {
@@ -93,49 +110,40 @@ fn only_part(pattern: &Pattern) -> Option<usize>
 }
 
 // Whether the graph has an embedding, where recursive parts hold as the table says.
-fn exists(graph: &Graph, mol: &Mol, scratch: &mut Scratch) -> bool
-    requires { IsSearchable (graph_of graph.now) }
-    ensures { IsTrue result ↔ CanComplete (HoldsIn scratch.old.table) (graph_of graph.now) mol.now [] }
+fn exists(graph: &Graph, steps: &[Step], order: &[Stop], mol: &Mol, memory: &mut Memory) -> bool
+    requires { IsReady (graph_of graph.now) steps.now }
+    ensures { IsTrue result ↔ CanComplete (HoldsIn memory.old.table) (graph_of graph.now) mol.now [] }
 {
-    plan(graph, &mut scratch.steps);
     let task = Task {
         graph,
         mol,
-        table: &scratch.table,
-        steps: &scratch.steps,
+        table: &memory.table,
+        steps,
     };
-    if is_refused(&task, &mut scratch.choices) {
+    if is_refused(&task, &mut memory.choices) {
         return false;
     }
-    if let Some(found) = seek(&task, &mut scratch.stops, &mut scratch.image) {
+    if let Some(found) = seek(&task, order, &mut memory.stops, &mut memory.image) {
         return found;
     }
-    extend(&task, &mut scratch.image, &mut scratch.choices, 0)
+    extend(&task, &mut memory.image, &mut memory.choices, 0)
 }
 
 // Whether the graph has an embedding, where searches in orders of their own find it out. One from its first place is
 // left to the search for the least embedding.
-fn seek(task: &Task, stops: &mut [Stop], image: &mut [u16]) -> Option<bool>
+fn seek(task: &Task, order: &[Stop], stops: &mut [Stop], image: &mut [u16]) -> Option<bool>
     requires ready { IsReadyTask task.now }
     requires room { length task.now.graph.now.atoms.items ≤ length image.old }
     ensures { IfSome result (λ found. IsTrue found ↔ Completes task.now []) }
 {
-    let places = task.graph.atoms.len();
-    if places < 2 || places > 64 {
-        return None;
-    }
-    if is_loose(task) {
+    if order.is_empty() {
         return if lacks_component(task, stops, image) {
             Some(false)
         } else {
             None
         };
     }
-    let start = rare_start(&task.graph.bonds, &task.steps[..places])?;
-    if start.place == 0 {
-        return None;
-    }
-    if finds_none(task, start, stops, image) {
+    if finds_none(task, order, image) {
         return Some(false);
     }
     if is_whole(task, image) {
@@ -144,16 +152,23 @@ fn seek(task: &Task, stops: &mut [Stop], image: &mut [u16]) -> Option<bool>
     None
 }
 
-// Whether a component of several places has no embedding by itself. Different components could still meet.
+// Whether the graph is of components, and one of several places, of at most 64 in all, has no embedding by itself.
+// Different components could still meet.
 fn lacks_component(task: &Task, stops: &mut [Stop], image: &mut [u16]) -> bool
     requires ready { IsReadyTask task.now }
     requires room { length task.now.graph.now.atoms.items ≤ length image.old }
     ensures { IsTrue result → ¬ Completes task.now [] }
 {
-    for place in 0..task.graph.atoms.len() as u16 {
-        if begins_component(task, usize::from(place))
-            && finds_none(task, start_at(place), stops, image)
-        {
+    let places = task.graph.atoms.len();
+    if places > 64 || !is_loose(task.steps) {
+        return false;
+    }
+    for place in 0..places as u16 {
+        if !begins_component(task, usize::from(place)) {
+            continue;
+        }
+        let count = lay(&task.graph.bonds, start_at(place), stops);
+        if finds_none(task, &stops[..count], image) {
             return true;
         }
     }
@@ -169,42 +184,42 @@ fn begins_component(task: &Task, place: usize) -> bool {
     }
 }
 
-// Whether a search from the start finds that there is no embedding. If not, the image has what it found.
-fn finds_none(task: &Task, start: Stop, stops: &mut [Stop], image: &mut [u16]) -> bool
+// Whether a search in that order finds that there is no embedding. If not, the image has what it found.
+fn finds_none(task: &Task, order: &[Stop], image: &mut [u16]) -> bool
     requires ready { IsReadyTask task.now }
     requires room { length task.now.graph.now.atoms.items ≤ length image.old }
     ensures { IsTrue result → ¬ Completes task.now [] }
 {
-    let count = lay(&task.graph.bonds, start, stops);
     let no_atom = task.mol.atoms().len() as u16;
     for place in 0..task.graph.atoms.len() {
         image[place] = no_atom;
     }
-    !may_continue(task, &stops[..count], image, 0)
+    !may_continue(task, order, image, 0)
 }
 
-// Leaves the least embedding at the front of the scratch's image, if there is one.
-fn find(pattern: &Pattern, mol: &Mol, scratch: &mut Scratch) -> bool
-    requires { IsSoundPattern (pattern_of pattern.now) }
+// Leaves the least embedding at the front of the image, if there is one.
+fn find(pattern: &Pattern, prepared: &Prepared, mol: &Mol, memory: &mut Memory) -> bool
+    requires sound { IsSoundPattern (pattern_of pattern.now) }
+    requires prepared { IsPrepared (pattern_of pattern.now) prepared.now }
     ensures found { IsTrue result → IsLeast (pattern_of pattern.now) mol.now
-        (take (length pattern.now.top.atoms.items) scratch.new.image.items) }
+        (take (length pattern.now.top.atoms.items) memory.new.image.items) }
     ensures none { result ≡ false → ¬ Matches (pattern_of pattern.now) mol.now }
 {
-    if lacks_atom(pattern, mol) {
+    let steps = prepared.plans.top(pattern);
+    if lacks_atom(pattern, steps, mol) {
         return false;
     }
-    note_parts(&pattern.recs, mol, scratch, pattern.recs.len());
-    plan(&pattern.top, &mut scratch.steps);
+    note_parts(pattern, prepared, mol, memory, pattern.recs.len());
     let task = Task {
         graph: &pattern.top,
         mol,
-        table: &scratch.table,
-        steps: &scratch.steps,
+        table: &memory.table,
+        steps,
     };
-    if is_refused(&task, &mut scratch.choices) {
+    if is_refused(&task, &mut memory.choices) {
         return false;
     }
-    extend(&task, &mut scratch.image, &mut scratch.choices, 0)
+    extend(&task, &mut memory.image, &mut memory.choices, 0)
 }
 
 // Whether it is found before any search that the graph has no embedding. Of a few places that bonds join only rare
@@ -231,7 +246,7 @@ fn is_refused(task: &Task, choices: &mut Choices) -> bool
             return true;
         }
     }
-    is_loose(task) && choices.refuse(task, &[])
+    is_loose(task.steps) && choices.refuse(task, &[])
 }
 
 // Whether a bond of the graph asks what its first bond does, as far as is seen at once.
@@ -254,15 +269,4 @@ fn classes_at(task: &Task, place: u16) -> u64 {
         Some(step) => step.classes,
         None => 0,
     }
-}
-
-// Whether an atom other than the first has no bond to an earlier one.
-fn is_loose(task: &Task) -> bool {
-    let others = task.steps.iter().take(task.graph.atoms.len()).skip(1);
-    for step in others {
-        if step.from >= step.to {
-            return true;
-        }
-    }
-    false
 }

@@ -4,19 +4,23 @@ ghost use Rattle.std.specs.Prelude.{◌≡◌, ◌<◌, ℕ, ◌↔◌, length, 
 ghost use Rattle.std.specs.Int.{bit_at};
 ghost use Rattle.chem_core.specs.declared.mol.Atom.{Atom};
 ghost use Rattle.smarts_parse.specs.Embedding.{Matches};
-ghost use Rattle.smarts_parse.specs.Pattern.{pattern_of, term_of};
+ghost use Rattle.smarts_parse.specs.Pattern.{graph_of, pattern_of, term_of};
 ghost use Rattle.matcher.specs.Class.{class_at, class_of, Covers, PrimMayBe};
+ghost use Rattle.matcher.specs.Plan.{IsReady};
 
+use crate::plan::Step;
 use chem_core::{Atom, Mol};
 use smarts_parse::{AtomPrim, Expr, Pattern};
 
-/// Whether an atom of the pattern may stand at no atom of the molecule, as far as classes show.
-pub fn lacks_atom(pattern: &Pattern, mol: &Mol) -> bool
+/// Whether an atom of the pattern's top graph, of which the steps are given, may stand at no atom of the molecule, as
+/// far as classes show.
+pub fn lacks_atom(pattern: &Pattern, steps: &[Step], mol: &Mol) -> bool
+    requires { IsReady (graph_of pattern.now.top) steps.now }
     ensures { IsTrue result → ¬ Matches (pattern_of pattern.now) mol.now }
 {
     let present = classes_in(mol.atoms());
-    for expr in &pattern.top.atoms {
-        if classes_of(expr) & present == 0 {
+    for step in &steps[..pattern.top.atoms.len()] {
+        if step.classes & present == 0 {
             return true;
         }
     }

@@ -1,9 +1,11 @@
 //! An order of the places of a graph, for a search from a place that few atoms can take: each other place after one to
 //! which a bond joins it. Nothing is promised of it.
-ghost use Rattle.std.specs.Prelude.{◌≤◌, length};
+ghost use Rattle.std.specs.Prelude.{◌≤◌, length, vec_len};
 
-use crate::plan::Step;
-use smarts_parse::{BondPrim, Expr, PatBond};
+use crate::plan::{Step, is_loose};
+use crate::planned::MOST_PLACES;
+use smarts_parse::{BondPrim, Expr, Graph, PatBond};
+use std::alloc::{AllocError, Global};
 
 /// A place of a graph, and the bond of the graph, if there is one, that joins it to a place before.
 #[derive(Clone, Copy, Debug)]
@@ -21,6 +23,35 @@ pub const NO_STOP: Stop = Stop {
     bond: NO_BOND,
 };
 
+/// The order of a search in a graph of which bonds join all places, from one that few atoms can take. It is empty where
+/// the search for the least embedding serves as well.
+#[derive(Debug, Drop)]
+pub struct Order {
+    stops: Vec<Stop>,
+    laid: usize,
+    ghost room: { laid ≤ vec_len stops },
+}
+
+impl Order {
+    /// Takes the memory.
+    pub fn reserve(alloc: Global) -> Result<Order, AllocError> {
+        Ok(Order {
+            stops: vec![in alloc; NO_STOP; MOST_PLACES]?,
+            laid: 0,
+        })
+    }
+
+    /// Lays the order for a graph.
+    pub fn lay(&mut self, graph: &Graph, steps: &[Step]) {
+        self.laid = lay_rare(graph, steps, &mut self.stops);
+    }
+
+    /// The stops of the order.
+    pub fn stops(&self) -> &[Stop] {
+        &self.stops[..self.laid]
+    }
+}
+
 // The classes of carbon, and those of nitrogen and oxygen.
 const CARBON: u64 = 0x3000;
 
@@ -34,9 +65,24 @@ pub fn start_at(place: u16) -> Stop {
     }
 }
 
-/// Where a search begins: at a place where few atoms stand, or else at the first end of a bond that few bonds are,
-/// which then comes next.
-pub fn rare_start(bonds: &[PatBond], steps: &[Step]) -> Option<Stop> {
+// Lays an order from a place where few atoms stand. How many places it has: none where there is no such place, or where
+// it is the first, or of a graph of one place, of more than 64, or of some that no bond joins.
+fn lay_rare(graph: &Graph, steps: &[Step], stops: &mut [Stop]) -> usize
+    ensures { result ≤ length stops.old }
+{
+    let places = graph.atoms.len();
+    if places < 2 || places > 64 || is_loose(steps) {
+        return 0;
+    }
+    match rare_start(&graph.bonds, steps) {
+        Some(start) if start.place != 0 => lay(&graph.bonds, start, stops),
+        _ => 0,
+    }
+}
+
+// Where a search begins: at a place where few atoms stand, or else at the first end of a bond that few bonds are,
+// which then comes next.
+fn rare_start(bonds: &[PatBond], steps: &[Step]) -> Option<Stop> {
     if let Some(place) = rare_place(steps) {
         return Some(start_at(place));
     }

@@ -15,6 +15,8 @@ mod hunt;
 mod lay;
 mod parts;
 mod plan;
+mod planned;
+mod prepare;
 mod refusal;
 mod ring;
 mod scratch;

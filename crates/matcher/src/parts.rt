@@ -2,62 +2,72 @@
 //! searched for in the order of their numbers.
 ghost use Rattle.std.specs.Prelude.{◌≡◌, ◌<◌, ◌≤◌, ◌+◌, ◌∷◌, ◌↔◌, [], ℕ, length, map, IsTrue};
 ghost use Rattle.smarts_mean.specs.Table.{HoldsIn};
-ghost use Rattle.smarts_parse.specs.Pattern.{graph_of};
+ghost use Rattle.smarts_parse.specs.Pattern.{graph_of, pattern_of};
+ghost use Rattle.smarts_parse.specs.Sound.{IsSoundPattern};
 ghost use Rattle.matcher.specs.Partial.{CanComplete};
-ghost use Rattle.matcher.specs.Parts.{AreNoted, AreSoundParts};
+ghost use Rattle.matcher.specs.Parts.{AreNoted};
 ghost use Rattle.matcher.specs.Plan.{IsReady};
+ghost use Rattle.matcher.specs.Prepared.{IsPrepared};
 
 use crate::fit::{Task, is_of_class};
-use crate::plan::plan;
-use crate::scratch::Scratch;
+use crate::plan::Step;
+use crate::prepare::Prepared;
+use crate::scratch::Memory;
 use crate::search::extend_at;
 use chem_core::Mol;
-use smarts_parse::Graph;
+use smarts_parse::{Graph, Pattern};
 
 /// Notes in the table at which atoms each of the first parts holds.
-pub fn note_parts(parts: &[Graph], mol: &Mol, scratch: &mut Scratch, count: usize)
-    requires sound { AreSoundParts (map graph_of parts.now) }
-    requires count { count ≤ length parts.now }
-    ensures { AreNoted (map graph_of parts.now) mol.now count scratch.new.table }
+pub fn note_parts(
+    pattern: &Pattern,
+    prepared: &Prepared,
+    mol: &Mol,
+    memory: &mut Memory,
+    count: usize,
+)
+    requires sound { IsSoundPattern (pattern_of pattern.now) }
+    requires prepared { IsPrepared (pattern_of pattern.now) prepared.now }
+    requires count { count ≤ length pattern.now.recs.items }
+    ensures { AreNoted (pattern_of pattern.now).recs mol.now count memory.new.table }
 {
     for part in 0..count {
-        note_part(parts, mol, scratch, part);
+        note_part(pattern, prepared, mol, memory, part);
     }
 }
 
 // The same for one part, where those of smaller numbers are noted.
-fn note_part(parts: &[Graph], mol: &Mol, scratch: &mut Scratch, part: usize)
-    requires sound { AreSoundParts (map graph_of parts.now) }
-    requires part { part < length parts.now }
-    requires noted { AreNoted (map graph_of parts.now) mol.now part scratch.old.table }
-    ensures { AreNoted (map graph_of parts.now) mol.now (part + 1) scratch.new.table }
+fn note_part(pattern: &Pattern, prepared: &Prepared, mol: &Mol, memory: &mut Memory, part: usize)
+    requires sound { IsSoundPattern (pattern_of pattern.now) }
+    requires prepared { IsPrepared (pattern_of pattern.now) prepared.now }
+    requires part { part < length pattern.now.recs.items }
+    requires noted { AreNoted (pattern_of pattern.now).recs mol.now part memory.old.table }
+    ensures { AreNoted (pattern_of pattern.now).recs mol.now (part + 1) memory.new.table }
 {
-    let graph = &parts[part];
-    plan(graph, &mut scratch.steps);
+    let graph = &pattern.recs[part];
+    let steps = prepared.plans.part(pattern, part);
     for atom in 0..mol.atoms().len() as u16 {
-        let holds = begins_at(graph, mol, scratch, atom);
-        scratch.table.put(part as u16, atom, holds);
+        let holds = begins_at(graph, steps, mol, memory, atom);
+        memory.table.put(part as u16, atom, holds);
     }
 }
 
 // Whether some embedding of the graph has that atom as its first.
-fn begins_at(graph: &Graph, mol: &Mol, scratch: &mut Scratch, atom: u16) -> bool
-    requires ready { IsReady (graph_of graph.now) scratch.old.steps.items }
+fn begins_at(graph: &Graph, steps: &[Step], mol: &Mol, memory: &mut Memory, atom: u16) -> bool
+    requires ready { IsReady (graph_of graph.now) steps.now }
     requires some { 0 < length graph.now.atoms.items }
     requires in_range { atom < length mol.now.atoms }
     ensures found { IsTrue result
-        ↔ CanComplete (HoldsIn scratch.old.table) (graph_of graph.now) mol.now (atom ∷ []) }
-    ensures table { scratch.new.table ≡ scratch.old.table }
-    ensures steps { scratch.new.steps ≡ scratch.old.steps }
+        ↔ CanComplete (HoldsIn memory.old.table) (graph_of graph.now) mol.now (atom ∷ []) }
+    ensures table { memory.new.table ≡ memory.old.table }
 {
     let task = Task {
         graph,
         mol,
-        table: &scratch.table,
-        steps: &scratch.steps,
+        table: &memory.table,
+        steps,
     };
     if !is_of_class(&task, 0, atom) {
         return false;
     }
-    extend_at(&task, &mut scratch.image, &mut scratch.choices, 0, atom)
+    extend_at(&task, &mut memory.image, &mut memory.choices, 0, atom)
 }

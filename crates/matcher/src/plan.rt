@@ -71,3 +71,13 @@ pub fn plan(graph: &Graph, steps: &mut [Step])
         steps[high] = steps[high].with(place);
     }
 }
+
+/// Whether an atom other than the first has no bond to an earlier one.
+pub fn is_loose(steps: &[Step]) -> bool {
+    for step in steps.iter().skip(1) {
+        if step.from >= step.to {
+            return true;
+        }
+    }
+    false
+}

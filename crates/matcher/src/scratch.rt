@@ -1,35 +1,75 @@
-//! The memory that a search uses.
+//! The memory that a search uses, and what is worked out of its pattern.
 ghost use Rattle.std.specs.Prelude.{◌≤◌, vec_len};
 
+use crate::answer::matches;
 use crate::choices::Choices;
 use crate::lay::{NO_STOP, Stop};
-use crate::plan::{NO_STEP, Step};
+use crate::planned::MOST_PLACES;
+use crate::prepare::Prepared;
+use chem_core::Mol;
 use smarts_mean::RecTable;
+use smarts_parse::Pattern;
 use std::alloc::{AllocError, Global};
-
-/// The most atoms of a pattern, those of its recursive parts counted too.
-pub const MOST_PLACES: usize = 256;
 
 /// Memory for searches: room for every pattern and molecule within the limits. It is taken once, and may be used again
 /// for any pattern and molecule.
 #[derive(Debug, Drop)]
 pub struct Scratch {
+    pub(crate) prepared: Prepared,
+    pub(crate) memory: Memory,
+}
+
+/// What a search in a molecule writes.
+#[derive(Debug, Drop)]
+pub struct Memory {
     // where the atoms of a graph are placed, by their numbers
-    pub(crate) image: Vec<u16>,
-    pub(crate) steps: Vec<Step>,
-    pub(crate) table: RecTable,
-    pub(crate) choices: Choices,
-    pub(crate) stops: Vec<Stop>,
+    pub image: Vec<u16>,
+    pub table: RecTable,
+    pub choices: Choices,
+    pub stops: Vec<Stop>,
     ghost image_room: { 256 ≤ vec_len image },
-    ghost steps_room: { 256 ≤ vec_len steps },
 }
 
 impl Scratch {
+    ghost use Rattle.std.specs.Prelude.{◌↔◌, IsTrue};
+    ghost use Rattle.smarts_parse.specs.Embedding.{Matches};
+    ghost use Rattle.smarts_parse.specs.Pattern.{pattern_of};
+    ghost use Rattle.smarts_parse.specs.Sound.{IsSoundPattern};
+    ghost use Rattle.matcher.specs.Prepared.{IsPreparedFor};
+
     /// Takes the memory.
     pub fn reserve(alloc: Global) -> Result<Scratch, AllocError> {
         Ok(Scratch {
+            prepared: Prepared::reserve(alloc)?,
+            memory: Memory::reserve(alloc)?,
+        })
+    }
+
+    /// Works out what depends on the pattern alone, for searches in any number of molecules. Takes no memory.
+    pub fn prepare(&mut self, pattern: &Pattern)
+        requires { IsSoundPattern (pattern_of pattern.now) }
+        ensures { IsPreparedFor (pattern_of pattern.now) self.new }
+    {
+        self.prepared.prepare(pattern);
+    }
+
+    /// Whether the pattern, which was prepared last, has an embedding in the molecule.
+    ///
+    /// Takes no memory. The worst case takes exponential time.
+    pub fn has(&mut self, pattern: &Pattern, mol: &Mol) -> bool
+        requires sound { IsSoundPattern (pattern_of pattern.now) }
+        requires prepared { IsPreparedFor (pattern_of pattern.now) self.old }
+        ensures has { IsTrue result ↔ Matches (pattern_of pattern.now) mol.now }
+        ensures prepared { IsPreparedFor (pattern_of pattern.now) self.new }
+    {
+        matches(pattern, &self.prepared, mol, &mut self.memory)
+    }
+}
+
+impl Memory {
+    fn reserve(alloc: Global) -> Result<Memory, AllocError> {
+        Ok(Memory {
             image: vec![in alloc; 0; MOST_PLACES]?,
-            steps: vec![in alloc; NO_STEP; MOST_PLACES]?,
             table: RecTable::reserve(alloc)?,
             choices: Choices::reserve(alloc)?,
             stops: vec![in alloc; NO_STOP; MOST_PLACES]?,

@@ -7,9 +7,8 @@ use Rattle.matcher.proofs.parts.begins_at.Goals as goal
 
 pub extend_at-requires-clause-first : goal.extend_at-requires-clause-first
 extend_at-requires-clause-first c = λ d lt.
-    absurd (no_first (graph_of c.args.graph.now) c.args.scratch.now.steps.items c.requires.ready
-    (subst (λ n. 0 < n) (sym (length-map c.args.graph.now.atoms.items term_of)) c.requires.some)
-    (rw c.deref.ensures.value at lt))
+    absurd (no_first (graph_of c.args.graph.now) c.args.steps.now c.requires.ready
+    (subst (λ n. 0 < n) (sym (length-map c.args.graph.now.atoms.items term_of)) c.requires.some) lt)
 
 pub returns-then-not-is_of_class-clause-found : goal.returns-then-not-is_of_class-clause-found
 returns-then-not-is_of_class-clause-found c = (

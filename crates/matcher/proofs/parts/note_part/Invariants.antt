@@ -1,12 +1,7 @@
-use Rattle.std.proofs.Common.{map}
-use Rattle.smarts_parse.specs.Pattern.{graph_of}
-use Rattle.matcher.specs.Plan.{IsReady}
+use Rattle.smarts_parse.specs.Pattern.{pattern_of}
 use Rattle.matcher.proofs.PartsHeld.{IsRow}
 use Rattle.matcher.proofs.parts.note_part.Given as goal
 
 -- the part is noted at the atoms so far
 abbrev pub invariant-loop-atom : goal.invariant-loop-atom
-invariant-loop-atom l = record {
-  ready : IsReady (graph_of l.graph) l.scratch.steps.items;
-  row : IsRow (map graph_of l.parts) l.mol l.part l.atom l.scratch.table;
-}
+invariant-loop-atom l = IsRow (pattern_of l.pattern).recs l.mol l.part l.atom l.memory.table
