@@ -5,7 +5,7 @@ ghost use Rattle.smarts_parse.specs.Sound.{IsSoundPattern};
 ghost use Rattle.par_search.specs.Flags.{AreFlags};
 ghost use Rattle.par_search.specs.declared.worker.TheConstants.{MOST_RECORDS};
 
-use matcher::{Scratch, has};
+use matcher::Scratch;
 use smarts_parse::Pattern;
 use std::alloc::{AllocError, Global};
 use std::marker::Model;
@@ -58,9 +58,10 @@ impl Worker {
         ensures flags { AreFlags (pattern_of pattern.now) piece.now self.new.flags }
         ensures room { self.new.room ≡ self.old.room }
     {
+        self.scratch.prepare(pattern);
         self.flags.clear();
         for record in piece {
-            let flag = has(pattern, record.mol(), &mut self.scratch);
+            let flag = self.scratch.has(pattern, record.mol());
             self.flags.push_reserved(flag);
         }
     }

@@ -18,12 +18,13 @@ loop-record-preserved c =
     let flag = c.has-flag.result in
     let right =
     subst (λ (m : Molecule). (flag ≡ true) ↔ Matches p m)
-    (c.mol.ensures.mol ∙ ap (λ (x : RecordTerm). x.mol) c.deref.ensures) c.has-flag.ensures in
+    (c.mol.ensures.mol ∙ ap (λ (x : RecordTerm). x.mol) c.deref.ensures) c.has-flag.ensures.has in
     let more : take (i + 1) piece ≡ take i piece ++ r ∷ [] = take_more piece i r c.loop-record-test.true
     ∙ ap (λ x. take i piece ++ x ∷ []) (sym c.record-item.is) in
     let pushed : AreFlags p (take i piece ++ r ∷ []) (flags ++ flag ∷ []) =
     flags-push p (take i piece) r flags flag c.loop-record.invariant.flags right in
     record {
+      prepared = c.has-flag.ensures.prepared;
       flags = subst (λ l. AreFlags p (take (i + 1) piece) l) (sym c.push_reserved.ensures.items)
           (subst (λ l. AreFlags p l (flags ++ flag ∷ [])) (sym more) pushed);
       count = omega (
