@@ -5,6 +5,7 @@ pub mod Plans
 pub mod Layouts
 pub mod Places
 pub mod Near
+pub mod Asked
 pub mod PartsHeld
 pub mod OnlyParts
 pub mod Pigeons

@@ -12,6 +12,8 @@ use Rattle.smarts_parse.specs.Truth.{AtomTrue}
 use Rattle.smarts_parse.specs.Embedding.{Matches, PartsHold}
 use Rattle.matcher.specs.Partial.{CanComplete, Parts}
 use Rattle.matcher.specs.Parts.{AreNoted}
+use Rattle.matcher.specs.Wanted.{AreWanted}
+use Rattle.matcher.proofs.Asked.{asked_of}
 use Rattle.matcher.proofs.Classes.{no_element}
 use Rattle.matcher.proofs.Partials.{CanComplete-more, CanComplete-next}
 use Rattle.matcher.proofs.PartsHeld.{part_holds}
@@ -48,15 +50,16 @@ no_bonds n g sound one k d l =
     let apart : bond.a ≢ bond.b = all_apart g sound.distinct k d l in
     apart (omega arith)
 
-pub only_part_holds : (p : PatternTerm) (m : Molecule) (k : ℕ) (g : GraphTerm) (table : Table) → IsSoundPattern p
-    → k + 1 ≡ length p.recs
-    → p.top.atoms ≡ Prim (atoms.Rec k) ∷ [] → slice_get p.recs k ≡ Some g → AreNoted p.recs m k table
+pub only_part_holds : (p : PatternTerm) (m : Molecule) (wanted : List ℕ) (k : ℕ) (g : GraphTerm) (table : Table)
+    → IsSoundPattern p → AreWanted p wanted → k + 1 ≡ length p.recs
+    → p.top.atoms ≡ Prim (atoms.Rec k) ∷ [] → slice_get p.recs k ≡ Some g → AreNoted p.recs m wanted k table
     → CanComplete (HoldsIn table) g m [] ↔ Matches p m
-only_part_holds p m k g table sound last is get noted =
+only_part_holds p m wanted k g table sound asked last is get noted =
     let n : ℕ = length p.recs in
     let next : suc k ≡ n = omega arith in
     let part = sound.parts k g get in
-    let holds = λ (a : ℕ). part_holds p.recs m k g a table get part.names noted in
+    let holds = λ (a : ℕ). part_holds p.recs m wanted k g a table get part.names (asked_of p wanted k g asked get) noted
+    in
     let one : length p.top.atoms ≡ 1 = ap length is in (
       λ w.
           let first = CanComplete-next (HoldsIn table) g m [] part.some w in

@@ -2,7 +2,8 @@
 use Rattle.std.proofs.Common.{◌≡◌, ◌↔◌, ◌&&◌, ◌==◌, ◌+◌, ◌<◌, ◌≤◌, Bool, true, false, ℕ, suc, List, [], ◌∷◌, length, get_or, slice_get, slice_index, slice_index_or, Some, None, All, MatchBool, sum_by, if◌then◌else◌, refl, sym, ap, ◌∙◌, subst, inl, inr, ⊎_elim, arith}
 use Rattle.std.proofs.lemmas.Bool.{cases_eq, eq-eqb, ne_eqb, and_from, and_left, and_right}
 use Rattle.std.proofs.lemmas.List.Sums.{get_or-le-sum_by}
-use Rattle.std.proofs.lemmas.Option.{get_or_from_slice_get, none-some, same_Some, slice_get_within}
+use Rattle.std.specs.Int.{bit_at}
+use Rattle.std.proofs.lemmas.Option.{get_or_from_slice_get, none-some, same_Some, slice_get-get_or, slice_get_within}
 use Rattle.chem_core.specs.declared.mol.Atom.{Atom}
 use Rattle.chem_core.specs.Molecule.{Molecule}
 use Rattle.smarts_mean.specs.Table.{HoldsIn, Table, holds_at}
@@ -12,28 +13,17 @@ use Rattle.smarts_parse.specs.Pattern.{Term, Prim, Not, And, Or, GraphTerm, Patt
 use Rattle.smarts_parse.specs.Sound.{IsSoundPattern, NamesBelow, PrimNamesBelow}
 use Rattle.smarts_parse.specs.Truth.{AtomTrue, AtomPrimTrue}
 use Rattle.smarts_parse.specs.Embedding.{IsEmbedding, Matches, PartsHold}
+use Rattle.matcher.specs.Class.{class_of, Covers}
 use Rattle.matcher.specs.Partial.{CanComplete, IsLeastFrom, IsSearchable, Parts}
 use Rattle.matcher.specs.Least.{IsLeast}
-use Rattle.matcher.specs.Parts.{AreNoted, AreSoundParts}
+use Rattle.matcher.specs.Parts.{AreNoted, AreSoundParts, HoldAlike}
+use Rattle.matcher.specs.Wanted.{AreWanted, IsAsked, NamesOnly, PrimNames}
+use Rattle.matcher.proofs.Classes.{class_below, may_be_true, no_element}
+use Rattle.matcher.proofs.Asked.{names_all}
 
 names_prim : (j n : ℕ) → j ≤ n → (p : AtomPrim) → PrimNamesBelow j p → PrimNamesBelow n p
-names_prim j n l atoms.Any h = tt
-names_prim j n l atoms.Aromatic h = tt
-names_prim j n l atoms.Aliphatic h = tt
-names_prim j n l (atoms.Symbol number lower) h = tt
-names_prim j n l (atoms.Number k) h = tt
-names_prim j n l (atoms.Degree k) h = tt
-names_prim j n l (atoms.TotalH k) h = tt
-names_prim j n l (atoms.ImplicitH k) h = tt
-names_prim j n l atoms.Ring h = tt
-names_prim j n l atoms.NoRing h = tt
-names_prim j n l (atoms.Small k) h = tt
-names_prim j n l (atoms.Valence k) h = tt
-names_prim j n l (atoms.Connect k) h = tt
-names_prim j n l (atoms.RingBonds k) h = tt
-names_prim j n l (atoms.Charge k) h = tt
-names_prim j n l (atoms.Mass k) h = tt
 names_prim j n l (atoms.Rec k) h = omega (arith, h)
+names_prim j n l _ h = tt
 
 -- parts below a number are below a higher one
 pub names_more : (j n : ℕ) → j ≤ n → (e : Term AtomPrim) → NamesBelow j e → NamesBelow n e
@@ -42,54 +32,64 @@ names_more j n l (Not e) h = names_more j n l e h
 names_more j n l (And e f) h = (names_more j n l e h.0, names_more j n l f h.1)
 names_more j n l (Or e f) h = (names_more j n l e h.0, names_more j n l f h.1)
 
-parts_prim : (P Q : Parts) (n : ℕ) (p : AtomPrim) → PrimNamesBelow n p → (m : Molecule) (a : ℕ) (x : Atom)
-    → ((k : ℕ) → k < n → P k a → Q k a) → AtomPrimTrue P p m a x → AtomPrimTrue Q p m a x
-parts_prim P Q n atoms.Any f m a x to h = h
-parts_prim P Q n atoms.Aromatic f m a x to h = h
-parts_prim P Q n atoms.Aliphatic f m a x to h = h
-parts_prim P Q n (atoms.Symbol number lower) f m a x to h = h
-parts_prim P Q n (atoms.Number k) f m a x to h = h
-parts_prim P Q n (atoms.Degree k) f m a x to h = h
-parts_prim P Q n (atoms.TotalH k) f m a x to h = h
-parts_prim P Q n (atoms.ImplicitH None) f m a x to h = h
-parts_prim P Q n (atoms.ImplicitH (Some k)) f m a x to h = h
-parts_prim P Q n atoms.Ring f m a x to h = h
-parts_prim P Q n atoms.NoRing f m a x to h = h
-parts_prim P Q n (atoms.Small k) f m a x to h = h
-parts_prim P Q n (atoms.Valence k) f m a x to h = h
-parts_prim P Q n (atoms.Connect k) f m a x to h = h
-parts_prim P Q n (atoms.RingBonds None) f m a x to h = h
-parts_prim P Q n (atoms.RingBonds (Some k)) f m a x to h = h
-parts_prim P Q n (atoms.Charge k) f m a x to h = h
-parts_prim P Q n (atoms.Mass k) f m a x to h = h
-parts_prim P Q n (atoms.Rec k) f m a x to h = to k f h
+parts_prim : (P Q : Parts) (p : AtomPrim) (m : Molecule) (a : ℕ) (x : Atom) → PrimNames (λ k. P k a ↔ Q k a) p
+    → AtomPrimTrue P p m a x ↔ AtomPrimTrue Q p m a x
+parts_prim P Q (atoms.ImplicitH None) m a x same = (λ h. h, λ h. h)
+parts_prim P Q (atoms.ImplicitH (Some k)) m a x same = (λ h. h, λ h. h)
+parts_prim P Q (atoms.RingBonds None) m a x same = (λ h. h, λ h. h)
+parts_prim P Q (atoms.RingBonds (Some k)) m a x same = (λ h. h, λ h. h)
+parts_prim P Q (atoms.Rec k) m a x same = same
+parts_prim P Q _ m a x same = (λ h. h, λ h. h)
 
-parts_term : (P Q : Parts) (n : ℕ) (e : Term AtomPrim) → NamesBelow n e → (m : Molecule) (a : ℕ)
-    → ((k : ℕ) → k < n → P k a → Q k a) → ((k : ℕ) → k < n → Q k a → P k a) → AtomTrue P e m a → AtomTrue Q e m a
-parts_term P Q n (Prim p) f m a to from h = (h.0, h.1, parts_prim P Q n p f m a h.0 to h.2)
-parts_term P Q n (Not e) f m a to from h = λ w. h (parts_term Q P n e f m a from to w)
-parts_term P Q n (And e g) f m a to from h = (
-  parts_term P Q n e f.0 m a to from h.0,
-  parts_term P Q n g f.1 m a to from
-      h.1,
+-- an expression is as true where the parts that it names hold alike
+parts_term : (P Q : Parts) (e : Term AtomPrim) (m : Molecule) (a : ℕ) → NamesOnly (λ k. P k a ↔ Q k a) e
+    → AtomTrue P e m a ↔ AtomTrue Q e m a
+parts_term P Q (Prim p) m a same = (
+  λ h. (h.0, h.1, (parts_prim P Q p m a h.0 same).0 h.2),
+  λ h. (h.0, h.1, (parts_prim P Q p m a h.0 same).1 h.2),
 )
-parts_term P Q n (Or e g) f m a to from h = ⊎_elim (λ w. inl (parts_term P Q n e f.0 m a to from w))
-    (λ w. inr (parts_term P Q n g f.1 m a to from w)) h
+parts_term P Q (Not e) m a same =
+    let one = parts_term P Q e m a same in
+    (λ h w. h (one.1 w), λ h w. h (one.0 w))
+parts_term P Q (And e f) m a same =
+    let one = parts_term P Q e m a same.0 in
+    let two = parts_term P Q f m a same.1 in
+    (λ h. (one.0 h.0, two.0 h.1), λ h. (one.1 h.0, two.1 h.1))
+parts_term P Q (Or e f) m a same =
+    let one = parts_term P Q e m a same.0 in
+    let two = parts_term P Q f m a same.1 in (
+      λ h. ⊎_elim (λ w. inl (one.0 w)) (λ w. inr (two.0 w)) h,
+      λ h. ⊎_elim (λ w. inl (one.1 w)) (λ w. inr (two.1 w)) h,
+    )
 
--- an embedding, where the parts that the graph names hold at the same atoms
-pub parts_embedding : (P Q : Parts) (n : ℕ) (g : GraphTerm) (m : Molecule) (image : List ℕ) → All (NamesBelow n) g.atoms
-    → ((k a : ℕ) → k < n → a < length m.atoms → P k a ↔ Q k a) → IsEmbedding P g m image → IsEmbedding Q g m image
-parts_embedding P Q n g m image names same h = record {
+-- where an expression is true, all parts that it names are asked
+asked_term : (P Q : Parts) (n : ℕ) (wanted : List ℕ) (e : Term AtomPrim) (m : Molecule) (a : ℕ) (x : Atom)
+    → NamesBelow n e → IsAsked wanted e → slice_get m.atoms a ≡ Some x → HoldAlike wanted m n P Q → AtomTrue P e m a
+    → AtomTrue Q e m a
+asked_term P Q n wanted e m a x below asked get same h =
+    let may = may_be_true P e m a x get h in
+    (parts_term P Q e m a (names_all (λ k. Covers (slice_index wanted k) e) (λ k. P k a ↔ Q k a) n e below asked
+    (λ k l covers. same k a x l get (covers (class_of x) (class_below x.number x.aromatic) may)))).0 h
+
+pub alike_back : (P Q : Parts) (wanted : List ℕ) (m : Molecule) (n : ℕ) → HoldAlike wanted m n P Q
+    → HoldAlike wanted m n Q P
+alike_back P Q wanted m n same k a x l get yes' = let one = same k a x l get yes' in (one.1, one.0)
+
+-- an embedding, where the parts that the graph names hold alike where they are asked
+pub parts_embedding : (P Q : Parts) (n : ℕ) (wanted : List ℕ) (g : GraphTerm) (m : Molecule) (image : List ℕ)
+    → All (NamesBelow n) g.atoms → All (IsAsked wanted) g.atoms → HoldAlike wanted m n P Q → IsEmbedding P g m image
+    → IsEmbedding Q g m image
+parts_embedding P Q n wanted g m image names asked same h = record {
   one_each = h.one_each;
   in_range = h.in_range;
   distinct = h.distinct;
   atoms = λ k e get.
-      let place : k < length image = omega (arith, h.one_each, slice_get_within g.atoms k e get) in
-      let within : slice_index image k < length m.atoms = h.in_range k 0 place in
-      parts_term P Q n e (subst (NamesBelow n) (get_or_from_slice_get g.atoms k e e get)
-      (names k e (slice_get_within g.atoms k e get))) m (slice_index image k)
-      (λ j l. (same j (slice_index image k) l within).0) (λ j l. (same j (slice_index image k) l within).1)
-      (h.atoms k e get);
+      let few = slice_get_within g.atoms k e get in
+      let here = get_or_from_slice_get g.atoms k e e get in
+      let within : slice_index image k < length m.atoms = h.in_range k 0 (omega (arith, h.one_each)) in
+      asked_term P Q n wanted e m (slice_index image k) (get_or m.atoms (slice_index image k) no_element)
+      (subst (NamesBelow n) here (names k e few)) (subst (IsAsked wanted) here (asked k e few))
+      (slice_get-get_or m.atoms (slice_index image k) no_element within) same (h.atoms k e get);
   bonds = h.bonds;
 }
 
@@ -119,17 +119,23 @@ begins_with : (image : List ℕ) (a : ℕ) → slice_get image 0 ≡ Some a → 
 begins_with [] a h = absurd (none-some a h)
 begins_with (x ∷ xs) a h = (xs, ap (λ y. y ∷ xs) (same_Some x a h))
 
+-- parts of smaller numbers are noted, and part n at the atoms below k
+pub record IsRow (recs : List GraphTerm) (m : Molecule) (wanted : List ℕ) (n k : ℕ) (table : Table) : Type 0 where
+  pub kept : AreNoted recs m wanted n table
+  pub done : (a : ℕ) (x : Atom) → a < k → slice_get m.atoms a ≡ Some x
+      → bit_at (slice_index wanted n) (class_of x) ≡ 1 → HoldsIn table n a ↔ PartsHold recs m (suc n) n a
+
 -- a part holds where some embedding of it begins, as the table tells of the parts of smaller numbers
-pub part_holds : (recs : List GraphTerm) (m : Molecule) (n : ℕ) (g : GraphTerm) (a : ℕ) (table : Table)
-    → slice_get recs n ≡ Some g → All (NamesBelow n) g.atoms → AreNoted recs m n table
-    → CanComplete (HoldsIn table) g m (a ∷ []) ↔ PartsHold recs m (suc n) n a
-part_holds recs m n g a table get names noted = (
+pub part_holds : (recs : List GraphTerm) (m : Molecule) (wanted : List ℕ) (n : ℕ) (g : GraphTerm) (a : ℕ)
+    (table : Table) → slice_get recs n ≡ Some g → All (NamesBelow n) g.atoms → All (IsAsked wanted) g.atoms
+    → AreNoted recs m wanted n table → CanComplete (HoldsIn table) g m (a ∷ []) ↔ PartsHold recs m (suc n) n a
+part_holds recs m wanted n g a table get names asked noted = (
   λ w. (holds_last recs m n a).0 (
     g,
     get,
     a ∷ w.0,
-    parts_embedding (HoldsIn table) (PartsHold recs m n) n g m
-        (a ∷ w.0) names noted w.1,
+    parts_embedding (HoldsIn table) (PartsHold recs m n) n wanted g m
+        (a ∷ w.0) names asked noted w.1,
     refl,
   ),
   λ h.
@@ -140,20 +146,22 @@ part_holds recs m n g a table get names noted = (
       (IsEmbedding (PartsHold recs m n) g m) first.1
       (subst (λ x. IsEmbedding (PartsHold recs m n) x m w.2) same w.3) in (
         first.0,
-        parts_embedding (PartsHold recs m n) (HoldsIn table) n g m (a ∷ first.0) names
-            (λ k b l r. let s = noted k b l r in (s.1, s.0)) mine,
+        parts_embedding (PartsHold recs m n) (HoldsIn table) n wanted g m (a ∷ first.0) names asked
+            (alike_back (HoldsIn table) (PartsHold recs m n) wanted m n noted) mine,
       ),
 )
 
 -- one part more is noted
-pub noted_more : (recs : List GraphTerm) (m : Molecule) (n : ℕ) (table : Table) → AreNoted recs m n table
-    → ((a : ℕ) → a < length m.atoms → HoldsIn table n a ↔ PartsHold recs m (suc n) n a) → AreNoted recs m (n + 1) table
-noted_more recs m n table before last k a l r =
+pub noted_more : (recs : List GraphTerm) (m : Molecule) (wanted : List ℕ) (n : ℕ) (table : Table)
+    → IsRow recs m wanted n (length m.atoms) table → AreNoted recs m wanted (n + 1) table
+noted_more recs m wanted n table row k a x l get yes' =
     let next : n + 1 ≡ suc n = omega arith in
     subst (λ j. HoldsIn table k a ↔ PartsHold recs m j k a) (sym next) (elim (cases_eq k n) [
-      | inl same ↦ subst (λ j. HoldsIn table j a ↔ PartsHold recs m (suc n) j a) (sym same) (last a r)
+      | inl same ↦ subst (λ j. HoldsIn table j a ↔ PartsHold recs m (suc n) j a) (sym same)
+          (row.done a x (slice_get_within m.atoms a x get) get
+          (subst (λ j. bit_at (slice_index wanted j) (class_of x) ≡ 1) same yes'))
       | inr apart ↦
-          let old = before k a (omega arith) r in
+          let old = row.kept k a x (omega arith) get yes' in
           let step = holds_before recs m n k a (omega arith) in
           (λ h. step.0 (old.0 h), λ h. old.1 (step.1 h))
     ])
@@ -190,33 +198,45 @@ searchable_part recs j g sound get =
       names = λ k d l. names_more j 64 (omega arith) (slice_index_or g.atoms k d) (graph.names k d l);
     }
 
--- parts of smaller numbers are noted, and of part n at which atoms below k it holds
-pub record IsRow (recs : List GraphTerm) (m : Molecule) (n k : ℕ) (table : Table) : Type 0 where
-  pub kept : AreNoted recs m n table
-  pub done : (a : ℕ) → a < k → HoldsIn table n a ↔ PartsHold recs m (suc n) n a
-
-pub row_more : (recs : List GraphTerm) (m : Molecule) (n k : ℕ) (g : GraphTerm) (old new : Table) (holds : Bool)
-    → n < 64 → k < length m.atoms → length m.atoms ≤ 999 → slice_get recs n ≡ Some g → All (NamesBelow n) g.atoms
-    → IsRow recs m n k old → (holds ≡ true) ↔ CanComplete (HoldsIn old) g m (k ∷ [])
+pub row_more : (recs : List GraphTerm) (m : Molecule) (wanted : List ℕ) (n k : ℕ) (g : GraphTerm) (old new : Table)
+    (holds : Bool) → n < 64 → k < length m.atoms → length m.atoms ≤ 999 → slice_get recs n ≡ Some g
+    → All (NamesBelow n) g.atoms → All (IsAsked wanted) g.atoms → IsRow recs m wanted n k old
+    → (holds ≡ true) ↔ CanComplete (HoldsIn old) g m (k ∷ [])
     → ((p a : ℕ) → p < 64 → a < 999 → holds_at new p a ≡ (if (p == n) && (a == k) then holds else holds_at old p a))
-    → IsRow recs m n (k + 1) new
-row_more recs m n k g old new holds ln lk few get names row found put = record {
-  kept = λ p a l r.
+    → IsRow recs m wanted n (k + 1) new
+row_more recs m wanted n k g old new holds ln lk few get names asked row found put = record {
+  kept = λ p a x l at yes'.
+      let within = slice_get_within m.atoms a x at in
       let same : holds_at new p a ≡ holds_at old p a = put_other old new n k holds put p a (omega arith) (omega arith)
       (λ e _. omega arith) in
-      let before = row.kept p a l r in
+      let before = row.kept p a x l at yes' in
       (λ h. before.0 (sym same ∙ h), λ h. same ∙ before.1 h);
-  done = λ a l. elim (cases_eq a k) [
+  done = λ a x l at yes'. elim (cases_eq a k) [
     | inl here ↦
         let now : holds_at new n k ≡ holds = put_same old new n k holds put ln (omega arith) in
-        let part = part_holds recs m n g k old get names row.kept in
+        let part = part_holds recs m wanted n g k old get names asked row.kept in
         subst (λ b. HoldsIn new n b ↔ PartsHold recs m (suc n) n b) (sym here)
         (λ h. part.0 (found.0 (sym now ∙ h)), λ h. now ∙ found.1 (part.1 h))
     | inr apart ↦
+        let within = slice_get_within m.atoms a x at in
         let same : holds_at new n a ≡ holds_at old n a = put_other old new n k holds put n a ln (omega arith)
         (λ _ e. apart e) in
-        let before = row.done a (omega arith) in
+        let before = row.done a x (omega arith) at yes' in
         (λ h. before.0 (sym same ∙ h), λ h. same ∙ before.1 h)
+  ];
+}
+
+-- an atom of another class is not asked
+pub row_skip : (recs : List GraphTerm) (m : Molecule) (wanted : List ℕ) (n k : ℕ) (y : Atom) (table : Table)
+    → slice_get m.atoms k ≡ Some y → (bit_at (slice_index wanted n) (class_of y) ≡ 1 → ⊥)
+    → IsRow recs m wanted n k table → IsRow recs m wanted n (k + 1) table
+row_skip recs m wanted n k y table here other row = record {
+  kept = row.kept;
+  done = λ a x l at yes'. elim (cases_eq a k) [
+    | inl e ↦
+        let is : x ≡ y = same_Some x y (sym at ∙ ap (slice_get m.atoms) e ∙ here) in
+        absurd (other (subst (λ (z : Atom). bit_at (slice_index wanted n) (class_of z) ≡ 1) is yes'))
+    | inr apart ↦ row.done a x (omega arith) at yes'
   ];
 }
 
@@ -245,29 +265,35 @@ searchable_top p sound =
           (sound.top.names k d l);
     }
 
+-- an embedding of the pattern is one by the table
+by_table : (p : PatternTerm) (m : Molecule) (wanted : List ℕ) (table : Table) (image : List ℕ) → IsSoundPattern p
+    → AreWanted p wanted → AreNoted p.recs m wanted (length p.recs) table
+    → IsEmbedding (PartsHold p.recs m (length p.recs)) p.top m image → IsEmbedding (HoldsIn table) p.top m image
+by_table p m wanted table image sound asked noted e =
+    let n : ℕ = length p.recs in
+    parts_embedding (PartsHold p.recs m n) (HoldsIn table) n wanted p.top m image sound.top.names asked.top
+    (alike_back (HoldsIn table) (PartsHold p.recs m n) wanted m n noted) e
+
 -- the least embedding by the table is the least of the pattern
-pub least_of : (p : PatternTerm) (m : Molecule) (table : Table) (whole : List ℕ) → IsSoundPattern p
-    → AreNoted p.recs m (length p.recs) table → IsLeastFrom (HoldsIn table) p.top m [] whole → IsLeast p m whole
-least_of p m table whole sound noted h = record {
+pub least_of : (p : PatternTerm) (m : Molecule) (wanted : List ℕ) (table : Table) (whole : List ℕ) → IsSoundPattern p
+    → AreWanted p wanted → AreNoted p.recs m wanted (length p.recs) table → IsLeastFrom (HoldsIn table) p.top m [] whole
+    → IsLeast p m whole
+least_of p m wanted table whole sound asked noted h = record {
   embeds = parts_embedding (HoldsIn table) (PartsHold p.recs m (length p.recs))
-      (length p.recs) p.top m whole sound.top.names noted h.embeds;
-  least = λ other e before. h.least other (parts_embedding (PartsHold p.recs m (length p.recs)) (HoldsIn table)
-      (length p.recs) p.top m other sound.top.names (λ k a l r. let s = noted k a l r in (s.1, s.0)) e) before;
+      (length p.recs) wanted p.top m whole sound.top.names asked.top noted h.embeds;
+  least = λ other e before. h.least other (by_table p m wanted table other sound asked noted e) before;
 }
 
-pub none_of : (p : PatternTerm) (m : Molecule) (table : Table) → IsSoundPattern p
-    → AreNoted p.recs m (length p.recs) table → (CanComplete (HoldsIn table) p.top m [] → ⊥) → Matches p m → ⊥
-none_of p m table sound noted none w =
-    none (
-      w.0,
-      parts_embedding (PartsHold p.recs m (length p.recs)) (HoldsIn table)
-          (length p.recs) p.top m w.0 sound.top.names (λ k a l r. let s = noted k a l r in (s.1, s.0)) w.1,
-    )
+pub none_of : (p : PatternTerm) (m : Molecule) (wanted : List ℕ) (table : Table) → IsSoundPattern p
+    → AreWanted p wanted → AreNoted p.recs m wanted (length p.recs) table
+    → (CanComplete (HoldsIn table) p.top m [] → ⊥) → Matches p m → ⊥
+none_of p m wanted table sound asked noted none w = none (w.0, by_table p m wanted table w.0 sound asked noted w.1)
 
-pub some_of : (p : PatternTerm) (m : Molecule) (table : Table) → IsSoundPattern p
-    → AreNoted p.recs m (length p.recs) table → CanComplete (HoldsIn table) p.top m [] → Matches p m
-some_of p m table sound noted w = (
+pub some_of : (p : PatternTerm) (m : Molecule) (wanted : List ℕ) (table : Table) → IsSoundPattern p
+    → AreWanted p wanted → AreNoted p.recs m wanted (length p.recs) table
+    → CanComplete (HoldsIn table) p.top m [] → Matches p m
+some_of p m wanted table sound asked noted w = (
   w.0,
   parts_embedding (HoldsIn table) (PartsHold p.recs m (length p.recs))
-      (length p.recs) p.top m w.0 sound.top.names noted w.1,
+      (length p.recs) wanted p.top m w.0 sound.top.names asked.top noted w.1,
 )

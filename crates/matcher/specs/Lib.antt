@@ -7,3 +7,4 @@ pub mod Parts
 pub mod Prepared
 pub mod Ring
 pub mod Task
+pub mod Wanted

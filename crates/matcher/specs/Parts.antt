@@ -1,10 +1,14 @@
 -- For private clauses alone: recursive parts, and a table that says where those of smaller numbers hold.
-use Rattle.std.specs.Prelude.{◌≡◌, ℕ, ◌<◌, ◌≤◌, ◌↔◌, List, length, slice_get, Some}
+use Rattle.std.specs.Prelude.{◌≡◌, ℕ, ◌<◌, ◌≤◌, ◌↔◌, List, length, slice_get, slice_index, Some}
+use Rattle.std.specs.Int.{bit_at}
+use Rattle.chem_core.specs.declared.mol.Atom.{Atom}
 use Rattle.chem_core.specs.Molecule.{Molecule}
 use Rattle.smarts_mean.specs.Table.{HoldsIn, Table}
 use Rattle.smarts_parse.specs.Embedding.{PartsHold}
 use Rattle.smarts_parse.specs.Pattern.{GraphTerm}
 use Rattle.smarts_parse.specs.Sound.{IsSoundGraph}
+use Rattle.matcher.specs.Class.{class_of}
+use Rattle.matcher.specs.Partial.{Parts}
 
 -- what the recursive parts of a pattern keep
 pub record AreSoundParts (recs : List GraphTerm) : Type 0 where
@@ -12,6 +16,11 @@ pub record AreSoundParts (recs : List GraphTerm) : Type 0 where
   pub few_atoms : (j : ℕ) (g : GraphTerm) → slice_get recs j ≡ Some g → length g.atoms ≤ 256
   pub few : length recs ≤ 64
 
--- the table says where each part of a number below n holds
-abbrev pub AreNoted : List GraphTerm → Molecule → ℕ → Table → Type 0
-AreNoted recs m n table = (k a : ℕ) → k < n → a < length m.atoms → HoldsIn table k a ↔ PartsHold recs m n k a
+-- parts of numbers below n hold alike at atoms of the classes that are wanted of them
+abbrev pub HoldAlike : List ℕ → Molecule → ℕ → Parts → Parts → Type 0
+HoldAlike wanted m n P Q = (k a : ℕ) (x : Atom) → k < n → slice_get m.atoms a ≡ Some x
+    → bit_at (slice_index wanted k) (class_of x) ≡ 1 → P k a ↔ Q k a
+
+-- the table says at which of the atoms where it is asked each part of a number below n holds
+abbrev pub AreNoted : List GraphTerm → Molecule → List ℕ → ℕ → Table → Type 0
+AreNoted recs m wanted n table = HoldAlike wanted m n (HoldsIn table) (PartsHold recs m n)

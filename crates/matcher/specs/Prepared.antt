@@ -5,6 +5,7 @@ use Rattle.matcher.specs.declared.planned.Plans.{Plans}
 use Rattle.matcher.specs.declared.prepare.Prepared.{Prepared}
 use Rattle.matcher.specs.declared.scratch.Scratch.{Scratch}
 use Rattle.matcher.specs.Plan.{ArePartsPlanned, StandsAt}
+use Rattle.matcher.specs.Wanted.{AreWanted}
 
 -- the steps of all graphs are those of the pattern's
 pub record IsPlanned (p : PatternTerm) (plans : Plans) : Type 0 where
@@ -15,6 +16,7 @@ pub record IsPlanned (p : PatternTerm) (plans : Plans) : Type 0 where
 -- what was worked out is of the pattern
 pub record IsPrepared (p : PatternTerm) (prepared : Prepared) : Type 0 where
   pub planned : IsPlanned p prepared.plans
+  pub wanted : AreWanted p prepared.wanted.classes.items
 
 -- the scratch was prepared for the pattern
 abbrev pub IsPreparedFor : PatternTerm → Scratch → Type 0

@@ -5,6 +5,9 @@
 //! bonds of the molecule from there; any other goes anywhere. Where any embedding serves, the first placed is one that
 //! few atoms can take, and components of several atoms are first searched for by themselves. The number of tries is not
 //! bounded.
+//!
+//! What depends on the pattern alone is worked out once, by `Scratch::prepare`, for searches in any number of
+//! molecules.
 #![tactic(auto)]
 
 mod answer;
@@ -21,6 +24,7 @@ mod refusal;
 mod ring;
 mod scratch;
 mod search;
+mod wanted;
 
 pub use answer::{Embedding, first, has};
 pub use scratch::Scratch;

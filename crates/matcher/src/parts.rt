@@ -1,5 +1,6 @@
 //! At which atoms the recursive parts of a pattern hold. A part names parts of smaller numbers alone, so they are
-//! searched for in the order of their numbers.
+//! searched for in the order of their numbers. A part is asked only at atoms of the classes that are wanted of it; what
+//! the table says of others is of no account.
 ghost use Rattle.std.specs.Prelude.{◌≡◌, ◌<◌, ◌≤◌, ◌+◌, ◌∷◌, ◌↔◌, [], ℕ, length, map, IsTrue};
 ghost use Rattle.smarts_mean.specs.Table.{HoldsIn};
 ghost use Rattle.smarts_parse.specs.Pattern.{graph_of, pattern_of};
@@ -9,6 +10,7 @@ ghost use Rattle.matcher.specs.Parts.{AreNoted};
 ghost use Rattle.matcher.specs.Plan.{IsReady};
 ghost use Rattle.matcher.specs.Prepared.{IsPrepared};
 
+use crate::class::may_be;
 use crate::fit::{Task, is_of_class};
 use crate::plan::Step;
 use crate::prepare::Prepared;
@@ -17,7 +19,7 @@ use crate::search::extend_at;
 use chem_core::Mol;
 use smarts_parse::{Graph, Pattern};
 
-/// Notes in the table at which atoms each of the first parts holds.
+/// Notes in the table at which of the atoms where it is asked each of the first parts holds.
 pub fn note_parts(
     pattern: &Pattern,
     prepared: &Prepared,
@@ -28,7 +30,8 @@ pub fn note_parts(
     requires sound { IsSoundPattern (pattern_of pattern.now) }
     requires prepared { IsPrepared (pattern_of pattern.now) prepared.now }
     requires count { count ≤ length pattern.now.recs.items }
-    ensures { AreNoted (pattern_of pattern.now).recs mol.now count memory.new.table }
+    ensures { AreNoted (pattern_of pattern.now).recs mol.now
+        prepared.now.wanted.classes.items count memory.new.table }
 {
     for part in 0..count {
         note_part(pattern, prepared, mol, memory, part);
@@ -40,12 +43,19 @@ fn note_part(pattern: &Pattern, prepared: &Prepared, mol: &Mol, memory: &mut Mem
     requires sound { IsSoundPattern (pattern_of pattern.now) }
     requires prepared { IsPrepared (pattern_of pattern.now) prepared.now }
     requires part { part < length pattern.now.recs.items }
-    requires noted { AreNoted (pattern_of pattern.now).recs mol.now part memory.old.table }
-    ensures { AreNoted (pattern_of pattern.now).recs mol.now (part + 1) memory.new.table }
+    requires noted { AreNoted (pattern_of pattern.now).recs mol.now
+        prepared.now.wanted.classes.items part memory.old.table }
+    ensures { AreNoted (pattern_of pattern.now).recs mol.now
+        prepared.now.wanted.classes.items (part + 1) memory.new.table }
 {
     let graph = &pattern.recs[part];
     let steps = prepared.plans.part(pattern, part);
-    for atom in 0..mol.atoms().len() as u16 {
+    let classes = prepared.wanted.at(part);
+    let atoms = mol.atoms();
+    for atom in 0..atoms.len() as u16 {
+        if !may_be(classes, atoms[usize::from(atom)]) {
+            continue;
+        }
         let holds = begins_at(graph, steps, mol, memory, atom);
         memory.table.put(part as u16, atom, holds);
     }

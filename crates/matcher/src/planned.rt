@@ -58,7 +58,8 @@ impl Plans {
     pub fn part(&self, pattern: &Pattern, part: usize) -> &[Step]
         requires planned { IsPlanned (pattern_of pattern.now) self.now }
         requires part { part < length pattern.now.recs.items }
-        ensures { (g : GraphTerm) → slice_get (pattern_of pattern.now).recs part ≡ Some g → IsReady g result.now }
+        ensures { (g : GraphTerm) → slice_get (pattern_of pattern.now).recs part ≡ Some g
+            → IsReady g result.now }
     {
         let begin = self.begins[part];
         self.steps_at(&pattern.recs[part], begin)

@@ -1,7 +1,9 @@
-//! What is worked out of a pattern alone, once for searches in any number of molecules.
+//! What is worked out of a pattern alone, once for searches in any number of molecules: the steps of its graphs, the
+//! atoms at which its recursive parts are asked, and an order for the search.
 use crate::answer::only_part;
 use crate::lay::Order;
 use crate::planned::Plans;
+use crate::wanted::Wanted;
 use smarts_parse::Pattern;
 use std::alloc::{AllocError, Global};
 
@@ -9,6 +11,7 @@ use std::alloc::{AllocError, Global};
 #[derive(Debug, Drop)]
 pub struct Prepared {
     pub plans: Plans,
+    pub wanted: Wanted,
     pub order: Order,
 }
 
@@ -21,6 +24,7 @@ impl Prepared {
     pub fn reserve(alloc: Global) -> Result<Prepared, AllocError> {
         Ok(Prepared {
             plans: Plans::reserve(alloc)?,
+            wanted: Wanted::reserve(alloc)?,
             order: Order::reserve(alloc)?,
         })
     }
@@ -31,6 +35,7 @@ impl Prepared {
         ensures { IsPrepared (pattern_of pattern.now) self.new }
     {
         self.plans.plan(pattern);
+        self.wanted.find(pattern);
         match only_part(pattern) {
             Some(part) => self
                 .order

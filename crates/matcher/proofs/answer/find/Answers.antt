@@ -17,8 +17,10 @@ returns-clause-found c =
     (arith, c.deref_mut.ensures.len, c.extend.auto.image) in
     λ t. subst (λ xs. IsLeast p m (take n xs))
     (sym (take_all c.note_parts.new.memory.image.len c.extend.new.image _ (sym same)))
-    (least_of p m c.note_parts.new.memory.table (take n c.extend.new.image) c.requires.sound
-    (subst (λ k. AreNoted p.recs m k c.note_parts.new.memory.table)
+    (least_of p m c.args.prepared.now.wanted.classes.items c.note_parts.new.memory.table
+    (take n c.extend.new.image) c.requires.sound c.requires.prepared.wanted
+    (subst (λ k. AreNoted p.recs m c.args.prepared.now.wanted.classes.items k
+    c.note_parts.new.memory.table)
     (omega (arith, length-map c.args.pattern.now.recs.items graph_of, c.args.pattern.now.recs.ok.0))
     c.note_parts.ensures) (c.extend.ensures.found t))
 
@@ -26,17 +28,21 @@ pub returns-clause-none : goal.returns-clause-none
 returns-clause-none c = λ f.
     let p = pattern_of c.args.pattern.now in
     let m = c.args.mol.now in
-    let noted = subst (λ k. AreNoted p.recs m k c.note_parts.new.memory.table)
+    let noted = subst (λ k. AreNoted p.recs m c.args.prepared.now.wanted.classes.items k
+    c.note_parts.new.memory.table)
     (omega (arith, length-map c.args.pattern.now.recs.items graph_of, c.args.pattern.now.recs.ok.0))
     c.note_parts.ensures in
-    none_of p m c.note_parts.new.memory.table c.requires.sound noted (c.extend.ensures.none f)
+    none_of p m c.args.prepared.now.wanted.classes.items c.note_parts.new.memory.table c.requires.sound
+    c.requires.prepared.wanted noted (c.extend.ensures.none f)
 
 pub returns-then-is_refused-clause-none : goal.returns-then-is_refused-clause-none
 returns-then-is_refused-clause-none c =
     let p = pattern_of c.args.pattern.now in
     let m = c.args.mol.now in
-    let noted = subst (λ k. AreNoted p.recs m k c.note_parts.new.memory.table)
+    let noted = subst (λ k. AreNoted p.recs m c.args.prepared.now.wanted.classes.items k
+    c.note_parts.new.memory.table)
     (omega (arith, length-map c.args.pattern.now.recs.items graph_of, c.args.pattern.now.recs.ok.0))
     c.note_parts.ensures in
-    λ _. none_of p m c.note_parts.new.memory.table c.requires.sound noted
+    λ _. none_of p m c.args.prepared.now.wanted.classes.items c.note_parts.new.memory.table c.requires.sound
+    c.requires.prepared.wanted noted
     (c.is_refused.ensures c.if-is_refused.true)

@@ -19,7 +19,8 @@ returns-in-Some c =
     let p = pattern_of c.args.pattern.now in
     let recs = c.args.pattern.now.recs.items in
     let g = graph_of c.index.result.now in
-    let both = only_part_holds p c.args.mol.now c.in-Some.part g c.note_parts.new.memory.table c.requires.sound
+    let both = only_part_holds p c.args.mol.now c.args.prepared.now.wanted.classes.items c.in-Some.part g
+    c.note_parts.new.memory.table c.requires.sound c.requires.prepared.wanted
     (c.in-Some.ensures.0 ∙ sym (length-map recs graph_of)) c.in-Some.ensures.1
     (get_map graph_of recs c.in-Some.part c.index.result.now (let last = c.in-Some.ensures.0
     in omega arith) c.index.ensures) c.note_parts.ensures in
@@ -30,13 +31,14 @@ returns-in-None c =
     let p = pattern_of c.args.pattern.now in
     let m = c.args.mol.now in
     let table = c.note_parts-in-None.new.memory.table in
-    let noted = subst (λ n. AreNoted p.recs m n table)
+    let wanted = c.args.prepared.now.wanted.classes.items in
+    let noted = subst (λ n. AreNoted p.recs m wanted n table)
     (omega (arith, length-map c.args.pattern.now.recs.items graph_of, c.args.pattern.now.recs.ok.0))
     c.note_parts-in-None.ensures in (
-      λ t. some_of p m table c.requires.sound noted (c.exists-in-None.ensures.0 t),
+      λ t. some_of p m wanted table c.requires.sound c.requires.prepared.wanted noted (c.exists-in-None.ensures.0 t),
       λ w. elim (cases_Bool c.exists-in-None.result) [
         | inl yes' ↦ yes'
-        | inr no' ↦ absurd (none_of p m table c.requires.sound noted
+        | inr no' ↦ absurd (none_of p m wanted table c.requires.sound c.requires.prepared.wanted noted
             (λ k. false≢true (sym no' ∙ c.exists-in-None.ensures.1 k)) w)
       ],
     )
