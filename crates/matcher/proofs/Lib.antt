@@ -5,6 +5,7 @@ pub mod Plans
 pub mod Places
 pub mod Near
 pub mod PartsHeld
+pub mod Knowledge
 pub mod OnlyParts
 pub mod Pigeons
 pub mod Refusals

@@ -64,7 +64,7 @@ parts_prim P Q n (atoms.Charge k) f m a x to h = h
 parts_prim P Q n (atoms.Mass k) f m a x to h = h
 parts_prim P Q n (atoms.Rec k) f m a x to h = to k f h
 
-parts_term : (P Q : Parts) (n : ℕ) (e : Term AtomPrim) → NamesBelow n e → (m : Molecule) (a : ℕ)
+pub parts_term : (P Q : Parts) (n : ℕ) (e : Term AtomPrim) → NamesBelow n e → (m : Molecule) (a : ℕ)
     → ((k : ℕ) → k < n → P k a → Q k a) → ((k : ℕ) → k < n → Q k a → P k a) → AtomTrue P e m a → AtomTrue Q e m a
 parts_term P Q n (Prim p) f m a to from h = (h.0, h.1, parts_prim P Q n p f m a h.0 to h.2)
 parts_term P Q n (Not e) f m a to from h = λ w. h (parts_term Q P n e f m a from to w)

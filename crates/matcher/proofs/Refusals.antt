@@ -15,6 +15,7 @@ use Rattle.smarts_parse.specs.Pattern.{BondTerm, GraphTerm, Term}
 use Rattle.smarts_parse.specs.Truth.{AtomTrue, BondTrue}
 use Rattle.matcher.specs.Class.{class_of, is_among, is_within}
 use Rattle.matcher.specs.declared.plan.Step.{Step}
+use Rattle.matcher.specs.Known.{IsTrueIn}
 use Rattle.matcher.specs.Partial.{CanComplete, Parts}
 use Rattle.matcher.specs.Plan.{IsReady, step_at}
 use Rattle.matcher.proofs.Classes.{no_element, or_one, stands_at}
@@ -24,11 +25,10 @@ use Rattle.matcher.proofs.Pigeons.{marks, marks_map, pigeons}
 use Rattle.matcher.proofs.Plans.{empty}
 
 -- not where its expression is not true
-pub cannot_stand : (parts : Parts) (g : GraphTerm) (m : Molecule) (place atom : ℕ) (expr : Term AtomPrim)
-    (image : List ℕ) → slice_get g.atoms place ≡ Some expr → (AtomTrue parts expr m atom → ⊥)
-    → IsEmbedding parts g m image → slice_index image place ≡ atom → ⊥
-cannot_stand parts g m place atom expr image get lacks e is = lacks
-    (subst (AtomTrue parts expr m) is (e.atoms place expr get))
+pub cannot_stand : (parts : Parts) (g : GraphTerm) (m : Molecule) (place atom : ℕ) (image : List ℕ)
+    → (IsTrueIn parts g m place atom → ⊥) → IsEmbedding parts g m image → slice_index image place ≡ atom → ⊥
+cannot_stand parts g m place atom image lacks e is = lacks
+    (λ expr get. subst (AtomTrue parts expr m) is (e.atoms place expr get))
 
 -- not where an earlier one stands
 pub stands_before : (parts : Parts) (g : GraphTerm) (m : Molecule) (front rest : List ℕ) (place atom : ℕ)

@@ -4,6 +4,7 @@ ghost use Rattle.smarts_mean.specs.Table.{HoldsIn};
 ghost use Rattle.smarts_parse.specs.Embedding.{Matches};
 ghost use Rattle.smarts_parse.specs.Pattern.{graph_of, pattern_of, term_of, Prim};
 ghost use Rattle.smarts_parse.specs.Sound.{IsSoundPattern};
+ghost use Rattle.matcher.specs.Known.{Knows};
 ghost use Rattle.matcher.specs.Least.{IsLeast};
 ghost use Rattle.matcher.specs.Partial.{CanComplete, IsSearchable};
 ghost use Rattle.matcher.specs.Task.{Completes, IsReadyTask};
@@ -12,6 +13,7 @@ use crate::choices::Choices;
 use crate::class::lacks_atom;
 use crate::fit::Task;
 use crate::hunt::{is_whole, may_continue};
+use crate::known::Known;
 use crate::lay::{Stop, is_rare, lay, rare_start, start_at};
 use crate::parts::note_parts;
 use crate::plan::plan;
@@ -98,6 +100,8 @@ fn exists(graph: &Graph, mol: &Mol, scratch: &mut Scratch) -> bool
     ensures { IsTrue result ↔ CanComplete (HoldsIn scratch.old.table) (graph_of graph.now) mol.now [] }
 {
     plan(graph, &mut scratch.steps);
+    let known = &mut scratch.choices.known;
+    known.clear(graph.atoms.len(), mol.atoms().len());
     let task = Task {
         graph,
         mol,
@@ -107,7 +111,8 @@ fn exists(graph: &Graph, mol: &Mol, scratch: &mut Scratch) -> bool
     if is_refused(&task, &mut scratch.choices) {
         return false;
     }
-    if let Some(found) = seek(&task, &mut scratch.stops, &mut scratch.image) {
+    let known = &mut scratch.choices.known;
+    if let Some(found) = seek(&task, known, &mut scratch.stops, &mut scratch.image) {
         return found;
     }
     extend(&task, &mut scratch.image, &mut scratch.choices, 0)
@@ -115,17 +120,19 @@ fn exists(graph: &Graph, mol: &Mol, scratch: &mut Scratch) -> bool
 
 // Whether the graph has an embedding, where searches in orders of their own find it out. One from its first place is
 // left to the search for the least embedding.
-fn seek(task: &Task, stops: &mut [Stop], image: &mut [u16]) -> Option<bool>
+fn seek(task: &Task, known: &mut Known, stops: &mut [Stop], image: &mut [u16]) -> Option<bool>
     requires ready { IsReadyTask task.now }
     requires room { length task.now.graph.now.atoms.items ≤ length image.old }
-    ensures { IfSome result (λ found. IsTrue found ↔ Completes task.now []) }
+    requires knows { Knows task.now known.old }
+    ensures found { IfSome result (λ found. IsTrue found ↔ Completes task.now []) }
+    ensures knows { Knows task.now known.new }
 {
     let places = task.graph.atoms.len();
     if places < 2 || places > 64 {
         return None;
     }
     if is_loose(task) {
-        return if lacks_component(task, stops, image) {
+        return if lacks_component(task, known, stops, image) {
             Some(false)
         } else {
             None
@@ -135,24 +142,26 @@ fn seek(task: &Task, stops: &mut [Stop], image: &mut [u16]) -> Option<bool>
     if start.place == 0 {
         return None;
     }
-    if finds_none(task, start, stops, image) {
+    if finds_none(task, known, start, stops, image) {
         return Some(false);
     }
-    if is_whole(task, image) {
+    if is_whole(task, known, image) {
         return Some(true);
     }
     None
 }
 
 // Whether a component of several places has no embedding by itself. Different components could still meet.
-fn lacks_component(task: &Task, stops: &mut [Stop], image: &mut [u16]) -> bool
+fn lacks_component(task: &Task, known: &mut Known, stops: &mut [Stop], image: &mut [u16]) -> bool
     requires ready { IsReadyTask task.now }
     requires room { length task.now.graph.now.atoms.items ≤ length image.old }
-    ensures { IsTrue result → ¬ Completes task.now [] }
+    requires knows { Knows task.now known.old }
+    ensures none { IsTrue result → ¬ Completes task.now [] }
+    ensures knows { Knows task.now known.new }
 {
     for place in 0..task.graph.atoms.len() as u16 {
         if begins_component(task, usize::from(place))
-            && finds_none(task, start_at(place), stops, image)
+            && finds_none(task, known, start_at(place), stops, image)
         {
             return true;
         }
@@ -170,17 +179,25 @@ fn begins_component(task: &Task, place: usize) -> bool {
 }
 
 // Whether a search from the start finds that there is no embedding. If not, the image has what it found.
-fn finds_none(task: &Task, start: Stop, stops: &mut [Stop], image: &mut [u16]) -> bool
+fn finds_none(
+    task: &Task,
+    known: &mut Known,
+    start: Stop,
+    stops: &mut [Stop],
+    image: &mut [u16],
+) -> bool
     requires ready { IsReadyTask task.now }
     requires room { length task.now.graph.now.atoms.items ≤ length image.old }
-    ensures { IsTrue result → ¬ Completes task.now [] }
+    requires knows { Knows task.now known.old }
+    ensures none { IsTrue result → ¬ Completes task.now [] }
+    ensures knows { Knows task.now known.new }
 {
     let count = lay(&task.graph.bonds, start, stops);
     let no_atom = task.mol.atoms().len() as u16;
     for place in 0..task.graph.atoms.len() {
         image[place] = no_atom;
     }
-    !may_continue(task, &stops[..count], image, 0)
+    !may_continue(task, known, &stops[..count], image, 0)
 }
 
 // Leaves the least embedding at the front of the scratch's image, if there is one.
@@ -195,6 +212,8 @@ fn find(pattern: &Pattern, mol: &Mol, scratch: &mut Scratch) -> bool
     }
     note_parts(&pattern.recs, mol, scratch, pattern.recs.len());
     plan(&pattern.top, &mut scratch.steps);
+    let known = &mut scratch.choices.known;
+    known.clear(pattern.top.atoms.len(), mol.atoms().len());
     let task = Task {
         graph: &pattern.top,
         mol,
@@ -210,8 +229,10 @@ fn find(pattern: &Pattern, mol: &Mol, scratch: &mut Scratch) -> bool
 // Whether it is found before any search that the graph has no embedding. Of a few places that bonds join only rare
 // bonds are asked for: the others are sooner searched for.
 fn is_refused(task: &Task, choices: &mut Choices) -> bool
-    requires { IsReadyTask task.now }
-    ensures { IsTrue result → ¬ Completes task.now [] }
+    requires ready { IsReadyTask task.now }
+    requires knows { Knows task.now choices.old.known }
+    ensures refused { IsTrue result → ¬ Completes task.now [] }
+    ensures knows { Knows task.now choices.new.known }
 {
     if lacks_ring(task) {
         return true;
@@ -227,7 +248,7 @@ fn is_refused(task: &Task, choices: &mut Choices) -> bool
         if place > 0 && is_alike(task, place) {
             continue;
         }
-        if !has_bond(task, place) {
+        if !has_bond(task, &mut choices.known, place) {
             return true;
         }
     }

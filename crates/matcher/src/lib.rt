@@ -12,6 +12,7 @@ mod choices;
 mod class;
 mod fit;
 mod hunt;
+mod known;
 mod lay;
 mod parts;
 mod plan;

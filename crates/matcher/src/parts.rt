@@ -3,6 +3,7 @@
 ghost use Rattle.std.specs.Prelude.{◌≡◌, ◌<◌, ◌≤◌, ◌+◌, ◌∷◌, ◌↔◌, [], ℕ, length, map, IsTrue};
 ghost use Rattle.smarts_mean.specs.Table.{HoldsIn};
 ghost use Rattle.smarts_parse.specs.Pattern.{graph_of};
+ghost use Rattle.matcher.specs.Known.{IsKnowledge};
 ghost use Rattle.matcher.specs.Partial.{CanComplete};
 ghost use Rattle.matcher.specs.Parts.{AreNoted, AreSoundParts};
 ghost use Rattle.matcher.specs.Plan.{IsReady};
@@ -34,6 +35,8 @@ fn note_part(parts: &[Graph], mol: &Mol, scratch: &mut Scratch, part: usize)
 {
     let graph = &parts[part];
     plan(graph, &mut scratch.steps);
+    let known = &mut scratch.choices.known;
+    known.clear(graph.atoms.len(), mol.atoms().len());
     for atom in 0..mol.atoms().len() as u16 {
         let holds = begins_at(graph, mol, scratch, atom);
         scratch.table.put(part as u16, atom, holds);
@@ -45,6 +48,8 @@ fn begins_at(graph: &Graph, mol: &Mol, scratch: &mut Scratch, atom: u16) -> bool
     requires ready { IsReady (graph_of graph.now) scratch.old.steps.items }
     requires some { 0 < length graph.now.atoms.items }
     requires in_range { atom < length mol.now.atoms }
+    requires knows { IsKnowledge (HoldsIn scratch.old.table) (graph_of graph.now) mol.now scratch.old.choices.known }
+    ensures knows { IsKnowledge (HoldsIn scratch.new.table) (graph_of graph.now) mol.now scratch.new.choices.known }
     ensures found { IsTrue result
         ↔ CanComplete (HoldsIn scratch.old.table) (graph_of graph.now) mol.now (atom ∷ []) }
     ensures table { scratch.new.table ≡ scratch.old.table }

@@ -47,4 +47,4 @@ returns-then-is_refused-clause-none c =
     let told = subst (λ n. AreNoted (map graph_of recs) m n c.note_parts.new.scratch.table)
     (omega (arith, length-map recs graph_of, c.args.pattern.now.recs.ok.0)) here in
     λ _. none_of (pattern_of c.args.pattern.now) m c.note_parts.new.scratch.table c.requires told
-    (c.is_refused.ensures c.if-is_refused.true)
+    (c.is_refused.ensures.refused c.if-is_refused.true)
