@@ -67,7 +67,8 @@ knows_still P Q n g m known names same h = record {
   held = λ p a l r held e get. parts_term P Q n e (named p e get) m a (λ k j. (same k a j r).0)
       (λ k j. (same k a j r).1) (h.held p a l r held e get);
   failed = λ p a l r failed yes'. h.failed p a l r failed
-      (λ e get. parts_term Q P n e (named p e get) m a (λ k j. (same k a j r).1) (λ k j. (same k a j r).0) (yes' e get));
+      (λ e get. parts_term Q P n e (named p e get) m a (λ k j. (same k a j r).1) (λ k j. (same k a j r).0)
+      (yes' e get));
 }
   where
     named : (p : ℕ) (e : Term AtomPrim) → slice_get g.atoms p ≡ Some e → NamesBelow n e

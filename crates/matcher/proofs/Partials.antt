@@ -103,7 +103,8 @@ IsPartial-push parts g m front atom h left lt new true' bonds = record {
 -- what an atom more keeps
 pub IsPartial-last : (parts : Parts) (g : GraphTerm) (m : Molecule) (front : List ℕ) (atom : ℕ)
     → IsPartial parts g m (front ++ atom ∷ []) → (Contains front atom → ⊥)
-    × IsTrueIn parts g m (length front) atom × All (λ bond. max bond.a bond.b ≡ length front → BondEmbeds m (front ++ atom ∷ []) bond) g.bonds
+    × IsTrueIn parts g m (length front) atom
+    × All (λ bond. max bond.a bond.b ≡ length front → BondEmbeds m (front ++ atom ∷ []) bond) g.bonds
 IsPartial-last parts g m front atom h = (
   λ w. h.distinct w.0 (length front) 0 w.1 (omega (arith, length_push front atom))
       (get_or-append front (atom ∷ []) 0 w.0 w.1 ∙ get_or_default front w.0 0 atom w.1 ∙ w.2

@@ -1,5 +1,5 @@
 -- Where a place of a graph cannot stand, and a graph whose places are more than their atoms.
-use Rattle.std.proofs.Common.{◌≡◌, ℕ, ◌<◌, ◌≤◌, ◌++◌, ◌⊎◌, [], inl, inr, Bool, true, false, bit_or, count_by, List, length, map, take, slice_get, slice_index, get_or, Some, Contains, sym, ap, ◌∙◌, subst, arith, refl}
+use Rattle.std.proofs.Common.{◌≡◌, ℕ, ◌<◌, ◌≤◌, ◌++◌, ◌⊎◌, [], inl, inr, Bool, true, false, bit_or, count_by, List, length, map, take, slice_index, get_or, Contains, sym, ap, ◌∙◌, subst, arith, refl}
 use Rattle.std.proofs.Math.Seq.{take-length}
 use Rattle.std.specs.Int.{bit_at}
 use Rattle.std.proofs.lemmas.Bool.{eqb-true, eq-eqb}
@@ -9,9 +9,8 @@ use Rattle.chem_core.specs.declared.mol.Bond.{Bond}
 use Rattle.chem_core.specs.declared.mol.BondKind.TheVariants.{Single}
 use Rattle.chem_core.specs.Graph.{JoinsAt}
 use Rattle.chem_core.specs.Molecule.{IsMolecule, Molecule, ends_of}
-use Rattle.smarts_parse.specs.declared.pattern.AtomPrim.{AtomPrim}
 use Rattle.smarts_parse.specs.Embedding.{BondEmbeds, IsEmbedding}
-use Rattle.smarts_parse.specs.Pattern.{BondTerm, GraphTerm, Term}
+use Rattle.smarts_parse.specs.Pattern.{BondTerm, GraphTerm}
 use Rattle.smarts_parse.specs.Truth.{AtomTrue, BondTrue}
 use Rattle.matcher.specs.Class.{class_of, is_among, is_within}
 use Rattle.matcher.specs.declared.plan.Step.{Step}

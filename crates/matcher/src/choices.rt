@@ -47,8 +47,17 @@ impl Choices {
         self.failures = self.failures.wrapping_add(1);
     }
 
-    /// Whether it is found that the graph cannot be completed after the atoms in front. It is tried only if failures were
-    /// counted since they were as many.
+    /// Whether it is found that the graph cannot be completed after the atoms in front.
+    pub fn refuse(&mut self, task: &Task, front: &[u16]) -> bool
+        requires ready { IsReadyTask task.now }
+        requires knows { Knows task.now self.old.known }
+        ensures refused { IsTrue result → ¬ Completes task.now front.now }
+        ensures knows { Knows task.now self.new.known }
+    {
+        self.assignment.refuse(task, &mut self.known, front)
+    }
+
+    /// The same, which is tried only if failures were counted since they were as many as these.
     pub fn refuse_since(&mut self, failures: u64, task: &Task, front: &[u16]) -> bool
         requires ready { IsReadyTask task.now }
         requires knows { Knows task.now self.old.known }
@@ -59,16 +68,6 @@ impl Choices {
             return false;
         }
         self.refuse(task, front)
-    }
-
-    /// Whether it is found that the graph cannot be completed after the atoms in front.
-    pub fn refuse(&mut self, task: &Task, front: &[u16]) -> bool
-        requires ready { IsReadyTask task.now }
-        requires knows { Knows task.now self.old.known }
-        ensures refused { IsTrue result → ¬ Completes task.now front.now }
-        ensures knows { Knows task.now self.new.known }
-    {
-        self.assignment.refuse(task, &mut self.known, front)
     }
 }
 

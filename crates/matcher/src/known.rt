@@ -1,5 +1,5 @@
-//! What is known of the truth of atom expressions while one graph is searched for in one molecule: each is asked at most
-//! once for a place and an atom, and only where a search comes.
+//! What is known of the truth of atom expressions while one graph is searched for in one molecule: each is asked at
+//! most once for a place and an atom, and only where a search comes.
 ghost use Rattle.std.specs.Prelude.{◌≡◌, ◌≢◌, ◌<◌, ◌≤◌, ◌⊎◌, ◌+◌, ◌*◌, ◌↔◌, ℕ, false, true, length, slice_index_or, IfSome, IsTrue};
 ghost use Rattle.std.specs.Int.{bit_at};
 ghost use Rattle.smarts_mean.specs.Table.{HoldsIn};
@@ -11,13 +11,14 @@ use crate::fit::Task;
 use crate::scratch::MOST_PLACES;
 use chem_core::MOST_ATOMS;
 use smarts_mean::atom_true;
-use smarts_parse::Expr;
+use smarts_parse::{AtomPrim, Expr, Graph};
 use std::alloc::{AllocError, Global};
 
-// As many blocks of 64 atoms has the largest molecule.
+// The blocks of 64 atoms of the largest molecule.
 const MOST_BLOCKS: usize = 16;
 
-/// At which atoms of a block of 64 the expression of a place is known to be true, and at which not to be: a bit for each.
+/// At which atoms of a block of 64 the expression of a place is known to be true, and at which it is known not to be: a
+/// bit for each atom.
 #[derive(Clone, Copy, Debug)]
 pub struct Truths {
     held: u64,
@@ -69,15 +70,15 @@ impl Known {
     pub fn clear(&mut self, places: usize, atoms: usize)
         requires places { places ≤ MOST_PLACES }
         requires atoms { atoms ≤ MOST_ATOMS }
-        ensures { (p a : ℕ) → p < places → a < atoms → (¬ IsHeld self.new p a) × (¬ IsFailed self.new p a) }
+        ensures { (p a : ℕ) → p < places → a < atoms
+            → (¬ IsHeld self.new p a) × (¬ IsFailed self.new p a) }
     {
         for block in 0..atoms.div_ceil(64) {
             clear_from(&mut self.words, MOST_PLACES * block, places);
         }
     }
 
-    /// Whether the expression of a place is true at an atom. It is asked if that is not known. A primitive alone is
-    /// always asked: that takes no longer than to look for what is known.
+    /// Whether the expression of a place is true at an atom. It is asked if that is not known.
     pub fn holds(&mut self, task: &Task, place: usize, atom: u16) -> bool
         requires ready { IsReadyTask task.now }
         requires place { place < length task.now.graph.now.atoms.items }
@@ -87,7 +88,7 @@ impl Known {
         ensures knows { Knows task.now self.new }
     {
         let expr = &task.graph.atoms[place];
-        if let Expr::Prim(_) = expr {
+        if is_asked_always(task.graph, expr) {
             return atom_true(expr, task.mol, atom, task.table);
         }
         if let Some(holds) = self.look(place, atom) {
@@ -129,6 +130,12 @@ impl Known {
             *word = word.with(atom % 64, holds);
         }
     }
+}
+
+// Whether the expression of a graph's atom is always asked. A primitive alone is: that takes no longer than to look for
+// what is known. So is the only atom of a graph, which no search asks twice at one atom.
+fn is_asked_always(graph: &Graph, expr: &Expr<AtomPrim>) -> bool {
+    graph.atoms.len() == 1 || matches!(expr, Expr::Prim(_))
 }
 
 // Whether the word has the bit.

@@ -48,8 +48,10 @@ fn begins_at(graph: &Graph, mol: &Mol, scratch: &mut Scratch, atom: u16) -> bool
     requires ready { IsReady (graph_of graph.now) scratch.old.steps.items }
     requires some { 0 < length graph.now.atoms.items }
     requires in_range { atom < length mol.now.atoms }
-    requires knows { IsKnowledge (HoldsIn scratch.old.table) (graph_of graph.now) mol.now scratch.old.choices.known }
-    ensures knows { IsKnowledge (HoldsIn scratch.new.table) (graph_of graph.now) mol.now scratch.new.choices.known }
+    requires knows { IsKnowledge (HoldsIn scratch.old.table) (graph_of graph.now) mol.now
+        scratch.old.choices.known }
+    ensures knows { IsKnowledge (HoldsIn scratch.new.table) (graph_of graph.now) mol.now
+        scratch.new.choices.known }
     ensures found { IsTrue result
         ↔ CanComplete (HoldsIn scratch.old.table) (graph_of graph.now) mol.now (atom ∷ []) }
     ensures table { scratch.new.table ≡ scratch.old.table }

@@ -9,4 +9,8 @@ returns-then-lacks_component-clause-found c = (
 )
 
 pub returns-then-finds_none-clause-found : goal.returns-then-finds_none-clause-found
-returns-then-finds_none-clause-found c = (λ t. absurd (false≢true t), λ w. absurd (c.finds_none.ensures.none c.if-finds_none.true w))
+returns-then-finds_none-clause-found c = (
+  λ t. absurd (false≢true t),
+  λ w. absurd
+      (c.finds_none.ensures.none c.if-finds_none.true w),
+)

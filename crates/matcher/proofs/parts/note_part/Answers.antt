@@ -36,8 +36,11 @@ loop-atom-init c =
     (arith, c.deref_mut.ensures.len, c.plan.auto.steps) in
     record {
       knows = knows_nothing (HoldsIn c.args.scratch.now.table) (graph_of c.index-parts-part.result) c.args.mol.now
-          c.clear.new.self _ _
-          (omega (arith, length-map c.index-parts-part.result.atoms.items term_of, c.index-parts-part.result.atoms.ok.0))
+          c.clear.new.self _ _ (omega (
+            arith,
+            length-map c.index-parts-part.result.atoms.items term_of,
+            c.index-parts-part.result.atoms.ok.0,
+          ))
           (ap length (sym c.atoms.ensures.value)) c.clear.ensures;
       ready = subst (IsReady (graph_of c.index-parts-part.result))
           (sym (take_all c.args.scratch.now.steps.len c.plan.new.steps _ (sym same))) c.plan.ensures;

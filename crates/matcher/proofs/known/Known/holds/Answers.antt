@@ -12,8 +12,8 @@ pub atom_true-requires-clause-named : goal.atom_true-requires-clause-named
 atom_true-requires-clause-named c = All-image (NamesBelow 64) term_of c.args.task.now.graph.now.atoms.items
     c.args.place c.index-expr.result.now c.requires.place c.index-expr.ensures c.requires.ready.searchable.names
 
-pub returns-in-Prim-clause-holds : goal.returns-in-Prim-clause-holds
-returns-in-Prim-clause-holds c =
+pub returns-then-is_asked_always-clause-holds : goal.returns-then-is_asked_always-clause-holds
+returns-then-is_asked_always-clause-holds c =
     let task = c.args.task.now in
     let here = true_in (HoldsIn task.table.now) (graph_of task.graph.now) task.mol.now c.args.place c.args.atom
     (term_of c.index-expr.result.now) (get_map term_of task.graph.now.atoms.items c.args.place c.index-expr.result.now
