@@ -25,6 +25,19 @@ names_all S T n (Not e) below h to = names_all S T n e below h to
 names_all S T n (And e f) below h to = (names_all S T n e below.0 h.0 to, names_all S T n f below.1 h.1 to)
 names_all S T n (Or e f) below h to = (names_all S T n e below.0 h.0 to, names_all S T n f below.1 h.1 to)
 
+names_prim_below : (S : ℕ → Type 0) (n : ℕ) (p : AtomPrim) → PrimNamesBelow n p → ((k : ℕ) → k < n → S k)
+    → PrimNames S p
+names_prim_below S n (atoms.Rec k) below all = all k below
+names_prim_below S n _ below all = tt
+
+-- what holds of all parts of numbers below n
+pub names_below : (S : ℕ → Type 0) (n : ℕ) (e : Term AtomPrim) → NamesBelow n e → ((k : ℕ) → k < n → S k)
+    → NamesOnly S e
+names_below S n (Prim p) below all = names_prim_below S n p below all
+names_below S n (Not e) below all = names_below S n e below all
+names_below S n (And e f) below all = (names_below S n e below.0 all, names_below S n f below.1 all)
+names_below S n (Or e f) below all = (names_below S n e below.0 all, names_below S n f below.1 all)
+
 -- a primitive that names no part
 pub names_none : (S : ℕ → Type 0) (p : AtomPrim) → ((k : ℕ) → p ≡ atoms.Rec k → ⊥) → PrimNames S p
 names_none S (atoms.Rec k) h = absurd (h k refl)

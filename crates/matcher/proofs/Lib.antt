@@ -7,6 +7,7 @@ pub mod Places
 pub mod Near
 pub mod Asked
 pub mod PartsHeld
+pub mod Knowledge
 pub mod OnlyParts
 pub mod Pigeons
 pub mod Refusals

@@ -14,6 +14,7 @@ use Rattle.smarts_parse.specs.Pattern.{Term, BondTerm, GraphTerm}
 use Rattle.smarts_parse.specs.Sound.{pattern_ends}
 use Rattle.smarts_parse.specs.Truth.{AtomTrue, BondTrue}
 use Rattle.smarts_parse.specs.Embedding.{BondEmbeds, IsEmbedding}
+use Rattle.matcher.specs.Known.{IsTrueIn}
 use Rattle.matcher.specs.Partial.{CanComplete, IsPartial, Parts}
 use Rattle.matcher.proofs.Joins.{joined_back}
 
@@ -76,13 +77,13 @@ IsPartial-whole parts g m image ends full h = record {
     placed bond both = let left = both.0 in let right = both.1 in omega arith
 
 -- one atom more
-pub IsPartial-push : (parts : Parts) (g : GraphTerm) (m : Molecule) (front : List ℕ) (atom : ℕ) (e : Term AtomPrim)
-    → IsPartial parts g m front → atom < length m.atoms → (Contains front atom → ⊥)
-    → slice_get g.atoms (length front) ≡ Some e → AtomTrue parts e m atom
+pub IsPartial-push : (parts : Parts) (g : GraphTerm) (m : Molecule) (front : List ℕ) (atom : ℕ)
+    → IsPartial parts g m front → length front < length g.atoms → atom < length m.atoms → (Contains front atom → ⊥)
+    → IsTrueIn parts g m (length front) atom
     → All (λ bond. max bond.a bond.b ≡ length front → BondEmbeds m (front ++ atom ∷ []) bond) g.bonds
     → IsPartial parts g m (front ++ atom ∷ [])
-IsPartial-push parts g m front atom e h lt new get true' bonds = record {
-  few = omega (arith, slice_get_within g.atoms (length front) e get, length-append front (atom ∷ []));
+IsPartial-push parts g m front atom h left lt new true' bonds = record {
+  few = omega (arith, left, length-append front (atom ∷ []));
   in_range = All-push (λ a. a < length m.atoms) front atom h.in_range lt;
   distinct = all_pairs_push ◌≢◌ front atom h.distinct
       (λ k d l same. new (k, l, get_or_default front k atom d l ∙ same));
@@ -90,9 +91,8 @@ IsPartial-push parts g m front atom e h lt new get true' bonds = record {
       (λ before. subst (AtomTrue parts f m) (sym (index_front front (atom ∷ []) k before)) (h.atoms k f before at))
       (λ after.
       let last : k ≡ length front = omega (arith, length_push front atom) in
-      let same : f ≡ e = cc in
       let here : slice_index (front ++ atom ∷ []) k ≡ atom = get_or_push front atom 0 k (sym last) in
-      subst (AtomTrue parts f m) (sym here) (subst (λ t. AtomTrue parts t m atom) (sym same) true'))
+      subst (AtomTrue parts f m) (sym here) (true' f (subst (λ i. slice_get g.atoms i ≡ Some f) last at)))
       (cases_lt k (length front));
   bonds = λ k d l within. ⊎_elim
       (λ before. bond_whole m front (atom ∷ []) (get_or g.bonds k d) before (h.bonds k d l before))
@@ -103,7 +103,7 @@ IsPartial-push parts g m front atom e h lt new get true' bonds = record {
 -- what an atom more keeps
 pub IsPartial-last : (parts : Parts) (g : GraphTerm) (m : Molecule) (front : List ℕ) (atom : ℕ)
     → IsPartial parts g m (front ++ atom ∷ []) → (Contains front atom → ⊥)
-    × ((e : Term AtomPrim) → slice_get g.atoms (length front) ≡ Some e → AtomTrue parts e m atom)
+    × IsTrueIn parts g m (length front) atom
     × All (λ bond. max bond.a bond.b ≡ length front → BondEmbeds m (front ++ atom ∷ []) bond) g.bonds
 IsPartial-last parts g m front atom h = (
   λ w. h.distinct w.0 (length front) 0 w.1 (omega (arith, length_push front atom))

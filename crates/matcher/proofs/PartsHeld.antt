@@ -42,7 +42,7 @@ parts_prim P Q (atoms.Rec k) m a x same = same
 parts_prim P Q _ m a x same = (λ h. h, λ h. h)
 
 -- an expression is as true where the parts that it names hold alike
-parts_term : (P Q : Parts) (e : Term AtomPrim) (m : Molecule) (a : ℕ) → NamesOnly (λ k. P k a ↔ Q k a) e
+pub parts_term : (P Q : Parts) (e : Term AtomPrim) (m : Molecule) (a : ℕ) → NamesOnly (λ k. P k a ↔ Q k a) e
     → AtomTrue P e m a ↔ AtomTrue Q e m a
 parts_term P Q (Prim p) m a same = (
   λ h. (h.0, h.1, (parts_prim P Q p m a h.0 same).0 h.2),

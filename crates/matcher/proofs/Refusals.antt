@@ -1,5 +1,5 @@
 -- Where a place of a graph cannot stand, and a graph whose places are more than their atoms.
-use Rattle.std.proofs.Common.{◌≡◌, ℕ, ◌<◌, ◌≤◌, ◌++◌, ◌⊎◌, [], inl, inr, Bool, true, false, bit_or, count_by, List, length, map, take, slice_get, slice_index, get_or, Some, Contains, sym, ap, ◌∙◌, subst, arith, refl}
+use Rattle.std.proofs.Common.{◌≡◌, ℕ, ◌<◌, ◌≤◌, ◌++◌, ◌⊎◌, [], inl, inr, Bool, true, false, bit_or, count_by, List, length, map, take, slice_index, get_or, Contains, sym, ap, ◌∙◌, subst, arith, refl}
 use Rattle.std.proofs.Math.Seq.{take-length}
 use Rattle.std.specs.Int.{bit_at}
 use Rattle.std.proofs.lemmas.Bool.{eqb-true, eq-eqb}
@@ -9,12 +9,12 @@ use Rattle.chem_core.specs.declared.mol.Bond.{Bond}
 use Rattle.chem_core.specs.declared.mol.BondKind.TheVariants.{Single}
 use Rattle.chem_core.specs.Graph.{JoinsAt}
 use Rattle.chem_core.specs.Molecule.{IsMolecule, Molecule, ends_of}
-use Rattle.smarts_parse.specs.declared.pattern.AtomPrim.{AtomPrim}
 use Rattle.smarts_parse.specs.Embedding.{BondEmbeds, IsEmbedding}
-use Rattle.smarts_parse.specs.Pattern.{BondTerm, GraphTerm, Term}
+use Rattle.smarts_parse.specs.Pattern.{BondTerm, GraphTerm}
 use Rattle.smarts_parse.specs.Truth.{AtomTrue, BondTrue}
 use Rattle.matcher.specs.Class.{class_of, is_among, is_within}
 use Rattle.matcher.specs.declared.plan.Step.{Step}
+use Rattle.matcher.specs.Known.{IsTrueIn}
 use Rattle.matcher.specs.Partial.{CanComplete, Parts}
 use Rattle.matcher.specs.Plan.{IsReady, step_at}
 use Rattle.matcher.proofs.Classes.{no_element, or_one, stands_at}
@@ -24,11 +24,10 @@ use Rattle.matcher.proofs.Pigeons.{marks, marks_map, pigeons}
 use Rattle.matcher.proofs.Plans.{empty}
 
 -- not where its expression is not true
-pub cannot_stand : (parts : Parts) (g : GraphTerm) (m : Molecule) (place atom : ℕ) (expr : Term AtomPrim)
-    (image : List ℕ) → slice_get g.atoms place ≡ Some expr → (AtomTrue parts expr m atom → ⊥)
-    → IsEmbedding parts g m image → slice_index image place ≡ atom → ⊥
-cannot_stand parts g m place atom expr image get lacks e is = lacks
-    (subst (AtomTrue parts expr m) is (e.atoms place expr get))
+pub cannot_stand : (parts : Parts) (g : GraphTerm) (m : Molecule) (place atom : ℕ) (image : List ℕ)
+    → (IsTrueIn parts g m place atom → ⊥) → IsEmbedding parts g m image → slice_index image place ≡ atom → ⊥
+cannot_stand parts g m place atom image lacks e is = lacks
+    (λ expr get. subst (AtomTrue parts expr m) is (e.atoms place expr get))
 
 -- not where an earlier one stands
 pub stands_before : (parts : Parts) (g : GraphTerm) (m : Molecule) (front rest : List ℕ) (place atom : ℕ)

@@ -1,5 +1,6 @@
 pub mod Class
 pub mod Hunt
+pub mod Known
 pub mod Least
 pub mod Partial
 pub mod Plan

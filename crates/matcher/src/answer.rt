@@ -4,6 +4,7 @@ ghost use Rattle.smarts_mean.specs.Table.{HoldsIn};
 ghost use Rattle.smarts_parse.specs.Embedding.{Matches};
 ghost use Rattle.smarts_parse.specs.Pattern.{graph_of, pattern_of, term_of, Prim};
 ghost use Rattle.smarts_parse.specs.Sound.{IsSoundPattern};
+ghost use Rattle.matcher.specs.Known.{Knows};
 ghost use Rattle.matcher.specs.Least.{IsLeast};
 ghost use Rattle.matcher.specs.Partial.{CanComplete};
 ghost use Rattle.matcher.specs.Plan.{IsReady};
@@ -14,6 +15,7 @@ use crate::choices::Choices;
 use crate::class::lacks_atom;
 use crate::fit::Task;
 use crate::hunt::{is_whole, may_continue};
+use crate::known::Known;
 use crate::lay::{Stop, is_rare, lay, start_at};
 use crate::parts::note_parts;
 use crate::plan::{Step, is_loose};
@@ -114,6 +116,8 @@ fn exists(graph: &Graph, steps: &[Step], order: &[Stop], mol: &Mol, memory: &mut
     requires { IsReady (graph_of graph.now) steps.now }
     ensures { IsTrue result ↔ CanComplete (HoldsIn memory.old.table) (graph_of graph.now) mol.now [] }
 {
+    let known = &mut memory.choices.known;
+    known.clear(graph.atoms.len(), mol.atoms().len());
     let task = Task {
         graph,
         mol,
@@ -123,7 +127,8 @@ fn exists(graph: &Graph, steps: &[Step], order: &[Stop], mol: &Mol, memory: &mut
     if is_refused(&task, &mut memory.choices) {
         return false;
     }
-    if let Some(found) = seek(&task, order, &mut memory.stops, &mut memory.image) {
+    let known = &mut memory.choices.known;
+    if let Some(found) = seek(&task, known, order, &mut memory.stops, &mut memory.image) {
         return found;
     }
     extend(&task, &mut memory.image, &mut memory.choices, 0)
@@ -131,22 +136,30 @@ fn exists(graph: &Graph, steps: &[Step], order: &[Stop], mol: &Mol, memory: &mut
 
 // Whether the graph has an embedding, where searches in orders of their own find it out. One from its first place is
 // left to the search for the least embedding.
-fn seek(task: &Task, order: &[Stop], stops: &mut [Stop], image: &mut [u16]) -> Option<bool>
+fn seek(
+    task: &Task,
+    known: &mut Known,
+    order: &[Stop],
+    stops: &mut [Stop],
+    image: &mut [u16],
+) -> Option<bool>
     requires ready { IsReadyTask task.now }
     requires room { length task.now.graph.now.atoms.items ≤ length image.old }
-    ensures { IfSome result (λ found. IsTrue found ↔ Completes task.now []) }
+    requires knows { Knows task.now known.old }
+    ensures found { IfSome result (λ found. IsTrue found ↔ Completes task.now []) }
+    ensures knows { Knows task.now known.new }
 {
     if order.is_empty() {
-        return if lacks_component(task, stops, image) {
+        return if lacks_component(task, known, stops, image) {
             Some(false)
         } else {
             None
         };
     }
-    if finds_none(task, order, image) {
+    if finds_none(task, known, order, image) {
         return Some(false);
     }
-    if is_whole(task, image) {
+    if is_whole(task, known, image) {
         return Some(true);
     }
     None
@@ -154,10 +167,12 @@ fn seek(task: &Task, order: &[Stop], stops: &mut [Stop], image: &mut [u16]) -> O
 
 // Whether the graph is of components, and one of several places, of at most 64 in all, has no embedding by itself.
 // Different components could still meet.
-fn lacks_component(task: &Task, stops: &mut [Stop], image: &mut [u16]) -> bool
+fn lacks_component(task: &Task, known: &mut Known, stops: &mut [Stop], image: &mut [u16]) -> bool
     requires ready { IsReadyTask task.now }
     requires room { length task.now.graph.now.atoms.items ≤ length image.old }
-    ensures { IsTrue result → ¬ Completes task.now [] }
+    requires knows { Knows task.now known.old }
+    ensures none { IsTrue result → ¬ Completes task.now [] }
+    ensures knows { Knows task.now known.new }
 {
     let places = task.graph.atoms.len();
     if places > 64 || !is_loose(task.steps) {
@@ -168,7 +183,7 @@ fn lacks_component(task: &Task, stops: &mut [Stop], image: &mut [u16]) -> bool
             continue;
         }
         let count = lay(&task.graph.bonds, start_at(place), stops);
-        if finds_none(task, &stops[..count], image) {
+        if finds_none(task, known, &stops[..count], image) {
             return true;
         }
     }
@@ -185,16 +200,18 @@ fn begins_component(task: &Task, place: usize) -> bool {
 }
 
 // Whether a search in that order finds that there is no embedding. If not, the image has what it found.
-fn finds_none(task: &Task, order: &[Stop], image: &mut [u16]) -> bool
+fn finds_none(task: &Task, known: &mut Known, order: &[Stop], image: &mut [u16]) -> bool
     requires ready { IsReadyTask task.now }
     requires room { length task.now.graph.now.atoms.items ≤ length image.old }
-    ensures { IsTrue result → ¬ Completes task.now [] }
+    requires knows { Knows task.now known.old }
+    ensures none { IsTrue result → ¬ Completes task.now [] }
+    ensures knows { Knows task.now known.new }
 {
     let no_atom = task.mol.atoms().len() as u16;
     for place in 0..task.graph.atoms.len() {
         image[place] = no_atom;
     }
-    !may_continue(task, order, image, 0)
+    !may_continue(task, known, order, image, 0)
 }
 
 // Leaves the least embedding at the front of the image, if there is one.
@@ -210,6 +227,8 @@ fn find(pattern: &Pattern, prepared: &Prepared, mol: &Mol, memory: &mut Memory) 
         return false;
     }
     note_parts(pattern, prepared, mol, memory, pattern.recs.len());
+    let known = &mut memory.choices.known;
+    known.clear(pattern.top.atoms.len(), mol.atoms().len());
     let task = Task {
         graph: &pattern.top,
         mol,
@@ -225,8 +244,10 @@ fn find(pattern: &Pattern, prepared: &Prepared, mol: &Mol, memory: &mut Memory) 
 // Whether it is found before any search that the graph has no embedding. Of a few places that bonds join only rare
 // bonds are asked for: the others are sooner searched for.
 fn is_refused(task: &Task, choices: &mut Choices) -> bool
-    requires { IsReadyTask task.now }
-    ensures { IsTrue result → ¬ Completes task.now [] }
+    requires ready { IsReadyTask task.now }
+    requires knows { Knows task.now choices.old.known }
+    ensures refused { IsTrue result → ¬ Completes task.now [] }
+    ensures knows { Knows task.now choices.new.known }
 {
     if lacks_ring(task) {
         return true;
@@ -242,7 +263,7 @@ fn is_refused(task: &Task, choices: &mut Choices) -> bool
         if place > 0 && is_alike(task, place) {
             continue;
         }
-        if !has_bond(task, place) {
+        if !has_bond(task, &mut choices.known, place) {
             return true;
         }
     }

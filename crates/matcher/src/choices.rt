@@ -3,9 +3,12 @@
 //!
 //! Nothing is promised of a choice. Where none is found, the places and atoms that the last try reached show why.
 ghost use Rattle.std.specs.Prelude.{◌≡◌, ◌<◌, length, IsTrue};
+ghost use Rattle.matcher.specs.Known.{Knows};
 ghost use Rattle.matcher.specs.Task.{Completes, IsReadyTask};
 
 use crate::fit::Task;
+use crate::known::Known;
+use crate::planned::MOST_PLACES;
 use crate::refusal::{excludes, may_stand};
 use chem_core::MOST_ATOMS;
 use std::alloc::{AllocError, Global};
@@ -13,21 +16,11 @@ use std::alloc::{AllocError, Global};
 /// No place, no atom.
 const NONE: u16 = u16::MAX;
 
-/// The most places of a graph.
-const MOST_PLACES: usize = 256;
-
-/// Memory for choices.
+/// Memory for choices, and what is known of the graph's atoms.
 #[derive(Debug, Drop)]
 pub struct Choices {
-    // for each place the atom that it chose, and whether the last try reached it
-    chosen: Vec<u16>,
-    reached: Vec<bool>,
-    // for each atom the place that chose it, whether the last try reached it, and from which place
-    holder: Vec<u16>,
-    seen: Vec<bool>,
-    from: Vec<u16>,
-    // the places that the last try reached, in turn
-    queue: Vec<u16>,
+    pub known: Known,
+    assignment: Assignment,
     // how many searches found no place for an atom that no bond joins to an earlier one
     failures: u64,
 }
@@ -36,12 +29,8 @@ impl Choices {
     /// Takes the memory.
     pub fn reserve(alloc: Global) -> Result<Choices, AllocError> {
         Ok(Choices {
-            chosen: vec![in alloc; NONE; MOST_PLACES]?,
-            reached: vec![in alloc; false; MOST_PLACES]?,
-            holder: vec![in alloc; NONE; MOST_ATOMS]?,
-            seen: vec![in alloc; false; MOST_ATOMS]?,
-            from: vec![in alloc; NONE; MOST_ATOMS]?,
-            queue: vec![in alloc; NONE; MOST_PLACES]?,
+            known: Known::reserve(alloc)?,
+            assignment: Assignment::reserve(alloc)?,
             failures: 0,
         })
     }
@@ -52,14 +41,68 @@ impl Choices {
     }
 
     /// Counts a failure.
-    pub fn fail(&mut self) {
+    pub fn fail(&mut self)
+        ensures { self.new.known ≡ self.old.known }
+    {
         self.failures = self.failures.wrapping_add(1);
     }
 
     /// Whether it is found that the graph cannot be completed after the atoms in front.
     pub fn refuse(&mut self, task: &Task, front: &[u16]) -> bool
-        requires { IsReadyTask task.now }
-        ensures { IsTrue result → ¬ Completes task.now front.now }
+        requires ready { IsReadyTask task.now }
+        requires knows { Knows task.now self.old.known }
+        ensures refused { IsTrue result → ¬ Completes task.now front.now }
+        ensures knows { Knows task.now self.new.known }
+    {
+        self.assignment.refuse(task, &mut self.known, front)
+    }
+
+    /// The same, which is tried only if failures were counted since they were as many as these.
+    pub fn refuse_since(&mut self, failures: u64, task: &Task, front: &[u16]) -> bool
+        requires ready { IsReadyTask task.now }
+        requires knows { Knows task.now self.old.known }
+        ensures refused { IsTrue result → ¬ Completes task.now front.now }
+        ensures knows { Knows task.now self.new.known }
+    {
+        if self.failures == failures {
+            return false;
+        }
+        self.refuse(task, front)
+    }
+}
+
+// An atom for each place that has one.
+#[derive(Debug, Drop)]
+struct Assignment {
+    // for each place the atom that it chose, and whether the last try reached it
+    chosen: Vec<u16>,
+    reached: Vec<bool>,
+    // for each atom the place that chose it, whether the last try reached it, and from which place
+    holder: Vec<u16>,
+    seen: Vec<bool>,
+    from: Vec<u16>,
+    // the places that the last try reached, in turn
+    queue: Vec<u16>,
+}
+
+impl Assignment {
+    fn reserve(alloc: Global) -> Result<Assignment, AllocError> {
+        Ok(Assignment {
+            chosen: vec![in alloc; NONE; MOST_PLACES]?,
+            reached: vec![in alloc; false; MOST_PLACES]?,
+            holder: vec![in alloc; NONE; MOST_ATOMS]?,
+            seen: vec![in alloc; false; MOST_ATOMS]?,
+            from: vec![in alloc; NONE; MOST_ATOMS]?,
+            queue: vec![in alloc; NONE; MOST_PLACES]?,
+        })
+    }
+
+    // Whether it is found that the graph cannot be completed after the atoms in front.
+    fn refuse(&mut self, task: &Task, known: &mut Known, front: &[u16]) -> bool
+        requires ready { IsReadyTask task.now }
+        requires knows { Knows task.now known.old }
+        ensures refused { IsTrue result → ¬ Completes task.now front.now }
+        ensures knows { Knows task.now known.new }
     {
         let places = task.graph.atoms.len();
         let atoms = task.mol.atoms().len();
@@ -70,30 +113,40 @@ impl Choices {
             *holder = NONE;
         }
         for place in front.len()..places {
-            if !self.choose(task, front, place) {
-                return self.shows_why(task, front);
+            if !self.choose(task, known, front, place) {
+                return self.shows_why(task, known, front);
             }
         }
         false
     }
 
     // Whether the places and atoms that the last try reached show that the graph cannot be completed.
-    fn shows_why(&self, task: &Task, front: &[u16]) -> bool
-        requires { IsReadyTask task.now }
-        ensures { IsTrue result → ¬ Completes task.now front.now }
+    fn shows_why(&self, task: &Task, known: &mut Known, front: &[u16]) -> bool
+        requires ready { IsReadyTask task.now }
+        requires knows { Knows task.now known.old }
+        ensures refused { IsTrue result → ¬ Completes task.now front.now }
+        ensures knows { Knows task.now known.new }
     {
         let places = task.graph.atoms.len();
         let atoms = task.mol.atoms().len();
         if self.reached.len() < places || self.seen.len() < atoms {
             return false;
         }
-        excludes(task, front, &self.reached[..places], &self.seen[..atoms])
+        excludes(
+            task,
+            known,
+            front,
+            &self.reached[..places],
+            &self.seen[..atoms],
+        )
     }
 
     // Gives the place an atom, if it can have one.
-    fn choose(&mut self, task: &Task, front: &[u16], place: usize) -> bool
+    fn choose(&mut self, task: &Task, known: &mut Known, front: &[u16], place: usize) -> bool
         requires ready { IsReadyTask task.now }
+        requires knows { Knows task.now known.old }
         requires place { place < length task.now.graph.now.atoms.items }
+        ensures { Knows task.now known.new }
     {
         let places = task.graph.atoms.len();
         let atoms = task.mol.atoms().len();
@@ -109,7 +162,7 @@ impl Choices {
             if next >= last || usize::from(from) >= places {
                 return false;
             }
-            match self.step(task, front, from, last) {
+            match self.step(task, known, front, from, last) {
                 Some(more) => last = more,
                 None => return true,
             }
@@ -119,13 +172,22 @@ impl Choices {
 
     // Reaches the atoms where the place may stand, and from each the place that holds it. `None` where one was free,
     // so that it was chosen.
-    fn step(&mut self, task: &Task, front: &[u16], place: u16, queued: usize) -> Option<usize>
+    fn step(
+        &mut self,
+        task: &Task,
+        known: &mut Known,
+        front: &[u16],
+        place: u16,
+        queued: usize,
+    ) -> Option<usize>
         requires ready { IsReadyTask task.now }
+        requires knows { Knows task.now known.old }
         requires place { place < length task.now.graph.now.atoms.items }
+        ensures { Knows task.now known.new }
     {
         let mut last = queued;
         for atom in 0..task.mol.atoms().len() as u16 {
-            if self.is_seen(atom) || !may_stand(task, front, usize::from(place), atom) {
+            if self.is_seen(atom) || !may_stand(task, known, front, usize::from(place), atom) {
                 continue;
             }
             let holder = self.see(atom, place);

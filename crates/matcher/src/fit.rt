@@ -5,12 +5,14 @@ ghost use Rattle.chem_core.specs.Molecule.{ends_of};
 ghost use Rattle.smarts_parse.specs.Embedding.{BondEmbeds};
 ghost use Rattle.smarts_parse.specs.Pattern.{bond_of, term_of};
 ghost use Rattle.smarts_parse.specs.Truth.{BondTrue};
+ghost use Rattle.matcher.specs.Known.{Knows};
 ghost use Rattle.matcher.specs.Task.{Completes, Embeds, FirstEmbeds, IsPlaced, IsReadyTask};
 
 use crate::class::may_be;
+use crate::known::Known;
 use crate::plan::Step;
 use chem_core::Mol;
-use smarts_mean::{RecTable, atom_true, bond_true};
+use smarts_mean::{RecTable, bond_true};
 use smarts_parse::{BondPrim, Expr, Graph, PatBond};
 
 /// A graph to be placed in a molecule, where recursive parts hold as the table says.
@@ -24,31 +26,35 @@ pub struct Task<'a> {
 
 /// Whether the next atom may stand at that one after the atoms in front. Its first bond to an earlier atom is known to
 /// embed, and is not looked at again.
-pub fn fits(task: &Task, front: &[u16], atom: u16) -> bool
+pub fn fits(task: &Task, known: &mut Known, front: &[u16], atom: u16) -> bool
     requires ready { IsReadyTask task.now }
     requires few { length front.now < length task.now.graph.now.atoms.items }
     requires in_range { atom < length task.now.mol.now.atoms }
     requires partial { IsPlaced task.now front.now }
     requires first { FirstEmbeds task.now (length front.now) front.now atom }
-    ensures { IsTrue result ↔ IsPlaced task.now (front.now ++ atom ∷ []) }
+    requires knows { Knows task.now known.old }
+    ensures placed { IsTrue result ↔ IsPlaced task.now (front.now ++ atom ∷ []) }
+    ensures knows { Knows task.now known.new }
 {
     let step = task.steps[front.len()];
     let others = step.others(&task.graph.bonds);
     if !is_new(front, atom) {
         return false;
     }
-    if !atom_true(&task.graph.atoms[front.len()], task.mol, atom, task.table) {
+    if !known.holds(task, front.len(), atom) {
         return false;
     }
     bonds_embed(others, task.mol, front, atom)
 }
 
 /// Whether the next atom may stand at that one after the atoms in front.
-pub fn begins(task: &Task, front: &[u16], atom: u16) -> bool
+pub fn begins(task: &Task, known: &mut Known, front: &[u16], atom: u16) -> bool
     requires ready { IsReadyTask task.now }
     requires few { length front.now < length task.now.graph.now.atoms.items }
     requires partial { IsPlaced task.now front.now }
-    ensures { IsTrue result → IsPlaced task.now (front.now ++ atom ∷ []) }
+    requires knows { Knows task.now known.old }
+    ensures placed { IsTrue result → IsPlaced task.now (front.now ++ atom ∷ []) }
+    ensures knows { Knows task.now known.new }
 {
     if usize::from(atom) >= task.mol.atoms().len() {
         return false;
@@ -56,7 +62,7 @@ pub fn begins(task: &Task, front: &[u16], atom: u16) -> bool
     if !first_embeds(task, front, atom) {
         return false;
     }
-    fits(task, front, atom)
+    fits(task, known, front, atom)
 }
 
 /// Whether the atom of the graph at a place may stand at that one, as far as classes show. It is asked before `fits`.

@@ -4,9 +4,11 @@
 //! Nothing is promised where the search comes to its end, but where it does not, there is no embedding.
 ghost use Rattle.std.specs.Prelude.{◌≡◌, ◌<◌, ◌≤◌, ◌⊎◌, [], ℕ, List, false, length, slice_index, IfSome, IsTrue};
 ghost use Rattle.matcher.specs.Hunt.{Asks, Continues, IsFree, stop_at};
+ghost use Rattle.matcher.specs.Known.{Knows};
 ghost use Rattle.matcher.specs.Task.{Completes, IsReadyTask};
 
 use crate::fit::{Task, are_joined_by, begins, is_of_class};
+use crate::known::Known;
 use crate::lay::{NO_BOND, Stop};
 use crate::refusal::may_stand;
 use smarts_mean::bond_true;
@@ -16,10 +18,18 @@ use smarts_parse::PatBond;
 ///
 /// The calls go as deep as there are stops.
 #[cycle(hunt)]
-pub fn may_continue(task: &Task, stops: &[Stop], image: &mut [u16], placed: usize) -> bool
+pub fn may_continue(
+    task: &Task,
+    known: &mut Known,
+    stops: &[Stop],
+    image: &mut [u16],
+    placed: usize,
+) -> bool
     requires ready { IsReadyTask task.now }
     requires room { length task.now.graph.now.atoms.items ≤ length image.old }
     requires placed { placed ≤ length stops.now }
+    requires knows { Knows task.now known.old }
+    ensures knows { Knows task.now known.new }
     ensures kept { result ≡ false → image.new ≡ image.old }
     ensures none { result ≡ false → (whole : List ℕ) → ¬ Continues task.now image.old whole }
 {
@@ -32,18 +42,26 @@ pub fn may_continue(task: &Task, stops: &[Stop], image: &mut [u16], placed: usiz
         return true;
     }
     match atom_before(task, image, stop) {
-        Some(from) => continues_near(task, stops, image, placed, from),
-        None => continues_anywhere(task, stops, image, placed),
+        Some(from) => continues_near(task, known, stops, image, placed, from),
+        None => continues_anywhere(task, known, stops, image, placed),
     }
 }
 
 // The same where the next place may stand anywhere.
 #[cycle(hunt)]
-fn continues_anywhere(task: &Task, stops: &[Stop], image: &mut [u16], placed: usize) -> bool
+fn continues_anywhere(
+    task: &Task,
+    known: &mut Known,
+    stops: &[Stop],
+    image: &mut [u16],
+    placed: usize,
+) -> bool
     requires ready { IsReadyTask task.now }
     requires room { length task.now.graph.now.atoms.items ≤ length image.old }
     requires placed { placed < length stops.now }
     requires free { IsFree task.now stops.now placed image.old }
+    requires knows { Knows task.now known.old }
+    ensures knows { Knows task.now known.new }
     ensures kept { result ≡ false → image.new ≡ image.old }
     ensures none { result ≡ false → (whole : List ℕ) → ¬ Continues task.now image.old whole }
 {
@@ -52,7 +70,7 @@ fn continues_anywhere(task: &Task, stops: &[Stop], image: &mut [u16], placed: us
         if !is_of_class(task, place, atom) {
             continue;
         }
-        if continues_at(task, stops, image, placed, atom) {
+        if continues_at(task, known, stops, image, placed, atom) {
             return true;
         }
     }
@@ -61,7 +79,14 @@ fn continues_anywhere(task: &Task, stops: &[Stop], image: &mut [u16], placed: us
 
 // The same where the bond of the stop joins the next place to one that stands at that atom.
 #[cycle(hunt)]
-fn continues_near(task: &Task, stops: &[Stop], image: &mut [u16], placed: usize, from: u16) -> bool
+fn continues_near(
+    task: &Task,
+    known: &mut Known,
+    stops: &[Stop],
+    image: &mut [u16],
+    placed: usize,
+    from: u16,
+) -> bool
     requires ready { IsReadyTask task.now }
     requires room { length task.now.graph.now.atoms.items ≤ length image.old }
     requires placed { placed < length stops.now }
@@ -69,6 +94,8 @@ fn continues_near(task: &Task, stops: &[Stop], image: &mut [u16], placed: usize,
     requires from { from < length task.now.mol.now.atoms }
     requires bond { (stop_at stops.now placed).bond < length task.now.graph.now.bonds.items }
     requires asks { Asks task.now image.old (stop_at stops.now placed).place from (stop_at stops.now placed).bond }
+    requires knows { Knows task.now known.old }
+    ensures knows { Knows task.now known.new }
     ensures kept { result ≡ false → image.new ≡ image.old }
     ensures none { result ≡ false → (whole : List ℕ) → ¬ Continues task.now image.old whole }
 {
@@ -82,7 +109,7 @@ fn continues_near(task: &Task, stops: &[Stop], image: &mut [u16], placed: usize,
         if !bond_true(&bond.expr, task.mol, *by) {
             continue;
         }
-        if continues_at(task, stops, image, placed, *atom) {
+        if continues_at(task, known, stops, image, placed, *atom) {
             return true;
         }
     }
@@ -91,24 +118,33 @@ fn continues_near(task: &Task, stops: &[Stop], image: &mut [u16], placed: usize,
 
 // The same with the next place at that atom.
 #[cycle(hunt)]
-fn continues_at(task: &Task, stops: &[Stop], image: &mut [u16], placed: usize, atom: u16) -> bool
+fn continues_at(
+    task: &Task,
+    known: &mut Known,
+    stops: &[Stop],
+    image: &mut [u16],
+    placed: usize,
+    atom: u16,
+) -> bool
     requires ready { IsReadyTask task.now }
     requires room { length task.now.graph.now.atoms.items ≤ length image.old }
     requires placed { placed < length stops.now }
     requires free { IsFree task.now stops.now placed image.old }
     requires atom { atom < length task.now.mol.now.atoms }
+    requires knows { Knows task.now known.old }
+    ensures knows { Knows task.now known.new }
     ensures kept { result ≡ false → image.new ≡ image.old }
     ensures none { result ≡ false → (whole : List ℕ) → Continues task.now image.old whole
         → slice_index whole (stop_at stops.now placed).place ≡ atom → ⊥ }
 {
     let stop = stops[placed];
-    if !may_take(task, image, stop, atom) {
+    if !may_take(task, known, image, stop, atom) {
         return false;
     }
     let place = usize::from(stop.place);
     let before = image[place];
     image[place] = atom;
-    if may_continue(task, stops, image, placed + 1) {
+    if may_continue(task, known, stops, image, placed + 1) {
         return true;
     }
     image[place] = before;
@@ -116,16 +152,18 @@ fn continues_at(task: &Task, stops: &[Stop], image: &mut [u16], placed: usize, a
 }
 
 // Whether the place of a stop may stand at that atom.
-fn may_take(task: &Task, image: &[u16], stop: Stop, atom: u16) -> bool
+fn may_take(task: &Task, known: &mut Known, image: &[u16], stop: Stop, atom: u16) -> bool
     requires ready { IsReadyTask task.now }
     requires room { length task.now.graph.now.atoms.items ≤ length image.now }
     requires place { stop.place < length task.now.graph.now.atoms.items }
     requires free { length task.now.mol.now.atoms ≤ slice_index image.now stop.place }
     requires atom { atom < length task.now.mol.now.atoms }
-    ensures { result ≡ false → (whole : List ℕ) → Continues task.now image.now whole
+    requires knows { Knows task.now known.old }
+    ensures knows { Knows task.now known.new }
+    ensures none { result ≡ false → (whole : List ℕ) → Continues task.now image.now whole
         → slice_index whole stop.place ≡ atom → ⊥ }
 {
-    if !may_stand(task, &[], usize::from(stop.place), atom) {
+    if !may_stand(task, known, &[], usize::from(stop.place), atom) {
         return false;
     }
     if image[..task.graph.atoms.len()].contains(&atom) {
@@ -198,13 +236,15 @@ fn other_end(bond: &PatBond, place: u16) -> Option<u16>
 }
 
 /// Whether the atoms at the front of an image are an embedding.
-pub fn is_whole(task: &Task, image: &[u16]) -> bool
+pub fn is_whole(task: &Task, known: &mut Known, image: &[u16]) -> bool
     requires ready { IsReadyTask task.now }
     requires room { length task.now.graph.now.atoms.items ≤ length image.now }
-    ensures { IsTrue result → Completes task.now [] }
+    requires knows { Knows task.now known.old }
+    ensures whole { IsTrue result → Completes task.now [] }
+    ensures knows { Knows task.now known.new }
 {
     for placed in 0..task.graph.atoms.len() {
-        if !begins(task, &image[..placed], image[placed]) {
+        if !begins(task, known, &image[..placed], image[placed]) {
             return false;
         }
     }

@@ -5,6 +5,7 @@ ghost use Rattle.std.specs.Prelude.{◌≡◌, ◌<◌, ◌≤◌, ◌+◌, ◌�
 ghost use Rattle.smarts_mean.specs.Table.{HoldsIn};
 ghost use Rattle.smarts_parse.specs.Pattern.{graph_of, pattern_of};
 ghost use Rattle.smarts_parse.specs.Sound.{IsSoundPattern};
+ghost use Rattle.matcher.specs.Known.{IsKnowledge};
 ghost use Rattle.matcher.specs.Partial.{CanComplete};
 ghost use Rattle.matcher.specs.Parts.{AreNoted};
 ghost use Rattle.matcher.specs.Plan.{IsReady};
@@ -52,6 +53,8 @@ fn note_part(pattern: &Pattern, prepared: &Prepared, mol: &Mol, memory: &mut Mem
     let steps = prepared.plans.part(pattern, part);
     let classes = prepared.wanted.at(part);
     let atoms = mol.atoms();
+    let known = &mut memory.choices.known;
+    known.clear(graph.atoms.len(), atoms.len());
     for atom in 0..atoms.len() as u16 {
         if !may_be(classes, atoms[usize::from(atom)]) {
             continue;
@@ -66,6 +69,10 @@ fn begins_at(graph: &Graph, steps: &[Step], mol: &Mol, memory: &mut Memory, atom
     requires ready { IsReady (graph_of graph.now) steps.now }
     requires some { 0 < length graph.now.atoms.items }
     requires in_range { atom < length mol.now.atoms }
+    requires knows { IsKnowledge (HoldsIn memory.old.table) (graph_of graph.now) mol.now
+        memory.old.choices.known }
+    ensures knows { IsKnowledge (HoldsIn memory.new.table) (graph_of graph.now) mol.now
+        memory.new.choices.known }
     ensures found { IsTrue result
         ↔ CanComplete (HoldsIn memory.old.table) (graph_of graph.now) mol.now (atom ∷ []) }
     ensures table { memory.new.table ≡ memory.old.table }

@@ -1,5 +1,6 @@
 //! The atoms of a graph are placed in turn, lowest places first, so that the first embedding found is the least.
 ghost use Rattle.std.specs.Prelude.{◌≡◌, ◌<◌, ◌≤◌, ◌+◌, ◌++◌, ◌∷◌, [], false, length, take, IsTrue};
+ghost use Rattle.matcher.specs.Known.{Knows};
 ghost use Rattle.matcher.specs.Task.{Completes, FirstEmbeds, IsBonded, IsLeastPlaced, IsPlaced, IsReadyTask};
 
 use crate::choices::Choices;
@@ -15,6 +16,8 @@ pub fn extend(task: &Task, image: &mut [u16], choices: &mut Choices, placed: usi
     requires room { length task.now.graph.now.atoms.items ≤ length image.old }
     requires few { placed ≤ length task.now.graph.now.atoms.items }
     requires partial { IsPlaced task.now (take placed image.old) }
+    requires knows { Knows task.now choices.old.known }
+    ensures knows { Knows task.now choices.new.known }
     ensures kept { take placed image.new ≡ take placed image.old }
     ensures found { IsTrue result → IsLeastPlaced task.now
         (take placed image.old) (take (length task.now.graph.now.atoms.items) image.new) }
@@ -39,6 +42,8 @@ fn extend_anywhere(task: &Task, image: &mut [u16], choices: &mut Choices, placed
     requires few { placed < length task.now.graph.now.atoms.items }
     requires partial { IsPlaced task.now (take placed image.old) }
     requires free { ¬ IsBonded task.now placed }
+    requires knows { Knows task.now choices.old.known }
+    ensures knows { Knows task.now choices.new.known }
     ensures kept { take placed image.new ≡ take placed image.old }
     ensures found { IsTrue result → IsLeastPlaced task.now
         (take placed image.old) (take (length task.now.graph.now.atoms.items) image.new) }
@@ -52,7 +57,7 @@ fn extend_anywhere(task: &Task, image: &mut [u16], choices: &mut Choices, placed
         if extend_at(task, image, choices, placed, atom) {
             return true;
         }
-        if choices.failures() != failures && choices.refuse(task, &image[..placed]) {
+        if choices.refuse_since(failures, task, &image[..placed]) {
             return false;
         }
     }
@@ -68,6 +73,8 @@ fn extend_near(task: &Task, image: &mut [u16], choices: &mut Choices, placed: us
     requires few { placed < length task.now.graph.now.atoms.items }
     requires partial { IsPlaced task.now (take placed image.old) }
     requires bonded { IsBonded task.now placed }
+    requires knows { Knows task.now choices.old.known }
+    ensures knows { Knows task.now choices.new.known }
     ensures kept { take placed image.new ≡ take placed image.old }
     ensures found { IsTrue result → IsLeastPlaced task.now
         (take placed image.old) (take (length task.now.graph.now.atoms.items) image.new) }
@@ -105,12 +112,14 @@ pub fn extend_at(
     requires in_range { atom < length task.now.mol.now.atoms }
     requires partial { IsPlaced task.now (take placed image.old) }
     requires first { FirstEmbeds task.now placed (take placed image.old) atom }
+    requires knows { Knows task.now choices.old.known }
+    ensures knows { Knows task.now choices.new.known }
     ensures kept { take placed image.new ≡ take placed image.old }
     ensures found { IsTrue result → IsLeastPlaced task.now
         (take placed image.old ++ atom ∷ []) (take (length task.now.graph.now.atoms.items) image.new) }
     ensures none { result ≡ false → ¬ Completes task.now (take placed image.old ++ atom ∷ []) }
 {
-    if !fits(task, &image[..placed], atom) {
+    if !fits(task, &mut choices.known, &image[..placed], atom) {
         return false;
     }
     image[placed] = atom;

@@ -5,7 +5,7 @@ use Rattle.matcher.proofs.answer.exists.Goals as goal
 pub returns-then-is_refused : goal.returns-then-is_refused
 returns-then-is_refused c = (
   λ t. absurd (false≢true t),
-  λ w. absurd (c.is_refused.ensures c.if-is_refused.true w),
+  λ w. absurd (c.is_refused.ensures.refused c.if-is_refused.true w),
 )
 
 pub returns : goal.returns

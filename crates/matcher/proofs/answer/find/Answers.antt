@@ -45,4 +45,4 @@ returns-then-is_refused-clause-none c =
     c.note_parts.ensures in
     λ _. none_of p m c.args.prepared.now.wanted.classes.items c.note_parts.new.memory.table c.requires.sound
     c.requires.prepared.wanted noted
-    (c.is_refused.ensures c.if-is_refused.true)
+    (c.is_refused.ensures.refused c.if-is_refused.true)

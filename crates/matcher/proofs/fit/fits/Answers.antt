@@ -1,18 +1,13 @@
 -- A new atom, its expression true, its bonds embedded.
-use Rattle.std.proofs.Common.{◌≡◌, ◌≢◌, ◌++◌, ◌∷◌, [], Some, length, max, refl, slice_get}
+use Rattle.std.proofs.Common.{◌≡◌, ◌≢◌, ◌<◌, ◌++◌, ◌∷◌, [], length, max, refl, subst, sym}
+use Rattle.std.proofs.lemmas.List.{length-map}
 use Rattle.smarts_mean.specs.Table.{HoldsIn}
 use Rattle.smarts_parse.specs.Embedding.{BondEmbeds}
 use Rattle.smarts_parse.specs.Pattern.{graph_of, term_of}
-use Rattle.smarts_parse.specs.Sound.{NamesBelow}
-use Rattle.matcher.proofs.Joins.{All-image}
 use Rattle.matcher.proofs.Partials.{IsPartial-last, IsPartial-push}
 use Rattle.matcher.proofs.Plans.{all_of_step, step_of_all}
-use Rattle.matcher.proofs.Places.{all_apart, get_map}
+use Rattle.matcher.proofs.Places.{all_apart}
 use Rattle.matcher.proofs.fit.fits.Goals as goal
-
-pub atom_true-requires-clause-named : goal.atom_true-requires-clause-named
-atom_true-requires-clause-named c = All-image (NamesBelow 64) term_of c.args.task.now.graph.now.atoms.items
-    (length c.args.front.now) c.index.result.now c.requires.few c.index.ensures c.requires.ready.searchable.names
 
 pub bonds_embed-requires-clause-apart : goal.bonds_embed-requires-clause-apart
 bonds_embed-requires-clause-apart c =
@@ -21,8 +16,8 @@ bonds_embed-requires-clause-apart c =
     (step_of_all c.args.task.now.graph.now.bonds.items g (λ bond. bond.a ≢ bond.b) _ _ refl
     (all_apart g c.requires.ready.searchable.apart))
 
-pub returns-then-not-is_new : goal.returns-then-not-is_new
-returns-then-not-is_new c = (
+pub returns-then-not-is_new-clause-placed : goal.returns-then-not-is_new-clause-placed
+returns-then-not-is_new-clause-placed c = (
   λ t. absurd (cc),
   λ p.
       let last = IsPartial-last (HoldsIn c.args.task.now.table.now)
@@ -31,32 +26,28 @@ returns-then-not-is_new c = (
       absurd (cc),
 )
 
-pub returns-then-not-atom_true : goal.returns-then-not-atom_true
-returns-then-not-atom_true c = (
+pub returns-then-not-holds-clause-placed : goal.returns-then-not-holds-clause-placed
+returns-then-not-holds-clause-placed c = (
   λ t. absurd (cc),
   λ p.
       let last = IsPartial-last (HoldsIn c.args.task.now.table.now)
       (graph_of c.args.task.now.graph.now) c.args.task.now.mol.now c.args.front.now c.args.atom p in
-      let is_true = c.atom_true.ensures.1 (last.1 (term_of c.index.result.now)
-      (get_map term_of c.args.task.now.graph.now.atoms.items
-      (length c.args.front.now) c.index.result.now c.requires.few c.index.ensures)) in
+      let is_true = c.holds.ensures.holds.1 last.1 in
       absurd (cc),
 )
 
-pub returns : goal.returns
-returns c =
+pub returns-clause-placed : goal.returns-clause-placed
+returns-clause-placed c =
     let task = c.args.task.now in
     let g = graph_of task.graph.now in
     let m = task.mol.now in
     let parts = HoldsIn task.table.now in
     let front = c.args.front.now in
     let bonds = task.graph.now.bonds.items in
-    let expr = c.index.result.now in
-    let get : slice_get g.atoms (length front) ≡ Some (term_of expr) = get_map term_of task.graph.now.atoms.items
-    (length front) expr c.requires.few c.index.ensures in
+    let left = subst (λ n. length front < n) (sym (length-map task.graph.now.atoms.items term_of)) c.requires.few in
     let rest = rw c.deref.ensures.value at c.others-others.ensures in (
-      λ t. IsPartial-push parts g m front c.args.atom (term_of expr) c.requires.partial c.requires.in_range
-          (c.is_new.ensures.0 c.if-not-is_new.false) get (c.atom_true.ensures.0 c.if-not-atom_true.false)
+      λ t. IsPartial-push parts g m front c.args.atom c.requires.partial left c.requires.in_range
+          (c.is_new.ensures.0 c.if-not-is_new.false) (c.holds.ensures.holds.0 c.if-not-holds.false)
           (all_of_step bonds g task.steps.now (length front) (BondEmbeds m (front ++ c.args.atom ∷ [])) refl
           c.requires.ready (rw rest at (c.bonds_embed.ensures.0 t)) c.requires.first),
       λ p.

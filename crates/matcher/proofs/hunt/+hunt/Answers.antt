@@ -18,6 +18,7 @@ continues_at-returns-clause-kept t c = λ _.
 pub continues_anywhere-loop-atom-preserved-then-not-is_of_class :
     goal.continues_anywhere-loop-atom-preserved-then-not-is_of_class
 continues_anywhere-loop-atom-preserved-then-not-is_of_class t c = record {
+  knows = c.loop-atom.invariant.knows;
   kept = c.loop-atom.invariant.kept;
   none = below_more _ _ c.loop-atom.invariant.none
       (λ whole h e. c.is_of_class.ensures.stands c.if-not-is_of_class.true whole h.embeds
@@ -33,6 +34,7 @@ continues_near-is_of_class-requires-clause-atom t c =
 pub continues_near-loop-atom-preserved-then-not-is_of_class :
     goal.continues_near-loop-atom-preserved-then-not-is_of_class
 continues_near-loop-atom-preserved-then-not-is_of_class t c = record {
+  knows = c.loop-atom.invariant.knows;
   kept = c.loop-atom.invariant.kept;
   none = below_more _ _ c.loop-atom.invariant.none
       (λ whole h e. c.is_of_class.ensures.stands c.if-not-is_of_class.true whole h.embeds
@@ -50,6 +52,7 @@ continues_near-loop-atom-preserved-then-not-bond_true t c =
     let f = c.from.ensures in
     let i = c.index-bond.ensures in
     record {
+      knows = c.loop-atom.invariant.knows;
       kept = c.loop-atom.invariant.kept;
       none = below_more _ _ c.loop-atom.invariant.none
           (λ whole h e. not_near c.args.task.now c.args.image.now whole _ c.args.from _ c.index-bond.result.now
@@ -75,7 +78,10 @@ continues_near-continues_at-requires t c =
             (
               subst (IsFree c.args.task.now c.args.stops.now c.args.placed)
                   (sym c.loop-atom.invariant.kept) c.requires.free,
-              (joins_in_range m _ _ _ c.neighbours-neighbours.ensures.valid joined).1,
+              (
+                (joins_in_range m _ _ _ c.neighbours-neighbours.ensures.valid joined).1,
+                c.loop-atom.invariant.knows,
+              ),
             ),
           ),
         ),

@@ -4,10 +4,12 @@ use Rattle.std.specs.Int.{bit_at}
 use Rattle.std.proofs.lemmas.Bool.{iff_false}
 use Rattle.std.proofs.lemmas.List.{length-map}
 use Rattle.std.proofs.lemmas.Option.{slice_get-get_or}
+use Rattle.smarts_mean.specs.Table.{HoldsIn}
 use Rattle.smarts_parse.specs.Pattern.{graph_of, pattern_of, term_of}
 use Rattle.matcher.specs.Class.{class_of}
 use Rattle.matcher.proofs.Asked.{asked_of}
 use Rattle.matcher.proofs.Classes.{no_element}
+use Rattle.matcher.proofs.Knowledge.{knows_noted, knows_nothing}
 use Rattle.matcher.proofs.PartsHeld.{IsRow, noted_more, row_more, row_skip}
 use Rattle.matcher.proofs.Places.{get_map}
 use Rattle.matcher.proofs.parts.note_part.Goals as goal
@@ -25,7 +27,16 @@ begins_at-holds-requires-clause-some c =
     subst (λ n. 0 < n) (length-map c.index-graph.result.now.atoms.items term_of) some
 
 pub loop-atom-init : goal.loop-atom-init
-loop-atom-init c = record { kept = c.requires.noted; done = λ a x l. absurd (omega (arith, l)) }
+loop-atom-init c = record {
+  knows = knows_nothing (HoldsIn c.args.memory.now.table) (graph_of c.index-graph.result.now) c.args.mol.now
+      c.clear.new.self _ _ (omega (
+        arith,
+        length-map c.index-graph.result.now.atoms.items term_of,
+        c.index-graph.result.now.atoms.ok.0,
+      ))
+      (ap length (sym c.atoms-atoms.ensures.value)) c.clear.ensures;
+  row = record { kept = c.requires.noted; done = λ a x l. absurd (omega (arith, l)) };
+}
 
 pub loop-atom-preserved : goal.loop-atom-preserved
 loop-atom-preserved c =
@@ -39,10 +50,17 @@ loop-atom-preserved c =
     let low : c.args.part < 64 = omega (arith, length-map c.args.pattern.now.recs.items graph_of, c.requires.part) in
     let within : c.loop-atom.atom < length m.atoms = omega
     (arith, c.loop-atom-test.true, ap length c.atoms-atoms.ensures.value) in
-    row_more p.recs m c.args.prepared.now.wanted.classes.items c.args.part c.loop-atom.atom g c.loop-atom.memory.table
-    c.put.new.self c.begins_at-holds.result low within few get (c.requires.sound.parts c.args.part g get).names
-    (asked_of p c.args.prepared.now.wanted.classes.items c.args.part g c.requires.prepared.wanted get)
-    c.loop-atom.invariant c.begins_at-holds.ensures.found (rw c.begins_at-holds.ensures.table at c.put.ensures)
+    record {
+      knows = knows_noted g m c.begins_at-holds.new.memory.choices.known c.begins_at-holds.new.memory.table
+          c.put.new.self c.args.part c.loop-atom.atom c.begins_at-holds.result c.put.ensures low few
+          (c.requires.sound.parts c.args.part g get).names c.begins_at-holds.ensures.knows;
+      row = row_more p.recs m c.args.prepared.now.wanted.classes.items c.args.part c.loop-atom.atom g
+          c.loop-atom.memory.table c.put.new.self c.begins_at-holds.result low within few get
+          (c.requires.sound.parts c.args.part g get).names
+          (asked_of p c.args.prepared.now.wanted.classes.items c.args.part g c.requires.prepared.wanted get)
+          c.loop-atom.invariant.row c.begins_at-holds.ensures.found
+          (rw c.begins_at-holds.ensures.table at c.put.ensures);
+    }
 
 pub loop-atom-preserved-then-not-may_be : goal.loop-atom-preserved-then-not-may_be
 loop-atom-preserved-then-not-may_be c =
@@ -51,10 +69,13 @@ loop-atom-preserved-then-not-may_be c =
     let within : c.loop-atom.atom < length m.atoms = omega
     (arith, c.loop-atom-test.true, ap length c.atoms-atoms.ensures.value) in
     let asked = rw (c.atoms-atoms.ensures.value, c.from.ensures) at c.may_be.ensures in
-    row_skip (pattern_of c.args.pattern.now).recs m c.args.prepared.now.wanted.classes.items c.args.part
-    c.loop-atom.atom x c.loop-atom.memory.table (slice_get-get_or m.atoms c.loop-atom.atom no_element within)
-    (λ yes'. iff_false asked c.if-not-may_be.true
-    (subst (λ w. bit_at w (class_of x) ≡ 1) (sym c.at-classes.ensures) yes')) c.loop-atom.invariant
+    record {
+      knows = c.loop-atom.invariant.knows;
+      row = row_skip (pattern_of c.args.pattern.now).recs m c.args.prepared.now.wanted.classes.items c.args.part
+          c.loop-atom.atom x c.loop-atom.memory.table (slice_get-get_or m.atoms c.loop-atom.atom no_element within)
+          (λ yes'. iff_false asked c.if-not-may_be.true
+          (subst (λ w. bit_at w (class_of x) ≡ 1) (sym c.at-classes.ensures) yes')) c.loop-atom.invariant.row;
+    }
 
 pub returns : goal.returns
 returns c =
@@ -63,4 +84,4 @@ returns c =
     (arith, ap length c.atoms-atoms.ensures.value, c.loop-atom-test.false) in
     noted_more (pattern_of c.args.pattern.now).recs m c.args.prepared.now.wanted.classes.items c.args.part
     c.loop-atom.memory.table (subst (λ k. IsRow (pattern_of c.args.pattern.now).recs m
-    c.args.prepared.now.wanted.classes.items c.args.part k c.loop-atom.memory.table) all c.loop-atom.invariant)
+    c.args.prepared.now.wanted.classes.items c.args.part k c.loop-atom.memory.table) all c.loop-atom.invariant.row)

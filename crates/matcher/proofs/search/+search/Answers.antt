@@ -42,6 +42,7 @@ extend_anywhere-returns-then-extend_at-clause-found t c =
 
 pub extend_anywhere-loop-atom-preserved : goal.extend_anywhere-loop-atom-preserved
 extend_anywhere-loop-atom-preserved t c = record {
+  knows = c.refuse_since.ensures.knows;
   kept = c.extend_at.ensures.kept ∙ c.loop-atom.invariant.kept;
   none = below_more _ _ c.loop-atom.invariant.none
       (λ w. c.extend_at.ensures.none c.if-extend_at.false
@@ -55,6 +56,7 @@ extend_anywhere-loop-atom-preserved-then-not-is_of_class t c =
     let room : c.args.placed ≤ length c.args.image.now = let r = c.requires.room in let f = c.requires.few
     in omega arith in
     record {
+      knows = c.loop-atom.invariant.knows;
       kept = c.loop-atom.invariant.kept;
       none = below_more _ _ c.loop-atom.invariant.none
           (c.is_of_class.ensures.begins c.if-not-is_of_class.true (take c.args.placed c.args.image.now)
@@ -83,7 +85,7 @@ extend_at-fits-requires-clause-first t c =
 
 pub extend_at-returns-then-not-fits-clause-none : goal.extend_at-returns-then-not-fits-clause-none
 extend_at-returns-then-not-fits-clause-none t c = λ _ w.
-    let here = c.fits.ensures.1 (IsPartial-from_completion (HoldsIn c.args.task.now.table.now)
+    let here = c.fits.ensures.placed.1 (IsPartial-from_completion (HoldsIn c.args.task.now.table.now)
     (graph_of c.args.task.now.graph.now) c.args.task.now.mol.now
     (take c.args.placed c.args.image.now ++ c.args.atom ∷ []) w) in
     absurd (cc)
@@ -143,9 +145,12 @@ extend_near-extend_at-requires t c =
               (joins_in_range m _ _ _ c.neighbours-neighbours.ensures.valid joined).1,
               (
                 subst (IsPartial (HoldsIn task.table.now) g m) (sym front) c.requires.partial,
-                λ d _. subst (λ xs. BondEmbeds m (xs ++ pair.0 ∷ [])
-                    (slice_index_or g.bonds (step_at task.steps.now c.args.placed).from d)) (sym front)
-                    (near.embeds pair.0 d (pair.1, joined, c.bond_true.ensures.0 c.if-not-bond_true.false)),
+                (
+                  λ d _. subst (λ xs. BondEmbeds m (xs ++ pair.0 ∷ [])
+                      (slice_index_or g.bonds (step_at task.steps.now c.args.placed).from d)) (sym front)
+                      (near.embeds pair.0 d (pair.1, joined, c.bond_true.ensures.0 c.if-not-bond_true.false)),
+                  c.loop-atom.invariant.knows,
+                ),
               ),
             ),
           ),
@@ -188,6 +193,7 @@ extend_near-loop-atom-preserved-then-not-bond_true t c =
     room (subst (λ n. c.args.placed < n) (sym (length-map task.graph.now.atoms.items term_of)) c.requires.few)
     c.requires.partial c.requires.bonded c.index-bond.ensures (c.from.ensures ∙ c.min.ensures)).1 in
     record {
+      knows = c.loop-atom.invariant.knows;
       kept = c.loop-atom.invariant.kept;
       none = below_more _ _ c.loop-atom.invariant.none
           (near_false parts g m (take c.args.placed c.args.image.now) _ _ _ pairs c.loop-atom.atom-index near
@@ -207,6 +213,7 @@ extend_near-loop-atom-preserved-then-not-is_of_class t c =
     let room : c.args.placed ≤ length c.args.image.now = let r = c.requires.room in let f = c.requires.few
     in omega arith in
     record {
+      knows = c.loop-atom.invariant.knows;
       kept = c.loop-atom.invariant.kept;
       none = below_more _ _ c.loop-atom.invariant.none
           (c.is_of_class.ensures.begins c.if-not-is_of_class.true (take c.args.placed c.args.image.now)
@@ -215,6 +222,7 @@ extend_near-loop-atom-preserved-then-not-is_of_class t c =
 
 pub extend_near-loop-atom-preserved : goal.extend_near-loop-atom-preserved
 extend_near-loop-atom-preserved t c = record {
+  knows = c.extend_at.ensures.knows;
   kept = c.extend_at.ensures.kept ∙ c.loop-atom.invariant.kept;
   none = below_more _ _ c.loop-atom.invariant.none
       (λ w. c.extend_at.ensures.none c.if-extend_at.false
