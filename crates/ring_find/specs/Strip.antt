@@ -9,13 +9,16 @@ IsOnly steps counts s =
     Contains steps s × (counts s.bond ≡ true) × ((t : Step) → Contains steps t → counts t.bond ≡ true
     → t.bond ≡ s.bond)
 
+abbrev pub is_kept : List Bool → ℕ → Bool
+is_kept kept b = slice_index_or kept b false
+
 -- the step is by a kept bond, and no step by another bond is
 abbrev pub IsOnlyKept : List Step → List Bool → Step → Type 0
-IsOnlyKept steps kept = IsOnly steps (λ b. slice_index_or kept b false)
+IsOnlyKept steps kept = IsOnly steps (is_kept kept)
 
 -- the bond is kept, and is not this one
 abbrev pub is_beside : List Bool → ℕ → ℕ → Bool
-is_beside kept bond b = not (b == bond) && slice_index_or kept b false
+is_beside kept bond b = not (b == bond) && is_kept kept b
 
 -- of the steps by other bonds than this one, the step alone is by a kept bond
 abbrev pub IsOnlyBeside : List Step → List Bool → ℕ → Step → Type 0
