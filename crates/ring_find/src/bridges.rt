@@ -12,7 +12,7 @@ use crate::graph::Graph;
 use std::alloc::{AllocError, Global};
 
 // In so few atoms a search over the bonds between rings costs no more than to find these.
-const FEW_ATOMS: usize = 48;
+const FEW_ATOMS: usize = 40;
 
 // Stands for a missing atom, bond or visit number.
 const NONE: u16 = u16::MAX;
