@@ -200,6 +200,10 @@ fn put(list: &mut Neighbours, neighbour: u16, bond: u16) -> Result<(), AllocErro
     ensures pair { OnOk result (IsPermutation ((neighbour, bond) ∷ list.old.items) list.new.items) }
 {
     let place = place_of(list.as_slice(), neighbour);
+    if place == list.len() {
+        list.push((neighbour, bond))?;
+        return Ok(());
+    }
     list.insert(place, (neighbour, bond))?;
     Ok(())
 }

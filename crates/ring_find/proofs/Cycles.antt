@@ -221,16 +221,14 @@ smallest_from_mark n ends kept b x y r graph keeps at ne h =
 
 -- ---- the ring bonds at an atom
 
--- a ring bond at an atom is not the only one there
-pub two_ring_bonds : (ends : Ends) (b a t : ℕ) → IsRingBond ends b → JoinsAt ends b a t → (c u : ℕ) × (c ≢ b)
-    × JoinsAt ends c a u × IsRingBond ends c
-two_ring_bonds ends b a t ring j =
-    let xs : List ℕ = ring.0 in
-    let cycle : IsSimpleCycle ends xs = ring.1 in
-    let i : ℕ = ring.2.0 in
-    let hi : i < length xs = ring.2.1 in
+-- two bonds of a cycle end at each of its atoms
+pub two_bonds_on : (ends : Ends) (xs : List ℕ) (b a t : ℕ) → IsSimpleCycle ends xs → LiesOn ends b xs
+    → JoinsAt ends b a t → (c u : ℕ) × (c ≢ b) × JoinsAt ends c a u × LiesOn ends c xs
+two_bonds_on ends xs b a t cycle lies j =
+    let i : ℕ = lies.0 in
+    let hi : i < length xs = lies.1 in
     let three = cycle.three in
-    let jb : JoinsAt ends b (get_or xs i 0) (get_or xs (next_place xs i) 0) = ring.2.2 in
+    let jb : JoinsAt ends b (get_or xs i 0) (get_or xs (next_place xs i) 0) = lies.2 in
     elim (joins_one ends b _ _ _ _ jb j) [
       | inl q ↦
           let before : (p : ℕ) × (p < length xs) × (p ≢ i) × (next_place xs p ≡ i) =
@@ -261,7 +259,7 @@ two_ring_bonds ends b a t ring j =
             get_or xs p 0,
             other_bond ends xs cycle b here.0 i p hi before.1 before.2 jb here.1,
             there,
-            (xs, cycle, (p, before.1, here.1)),
+            (p, before.1, here.1),
           )
       | inr q ↦
           let k : ℕ = next_place xs i in
@@ -273,9 +271,16 @@ two_ring_bonds ends b a t ring j =
             get_or xs (next_place xs k) 0,
             other_bond ends xs cycle b here.0 i k hi hk ne jb here.1,
             there,
-            (xs, cycle, (k, hk, here.1)),
+            (k, hk, here.1),
           )
     ]
+
+-- a ring bond at an atom is not the only one there
+pub two_ring_bonds : (ends : Ends) (b a t : ℕ) → IsRingBond ends b → JoinsAt ends b a t → (c u : ℕ) × (c ≢ b)
+    × JoinsAt ends c a u × IsRingBond ends c
+two_ring_bonds ends b a t ring j =
+    let two = two_bonds_on ends ring.0 b a t ring.1 ring.2 j in
+    (two.0, two.1, two.2, two.3, (ring.0, ring.1, two.4))
 
 -- an atom of a cycle has a bond that lies on it
 pub bond_of_atom : (ends : Ends) (xs : List ℕ) (a : ℕ) → IsSimpleCycle ends xs → Contains xs a → (b u : ℕ)

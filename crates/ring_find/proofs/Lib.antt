@@ -8,3 +8,4 @@ pub mod Leasts
 pub mod Ringed
 pub mod Drawn
 pub mod Strips
+pub mod Beside

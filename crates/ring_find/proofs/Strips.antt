@@ -11,7 +11,7 @@ use Rattle.chem_core.specs.Graph.{Ends, JoinsAt, IsRingBond}
 use Rattle.ring_find.specs.declared.graph.Step.{Step}
 use Rattle.ring_find.specs.Network.{AreStepsFrom}
 use Rattle.ring_find.specs.BondRings.{KeepsRings}
-use Rattle.ring_find.specs.Strip.{IsOnlyKept, IsDeadEnd}
+use Rattle.ring_find.specs.Strip.{IsOnly, IsOnlyKept, IsDeadEnd}
 use Rattle.ring_find.proofs.Cycles.{two_ring_bonds, joins_one}
 
 -- a ring bond is a bond
@@ -92,28 +92,28 @@ ends_done ends kept a steps from none dead =
     let s : Step = record { to = dead.1; bond = dead.0 } in
     none s (from.each dead.0 dead.1 dead.2, dead.3, λ t has k. dead.4 t.bond t.to (from.joins t has) k)
 
--- of the steps before the place i none is by a kept bond, or the one that was found alone is
-abbrev pub KeptSoFar : List Step → List Bool → ℕ → Option Step → Type 0
-KeptSoFar steps kept i only =
-    MatchOption only ((k : ℕ) (d : Step) → k < i → get_or kept (get_or steps k d).bond false ≡ false)
-    (IsOnlyKept (take i steps) kept)
+-- of the steps before the place i none is by a bond that counts, or the one that was found alone is
+abbrev pub KeptSoFar : List Step → (ℕ → Bool) → ℕ → Option Step → Type 0
+KeptSoFar steps counts i only =
+    MatchOption only ((k : ℕ) (d : Step) → k < i → counts (get_or steps k d).bond ≡ false)
+    (IsOnly (take i steps) counts)
 
-pub none_kept : (steps : List Step) (kept : List Bool) (i : ℕ)
-    → ((k : ℕ) (d : Step) → k < i → get_or kept (get_or steps k d).bond false ≡ false) → (t : Step)
-    → IsOnlyKept (take i steps) kept t → ⊥
-none_kept steps kept i none t only =
+pub none_kept : (steps : List Step) (counts : ℕ → Bool) (i : ℕ)
+    → ((k : ℕ) (d : Step) → k < i → counts (get_or steps k d).bond ≡ false) → (t : Step)
+    → IsOnly (take i steps) counts t → ⊥
+none_kept steps counts i none t only =
     let k : ℕ = only.0.0 in
     let low : k < i = omega (arith, only.0.1, length-take i steps) in
     let is : get_or steps k t ≡ t = sym (get_or-take i steps k t low) ∙ only.0.2 in
-    let stripped : get_or kept t.bond false ≡ false = rw is at (none k t low) in
+    let stripped : counts t.bond ≡ false = rw is at (none k t low) in
     false≢true (sym stripped ∙ only.1)
 
 -- of two kept steps neither is alone
-pub two_kept : (steps : List Step) (kept : List Bool) (i : ℕ) (d : Step) (only : Option Step) → is_some only ≡ true
-    → KeptSoFar steps kept i only → AllPairs (λ s t. s.bond ≢ t.bond) steps → i < length steps
-    → get_or kept (get_or steps i d).bond false ≡ true → (t : Step) → IsOnlyKept steps kept t → ⊥
-two_kept steps kept i d None some first once l here t alone = absurd (false≢true some)
-two_kept steps kept i d (Some s) some first once l here t alone =
+pub two_kept : (steps : List Step) (counts : ℕ → Bool) (i : ℕ) (d : Step) (only : Option Step) → is_some only ≡ true
+    → KeptSoFar steps counts i only → AllPairs (λ s t. s.bond ≢ t.bond) steps → i < length steps
+    → counts (get_or steps i d).bond ≡ true → (t : Step) → IsOnly steps counts t → ⊥
+two_kept steps counts i d None some first once l here t alone = absurd (false≢true some)
+two_kept steps counts i d (Some s) some first once l here t alone =
     let k : ℕ = first.0.0 in
     let low : k < i = omega (arith, first.0.1, length-take i steps) in
     let is : get_or steps k s ≡ s = sym (get_or-take i steps k s low) ∙ first.0.2 in
@@ -130,52 +130,52 @@ step_cases steps i d t l has =
     Contains-push_cases (take i steps) (get_or steps i d) t more
 
 -- the first kept step
-pub kept_first : (steps : List Step) (kept : List Bool) (i : ℕ) (d : Step) (only : Option Step) → is_some only ≡ false
-    → KeptSoFar steps kept i only → i < length steps → get_or kept (get_or steps i d).bond false ≡ true
-    → KeptSoFar steps kept (i + 1) (Some (get_or steps i d))
-kept_first steps kept i d (Some s) none so_far l here = absurd (false≢true (sym none))
-kept_first steps kept i d None none so_far l here =
+pub kept_first : (steps : List Step) (counts : ℕ → Bool) (i : ℕ) (d : Step) (only : Option Step) → is_some only ≡ false
+    → KeptSoFar steps counts i only → i < length steps → counts (get_or steps i d).bond ≡ true
+    → KeptSoFar steps counts (i + 1) (Some (get_or steps i d))
+kept_first steps counts i d (Some s) none so_far l here = absurd (false≢true (sym none))
+kept_first steps counts i d None none so_far l here =
     let s : Step = get_or steps i d in (
       subst (λ xs. Contains xs s) (sym (take_more steps i d l)) (Contains-push (take i steps) s),
       here,
       λ t has k. elim (step_cases steps i d t l has) [
-        | inl before ↦ absurd (none_before steps kept i so_far t before k)
+        | inl before ↦ absurd (none_before steps counts i so_far t before k)
         | inr e ↦ ap (λ r. r.bond) (sym e)
       ],
     )
   where
-    none_before : (steps : List Step) (kept : List Bool) (i : ℕ)
-        → ((k : ℕ) (d : Step) → k < i → get_or kept (get_or steps k d).bond false ≡ false) → (t : Step)
-        → Contains (take i steps) t → get_or kept t.bond false ≡ true → ⊥
-    none_before steps kept i none t has k =
+    none_before : (steps : List Step) (counts : ℕ → Bool) (i : ℕ)
+        → ((k : ℕ) (d : Step) → k < i → counts (get_or steps k d).bond ≡ false) → (t : Step)
+        → Contains (take i steps) t → counts t.bond ≡ true → ⊥
+    none_before steps counts i none t has k =
         let low : has.0 < i = omega (arith, has.1, length-take i steps) in
         let is : get_or steps has.0 t ≡ t = sym (get_or-take i steps has.0 t low) ∙ has.2 in
-        let stripped : get_or kept t.bond false ≡ false = rw is at (none has.0 t low) in
+        let stripped : counts t.bond ≡ false = rw is at (none has.0 t low) in
         false≢true (sym stripped ∙ k)
 
 -- a step that is not kept
-pub kept_same : (steps : List Step) (kept : List Bool) (i : ℕ) (d : Step) (only : Option Step)
-    → KeptSoFar steps kept i only → i < length steps → get_or kept (get_or steps i d).bond false ≡ false
-    → KeptSoFar steps kept (i + 1) only
-kept_same steps kept i d None so_far l stripped = λ k e low. elim (cases_lt k i) [
+pub kept_same : (steps : List Step) (counts : ℕ → Bool) (i : ℕ) (d : Step) (only : Option Step)
+    → KeptSoFar steps counts i only → i < length steps → counts (get_or steps i d).bond ≡ false
+    → KeptSoFar steps counts (i + 1) only
+kept_same steps counts i d None so_far l stripped = λ k e low. elim (cases_lt k i) [
   | inl before ↦ so_far k e before
   | inr after ↦
       let is : k ≡ i = omega arith in
       rw (is, get_or_default steps i e d l) stripped
 ]
-kept_same steps kept i d (Some s) so_far l stripped = (
+kept_same steps counts i d (Some s) so_far l stripped = (
   subst (λ xs. Contains xs s) (sym (take_more steps i d l)) (Contains-append_left (take i steps) (get_or steps i d ∷ [])
       s so_far.0),
   so_far.1,
   λ t has k. elim (step_cases steps i d t l has) [
     | inl before ↦ so_far.2 t before k
-    | inr e ↦ absurd (let kept_i : get_or kept (get_or steps i d).bond false ≡ true = rw e k in
+    | inr e ↦ absurd (let kept_i : counts (get_or steps i d).bond ≡ true = rw e k in
         false≢true (sym stripped ∙ kept_i))
   ],
 )
 
 -- all steps looked at
-pub kept_all : (steps : List Step) (kept : List Bool) (i : ℕ) (only : Option Step) → KeptSoFar steps kept i only
-    → length steps ≤ i → MatchOption only ((t : Step) → IsOnlyKept steps kept t → ⊥) (IsOnlyKept steps kept)
-kept_all steps kept i None so_far all = rw (take_all i steps all) at (none_kept steps kept i so_far)
-kept_all steps kept i (Some s) so_far all = rw (take_all i steps all) at so_far
+pub kept_all : (steps : List Step) (counts : ℕ → Bool) (i : ℕ) (only : Option Step) → KeptSoFar steps counts i only
+    → length steps ≤ i → MatchOption only ((t : Step) → IsOnly steps counts t → ⊥) (IsOnly steps counts)
+kept_all steps counts i None so_far all = rw (take_all i steps all) at (none_kept steps counts i so_far)
+kept_all steps counts i (Some s) so_far all = rw (take_all i steps all) at so_far

@@ -11,6 +11,9 @@ ghost use Rattle.ring_find.specs.Bridges.{AreForest, AreTaken};
 use crate::graph::Graph;
 use std::alloc::{AllocError, Global};
 
+// In so few atoms a search over the bonds between rings costs no more than to find these.
+const FEW_ATOMS: usize = 40;
+
 // Stands for a missing atom, bond or visit number.
 const NONE: u16 = u16::MAX;
 
@@ -38,7 +41,7 @@ pub fn drop_bridges(alloc: Global, graph: &Graph, kept: &mut [bool]) -> Result<(
     requires { KeepsRings graph.now.ends kept.old }
     ensures { OnOk result (KeepsRings graph.now.ends kept.new) }
 {
-    if !kept.contains(&true) {
+    if graph.atoms() <= FEW_ATOMS || !kept.contains(&true) {
         return Ok(());
     }
     let ends = graph.ends();

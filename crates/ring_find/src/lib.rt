@@ -1,9 +1,9 @@
 //! Which bonds of a sketch are ring bonds, and the smallest ring of each atom.
 //!
 //! A bond lies on a ring exactly where a walk without it joins its ends, and the least such walk and the bond are the
-//! smallest ring through it. So one breadth-first search for each bond finds all. Bonds that lead to dead ends are
-//! stripped first, so a structure without rings costs one pass; then bonds between rings are dropped, so that a search
-//! stays among rings that share bonds or atoms.
+//! smallest ring through it. So one breadth-first search for each bond finds all, and one serves a chain of bonds.
+//! Bonds that lead to dead ends are stripped first, so a structure without rings costs one pass; then, where there are
+//! many atoms, bonds between rings are dropped, so that a search stays among rings that share bonds or atoms.
 #![tactic(auto)]
 
 mod bridges;

@@ -1,10 +1,13 @@
-//! The smallest ring through each bond, by a breadth-first search from one of its ends to the other.
-ghost use Rattle.std.specs.Prelude.{◌≡◌, ◌≢◌, ◌≤◌, ◌<◌, ◌+◌, ℕ, length, replicate, slice_index, All, Contains, IfOk, OnOk};
+//! The smallest ring through each bond, by a breadth-first search from one of its ends to the other. Of two bonds at an
+//! atom where no third one is kept, both are on the same rings, so that one search serves a chain of them.
+ghost use Rattle.std.specs.Prelude.{◌≡◌, ◌≢◌, ◌≤◌, ◌<◌, ◌+◌, ℕ, length, replicate, slice_index, slice_get, All, Contains, Some, IfSome, IfOk, OnOk};
 ghost use Rattle.chem_core.specs.declared.limits.TheConstants.{MOST_ATOMS};
 ghost use Rattle.ring_find.specs.BondRings.{KeepsRings, AreBondRings, IsSmallestThrough};
 ghost use Rattle.ring_find.specs.Search.{IsRingSearch};
+ghost use Rattle.ring_find.specs.Strip.{IsOnlyBeside, is_beside};
+ghost use Rattle.ring_find.specs.declared.graph.Step.{Step};
 
-use crate::graph::Graph;
+use crate::graph::{Graph, Step};
 use std::alloc::{AllocError, Global};
 
 /// For each bond the length of the smallest ring through it, 0 where there is none. Only kept bonds are walked.
@@ -17,27 +20,35 @@ pub fn ring_lengths(alloc: Global, graph: &Graph, kept: &[bool]) -> Result<Vec<u
     let mut marks: Vec<u16> = vec![in alloc; 0u16; graph.atoms()]?;
     let mut queue: Vec<u16> = Vec::with_capacity(alloc, graph.atoms())?;
     for place in 0..bonds {
-        lengths.push(ring_length(graph, kept, place as u16, &mut marks, &mut queue)?)?;
+        let length = ring_length(graph, kept, &lengths, place as u16, &mut marks, &mut queue)?;
+        lengths.push(length)?;
     }
     Ok(lengths)
 }
 
-// The length of the smallest ring through a bond, 0 where there is none. No atom is marked, before and after.
+// The length of the smallest ring through a bond, 0 where there is none. The lengths are those of the bonds before it.
+// No atom is marked, before and after.
 fn ring_length(
     graph: &Graph,
     kept: &[bool],
+    lengths: &[u16],
     bond: u16,
     marks: &mut [u16],
     queue: &mut Vec<u16>,
 ) -> Result<u16, AllocError>
     requires kept { KeepsRings graph.now.ends kept.now }
     requires bond { bond < length graph.now.ends }
+    requires before { (b : ℕ) → b < length lengths.now
+        → IsSmallestThrough graph.now.ends b (slice_index lengths.now b) }
     requires blank { marks.old ≡ replicate graph.now.atoms 0 }
     ensures ring { IfOk result (IsSmallestThrough graph.now.ends bond) }
     ensures blank { OnOk result (marks.new ≡ replicate graph.now.atoms 0) }
 {
     if !kept[usize::from(bond)] {
         return Ok(0);
+    }
+    if let Some(known) = known_length(graph, kept, lengths, bond) {
+        return Ok(known);
     }
     let (from, to) = graph.ends()[usize::from(bond)];
     queue.clear();
@@ -51,6 +62,57 @@ fn ring_length(
     let length = marks[usize::from(to)];
     unmark(marks, queue);
     Ok(length)
+}
+
+// The length of the smallest ring through a bond, where it is that of a bond before.
+fn known_length(graph: &Graph, kept: &[bool], lengths: &[u16], bond: u16) -> Option<u16>
+    requires kept { KeepsRings graph.now.ends kept.now }
+    requires bond { bond < length graph.now.ends }
+    requires before { (b : ℕ) → b < length lengths.now
+        → IsSmallestThrough graph.now.ends b (slice_index lengths.now b) }
+    ensures { IfSome result (IsSmallestThrough graph.now.ends bond) }
+{
+    let (one, other) = graph.ends()[usize::from(bond)];
+    match length_beside(graph.steps_from(one), kept, lengths, bond) {
+        Some(length) => Some(length),
+        None => length_beside(graph.steps_from(other), kept, lengths, bond),
+    }
+}
+
+// The length of the only kept bond of an atom beside the bond: where there is exactly one, all rings through the one
+// are rings through the other.
+fn length_beside(steps: &[Step], kept: &[bool], lengths: &[u16], bond: u16) -> Option<u16>
+    requires within { All (λ s. s.bond < length kept.now) steps.now }
+    ensures { IfSome result (λ length. (s : Step) × IsOnlyBeside steps.now kept.now bond s
+        × (slice_get lengths.now s.bond ≡ Some length)) }
+{
+    let step = only_beside(steps, kept, bond)?;
+    lengths.get(usize::from(step.bond)).copied()
+}
+
+// The one step by a kept bond other than this one, where there is exactly one.
+fn only_beside(steps: &[Step], kept: &[bool], bond: u16) -> Option<Step>
+    requires within { All (λ s. s.bond < length kept.now) steps.now }
+    ensures { IfSome result (IsOnlyBeside steps.now kept.now bond) }
+{
+    let mut only = None;
+    for step in steps {
+        if is_beside(kept, bond, step.bond) {
+            if only.is_some() {
+                return None;
+            }
+            only = Some(*step);
+        }
+    }
+    only
+}
+
+// Whether a bond is kept and is another than this one.
+fn is_beside(kept: &[bool], bond: u16, other: u16) -> bool
+    requires { other < length kept.now }
+    ensures { result ≡ is_beside kept.now bond other }
+{
+    other != bond && kept[usize::from(other)]
 }
 
 // Marks the neighbours of the next atom of the queue that are not marked yet, and puts them at the end of the queue.
