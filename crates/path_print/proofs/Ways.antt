@@ -1,5 +1,5 @@
 -- Walks that set the bits of all paths that begin with a path.
-use Rattle.std.proofs.Common.{ℕ, ◌+◌, ◌-◌, ◌%◌, ◌<◌, ◌≤◌, ◌≡◌, ◌≢◌, ◌⊎◌, inl, inr, Bool, true, false, cond, List, [], ◌∷◌, ◌++◌, length, get_or, take, reverse, Contains, refl, sym, ap, ◌∙◌, subst, ⊎_elim, lit≤, arith}
+use Rattle.std.proofs.Common.{ℕ, ◌+◌, ◌-◌, ◌%◌, ◌<◌, ◌≤◌, ◌≡◌, ◌≢◌, ◌⊎◌, inl, inr, Bool, cond, List, [], ◌∷◌, ◌++◌, length, get_or, take, reverse, Contains, refl, sym, ap, ◌∙◌, subst, ⊎_elim, lit≤, arith}
 use Rattle.std.specs.Prelude.{Option, None, Some, IfSome, IfNone, option_map}
 use Rattle.std.proofs.lemmas.Bool.{cases_eq, cases_lt}
 use Rattle.std.specs.declared.cmp.Ordering.{Ordering}
@@ -84,7 +84,8 @@ last-push xs y =
 counted_full : (xs : List ℕ) (y : ℕ) (more : List ℕ) → 1 ≤ length xs → length xs + 1 ≡ 5
     → length ((xs ++ y ∷ []) ++ more) ≤ 5 → IsCounted ((xs ++ y ∷ []) ++ more) → first_of xs ≤ y
 counted_full xs y [] some full short counted =
-    let whole : first_of (xs ++ y ∷ []) ≤ last_of (xs ++ y ∷ []) = subst IsCounted (append-nil (xs ++ y ∷ [])) counted in
+    let whole : first_of (xs ++ y ∷ []) ≤ last_of (xs ++ y ∷ []) = subst IsCounted (append-nil (xs ++ y ∷ []))
+    counted in
     let first : first_of (xs ++ y ∷ []) ≡ first_of xs = get_or_append_left xs (y ∷ []) 0 0 (omega arith) in
     let last : last_of (xs ++ y ∷ []) ≡ y = last-push xs y in
     omega (arith, whole, first, last)
@@ -203,7 +204,8 @@ module _ (views : Family → View) (symmetric : (family : Family) (x y : ℕ)
   }
 
   pub step_none : (r : Option PathTerm) → IfNone r ((length p.atoms ≡ 5) ⊎ Contains p.atoms y
-      ⊎ ((length p.atoms + 1 ≡ 5) × (y < first_of p.atoms)) ⊎ (((path_longer p y b known).exact ≡ None) × ((path_longer p y b known).plain ≡ None)))
+      ⊎ ((length p.atoms + 1 ≡ 5) × (y < first_of p.atoms))
+      ⊎ (((path_longer p y b known).exact ≡ None) × ((path_longer p y b known).plain ≡ None)))
       → IfNone r (NoneFrom views (p.atoms ++ y ∷ []))
   step_none None why = none_from why
   step_none (Some q) why = tt
@@ -403,7 +405,8 @@ counted_back xs some le =
     let first : get_or (reverse xs) 0 0 ≡ get_or xs (length xs - 1 - 0) 0 = get_or-reverse xs 0 0 (omega arith) in
     let last : get_or (reverse xs) (length xs - 1) 0 ≡ get_or xs (length xs - 1 - (length xs - 1)) 0 = get_or-reverse xs
     (length xs - 1) 0 (omega arith) in
-    let first' : get_or xs (length xs - 1 - 0) 0 ≡ get_or xs (length xs - 1) 0 = ap (λ k. get_or xs k 0) (omega arith) in
+    let first' : get_or xs (length xs - 1 - 0) 0 ≡ get_or xs (length xs - 1) 0 = ap (λ k. get_or xs k 0)
+    (omega arith) in
     let last' : get_or xs (length xs - 1 - (length xs - 1)) 0 ≡ get_or xs 0 0 = ap (λ k. get_or xs k 0) (omega arith) in
     let end : get_or (reverse xs) (length (reverse xs) - 1) 0 ≡ get_or (reverse xs) (length xs - 1) 0 = ap
     (λ n. get_or (reverse xs) (n - 1) 0) size in

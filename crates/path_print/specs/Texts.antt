@@ -1,7 +1,5 @@
 -- Strings of paths in both directions, and paths under way, for private clauses alone.
-use Rattle.std.specs.Prelude.{◌≡◌, ◌≢◌, ◌⊎◌, ◌↔◌, ℕ, zero, suc, ◌+◌, ◌-◌, ◌*◌, ◌/◌, ◌%◌, ◌^◌, ◌<◌, ◌≤◌, Bool, List, [], ◌∷◌, ◌++◌, length, slice_index, reverse, AllPairs, Option, None, Some, IfSome, option_map, if◌then◌else◌}
-use Rattle.std.specs.Ordering.{nat_cmp, is_lt}
-use Rattle.std.specs.Cmp.Lexicographic.{slice_cmp}
+use Rattle.std.specs.Prelude.{◌≡◌, ◌≢◌, ◌⊎◌, ◌↔◌, ℕ, zero, suc, ◌+◌, ◌-◌, ◌*◌, ◌/◌, ◌%◌, ◌^◌, ◌<◌, ◌≤◌, Bool, List, [], ◌∷◌, ◌++◌, length, slice_index, reverse, AllPairs, Option, Some, IfSome, option_map}
 use Rattle.chem_core.specs.Bits.{HasBit}
 use Rattle.path_print.specs.declared.known.Known.{Known}
 use Rattle.path_print.specs.Path.{◌>>=◌, Family, exact, plain, label_of, View, string_of, hash_of, bit_of, IsPath}
