@@ -11,9 +11,8 @@ use Rattle.std.proofs.lemmas.Nat.{mul-mod_first, shl_whole}
 use Rattle.std.proofs.lemmas.Bool.{cases_lt, cases_eq}
 use Rattle.std.proofs.lemmas.List.{length-append, append-nil}
 use Rattle.std.proofs.lemmas.List.Sums.{fold-append}
-use Rattle.std.specs.Prelude.{None, Some}
-use Rattle.path_print.specs.Path.{hash_of}
-use Rattle.path_print.specs.Texts.{digits, own_bit, IsTextInside}
+use Rattle.path_print.specs.Path.{hash_of, bit_of}
+use Rattle.path_print.specs.Texts.{digits, IsTextInside}
 
 -- ---- bytes at the end
 
@@ -170,19 +169,52 @@ hash_two a b =
     let same : 7 * 131 * 131 + (17161 * 0 + 131 * a + b) ≡ 7 * 17161 + (131 * (131 * 0 + a) + b) = omega arith in
     ap (λ n. n % 65521) same ∙ sym (hash_from 7 (a ∷ b ∷ []) (omega arith))
 
+-- the hash with three more bytes in front, which weigh as much as the bytes behind make them weigh
+mod_same : (a b c d : ℕ) → a % 65521 ≡ b % 65521 → c % 65521 ≡ d % 65521 → (a + c) % 65521 ≡ (b + d) % 65521
+mod_same a b c d h k = omega arith
+
+times_rest : (m w : ℕ) → (m * (w % 65521)) % 65521 ≡ (m * w) % 65521
+times_rest m w =
+    let e : m * (w % 65521) ≡ w % 65521 * m = grind arith in
+    let f : m * w ≡ w * m = grind arith in
+    rw (e, f) (mul-mod_first w m 65521)
+
+front_parts : (w x a b c : ℕ) → 7 * (131 * (131 * (131 * w))) + ((131 * (131 * (131 * 0 + a) + b) + c) * w + x)
+    ≡ (7 * w + x) + (15736630 + (17161 * a + 131 * b + c)) * w
+front_parts w x a b c = grind arith
+
+power_three : (n : ℕ) → 131 ^ suc (suc (suc n)) ≡ 131 * (131 * (131 * 131 ^ n))
+power_three n = pow-succ' 131 (suc (suc n)) ∙ ap (λ p. 131 * p) (pow-succ' 131 (suc n) ∙ ap (λ p. 131 * p)
+    (pow-succ' 131 n))
+
+hash-front_three : (s w a b c : ℕ) (xs : List ℕ) → s % 65521 ≡ hash_of xs → w ≡ 131 ^ length xs % 65521
+    → (s + (15736630 + (17161 * a + 131 * b + c)) * w) % 65521 ≡ hash_of (a ∷ b ∷ c ∷ xs)
+unfolding sum_of_bytes
+hash-front_three s w a b c xs is weighs =
+    let more = sum_from (131 * (131 * (131 * 0 + a) + b) + c) xs in
+    mod_same s (7 * 131 ^ length xs + sum_of_bytes xs) ((15736630 + (17161 * a + 131 * b + c)) * w)
+    ((15736630 + (17161 * a + 131 * b + c)) * 131 ^ length xs) (is ∙ hash_from 7 xs (omega arith))
+    (ap (λ v. ((15736630 + (17161 * a + 131 * b + c)) * v) % 65521) weighs
+    ∙ times_rest (15736630 + (17161 * a + 131 * b + c)) (131 ^ length xs))
+    ∙ ap (λ v. v % 65521) (sym (front_parts (131 ^ length xs) (sum_of_bytes xs) a b c)
+    ∙ ap (λ p. 7 * p + ((131 * (131 * (131 * 0 + a) + b) + c) * 131 ^ length xs + sum_of_bytes xs))
+    (sym (power_three (length xs)))
+    ∙ ap (λ t. 7 * 131 ^ suc (suc (suc (length xs))) + t) (sym more))
+    ∙ sym (hash_from 7 (a ∷ b ∷ c ∷ xs) (omega arith))
+
 -- the bit from what is kept
-pub own_bit-yes : (k m n h : ℕ) → m < 256 ^ k → n < 256 ^ k → h ≡ hash_of (digits k m) → m ≤ n
-    → Some (h % 1024) ≡ own_bit (record { there = digits k m; back = digits k n })
-own_bit-yes k m n h hm hn is le =
+pub bit-there : (k m n s : ℕ) → m < 256 ^ k → n < 256 ^ k → s % 65521 ≡ hash_of (digits k m) → m ≤ n
+    → s % 65521 % 1024 ≡ bit_of (digits k m) (digits k n)
+bit-there k m n s hm hn is le =
     let order = slice_cmp-digits k n m hn hm in
     elim (cases_eq n m) [
-      | inl e ↦ rw (order, equal n m e) (ap (λ g. Some (g % 1024)) is)
-      | inr d ↦ rw (order, greater n m (omega arith)) (ap (λ g. Some (g % 1024)) is)
+      | inl e ↦ rw (order, equal n m e) (ap (λ g. g % 1024) is)
+      | inr d ↦ rw (order, greater n m (omega arith)) (ap (λ g. g % 1024) is)
     ]
 
-pub own_bit-no : (k m n : ℕ) → m < 256 ^ k → n < 256 ^ k → n < m
-    → None ≡ own_bit (record { there = digits k m; back = digits k n })
-own_bit-no k m n hm hn lt = rw (slice_cmp-digits k n m hn hm, less n m lt)
+pub bit-back : (k m n s : ℕ) → m < 256 ^ k → n < 256 ^ k → s % 65521 ≡ hash_of (digits k n) → n < m
+    → s % 65521 % 1024 ≡ bit_of (digits k m) (digits k n)
+bit-back k m n s hm hn is lt = rw (slice_cmp-digits k n m hn hm, less n m lt) (ap (λ g. g % 1024) is)
 
 -- ---- texts
 
@@ -194,12 +226,21 @@ digits-two n a b ha hb is =
     rw (low, high)
 
 pub two_inside : (n s a b : ℕ) → a < 256 → b < 256 → n ≡ 65536 * 0 + 256 * a + b → s ≡ 17161 * 0 + 131 * a + b
-    → IsTextInside 2 n n ((7 * 131 * 131 + s) % 65521) × (digits 2 n ≡ a ∷ b ∷ [])
+    → IsTextInside 2 n n (7 * 131 * 131 + s) (7 * 131 * 131 + s) (131 * 131) × (digits 2 n ≡ a ∷ b ∷ [])
 two_inside n s a b ha hb is adds =
     let two = digits-two n a b ha hb is in
     let hash : (7 * 131 * 131 + s) % 65521 ≡ hash_of (digits 2 n) = rw two (ap (λ t. (7 * 131 * 131 + t) % 65521) adds
     ∙ hash_two a b) in (
-      record { few = lit≤ tt; there_fits = omega arith; back_fits = omega arith; hashes = hash; small = omega arith },
+      record {
+        few = lit≤ tt;
+        there_fits = omega arith;
+        back_fits = omega arith;
+        there_hash = hash;
+        there_small = omega arith;
+        back_hash = hash;
+        back_small = omega arith;
+        weighs = refl;
+      },
       two,
     )
 
@@ -235,9 +276,11 @@ pow_three k =
     let p3 = pow-succ' 256 (suc (suc k)) in
     rw e (omega arith)
 
-module _ (k there back hash byte l r tail tail_sum head : ℕ) (room : k ≤ 11) (inside : IsTextInside k there back hash)
+module _ (k there back there_sum back_sum weight byte l r tail tail_sum head head_sum : ℕ) (room : k ≤ 11)
+    (inside : IsTextInside k there back there_sum back_sum weight)
     (hb : byte < 256) (hl : l < 256) (hr : r < 256) (is_tail : tail ≡ 65536 * byte + 256 * l + r)
-    (is_tail_sum : tail_sum ≡ 17161 * byte + 131 * l + r) (is_head : head ≡ 65536 * l + 256 * r + byte) where
+    (is_tail_sum : tail_sum ≡ 17161 * byte + 131 * l + r) (is_head : head ≡ 65536 * l + 256 * r + byte)
+    (is_head_sum : head_sum ≡ 17161 * l + 131 * r + byte) where
   there_whole : there * 16777216 % 2 ^ 128 ≡ there * 16777216
   there_whole =
       let fits : there < 2 ^ (8 * k) = rw pow_bits at inside.there_fits in
@@ -257,8 +300,16 @@ module _ (k there back hash byte l r tail tail_sum head : ℕ) (room : k ≤ 11)
       rw (back_whole, e) (digits-join 3 k head back inside.back_fits
       ∙ ap (λ xs. xs ++ digits k back) (digits-three head l r byte hl hr hb is_head))
 
+  weighed_small : (15736630 + head_sum) * weight ≤ 1400000000000
+  weighed_small =
+      let w : weight ≤ 65520 = omega arith in
+      let few : 15736630 + head_sum ≤ 21000000 = omega arith in
+      let product : (15736630 + head_sum) * weight ≤ 21000000 * weight = mul-le-mul_right weight few in
+      omega arith
+
   pub longer_inside : IsTextInside (k + 3) (there * 16777216 % 2 ^ 128 + tail) (head * 2 ^ (8 * k) % 2 ^ 128 + back)
-      ((hash * 131 * 131 * 131 + tail_sum) % 65521)
+      (there_sum % 65521 * 131 * 131 * 131 + tail_sum) (back_sum + (15736630 + head_sum) * weight)
+      (weight * 131 * 131 * 131 % 65521)
   longer_inside =
       let pw = pow_three k in
       let lo = inside.there_fits in
@@ -269,8 +320,17 @@ module _ (k there back hash byte l r tail tail_sum head : ℕ) (room : k ≤ 11)
         few = omega arith;
         there_fits = rw there_whole (omega arith);
         back_fits = rw back_whole (omega arith);
-        hashes = rw (longer_there, is_tail_sum) (hash-push_three hash byte l r (digits k there) inside.hashes);
-        small = omega arith;
+        there_hash = rw (longer_there, is_tail_sum)
+            (hash-push_three (there_sum % 65521) byte l r (digits k there) inside.there_hash);
+        there_small = omega arith;
+        back_hash = rw (longer_back, is_head_sum) (hash-front_three back_sum weight l r byte (digits k back)
+            inside.back_hash (inside.weighs ∙ ap (λ n. 131 ^ n % 65521) (sym (length-digits k back))));
+        back_small = omega (arith, weighed_small, inside.back_small);
+        weighs =
+            let p = power_three k in
+            let e : k + 3 ≡ suc (suc (suc k)) = omega arith in
+            let w = inside.weighs in
+            rw (e, p) (omega arith);
       }
 
   pub longer_fits : head * 2 ^ (8 * k) % 2 ^ 128 + back < 2 ^ 128

@@ -1,19 +1,20 @@
 -- Walks that set the bits of all paths that begin with a path.
-use Rattle.std.proofs.Common.{ℕ, ◌+◌, ◌-◌, ◌%◌, ◌<◌, ◌≤◌, ◌≡◌, ◌≢◌, ◌⊎◌, inl, inr, Bool, true, false, cond, List, [], ◌∷◌, ◌++◌, length, get_or, take, reverse, Contains, refl, sym, ap, ◌∙◌, subst, ⊎_elim, lit≤, arith}
+use Rattle.std.proofs.Common.{ℕ, ◌+◌, ◌-◌, ◌%◌, ◌<◌, ◌≤◌, ◌≡◌, ◌≢◌, ◌⊎◌, inl, inr, Bool, cond, List, [], ◌∷◌, ◌++◌, length, get_or, take, reverse, Contains, refl, sym, ap, ◌∙◌, subst, ⊎_elim, lit≤, arith}
 use Rattle.std.specs.Prelude.{Option, None, Some, IfSome, IfNone, option_map}
-use Rattle.std.proofs.lemmas.Bool.{cases_eq}
+use Rattle.std.proofs.lemmas.Bool.{cases_eq, cases_lt}
 use Rattle.std.specs.declared.cmp.Ordering.{Ordering}
 use Rattle.std.specs.declared.cmp.Ordering.TheVariants.{Less, Equal, Greater}
 use Rattle.std.specs.Ordering.{nat_cmp, is_lt, ordering_reverse}
 use Rattle.std.specs.Cmp.Lexicographic.{slice_cmp}
 use Rattle.std.proofs.lemmas.Cmp.{nat_list_cmp_total}
+use Rattle.std.specs.FinMap.{nat_cmp-IsAntisymmetric, slice_cmp-IsAntisymmetric}
 use Rattle.std.proofs.lemmas.List.{length-reverse, reverse-reverse, get_or-reverse, append_assoc, append-nil, length-append, get_or_append_left, get_or_default}
 use Rattle.std.proofs.lemmas.List.Quantifiers.{all_pairs_push}
 use Rattle.std.proofs.lemmas.Option.{none-some, same_Some}
 use Rattle.chem_core.specs.Bits.{HasBit}
 use Rattle.path_print.specs.declared.known.Known.{Known}
 use Rattle.path_print.specs.Path.{Family, exact, plain, label_of, View, string_of, hash_of, bit_of, IsPath}
-use Rattle.path_print.specs.Texts.{TextTerm, PathTerm, text_in, longer_if, of_label, path_start, path_longer, IsOn, IsOneLonger, NoneFrom, IsBitHere, IsBitFrom, SetsBits, last_of, own_bit}
+use Rattle.path_print.specs.Texts.{TextTerm, PathTerm, text_in, longer_if, of_label, path_start, path_longer, IsOn, IsOneLonger, NoneFrom, IsBitHere, IsBitFrom, IsCounted, SetsBits, first_of, last_of}
 use Rattle.path_print.specs.Prints.{HasPathBits}
 use Rattle.path_print.proofs.Options.{map_some}
 use Rattle.path_print.proofs.Carries.{labels_in}
@@ -79,6 +80,20 @@ last-push xs y =
     at [] = refl
     at (z ∷ zs) = at zs
 
+-- a path that one more atom makes full, where it is counted
+counted_full : (xs : List ℕ) (y : ℕ) (more : List ℕ) → 1 ≤ length xs → length xs + 1 ≡ 5
+    → length ((xs ++ y ∷ []) ++ more) ≤ 5 → IsCounted ((xs ++ y ∷ []) ++ more) → first_of xs ≤ y
+counted_full xs y [] some full short counted =
+    let whole : first_of (xs ++ y ∷ []) ≤ last_of (xs ++ y ∷ []) = subst IsCounted (append-nil (xs ++ y ∷ []))
+    counted in
+    let first : first_of (xs ++ y ∷ []) ≡ first_of xs = get_or_append_left xs (y ∷ []) 0 0 (omega arith) in
+    let last : last_of (xs ++ y ∷ []) ≡ y = last-push xs y in
+    omega (arith, whole, first, last)
+counted_full xs y (z ∷ zs) some full short counted =
+    let a = length-append (xs ++ y ∷ []) (z ∷ zs) in
+    let b = length-append xs (y ∷ []) in
+    absurd (omega (arith, a, b, full, short))
+
 -- the text of a family, by its atoms, goes on to one more atom
 module _ (views : Family → View) (symmetric : (family : Family) (x y : ℕ)
     → (views family).byte x y ≡ (views family).byte y x) (p : PathTerm) (on : IsOn views p) (y b : ℕ) (known : Known)
@@ -133,8 +148,8 @@ module _ (views : Family → View) (symmetric : (family : Family) (x y : ℕ)
       Contains_at xs k d y within same = get_or_default xs k y d within ∙ same
 
   -- no path goes on so where the path is full, where the atom is in it, and where no text goes on
-  pub none_from : (length p.atoms ≡ 5) ⊎ (Contains p.atoms y
-      ⊎ (((path_longer p y b known).exact ≡ None) × ((path_longer p y b known).plain ≡ None))) → (bit : ℕ)
+  pub none_from : (length p.atoms ≡ 5) ⊎ (Contains p.atoms y ⊎ (((length p.atoms + 1 ≡ 5) × (y < first_of p.atoms))
+      ⊎ (((path_longer p y b known).exact ≡ None) × ((path_longer p y b known).plain ≡ None)))) → (bit : ℕ)
       → IsBitFrom views (p.atoms ++ y ∷ []) bit → ⊥
   none_from why bit from =
       let family : Family = from.0 in
@@ -156,9 +171,15 @@ module _ (views : Family → View) (symmetric : (family : Family) (x y : ℕ)
               ≡ y = get_or_append_left (p.atoms ++ y ∷ []) more y (length p.atoms) (omega arith)
               ∙ get_or-push p.atoms y in
               path.distinct there.0 (length p.atoms) y lo hi (first ∙ sym second)
-          | inr none ↦
-              let prefix = string_prefix (views family) p.atoms y more from.2 path.reads in
-              no_text family none prefix.0 prefix.1
+          | inr other ↦ elim other [
+            | inl low ↦
+                let counted : first_of p.atoms ≤ y = counted_full p.atoms y more on.some low.0 path.short from.5 in
+                let below : y < first_of p.atoms = low.1 in
+                omega (arith, counted, below)
+            | inr none ↦
+                let prefix = string_prefix (views family) p.atoms y more from.2 path.reads in
+                no_text family none prefix.0 prefix.1
+          ]
         ]
       ]
     where
@@ -183,6 +204,7 @@ module _ (views : Family → View) (symmetric : (family : Family) (x y : ℕ)
   }
 
   pub step_none : (r : Option PathTerm) → IfNone r ((length p.atoms ≡ 5) ⊎ Contains p.atoms y
+      ⊎ ((length p.atoms + 1 ≡ 5) × (y < first_of p.atoms))
       ⊎ (((path_longer p y b known).exact ≡ None) × ((path_longer p y b known).plain ≡ None)))
       → IfNone r (NoneFrom views (p.atoms ++ y ∷ []))
   step_none None why = none_from why
@@ -199,20 +221,22 @@ parts_of t there back e f = rw (sym e, sym f)
 pub from_cases : (views : Family → View) (p : PathTerm) → IsOn views p → (bit : ℕ) → IsBitFrom views p.atoms bit
     → IsBitHere p bit ⊎ ((y : ℕ) × ((family : Family) × (b : ℕ) × ((views family).byte (last_of p.atoms) y ≡ Some b))
     × IsBitFrom views (p.atoms ++ y ∷ []) bit)
-from_cases views p on bit from = at from.0 from.1 from.2 from.3 from.4 from.5
+from_cases views p on bit from = at from.0 from.1 from.2 from.3 from.4 from.5 from.6
   where
     at : (family : Family) (more there back : List ℕ) → IsPath (views family) (p.atoms ++ more) there back
-        → own_bit (record { there = there; back = back }) ≡ Some bit → IsBitHere p bit
+        → IsCounted (p.atoms ++ more) → bit ≡ bit_of there back → IsBitHere p bit
         ⊎ ((y : ℕ) × ((family : Family) × (b : ℕ) × ((views family).byte (last_of p.atoms) y ≡ Some b))
         × IsBitFrom views (p.atoms ++ y ∷ []) bit)
-    at family [] there back path is =
+    at family [] there back path counted is =
         let t = map_some (λ t. t.there) (text_in p family) there (on.there family
         ∙ sym (ap (string_of (views family)) (append-nil p.atoms)) ∙ path.reads) in
         let u = map_some (λ t. t.back) (text_in p family) back (on.back family
         ∙ sym (ap (λ xs. string_of (views family) (reverse xs)) (append-nil p.atoms)) ∙ path.reads_back) in
         let one : u.0 ≡ t.0 = same_Some u.0 t.0 (sym u.1 ∙ t.1) in
-        inl (family, t.0, t.1, ap own_bit (parts_of t.0 there back t.2 (ap (λ t. t.back) (sym one) ∙ u.2)) ∙ is)
-    at family (y ∷ ys) there back path is =
+        let parts = parts_of t.0 there back t.2 (ap (λ t. t.back) (sym one) ∙ u.2) in
+        let here : bit ≡ bit_of t.0.there t.0.back = is ∙ sym (ap (λ (s : TextTerm). bit_of s.there s.back) parts) in
+        inl (subst IsCounted (append-nil p.atoms) counted, (family, (t.0, t.1, here)))
+    at family (y ∷ ys) there back path counted is =
         let whole = split_last p.atoms on.some in
         let same : p.atoms ++ y ∷ ys ≡ (p.atoms ++ y ∷ []) ++ ys = sym (append_assoc p.atoms (y ∷ []) ys) in
         let path' : IsPath (views family) ((p.atoms ++ y ∷ []) ++ ys) there back = subst
@@ -221,21 +245,28 @@ from_cases views p on bit from = at from.0 from.1 from.2 from.3 from.4 from.5
         ++ ys) ≡ Some there = sym (ap (λ xs. string_of (views family) ((xs ++ y ∷ []) ++ ys)) whole) ∙ path'.reads
         in
         let b = step_byte (views family) (take (length p.atoms - 1) p.atoms) (last_of p.atoms) y ys there reads in
-        inr (y, (family, b.0, b.1), (family, ys, there, back, path', is))
+        inr (y, (family, b.0, b.1), (family, ys, there, back, path', subst IsCounted same counted, is))
 
 pub from_here : (views : Family → View) (p : PathTerm) → IsOn views p → (bit : ℕ) → IsBitHere p bit
     → IsBitFrom views p.atoms bit
 from_here views p on bit here =
-    let family : Family = here.0 in
-    let t : TextTerm = here.1 in
+    let family : Family = here.1.0 in
+    let t : TextTerm = here.1.1.0 in
     let same : p.atoms ++ [] ≡ p.atoms = append-nil p.atoms in
     let path : IsPath (views family) p.atoms t.there t.back = record {
       short = on.short;
       distinct = on.distinct;
-      reads = sym (on.there family) ∙ ap (option_map (λ t. t.there)) here.2;
-      reads_back = sym (on.back family) ∙ ap (option_map (λ t. t.back)) here.2;
-    } in
-    (family, [], t.there, t.back, subst (λ xs. IsPath (views family) xs t.there t.back) (sym same) path, here.3)
+      reads = sym (on.there family) ∙ ap (option_map (λ t. t.there)) here.1.1.1;
+      reads_back = sym (on.back family) ∙ ap (option_map (λ t. t.back)) here.1.1.1;
+    } in (
+      family,
+      [],
+      t.there,
+      t.back,
+      subst (λ xs. IsPath (views family) xs t.there t.back) (sym same) path,
+      subst IsCounted (sym same) here.0,
+      here.1.1.2,
+    )
 
 pub from_step : (views : Family → View) (atoms : List ℕ) (y bit : ℕ) → IsBitFrom views (atoms ++ y ∷ []) bit
     → IsBitFrom views atoms bit
@@ -246,7 +277,8 @@ from_step views atoms y bit from = (
   from.3,
   subst (λ xs. IsPath (views from.0) xs from.2 from.3)
       (append_assoc atoms (y ∷ []) from.1) from.4,
-  from.5,
+  subst IsCounted (append_assoc atoms (y ∷ []) from.1) from.5,
+  from.6,
 )
 
 -- the bits here and by all steps are those of all paths that begin so
@@ -351,26 +383,34 @@ below_more views i a b c first second = record {
 
 -- ---- the two ends of a path
 
-own_is_bit : (there back : List ℕ) (bit : ℕ) → own_bit (record { there = there; back = back }) ≡ Some bit
-    → bit ≡ bit_of there back
-own_is_bit there back bit h = at (is_lt (slice_cmp nat_cmp back there)) h
+-- the bit is the same from either end
+bit-turn : (there back : List ℕ) → bit_of there back ≡ bit_of back there
+bit-turn there back = at (slice_cmp nat_cmp back there) (slice_cmp nat_cmp there back)
+    (nat_list_cmp_total.antisymm there back) (same_lists there back)
   where
-    at : (b : Bool) → cond b None (Some (hash_of there % 1024)) ≡ Some bit → bit ≡ hash_of (cond b back there) % 1024
-    at true e = absurd (none-some bit e)
-    at false e = sym (same_Some (hash_of there % 1024) bit e)
+    same_lists : (there back : List ℕ) → slice_cmp nat_cmp back there ≡ Equal → back ≡ there
+    same_lists there back e = slice_cmp-IsAntisymmetric nat_cmp-IsAntisymmetric back there e
 
--- the bit is told from one end or the other
-own_or_other : (there back : List ℕ) → (own_bit (record { there = there; back = back }) ≡ Some (bit_of there back))
-    ⊎ (own_bit (record { there = back; back = there }) ≡ Some (bit_of there back))
-own_or_other there back = at (slice_cmp nat_cmp back there) (slice_cmp nat_cmp there back)
-    (nat_list_cmp_total.antisymm there back)
-  where
-    at : (o p : Ordering) → p ≡ ordering_reverse o
-        → (cond (is_lt o) None (Some (hash_of there % 1024)) ≡ Some (hash_of (cond (is_lt o) back there) % 1024))
-        ⊎ (cond (is_lt p) None (Some (hash_of back % 1024)) ≡ Some (hash_of (cond (is_lt o) back there) % 1024))
-    at Less p e = inr (ap (λ q. cond (is_lt q) None (Some (hash_of back % 1024))) e)
-    at Equal p e = inl refl
-    at Greater p e = inl refl
+    at : (o p : Ordering) → p ≡ ordering_reverse o → (o ≡ Equal → back ≡ there)
+        → hash_of (cond (is_lt o) back there) % 1024 ≡ hash_of (cond (is_lt p) there back) % 1024
+    at Less p e same = ap (λ q. hash_of (cond (is_lt q) there back) % 1024) (sym e)
+    at Equal p e same = ap (λ xs. hash_of xs % 1024) (sym (same refl))
+        ∙ ap (λ q. hash_of (cond (is_lt q) there back) % 1024) (sym e)
+    at Greater p e same = ap (λ q. hash_of (cond (is_lt q) there back) % 1024) (sym e)
+
+-- a path that is not counted in one direction is counted in the other
+counted_back : (xs : List ℕ) → 1 ≤ length xs → last_of xs ≤ first_of xs → IsCounted (reverse xs)
+counted_back xs some le =
+    let size : length (reverse xs) ≡ length xs = length-reverse xs in
+    let first : get_or (reverse xs) 0 0 ≡ get_or xs (length xs - 1 - 0) 0 = get_or-reverse xs 0 0 (omega arith) in
+    let last : get_or (reverse xs) (length xs - 1) 0 ≡ get_or xs (length xs - 1 - (length xs - 1)) 0 = get_or-reverse xs
+    (length xs - 1) 0 (omega arith) in
+    let first' : get_or xs (length xs - 1 - 0) 0 ≡ get_or xs (length xs - 1) 0 = ap (λ k. get_or xs k 0)
+    (omega arith) in
+    let last' : get_or xs (length xs - 1 - (length xs - 1)) 0 ≡ get_or xs 0 0 = ap (λ k. get_or xs k 0) (omega arith) in
+    let end : get_or (reverse xs) (length (reverse xs) - 1) 0 ≡ get_or (reverse xs) (length xs - 1) 0 = ap
+    (λ n. get_or (reverse xs) (n - 1) 0) size in
+    omega (arith, first, first', last, last', end, le)
 
 -- a path walked from its other end
 path_back : (v : View) (atoms there back : List ℕ) → IsPath v atoms there back → IsPath v (reverse atoms) back there
@@ -398,7 +438,7 @@ below_all views n empty print within size none sets = record {
       | inl old ↦ absurd (none bit old)
       | inr new ↦ let from = new.2 in (
         from.0,
-        (new.0 ∷ from.1, from.2, from.3, from.4, own_is_bit from.2 from.3 bit from.5),
+        (new.0 ∷ from.1, from.2, from.3, from.4, from.6),
       )
     ],
     λ h. (sets.bits bit).1 (inr (either_end h.0 bit h.1.0 h.1.1 h.1.2 h.1.3 h.1.4)),
@@ -406,18 +446,19 @@ below_all views n empty print within size none sets = record {
 }
   where
     first : (family : Family) (bit : ℕ) (atoms there back : List ℕ) → IsPath (views family) atoms there back
-        → own_bit (record { there = there; back = back }) ≡ Some bit → IsBitBelow views n bit
-    first family bit [] there back path is = absurd (none-some there path.reads)
-    first family bit (x ∷ xs) there back path is =
+        → IsCounted atoms → bit ≡ bit_of there back → IsBitBelow views n bit
+    first family bit [] there back path counted is = absurd (none-some there path.reads)
+    first family bit (x ∷ xs) there back path counted is =
         let l = labels_in (views family) (x ∷ xs) there path.reads 0 0 (omega arith) in
-        (x, within family x l.0 l.1, (family, xs, there, back, path, is))
+        (x, within family x l.0 l.1, (family, xs, there, back, path, counted, is))
 
     either_end : (family : Family) (bit : ℕ) (atoms there back : List ℕ) → IsPath (views family) atoms there back
         → bit ≡ bit_of there back → IsBitBelow views n bit
-    either_end family bit atoms there back path is = elim (own_or_other there back) [
-      | inl here ↦ first family bit atoms there back path (here ∙ ap Some (sym is))
-      | inr other ↦ first family bit (reverse atoms) back there (path_back (views family) atoms there back path) (other
-          ∙ ap Some (sym is))
+    either_end family bit [] there back path is = absurd (none-some there path.reads)
+    either_end family bit (x ∷ xs) there back path is = elim (cases_lt (last_of (x ∷ xs)) (first_of (x ∷ xs))) [
+      | inl low ↦ first family bit (reverse (x ∷ xs)) back there (path_back (views family) (x ∷ xs) there back path)
+          (counted_back (x ∷ xs) (omega arith) (omega (arith, low))) (is ∙ bit-turn there back)
+      | inr high ↦ first family bit (x ∷ xs) there back path (omega (arith, high)) is
     ]
 
 -- without a bond that has a byte no path goes on

@@ -1,10 +1,8 @@
 -- Strings of paths in both directions, and paths under way, for private clauses alone.
-use Rattle.std.specs.Prelude.{◌≡◌, ◌≢◌, ◌⊎◌, ◌↔◌, ℕ, zero, suc, ◌+◌, ◌-◌, ◌*◌, ◌/◌, ◌%◌, ◌^◌, ◌<◌, ◌≤◌, Bool, List, [], ◌∷◌, ◌++◌, length, slice_index, reverse, AllPairs, Option, None, Some, IfSome, option_map, if◌then◌else◌}
-use Rattle.std.specs.Ordering.{nat_cmp, is_lt}
-use Rattle.std.specs.Cmp.Lexicographic.{slice_cmp}
+use Rattle.std.specs.Prelude.{◌≡◌, ◌≢◌, ◌⊎◌, ◌↔◌, ℕ, zero, suc, ◌+◌, ◌-◌, ◌*◌, ◌/◌, ◌%◌, ◌^◌, ◌<◌, ◌≤◌, Bool, List, [], ◌∷◌, ◌++◌, length, slice_index, reverse, AllPairs, Option, Some, IfSome, option_map}
 use Rattle.chem_core.specs.Bits.{HasBit}
 use Rattle.path_print.specs.declared.known.Known.{Known}
-use Rattle.path_print.specs.Path.{◌>>=◌, Family, exact, plain, label_of, View, string_of, hash_of, IsPath}
+use Rattle.path_print.specs.Path.{◌>>=◌, Family, exact, plain, label_of, View, string_of, hash_of, bit_of, IsPath}
 
 -- a string in both directions
 pub record TextTerm : Type 0 where
@@ -19,22 +17,21 @@ of_label l = record { there = l.0 ∷ l.1 ∷ []; back = l.0 ∷ l.1 ∷ [] }
 abbrev pub longer_text : TextTerm → ℕ → ℕ × ℕ → TextTerm
 longer_text t byte l = record { there = t.there ++ byte ∷ l.0 ∷ l.1 ∷ []; back = l.0 ∷ l.1 ∷ byte ∷ t.back }
 
--- the bit, unless the string comes first in the other direction
-abbrev pub own_bit : TextTerm → Option ℕ
-own_bit t = if is_lt (slice_cmp nat_cmp t.back t.there) then None else Some (hash_of t.there % 1024)
-
 -- so many bytes of a number, the highest first
 unfoldable pub digits : ℕ → ℕ → List ℕ
 digits zero n = []
 digits (suc k) n = digits k (n / 256) ++ (n % 256) ∷ []
 
 -- what a text keeps about its fields
-pub record IsTextInside (count there back hash : ℕ) : Type 0 where
+pub record IsTextInside (count there back there_sum back_sum weight : ℕ) : Type 0 where
   pub few : count ≤ 14
   pub there_fits : there < 256 ^ count
   pub back_fits : back < 256 ^ count
-  pub hashes : hash ≡ hash_of (digits count there)
-  pub small : hash < 65521
+  pub there_hash : there_sum % 65521 ≡ hash_of (digits count there)
+  pub there_small : there_sum ≤ 1000000000000
+  pub back_hash : back_sum % 65521 ≡ hash_of (digits count back)
+  pub back_small : back_sum ≤ 1000000000000 * count
+  pub weighs : weight ≡ 131 ^ count % 65521
 
 -- a path under way: its atoms, and its text in each family
 pub record PathTerm : Type 0 where
@@ -95,23 +92,31 @@ pub record IsOn (views : Family → View) (p : PathTerm) : Type 0 where
   pub back : (family : Family) → option_map (λ t. t.back) (text_in p family)
       ≡ string_of (views family) (reverse p.atoms)
 
--- the bit of the path as far as it goes, in one of the families, if its string there comes first
-abbrev pub IsBitHere : PathTerm → ℕ → Type 0
-IsBitHere p bit = (family : Family) × (t : TextTerm) × (text_in p family ≡ Some t) × (own_bit t ≡ Some bit)
+-- the atom that a path begins with
+abbrev pub first_of : List ℕ → ℕ
+first_of atoms = slice_index atoms 0
 
--- the bit of some path that begins so, if its string there comes first
+-- Of the two directions of a path the one in which it is counted: from the end with the lower place.
+abbrev pub IsCounted : List ℕ → Type 0
+IsCounted atoms = first_of atoms ≤ last_of atoms
+
+-- the bit of a text, if there is one
+abbrev pub IsBitOf : Option TextTerm → ℕ → Type 0
+IsBitOf text bit = (t : TextTerm) × (text ≡ Some t) × (bit ≡ bit_of t.there t.back)
+
+-- the bit of the path as far as it goes, in one of the families, if it is counted in this direction
+abbrev pub IsBitHere : PathTerm → ℕ → Type 0
+IsBitHere p bit = IsCounted p.atoms × ((family : Family) × IsBitOf (text_in p family) bit)
+
+-- the bit of some path that begins so, if it is counted in this direction
 abbrev pub IsBitFrom : (Family → View) → List ℕ → ℕ → Type 0
 IsBitFrom views atoms bit = (family : Family) × (more there back : List ℕ)
-    × IsPath (views family) (atoms ++ more) there back × (own_bit (record { there = there; back = back }) ≡ Some bit)
+    × IsPath (views family) (atoms ++ more) there back × IsCounted (atoms ++ more) × (bit ≡ bit_of there back)
 
 -- the bits are set, and those that were
 pub record SetsBits (IsBit : ℕ → Type 0) (old new : List Bool) : Type 0 where
   pub size : length new ≡ length old
   pub bits : (bit : ℕ) → HasBit new bit ↔ (HasBit old bit ⊎ IsBit bit)
-
--- the bit of a text, if there is one
-abbrev pub IsBitOf : Option TextTerm → ℕ → Type 0
-IsBitOf text bit = (t : TextTerm) × (text ≡ Some t) × (own_bit t ≡ Some bit)
 
 -- the path that goes on to one more atom
 pub record IsOneLonger (views : Family → View) (p : PathTerm) (y : ℕ) (q : PathTerm) : Type 0 where
@@ -119,6 +124,6 @@ pub record IsOneLonger (views : Family → View) (p : PathTerm) (y : ℕ) (q : P
   pub atoms : q.atoms ≡ p.atoms ++ y ∷ []
   pub last : last_of q.atoms ≡ y
 
--- no path begins so
+-- no path that is counted begins so
 abbrev pub NoneFrom : (Family → View) → List ℕ → Type 0
 NoneFrom views atoms = (bit : ℕ) → IsBitFrom views atoms bit → ⊥

@@ -1,7 +1,8 @@
 //! Paths under way: the atoms so far, and the text in each family of labels.
-ghost use Rattle.std.specs.Prelude.{◌≡◌, ◌<◌, ◌≤◌, ◌+◌, ◌⊎◌, ◌↔◌, length, Contains, None, IsTrue, IfSome, IfNone, option_and_then};
+ghost use Rattle.std.specs.Prelude.{◌≡◌, ◌<◌, ◌≤◌, ◌+◌, ◌⊎◌, ◌↔◌, length, Contains, None, IsTrue, IfSome, IfNone, option_map};
 ghost use Rattle.chem_core.specs.Bits.{HasBit};
-ghost use Rattle.path_print.specs.Texts.{longer_if, path_start, path_longer, IsBitHere, IsBitOf, SetsBits, last_of, own_bit};
+ghost use Rattle.path_print.specs.Path.{bit_of};
+ghost use Rattle.path_print.specs.Texts.{longer_if, path_start, path_longer, IsBitHere, IsBitOf, IsCounted, SetsBits, first_of, last_of};
 
 use crate::known::Known;
 use crate::text::Text;
@@ -69,18 +70,30 @@ impl Path {
         self.atoms[self.count - 1]
     }
 
-    /// The path that goes on to an atom by a bond with this byte. `None` where it is full, where the atom is in it, and
-    /// where it has no text.
+    /// The atom that it begins with.
+    #[inline(always)]
+    pub fn first(&self) -> u16
+        ensures { result ≡ first_of self.now.atoms }
+    {
+        self.atoms[0]
+    }
+
+    /// The path that goes on to an atom by a bond with this byte. `None` where it is full, where the atom is in it,
+    /// where it has no text, and where it would be full and is counted from its other end.
     #[inline(always)]
     pub fn longer(&self, atom: u16, byte: u8, known: Known) -> Option<Path>
         ensures value { IfSome result (λ p. p ≡ path_longer self.now atom byte known) }
         ensures new { IfSome result (λ _. Contains self.now.atoms atom → ⊥) }
         ensures room { IfSome result (λ _. length self.now.atoms < MOST) }
         ensures none { IfNone result ((length self.now.atoms ≡ MOST) ⊎ Contains self.now.atoms atom
+            ⊎ ((length self.now.atoms + 1 ≡ MOST) × (atom < first_of self.now.atoms))
             ⊎ ((path_longer self.now atom byte known).exact ≡ None)
             × ((path_longer self.now atom byte known).plain ≡ None)) }
     {
         if self.is_full() || self.has(atom) {
+            return None;
+        }
+        if self.count + 1 == MOST && atom < self.first() {
             return None;
         }
         let exact = longer_text(&self.exact, byte, known.exact());
@@ -131,13 +144,15 @@ impl Path {
         atom == fifth
     }
 
-    /// Sets the bit of each of its texts.
+    /// Sets the bit of each of its texts, if it is counted in this direction.
     #[inline(always)]
     pub fn mark(&self, print: &mut Print)
         ensures bits { SetsBits (IsBitHere self.now) print.old print.new }
     {
-        mark_text(&self.exact, print);
-        mark_text(&self.plain, print);
+        if self.first() <= self.last() {
+            mark_text(&self.exact, print);
+            mark_text(&self.plain, print);
+        }
     }
 }
 
@@ -154,11 +169,11 @@ fn longer_text(text: &Option<Text>, byte: u8, label: Option<(u8, u8)>) -> Option
 
 #[inline(always)]
 fn bit_of(text: &Option<Text>) -> Option<u16>
-    ensures value { result ≡ option_and_then own_bit text.now }
+    ensures value { result ≡ option_map (λ t. bit_of t.there t.back) text.now }
     ensures small { IfSome result (λ bit. bit < 1024) }
 {
     match text {
-        Some(text) => text.bit(),
+        Some(text) => Some(text.bit()),
         None => None,
     }
 }

@@ -1,9 +1,10 @@
-//! The string of a path in its two directions, kept as two numbers, and the hash of the one as far as it goes.
+//! The string of a path in its two directions, kept as two numbers, and what the hash of each is the remainder of.
 //!
-//! Each path is walked from both of its ends. So the bit is told from the end from which the string comes first, and
-//! the hash grows at its end alone.
-ghost use Rattle.std.specs.Prelude.{◌≡◌, ◌<◌, ◌≤◌, ◌+◌, ◌*◌, length, IfSome};
-ghost use Rattle.path_print.specs.Texts.{of_label, longer_text, own_bit};
+//! The string there grows at its end, and its hash with it. The string back grows in front: the new bytes weigh as much
+//! as all bytes behind them make them weigh.
+ghost use Rattle.std.specs.Prelude.{◌≡◌, ◌<◌, ◌≤◌, ◌+◌, ◌*◌, ◌%◌, length};
+ghost use Rattle.path_print.specs.Path.{bit_of};
+ghost use Rattle.path_print.specs.Texts.{of_label, longer_text};
 
 use std::marker::Model;
 
@@ -16,14 +17,20 @@ const SEED: u64 = 7;
 /// What the bytes so far are multiplied by, before the next byte is added.
 const FACTOR: u64 = 131;
 
+/// How much more a hash starts with behind three bytes of value 0.
+const SHIFTED: u64 = SEED * FACTOR * FACTOR * FACTOR - SEED;
+
 /// The string of a path in its two directions. Contracts see it as two lists of bytes.
 #[derive(Drop)]
 pub struct Text {
     // The strings as numbers, the first byte highest.
     there: u128,
     back: u128,
-    // The hash of the first.
-    hash: u64,
+    // The hash of each is the remainder of these.
+    there_sum: u64,
+    back_sum: u64,
+    // What a byte before the second string is multiplied by, in its hash.
+    weight: u64,
     length: u64,
 }
 
@@ -34,7 +41,7 @@ impl Model for Text {
 
     ghost view = { λ t. record { there = digits t.length t.there; back = digits t.length t.back } };
 
-    ghost invariant = { λ t. IsTextInside t.length t.there t.back t.hash };
+    ghost invariant = { λ t. IsTextInside t.length t.there t.back t.there_sum t.back_sum t.weight };
 }
 
 impl Text {
@@ -43,10 +50,13 @@ impl Text {
         ensures { result ≡ of_label label }
     {
         let number = number_of(0, label.0, label.1);
+        let sum = SEED * FACTOR * FACTOR + sum_of(0, label.0, label.1);
         Text {
             there: number,
             back: number,
-            hash: (SEED * FACTOR * FACTOR + sum_of(0, label.0, label.1)) % PRIME,
+            there_sum: sum,
+            back_sum: sum,
+            weight: FACTOR * FACTOR,
             length: 2,
         }
     }
@@ -58,26 +68,39 @@ impl Text {
         ensures { result ≡ longer_text self.now byte label }
     {
         let tail = sum_of(byte, label.0, label.1);
+        let head = sum_of(label.0, label.1, byte);
+        let weighed = (SHIFTED + head) * self.weight;
         Text {
             there: (self.there << 24) + number_of(byte, label.0, label.1),
             back: (number_of(label.0, label.1, byte) << (8 * self.length)) + self.back,
-            hash: (self.hash * FACTOR * FACTOR * FACTOR + tail) % PRIME,
+            there_sum: self.there_sum % PRIME * FACTOR * FACTOR * FACTOR + tail,
+            back_sum: self.back_sum + weighed,
+            weight: self.weight * FACTOR * FACTOR * FACTOR % PRIME,
             length: self.length + 3,
         }
     }
 
-    /// The bit of the path, unless its string comes first in the other direction.
+    /// The bit of the path.
     #[inline(always)]
-    pub fn bit(&self) -> Option<u16>
-        ensures value { result ≡ own_bit self.now }
-        ensures small { IfSome result (λ bit. bit < 1024) }
+    pub fn bit(&self) -> u16
+        ensures value { result ≡ bit_of self.now.there self.now.back }
+        ensures small { result < 1024 }
     {
         if self.back < self.there {
-            None
+            bit_from(self.back_sum)
         } else {
-            Some((self.hash % 1024) as u16)
+            bit_from(self.there_sum)
         }
     }
+}
+
+// The bit of a hash that is the remainder of this.
+#[inline(always)]
+fn bit_from(sum: u64) -> u16
+    ensures value { result ≡ sum % PRIME % 1024 }
+    ensures small { result < 1024 }
+{
+    (sum % PRIME % 1024) as u16
 }
 
 // Three bytes as a number.

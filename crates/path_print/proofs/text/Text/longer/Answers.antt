@@ -6,20 +6,23 @@ pub invariant_of-result : goal.invariant_of-result
 invariant_of-result c =
     let i = c.self.inside in
     let few : i.length ≤ 11 = rw (← c.self.view_is, length-digits) at c.requires in
-    longer_inside i.length i.there i.back i.hash c.args.byte c.args.label.0 c.args.label.1 c.number_of.result
-    c.sum_of-tail.result c.number_of-2.result few c.self.invariant (omega arith) (omega arith)
-    (omega arith) c.number_of.ensures c.sum_of-tail.ensures c.number_of-2.ensures
+    longer_inside i.length i.there i.back i.there_sum i.back_sum i.weight c.args.byte c.args.label.0 c.args.label.1
+    c.number_of.result c.sum_of-tail.result c.number_of-2.result c.sum_of-head.result few c.self.invariant
+    (omega arith) (omega arith) (omega arith) c.number_of.ensures c.sum_of-tail.ensures c.number_of-2.ensures
+    c.sum_of-head.ensures
 
 pub returns : goal.returns
 returns c =
     let i = c.self.inside in
     let few : i.length ≤ 11 = rw (← c.self.view_is, length-digits) at c.requires in
-    let there = longer_there i.length i.there i.back i.hash c.args.byte c.args.label.0 c.args.label.1 c.number_of.result
-    c.sum_of-tail.result c.number_of-2.result few c.self.invariant (omega arith) (omega arith)
-    (omega arith) c.number_of.ensures c.sum_of-tail.ensures c.number_of-2.ensures in
-    let back = longer_back i.length i.there i.back i.hash c.args.byte c.args.label.0 c.args.label.1 c.number_of.result
-    c.sum_of-tail.result c.number_of-2.result few c.self.invariant (omega arith) (omega arith)
-    (omega arith) c.number_of.ensures c.sum_of-tail.ensures c.number_of-2.ensures in
+    let there = longer_there i.length i.there i.back i.there_sum i.back_sum i.weight c.args.byte c.args.label.0
+    c.args.label.1 c.number_of.result c.sum_of-tail.result c.number_of-2.result c.sum_of-head.result few
+    c.self.invariant (omega arith) (omega arith) (omega arith) c.number_of.ensures c.sum_of-tail.ensures
+    c.number_of-2.ensures c.sum_of-head.ensures in
+    let back = longer_back i.length i.there i.back i.there_sum i.back_sum i.weight c.args.byte c.args.label.0
+    c.args.label.1 c.number_of.result c.sum_of-tail.result c.number_of-2.result c.sum_of-head.result few
+    c.self.invariant (omega arith) (omega arith) (omega arith) c.number_of.ensures c.sum_of-tail.ensures
+    c.number_of-2.ensures c.sum_of-head.ensures in
     rw (← c.self.view_is, there, back)
 
 pub overflow_add-result-2 : goal.overflow_add-result-2
@@ -28,7 +31,8 @@ overflow_add-result-2 c =
     let few : i.length ≤ 11 = rw (← c.self.view_is, length-digits) at c.requires in
     omega (
       arith,
-      longer_fits i.length i.there i.back i.hash c.args.byte c.args.label.0 c.args.label.1
-          c.number_of.result c.sum_of-tail.result c.number_of-2.result few c.self.invariant (omega arith) (omega arith)
-          (omega arith) c.number_of.ensures c.sum_of-tail.ensures c.number_of-2.ensures,
+      longer_fits i.length i.there i.back i.there_sum i.back_sum i.weight c.args.byte c.args.label.0 c.args.label.1
+          c.number_of.result c.sum_of-tail.result c.number_of-2.result c.sum_of-head.result few c.self.invariant
+          (omega arith) (omega arith) (omega arith) c.number_of.ensures c.sum_of-tail.ensures c.number_of-2.ensures
+          c.sum_of-head.ensures,
     )
