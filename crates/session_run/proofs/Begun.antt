@@ -1,5 +1,5 @@
 -- A cursor that is opened: its answer, and what is held, by how its search began.
-use Rattle.std.proofs.Common.{◌≡◌, ◌↔◌, ◌⊎◌, ◌++◌, ◌∙◌, ap, Err, false, IfNone, IfOk, IfSome, inl, inr, is_some, List, [], ◌∷◌, None, Ok, OnErr, Option, refl, Result, Some, subst, sym, true, ℕ}
+use Rattle.std.proofs.Common.{◌≡◌, ◌↔◌, ◌⊎◌, ◌++◌, ◌∙◌, ap, Err, IfOk, inl, inr, List, [], ◌∷◌, Ok, OnErr, refl, Result, subst, sym, ℕ}
 use Rattle.par_search.specs.Searches.{HasBegun}
 use Rattle.par_search.specs.declared.fault.SearchFault.{SearchFault}
 use Rattle.par_search.specs.declared.fault.SearchFault.TheVariants as faults
@@ -17,28 +17,14 @@ use Rattle.session_run.specs.Cursors.{Calls, Cursor, IsNoName}
 use Rattle.session_run.specs.Made.{AreHeld, OneLineIn, SameOthers}
 use Rattle.session_run.specs.Searched.{Begins, IsPinOf}
 use Rattle.session_run.specs.Texts.{IsPatternOf}
-use Rattle.session_run.specs.Walks.{Adds, AreSized, IsNamedAt, cursor_of, cursors_of}
+use Rattle.session_run.specs.Walks.{Adds, AreSized, cursor_of, cursors_of}
 use Rattle.session_run.specs.declared.cursors.Cursor as rust
 use Rattle.session_run.specs.declared.listing.Walk.{Walk}
 use Rattle.session_run.specs.declared.stop.Worn.{Worn}
 use Rattle.session_run.proofs.Held.{IsAdded, held-added, held-same, others-added, same_others}
 use Rattle.session_run.proofs.Lines.{worn_answered}
-use Rattle.session_run.proofs.Named.{not_none, pushed, sized-pushed}
+use Rattle.session_run.proofs.Named.{pushed, sized-pushed}
 use Rattle.session_run.proofs.Opening.{opens}
-
--- a name that is taken, and one that is free
-pub taken : (r : Option ℕ) (items : List rust.Cursor) (name : List ℕ) → is_some r ≡ true
-    → IfSome r (IsNamedAt items name) → ¬ IsNoName (cursors_of items) name
-taken None items name e n = absurd (apart e) where
-  apart : false ≡ true → ⊥
-  apart k = cc
-taken (Some place) items name e n = not_none items name place n
-
-pub free : (r : Option ℕ) (P : Type 0) → is_some r ≡ false → IfNone r P → P
-free None P e h = h
-free (Some place) P e h = absurd (apart e) where
-  apart : true ≡ false → ⊥
-  apart k = cc
 
 -- the service was worn where none was added for it
 pub added_worn : (name : List ℕ) (begun : Result Walk SearchFault) (items items' : List rust.Cursor)

@@ -5,6 +5,7 @@ use Rattle.shell_lang.specs.declared.reply.Reply as written
 use Rattle.store_core.specs.Calls.{NotRaised, SameHeld}
 use Rattle.session_run.specs.Cursors.{Cursor}
 use Rattle.session_run.specs.Made.{AreHeld, Said, SameOthers, Tells}
+use Rattle.session_run.specs.Opened.{opened}
 use Rattle.session_run.specs.Responds.{IsFit, IsReady, Keeps, KeepsPins, MovesPins, SaidShort}
 use Rattle.session_run.specs.Serving.{KeepsOn}
 use Rattle.session_run.specs.Walks.{AreSized, cursors_of}
@@ -107,19 +108,19 @@ held-all a b h slot version =
 module _ {S : Type 0} (Holds : S → ℕ → ℕ → Type 0) (IsWorn : S → Type 0) (bounds_of : S → Option ℕ × Option ℕ)
     (a b : S) (old new : Responder) (ready : IsReady Holds a old) (result : Result (Unit {0}) Stop) where
   same_fit : new.settings ≡ old.settings → new.cursors ≡ old.cursors
-      → IsFit new.settings new.cursors.size new.cursors.list.items
-  same_fit e f = subst (λ (k : Cursors). IsFit new.settings k.size k.list.items) (sym f)
-      (subst (λ (s : Settings). IsFit s old.cursors.size old.cursors.list.items) (sym e) ready.fit)
+      → IsFit new.settings new.cursors.size (opened new.cursors)
+  same_fit e f = subst (λ (k : Cursors). IsFit new.settings k.size (opened k)) (sym f)
+      (subst (λ (s : Settings). IsFit s old.cursors.size (opened old.cursors)) (sym e) ready.fit)
 
   same_pins : (k : Cursors) → k ≡ old.cursors
-      → MovesPins (Holds a) (cursors_of old.cursors.list.items) (Holds b) (cursors_of old.cursors.list.items) result
-      → MovesPins (Holds a) (cursors_of old.cursors.list.items) (Holds b) (cursors_of k.list.items) result
-  same_pins k f m = subst (λ (l : Cursors). MovesPins (Holds a) (cursors_of old.cursors.list.items) (Holds b)
-      (cursors_of l.list.items) result) (sym f) m
+      → MovesPins (Holds a) (cursors_of (opened old.cursors)) (Holds b) (cursors_of (opened old.cursors)) result
+      → MovesPins (Holds a) (cursors_of (opened old.cursors)) (Holds b) (cursors_of (opened k)) result
+  same_pins k f m = subst (λ (l : Cursors). MovesPins (Holds a) (cursors_of (opened old.cursors)) (Holds b)
+      (cursors_of (opened l)) result) (sym f) m
 
   -- the cursors are as they were
   pub keeps_same : new.settings ≡ old.settings → new.cursors ≡ old.cursors → (result ≡ Err stops.Worn → IsWorn b)
-      → MovesPins (Holds a) (cursors_of old.cursors.list.items) (Holds b) (cursors_of old.cursors.list.items) result
+      → MovesPins (Holds a) (cursors_of (opened old.cursors)) (Holds b) (cursors_of (opened old.cursors)) result
       → NotRaised (bounds_of a) (bounds_of b) → Keeps Holds IsWorn bounds_of a b old new result
   keeps_same e f worn pins bounds = record {
     fit = same_fit e f;
@@ -134,17 +135,17 @@ module _ {S : Type 0} (Holds : S → ℕ → ℕ → Type 0) (IsWorn : S → Typ
       → SameHeld (Holds a) (Holds b) → NotRaised (bounds_of a) (bounds_of b)
       → Keeps Holds IsWorn bounds_of a b old new result
   keeps_all e f worn held bounds = keeps_same e f worn (pins_moved (Holds a) (Holds b)
-      (cursors_of old.cursors.list.items) (cursors_of old.cursors.list.items) result
-      (held-same (Holds a) (Holds b) (cursors_of old.cursors.list.items) held ready.held)
-      (same_others (Holds a) (Holds b) (cursors_of old.cursors.list.items) held)) bounds
+      (cursors_of (opened old.cursors)) (cursors_of (opened old.cursors)) result
+      (held-same (Holds a) (Holds b) (cursors_of (opened old.cursors)) held ready.held)
+      (same_others (Holds a) (Holds b) (cursors_of (opened old.cursors)) held)) bounds
 
   -- the cursors have moved
   pub keeps_moved : new.settings ≡ old.settings → new.cursors.size ≡ old.cursors.size
-      → AreSized new.cursors.size new.cursors.list.items → (result ≡ Err stops.Worn → IsWorn b)
-      → MovesPins (Holds a) (cursors_of old.cursors.list.items) (Holds b) (cursors_of new.cursors.list.items) result
+      → AreSized new.cursors.size (opened new.cursors) → (result ≡ Err stops.Worn → IsWorn b)
+      → MovesPins (Holds a) (cursors_of (opened old.cursors)) (Holds b) (cursors_of (opened new.cursors)) result
       → NotRaised (bounds_of a) (bounds_of b) → Keeps Holds IsWorn bounds_of a b old new result
   keeps_moved e f sized worn pins bounds = record {
-    fit = subst (λ (s : Settings). IsFit s new.cursors.size new.cursors.list.items) (sym e) (record {
+    fit = subst (λ (s : Settings). IsFit s new.cursors.size (opened new.cursors)) (sym e) (record {
       some_workers = ready.fit.some_workers;
       few_workers = ready.fit.few_workers;
       some = ready.fit.some;
@@ -169,10 +170,10 @@ keeps_on Holds IsWorn bounds_of s old new ready e f result n =
 
 -- at the start
 pub fit_new : (s : Settings) (r : Responder) → 1 ≤ s.workers → s.workers ≤ 16 → 1 ≤ s.page → s.page ≤ 256
-    → r.settings ≡ s → r.cursors.size ≡ s.page → r.cursors.list.items ≡ []
-    → IsFit r.settings r.cursors.size r.cursors.list.items
+    → r.settings ≡ s → r.cursors.size ≡ s.page → opened r.cursors ≡ []
+    → IsFit r.settings r.cursors.size (opened r.cursors)
 fit_new s r some_workers few_workers some few e f none =
-    subst (λ (t : Settings). IsFit t r.cursors.size r.cursors.list.items) (sym e) (record {
+    subst (λ (t : Settings). IsFit t r.cursors.size (opened r.cursors)) (sym e) (record {
       some_workers = some_workers;
       few_workers = few_workers;
       some = some;

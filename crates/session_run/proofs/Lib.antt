@@ -16,6 +16,7 @@ pub mod Keeping
 pub mod Responses
 pub mod Turning
 pub mod Named
+pub mod ByName
 pub mod Closing
 pub mod Growing
 pub mod Parting

@@ -1,10 +1,7 @@
 -- Cursors by their places.
-use Rattle.std.proofs.Common.{◌≡◌, ◌+◌, ◌++◌, ◌<◌, ◌≤◌, ◌∙◌, ap, arith, Bool, bytes_eq, cond, false, IfNone, IfSome, None, not, Option, position, Some, true, drop, drop-cons, get_or, length, List, [], ◌∷◌, map, refl, set, subst, suc, sym, take, zero, ℕ}
+use Rattle.std.proofs.Common.{◌≡◌, ◌+◌, ◌++◌, ◌<◌, ◌∙◌, ap, arith, drop, drop-cons, get_or, length, List, [], ◌∷◌, map, refl, set, subst, suc, sym, take, zero, ℕ}
 use Rattle.std.proofs.lemmas.List.{map-append, take-append-drop}
-use Rattle.std.proofs.lemmas.Bool.Decides.{nat_tests}
-use Rattle.std.proofs.lemmas.List.Quantifiers.{position-Some}
-use Rattle.std.proofs.lemmas.Slice.Eq.{bytes_eq-Decides}
-use Rattle.std.specs.List.{position_or_len, remove}
+use Rattle.std.specs.List.{remove}
 use Rattle.session_run.specs.Cursors.{Cursor, IsNoName}
 use Rattle.session_run.specs.Walks.{AreSized, IsNamedAt, cursor_of, cursors_of}
 use Rattle.session_run.specs.declared.cursors.Cursor as rust
@@ -54,56 +51,6 @@ sized-pushed size items x e h = sized-both size items (x ∷ []) h (e, tt)
 pub pushed : (items : List rust.Cursor) (x : rust.Cursor)
     → cursors_of (items ++ x ∷ []) ≡ cursors_of items ++ cursor_of x ∷ []
 pushed items x = map-append cursor_of items (x ∷ [])
-
--- The cursor of a name, by its first place
-abbrev pub is_same : List ℕ → rust.Cursor → Bool
-is_same name c = bytes_eq c.name.items name
-
-nowhere : {A : Type 0} {i : A} → None ≡ Some i → ⊥
-nowhere h = cc
-
-apart : (b : Bool) → b ≡ true → b ≡ false → ⊥
-apart b h k = cc
-
-pub found : (items : List rust.Cursor) (name : List ℕ) (place : ℕ) → position (is_same name) items ≡ Some place
-    → IsNamedAt items name place
-found items name place e = record {
-  within = inside items refl;
-  named = λ any.
-      (bytes_eq-Decides (get_or items place any).name.items name).0 (position-Some (is_same name) items place any e).1;
-} where
-  inside : (l : List rust.Cursor) → items ≡ l → place < length items
-  inside [] q = absurd (nowhere (subst (λ (l : List rust.Cursor). position (is_same name) l ≡ Some place) q e))
-  inside (x ∷ xs) q = (position-Some (is_same name) items place x e).0
-
-none_step : (b : Bool) (x : rust.Cursor) (xs : List rust.Cursor) (name : List ℕ) → is_same name x ≡ b
-    → suc (length xs) ≤ cond (not b) (1 + position_or_len (is_same name) xs) 0
-    → (length xs ≤ position_or_len (is_same name) xs → IsNoName (cursors_of xs) name)
-    → IsNoName (cursors_of (x ∷ xs)) name
-none_step true x xs name e h rest k any lt = absurd (omega (arith, h))
-none_step false x xs name e h rest zero any lt =
-    λ same. apart (is_same name x) ((bytes_eq-Decides x.name.items name).1 same) e
-none_step false x xs name e h rest (suc k) any lt = rest (omega (arith, h)) k any (omega (arith, lt))
-
-none_from : (items : List rust.Cursor) (name : List ℕ) → length items ≤ position_or_len (is_same name) items
-    → IsNoName (cursors_of items) name
-none_from [] name h k any lt = absurd (omega (arith, lt))
-none_from (x ∷ xs) name h k any lt = none_step (is_same name x) x xs name refl h (none_from xs name) k any lt
-
-pub unfound : (items : List rust.Cursor) (name : List ℕ) → position (is_same name) items ≡ None
-    → IsNoName (cursors_of items) name
-unfound items name e = none_from items name (grind (arith, nat_tests))
-
--- a place is named, or none is
-pub found_named : (r : Option ℕ) (items : List rust.Cursor) (name : List ℕ) → r ≡ position (is_same name) items
-    → IfSome r (IsNamedAt items name)
-found_named None items name e = tt
-found_named (Some place) items name e = found items name place (sym e)
-
-pub found_none : (r : Option ℕ) (items : List rust.Cursor) (name : List ℕ) → r ≡ position (is_same name) items
-    → IfNone r (IsNoName (cursors_of items) name)
-found_none None items name e = unfound items name (sym e)
-found_none (Some place) items name e = tt
 
 -- a name that a place has is no free one
 pub not_none : (items : List rust.Cursor) (name : List ℕ) (place : ℕ) → IsNamedAt items name place

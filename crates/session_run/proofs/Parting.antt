@@ -7,7 +7,7 @@ use Rattle.smarts_parse.specs.Pattern.{PatternTerm}
 use Rattle.store_machine.specs.Answers.{AreAnswers, AreMatched, IsAnswer, ids}
 use Rattle.store_machine.specs.ByCalls.{CallsGivePages, Pages}
 use Rattle.store_machine.specs.History.{Snapshot, head, snapshot}
-use Rattle.store_machine.specs.Laws.{IsSound, NeedsScreen, PinsStay, RunsStaySound, SnapshotsStay, StatesStay}
+use Rattle.store_machine.specs.Laws.{IsSound, NeedsScreen, PinsStay, RunsGrow, RunsStaySound, SnapshotsStay, StatesStay}
 use Rattle.store_machine.specs.Machine.{Gives, Holds, PinGives, pin_in}
 use Rattle.store_machine.specs.Runs.{IsCalm, IsRun, IsStep, calls_of, is_call, is_own}
 use Rattle.store_machine.specs.Searches.{At, End, IsSearch, KeepsPin, fetched, records_of}
@@ -24,13 +24,14 @@ use Rattle.store_machine.specs.declared.machine.Step.{Step}
 use Rattle.session_run.specs.Cursors.{Calls}
 use Rattle.session_run.specs.Dialogue.{IsTold}
 use Rattle.session_run.specs.Truths.{AreAllHits, IsUpToDate}
-use Rattle.session_run.proofs.Growing.{longer, run-grows, run-told}
+use Rattle.session_run.proofs.Growing.{longer, run-told}
 
 -- the machine's laws
 pub record Laws : Type 0 where
   pub snapshots : SnapshotsStay
   pub states : StatesStay
   pub sound : RunsStaySound
+  pub grow : RunsGrow
   pub pins : PinsStay
   pub pages : CallsGivePages
   pub needs : NeedsScreen
@@ -289,13 +290,13 @@ pin_new laws own s t steps before later slot version sound run calm e =
     let b = begins own a.middle t a.back (Pin, Pinned slot version) later a.from a.calm_from a.last_calls in
     let at : version ≡ head b.step.before.history = (pin_given b.step slot version b.event b.reply b.is).3 in
     let up : head a.middle.history ≤ head b.step.before.history =
-    longer a.middle b.step.before (run-grows a.middle b.step.before b.skip b.to) in
+    longer laws.grow a.middle b.step.before b.skip b.to in
     let on : head b.step.before.history ≤ head t.history =
-    longer b.step.before t (run-grows b.step.before t (b.step ∷ b.rest) (refl, b.is, b.from)) in (
+    longer laws.grow b.step.before t (b.step ∷ b.rest) (refl, b.is, b.from) in (
       omega (arith, at, on),
       λ v is.
           let le : v ≤ head a.middle.history =
-          run-told laws.states laws.sound s a.middle a.front own v sound a.to
+          run-told laws.states laws.sound laws.grow s a.middle a.front own v sound a.to
           (subst (λ (l : Calls). IsTold l v) (sym a.first_calls) is) in
           omega (arith, le, at, up),
     )
@@ -336,7 +337,7 @@ whole_pages laws own s t steps before pages later slot version tried pattern wan
     let p : Pages s a.middle slot version want End pages =
     laws.pages s a.middle a.front own slot version 0 want End pages sound a.to a.calm_to (omega arith)
     (record { before = before; own = a.first_calls; keeps = keeps; search = search }) in
-    let more = run-grows a.middle t a.back a.from in
+    let more = laws.grow a.middle t a.back a.from in
     let stays : snapshot a.middle.history version ≡ snapshot t.history version =
     sym (ap (λ (h : List Change). snapshot h version) more.1
     ∙ laws.snapshots a.middle.history more.0 version p.not_after) in

@@ -3,7 +3,7 @@ use Rattle.std.proofs.Common.{◌≡◌, ◌⊎◌, ◌++◌, ◌∙◌, ap, app
 use Rattle.std.specs.Fmt.{decimal}
 use Rattle.io_edge.specs.Lines.{TextLine, TooLong, Whole}
 use Rattle.mol_finish.specs.declared.fault.Format.TheVariants.{Smiles}
-use Rattle.shell_lang.specs.Command.{Command, IsIdentifier, IsLine, Spells, StartsMolfile, molfile_command}
+use Rattle.shell_lang.specs.Command.{Command, IsLine, Spells, StartsMolfile, molfile_command}
 use Rattle.shell_lang.specs.CommandView.{command_of}
 use Rattle.shell_lang.specs.Reply as line
 use Rattle.shell_lang.specs.Reply.{reply_line, reply_of}

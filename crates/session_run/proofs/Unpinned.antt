@@ -1,8 +1,5 @@
 -- How the pins of all cursors are given back, one after another.
-use Rattle.std.proofs.Common.{◌≡◌, ◌<◌, ◌++◌, ◌∙◌, ◌==◌, ap, append-nil, append_assoc, arith, Bool, get_or, length, List, [], ◌∷◌, subst, sym, true, ℕ}
-use Rattle.std.proofs.lemmas.Bool.{eqb-true}
-use Rattle.std.proofs.lemmas.List.{nil_from_length}
-use Rattle.std.specs.List.{remove}
+use Rattle.std.proofs.Common.{◌≡◌, ◌++◌, ◌∙◌, ap, append-nil, append_assoc, List, [], ◌∷◌, subst, sym, ℕ}
 use Rattle.session_run.specs.Cursors.{Calls, Cursor, unpins}
 use Rattle.session_run.specs.Made.{AreHeld, SameOthers}
 use Rattle.session_run.specs.Transcript.{IsPrefixOf}
@@ -10,13 +7,6 @@ use Rattle.session_run.specs.Walks.{cursor_of, cursors_of}
 use Rattle.session_run.specs.declared.cursors.Cursor as rust
 use Rattle.session_run.proofs.Held.{IsGivenBack, held-at, held-without, others-without, same_others-more}
 use Rattle.session_run.proofs.Opening.{unpin_of}
-
--- the first of a list that is not empty
-pub first_is : (items items' : List rust.Cursor) (x : rust.Cursor) → 0 < length items → x ≡ get_or items 0 x
-    → items' ≡ remove items 0 → items ≡ x ∷ items'
-first_is [] items' x lt e r = absurd (omega (arith, lt))
-first_is (y ∷ ys) items' x lt e r =
-    ap (λ (z : rust.Cursor). z ∷ ys) (sym e) ∙ ap (λ (l : List rust.Cursor). x ∷ l) (sym r)
 
 module _ (items items' : List rust.Cursor) (x : rust.Cursor) (e : items ≡ x ∷ items') where
   first_held : (held : ℕ → ℕ → Type 0) → AreHeld held (cursors_of items)
@@ -61,8 +51,3 @@ pub none_others : (first held : ℕ → ℕ → Type 0) (cursors : List Cursor) 
     → SameOthers first cursors held (cursors_of items) → SameOthers first cursors held []
 none_others first held cursors items none o =
     subst (λ (l : List rust.Cursor). SameOthers first cursors held (cursors_of l)) none o
-
--- an empty list, by its length
-pub none_is : (items : List rust.Cursor) (b : Bool) (len : ℕ) → b ≡ true → b ≡ (len == 0)
-    → len ≡ length items → items ≡ []
-none_is items b len e h l = nil_from_length items (sym l ∙ eqb-true len 0 (sym h ∙ e))

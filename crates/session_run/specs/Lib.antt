@@ -6,6 +6,7 @@ pub mod Transcript
 pub mod Served
 pub mod Turn
 pub mod Made
+pub mod Opened
 pub mod Changes
 pub mod Walks
 pub mod Responds

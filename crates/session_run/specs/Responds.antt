@@ -13,6 +13,7 @@ use Rattle.store_core.specs.Calls.{NotRaised}
 use Rattle.session_run.specs.Answer.{Answers, Lines, MolfileAnswer, Refuses}
 use Rattle.session_run.specs.Cursors.{Calls, Cursor}
 use Rattle.session_run.specs.Made.{Answered, AreHeld, SameOthers}
+use Rattle.session_run.specs.Opened.{opened}
 use Rattle.session_run.specs.Walks.{AreSized, cursors_of}
 use Rattle.session_run.specs.declared.change.Verb.{Verb}
 use Rattle.session_run.specs.declared.cursors.Cursor as rust
@@ -36,8 +37,8 @@ pub record IsFit (settings : Settings) (size : ℕ) (list : List rust.Cursor) : 
 
 -- the settings and the cursors fit, and the pins of the cursors are held
 pub record IsReady {S : Type 0} (Holds : S → ℕ → ℕ → Type 0) (service : S) (responder : Responder) : Type 0 where
-  pub fit : IsFit responder.settings responder.cursors.size responder.cursors.list.items
-  pub held : AreHeld (Holds service) (cursors_of responder.cursors.list.items)
+  pub fit : IsFit responder.settings responder.cursors.size (opened responder.cursors)
+  pub held : AreHeld (Holds service) (cursors_of (opened responder.cursors))
 
 abbrev pub LineIsAnswered : ℕ → List Cursor → List ℕ → Calls → Lines → List Cursor → Type 0
 LineIsAnswered size cursors line calls lines cursors' =
@@ -55,8 +56,8 @@ MolfileIsAnswered read molfiles.Lost text cursors calls lines cursors' =
 -- a command is answered behind what stands in the reply
 abbrev pub CommandIsAnswered : (Calls → Type 0) → Responder → Responder → Command → Result (Unit {0}) Stop → Type 0
 CommandIsAnswered Made old new command result =
-    Answered Made (Answers old.cursors.size (cursors_of old.cursors.list.items) (Ok command))
-    old.out.items new.out.items (cursors_of new.cursors.list.items) result
+    Answered Made (Answers old.cursors.size (cursors_of (opened old.cursors)) (Ok command))
+    old.out.items new.out.items (cursors_of (opened new.cursors)) result
 
 -- a change to the text of a SMILES, by its verb
 abbrev pub text_command : Verb → ℕ → List ℕ → Command
@@ -79,11 +80,11 @@ MovesPins held cursors held' cursors' (Err stops.Worn) = Unit {0}
 pub record Keeps {S : Type 0} (Holds : S → ℕ → ℕ → Type 0) (IsWorn : S → Type 0)
     (bounds_of : S → Option ℕ × Option ℕ) (service service' : S) (old new : Responder)
     (result : Result (Unit {0}) Stop) : Type 0 where
-  pub fit : IsFit new.settings new.cursors.size new.cursors.list.items
+  pub fit : IsFit new.settings new.cursors.size (opened new.cursors)
   pub size : new.cursors.size ≡ old.cursors.size
   pub worn : result ≡ Err stops.Worn → IsWorn service'
-  pub pins : MovesPins (Holds service) (cursors_of old.cursors.list.items)
-      (Holds service') (cursors_of new.cursors.list.items) result
+  pub pins : MovesPins (Holds service) (cursors_of (opened old.cursors))
+      (Holds service') (cursors_of (opened new.cursors)) result
   pub bounds : NotRaised (bounds_of service) (bounds_of service')
 
 abbrev pub IsChange : MolfileChange → Verb → ℕ → Type 0

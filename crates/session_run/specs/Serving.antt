@@ -3,6 +3,7 @@ use Rattle.std.specs.Prelude.{◌≡◌, ◌≢◌, ℕ, List, [], Option, Some,
 use Rattle.io_edge.specs.Lines.{Reading, TextLine, lines_of, whole_lines}
 use Rattle.store_core.specs.Calls.{NotRaised}
 use Rattle.session_run.specs.Cursors.{Calls, Cursor}
+use Rattle.session_run.specs.Opened.{opened}
 use Rattle.session_run.specs.Requests.{Request, AreAllWhole, BeginWithAll}
 use Rattle.session_run.specs.Responds.{IsFit, KeepsPins}
 use Rattle.session_run.specs.Served.{Writes}
@@ -40,11 +41,11 @@ Serves status size input put put' calls cursors =
 pub record KeepsOn {S : Type 0} (Holds : S → ℕ → ℕ → Type 0) (IsWorn : S → Type 0)
     (bounds_of : S → Option ℕ × Option ℕ) (service service' : S) (old new : Responder)
     (result : Option EndStatus) : Type 0 where
-  pub fit : IsFit new.settings new.cursors.size new.cursors.list.items
+  pub fit : IsFit new.settings new.cursors.size (opened new.cursors)
   pub size : new.cursors.size ≡ old.cursors.size
   pub worn : result ≡ Some Worn → IsWorn service'
-  pub pins : result ≢ Some Worn → KeepsPins (Holds service) (cursors_of old.cursors.list.items)
-      (Holds service') (cursors_of new.cursors.list.items)
+  pub pins : result ≢ Some Worn → KeepsPins (Holds service) (cursors_of (opened old.cursors))
+      (Holds service') (cursors_of (opened new.cursors))
   pub bounds : NotRaised (bounds_of service) (bounds_of service')
 
 -- nothing was read

@@ -1,5 +1,7 @@
 //! The open cursors of a session, by name, in order of opening.
-ghost use Rattle.std.specs.Prelude.{◌≡◌, ◌≤◌, ◌<◌, ◌∷◌, ◌++◌, [], Err, IfErr, IfNone, IfOk, IfSome, OnErr, OnOk, ◌↔◌, bytes_eq, position, true, vec_capacity, vec_len, ℕ};
+ghost use Rattle.std.specs.Prelude.{◌≡◌, ◌≤◌, ◌∷◌, ◌++◌, [], Err, IfErr, IfNone, IfOk, IfSome, OnErr, OnOk, ◌↔◌, true, Vec, ℕ};
+ghost use Rattle.std.specs.declared.alloc.Global.{Global};
+ghost use Rattle.indexmap.specs.IndexMap.{spare};
 ghost use Rattle.shell_lang.specs.Reply.{reply_line};
 ghost use Rattle.store_core.specs.Calls.{NotRaised, SameHeld};
 ghost use Rattle.store_machine.specs.declared.machine.Event.TheVariants as event;
@@ -7,21 +9,23 @@ ghost use Rattle.store_machine.specs.declared.machine.Reply.TheVariants as reply
 ghost use Rattle.session_run.specs.Answer.{CloseAnswer, NextAnswer, OpenAnswer, page_end};
 ghost use Rattle.session_run.specs.Cursors.{Calls, IsNoName, unpins};
 ghost use Rattle.session_run.specs.Made.{AreHeld, Answered, Makes, OneLineIn, SameOthers};
+ghost use Rattle.session_run.specs.Opened.{IsTaken, named, opened};
 ghost use Rattle.session_run.specs.Transcript.{IsPrefixOf};
-ghost use Rattle.session_run.specs.Walks.{Adds, AreSized, CursorAnswer, EndsPage, IsNamedAt, cursor_of, cursors_of};
+ghost use Rattle.session_run.specs.Walks.{Adds, AreSized, CursorAnswer, EndsPage, cursor_of, cursors_of};
 
 use crate::listing::{Shown, Walk};
 use crate::search::{begin, refuse_pattern, say};
 use crate::settings::Settings;
 use crate::stop::{Stop, Worn};
 use crate::texts::read_pattern;
+use indexmap::IndexMap;
 use par_search::{Meter, SearchFault};
 use shell_lang::{Refusal, Reply, reply_text};
 use std::alloc::{AllocError, Global};
 use std::thread::Threads;
 use store_core::Service;
 
-/// An open cursor.
+/// A cursor that was taken out of the open ones.
 #[derive(Drop)]
 pub struct Cursor {
     pub name: Vec<u8>,
@@ -29,58 +33,6 @@ pub struct Cursor {
 }
 
 impl Cursor {
-    // The next page; behind the last page its end alone.
-    fn next<R: Threads + Sync, S: Service, M: Meter>(
-        &mut self,
-        rt: &R,
-        service: &mut S,
-        meter: &M,
-        out: &mut Vec<u8>,
-    ) -> Result<(), Stop>
-        requires held { S.holds service.old self.old.walk.search.slot self.old.walk.search.version }
-        ensures answered { Answered (Makes S.at S.owns S.stretch service.old service.new)
-            (CursorAnswer self.old.walk.search.size (cursor_of self.old))
-            out.old.items out.new.items (cursor_of self.new) result }
-        ensures size { self.new.walk.search.size ≡ self.old.walk.search.size }
-        ensures slot { self.new.walk.search.slot ≡ self.old.walk.search.slot }
-        ensures version { self.new.walk.search.version ≡ self.old.walk.search.version }
-        ensures worn { result ≡ Err Stop.Worn → S.worn service.new }
-        ensures held { SameHeld (S.holds service.old) (S.holds service.new) }
-        ensures bounds { NotRaised (S.bounds service.old) (S.bounds service.new) }
-    {
-        let page = self.walk.page(rt, service, meter, out);
-        self.say_page(page, out)
-    }
-
-    // The line behind a page, where the service answered.
-    fn say_page(&self, page: Result<Shown, SearchFault>, out: &mut Vec<u8>) -> Result<(), Stop>
-        ensures { EndsPage (cursor_of self.now) page out.old.items out.new.items result }
-    {
-        match page {
-            Ok(shown) => self.end_page(shown, out),
-            Err(SearchFault::Worn) => Err(Stop::Worn),
-            Err(SearchFault::NoMemory) | Err(SearchFault::Pins) => say(&Reply::MemoryFault, out),
-        }
-    }
-
-    // The line behind a page's hits.
-    fn end_page(&self, shown: Shown, out: &mut Vec<u8>) -> Result<(), Stop>
-        ensures ok { OnOk result ((shown.whole ≡ true)
-            × (out.new.items ≡ out.old.items ++ reply_line (page_end shown.last (cursor_of self.now)))) }
-        ensures err { IfErr result (λ stop. stop ≡ Stop.NoMemory) }
-    {
-        if !shown.whole {
-            return Err(Stop::NoMemory);
-        }
-        let reply = if shown.last {
-            self.walk.end().ok_or(Stop::NoMemory)?
-        } else {
-            Reply::More
-        };
-        reply_text(&reply, out)?;
-        Ok(())
-    }
-
     // Gives the pin back.
     fn close<S: Service>(self, service: &mut S) -> Result<(), Worn>
         requires held { S.holds service.old self.walk.search.slot self.walk.search.version }
@@ -101,22 +53,22 @@ impl Cursor {
     }
 }
 
-/// The open cursors, with pages of one size.
+/// The searches of the open cursors by name, in order of opening, with pages of one size.
 #[derive(Drop)]
 pub struct Cursors {
     pub size: u32,
-    pub list: Vec<Cursor>,
+    pub by_name: IndexMap<Vec<u8>, Walk>,
 }
 
 impl Cursors {
     /// None, with pages of this size.
     pub fn new(alloc: Global, size: u32) -> Cursors
         ensures size { result.size ≡ size }
-        ensures none { result.list.items ≡ [] }
+        ensures none { opened result ≡ [] }
     {
         Cursors {
             size,
-            list: Vec::new(alloc),
+            by_name: IndexMap::new(alloc),
         }
     }
 
@@ -134,24 +86,24 @@ impl Cursors {
         requires some { 1 ≤ settings.now.page }
         requires few { settings.now.page ≤ 256 }
         requires size { settings.now.page ≡ self.old.size }
-        requires sized { AreSized self.old.size self.old.list.items }
-        requires held { AreHeld (S.holds service.old) (cursors_of self.old.list.items) }
+        requires sized { AreSized self.old.size (opened self.old) }
+        requires held { AreHeld (S.holds service.old) (cursors_of (opened self.old)) }
         ensures call { OneLineIn (Makes S.at S.owns S.stretch service.old service.new)
-            (OpenAnswer name.now text.now (cursors_of self.old.list.items))
-            (cursors_of self.new.list.items) result }
+            (OpenAnswer name.now text.now (cursors_of (opened self.old)))
+            (cursors_of (opened self.new)) result }
         ensures size { self.new.size ≡ self.old.size }
-        ensures sized { AreSized self.new.size self.new.list.items }
+        ensures sized { AreSized self.new.size (opened self.new) }
         ensures worn { OnErr result (S.worn service.new) }
-        ensures held { OnOk result (AreHeld (S.holds service.new) (cursors_of self.new.list.items)) }
-        ensures others { OnOk result (SameOthers (S.holds service.old) (cursors_of self.old.list.items)
-            (S.holds service.new) (cursors_of self.new.list.items)) }
+        ensures held { OnOk result (AreHeld (S.holds service.new) (cursors_of (opened self.new))) }
+        ensures others { OnOk result (SameOthers (S.holds service.old) (cursors_of (opened self.old))
+            (S.holds service.new) (cursors_of (opened self.new))) }
         ensures bounds { NotRaised (S.bounds service.old) (S.bounds service.new) }
     {
         let pattern = match read_pattern(alloc, text) {
             Ok(pattern) => pattern,
             Err(fault) => return Ok(refuse_pattern(fault)),
         };
-        if self.find(name).is_some() {
+        if self.by_name.contains_key(name) {
             return Ok(Reply::Refused(Refusal::Cursor));
         }
         let Ok(own_name) = self.room_for(alloc, name) else {
@@ -170,43 +122,42 @@ impl Cursors {
         name: &[u8],
         out: &mut Vec<u8>,
     ) -> Result<(), Stop>
-        requires sized { AreSized self.old.size self.old.list.items }
-        requires held { AreHeld (S.holds service.old) (cursors_of self.old.list.items) }
+        requires sized { AreSized self.old.size (opened self.old) }
+        requires held { AreHeld (S.holds service.old) (cursors_of (opened self.old)) }
         ensures answered { Answered (Makes S.at S.owns S.stretch service.old service.new)
-            (NextAnswer self.old.size name.now (cursors_of self.old.list.items))
-            out.old.items out.new.items (cursors_of self.new.list.items) result }
+            (NextAnswer self.old.size name.now (cursors_of (opened self.old)))
+            out.old.items out.new.items (cursors_of (opened self.new)) result }
         ensures size { self.new.size ≡ self.old.size }
-        ensures sized { AreSized self.new.size self.new.list.items }
+        ensures sized { AreSized self.new.size (opened self.new) }
         ensures worn { result ≡ Err Stop.Worn → S.worn service.new }
-        ensures held { AreHeld (S.holds service.new) (cursors_of self.new.list.items) }
-        ensures others { SameOthers (S.holds service.old) (cursors_of self.old.list.items)
-            (S.holds service.new) (cursors_of self.new.list.items) }
+        ensures held { AreHeld (S.holds service.new) (cursors_of (opened self.new)) }
+        ensures others { SameOthers (S.holds service.old) (cursors_of (opened self.old))
+            (S.holds service.new) (cursors_of (opened self.new)) }
         ensures bounds { NotRaised (S.bounds service.old) (S.bounds service.new) }
     {
-        match self.find(name) {
-            Some(place) => self.list[place].next(rt, service, meter, out),
+        match self.by_name.get_mut(name) {
+            Some(walk) => next_page(walk, rt, service, meter, out),
             None => say(&Reply::Refused(Refusal::Cursor), out),
         }
     }
 
     /// Closes the cursor of a name.
     pub fn close<S: Service>(&mut self, service: &mut S, name: &[u8]) -> Result<Reply, Worn>
-        requires sized { AreSized self.old.size self.old.list.items }
-        requires held { AreHeld (S.holds service.old) (cursors_of self.old.list.items) }
+        requires sized { AreSized self.old.size (opened self.old) }
+        requires held { AreHeld (S.holds service.old) (cursors_of (opened self.old)) }
         ensures call { OneLineIn (Makes S.at S.owns S.stretch service.old service.new)
-            (CloseAnswer name.now (cursors_of self.old.list.items)) (cursors_of self.new.list.items) result }
+            (CloseAnswer name.now (cursors_of (opened self.old))) (cursors_of (opened self.new)) result }
         ensures size { self.new.size ≡ self.old.size }
-        ensures sized { AreSized self.new.size self.new.list.items }
+        ensures sized { AreSized self.new.size (opened self.new) }
         ensures worn { OnErr result (S.worn service.new) }
-        ensures held { OnOk result (AreHeld (S.holds service.new) (cursors_of self.new.list.items)) }
-        ensures others { OnOk result (SameOthers (S.holds service.old) (cursors_of self.old.list.items)
-            (S.holds service.new) (cursors_of self.new.list.items)) }
+        ensures held { OnOk result (AreHeld (S.holds service.new) (cursors_of (opened self.new))) }
+        ensures others { OnOk result (SameOthers (S.holds service.old) (cursors_of (opened self.old))
+            (S.holds service.new) (cursors_of (opened self.new))) }
         ensures bounds { NotRaised (S.bounds service.old) (S.bounds service.new) }
     {
-        let Some(place) = self.find(name) else {
+        let Some(cursor) = self.take(name) else {
             return Ok(Reply::Refused(Refusal::Cursor));
         };
-        let cursor = self.list.remove(place);
         match cursor.close(service) {
             Ok(()) => Ok(Reply::Closed),
             Err(Worn) => Err(Worn),
@@ -215,14 +166,14 @@ impl Cursors {
 
     /// Gives the pins of all cursors back, in order of opening.
     pub fn close_all<S: Service>(&mut self, service: &mut S) -> Result<(), Worn>
-        requires sized { AreSized self.old.size self.old.list.items }
-        requires held { AreHeld (S.holds service.old) (cursors_of self.old.list.items) }
+        requires sized { AreSized self.old.size (opened self.old) }
+        requires held { AreHeld (S.holds service.old) (cursors_of (opened self.old)) }
         ensures ok { OnOk result (Makes S.at S.owns S.stretch service.old service.new
-            (unpins (cursors_of self.old.list.items))) }
+            (unpins (cursors_of (opened self.old)))) }
         ensures err { OnErr result ((calls : Calls) × Makes S.at S.owns S.stretch service.old service.new calls
-            × IsPrefixOf calls (unpins (cursors_of self.old.list.items))) }
+            × IsPrefixOf calls (unpins (cursors_of (opened self.old)))) }
         ensures worn { OnErr result (S.worn service.new) }
-        ensures others { OnOk result (SameOthers (S.holds service.old) (cursors_of self.old.list.items)
+        ensures others { OnOk result (SameOthers (S.holds service.old) (cursors_of (opened self.old))
             (S.holds service.new) []) }
         ensures bounds { NotRaised (S.bounds service.old) (S.bounds service.new) }
     {
@@ -235,30 +186,23 @@ impl Cursors {
         Ok(())
     }
 
-    // The place of the cursor of a name.
-    fn find(&self, name: &[u8]) -> Option<usize>
-        ensures named { IfSome result (IsNamedAt self.now.list.items name.now) }
-        ensures none { IfNone result (IsNoName (cursors_of self.now.list.items) name.now) }
-    {
-        place_of(&self.list, name)
-    }
-
     // A copy of a name, and room for one cursor more.
     fn room_for(&mut self, alloc: Global, name: &[u8]) -> Result<Vec<u8>, AllocError>
         ensures name { IfOk result (λ own. own.items ≡ name.now) }
-        ensures room { OnOk result (vec_len self.new.list < vec_capacity self.new.list) }
+        ensures room { OnOk result (1 ≤ spare self.new.by_name) }
         ensures size { self.new.size ≡ self.old.size }
-        ensures items { self.new.list.items ≡ self.old.list.items }
+        ensures same { opened self.new ≡ opened self.old }
     {
         let own = Vec::from_slice(alloc, name)?;
-        self.list.reserve(1)?;
+        self.by_name.reserve(1)?;
         Ok(own)
     }
 
     // Adds the cursor of a name, where its search began.
     fn add(&mut self, name: Vec<u8>, begun: Result<Walk, SearchFault>) -> Result<Reply, Worn>
-        requires room { vec_len self.old.list < vec_capacity self.old.list }
-        ensures adds { Adds name.items begun self.old.list.items self.new.list.items result }
+        requires room { 1 ≤ spare self.old.by_name }
+        requires free { IsNoName (cursors_of (opened self.old)) name.items }
+        ensures adds { Adds name.items begun (opened self.old) (opened self.new) result }
         ensures size { self.new.size ≡ self.old.size }
     {
         let walk = match begun {
@@ -268,26 +212,84 @@ impl Cursors {
             Err(SearchFault::Worn) => return Err(Worn),
         };
         let version = walk.search.version();
-        self.list.push_reserved(Cursor { name, walk });
-        Ok(Reply::Opened { version })
+        // There is room for it.
+        match self.by_name.insert(name, walk) {
+            Ok(_) => Ok(Reply::Opened { version }),
+            Err(_) => unreachable!(),
+        }
+    }
+
+    // Takes the cursor of a name out.
+    fn take(&mut self, name: &[u8]) -> Option<Cursor>
+        ensures some { IfSome result (λ cursor. IsTaken name.now (opened self.old) cursor (opened self.new)) }
+        ensures none { IfNone result (IsNoName (cursors_of (opened self.old)) name.now) }
+        ensures same { IfNone result (opened self.new ≡ opened self.old) }
+        ensures size { self.new.size ≡ self.old.size }
+    {
+        let (name, walk) = self.by_name.shift_remove_entry(name)?;
+        Some(Cursor { name, walk })
     }
 
     // Takes the cursor out that was opened first.
     fn take_first(&mut self) -> Option<Cursor>
-        ensures some { IfSome result (λ cursor. self.old.list.items ≡ cursor ∷ self.new.list.items) }
-        ensures none { IfNone result (self.old.list.items ≡ []) }
+        ensures some { IfSome result (λ cursor. opened self.old ≡ cursor ∷ opened self.new) }
+        ensures none { IfNone result (opened self.old ≡ []) }
     {
-        if self.list.is_empty() {
-            return None;
-        }
-        Some(self.list.remove(0))
+        let (name, walk) = self.by_name.shift_remove_index(0)?;
+        Some(Cursor { name, walk })
     }
 }
 
-// The first place of a name.
-fn place_of(list: &[Cursor], name: &[u8]) -> Option<usize>
-    ensures { result ≡ position (λ c. bytes_eq c.name.items name.now) list.now }
+// The next page of a cursor, whatever its name; behind the last page its end alone.
+fn next_page<R: Threads + Sync, S: Service, M: Meter>(
+    walk: &mut Walk,
+    rt: &R,
+    service: &mut S,
+    meter: &M,
+    out: &mut Vec<u8>,
+) -> Result<(), Stop>
+    requires held { S.holds service.old walk.old.search.slot walk.old.search.version }
+    ensures answered { (name : Vec ℕ Global)
+        → Answered (Makes S.at S.owns S.stretch service.old service.new)
+        (CursorAnswer walk.old.search.size (cursor_of (named (name, walk.old))))
+        out.old.items out.new.items (cursor_of (named (name, walk.new))) result }
+    ensures size { walk.new.search.size ≡ walk.old.search.size }
+    ensures slot { walk.new.search.slot ≡ walk.old.search.slot }
+    ensures version { walk.new.search.version ≡ walk.old.search.version }
+    ensures worn { result ≡ Err Stop.Worn → S.worn service.new }
+    ensures held { SameHeld (S.holds service.old) (S.holds service.new) }
+    ensures bounds { NotRaised (S.bounds service.old) (S.bounds service.new) }
 {
-    list.iter()
-        .position(|cursor| cursor.name.as_slice() == name)
+    let page = walk.page(rt, service, meter, out);
+    say_page(walk, page, out)
+}
+
+// The line behind a page, where the service answered.
+fn say_page(walk: &Walk, page: Result<Shown, SearchFault>, out: &mut Vec<u8>) -> Result<(), Stop>
+    ensures { (name : Vec ℕ Global)
+        → EndsPage (cursor_of (named (name, walk.now))) page out.old.items out.new.items result }
+{
+    match page {
+        Ok(shown) => end_page(walk, shown, out),
+        Err(SearchFault::Worn) => Err(Stop::Worn),
+        Err(SearchFault::NoMemory) | Err(SearchFault::Pins) => say(&Reply::MemoryFault, out),
+    }
+}
+
+// The line behind a page's hits.
+fn end_page(walk: &Walk, shown: Shown, out: &mut Vec<u8>) -> Result<(), Stop>
+    ensures ok { (name : Vec ℕ Global) → OnOk result ((shown.whole ≡ true) × (out.new.items
+        ≡ out.old.items ++ reply_line (page_end shown.last (cursor_of (named (name, walk.now)))))) }
+    ensures err { IfErr result (λ stop. stop ≡ Stop.NoMemory) }
+{
+    if !shown.whole {
+        return Err(Stop::NoMemory);
+    }
+    let reply = if shown.last {
+        walk.end().ok_or(Stop::NoMemory)?
+    } else {
+        Reply::More
+    };
+    reply_text(&reply, out)?;
+    Ok(())
 }

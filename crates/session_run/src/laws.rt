@@ -3,7 +3,8 @@ ghost use Rattle.session_run.specs.Truths.{DialoguesAreTrue, SearchesAreHits, Se
 
 use shell_lang::one_reading;
 use store_machine::{
-    calls_give_pages, needs_screen, pins_stay, runs_stay_sound, snapshots_stay, states_stay,
+    calls_give_pages, needs_screen, pins_stay, runs_grow, runs_stay_sound, snapshots_stay,
+    states_stay,
 };
 
 /// A search that came to its end listed exactly the hits of its pattern in the history, at a version no older than any
@@ -14,6 +15,7 @@ pub fn searches_are_hits()
     snapshots_stay();
     states_stay();
     runs_stay_sound();
+    runs_grow();
     pins_stay();
     calls_give_pages();
     needs_screen();
@@ -26,6 +28,7 @@ pub fn dialogues_are_true()
     snapshots_stay();
     states_stay();
     runs_stay_sound();
+    runs_grow();
     pins_stay();
     calls_give_pages();
     needs_screen();

@@ -8,6 +8,7 @@ ghost use Rattle.store_core.specs.Calls.{NotRaised, SameHeld};
 ghost use Rattle.store_machine.specs.History.{IsId};
 ghost use Rattle.session_run.specs.Answer.{MolfileAnswer, RequestAnswer};
 ghost use Rattle.session_run.specs.Made.{AreHeld, Answered, Makes, Said};
+ghost use Rattle.session_run.specs.Opened.{opened};
 ghost use Rattle.session_run.specs.Requests.{Request};
 ghost use Rattle.session_run.specs.Responds.{CommandIsAnswered, IsChange, IsLostLine, IsReady, Keeps, LineIsAnswered, MolfileIsAnswered, SaidShort, text_command};
 ghost use Rattle.session_run.specs.Searched.{alone};
@@ -45,7 +46,7 @@ impl Responder {
     /// Without cursors.
     pub fn new(alloc: Global, settings: Settings) -> Result<Responder, AllocError>
         ensures size { IfOk result (λ responder. responder.cursors.size ≡ settings.page) }
-        ensures none { IfOk result (λ responder. responder.cursors.list.items ≡ []) }
+        ensures none { IfOk result (λ responder. opened responder.cursors ≡ []) }
         ensures settings { IfOk result (λ responder. responder.settings ≡ settings) }
     {
         Ok(Responder {
@@ -70,8 +71,8 @@ impl Responder {
         requires request { (request : Request) × IsNext next request line.now self.old.molfile.items }
         ensures answered { (request : Request) → IsNext next request line.now self.old.molfile.items
             → Answered (Makes S.at S.owns S.stretch service.old service.new)
-            (RequestAnswer self.old.cursors.size (cursors_of self.old.cursors.list.items) request)
-            [] self.new.out.items (cursors_of self.new.cursors.list.items) result }
+            (RequestAnswer self.old.cursors.size (cursors_of (opened self.old.cursors)) request)
+            [] self.new.out.items (cursors_of (opened self.new.cursors)) result }
         ensures keeps { Keeps S.holds S.worn S.bounds service.old service.new self.old self.new result }
     {
         self.out.clear();
@@ -94,8 +95,8 @@ impl Responder {
         requires ready { IsReady S.holds service.old self.old }
         requires line { ¬ StartsMolfile line.now }
         ensures answered { Answered (Makes S.at S.owns S.stretch service.old service.new)
-            (LineIsAnswered self.old.cursors.size (cursors_of self.old.cursors.list.items) line.now)
-            self.old.out.items self.new.out.items (cursors_of self.new.cursors.list.items) result }
+            (LineIsAnswered self.old.cursors.size (cursors_of (opened self.old.cursors)) line.now)
+            self.old.out.items self.new.out.items (cursors_of (opened self.new.cursors)) result }
         ensures keeps { Keeps S.holds S.worn S.bounds service.old service.new self.old self.new result }
     {
         match read_command(line) {
@@ -276,10 +277,10 @@ impl Responder {
         molfile: Molfile,
     ) -> Result<(), Stop>
         requires line { (line : List ℕ) × StartsMolfile line × IsLine line (molfile_command read) }
-        requires held { AreHeld (S.holds service.old) (cursors_of self.old.cursors.list.items) }
+        requires held { AreHeld (S.holds service.old) (cursors_of (opened self.old.cursors)) }
         ensures answered { Answered (Makes S.at S.owns S.stretch service.old service.new)
-            (MolfileIsAnswered read molfile self.old.molfile.items (cursors_of self.old.cursors.list.items))
-            self.old.out.items self.new.out.items (cursors_of self.new.cursors.list.items) result }
+            (MolfileIsAnswered read molfile self.old.molfile.items (cursors_of (opened self.old.cursors)))
+            self.old.out.items self.new.out.items (cursors_of (opened self.new.cursors)) result }
         ensures settings { self.new.settings ≡ self.old.settings }
         ensures cursors { self.new.cursors ≡ self.old.cursors }
         ensures worn { result ≡ Err Stop.Worn → S.worn service.new }

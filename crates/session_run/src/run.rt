@@ -5,6 +5,7 @@ ghost use Rattle.io_edge.specs.Lines.{done_bytes, lines_of};
 ghost use Rattle.store_core.specs.Calls.{NotRaised, SameHeld};
 ghost use Rattle.session_run.specs.Cursors.{Calls};
 ghost use Rattle.session_run.specs.Made.{Makes};
+ghost use Rattle.session_run.specs.Opened.{opened};
 ghost use Rattle.session_run.specs.Requests.{IsPartOfRequest, Request};
 ghost use Rattle.session_run.specs.Responds.{IsFit, IsReady, KeepsPins};
 ghost use Rattle.session_run.specs.Served.{IsAllOfTaken, IsInputFault, IsServed, TakesExactly, Writes, WritesForTaken};
@@ -71,8 +72,8 @@ fn serve_to_end<R: Threads + Sync, S: Service, I: Source, O: Sink, M: Meter>(
     lines: &mut Lines,
     responder: &mut Responder,
 ) -> EndStatus
-    requires fit { IsFit responder.old.settings responder.old.cursors.size responder.old.cursors.list.items }
-    requires none { responder.old.cursors.list.items ≡ [] }
+    requires fit { IsFit responder.old.settings responder.old.cursors.size (opened responder.old.cursors) }
+    requires none { opened responder.old.cursors ≡ [] }
     requires fresh { IsFresh lines.old }
     ensures serves { (calls : Calls) × Makes S.at S.owns S.stretch service.old service.new calls
         × IfSome (I.left source.old) (λ bytes. Writes (O.written sink.old) (O.written sink.new)
@@ -109,19 +110,19 @@ fn serve<R: Threads + Sync, S: Service, I: Source, O: Sink, M: Meter>(
     lines: &mut Lines,
     responder: &mut Responder,
 ) -> EndStatus
-    requires fit { IsFit responder.old.settings responder.old.cursors.size responder.old.cursors.list.items }
-    requires none { responder.old.cursors.list.items ≡ [] }
+    requires fit { IsFit responder.old.settings responder.old.cursors.size (opened responder.old.cursors) }
+    requires none { opened responder.old.cursors ≡ [] }
     requires fresh { IsFresh lines.old }
     ensures serves { (calls : Calls) × Makes S.at S.owns S.stretch service.old service.new calls
         × Serves result responder.old.cursors.size (I.left source.old) (O.written sink.old) (O.written sink.new)
-        calls (cursors_of responder.new.cursors.list.items) }
+        calls (cursors_of (opened responder.new.cursors)) }
     ensures input_fault { IsInputFault result → (calls : Calls)
         × Makes S.at S.owns S.stretch service.old service.new calls
         × WritesForTaken (I.left source.old) (I.left source.new) (O.written sink.old) (O.written sink.new)
-        (AnswersTaken responder.old.cursors.size calls (cursors_of responder.new.cursors.list.items)) }
-    ensures fit { IsFit responder.new.settings responder.new.cursors.size responder.new.cursors.list.items }
+        (AnswersTaken responder.old.cursors.size calls (cursors_of (opened responder.new.cursors))) }
+    ensures fit { IsFit responder.new.settings responder.new.cursors.size (opened responder.new.cursors) }
     ensures pins { result ≢ EndStatus.Worn
-        → KeepsPins (S.holds service.old) [] (S.holds service.new) (cursors_of responder.new.cursors.list.items) }
+        → KeepsPins (S.holds service.old) [] (S.holds service.new) (cursors_of (opened responder.new.cursors)) }
     ensures worn { result ≡ EndStatus.Worn → S.worn service.new }
     ensures source_fault { result ≡ EndStatus.SourceFault → Rose (I.faults source.old) (I.faults source.new) }
     ensures sink_fault { result ≡ EndStatus.SinkFault → Rose (O.faults sink.old) (O.faults sink.new) }
@@ -150,7 +151,7 @@ fn turn<R: Threads + Sync, S: Service, I: Source, O: Sink, M: Meter>(
     ensures turns { Turns responder.old.cursors.size (Makes S.at S.owns S.stretch service.old service.new)
         (TakesRequest lines.old lines.new (I.left source.old) (I.left source.new))
         (TakesNone lines.old (I.left source.old))
-        (cursors_of responder.old.cursors.list.items) (cursors_of responder.new.cursors.list.items)
+        (cursors_of (opened responder.old.cursors)) (cursors_of (opened responder.new.cursors))
         (O.written sink.old) (O.written sink.new) result }
     ensures part { IfSome result (λ end. IsInputFault end
         → TakesPart lines.old lines.new (I.left source.old) (I.left source.new) IsPartOfRequest) }
@@ -188,7 +189,7 @@ fn answer_and_put<R: Threads + Sync, S: Service, O: Sink, M: Meter>(
     requires request { (request : Request) × IsNext next request line.now responder.old.molfile.items }
     ensures replies { (request : Request) → IsNext next request line.now responder.old.molfile.items
         → Replies responder.old.cursors.size (Makes S.at S.owns S.stretch service.old service.new) request
-        (cursors_of responder.old.cursors.list.items) (cursors_of responder.new.cursors.list.items)
+        (cursors_of (opened responder.old.cursors)) (cursors_of (opened responder.new.cursors))
         (O.written sink.old) (O.written sink.new) result }
     ensures keeps { KeepsOn S.holds S.worn S.bounds service.old service.new responder.old responder.new result }
     ensures sink_fault { result ≡ Some EndStatus.SinkFault → Rose (O.faults sink.old) (O.faults sink.new) }

@@ -10,14 +10,15 @@ use Rattle.shell_lang.specs.declared.word.Word.TheVariants as words
 use Rattle.shell_lang.specs.declared.command.LineRefusal.{LineRefusal}
 use Rattle.shell_lang.specs.declared.command.LineRefusal.TheVariants as refusals
 use Rattle.shell_lang.specs.Word.{word_text}
-use Rattle.shell_lang.specs.Command.{Command, Empty, Register, Revise, RegisterMol, ReviseMol, Withdraw, Show, Search, Start, Next, Close, Prune, Stats, IsIdentifier, IsNoIdentifier, IsNameByte, IsName, Spells, HasNoSpace, HasIdentifierPart, IsLine, StartsWith, StartsMolfile}
+use Rattle.store_machine.specs.History.{IsId}
+use Rattle.shell_lang.specs.Command.{Command, Empty, Register, Revise, RegisterMol, ReviseMol, Withdraw, Show, Search, Start, Next, Close, Prune, Stats, IsNoIdentifier, IsNameByte, IsName, Spells, HasNoSpace, HasIdentifierPart, IsLine, StartsWith, StartsMolfile}
 use Rattle.shell_lang.specs.Cut.{Follows, IdentifierPart, IsRest}
 
 own : IsNumeralModel (AllDigits 10) (digits_value 10)
 own = numerals_by_value (AllDigits 10) tells_digits
 
 -- no space is a digit
-pub no_space : (id : ℕ) → IsIdentifier id → HasNoSpace (decimal id)
+pub no_space : (id : ℕ) → IsId id → HasNoSpace (decimal id)
 no_space id is held =
     let digits = digits_decimal own id (omega arith) in
     let none : All (λ b. b ≢ 32) (decimal id) =

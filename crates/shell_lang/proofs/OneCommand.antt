@@ -7,7 +7,8 @@ use Rattle.shell_lang.specs.declared.word.Word.TheVariants as words
 use Rattle.shell_lang.specs.declared.command.LineRefusal.{LineRefusal}
 use Rattle.shell_lang.specs.declared.command.LineRefusal.TheVariants as refusals
 use Rattle.shell_lang.specs.Word.{word_text}
-use Rattle.shell_lang.specs.Command.{Command, Empty, Register, Revise, RegisterMol, ReviseMol, Withdraw, Show, Search, Start, Next, Close, Prune, Stats, IsIdentifier, IsNoIdentifier, HasNoSpace, Spells, HasIdentifierPart, IsLine}
+use Rattle.store_machine.specs.History.{IsId}
+use Rattle.shell_lang.specs.Command.{Command, Empty, Register, Revise, RegisterMol, ReviseMol, Withdraw, Show, Search, Start, Next, Close, Prune, Stats, IsNoIdentifier, HasNoSpace, Spells, HasIdentifierPart, IsLine}
 use Rattle.shell_lang.specs.Cut.{Follows, IdentifierPart}
 use Rattle.shell_lang.proofs.Cuts.{no_space, no_space_named, one_split, one_cut, one_word, word_space, cut_of, part_cut_of, spelled_after, has_space, not_alone}
 
@@ -90,13 +91,13 @@ same_kind line c d p q =
     ]
 
 -- an identifier and a text behind the same word
-same_registration : (m n : ℕ) (t u : List ℕ) → IsIdentifier m → IsIdentifier n →
+same_registration : (m n : ℕ) (t u : List ℕ) → IsId m → IsId n →
     decimal m ++ 32 ∷ t ≡ decimal n ++ 32 ∷ u → (m ≡ n) × (t ≡ u)
 same_registration m n t u p q e =
     let same = one_split (decimal m) (decimal n) t u (no_space m p) (no_space n q) e in
     (decimal_injective m n (omega arith) (omega arith) same.0, same.1)
 
-same_identifier : (m n : ℕ) → IsIdentifier m → IsIdentifier n → decimal m ≡ decimal n → m ≡ n
+same_identifier : (m n : ℕ) → IsId m → IsId n → decimal m ≡ decimal n → m ≡ n
 same_identifier m n p q e = decimal_injective m n (omega arith) (omega arith) e
 
 -- what stands behind the same word and a space

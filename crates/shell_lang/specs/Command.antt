@@ -2,7 +2,8 @@
 -- rest of their line, any bytes.
 use Rattle.std.specs.Prelude.{◌≡◌, ◌≢◌, ◌⊎◌, ℕ, ◌≤◌, Result, Ok, Err, List, [], ◌∷◌, ◌++◌, length, All, Contains, codes}
 use Rattle.std.specs.Fmt.{decimal}
-use Rattle.shell_lang.specs.declared.command.TheConstants.{LONGEST_NAME, LAST_IDENTIFIER}
+use Rattle.store_machine.specs.History.{IsId}
+use Rattle.shell_lang.specs.declared.command.TheConstants.{LONGEST_NAME}
 use Rattle.shell_lang.specs.declared.command.LineRefusal.{LineRefusal}
 use Rattle.shell_lang.specs.declared.command.LineRefusal.TheVariants as refusals
 use Rattle.shell_lang.specs.declared.command.MolfileChange.{MolfileChange}
@@ -23,11 +24,8 @@ pub data Command : Type 0 where
   Prune : Command
   Stats : Command
 
-abbrev pub IsIdentifier : ℕ → Type 0
-IsIdentifier id = (1 ≤ id) × (id ≤ LAST_IDENTIFIER)
-
 abbrev pub IsNoIdentifier : List ℕ → Type 0
-IsNoIdentifier part = (id : ℕ) → IsIdentifier id → part ≢ decimal id
+IsNoIdentifier part = (id : ℕ) → IsId id → part ≢ decimal id
 
 -- a letter, a digit or `_`
 abbrev pub IsNameByte : ℕ → Type 0
@@ -42,12 +40,12 @@ pub record IsName (name : List ℕ) : Type 0 where
 -- the line is this command, written out
 abbrev pub Spells : List ℕ → Command → Type 0
 Spells line Empty = line ≡ []
-Spells line (Register id text) = IsIdentifier id × (line ≡ codes "register" ++ 32 ∷ (decimal id ++ 32 ∷ text))
-Spells line (Revise id text) = IsIdentifier id × (line ≡ codes "revise" ++ 32 ∷ (decimal id ++ 32 ∷ text))
-Spells line (RegisterMol id) = IsIdentifier id × (line ≡ codes "register-mol" ++ 32 ∷ decimal id)
-Spells line (ReviseMol id) = IsIdentifier id × (line ≡ codes "revise-mol" ++ 32 ∷ decimal id)
-Spells line (Withdraw id) = IsIdentifier id × (line ≡ codes "withdraw" ++ 32 ∷ decimal id)
-Spells line (Show id) = IsIdentifier id × (line ≡ codes "show" ++ 32 ∷ decimal id)
+Spells line (Register id text) = IsId id × (line ≡ codes "register" ++ 32 ∷ (decimal id ++ 32 ∷ text))
+Spells line (Revise id text) = IsId id × (line ≡ codes "revise" ++ 32 ∷ (decimal id ++ 32 ∷ text))
+Spells line (RegisterMol id) = IsId id × (line ≡ codes "register-mol" ++ 32 ∷ decimal id)
+Spells line (ReviseMol id) = IsId id × (line ≡ codes "revise-mol" ++ 32 ∷ decimal id)
+Spells line (Withdraw id) = IsId id × (line ≡ codes "withdraw" ++ 32 ∷ decimal id)
+Spells line (Show id) = IsId id × (line ≡ codes "show" ++ 32 ∷ decimal id)
 Spells line (Search pattern) = line ≡ codes "search" ++ 32 ∷ pattern
 Spells line (Start name pattern) = IsName name × (line ≡ codes "open" ++ 32 ∷ (name ++ 32 ∷ pattern))
 Spells line (Next name) = IsName name × (line ≡ codes "next" ++ 32 ∷ name)

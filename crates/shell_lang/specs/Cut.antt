@@ -5,16 +5,17 @@ use Rattle.shell_lang.specs.declared.word.Word.{Word}
 use Rattle.shell_lang.specs.declared.word.Word.TheVariants as words
 use Rattle.shell_lang.specs.declared.command.LineRefusal.{LineRefusal}
 use Rattle.shell_lang.specs.declared.command.LineRefusal.TheVariants as refusals
-use Rattle.shell_lang.specs.Command.{Command, Register, Revise, RegisterMol, ReviseMol, Withdraw, Show, Search, Start, Next, Close, IsIdentifier, IsNoIdentifier, IsName, HasNoSpace}
+use Rattle.store_machine.specs.History.{IsId}
+use Rattle.shell_lang.specs.Command.{Command, Register, Revise, RegisterMol, ReviseMol, Withdraw, Show, Search, Start, Next, Close, IsNoIdentifier, IsName, HasNoSpace}
 
 -- a line with this first word and this rest is the command
 abbrev pub Follows : Word → List ℕ → Command → Type 0
-Follows words.Register rest (Register id text) = IsIdentifier id × (rest ≡ decimal id ++ 32 ∷ text)
-Follows words.Revise rest (Revise id text) = IsIdentifier id × (rest ≡ decimal id ++ 32 ∷ text)
-Follows words.RegisterMol rest (RegisterMol id) = IsIdentifier id × (rest ≡ decimal id)
-Follows words.ReviseMol rest (ReviseMol id) = IsIdentifier id × (rest ≡ decimal id)
-Follows words.Withdraw rest (Withdraw id) = IsIdentifier id × (rest ≡ decimal id)
-Follows words.Show rest (Show id) = IsIdentifier id × (rest ≡ decimal id)
+Follows words.Register rest (Register id text) = IsId id × (rest ≡ decimal id ++ 32 ∷ text)
+Follows words.Revise rest (Revise id text) = IsId id × (rest ≡ decimal id ++ 32 ∷ text)
+Follows words.RegisterMol rest (RegisterMol id) = IsId id × (rest ≡ decimal id)
+Follows words.ReviseMol rest (ReviseMol id) = IsId id × (rest ≡ decimal id)
+Follows words.Withdraw rest (Withdraw id) = IsId id × (rest ≡ decimal id)
+Follows words.Show rest (Show id) = IsId id × (rest ≡ decimal id)
 Follows words.Search rest (Search pattern) = rest ≡ pattern
 Follows words.Open rest (Start name pattern) = IsName name × (rest ≡ name ++ 32 ∷ pattern)
 Follows words.Next rest (Next name) = IsName name × (rest ≡ name)

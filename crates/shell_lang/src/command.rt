@@ -1,7 +1,8 @@
 //! Reading a line of a script: which command it spells, or why it spells none.
 ghost use Rattle.std.specs.Prelude.{◌≡◌, ◌≢◌, ◌∷◌, ◌++◌, ℕ, List, All, Contains, codes, decimal, IfSome, IfNone, IfOk, IfErr, IsErrOf, IsTrue, Result, ◌↔◌};
+ghost use Rattle.store_machine.specs.History.{IsId};
 ghost use Rattle.shell_lang.specs.Command as spec;
-ghost use Rattle.shell_lang.specs.Command.{IsIdentifier, IsNoIdentifier, IsNameByte, IsName, Spells, HasNoSpace, HasIdentifierPart, IsLine, StartsMolfile, EndsMolfile, molfile_command};
+ghost use Rattle.shell_lang.specs.Command.{IsNoIdentifier, IsNameByte, IsName, Spells, HasNoSpace, HasIdentifierPart, IsLine, StartsMolfile, EndsMolfile, molfile_command};
 ghost use Rattle.shell_lang.specs.CommandView.{reading_of};
 ghost use Rattle.shell_lang.specs.Word.{word_text};
 ghost use Rattle.shell_lang.specs.Cut.{IsRest};
@@ -11,9 +12,7 @@ ghost use Rattle.shell_lang.specs.declared.command.LineRefusal.TheVariants.{Synt
 
 use crate::word::{Word, are_same};
 use chem_text::decimal;
-
-/// The greatest identifier.
-pub const LAST_IDENTIFIER: u64 = 999_999_999;
+use store_machine::LAST_IDENTIFIER;
 
 /// The most bytes of a cursor's name.
 pub const LONGEST_NAME: usize = 32;
@@ -169,7 +168,7 @@ fn with_rest(word: Word, rest: &[u8]) -> Result<Command<'_>, LineRefusal>
 
 // An identifier, a space, and a text.
 fn identifier_and_text(rest: &[u8]) -> Result<(u32, &[u8]), LineRefusal>
-    ensures ok { IfOk result (λ r. IsIdentifier r.0 × (rest.now ≡ decimal r.0 ++ 32 ∷ r.1.now)) }
+    ensures ok { IfOk result (λ r. IsId r.0 × (rest.now ≡ decimal r.0 ++ 32 ∷ r.1.now)) }
     ensures id { IsErrOf result LineRefusal.Id → (part : List ℕ) × HasNoSpace part
         × ((text : List ℕ) × (rest.now ≡ part ++ 32 ∷ text)) × IsNoIdentifier part }
     ensures syntax { IsErrOf result LineRefusal.Syntax → HasNoSpace rest.now }
@@ -181,7 +180,7 @@ fn identifier_and_text(rest: &[u8]) -> Result<(u32, &[u8]), LineRefusal>
 
 // An identifier and nothing more.
 fn identifier_alone(rest: &[u8]) -> Result<u32, LineRefusal>
-    ensures ok { IfOk result (λ id. IsIdentifier id × (rest.now ≡ decimal id)) }
+    ensures ok { IfOk result (λ id. IsId id × (rest.now ≡ decimal id)) }
     ensures id { IsErrOf result LineRefusal.Id → HasNoSpace rest.now × IsNoIdentifier rest.now }
     ensures syntax { IsErrOf result LineRefusal.Syntax → Contains rest.now 32 }
 {
@@ -253,10 +252,10 @@ fn name_alone(rest: &[u8]) -> Result<&[u8], LineRefusal>
 
 // The identifier that the bytes are.
 fn identifier(bytes: &[u8]) -> Option<u32>
-    ensures some { IfSome result (λ id. (bytes.now ≡ decimal id) × IsIdentifier id) }
+    ensures some { IfSome result (λ id. (bytes.now ≡ decimal id) × IsId id) }
     ensures none { IfNone result (IsNoIdentifier bytes.now) }
 {
-    match decimal(bytes, LAST_IDENTIFIER) {
+    match decimal(bytes, u64::from(LAST_IDENTIFIER)) {
         Some(id) if id >= 1 => Some(id as u32),
         _ => None,
     }

@@ -6,7 +6,7 @@ mod reply;
 mod word;
 
 pub use command::{
-    Command, LAST_IDENTIFIER, LONGEST_NAME, LineRefusal, MolfileChange, ends_molfile,
-    molfile_change, one_reading, read_command,
+    Command, LONGEST_NAME, LineRefusal, MolfileChange, ends_molfile, molfile_change, one_reading,
+    read_command,
 };
 pub use reply::{Refusal, Reply, reply_text};

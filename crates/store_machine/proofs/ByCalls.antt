@@ -1,5 +1,5 @@
 -- From an owner's calls to the steps of the run, and from the history at the Pin to that at the end.
-use Rattle.std.proofs.Common.{◌≡◌, ◌&&◌, ◌++◌, ◌≤◌, ◌∙◌, ap, append-nil, append_assoc, arith, Bool, cond, false, le_of_eq, length, length-append, List, [], ◌∷◌, refl, subst, sym, true, ℕ}
+use Rattle.std.proofs.Common.{◌≡◌, ◌&&◌, ◌++◌, ◌≤◌, ◌∙◌, ap, arith, Bool, cond, false, le_of_eq, length, length-append, List, [], ◌∷◌, refl, subst, sym, true, ℕ}
 use Rattle.std.proofs.lemmas.Bool.{true≢false}
 use Rattle.store_machine.specs.Answers.{AreFound}
 use Rattle.store_machine.specs.ByCalls.{CallsGivePages, Pages}
@@ -17,9 +17,9 @@ use Rattle.store_machine.specs.declared.machine.Reply.TheVariants.{Pinned}
 use Rattle.store_machine.specs.declared.machine.State.{State}
 use Rattle.store_machine.specs.declared.machine.Step.{Step}
 use Rattle.store_machine.proofs.Finds.{OneStructure, found-hits, found-tried}
+use Rattle.store_machine.proofs.Growing.{runs-grow}
 use Rattle.store_machine.proofs.PagesRead.{snapshots-stay}
 use Rattle.store_machine.proofs.Paging.{all-found, from-start, pages-are-a-prefix, pages-are-pieces}
-use Rattle.store_machine.proofs.Pins.{grows}
 use Rattle.store_machine.proofs.Sound.{runs-stay-sound}
 
 -- the step of a call, with the steps before and behind it
@@ -113,18 +113,7 @@ calm-behind : (front : List Step) (x : Step) (back : List Step) → IsCalm (fron
 calm-behind [] x back calm = calm.1
 calm-behind (f ∷ fs) x back calm = calm-behind fs x back calm.1
 
-pub run-grows : (s s' : State) (steps : List Step) → IsRun s steps s' → (more : List Change)
-    × (s'.history ≡ s.history ++ more)
-run-grows s s' [] run = ([], ap (λ (x : State). x.history) run ∙ sym (append-nil s.history))
-run-grows s s' (x ∷ xs) run =
-    let one = grows x.before x.owner x.event x.reply x.after run.1 in
-    let rest = run-grows x.after s' xs run.2 in (
-      one.0 ++ rest.0,
-      rest.1 ∙ (ap (λ h. h ++ rest.0) (one.1 ∙ ap (λ (b : State). b.history ++ one.0) run.0)
-          ∙ append_assoc s.history one.0 rest.0),
-    )
-
-pub longer : (h h' more : List Change) → h' ≡ h ++ more → head h ≤ head h'
+longer : (h h' more : List Change) → h' ≡ h ++ more → head h ≤ head h'
 longer h h' more e = omega (arith, ap length e, length-append h more)
 
 -- the pages of a search, at the states of its Pin and at the run's end
@@ -135,7 +124,7 @@ pages-at : OneStructure → (s s' : State) (slot version from : ℕ) (want : Lis
 pages-at one s s' slot version from want place pin back own sound early le run c =
     let pages = fetched slot (calls_of own back) in
     let prefix = pages-are-a-prefix own pin back slot version want (At from) place c in
-    let more = run-grows pin.before s' (pin ∷ back) run in
+    let more = runs-grow pin.before s' (pin ∷ back) run in
     let old : version ≤ head pin.before.history = le_of_eq prefix.0 in
     let stays : snapshot pin.before.history version ≡ snapshot s'.history version = sym
     (ap (λ h. snapshot h version) more.1 ∙ snapshots-stay pin.before.history more.0 version old) in
@@ -164,7 +153,7 @@ pub calls-give-pages : OneStructure → CallsGivePages
 calls-give-pages one s s' steps own slot version from want place pages sound run calm le c =
     let p = parted own steps c.before Pin (Pinned slot version) pages c.own in
     let parts = run-parts s s' p.front p.step p.back (subst (λ l. IsRun s l s') p.is run) in
-    let early = run-grows s p.step.before p.front parts.0 in
+    let early = runs-grow s p.step.before p.front parts.0 in
     let searching : Searching own p.step p.back slot version want (At from) place = record {
       after = s';
       run = parts.1;

@@ -1,6 +1,7 @@
 mod Ascending
 mod ByCalls
 mod Finds
+mod Growing
 mod Kept
 mod KeptRead
 mod Made

@@ -15,7 +15,8 @@ use Rattle.store_machine.specs.declared.machine.Reply.{Reply}
 use Rattle.store_machine.specs.declared.machine.Reply.TheVariants.{Page}
 use Rattle.store_machine.specs.declared.machine.State.{State}
 use Rattle.store_machine.specs.declared.machine.Step.{Step}
-use Rattle.store_machine.proofs.Pins.{grows, holds-step, one-version}
+use Rattle.store_machine.proofs.Growing.{grows}
+use Rattle.store_machine.proofs.Pins.{holds-step, one-version}
 
 pub snapshots-stay : SnapshotsStay
 snapshots-stay h more v le = ap (λ cs. after_changes 0 cs empty) (take-append-le v h more le)

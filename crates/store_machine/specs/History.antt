@@ -10,6 +10,7 @@ use Rattle.store_machine.specs.declared.machine.Reply.{Reply}
 use Rattle.store_machine.specs.declared.machine.Reply.TheVariants as reply
 use Rattle.store_machine.specs.declared.machine.Status.{Status}
 use Rattle.store_machine.specs.declared.machine.Status.TheVariants.{Live, Withdrawn}
+use Rattle.store_machine.specs.declared.machine.TheConstants.{LAST_IDENTIFIER}
 
 -- the version of the commit that made a state
 abbrev pub made_at : Status → ℕ
@@ -62,7 +63,7 @@ id_of (Withdraw id) = id
 
 -- an identifier in range
 abbrev pub IsId : ℕ → Type 0
-IsId id = (1 ≤ id) × (id ≤ 999999999)
+IsId id = (1 ≤ id) × (id ≤ LAST_IDENTIFIER)
 
 -- the identifier is in range, and the text has a structure
 abbrev pub IsValid : Change → Type 0

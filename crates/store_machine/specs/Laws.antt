@@ -50,6 +50,11 @@ pub record IsSound (s : State) : Type 0 where
 abbrev pub RunsStaySound : Type 0
 RunsStaySound = (s s' : State) (steps : List Step) → IsRun s steps s' → IsSound s → IsSound s'
 
+-- the history at a run's end is that at its begin with more behind it
+abbrev pub RunsGrow : Type 0
+RunsGrow = (s s' : State) (steps : List Step) → IsRun s steps s' → (more : List Change)
+    × (s'.history ≡ s.history ++ more)
+
 -- at each version in use, the latest kept entry is the state
 abbrev pub KeptIsRead : Type 0
 KeptIsRead = (s : State) (v id : ℕ) → IsSound s → s.serves ≡ true → Contains (in_use s) v → ReadsKept s v id

@@ -1,6 +1,6 @@
 //! The laws of runs, each on a function that does nothing but cite others.
 ghost use Rattle.store_machine.specs.ByCalls.{CallsGivePages};
-ghost use Rattle.store_machine.specs.Laws.{AnswersAreOne, CommitsChange, KeptIsRead, NeedsScreen, PagesAreAPrefix, PagesArePieces, PagesAreTheAnswer, PinsStay, RunsStaySound, SnapshotsStay, StatesStay};
+ghost use Rattle.store_machine.specs.Laws.{AnswersAreOne, CommitsChange, KeptIsRead, NeedsScreen, PagesAreAPrefix, PagesArePieces, PagesAreTheAnswer, PinsStay, RunsGrow, RunsStaySound, SnapshotsStay, StatesStay};
 
 /// Later commits change no snapshot.
 pub fn snapshots_stay()
@@ -25,6 +25,11 @@ pub fn answers_are_one()
 /// Every state of a run keeps what its pins and its head need.
 pub fn runs_stay_sound()
     ensures { RunsStaySound }
+{}
+
+/// The history at a run's end is that at its begin with more behind it.
+pub fn runs_grow()
+    ensures { RunsGrow }
 {}
 
 /// At each version in use a store reads the snapshot from what is kept.

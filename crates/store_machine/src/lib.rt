@@ -10,7 +10,9 @@ mod machine;
 
 pub use laws::{
     answers_are_one, calls_give_pages, commits_change, kept_is_read, needs_screen,
-    pages_are_a_prefix, pages_are_pieces, pages_are_the_answer, pins_stay, runs_stay_sound,
-    snapshots_stay, states_stay,
+    pages_are_a_prefix, pages_are_pieces, pages_are_the_answer, pins_stay, runs_grow,
+    runs_stay_sound, snapshots_stay, states_stay,
 };
-pub use machine::{Change, Entry, Event, Faults, Found, Held, Reply, State, Status, Step, Times};
+pub use machine::{
+    Change, Entry, Event, Faults, Found, Held, LAST_IDENTIFIER, Reply, State, Status, Step, Times,
+};

@@ -2,6 +2,9 @@
 use mol_finish::Format;
 use std::collections::LinkedList;
 
+/// The greatest identifier.
+pub const LAST_IDENTIFIER: u32 = 999_999_999;
+
 /// A commit's change: a text is registered under an identifier or replaces the one there, or it is withdrawn.
 pub enum Change {
     Register {

@@ -6,6 +6,7 @@ returns c = dialogues-are-true (record {
   snapshots = c.snapshots_stay.ensures;
   states = c.states_stay.ensures;
   sound = c.runs_stay_sound.ensures;
+  grow = c.runs_grow.ensures;
   pins = c.pins_stay.ensures;
   pages = c.calls_give_pages.ensures;
   needs = c.needs_screen.ensures;

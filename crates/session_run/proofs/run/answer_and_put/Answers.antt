@@ -1,6 +1,7 @@
 use Rattle.std.proofs.Common.{◌≡◌, ap, arith, Err, refl, Some}
 use Rattle.std.proofs.KnownBytes.{Appends-nil}
 use Rattle.session_run.specs.Made.{Makes}
+use Rattle.session_run.specs.Opened.{opened}
 use Rattle.session_run.specs.Walks.{cursors_of}
 use Rattle.session_run.proofs.Keeping.{memory_lives}
 use Rattle.session_run.proofs.Turning.{replied, unsaid}
@@ -12,7 +13,7 @@ returns-in-Ok-clause-replies g c = λ request is.
     let new = c.answer.new.self in
     replied now.cursors.size
     (Makes g.S.Service.at g.S.Service.owns g.S.Service.stretch c.args.service.now c.answer.new.service) request
-    (cursors_of now.cursors.list.items) (cursors_of new.cursors.list.items)
+    (cursors_of (opened now.cursors)) (cursors_of (opened new.cursors))
     (g.O.Sink.written c.args.sink.now) (g.O.Sink.written c.put.new.sink) new.out.items _ _ c.put.result
     (c.in-Ok.ensures.answered request is) (rw c.deref.ensures.value at c.put.ensures.puts)
 
@@ -38,7 +39,7 @@ returns-in-Err-NoMemory-clause-replies g c = λ request is.
     let put = g.O.Sink.written c.args.sink.now in
     unsaid now.cursors.size
     (Makes g.S.Service.at g.S.Service.owns g.S.Service.stretch c.args.service.now c.answer.new.service) request
-    (cursors_of now.cursors.list.items) (cursors_of c.answer.new.self.cursors.list.items) put put
+    (cursors_of (opened now.cursors)) (cursors_of (opened c.answer.new.self.cursors)) put put
     (rw c.in-Err-NoMemory.field-0-is at (c.in-Err-NoMemory.ensures.answered request is)) (Appends-nil put)
 
 pub returns-in-Err-NoMemory-clause-keeps : goal.returns-in-Err-NoMemory-clause-keeps

@@ -1,5 +1,6 @@
 use Rattle.std.proofs.Common.{◌≡◌, ◌∙◌, [], ap, arith, List, None, refl, Some, subst, sym, ℕ}
 use Rattle.session_run.specs.Cursors.{Cursor}
+use Rattle.session_run.specs.Opened.{opened}
 use Rattle.session_run.specs.Responds.{KeepsPins}
 use Rattle.session_run.specs.Made.{Makes}
 use Rattle.session_run.specs.Turn.{TakesNone, TakesRequest, Turns}
@@ -15,7 +16,7 @@ pub loop-end-init : goal.loop-end-init
 loop-end-init g c =
     let s = c.args.service.now in
     let size = c.args.responder.now.cursors.size in
-    let none : cursors_of c.args.responder.now.cursors.list.items ≡ [] = ap cursors_of c.requires.none in
+    let none : cursors_of (opened c.args.responder.now.cursors) ≡ [] = ap cursors_of c.requires.none in
     record {
       fit = c.requires.fit;
       size = refl;
@@ -23,7 +24,7 @@ loop-end-init g c =
         [],
         makes_none g.S.Service.at g.S.Service.owns g.S.Service.stretch g.met.S.Service.stays s,
         under_way-start size (g.I.Source.left c.args.source.now) (g.O.Sink.written c.args.sink.now) c.args.lines.now
-            (cursors_of c.args.responder.now.cursors.list.items) c.requires.fresh none,
+            (cursors_of (opened c.args.responder.now.cursors)) c.requires.fresh none,
       );
       pins = subst (λ (l : List Cursor). KeepsPins (g.S.Service.holds s) [] (g.S.Service.holds s) l) (sym none)
           (record {
@@ -50,22 +51,22 @@ loop-end-preserved g c =
       under_way = under_way-turn c.args.responder.now.cursors.size c.args.lines.now.limit
           (g.I.Source.left c.args.source.now) (g.I.Source.left c.loop-end.source)
           (g.O.Sink.written c.args.sink.now) (g.O.Sink.written c.loop-end.sink) c.loop-end.lines u.0
-          (cursors_of c.loop-end.responder.cursors.list.items) u.2
+          (cursors_of (opened c.loop-end.responder.cursors)) u.2
           (Makes g.S.Service.at g.S.Service.owns g.S.Service.stretch middle last)
           (Makes g.S.Service.at g.S.Service.owns g.S.Service.stretch first last)
           (λ its m. makes_more g.S.Service.at g.S.Service.owns g.S.Service.stretch g.met.S.Service.joins
           g.met.S.Service.lands g.met.S.Service.same first middle last u.0 its u.1 m)
           (g.I.Source.left c.turn.new.source) (g.O.Sink.written c.turn.new.sink) c.turn.new.lines _ _
-          (cursors_of c.turn.new.responder.cursors.list.items) reads
+          (cursors_of (opened c.turn.new.responder.cursors)) reads
           (subst (λ (n : ℕ). Turns n (Makes g.S.Service.at g.S.Service.owns g.S.Service.stretch middle last)
           (TakesRequest c.loop-end.lines c.turn.new.lines (g.I.Source.left c.loop-end.source)
           (g.I.Source.left c.turn.new.source))
           (TakesNone c.loop-end.lines (g.I.Source.left c.loop-end.source))
-          (cursors_of c.loop-end.responder.cursors.list.items) (cursors_of c.turn.new.responder.cursors.list.items)
+          (cursors_of (opened c.loop-end.responder.cursors)) (cursors_of (opened c.turn.new.responder.cursors))
           (g.O.Sink.written c.loop-end.sink) (g.O.Sink.written c.turn.new.sink) None)
           c.loop-end.invariant.size c.in_default.ensures.turns);
       pins = keeps_pins-more (g.S.Service.holds first) (g.S.Service.holds middle) (g.S.Service.holds last) []
-          (cursors_of c.loop-end.responder.cursors.list.items) (cursors_of c.turn.new.responder.cursors.list.items)
+          (cursors_of (opened c.loop-end.responder.cursors)) (cursors_of (opened c.turn.new.responder.cursors))
           c.loop-end.invariant.pins p;
       source_count = omega (arith, c.loop-end.invariant.source_count, reads.count);
       sink_count = omega (arith, c.loop-end.invariant.sink_count, c.in_default.ensures.sink_count);
@@ -87,18 +88,18 @@ returns-in-Some-clause-serves g c =
     serves-turn c.args.responder.now.cursors.size c.args.lines.now.limit
     (g.I.Source.left c.args.source.now) (g.I.Source.left c.loop-end.source)
     (g.O.Sink.written c.args.sink.now) (g.O.Sink.written c.loop-end.sink) c.loop-end.lines u.0
-    (cursors_of c.loop-end.responder.cursors.list.items) u.2
+    (cursors_of (opened c.loop-end.responder.cursors)) u.2
     (Makes g.S.Service.at g.S.Service.owns g.S.Service.stretch middle last)
     (Makes g.S.Service.at g.S.Service.owns g.S.Service.stretch first last)
     (λ its m. makes_more g.S.Service.at g.S.Service.owns g.S.Service.stretch g.met.S.Service.joins
     g.met.S.Service.lands g.met.S.Service.same first middle last u.0 its u.1 m)
     (g.I.Source.left c.turn.new.source) (g.O.Sink.written c.turn.new.sink) c.turn.new.lines _ _
-    (cursors_of c.turn.new.responder.cursors.list.items) c.in-Some.ensures.reads c.in-Some.end
+    (cursors_of (opened c.turn.new.responder.cursors)) c.in-Some.ensures.reads c.in-Some.end
     (subst (λ (n : ℕ). Turns n (Makes g.S.Service.at g.S.Service.owns g.S.Service.stretch middle last)
     (TakesRequest c.loop-end.lines c.turn.new.lines (g.I.Source.left c.loop-end.source)
     (g.I.Source.left c.turn.new.source))
     (TakesNone c.loop-end.lines (g.I.Source.left c.loop-end.source))
-    (cursors_of c.loop-end.responder.cursors.list.items) (cursors_of c.turn.new.responder.cursors.list.items)
+    (cursors_of (opened c.loop-end.responder.cursors)) (cursors_of (opened c.turn.new.responder.cursors))
     (g.O.Sink.written c.loop-end.sink) (g.O.Sink.written c.turn.new.sink) (Some c.in-Some.end))
     c.loop-end.invariant.size c.in-Some.ensures.turns)
 
@@ -111,18 +112,18 @@ returns-in-Some-clause-input_fault g c = λ is.
     taken-turn c.args.responder.now.cursors.size c.args.lines.now.limit
     (g.I.Source.left c.args.source.now) (g.I.Source.left c.loop-end.source)
     (g.O.Sink.written c.args.sink.now) (g.O.Sink.written c.loop-end.sink) c.loop-end.lines u.0
-    (cursors_of c.loop-end.responder.cursors.list.items) u.2
+    (cursors_of (opened c.loop-end.responder.cursors)) u.2
     (Makes g.S.Service.at g.S.Service.owns g.S.Service.stretch middle last)
     (Makes g.S.Service.at g.S.Service.owns g.S.Service.stretch first last)
     (λ its m. makes_more g.S.Service.at g.S.Service.owns g.S.Service.stretch g.met.S.Service.joins
     g.met.S.Service.lands g.met.S.Service.same first middle last u.0 its u.1 m)
     (g.I.Source.left c.turn.new.source) (g.O.Sink.written c.turn.new.sink) c.turn.new.lines _ _
-    (cursors_of c.turn.new.responder.cursors.list.items) c.in-Some.ensures.reads c.in-Some.end is
+    (cursors_of (opened c.turn.new.responder.cursors)) c.in-Some.ensures.reads c.in-Some.end is
     (subst (λ (n : ℕ). Turns n (Makes g.S.Service.at g.S.Service.owns g.S.Service.stretch middle last)
     (TakesRequest c.loop-end.lines c.turn.new.lines (g.I.Source.left c.loop-end.source)
     (g.I.Source.left c.turn.new.source))
     (TakesNone c.loop-end.lines (g.I.Source.left c.loop-end.source))
-    (cursors_of c.loop-end.responder.cursors.list.items) (cursors_of c.turn.new.responder.cursors.list.items)
+    (cursors_of (opened c.loop-end.responder.cursors)) (cursors_of (opened c.turn.new.responder.cursors))
     (g.O.Sink.written c.loop-end.sink) (g.O.Sink.written c.turn.new.sink) (Some c.in-Some.end))
     c.loop-end.invariant.size c.in-Some.ensures.turns) (c.in-Some.ensures.part is)
 
@@ -132,8 +133,8 @@ returns-in-Some-clause-fit g c = c.in-Some.ensures.keeps.fit
 pub returns-in-Some-clause-pins : goal.returns-in-Some-clause-pins
 returns-in-Some-clause-pins g c = λ n.
     keeps_pins-more (g.S.Service.holds c.args.service.now) (g.S.Service.holds c.loop-end.service)
-    (g.S.Service.holds c.turn.new.service) [] (cursors_of c.loop-end.responder.cursors.list.items)
-    (cursors_of c.turn.new.responder.cursors.list.items) c.loop-end.invariant.pins
+    (g.S.Service.holds c.turn.new.service) [] (cursors_of (opened c.loop-end.responder.cursors))
+    (cursors_of (opened c.turn.new.responder.cursors)) c.loop-end.invariant.pins
     (c.in-Some.ensures.keeps.pins (λ e. n (some-end c.in-Some.end _ e))) where
       some-end : (a b : EndStatus) → Some a ≡ Some b → a ≡ b
       some-end a b e = cc
@@ -157,7 +158,7 @@ returns-in-Some-clause-too_long g c = λ e.
     takes_all c.args.responder.now.cursors.size c.args.lines.now.limit
     (g.I.Source.left c.args.source.now) (g.I.Source.left c.loop-end.source)
     (g.O.Sink.written c.args.sink.now) (g.O.Sink.written c.loop-end.sink) c.loop-end.lines u.0
-    (cursors_of c.loop-end.responder.cursors.list.items) u.2 (g.I.Source.left c.turn.new.source) c.turn.new.lines _ _
+    (cursors_of (opened c.loop-end.responder.cursors)) u.2 (g.I.Source.left c.turn.new.source) c.turn.new.lines _ _
     c.in-Some.ensures.reads (c.in-Some.ensures.too_long (ap Some e))
 
 pub returns-in-Some-clause-bounds : goal.returns-in-Some-clause-bounds

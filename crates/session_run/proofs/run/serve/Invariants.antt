@@ -3,6 +3,7 @@ use Rattle.io_edge.specs.Lines.{done_bytes}
 use Rattle.store_core.specs.Calls.{NotRaised}
 use Rattle.session_run.specs.Cursors.{Calls}
 use Rattle.session_run.specs.Made.{Makes}
+use Rattle.session_run.specs.Opened.{opened}
 use Rattle.session_run.specs.Responds.{IsFit, KeepsPins}
 use Rattle.session_run.specs.Walks.{cursors_of}
 use Rattle.session_run.proofs.Scripts.{IsUnderWay}
@@ -10,13 +11,13 @@ use Rattle.session_run.proofs.run.serve.Given as goal
 
 abbrev pub invariant-loop-end : goal.invariant-loop-end
 invariant-loop-end g l = record {
-  fit : IsFit l.responder.settings l.responder.cursors.size l.responder.cursors.list.items;
+  fit : IsFit l.responder.settings l.responder.cursors.size (opened l.responder.cursors);
   size : l.responder.cursors.size ≡ l.fn.responder.cursors.size;
   under_way : (calls : Calls) × Makes g.S.Service.at g.S.Service.owns g.S.Service.stretch l.fn.service l.service calls
       × IsUnderWay l.fn.responder.cursors.size l.fn.lines.limit (g.I.Source.left l.fn.source) (g.I.Source.left l.source)
-      (g.O.Sink.written l.fn.sink) (g.O.Sink.written l.sink) l.lines calls (cursors_of l.responder.cursors.list.items);
+      (g.O.Sink.written l.fn.sink) (g.O.Sink.written l.sink) l.lines calls (cursors_of (opened l.responder.cursors));
   pins : KeepsPins (g.S.Service.holds l.fn.service) [] (g.S.Service.holds l.service)
-      (cursors_of l.responder.cursors.list.items);
+      (cursors_of (opened l.responder.cursors));
   source_count : g.I.Source.faults l.fn.source ≤ g.I.Source.faults l.source;
   sink_count : g.O.Sink.faults l.fn.sink ≤ g.O.Sink.faults l.sink;
   bounds : NotRaised (g.S.Service.bounds l.fn.service) (g.S.Service.bounds l.service);

@@ -1,5 +1,6 @@
 use Rattle.std.proofs.Common.{◌++◌, [], subst}
 use Rattle.session_run.specs.Cursors.{unpins}
+use Rattle.session_run.specs.Opened.{opened}
 use Rattle.session_run.specs.Serving.{Serves}
 use Rattle.session_run.specs.Walks.{cursors_of}
 use Rattle.session_run.specs.declared.settings.EndStatus.{EndStatus}
@@ -24,7 +25,7 @@ returns-in-Worn-clause-serves g c =
     let input = g.I.Source.left c.args.source.now in
     let put = g.O.Sink.written c.args.sink.now in
     let put' = g.O.Sink.written c.serve-end.new.sink in
-    let cursors = cursors_of c.serve-end.new.responder.cursors.list.items in (
+    let cursors = cursors_of (opened c.serve-end.new.responder.cursors) in (
       u.0,
       u.1,
       served-worn size input put put' u.0 cursors
@@ -37,7 +38,7 @@ returns-in-Worn-clause-worn g c = λ e. c.serve-end.ensures.worn c.in-Worn.is
 pub returns-in-Ok-clause-serves : goal.returns-in-Ok-clause-serves
 returns-in-Ok-clause-serves g c =
     let u = c.serve-end.ensures.serves in
-    let cursors = cursors_of c.serve-end.new.responder.cursors.list.items in (
+    let cursors = cursors_of (opened c.serve-end.new.responder.cursors) in (
       u.0 ++ unpins cursors,
       makes_more g.S.Service.at g.S.Service.owns g.S.Service.stretch g.met.S.Service.joins g.met.S.Service.lands
           g.met.S.Service.same c.args.service.now c.serve-end.new.service c.close_all.new.service u.0 (unpins cursors)
@@ -50,7 +51,7 @@ returns-in-Ok-clause-serves g c =
 pub returns-in-Ok-clause-input_fault : goal.returns-in-Ok-clause-input_fault
 returns-in-Ok-clause-input_fault g c = λ is.
     let u = c.serve-end.ensures.input_fault is in
-    let cursors = cursors_of c.serve-end.new.responder.cursors.list.items in (
+    let cursors = cursors_of (opened c.serve-end.new.responder.cursors) in (
       u.0 ++ unpins cursors,
       makes_more g.S.Service.at g.S.Service.owns g.S.Service.stretch g.met.S.Service.joins g.met.S.Service.lands
           g.met.S.Service.same c.args.service.now c.serve-end.new.service c.close_all.new.service u.0 (unpins cursors)
@@ -67,7 +68,7 @@ returns-in-Ok-clause-pins g c = λ n.
     let last = g.S.Service.holds c.close_all.new.service in
     let p = c.serve-end.ensures.pins c.in_default.not-Worn in
     held-all first last (same_others-more first middle last []
-    (cursors_of c.serve-end.new.responder.cursors.list.items) [] p.others c.in-Ok.ensures.others)
+    (cursors_of (opened c.serve-end.new.responder.cursors)) [] p.others c.in-Ok.ensures.others)
 
 pub returns-in-Ok-clause-worn : goal.returns-in-Ok-clause-worn
 returns-in-Ok-clause-worn g c = λ e. absurd (c.in_default.not-Worn e)
@@ -81,7 +82,7 @@ pub returns-in-Err-clause-serves : goal.returns-in-Err-clause-serves
 returns-in-Err-clause-serves g c =
     let u = c.serve-end.ensures.serves in
     let p = c.in-Err.ensures.err in
-    let cursors = cursors_of c.serve-end.new.responder.cursors.list.items in (
+    let cursors = cursors_of (opened c.serve-end.new.responder.cursors) in (
       u.0 ++ p.0,
       makes_more g.S.Service.at g.S.Service.owns g.S.Service.stretch g.met.S.Service.joins g.met.S.Service.lands
           g.met.S.Service.same c.args.service.now c.serve-end.new.service c.close_all.new.service u.0 p.0 u.1 p.1,

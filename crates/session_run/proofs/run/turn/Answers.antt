@@ -1,6 +1,7 @@
 use Rattle.std.proofs.Common.{ap, Err, refl}
 use Rattle.std.proofs.KnownBytes.{Appends-nil}
 use Rattle.session_run.specs.Made.{Makes}
+use Rattle.session_run.specs.Opened.{opened}
 use Rattle.session_run.specs.Requests.{IsPartOfRequest}
 use Rattle.session_run.specs.Turn.{TakesNone, TakesPart, TakesRequest}
 use Rattle.session_run.specs.Walks.{cursors_of}
@@ -74,7 +75,7 @@ returns-in_default-clause-turns g c =
     c.next_request.new.text.items c.in_default.not-End c.in-Ok.ensures.takes in
     turn_replied now.cursors.size
     (Makes g.S.Service.at g.S.Service.owns g.S.Service.stretch s c.answer_and_put.new.service) t.0
-    (cursors_of now.cursors.list.items) (cursors_of c.answer_and_put.new.responder.cursors.list.items)
+    (cursors_of (opened now.cursors)) (cursors_of (opened c.answer_and_put.new.responder.cursors))
     (g.O.Sink.written c.args.sink.now) (g.O.Sink.written c.answer_and_put.new.sink)
     (TakesRequest c.args.lines.now c.next_request.new.lines before after) (TakesNone c.args.lines.now before)
     c.answer_and_put.result t.1 (c.answer_and_put.ensures.replies t.0 (rw c.text.ensures t.2))
@@ -87,7 +88,7 @@ returns-in_default-clause-part g c =
     c.in-Ok.ensures.takes in
     no_input_fault now.cursors.size
     (Makes g.S.Service.at g.S.Service.owns g.S.Service.stretch c.args.service.now c.answer_and_put.new.service) t.0
-    (cursors_of now.cursors.list.items) (cursors_of c.answer_and_put.new.responder.cursors.list.items)
+    (cursors_of (opened now.cursors)) (cursors_of (opened c.answer_and_put.new.responder.cursors))
     (g.O.Sink.written c.args.sink.now) (g.O.Sink.written c.answer_and_put.new.sink)
     (TakesPart c.args.lines.now c.next_request.new.lines (g.I.Source.left c.args.source.now)
     (g.I.Source.left c.next_request.new.source) IsPartOfRequest) c.answer_and_put.result

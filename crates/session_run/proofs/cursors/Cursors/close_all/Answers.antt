@@ -1,6 +1,7 @@
 use Rattle.std.proofs.Common.{[], ◌++◌, ap, arith, length, List, refl}
 use Rattle.session_run.specs.Cursors.{unpins}
 use Rattle.session_run.specs.Made.{Makes}
+use Rattle.session_run.specs.Opened.{opened}
 use Rattle.session_run.specs.Walks.{cursors_of}
 use Rattle.session_run.specs.declared.cursors.Cursor as rust
 use Rattle.session_run.proofs.Held.{not_raised-more, not_raised-same, same_held, same_others}
@@ -19,13 +20,13 @@ loop-cursor-init g c =
         refl,
       );
       held = c.requires.held;
-      others = same_others held held (cursors_of c.args.self.now.list.items) (same_held held);
+      others = same_others held held (cursors_of (opened c.args.self.now)) (same_held held);
       bounds = not_raised-same (g.S.Service.bounds c.args.service.now);
     }
 
 pub close-requires : goal.close-requires
 close-requires g c = record {
-  held = first_pin c.loop-cursor.self.list.items c.take_first.new.self.list.items c.in-Some.cursor
+  held = first_pin (opened c.loop-cursor.self) (opened c.take_first.new.self) c.in-Some.cursor
       c.in-Some.ensures.some (g.S.Service.holds c.loop-cursor.service) c.loop-cursor.invariant.held;
 }
 
@@ -38,8 +39,8 @@ loop-cursor-preserved g c =
     let middle = c.loop-cursor.service in
     let last = c.close.new.service in
     let cursor = c.in-Some.cursor in
-    let items = c.loop-cursor.self.list.items in
-    let left = c.take_first.new.self.list.items in
+    let items = (opened c.loop-cursor.self) in
+    let left = (opened c.take_first.new.self) in
     let inv = c.loop-cursor.invariant in
     let some = c.in-Some.ensures.some in
     record {
@@ -47,12 +48,12 @@ loop-cursor-preserved g c =
         inv.made.0 ++ unpin_of cursor,
         makes_more g.S.Service.at g.S.Service.owns g.S.Service.stretch g.met.S.Service.joins g.met.S.Service.lands
             g.met.S.Service.same first middle last inv.made.0 (unpin_of cursor) inv.made.1 c.in-Ok.ensures.ok,
-        rest_unpins items left cursor some (unpins (cursors_of c.args.self.now.list.items)) inv.made.0 inv.made.2,
+        rest_unpins items left cursor some (unpins (cursors_of (opened c.args.self.now))) inv.made.0 inv.made.2,
       );
       held = rest_held items left cursor some (g.S.Service.holds middle) (g.S.Service.holds last) c.in-Ok.ensures.held
           inv.held;
       others = rest_others items left cursor some (g.S.Service.holds first) (g.S.Service.holds middle)
-          (g.S.Service.holds last) (cursors_of c.args.self.now.list.items) c.in-Ok.ensures.held inv.others;
+          (g.S.Service.holds last) (cursors_of (opened c.args.self.now)) c.in-Ok.ensures.held inv.others;
       bounds = not_raised-more (g.S.Service.bounds first) (g.S.Service.bounds middle) (g.S.Service.bounds last)
           inv.bounds c.close.ensures.bounds;
     }
@@ -66,8 +67,8 @@ returns-in-Err-clause-err g c =
       inv.made.0 ++ [],
       makes_more g.S.Service.at g.S.Service.owns g.S.Service.stretch g.met.S.Service.joins g.met.S.Service.lands
           g.met.S.Service.same first middle last inv.made.0 [] inv.made.1 c.in-Err.ensures.err,
-      some_unpins (unpins (cursors_of c.args.self.now.list.items)) inv.made.0
-          (unpins (cursors_of c.loop-cursor.self.list.items)) inv.made.2,
+      some_unpins (unpins (cursors_of (opened c.args.self.now))) inv.made.0
+          (unpins (cursors_of (opened c.loop-cursor.self))) inv.made.2,
     )
 
 pub returns-in-Err-clause-bounds : goal.returns-in-Err-clause-bounds
@@ -79,11 +80,11 @@ pub returns-clause-ok : goal.returns-clause-ok
 returns-clause-ok g c =
     let inv = c.loop-cursor.invariant in
     all_unpins (Makes g.S.Service.at g.S.Service.owns g.S.Service.stretch c.args.service.now c.loop-cursor.service)
-    (unpins (cursors_of c.args.self.now.list.items)) inv.made.0 c.loop-cursor.self.list.items c.in_default.ensures.none
+    (unpins (cursors_of (opened c.args.self.now))) inv.made.0 (opened c.loop-cursor.self) c.in_default.ensures.none
     inv.made.2 inv.made.1
 
 pub returns-clause-others : goal.returns-clause-others
 returns-clause-others g c =
     none_others (g.S.Service.holds c.args.service.now) (g.S.Service.holds c.loop-cursor.service)
-    (cursors_of c.args.self.now.list.items) c.loop-cursor.self.list.items c.in_default.ensures.none
+    (cursors_of (opened c.args.self.now)) (opened c.loop-cursor.self) c.in_default.ensures.none
     c.loop-cursor.invariant.others

@@ -3,6 +3,7 @@ use Rattle.shell_lang.specs.Reply as line
 use Rattle.shell_lang.specs.declared.reply.Refusal.TheVariants as refusals
 use Rattle.session_run.specs.Answer.{RequestAnswer}
 use Rattle.session_run.specs.Made.{Makes}
+use Rattle.session_run.specs.Opened.{opened}
 use Rattle.session_run.specs.Responds.{LineIsAnswered, MolfileIsAnswered}
 use Rattle.session_run.specs.Walks.{cursors_of}
 use Rattle.session_run.proofs.Held.{not_raised-same, same_held}
@@ -35,7 +36,7 @@ pub returns-in-Long-clause-answered : goal.returns-in-Long-clause-answered
 returns-in-Long-clause-answered g c request next =
     let s = c.args.service.now in
     let now = c.args.self.now in
-    let cursors = cursors_of now.cursors.list.items in
+    let cursors = cursors_of (opened now.cursors) in
     behind_nothing (Makes g.S.Service.at g.S.Service.owns g.S.Service.stretch s s)
     (RequestAnswer now.cursors.size cursors request) _ c.say.new.out.items cursors c.say.result c.clear.ensures.items
     (said_answered (Makes g.S.Service.at g.S.Service.owns g.S.Service.stretch s s)
@@ -55,7 +56,7 @@ returns-in-Long-clause-keeps g c =
 pub returns-in-Line-clause-answered : goal.returns-in-Line-clause-answered
 returns-in-Line-clause-answered g c request next =
     let now = c.args.self.now in
-    let cursors = cursors_of now.cursors.list.items in
+    let cursors = cursors_of (opened now.cursors) in
     let out = c.answer_line.new.self.out.items in
     behind_nothing (Makes g.S.Service.at g.S.Service.owns g.S.Service.stretch c.args.service.now
     c.answer_line.new.service)
@@ -74,7 +75,7 @@ returns-in-Line-clause-keeps g c =
 pub returns-in-WithMolfile-clause-answered : goal.returns-in-WithMolfile-clause-answered
 returns-in-WithMolfile-clause-answered g c request next =
     let now = c.args.self.now in
-    let cursors = cursors_of now.cursors.list.items in
+    let cursors = cursors_of (opened now.cursors) in
     let out = c.answer_molfile.new.self.out.items in
     let read = c.in-WithMolfile.read in
     let molfile = c.in-WithMolfile.molfile in

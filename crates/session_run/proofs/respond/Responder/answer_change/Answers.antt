@@ -4,6 +4,7 @@ use Rattle.shell_lang.specs.Reply as line
 use Rattle.session_run.specs.Answer.{Answers, TextAnswer}
 use Rattle.session_run.specs.Changes.{change_by}
 use Rattle.session_run.specs.Made.{Makes}
+use Rattle.session_run.specs.Opened.{opened}
 use Rattle.session_run.specs.Responds.{text_command}
 use Rattle.session_run.specs.Walks.{cursors_of}
 use Rattle.session_run.proofs.Keeping.{keeps_all, said_worn}
@@ -15,7 +16,7 @@ pub returns-clause-answered : goal.returns-clause-answered
 returns-clause-answered g c =
     let now = c.args.self.now in
     let text = c.args.text.now in
-    let cursors = cursors_of now.cursors.list.items in
+    let cursors = cursors_of (opened now.cursors) in
     line_answered
     (Makes g.S.Service.at g.S.Service.owns g.S.Service.stretch c.args.service.now c.change_text-reply.new.service)
     (TextAnswer (change_by c.args.verb c.args.id Smiles text) Smiles text)

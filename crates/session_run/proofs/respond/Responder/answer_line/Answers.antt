@@ -4,6 +4,7 @@ use Rattle.shell_lang.specs.Reply as line
 use Rattle.shell_lang.specs.declared.reply.Refusal.TheVariants as refusals
 use Rattle.session_run.specs.Answer.{Answers}
 use Rattle.session_run.specs.Made.{Makes}
+use Rattle.session_run.specs.Opened.{opened}
 use Rattle.session_run.specs.Responds.{LineIsAnswered}
 use Rattle.session_run.specs.Walks.{cursors_of}
 use Rattle.session_run.proofs.Held.{not_raised-same, same_held}
@@ -16,7 +17,7 @@ pub returns-in-Err-clause-answered : goal.returns-in-Err-clause-answered
 returns-in-Err-clause-answered g c =
     let s = c.args.service.now in
     let now = c.args.self.now in
-    let cursors = cursors_of now.cursors.list.items in
+    let cursors = cursors_of (opened now.cursors) in
     said_answered (Makes g.S.Service.at g.S.Service.owns g.S.Service.stretch s s)
     (LineIsAnswered now.cursors.size cursors c.args.line.now)
     now.out.items c.say.new.out.items cursors [] (line.Refused (refusals.Line c.in-Err.refusal)) c.say.result
@@ -35,7 +36,7 @@ returns-in-Err-clause-keeps g c =
 pub returns-in-Ok-clause-answered : goal.returns-in-Ok-clause-answered
 returns-in-Ok-clause-answered g c =
     let now = c.args.self.now in
-    let cursors = cursors_of now.cursors.list.items in
+    let cursors = cursors_of (opened now.cursors) in
     answered_as (Makes g.S.Service.at g.S.Service.owns g.S.Service.stretch c.args.service.now c.execute.new.service)
     (Answers now.cursors.size cursors (reading_of c.read_command.result))
     (LineIsAnswered now.cursors.size cursors c.args.line.now) (λ x. x)

@@ -1,4 +1,5 @@
 use Rattle.std.proofs.Common.{refl}
+use Rattle.session_run.specs.Opened.{opened}
 use Rattle.session_run.specs.Walks.{cursors_of}
 use Rattle.session_run.proofs.Keeping.{keeps_moved, pins_moved}
 use Rattle.session_run.proofs.respond.Responder.answer_next.Goals as goal
@@ -13,6 +14,6 @@ returns-clause-keeps g c =
     let after = c.next.new.service in
     keeps_moved g.S.Service.holds g.S.Service.worn g.S.Service.bounds s after now _ c.requires c.next.result
     refl c.next.ensures.size c.next.ensures.sized c.next.ensures.worn
-    (pins_moved (g.S.Service.holds s) (g.S.Service.holds after) (cursors_of now.cursors.list.items)
-    (cursors_of c.next.new.self.list.items) c.next.result c.next.ensures.held c.next.ensures.others)
+    (pins_moved (g.S.Service.holds s) (g.S.Service.holds after) (cursors_of (opened now.cursors))
+    (cursors_of (opened c.next.new.self)) c.next.result c.next.ensures.held c.next.ensures.others)
     c.next.ensures.bounds

@@ -2,6 +2,7 @@ use Rattle.std.proofs.Common.{Ok, refl}
 use Rattle.shell_lang.specs.Command as asked
 use Rattle.session_run.specs.Answer.{Answers, SearchAnswer}
 use Rattle.session_run.specs.Made.{Makes}
+use Rattle.session_run.specs.Opened.{opened}
 use Rattle.session_run.specs.Searched.{alone}
 use Rattle.session_run.specs.Walks.{cursors_of}
 use Rattle.session_run.proofs.Keeping.{keeps_same, pins_searched}
@@ -14,7 +15,7 @@ returns-clause-answered g c =
     let now = c.args.self.now in
     let text = c.args.pattern.now in
     let page = now.settings.page in
-    let cursors = cursors_of now.cursors.list.items in
+    let cursors = cursors_of (opened now.cursors) in
     answered_as (Makes g.S.Service.at g.S.Service.owns g.S.Service.stretch c.args.service.now c.search.new.service)
     (alone (SearchAnswer page text)) (Answers now.cursors.size cursors (Ok (asked.Search text))) (λ _. cursors)
     (λ calls lines _ a. search_answer now.cursors.size page cursors text calls lines c.requires.fit.size_is a)
@@ -27,5 +28,5 @@ returns-clause-keeps g c =
     let after = c.search.new.service in
     keeps_same g.S.Service.holds g.S.Service.worn g.S.Service.bounds s after now _ c.requires c.search.result refl refl
     c.search.ensures.worn
-    (pins_searched (g.S.Service.holds s) (g.S.Service.holds after) (cursors_of now.cursors.list.items) c.search.result
+    (pins_searched (g.S.Service.holds s) (g.S.Service.holds after) (cursors_of (opened now.cursors)) c.search.result
     c.requires.held c.search.ensures.held c.search.ensures.kept) c.search.ensures.bounds

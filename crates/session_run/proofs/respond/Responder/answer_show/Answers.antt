@@ -2,6 +2,7 @@ use Rattle.std.proofs.Common.{Ok, refl}
 use Rattle.shell_lang.specs.Command as asked
 use Rattle.session_run.specs.Answer.{Answers}
 use Rattle.session_run.specs.Made.{Makes}
+use Rattle.session_run.specs.Opened.{opened}
 use Rattle.session_run.specs.Walks.{cursors_of}
 use Rattle.session_run.proofs.Keeping.{keeps_all, short_worn}
 use Rattle.session_run.proofs.Responses.{shown_answered}
@@ -10,7 +11,7 @@ use Rattle.session_run.proofs.respond.Responder.answer_show.Goals as goal
 pub returns-clause-answered : goal.returns-clause-answered
 returns-clause-answered g c =
     let now = c.args.self.now in
-    let cursors = cursors_of now.cursors.list.items in
+    let cursors = cursors_of (opened now.cursors) in
     shown_answered (Makes g.S.Service.at g.S.Service.owns g.S.Service.stretch c.args.service.now
     c.show-reply.new.service)
     c.args.id (Answers now.cursors.size cursors (Ok (asked.Show c.args.id)))

@@ -4,6 +4,7 @@ use Rattle.store_machine.specs.declared.machine.Change.TheVariants as changes
 use Rattle.shell_lang.specs.Reply as line
 use Rattle.session_run.specs.Answer.{Answers, Commits}
 use Rattle.session_run.specs.Made.{Makes}
+use Rattle.session_run.specs.Opened.{opened}
 use Rattle.session_run.specs.Walks.{cursors_of}
 use Rattle.session_run.proofs.Keeping.{keeps_all, said_worn}
 use Rattle.session_run.proofs.Lines.{line_answered}
@@ -12,7 +13,7 @@ use Rattle.session_run.proofs.respond.Responder.answer_withdraw.Goals as goal
 pub returns-clause-answered : goal.returns-clause-answered
 returns-clause-answered g c =
     let now = c.args.self.now in
-    let cursors = cursors_of now.cursors.list.items in
+    let cursors = cursors_of (opened now.cursors) in
     line_answered (Makes g.S.Service.at g.S.Service.owns g.S.Service.stretch c.args.service.now
     c.commit-reply.new.service)
     (Commits (changes.Withdraw c.args.id)) (Answers now.cursors.size cursors (Ok (asked.Withdraw c.args.id)))
