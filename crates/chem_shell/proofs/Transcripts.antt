@@ -12,7 +12,7 @@ use Rattle.session_run.specs.declared.settings.EndStatus.TheVariants.{Done, Sour
 use Rattle.store_core.specs.Stored.{empty}
 use Rattle.store_machine.specs.Laws.{IsSound}
 use Rattle.store_machine.specs.declared.machine.Change.{Change}
-use Rattle.chem_shell.specs.Runs.{AreOfRun, IsTranscript, IsTranscriptOfTaken, IsTranscriptPrefix}
+use Rattle.chem_shell.specs.Runs.{AreOfRun, IsTranscriptOfTaken, IsTranscriptPrefix}
 use Rattle.chem_shell.specs.Served.{WritesAll, WritesPrefix, WritesTaken}
 use Rattle.chem_shell.specs.Serving.{IsServed}
 use Rattle.chem_shell.specs.Status.{IsInputStatus, IsStatusOf}

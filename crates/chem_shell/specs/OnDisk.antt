@@ -1,15 +1,15 @@
 -- For callers: what `init` and `run` leave of disk `a`. What the disk tells, its images and its counts are told by
 -- functions.
-use Rattle.std.specs.Prelude.{◌≡◌, ◌≢◌, ◌⊎◌, ◌≤◌, ℕ, List, [], length, Option, Some, IfSome, true}
-use Rattle.disk_edge.specs.Disk.{Exactly, IfTold, Rose, Same}
+use Rattle.std.specs.Prelude.{◌≡◌, ◌≤◌, ℕ, List, [], Option, Some, IfSome, true}
+use Rattle.disk_edge.specs.Disk.{Exactly, IfTold, Same}
 use Rattle.io_edge.specs.Lines.{lines_of}
 use Rattle.journal_core.specs.Looks.{Narrows}
-use Rattle.journal_core.specs.Records.{IsNoJournal, Opens, text}
+use Rattle.journal_core.specs.Records.{Opens, text}
 use Rattle.session_run.specs.Cursors.{Calls}
 use Rattle.session_run.specs.Served.{IsAllOfTaken, Writes, WritesForTaken}
 use Rattle.session_run.specs.Transcript as session
 use Rattle.session_run.specs.Truths.{IsTrueBeginning, IsTrueTranscript}
-use Rattle.store_disk.specs.Loads.{Damages, IsOpened, OpensTo}
+use Rattle.store_disk.specs.Loads.{IsOpened, OpensTo}
 use Rattle.store_disk.specs.Payloads.{payloads}
 use Rattle.store_disk.specs.Stored.{AreClocked}
 use Rattle.store_machine.specs.Machine.{Recovers}
