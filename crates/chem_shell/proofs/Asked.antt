@@ -7,7 +7,7 @@ use Rattle.store_core.specs.declared.store.TheConstants.{MOST_COMMITS}
 use Rattle.chem_shell.specs.declared.request.Plan.{Plan}
 use Rattle.chem_shell.specs.declared.request.Verb.TheVariants.{Mem, Init, Run, Bulk}
 use Rattle.chem_shell.specs.declared.words.TheConstants.{LAST_SEED, MOST_STRUCTURES}
-use Rattle.chem_shell.specs.Words.{Asks, AsksFor, IsBulk, IsFile, IsInit, IsMem, IsNumber, IsRow, IsRunOf, IsSetting, IsWithinLimits, chemdb_app}
+use Rattle.chem_shell.specs.Words.{Asks, AsksFor, IsBulk, IsInit, IsMem, IsNumber, IsRow, IsRunOf, IsSetting, IsWithinLimits, chemdb_app}
 
 pub none_of_image : {X Y : Type 0} (f : X → Y) (o : Option X) (v : Option Y) → option_map f o ≡ v → v ≡ None → o ≡ None
 none_of_image f None v same none = refl

@@ -10,7 +10,7 @@ use Rattle.chem_shell.specs.declared.request.Verb.{Verb}
 use Rattle.chem_shell.specs.declared.request.Verb.TheVariants.{Mem, Init, Run, Bulk}
 use Rattle.chem_shell.specs.declared.top.End.{End}
 use Rattle.chem_shell.specs.declared.top.TheConstants.{SOURCE_FAULT, SINK_FAULT, INPUT_TOO_LONG, INPUT_LIMIT}
-use Rattle.chem_shell.specs.Status.{first_fault, IsCreationStatus, IsSinkStatus}
+use Rattle.chem_shell.specs.Status.{first_fault, IsCreationStatus, IsInputStatus, IsSinkStatus}
 use Rattle.chem_shell.specs.Ends.{with_status, ServesBulk, ServesMem}
 use Rattle.chem_shell.specs.Loading.{Serves, ServesRun}
 
@@ -71,6 +71,11 @@ no_long_input : (n : ℕ) → IsSinkStatus n → n ≡ INPUT_TOO_LONG → ⊥
 no_long_input n (inl a) e = omega arith
 no_long_input n (inr (inl a)) e = omega arith
 no_long_input n (inr (inr a)) e = omega arith
+
+-- want of memory is no fault of the input
+pub no_input_status : {P : Type 0} (n : ℕ) → n ≡ 8 → IsInputStatus n → P
+no_input_status n e (inl a) = absurd (omega (arith, e, a))
+no_input_status n e (inr a) = absurd (omega (arith, e, a))
 
 -- no creation has the status of words that ask for nothing
 pub never_created_usage : (n : ℕ) → IsCreationStatus n → n ≡ 2 → ⊥

@@ -1,11 +1,13 @@
 -- A session over a store that was loaded: what the disk then has, and what was put.
-use Rattle.std.proofs.Common.{◌≡◌, ◌≢◌, ◌≤◌, ◌++◌, ◌∙◌, ℕ, List, [], ◌∷◌, Option, None, Some, IfSome, option_map, refl, sym, ap, subst, inl, inr, append-nil, arith, true}
+use Rattle.std.proofs.Common.{◌≡◌, ◌≢◌, ◌⊎◌, ◌≤◌, ◌++◌, ◌∙◌, ℕ, List, [], ◌∷◌, Option, None, Some, IfSome, option_map, refl, sym, ap, subst, inl, inr, append-nil, arith, true}
 use Rattle.std.proofs.lemmas.List.{map-append}
 use Rattle.disk_edge.specs.Disk.{IfTold}
 use Rattle.io_edge.specs.Lines.{lines_of}
+use Rattle.journal_core.specs.Looks.{Narrows}
 use Rattle.journal_core.specs.Records.{Opens}
 use Rattle.journal_core.specs.Standing.{Standing}
 use Rattle.session_run.specs.Cursors.{Calls}
+use Rattle.session_run.specs.Made.{Makes}
 use Rattle.session_run.specs.Served as session
 use Rattle.session_run.specs.Served.{Writes}
 use Rattle.session_run.specs.Truths.{IsInRun, ServicesAreTrue}
@@ -15,16 +17,17 @@ use Rattle.store_core.specs.Calls as core
 use Rattle.store_disk.specs.Loads.{IsOpened, OpensTo}
 use Rattle.store_disk.specs.OnDisk.{Has, StandsFor, StoreTerm}
 use Rattle.store_disk.specs.Payloads.{payload, payloads}
-use Rattle.store_disk.specs.Stored.{Stretches}
+use Rattle.store_disk.specs.Stored.{Stretches, times}
 use Rattle.store_machine.specs.declared.machine.Change.{Change}
 use Rattle.store_machine.specs.declared.machine.Faults.{Faults}
 use Rattle.store_machine.specs.declared.machine.State.{State}
 use Rattle.chem_shell.specs.OnDisk.{AreOnDisk, IsTranscriptBy, IsTranscriptPrefixBy, OpensAfter, RunsOn}
-use Rattle.chem_shell.specs.Status.{IsEndStatus, IsStatusOf}
+use Rattle.chem_shell.specs.Status.{IsEndStatus, IsInputStatus, IsStatusOf}
 use Rattle.chem_shell.specs.declared.request.Plan.{Plan}
 use Rattle.chem_shell.specs.declared.top.End.{End}
 use Rattle.chem_shell.specs.declared.top.TheConstants.{DONE}
-use Rattle.chem_shell.proofs.Transcripts.{served_begins, true_begins, writes_as}
+use Rattle.chem_shell.proofs.Crashes.{shows_between}
+use Rattle.chem_shell.proofs.Transcripts.{input_fault_of, served_begins, served_of_taken, true_begins, writes_as}
 
 -- a status of a session is one of an end
 pub end_of : (ended : EndStatus) (status : ℕ) → IsStatusOf ended status → IsEndStatus status
@@ -109,35 +112,115 @@ module _ {D : Type 0} (content : D → Option (List ℕ)) (images : D → List �
     is = refl;
   }
 
-  pub runs_on : ServicesAreTrue → {S K : Type 0} (left : S → Option (List ℕ)) (written : K → Option (List ℕ))
-      (plan : Plan) (a a' : D) (s : State) (old new : StoreTerm D) (calls : Calls) (ended : EndStatus)
-      (before after : End S K)
-      → IsOpened plan.commits s → IfTold (content a) (OpensTo s.history) → faults a ≤ s.faults.a
-      → core.Calls (Stretches content images clock between faults) (λ _. true) old new s calls
-      → a' ≡ new.journal.disk → ended ≢ Worn → IsStatusOf ended after.status
-      → IfSome (left before.source) (λ bytes. Writes (written before.sink) (written after.sink)
-      (session.IsServed ended plan.page (lines_of bytes) calls))
-      → RunsOn content images faults left written plan a a' before after
-  runs_on law left written plan a a' s old new calls ended before after opened opens count made same fit is
-      served = record {
-        status = end_of ended after.status is;
-        calls = calls;
-        on = record {
-          first = s;
-          steps = made.steps;
-          last = made.after;
-          opened = opened;
-          opens = opens;
-          run = made.stands.run;
-          calm = made.stands.calm;
-          all = made.own;
-          left = subst (λ d. IfTold (content d) (λ _. (image : List ℕ) → images d image → OpensAfter made.after image))
-              (sym same) (opens_after new made.after made.stands.ends);
-          begins = count;
-          ends = ap (λ (f : Faults). f.a) made.stands.ends.counts ∙ ap faults (sym same);
-        };
-        prefix = beginning ended plan.page calls made.after.history (left before.source) (written before.sink)
-            (written after.sink) fit law (in_run s old new calls made) served;
-        all = λ e. whole_of_status ended after.status plan.page calls made.after.history (left before.source)
-            (written before.sink) (written after.sink) is e law (in_run s old new calls made) served;
-      }
+  module _ (parts : (d : D) (t v u : ℕ) (c : List ℕ) → t ≤ v → v ≤ u → between d t u c
+      → between d t v c ⊎ between d v u c)
+      (whole : (d : D) (t t' u' u : ℕ) (c : List ℕ) → t ≤ t' → u' ≤ u → between d t' u' c → between d t u c)
+      (only_now : (d : D) (c : List ℕ) → between d (clock d) (clock d) c → images d c)
+      (bound : D → Option ℕ) (law : ServicesAreTrue)
+      {S K : Type 0} (left : S → Option (List ℕ)) (written : K → Option (List ℕ)) (plan : Plan)
+      (a : D) (s : State) (old new : StoreTerm D) (stands : StandsFor content images faults old s)
+      (opened : IsOpened plan.commits s) (opens : IfTold (content a) (OpensTo s.history))
+      (read : Narrows content images clock between faults bound a old.journal.disk) where
+    -- what calls leave of the disk
+    on_disk : (calls : Calls) → core.Calls (Stretches content images clock between faults) (λ _. true) old new s calls
+        → AreOnDisk content images clock between faults plan.commits a new.journal.disk calls
+    on_disk calls made = record {
+      first = s;
+      steps = made.steps;
+      last = made.after;
+      opened = opened;
+      opens = opens;
+      run = made.stands.run;
+      calm = made.stands.calm;
+      all = made.own;
+      loaded = times clock old;
+      ended = times clock new;
+      later = read.past.later;
+      clocked = made.stands.clocked;
+      now = refl;
+      loading = λ image b. read.moments image
+          (made.stands.past.no_more (clock a) (clock old.journal.disk) image (omega arith) b);
+      moments = λ l told t u image from le to b.
+          shows_between clock between new.journal.disk parts whole made.steps s made.after (times clock old)
+          (times clock new) t u image made.stands.run made.stands.calm made.stands.clocked (made.stands.moments l told)
+          (λ c now. opens_after new made.after made.stands.ends l told c (only_now new.journal.disk c now))
+          from le to b;
+      left = opens_after new made.after made.stands.ends;
+      begins =
+          let count : s.faults.a ≡ faults old.journal.disk = ap (λ (f : Faults). f.a) stands.counts in
+          let more : faults a ≤ faults old.journal.disk = read.count.count in
+          omega (arith, more, count);
+      ends = ap (λ (f : Faults). f.a) made.stands.ends.counts;
+    }
+
+    runs_by : (calls : Calls) (ended : EndStatus) (before after : End S K)
+        → core.Calls (Stretches content images clock between faults) (λ _. true) old new s calls
+        → ended ≢ Worn → IsStatusOf ended after.status
+        → IfSome (left before.source) (λ bytes. Writes (written before.sink) (written after.sink)
+        (session.IsServed ended plan.page (lines_of bytes) calls))
+        → (IsInputStatus after.status → session.WritesForTaken (left before.source) (left after.source)
+        (written before.sink) (written after.sink) (session.IsAllOfTaken plan.page calls))
+        → RunsOn content images clock between faults left written plan a new.journal.disk before after
+    unfolding on_disk
+    runs_by calls ended before after made fit is served taken = record {
+      status = end_of ended after.status is;
+      calls = calls;
+      on = on_disk calls made;
+      prefix = beginning ended plan.page calls made.after.history (left before.source) (written before.sink)
+          (written after.sink) fit law (in_run s old new calls made) served;
+      all = λ e. whole_of_status ended after.status plan.page calls made.after.history (left before.source)
+          (written before.sink) (written after.sink) is e law (in_run s old new calls made) served;
+      taken = taken;
+    }
+
+    -- what the contract of a session says of the calls and the text
+    abbrev Serves : EndStatus → End S K → End S K → Type 0
+    Serves ended before after = (calls : Calls)
+        × Makes (StandsFor content images faults) (λ _ _. true) (Stretches content images clock between faults)
+        old new calls
+        × IfSome (left before.source) (λ bytes. Writes (written before.sink) (written after.sink)
+        (session.IsServed ended plan.page (lines_of bytes) calls))
+
+    abbrev Takes : End S K → End S K → Type 0
+    Takes before after = (calls : Calls)
+        × Makes (StandsFor content images faults) (λ _ _. true) (Stretches content images clock between faults)
+        old new calls
+        × session.WritesForTaken (left before.source) (left after.source) (written before.sink) (written after.sink)
+        (session.IsAllOfTaken plan.page calls)
+
+    other_end : (ended : EndStatus) (before after : End S K) → ¬ session.IsInputFault ended → ended ≢ Worn
+        → IsStatusOf ended after.status → Serves ended before after
+        → RunsOn content images clock between faults left written plan a new.journal.disk before after
+    other_end ended before after other fit is serves =
+        runs_by serves.0 ended before after (serves.1.made s stands) fit is serves.2
+        (λ e. absurd (other (input_fault_of ended after.status is e)))
+
+    input_end : (ended : EndStatus) (before after : End S K) → ended ≢ Worn → IsStatusOf ended after.status
+        → (takes : Takes before after)
+        → IfSome (left before.source) (λ bytes. Writes (written before.sink) (written after.sink)
+        (session.IsServed ended plan.page (lines_of bytes) takes.0))
+        → RunsOn content images clock between faults left written plan a new.journal.disk before after
+    input_end ended before after fit is takes served =
+        runs_by takes.0 ended before after (takes.1.made s stands) fit is served (λ e. takes.2)
+
+    ends_on : (ended : EndStatus) (before after : End S K) → ended ≢ Worn → IsStatusOf ended after.status
+        → Serves ended before after → (session.IsInputFault ended → Takes before after)
+        → RunsOn content images clock between faults left written plan a new.journal.disk before after
+    ends_on Done before after fit is serves takes = other_end Done before after (λ f. f) fit is serves
+    ends_on SinkFault before after fit is serves takes = other_end SinkFault before after (λ f. f) fit is serves
+    ends_on NoMemory before after fit is serves takes = other_end NoMemory before after (λ f. f) fit is serves
+    ends_on SourceFault before after fit is serves takes = let t = takes tt in
+        input_end SourceFault before after fit is t (served_of_taken plan.page (left before.source) (left after.source)
+        (written before.sink) (written after.sink) t.0 t.2)
+    ends_on InputTooLong before after fit is serves takes = let t = takes tt in
+        input_end InputTooLong before after fit is t (served_of_taken plan.page (left before.source) (left after.source)
+        (written before.sink) (written after.sink) t.0 t.2)
+    ends_on Worn before after fit is serves takes = absurd (fit refl)
+
+    pub runs_on : (a' : D) (ended : EndStatus) (before after : End S K) → a' ≡ new.journal.disk → ended ≢ Worn
+        → IsStatusOf ended after.status → Serves ended before after
+        → (session.IsInputFault ended → Takes before after)
+        → RunsOn content images clock between faults left written plan a a' before after
+    runs_on a' ended before after same fit is serves takes =
+        subst (λ d. RunsOn content images clock between faults left written plan a d before after) (sym same)
+        (ends_on ended before after fit is serves takes)

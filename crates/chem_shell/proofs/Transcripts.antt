@@ -1,7 +1,8 @@
 -- Transcripts over a store in memory: whole ones, beginnings, and what a session put.
-use Rattle.std.proofs.Common.{◌≡◌, ◌≢◌, ◌∙◌, ℕ, List, [], ◌∷◌, ◌++◌, Option, None, Some, IfSome, refl, sym, ap, inl, append-nil, arith, true}
+use Rattle.std.proofs.Common.{◌≡◌, ◌≢◌, ◌∙◌, ℕ, List, [], ◌∷◌, ◌++◌, Option, None, Some, IfSome, refl, sym, ap, subst, inl, inr, append-nil, arith, true}
 use Rattle.io_edge.specs.Lines.{TextLine, lines_of}
 use Rattle.session_run.specs.Cursors.{Calls}
+use Rattle.session_run.specs.Requests.{BeginWithAll}
 use Rattle.session_run.specs.Served as session
 use Rattle.session_run.specs.Served.{Writes}
 use Rattle.session_run.specs.Transcript as script
@@ -11,13 +12,14 @@ use Rattle.session_run.specs.declared.settings.EndStatus.TheVariants.{Done, Sour
 use Rattle.store_core.specs.Stored.{empty}
 use Rattle.store_machine.specs.Laws.{IsSound}
 use Rattle.store_machine.specs.declared.machine.Change.{Change}
-use Rattle.chem_shell.specs.Runs.{AreOfRun, IsTranscript, IsTranscriptPrefix}
-use Rattle.chem_shell.specs.Served.{WritesAll, WritesPrefix}
+use Rattle.chem_shell.specs.Runs.{AreOfRun, IsTranscriptOfTaken, IsTranscriptPrefix}
+use Rattle.chem_shell.specs.Served.{WritesAll, WritesPrefix, WritesTaken}
 use Rattle.chem_shell.specs.Serving.{IsServed}
-use Rattle.chem_shell.specs.Status.{IsStatusOf}
+use Rattle.chem_shell.specs.Status.{IsInputStatus, IsStatusOf}
 use Rattle.chem_shell.specs.declared.request.Plan.{Plan}
 use Rattle.chem_shell.specs.declared.top.TheConstants.{DONE}
 use Rattle.chem_shell.proofs.Asked.{SamePlan}
+use Rattle.chem_shell.proofs.Lines.{first_lines}
 
 -- requests that were answered whole are a beginning
 answered_begins : (page : ℕ) (lines : List TextLine) (calls : Calls) (text : List ℕ)
@@ -115,7 +117,7 @@ nothing_is_true h page lines = record {
 
 -- no calls are those of no run
 none_of_run : (commits : ℕ) → AreOfRun commits []
-none_of_run commits = record { steps = []; last = empty commits; run = refl; calm = tt; all = refl }
+none_of_run commits = record { steps = []; last = empty commits; run = refl; calm = tt; all = refl; sure = tt }
 
 pub writes_as : (before after : Option (List ℕ)) (P Q : List ℕ → Type 0) → ((text : List ℕ) → P text → Q text)
     → Writes before after P → Writes before after Q
@@ -165,6 +167,18 @@ prefix_unmoved commits page (Some bytes) (Some old) =
       ([], run, nothing_begins page (lines_of bytes), nothing_is_true run.last.history page (lines_of bytes)),
     )
 
+-- the same in the words of a session for which memory ran out
+pub served_none : (commits page : ℕ) (input before : Option (List ℕ))
+    → IfSome input (λ bytes. Writes before before (IsServed NoMemory commits page bytes))
+served_none commits page None before = tt
+served_none commits page (Some bytes) None = tt
+served_none commits page (Some bytes) (Some old) =
+    let run = none_of_run commits in (
+      [],
+      ap Some (sym (append-nil old)),
+      ([], run, nothing_begins page (lines_of bytes), nothing_is_true run.last.history page (lines_of bytes)),
+    )
+
 -- what is served over a run that begins empty is true
 true_of_run : ServicesAreTrue → (ended : EndStatus) (commits page : ℕ) (lines : List TextLine) (calls : Calls)
     (text : List ℕ) → IsSound (empty commits) → (run : AreOfRun commits calls)
@@ -208,3 +222,57 @@ prefix_same p q input before after same h = rw (same.commits, same.page) h
 pub all_same : (p q : Plan) (input before after : Option (List ℕ)) → SamePlan p q
     → WritesAll q.commits q.page input before after → WritesAll p.commits p.page input before after
 all_same p q input before after same h = rw (same.commits, same.page) h
+
+-- where exactly the whole requests of what was taken were answered, a beginning of the script was
+taken_begins : (page : ℕ) (got rest : List ℕ) (calls : Calls) (text : List ℕ)
+    → session.IsAllOfTaken page calls got text → session.IsWholePrefix page (lines_of (got ++ rest)) calls text
+taken_begins page got rest calls text (requests, own, cursors, whole, answered, all) =
+    let more = first_lines got rest in (
+      requests,
+      whole.0 ++ more.0,
+      own,
+      cursors,
+      subst (λ l. BeginWithAll l requests (whole.0 ++ more.0)) (sym more.1) (whole.2 more.0),
+      answered,
+      all,
+    )
+
+pub served_of_taken : (page : ℕ) (input left before after : Option (List ℕ)) (calls : Calls)
+    → session.WritesForTaken input left before after (session.IsAllOfTaken page calls)
+    → IfSome input (λ bytes. Writes before after (session.IsWholePrefix page (lines_of bytes) calls))
+served_of_taken page None left before after calls taken = tt
+served_of_taken page (Some bytes) left before after calls (got, rest, is, is_left, written) =
+    writes_as before after (session.IsAllOfTaken page calls got) (session.IsWholePrefix page (lines_of bytes) calls)
+    (λ text answered. subst (λ l. session.IsWholePrefix page (lines_of l) calls text) (sym is)
+    (taken_begins page got rest calls text answered)) written
+
+-- the same by the calls of a run
+pub taken_of_run : (commits page : ℕ) (input left before after : Option (List ℕ)) (calls : Calls)
+    → AreOfRun commits calls → session.WritesForTaken input left before after (session.IsAllOfTaken page calls)
+    → WritesTaken commits page input left before after
+taken_of_run commits page None left before after calls run taken = tt
+taken_of_run commits page (Some bytes) left before after calls run (got, rest, is, is_left, written) = (
+  got,
+  rest,
+  is,
+  is_left,
+  writes_as before after (session.IsAllOfTaken page calls got) (IsTranscriptOfTaken commits page got)
+      (λ text answered. (calls, run, answered)) written,
+)
+
+-- the statuses of a source's fault and of too many bytes are those of these ends of a session
+pub input_fault_of : (ended : EndStatus) (status : ℕ) → IsStatusOf ended status → IsInputStatus status
+    → session.IsInputFault ended
+input_fault_of Done status is (inl e) = absurd (omega (arith, is, e))
+input_fault_of Done status is (inr e) = absurd (omega (arith, is, e))
+input_fault_of SinkFault status is (inl e) = absurd (omega (arith, is, e))
+input_fault_of SinkFault status is (inr e) = absurd (omega (arith, is, e))
+input_fault_of NoMemory status is (inl e) = absurd (omega (arith, is, e))
+input_fault_of NoMemory status is (inr e) = absurd (omega (arith, is, e))
+input_fault_of SourceFault status is e = tt
+input_fault_of InputTooLong status is e = tt
+input_fault_of Worn status is e = absurd is
+
+pub taken_same : (p q : Plan) (input left before after : Option (List ℕ)) → SamePlan p q
+    → WritesTaken q.commits q.page input left before after → WritesTaken p.commits p.page input left before after
+taken_same p q input left before after same h = rw (same.commits, same.page) h

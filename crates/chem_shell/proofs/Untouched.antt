@@ -25,9 +25,9 @@ module _ {D S K : Type 0} (content : D → Option (List ℕ)) (images : D → Li
       (old new : End S K)
       → p.commits ≡ q.commits → p.page ≡ q.page
       → IsRefused content images clock between faults bound a a' old new
-      ⊎ RunsOn content images faults left written q a a' old new
+      ⊎ RunsOn content images clock between faults left written q a a' old new
       → IsRefused content images clock between faults bound a a' old new
-      ⊎ RunsOn content images faults left written p a a' old new
+      ⊎ RunsOn content images clock between faults left written p a a' old new
   runs_same left written p q a a' old new commits page (inl r) = inl r
   runs_same left written p q a a' old new commits page (inr r) = inr (record {
     status = r.status;
@@ -46,10 +46,18 @@ module _ {D S K : Type 0} (content : D → Option (List ℕ)) (images : D → Li
       run = r.on.run;
       calm = r.on.calm;
       all = r.on.all;
+      loaded = r.on.loaded;
+      ended = r.on.ended;
+      later = r.on.later;
+      clocked = r.on.clocked;
+      now = r.on.now;
+      loading = r.on.loading;
+      moments = r.on.moments;
       left = r.on.left;
       begins = r.on.begins;
       ends = r.on.ends;
     };
     prefix = rw page r.prefix;
     all = λ e. rw page (r.all e);
+    taken = λ e. rw page (r.taken e);
   })

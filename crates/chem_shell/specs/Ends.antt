@@ -6,8 +6,8 @@ use Rattle.session_run.specs.Served.{TakesExactly, Writes}
 use Rattle.chem_shell.specs.declared.request.Plan.{Plan}
 use Rattle.chem_shell.specs.declared.top.End.{End}
 use Rattle.chem_shell.specs.declared.top.TheConstants.{DONE, SOURCE_FAULT, SINK_FAULT, NO_MEMORY, INPUT_TOO_LONG, INPUT_LIMIT}
-use Rattle.chem_shell.specs.Served.{WritesPrefix, WritesAll}
-use Rattle.chem_shell.specs.Status.{IsEndStatus, IsSinkStatus}
+use Rattle.chem_shell.specs.Served.{WritesAll, WritesPrefix, WritesTaken}
+use Rattle.chem_shell.specs.Status.{IsEndStatus, IsInputStatus, IsSinkStatus}
 use Rattle.chem_shell.specs.Summed.{IsSummary, IsSummaryPrefix, WritesNothing}
 
 -- the end, with this status
@@ -20,6 +20,8 @@ pub record ServesMem {S K : Type 0} (plan : Plan) (left : S → Option (List ℕ
   pub status : IsEndStatus new.status
   pub prefix : WritesPrefix plan.commits plan.page (left old.source) (written old.sink) (written new.sink)
   pub all : new.status ≡ DONE → WritesAll plan.commits plan.page (left old.source) (written old.sink) (written new.sink)
+  pub taken : IsInputStatus new.status → WritesTaken plan.commits plan.page (left old.source) (left new.source)
+      (written old.sink) (written new.sink)
   pub source_fault : new.status ≡ SOURCE_FAULT → Rose (source_faults old.source) (source_faults new.source)
   pub sink_fault : new.status ≡ SINK_FAULT → Rose (sink_faults old.sink) (sink_faults new.sink)
   pub input_too_long : new.status ≡ INPUT_TOO_LONG → TakesExactly (left old.source) (left new.source) INPUT_LIMIT

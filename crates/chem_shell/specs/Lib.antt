@@ -5,5 +5,6 @@ pub mod Summed
 pub mod Status
 pub mod Serving
 pub mod Ends
+pub mod Crashes
 pub mod OnDisk
 pub mod Loading

@@ -37,7 +37,7 @@ pub record ServesRun {D S K : Type 0} (content : D → Option (List ℕ)) (image
     (left : S → Option (List ℕ)) (source_faults : S → ℕ) (written : K → Option (List ℕ)) (sink_faults : K → ℕ)
     (a a' : D) (old new : End S K) : Type 0 where
   pub runs : IsRefused content images clock images_between faults bound a a' old new
-      ⊎ RunsOn content images faults left written plan a a' old new
+      ⊎ RunsOn content images clock images_between faults left written plan a a' old new
   pub source_fault : new.status ≡ SOURCE_FAULT → Rose (source_faults old.source) (source_faults new.source)
   pub sink_fault : new.status ≡ SINK_FAULT → Rose (sink_faults old.sink) (sink_faults new.sink)
   pub input_too_long : new.status ≡ INPUT_TOO_LONG → TakesExactly (left old.source) (left new.source) INPUT_LIMIT

@@ -14,6 +14,10 @@ IsEndStatus status =
 abbrev pub IsSinkStatus : ℕ → Type 0
 IsSinkStatus status = (status ≡ DONE) ⊎ ((status ≡ SINK_FAULT) ⊎ (status ≡ NO_MEMORY))
 
+-- the source failed, or its bytes are too many
+abbrev pub IsInputStatus : ℕ → Type 0
+IsInputStatus status = (status ≡ SOURCE_FAULT) ⊎ (status ≡ INPUT_TOO_LONG)
+
 -- a creation: done, a fault of the disk, want of memory, a disk that is not empty
 abbrev pub IsCreationStatus : ℕ → Type 0
 IsCreationStatus status =

@@ -3,6 +3,7 @@ ghost use Rattle.std.specs.Prelude.{◌≡◌, ◌≢◌, ◌⊎◌, ◌≤◌, 
 ghost use Rattle.disk_edge.specs.Disk as disk;
 ghost use Rattle.disk_edge.specs.Disk.{IfTold};
 ghost use Rattle.io_edge.specs.Faults.{Rose};
+ghost use Rattle.journal_core.specs.Looks.{Narrows};
 ghost use Rattle.session_run.specs.Served.{TakesExactly};
 ghost use Rattle.store_disk.specs.Loads.{IsOpened, OpensTo};
 ghost use Rattle.store_disk.specs.OnDisk.{StandsFor};
@@ -81,8 +82,10 @@ fn serve_loaded<R: Threads + Sync, D: Disk + Drop, S: Source + Drop, K: Sink + D
 ) -> Disks<D>
     requires { IsWithinLimits plan.now }
     ensures runs { (a : D) (s : State) → StandsFor D.content D.images D.faults store s
-        → IsOpened plan.now.commits s → IfTold (D.content a) (OpensTo s.history) → D.faults a ≤ s.faults.a
-        → RunsOn D.content D.images D.faults S.left K.written plan.now a result.a end.old end.new }
+        → IsOpened plan.now.commits s → IfTold (D.content a) (OpensTo s.history)
+        → Narrows D.content D.images D.clock D.images_between D.faults D.bound a store.journal.disk
+        → RunsOn D.content D.images D.clock D.images_between D.faults S.left K.written plan.now
+        a result.a end.old end.new }
     ensures status { IsEndStatus end.new.status }
     ensures source_fault { end.new.status ≡ SOURCE_FAULT
         → Rose (S.faults end.old.source) (S.faults end.new.source) }

@@ -1,8 +1,9 @@
-//! `mem`: a session over a store in memory.
+//! `mem`: a session over a store in memory, which keeps its journal on a disk in memory.
 ghost use Rattle.std.specs.Prelude.{◌≡◌, ◌≢◌, IfSome};
 ghost use Rattle.io_edge.specs.Faults.{Rose};
-ghost use Rattle.session_run.specs.Served.{TakesExactly, Writes};
+ghost use Rattle.session_run.specs.Served.{IsInputFault, TakesExactly, Writes};
 ghost use Rattle.chem_shell.specs.Ends.{ServesMem};
+ghost use Rattle.chem_shell.specs.Served.{WritesTaken};
 ghost use Rattle.chem_shell.specs.Serving.{IsServed};
 ghost use Rattle.chem_shell.specs.Words.{IsWithinLimits};
 
@@ -14,7 +15,7 @@ use par_search::NoMeter;
 use session_run::{EndStatus, Settings, services_are_true, session};
 use std::alloc::Global;
 use std::thread::Threads;
-use store_core::Store;
+use store_disk::Store;
 
 /// Serves an end.
 pub fn serve_mem<R: Threads + Sync, S: Source + Drop, K: Sink + Drop>(
@@ -30,7 +31,7 @@ pub fn serve_mem<R: Threads + Sync, S: Source + Drop, K: Sink + Drop>(
     end.status = end_status(ended);
 }
 
-/// A session over a store in memory, which is made here.
+/// A session over a store in memory, which is made here. Where memory runs out for it, nothing is taken or put.
 pub fn run_script<R: Threads + Sync, I: Source, O: Sink>(
     rt: &R,
     alloc: Global,
@@ -41,6 +42,8 @@ pub fn run_script<R: Threads + Sync, I: Source, O: Sink>(
     requires { IsWithinLimits plan.now }
     ensures serves { IfSome (I.left source.old) (λ script. Writes (O.written sink.old) (O.written sink.new)
         (IsServed result plan.now.commits plan.now.page script)) }
+    ensures taken { IsInputFault result → WritesTaken plan.now.commits plan.now.page
+        (I.left source.old) (I.left source.new) (O.written sink.old) (O.written sink.new) }
     ensures not_worn { result ≢ EndStatus.Worn }
     ensures source_fault { result ≡ EndStatus.SourceFault → Rose (I.faults source.old) (I.faults source.new) }
     ensures sink_fault { result ≡ EndStatus.SinkFault → Rose (O.faults sink.old) (O.faults sink.new) }
@@ -48,7 +51,9 @@ pub fn run_script<R: Threads + Sync, I: Source, O: Sink>(
         → TakesExactly (I.left source.old) (I.left source.new) INPUT_LIMIT }
 {
     services_are_true();
-    let mut store = Store::fresh(alloc, plan.commits);
+    let Ok(mut store) = Store::fresh(alloc, plan.commits) else {
+        return EndStatus::NoMemory;
+    };
     let settings = Settings {
         workers: plan.workers,
         page: plan.page,

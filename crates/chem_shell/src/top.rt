@@ -11,8 +11,8 @@ ghost use Rattle.store_disk.specs.Loads.{Damages};
 ghost use Rattle.chem_shell.specs.Ends.{with_status};
 ghost use Rattle.chem_shell.specs.Loading.{HasCauses, Serves};
 ghost use Rattle.chem_shell.specs.OnDisk.{IsEmptyStore, IsRefused, RunsOn, Stays};
-ghost use Rattle.chem_shell.specs.Served.{WritesPrefix, WritesAll};
-ghost use Rattle.chem_shell.specs.Status.{IsCreationStatus, IsEndStatus, IsSinkStatus, first_fault};
+ghost use Rattle.chem_shell.specs.Served.{WritesAll, WritesPrefix, WritesTaken};
+ghost use Rattle.chem_shell.specs.Status.{IsCreationStatus, IsEndStatus, IsInputStatus, IsSinkStatus, first_fault};
 ghost use Rattle.chem_shell.specs.Summed.{IsSummary, IsSummaryPrefix, WritesNothing};
 ghost use Rattle.chem_shell.specs.declared.request.Plan.{Plan as ThePlan};
 ghost use Rattle.chem_shell.specs.Words.{texts, Asks, AsksFor, IsWithinLimits, OnPlan};
@@ -126,7 +126,9 @@ pub fn chemdb<
     ensures place { result.status ≢ DAMAGED → result.place ≡ 0 }
 
     // `mem`: what was written is a prefix of a transcript of the source's bytes, by pages of the plan, in a run of a
-    // store in memory that begins empty and may have the plan's commits; all of one where the status is 0.
+    // store in memory that begins empty and may have the plan's commits; all of one where the status is 0. Where the
+    // source failed or its bytes are too many, exactly the requests that are whole in the bytes that were taken were
+    // answered.
     ensures mem_statuses { OnPlan (texts words.now) Verb.Mem (λ _.
         All (λ end. IsEndStatus end.status) result.ends.items) }
     ensures mem_disk { OnPlan (texts words.now) Verb.Mem (λ _. result.a ≡ a) }
@@ -136,6 +138,9 @@ pub fn chemdb<
     ensures mem_all { OnPlan (texts words.now) Verb.Mem (λ plan. AllZip (λ old new. new.status ≡ DONE
         → WritesAll plan.commits plan.page (S.left old.source) (K.written old.sink) (K.written new.sink))
         ends.items result.ends.items) }
+    ensures mem_taken { OnPlan (texts words.now) Verb.Mem (λ plan. AllZip (λ old new. IsInputStatus new.status
+        → WritesTaken plan.commits plan.page (S.left old.source) (S.left new.source)
+        (K.written old.sink) (K.written new.sink)) ends.items result.ends.items) }
 
     // `init`: where it is done, the disk was empty, and has the empty store. Where the disk has bytes or memory ran
     // out, the disk is as before.
@@ -151,10 +156,13 @@ pub fn chemdb<
 
     // `run`: where the store was not loaded, nothing was taken or put, and the disk was only read. Else what was
     // written is a prefix of a transcript of the source's bytes in a run that begins with the commits of the disk, all
-    // of one where the status is 0; and afterwards the disk has the run's history.
+    // of one where the status is 0, and of the requests that were taken whole where the input failed or is too long. A
+    // crash at any moment leaves each commit that was acknowledged before, in order, and at most one more; and
+    // afterwards the disk has the run's history.
     ensures run { OnPlan (texts words.now) Verb.Run (λ plan. AllZip (λ old new.
         IsRefused D.content D.images D.clock D.images_between D.faults D.bound a result.a old new
-        ⊎ RunsOn D.content D.images D.faults S.left K.written plan a result.a old new)
+        ⊎ RunsOn D.content D.images D.clock D.images_between D.faults S.left K.written
+        plan a result.a old new)
         ends.items result.ends.items) }
 
     // `bulk`: nothing is taken. What was written is the summary of a transcript of the generated script, in such a run

@@ -1,15 +1,23 @@
--- Failures that are set change nothing of what a store on disks in memory stands for.
-use Rattle.std.proofs.Common.{◌≡◌, Err, false, List, [], ◌∷◌, None, Ok, OnOk, Option, option_map, refl, Result, Some, subst, ℕ}
+-- Failures that are set change nothing of what a store on disks in memory stands for. Where none is set and nothing was
+-- committed, it stands for the state with which the machine begins.
+use Rattle.std.proofs.Common.{◌≡◌, ◌≤◌, ◌∙◌, ap, arith, Bool, Err, false, length, List, [], ◌∷◌, None, Ok, OnOk, Option, option_map, refl, Result, Some, subst, true, ℕ}
 use Rattle.std.proofs.lemmas.Bool.{true≢false}
 use Rattle.std.proofs.lemmas.List.{append-nil}
 use Rattle.std.specs.Result.{is_err}
+use Rattle.disk_edge.specs.Disk.{Bounded}
+use Rattle.disk_edge.specs.Failures.{bound_of}
 use Rattle.disk_edge.specs.Medium.{Images, Medium, replay}
+use Rattle.disk_edge.specs.MediumLaws.{within}
 use Rattle.disk_edge.specs.declared.failures.Failures.{Failures}
 use Rattle.journal_core.specs.RecordLaws.{one_list, text_opens}
 use Rattle.journal_core.specs.Records.{Opens, text}
 use Rattle.journal_core.specs.Standing.{Standing}
-use Rattle.store_disk.specs.Loads.{OpensTo}
+use Rattle.store_core.specs.Stored.{empty}
+use Rattle.store_disk.specs.Loads.{IsOpened, OpensTo}
 use Rattle.store_machine.specs.declared.machine.Change.{Change}
+use Rattle.store_machine.specs.declared.machine.Entry.{Entry}
+use Rattle.store_machine.specs.declared.machine.Faults.{Faults}
+use Rattle.store_machine.specs.declared.machine.Held.{Held}
 use Rattle.store_machine.specs.declared.machine.State.{State}
 use Rattle.store_disk.specs.InMemory.{StandsInMemory}
 use Rattle.store_disk.specs.OnDisk.{Has, StoreTerm}
@@ -78,3 +86,44 @@ none-yet h o =
 pub at-ok : {T E P : Type 0} (r : Result T E) → is_err r ≡ false → OnOk r P → P
 at-ok (Ok x) e p = p
 at-ok (Err x) e p = absurd (true≢false e)
+
+-- where no failure is set, none is set later
+pub none-set : (old new : Option ℕ) → old ≡ Some 0 → Bounded old new → new ≡ Some 0
+none-set old new is still =
+    let h = still 0 is in
+    let none : h.0 ≡ 0 = omega (arith, h.2) in h.1 ∙ ap Some none
+
+no-fault : (d : Medium) → bound_of d.failures ≡ Some 0 → d.failures.count ≡ 0
+no-fault d is = let few = within d 0 is in omega (arith, few)
+
+none-of : {A : Type 0} (xs : List A) → length xs ≤ 0 → xs ≡ []
+none-of [] few = refl
+none-of (x ∷ xs) few = absurd (omega (arith, few))
+
+first-state : (commits limit : ℕ) (h : List Change) (pins : List Held) (kept : List Entry) (doubt : Option Change)
+    (faults : Faults) (serves : Bool)
+    → h ≡ [] → limit ≡ commits → pins ≡ [] → kept ≡ [] → doubt ≡ None → faults ≡ record { a = 0; b = 0 }
+    → serves ≡ true
+    → record {
+      history = h;
+      limit = limit;
+      pins = pins;
+      kept = kept;
+      doubt = doubt;
+      faults = faults;
+      serves = serves;
+    } ≡ empty commits
+first-state commits limit h pins kept doubt faults serves e1 e2 e3 e4 e5 e6 e7 = rw (e1, e2, e3, e4, e5, e6, e7) refl
+
+-- a store that was just opened, without commits and failures, stands for the state with which the machine begins
+pub stands-empty : (store : StoreTerm Medium) (commits : ℕ) (s : State) → StandsInMemory store s → IsOpened commits s
+    → s.history ≡ [] → bound_of store.journal.disk.failures ≡ Some 0 → bound_of store.b.failures ≡ Some 0
+    → StandsInMemory store (empty commits)
+stands-empty store commits s stands opened none a b =
+    let none_kept : s.kept ≡ [] = none-of s.kept
+    (omega (arith, stands.memory.kept, stands.memory.few, stands.memory.version, ap (λ h. length h) none)) in
+    let zero : s.faults ≡ record { a = 0; b = 0 } = stands.counts
+    ∙ rw (no-fault store.journal.disk a, no-fault store.b b) refl in
+    let is : s ≡ empty commits = first-state commits s.limit s.history s.pins s.kept s.doubt s.faults s.serves none
+    opened.limit opened.pins none_kept opened.doubt zero stands.memory.serves in
+    subst (StandsInMemory store) is stands

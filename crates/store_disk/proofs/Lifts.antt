@@ -148,7 +148,7 @@ module _ {D : Type 0} (content : D → Option (List ℕ)) (images : D → List �
       ends = after;
       run = (refl, gives, refl);
       calm = (call, tt);
-      clocked = (refl, refl);
+      clocked = (refl, past.later, refl);
       moments = λ l is. ((omega arith, moments l is), tt);
       past = past;
       untold = untold;

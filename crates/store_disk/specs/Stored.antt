@@ -26,10 +26,10 @@ Shows x image = (h : List Change) × Opens (payloads h) image × MayShow x h
 abbrev pub times : {D : Type 0} → (D → ℕ) → StoreTerm D → Times
 times clock store = record { a = clock store.journal.disk; b = clock store.b }
 
--- the steps lie one after the other on the disks' clocks
+-- the steps lie one after the other on the disks' clocks, and that of disk `a` never falls
 abbrev pub AreClocked : Times → List Step → Times → Type 0
 AreClocked begin [] end = end ≡ begin
-AreClocked begin (x ∷ xs) end = (x.begin ≡ begin) × AreClocked x.end xs end
+AreClocked begin (x ∷ xs) end = (x.begin ≡ begin) × (x.begin.a ≤ x.end.a) × AreClocked x.end xs end
 
 -- each image of disk `a` that was possible at some moment of the step, which is over
 abbrev pub IsTimed : {D : Type 0} → (D → ℕ) → (D → ℕ → ℕ → List ℕ → Type 0) → D → Step → Type 0
@@ -59,7 +59,7 @@ calm-joins (x ∷ xs) ys a b = (a.0, calm-joins xs ys a.1 b)
 
 clocked-joins : (xs ys : List Step) (a b c : Times) → AreClocked a xs b → AreClocked b ys c → AreClocked a (xs ++ ys) c
 clocked-joins [] ys a b c e r = subst (λ k. AreClocked k ys c) e r
-clocked-joins (x ∷ xs) ys a b c r q = (r.0, clocked-joins xs ys x.end b c r.1 q)
+clocked-joins (x ∷ xs) ys a b c r q = (r.0, r.1, clocked-joins xs ys x.end b c r.2 q)
 
 -- what is told was told before
 pub told-before : (old new : Option (List ℕ)) → (old ≡ None → new ≡ None) → (l : List ℕ) → new ≡ Some l

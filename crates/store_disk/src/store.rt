@@ -3,10 +3,12 @@
 
 ghost use Rattle.std.specs.Prelude.{◌≡◌, ◌≤◌, [], false, IfErr, IfOk, IsErrOf, Some, ℕ};
 ghost use Rattle.disk_edge.specs.Disk.{IfTold, Rose};
+ghost use Rattle.disk_edge.specs.Failures.{bound_of};
 ghost use Rattle.journal_core.specs.Answers.{OnDamaged};
 ghost use Rattle.journal_core.specs.Journal.{Reads};
 ghost use Rattle.journal_core.specs.Looks.{Looks, Narrows};
 ghost use Rattle.journal_core.specs.Records.{IsNoJournal};
+ghost use Rattle.store_core.specs.Stored.{empty};
 ghost use Rattle.store_machine.specs.declared.machine.State.{State};
 ghost use Rattle.store_disk.specs.OnDisk.{IsReady, StandsFor};
 ghost use Rattle.store_disk.specs.Loads.{Damages, IsOpened, OpensTo, a_after, b_after};
@@ -121,8 +123,11 @@ impl Store<MemDisk> {
     pub fn fresh(alloc: Global, commits: u32) -> Result<Store<MemDisk>, AllocError>
         requires some { 1 ≤ commits }
         requires few { commits ≤ MOST_COMMITS }
-        ensures { IfOk result (λ store. (s : State) × StandsInMemory store s × IsOpened commits s
+        ensures opened { IfOk result (λ store. (s : State) × StandsInMemory store s × IsOpened commits s
             × (s.history ≡ [])) }
+        ensures empty { IfOk result (λ store. StandsInMemory store (empty commits)) }
+        ensures no_failures { IfOk result (λ store. (bound_of store.journal.disk.failures ≡ Some 0)
+            × (bound_of store.b.failures ≡ Some 0)) }
     {
         let (a, created) = Journal::create(MemDisk::new(alloc));
         let b = MemDisk::new(alloc);

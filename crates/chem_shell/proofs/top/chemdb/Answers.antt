@@ -4,7 +4,7 @@ use Rattle.chem_shell.specs.Ends.{with_status}
 use Rattle.chem_shell.specs.Loading.{Serves}
 use Rattle.chem_shell.specs.Status.{IsEndStatus, IsSinkStatus}
 use Rattle.chem_shell.proofs.Asked.{one_plan, plan_within}
-use Rattle.chem_shell.proofs.Ends.{zip_weaker, zip_right, zip_mapped, all_mapped, fault_of_all_alike, never_created_usage, source_fault_served, sink_fault_served, too_long_served, mem_served, bulk_served, run_served, of_one}
+use Rattle.chem_shell.proofs.Ends.{no_input_status, zip_weaker, zip_right, zip_mapped, all_mapped, fault_of_all_alike, never_created_usage, source_fault_served, sink_fault_served, too_long_served, mem_served, bulk_served, run_served, of_one}
 use Rattle.chem_shell.proofs.EndCounts.{init_bulk_verb, init_mem, init_run_verb, no_and_some, no_ends, none_mapped, none_of_length, one_end, one_end_of, zip_none}
 use Rattle.chem_shell.proofs.Untouched.{refused_unmoved, runs_same, stays_same}
 use Rattle.chem_shell.proofs.Summaries as summaries
@@ -37,6 +37,10 @@ returns-in-Err-Usage-clause-mem_prefix g c = λ plan asks verb.
 
 pub returns-in-Err-Usage-clause-mem_all : goal.returns-in-Err-Usage-clause-mem_all
 returns-in-Err-Usage-clause-mem_all g c = λ plan asks verb.
+    absurd (c.in-Err-Usage.ensures.usage (ap Err c.in-Err-Usage.field-0-is) (plan, asks))
+
+pub returns-in-Err-Usage-clause-mem_taken : goal.returns-in-Err-Usage-clause-mem_taken
+returns-in-Err-Usage-clause-mem_taken g c = λ plan asks verb.
     absurd (c.in-Err-Usage.ensures.usage (ap Err c.in-Err-Usage.field-0-is) (plan, asks))
 
 pub returns-in-Err-Usage-clause-init_statuses : goal.returns-in-Err-Usage-clause-init_statuses
@@ -111,6 +115,10 @@ returns-in-Err-NoMemory-clause-mem_prefix g c = λ plan asks verb.
 pub returns-in-Err-NoMemory-clause-mem_all : goal.returns-in-Err-NoMemory-clause-mem_all
 returns-in-Err-NoMemory-clause-mem_all g c = λ plan asks verb.
     zip_mapped _ (with_status 8) (λ e q. absurd (eqb-false 8 0 refl q)) _ _ c.unserved-in-Err-NoMemory.ensures.ends
+
+pub returns-in-Err-NoMemory-clause-mem_taken : goal.returns-in-Err-NoMemory-clause-mem_taken
+returns-in-Err-NoMemory-clause-mem_taken g c = λ plan asks verb.
+    zip_mapped _ (with_status 8) (λ e. no_input_status 8 refl) _ _ c.unserved-in-Err-NoMemory.ensures.ends
 
 pub returns-in-Err-NoMemory-clause-bulk_statuses : goal.returns-in-Err-NoMemory-clause-bulk_statuses
 returns-in-Err-NoMemory-clause-bulk_statuses g c = λ plan asks verb.
@@ -233,6 +241,11 @@ returns-then-makes_store-clause-mem_prefix g c = λ plan asks verb.
 
 pub returns-then-makes_store-clause-mem_all : goal.returns-then-makes_store-clause-mem_all
 returns-then-makes_store-clause-mem_all g c = λ plan asks verb.
+    absurd (init_mem (sym (c.makes_store.ensures.yes c.if-makes_store.true)
+    ∙ (sym (one_plan _ plan c.in-Ok.plan asks c.in-Ok.ensures.ok).command ∙ verb)))
+
+pub returns-then-makes_store-clause-mem_taken : goal.returns-then-makes_store-clause-mem_taken
+returns-then-makes_store-clause-mem_taken g c = λ plan asks verb.
     absurd (init_mem (sym (c.makes_store.ensures.yes c.if-makes_store.true)
     ∙ (sym (one_plan _ plan c.in-Ok.plan asks c.in-Ok.ensures.ok).command ∙ verb)))
 
@@ -441,6 +454,20 @@ returns-clause-mem_all g c = λ plan asks verb.
     ((mem_served g.D.Disk.content g.D.Disk.images g.D.Disk.clock g.D.Disk.images_between g.D.Disk.faults g.D.Disk.bound
     g.S.Source.left g.S.Source.faults g.K.Sink.written g.K.Sink.faults c.args.a c.serve_one.result.a
     c.in-Ok.plan.command c.in-Ok.plan old new is s).1.all done))
+    c.args.ends.items c.serve_one.result.ends.items c.serve_one.ensures.served
+
+pub returns-clause-mem_taken : goal.returns-clause-mem_taken
+returns-clause-mem_taken g c = λ plan asks verb.
+    let same = one_plan _ plan c.in-Ok.plan asks c.in-Ok.ensures.ok in
+    let is = sym same.command ∙ verb in
+    zip_weaker
+    (Serves c.in-Ok.plan.command g.D.Disk.content g.D.Disk.images g.D.Disk.clock g.D.Disk.images_between g.D.Disk.faults
+    g.D.Disk.bound
+    c.in-Ok.plan g.S.Source.left g.S.Source.faults g.K.Sink.written g.K.Sink.faults c.args.a c.serve_one.result.a)
+    _ (λ old new s fault. transcripts.taken_same plan c.in-Ok.plan _ _ _ _ same
+    ((mem_served g.D.Disk.content g.D.Disk.images g.D.Disk.clock g.D.Disk.images_between g.D.Disk.faults g.D.Disk.bound
+    g.S.Source.left g.S.Source.faults g.K.Sink.written g.K.Sink.faults c.args.a c.serve_one.result.a
+    c.in-Ok.plan.command c.in-Ok.plan old new is s).1.taken fault))
     c.args.ends.items c.serve_one.result.ends.items c.serve_one.ensures.served
 
 pub returns-clause-bulk_statuses : goal.returns-clause-bulk_statuses

@@ -1,6 +1,6 @@
-use Rattle.std.proofs.Common.{rules, ◌≡◌, ◌∙◌, ℕ, Option, None, option_map, codes, sym, subst, refl}
+use Rattle.std.proofs.Common.{rules, ◌≡◌, ◌∙◌, None, codes, sym, subst, refl}
 use Rattle.clap.proofs.WalkLemmas.{first_value-rows, raw_values-rows}
-use Rattle.clap.specs.Words.{Text, found_of}
+use Rattle.clap.specs.Words.{found_of}
 use Rattle.chem_shell.specs.Words.{IsNumber}
 use Rattle.chem_shell.specs.declared.words.TheConstants.{LAST_SEED, MOST_STRUCTURES}
 use Rattle.chem_shell.proofs.Asked.{firsts_same, image_of_none, none_of_image, on_err}

@@ -1,4 +1,4 @@
-use Rattle.std.proofs.Common.{rules, ◌≡◌, ◌∙◌, List, None, Option, codes, sym, subst, refl}
+use Rattle.std.proofs.Common.{rules, ◌∙◌, List, Option, codes, sym, subst, refl}
 use Rattle.clap.proofs.WalkLemmas.{first_value-rows, raw_values-rows}
 use Rattle.clap.specs.Words.{Text, found_of}
 use Rattle.chem_shell.specs.Words.{IsFile}

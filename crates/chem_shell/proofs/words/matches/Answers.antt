@@ -1,7 +1,4 @@
-use Rattle.std.proofs.Common.{◌≡◌, rules, inl, inr, refl, ap, sym, true, ◌∙◌}
-use Rattle.clap.specs.Faults.{is_simple_and_free}
-use Rattle.clap.specs.Words.{app_of}
-use Rattle.chem_shell.specs.Words.{chemdb_app}
+use Rattle.std.proofs.Common.{rules, inl, inr}
 use Rattle.chem_shell.proofs.words.matches.Goals as goal
 
 pub returns-in-Err-clause-err : goal.returns-in-Err-clause-err

@@ -1,4 +1,4 @@
-use Rattle.std.proofs.Common.{rules, ◌≡◌, ◌∙◌, ℕ, Option, option_map, codes, sym, subst, refl}
+use Rattle.std.proofs.Common.{rules, ◌∙◌, ℕ, Option, option_map, codes, sym, subst, refl}
 use Rattle.clap.proofs.WalkLemmas.{first_value-rows, raw_values-rows}
 use Rattle.clap.specs.Words.{Text, found_of}
 use Rattle.store_core.specs.declared.store.TheConstants.{MOST_COMMITS}

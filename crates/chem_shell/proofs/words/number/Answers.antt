@@ -1,4 +1,4 @@
-use Rattle.std.proofs.Common.{rules, arith, ◌∙◌, sym}
+use Rattle.std.proofs.Common.{arith, ◌∙◌, sym}
 use Rattle.chem_shell.proofs.Asked.{below_is_none}
 use Rattle.chem_shell.proofs.words.number.Goals.{in_default-via-in-Some+else-number-from, in_default-via-in_default}
 use Rattle.chem_shell.proofs.words.number.Goals as goal

@@ -1,4 +1,4 @@
-use Rattle.std.proofs.Common.{◌≡◌, ◌∙◌, ℕ, Option, option_map, codes, sym, subst}
+use Rattle.std.proofs.Common.{◌∙◌, ℕ, Option, option_map, codes, sym, subst}
 use Rattle.clap.proofs.WalkLemmas.{first_value-rows}
 use Rattle.clap.specs.Words.{Text, found_of}
 use Rattle.chem_shell.specs.Words.{IsSetting}

@@ -1,0 +1,155 @@
+-- A run over disks in memory on which no failure is set: no call of it is answered that a disk failed.
+use Rattle.std.proofs.Common.{◌≡◌, ◌&&◌, ap, arith, Bool, cond, inl, inr, List, [], ◌∷◌, length, None, Option, Some, subst, sym, true, ℕ}
+use Rattle.std.specs.List.{AllByRecursion}
+use Rattle.disk_edge.specs.Failures.{bound_of}
+use Rattle.disk_edge.specs.Medium.{Between, Images, Medium, replay}
+use Rattle.disk_edge.specs.MediumLaws.{within}
+use Rattle.session_run.specs.Cursors.{Calls}
+use Rattle.store_core.specs.Calls as core
+use Rattle.store_core.specs.Calls.{NotAbove, NotRaised}
+use Rattle.store_core.specs.Stored.{empty}
+use Rattle.store_disk.specs.OnDisk.{StoreTerm}
+use Rattle.store_disk.specs.Stored.{Stretches}
+use Rattle.store_machine.specs.Machine.{CommitGives, FetchGives, Gives, LookGives, NoneFell, PinGives, PruneGives, Rose, SomeRose, StatsGives, UnpinGives}
+use Rattle.store_machine.specs.Runs.{IsCalm, IsRun, calls_of, is_call}
+use Rattle.store_machine.specs.declared.machine.Change.{Change}
+use Rattle.store_machine.specs.declared.machine.Event.{Event}
+use Rattle.store_machine.specs.declared.machine.Event.TheVariants.{Commit, Crash, Fetch, Look, Open, Pin, Prune, Stats, Unpin}
+use Rattle.store_machine.specs.declared.machine.Faults.{Faults}
+use Rattle.store_machine.specs.declared.machine.Reply.{Reply}
+use Rattle.store_machine.specs.declared.machine.Reply.TheVariants.{DiskFault}
+use Rattle.store_machine.specs.declared.machine.State.{State}
+use Rattle.store_machine.specs.declared.machine.Step.{Step}
+use Rattle.chem_shell.specs.Runs.{AreOfRun, IsSure}
+
+-- a call lets no count of faults fall
+fell_of : (s : State) (owner : ℕ) (e : Event) (r : Reply) (s' : State) → is_call e ≡ true → Gives s owner e r s'
+    → NoneFell s.faults s'.faults
+fell_of s owner (Commit c) r s' call g = g.0.1
+fell_of s owner Pin r s' call g = g.0.1
+fell_of s owner (Fetch slot want from limit) r s' call g = g.0.1
+fell_of s owner (Unpin slot) r s' call g = g.0.1
+fell_of s owner Prune r s' call g = g.0.1
+fell_of s owner (Look id) r s' call g = g.0.1
+fell_of s owner Stats r s' call g = g.0.1
+fell_of s owner Crash r s' call g = cc call
+fell_of s owner Open r s' call g = cc call
+
+not_risen : (old new : ℕ) → Rose old new → new ≡ 0 → ⊥
+not_risen old new (inl less) none = omega (arith, less, none)
+not_risen old new (inr most) none = omega (arith, most, none)
+
+none_risen : (old new : Faults) → SomeRose old new → new.a ≡ 0 → new.b ≡ 0 → ⊥
+none_risen old new (inl rose) a b = not_risen old.a new.a rose a
+none_risen old new (inr rose) a b = not_risen old.b new.b rose b
+
+sure_commit : (s : State) (c : Change) (r : Reply) (s' : State) → CommitGives s c r s' → s'.faults.a ≡ 0
+    → s'.faults.b ≡ 0 → IsSure r
+sure_commit s c (DiskFault doubt) s' g a b = absurd (none_risen s.faults s'.faults g.1 a b)
+sure_commit s c _ s' g a b = tt
+
+sure_pin : (s : State) (owner : ℕ) (r : Reply) (s' : State) → PinGives s owner r s' → IsSure r
+sure_pin s owner (DiskFault doubt) s' g = absurd g
+sure_pin s owner _ s' g = tt
+
+sure_fetch : (s : State) (owner slot : ℕ) (want : List Bool) (from limit : ℕ) (r : Reply) (s' : State)
+    → FetchGives s owner slot want from limit r s' → IsSure r
+sure_fetch s owner slot want from limit (DiskFault doubt) s' g = absurd g
+sure_fetch s owner slot want from limit _ s' g = tt
+
+sure_unpin : (s : State) (owner slot : ℕ) (r : Reply) (s' : State) → UnpinGives s owner slot r s' → IsSure r
+sure_unpin s owner slot (DiskFault doubt) s' g = absurd g
+sure_unpin s owner slot _ s' g = tt
+
+sure_prune : (s : State) (r : Reply) (s' : State) → PruneGives s r s' → IsSure r
+sure_prune s (DiskFault doubt) s' g = absurd g
+sure_prune s _ s' g = tt
+
+sure_look : (s : State) (id : ℕ) (r : Reply) (s' : State) → LookGives s id r s' → IsSure r
+sure_look s id (DiskFault doubt) s' g = absurd g
+sure_look s id _ s' g = tt
+
+sure_stats : (s : State) (r : Reply) (s' : State) → StatsGives s r s' → IsSure r
+sure_stats s (DiskFault doubt) s' g = absurd g
+sure_stats s _ s' g = tt
+
+-- where none was counted afterwards, no disk failed
+sure : (s : State) (owner : ℕ) (e : Event) (r : Reply) (s' : State) → is_call e ≡ true → Gives s owner e r s'
+    → s'.faults.a ≡ 0 → s'.faults.b ≡ 0 → IsSure r
+sure s owner (Commit c) r s' call g a b = sure_commit s c r s' g.1 a b
+sure s owner Pin r s' call g a b = sure_pin s owner r s' g.1
+sure s owner (Fetch slot want from limit) r s' call g a b = sure_fetch s owner slot want from limit r s' g.1
+sure s owner (Unpin slot) r s' call g a b = sure_unpin s owner slot r s' g.1
+sure s owner Prune r s' call g a b = sure_prune s r s' g.1
+sure s owner (Look id) r s' call g a b = sure_look s id r s' g.1
+sure s owner Stats r s' call g a b = sure_stats s r s' g.1
+sure s owner Crash r s' call g a b = cc call
+sure s owner Open r s' call g a b = cc call
+
+-- a run at whose end none is counted
+record Unfailing (s : State) (steps : List Step) : Type 0 where
+  a : s.faults.a ≡ 0
+  b : s.faults.b ≡ 0
+  calls : AllByRecursion (λ call. IsSure call.1) (calls_of (λ _. true) steps)
+
+unfailing : (steps : List Step) (s t : State) → IsRun s steps t → IsCalm steps → t.faults.a ≡ 0 → t.faults.b ≡ 0
+    → Unfailing s steps
+unfailing [] s t run calm a b = record {
+  a = subst (λ (z : State). z.faults.a ≡ 0) run a;
+  b = subst (λ (z : State). z.faults.b ≡ 0) run b;
+  calls = tt;
+}
+unfailing (x ∷ xs) s t run calm a b =
+    let rest = unfailing xs x.after t run.2 calm.1 a b in
+    let fell = fell_of x.before x.owner x.event x.reply x.after calm.0 run.1 in
+    let before_a : x.before.faults.a ≡ 0 = omega (arith, fell.0, rest.a) in
+    let before_b : x.before.faults.b ≡ 0 = omega (arith, fell.1, rest.b) in
+    let own : (x.event, x.reply) ∷ calls_of (λ _. true) xs ≡ calls_of (λ _. true) (x ∷ xs) =
+    ap (λ k. cond (k && true) ((x.event, x.reply) ∷ calls_of (λ _. true) xs) (calls_of (λ _. true) xs))
+    (sym calm.0) in
+    record {
+      a = subst (λ (z : State). z.faults.a ≡ 0) run.0 before_a;
+      b = subst (λ (z : State). z.faults.b ≡ 0) run.0 before_b;
+      calls = subst (AllByRecursion (λ call. IsSure call.1)) own
+          (sure x.before x.owner x.event x.reply x.after calm.0 run.1 rest.a rest.b, rest.calls);
+    }
+
+not_above_none : (old new : Option ℕ) → old ≡ Some 0 → NotAbove old new → new ≡ Some 0
+not_above_none None new is h = cc is
+not_above_none (Some n) None is h = absurd h
+not_above_none (Some n) (Some m) is h =
+    let zero : n ≡ 0 = cc is in
+    ap Some (omega (arith, zero, h))
+
+-- the stretches of a store on disks in memory
+abbrev pub InMemory : StoreTerm Medium → StoreTerm Medium → State → List Step → State → Type 0
+InMemory = Stretches (λ d. Some (replay d.first d.calls)) (λ d. Images d.first d.calls) (λ d. length d.calls)
+    (λ d. Between d.first d.calls) (λ d. d.failures.count)
+
+-- the bounds that the two disks tell
+abbrev pub bounds : StoreTerm Medium → Option ℕ × Option ℕ
+bounds store = (bound_of store.journal.disk.failures, bound_of store.b.failures)
+
+-- the calls of a session over a store that begins empty, without failures set
+pub of_calls : (commits : ℕ) (old new : StoreTerm Medium) (calls : Calls)
+    → bound_of old.journal.disk.failures ≡ Some 0 → bound_of old.b.failures ≡ Some 0
+    → NotRaised (bounds old) (bounds new) → core.Calls InMemory (λ _. true) old new (empty commits) calls
+    → AreOfRun commits calls
+of_calls commits old new calls none_a none_b kept made =
+    let bound_a = not_above_none (bounds old).0 (bounds new).0 none_a kept.0 in
+    let bound_b = not_above_none (bounds old).1 (bounds new).1 none_b kept.1 in
+    let few_a = within new.journal.disk 0 bound_a in
+    let few_b = within new.b 0 bound_b in
+    let a : made.after.faults.a ≡ 0 =
+    (let is = ap (λ (f : Faults). f.a) made.stands.ends.counts in omega (arith, few_a, is)) in
+    let b : made.after.faults.b ≡ 0 =
+    (let is = ap (λ (f : Faults). f.b) made.stands.ends.counts in omega (arith, few_b, is)) in
+    let none = unfailing made.steps (empty commits) made.after made.stands.run made.stands.calm a b in
+    record {
+      steps = made.steps;
+      last = made.after;
+      run = made.stands.run;
+      calm = made.stands.calm;
+      all = made.own;
+      sure = subst (AllByRecursion (λ call. IsSure call.1)) made.own none.calls;
+    }
