@@ -10,3 +10,4 @@ mod Spreads
 mod Tallies
 mod Unlinks
 mod Valences
+mod PlainCarbons

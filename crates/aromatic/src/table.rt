@@ -1,5 +1,5 @@
 //! The table of what an atom gives to an aromatic ring, this project's own profile. At most one row fits an atom.
-ghost use Rattle.std.specs.Prelude.{◌≡◌, ◌<◌, ℕ, length, slice_index_or, true};
+ghost use Rattle.std.specs.Prelude.{◌≡◌, ◌<◌, ℕ, length, pos, slice_index_or, true};
 ghost use Rattle.std.specs.List.{find};
 ghost use Rattle.aromatic.specs.declared.environment.Environment.{Environment};
 ghost use Rattle.aromatic.specs.declared.table.Row.{Row};
@@ -82,7 +82,30 @@ pub fn one_row()
 pub fn row_of(environment: &Environment) -> Option<Row>
     ensures { result ≡ row_of environment.now }
 {
+    if environment.number == 6
+        && environment.charge == 0
+        && environment.ring_doubles == 0
+        && environment.outer_doubles == 0
+    {
+        return plain_carbon_row(environment);
+    }
     first_fit(table(), environment)
+}
+
+// The row of a carbon atom without charge and double bonds, as most are: one row alone may fit.
+fn plain_carbon_row(environment: &Environment) -> Option<Row>
+    requires number { environment.now.number ≡ 6 }
+    requires charge { environment.now.charge ≡ pos 0 }
+    requires inner { environment.now.ring_doubles ≡ 0 }
+    requires outer { environment.now.outer_doubles ≡ 0 }
+    ensures { result ≡ row_of environment.now }
+{
+    let row = table()[PLAIN_CARBON];
+    if row.fits(environment) {
+        Some(row)
+    } else {
+        None
+    }
 }
 
 fn has_number(family: Family, number: u8) -> bool
@@ -148,6 +171,9 @@ fn table() -> &'static [Row]
 {
     &ROWS
 }
+
+// The place of the row of carbon without charge and double bonds.
+const PLAIN_CARBON: usize = 8;
 
 const ROWS: [Row; 20] = [
     Row {

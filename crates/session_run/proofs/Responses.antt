@@ -19,10 +19,10 @@ use Rattle.store_machine.specs.declared.machine.Reply.TheVariants as replies
 use Rattle.session_run.specs.Answer.{Answers, Asks, FindsNoMemory, IsLookLine, Lines, MolfileAnswer, RequestAnswer, SearchAnswer, TextAnswer}
 use Rattle.session_run.specs.Changes.{change_by}
 use Rattle.session_run.specs.Cursors.{Calls, Cursor}
-use Rattle.session_run.specs.Made.{Answered, Did, OneLine, WornIn}
+use Rattle.session_run.specs.Made.{Answered, OneLine}
 use Rattle.session_run.specs.Requests.{Request, IsLong, molfile_text}
 use Rattle.session_run.specs.Responds.{LineIsAnswered, MolfileIsAnswered, SaidShort, text_command}
-use Rattle.session_run.specs.Turn.{IsMolfile, IsNext}
+use Rattle.session_run.specs.Turn.{IsMolfile}
 use Rattle.session_run.specs.declared.change.Verb.{Verb}
 use Rattle.session_run.specs.declared.change.Verb.TheVariants as verbs
 use Rattle.session_run.specs.declared.request.Molfile.{Molfile}

@@ -1,4 +1,4 @@
-use Rattle.std.proofs.Common.{◌≡◌, ap, arith, Err, refl, Some}
+use Rattle.std.proofs.Common.{◌≡◌, ap, Err, refl}
 use Rattle.std.proofs.KnownBytes.{Appends-nil}
 use Rattle.session_run.specs.Made.{Makes}
 use Rattle.session_run.specs.Opened.{opened}

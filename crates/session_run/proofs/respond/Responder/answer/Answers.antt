@@ -1,4 +1,4 @@
-use Rattle.std.proofs.Common.{[], inl, Ok, refl}
+use Rattle.std.proofs.Common.{[], inl, refl}
 use Rattle.shell_lang.specs.Reply as line
 use Rattle.shell_lang.specs.declared.reply.Refusal.TheVariants as refusals
 use Rattle.session_run.specs.Answer.{RequestAnswer}

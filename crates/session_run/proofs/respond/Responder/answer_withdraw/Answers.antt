@@ -1,4 +1,4 @@
-use Rattle.std.proofs.Common.{◌⊎◌, [], ◌∷◌, inl, inr, Ok, refl}
+use Rattle.std.proofs.Common.{◌⊎◌, [], ◌∷◌, inl, Ok, refl}
 use Rattle.shell_lang.specs.Command as asked
 use Rattle.store_machine.specs.declared.machine.Change.TheVariants as changes
 use Rattle.shell_lang.specs.Reply as line
