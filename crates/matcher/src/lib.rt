@@ -29,6 +29,3 @@ mod wanted;
 
 pub use answer::{Embedding, first, has};
 pub use scratch::Scratch;
-
-#[cfg(test)]
-mod tests;

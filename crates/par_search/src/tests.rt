@@ -1,8 +1,9 @@
-//! A search over a store.
+//! A search over a store, and least embeddings.
 ghost use Rattle.store_machine.specs.History.{IsId};
 ghost use Rattle.store_core.specs.Stored.{HoldsPin};
 
 use crate::{NoMeter, Search};
+use matcher::{Scratch, first};
 use mol_finish::Format;
 use smarts_parse::parse;
 use std::alloc::Global;
@@ -58,5 +59,37 @@ fn three_records_come_by_pages_of_two(rt: HostRuntime) -> Result<(), Fail> {
     assert!(rt; is_next(&rt, &mut store, &mut search, &[3], 1, true));
     assert!(rt; is_next(&rt, &mut store, &mut search, &[], 0, true));
     assert!(rt; search.close(&mut store).is_ok());
+    Ok(())
+}
+
+// The least embedding of each pattern in ethanol, whose oxygen is written first.
+#[test]
+fn least_embeddings_in_ethanol(rt: HostRuntime) -> Result<(), Fail> {
+    let alloc = rt.alloc();
+    let Ok(ethanol) = Record::make(alloc, 1, Format::Smiles, b"OCC") else {
+        assert!(rt; false);
+        return Ok(());
+    };
+    let mut scratch = Scratch::reserve(alloc)?;
+    let rows: [(&str, Option<&[u16]>); 6] = [
+        ("CC", Some(&[1, 2])),
+        ("OC", Some(&[0, 1])),
+        ("CO", Some(&[1, 0])),
+        ("OO", None),
+        ("*.*", Some(&[0, 1])),
+        ("[C;$(*O)]", Some(&[1])),
+    ];
+    for (smarts, want) in rows {
+        let Ok(pattern) = parse(alloc, smarts.as_bytes()) else {
+            assert!(rt; false, "{smarts}");
+            return Ok(());
+        };
+        let found = first(&pattern, ethanol.mol(), &mut scratch);
+        match (found, want) {
+            (Some(found), Some(want)) => assert_eq!(rt; found.atoms, want, "{smarts}"),
+            (None, None) => {}
+            _ => panic!(rt; "{smarts}"),
+        }
+    }
     Ok(())
 }
