@@ -14,6 +14,19 @@ use Rattle.matcher.proofs.PartsHeld.{IsRow, noted_more, row_more, row_skip}
 use Rattle.matcher.proofs.Places.{get_map}
 use Rattle.matcher.proofs.parts.note_part.Goals as goal
 
+pub clear-requires-clause-places : goal.clear-requires-clause-places
+clear-requires-clause-places c =
+    let ready = c.part-steps.ensures (graph_of c.index-graph.result.now)
+    (get_map graph_of c.args.pattern.now.recs.items c.args.part c.index-graph.result.now c.requires.part
+    c.index-graph.ensures) in
+    omega (
+      arith,
+      ready.searchable.few,
+      length-map c.index-graph.result.now.atoms.items term_of,
+      c.index-graph.result.now.atoms.ok.0,
+      c.len.ensures,
+    )
+
 pub begins_at-holds-requires-clause-ready : goal.begins_at-holds-requires-clause-ready
 begins_at-holds-requires-clause-ready c = c.part-steps.ensures (graph_of c.index-graph.result.now)
     (get_map graph_of c.args.pattern.now.recs.items c.args.part c.index-graph.result.now c.requires.part
