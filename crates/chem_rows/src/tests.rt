@@ -115,28 +115,26 @@ fn put_by<D: Drop>(answer: &Outcome<D, MemSource, MemSink>) -> &[u8] {
     }
 }
 
-// The lines, each with an LF. An empty text has none.
-fn push_lines(text: &mut String, lines: &str) -> Result<(), AllocError> {
-    if lines.is_empty() {
-        return Ok(());
-    }
-    text.push_str(lines)?;
-    text.push_str("\n")
-}
-
-// Each line of a script, or each line with its molfile, has these reply lines, and the status is 0.
+// A script over words has its replies, and the status is 0. Behind `> ` stands a line of the script, behind `< ` a line
+// of the replies, and behind `# ` what a reader is told.
 fn check<R: Abort + Threads + Wait + Sync>(
     rt: &R,
     alloc: Global,
     words: &[&str],
-    turns: &[(&str, &str)],
+    rows: &str,
 ) -> Result<(), Fail> {
     let mut script = String::new(alloc);
     let mut replies = String::new(alloc);
-    for (line, reply) in turns {
-        script.push_str(line)?;
-        script.push_str("\n")?;
-        push_lines(&mut replies, reply)?;
+    for row in rows.lines() {
+        if let Some(line) = row.strip_prefix("> ") {
+            script.push_str(line)?;
+            script.push_str("\n")?;
+        } else if let Some(reply) = row.strip_prefix("< ") {
+            replies.push_str(reply)?;
+            replies.push_str("\n")?;
+        } else {
+            assert!(rt; row.starts_with("# "), "at {row:?}");
+        }
     }
     let answer = call(rt, alloc, words, script.as_bytes(), PLAIN)?;
     assert_eq!(rt; answer.status, 0, "at {script:?}");

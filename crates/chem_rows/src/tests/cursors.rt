@@ -14,58 +14,96 @@ fn states_of_an_identifier(rt: HostRuntime) -> Result<(), Fail> {
         &rt,
         alloc,
         MEM,
-        &[
-            ("register 1 CC", "ok 1"),
-            ("withdraw 1", "ok 2"),
-            ("register 1 C", "refused known"),
-            ("revise 1 C", "refused withdrawn"),
-            ("withdraw 1", "refused withdrawn"),
-            ("withdraw 99", "refused absent"),
-            ("revise 99 C", "refused absent"),
-            ("show 1", "withdrawn 1 version 2"),
-            ("show 99", "refused absent"),
-            ("stats", "stats version 2 live 0 withdrawn 1 kept 2 pins 0"),
-            ("prune", "pruned 1"),
-            ("search C", "end at 2 tried 0 hits 0"),
-            ("revise 1 C(", "refused smiles syntax"),
-        ],
+        "\
+        > register 1 CC\n\
+        < ok 1\n\
+        > withdraw 1\n\
+        < ok 2\n\
+        > register 1 C\n\
+        < refused known\n\
+        > revise 1 C\n\
+        < refused withdrawn\n\
+        > withdraw 1\n\
+        < refused withdrawn\n\
+        > withdraw 99\n\
+        < refused absent\n\
+        > revise 99 C\n\
+        < refused absent\n\
+        > show 1\n\
+        < withdrawn 1 version 2\n\
+        > show 99\n\
+        < refused absent\n\
+        > stats\n\
+        < stats version 2 live 0 withdrawn 1 kept 2 pins 0\n\
+        > prune\n\
+        < pruned 1\n\
+        > search C\n\
+        < end at 2 tried 0 hits 0\n\
+        > revise 1 C(\n\
+        < refused smiles syntax\n\
+        ",
     )?;
     check(
         &rt,
         alloc,
         MEM,
-        &[
-            (
-                "register-mol 7\n\n\n\n  1  0  0     0  0              1 V2000\n    0.0000    0.0000    0.0000 C   0  0\nM  END",
-                "ok 1",
-            ),
-            (
-                "show 7",
-                "record 7 version 1 molfile 6\n\n\n\n  1  0  0     0  0              1 V2000\n    0.0000    0.0000    0.0000 C   0  0\nM  END",
-            ),
-            ("search [CH4]", "hit 7\nend at 1 tried 1 hits 1"),
-            ("revise 7 CO", "ok 2"),
-            ("show 7", "record 7 version 2 smiles CO"),
-            (
-                "revise-mol 7\n\n\n\n  1  0  0     0  0              1 V2000\n    0.0000    0.0000    0.0000 N   0  0\nM  END",
-                "ok 3",
-            ),
-            ("search N", "hit 7\nend at 3 tried 1 hits 1"),
-            ("search O", "end at 3 tried 0 hits 0"),
-        ],
+        "\
+        > register-mol 7\n\
+        > \n\
+        > \n\
+        > \n\
+        >   1  0  0     0  0              1 V2000\n\
+        >     0.0000    0.0000    0.0000 C   0  0\n\
+        > M  END\n\
+        < ok 1\n\
+        > show 7\n\
+        < record 7 version 1 molfile 6\n\
+        < \n\
+        < \n\
+        < \n\
+        <   1  0  0     0  0              1 V2000\n\
+        <     0.0000    0.0000    0.0000 C   0  0\n\
+        < M  END\n\
+        > search [CH4]\n\
+        < hit 7\n\
+        < end at 1 tried 1 hits 1\n\
+        > revise 7 CO\n\
+        < ok 2\n\
+        > show 7\n\
+        < record 7 version 2 smiles CO\n\
+        > revise-mol 7\n\
+        > \n\
+        > \n\
+        > \n\
+        >   1  0  0     0  0              1 V2000\n\
+        >     0.0000    0.0000    0.0000 N   0  0\n\
+        > M  END\n\
+        < ok 3\n\
+        > search N\n\
+        < hit 7\n\
+        < end at 3 tried 1 hits 1\n\
+        > search O\n\
+        < end at 3 tried 0 hits 0\n\
+        ",
     )?;
     check(
         &rt,
         alloc,
         &["mem", "--commits", "1"],
-        &[
-            ("register 1 C", "ok 1"),
-            ("register 1 C", "refused known"),
-            ("register 2 C", "refused full"),
-            ("revise 1 N", "refused full"),
-            ("withdraw 2", "refused absent"),
-            ("withdraw 1", "refused full"),
-        ],
+        "\
+        > register 1 C\n\
+        < ok 1\n\
+        > register 1 C\n\
+        < refused known\n\
+        > register 2 C\n\
+        < refused full\n\
+        > revise 1 N\n\
+        < refused full\n\
+        > withdraw 2\n\
+        < refused absent\n\
+        > withdraw 1\n\
+        < refused full\n\
+        ",
     )
 }
 
@@ -76,43 +114,75 @@ fn a_cursor_holds_its_version(rt: HostRuntime) -> Result<(), Fail> {
         &rt,
         alloc,
         MEM,
-        &[
-            ("register 1 CO", "ok 1"),
-            ("open s CO", "opened 1"),
-            ("revise 1 CCC", "ok 2"),
-            ("prune", "pruned 0"),
-            ("next s", "hit 1\nend at 1 tried 1 hits 1"),
-            ("next s", "end at 1 tried 1 hits 1"),
-            ("close s", "closed"),
-            ("close s", "refused cursor"),
-            ("next s", "refused cursor"),
-            ("prune", "pruned 1"),
-            ("stats", "stats version 2 live 1 withdrawn 0 kept 1 pins 0"),
-        ],
+        "\
+        > register 1 CO\n\
+        < ok 1\n\
+        > open s CO\n\
+        < opened 1\n\
+        > revise 1 CCC\n\
+        < ok 2\n\
+        > prune\n\
+        < pruned 0\n\
+        > next s\n\
+        < hit 1\n\
+        < end at 1 tried 1 hits 1\n\
+        > next s\n\
+        < end at 1 tried 1 hits 1\n\
+        > close s\n\
+        < closed\n\
+        > close s\n\
+        < refused cursor\n\
+        > next s\n\
+        < refused cursor\n\
+        > prune\n\
+        < pruned 1\n\
+        > stats\n\
+        < stats version 2 live 1 withdrawn 0 kept 1 pins 0\n\
+        ",
     )?;
     // what is withdrawn and what is new does not come into an open cursor, page by page
     check(
         &rt,
         alloc,
         &["mem", "--page=1", "--workers=3"],
-        &[
-            ("register 3 CO", "ok 1"),
-            ("register 1 OC", "ok 2"),
-            ("open a O", "opened 2"),
-            ("open b N", "opened 2"),
-            ("open a C", "refused cursor"),
-            ("withdraw 3", "ok 3"),
-            ("register 2 CO", "ok 4"),
-            ("next a", "hit 1\nmore"),
-            ("prune", "pruned 0"),
-            ("next b", "end at 2 tried 0 hits 0"),
-            ("stats", "stats version 4 live 2 withdrawn 1 kept 4 pins 2"),
-            ("search O", "hit 1\nhit 2\nend at 4 tried 2 hits 2"),
-            ("next a", "hit 3\nend at 2 tried 2 hits 2"),
-            ("close a", "closed"),
-            ("close b", "closed"),
-            ("prune", "pruned 1"),
-        ],
+        "\
+        > register 3 CO\n\
+        < ok 1\n\
+        > register 1 OC\n\
+        < ok 2\n\
+        > open a O\n\
+        < opened 2\n\
+        > open b N\n\
+        < opened 2\n\
+        > open a C\n\
+        < refused cursor\n\
+        > withdraw 3\n\
+        < ok 3\n\
+        > register 2 CO\n\
+        < ok 4\n\
+        > next a\n\
+        < hit 1\n\
+        < more\n\
+        > prune\n\
+        < pruned 0\n\
+        > next b\n\
+        < end at 2 tried 0 hits 0\n\
+        > stats\n\
+        < stats version 4 live 2 withdrawn 1 kept 4 pins 2\n\
+        > search O\n\
+        < hit 1\n\
+        < hit 2\n\
+        < end at 4 tried 2 hits 2\n\
+        > next a\n\
+        < hit 3\n\
+        < end at 2 tried 2 hits 2\n\
+        > close a\n\
+        < closed\n\
+        > close b\n\
+        < closed\n\
+        > prune\n\
+        < pruned 1\n\
+        ",
     )
 }
 

@@ -1,7 +1,9 @@
 //! `init` and `run` over disks in memory.
 use super::{Answer, PLAIN, call_on, put_by};
-use disk_edge::MemDisk;
+use disk_edge::{FileDisk, MemDisk};
 use std::alloc::{AllocError, Global};
+use std::fs;
+use std::process::Abort;
 use std::sync::Wait;
 use std::test::Fail;
 use std::thread::Threads;
@@ -88,5 +90,93 @@ fn bytes_that_are_run(rt: HostRuntime) -> Result<(), Fail> {
         assert_eq!(rt; put_by(&answer), put.as_bytes(), "at {bytes:?}");
         assert_eq!(rt; answer.a.bytes(), bytes);
     }
+    Ok(())
+}
+
+// How many registrations a script of three had, by its replies.
+fn acknowledged(replies: &[u8]) -> usize {
+    let mut count = 0usize;
+    for line in replies.split(|b| *b == b'\n') {
+        if line.starts_with(b"ok ") {
+            count = count.saturating_add(1);
+        }
+    }
+    count
+}
+
+// A disk whose call of this number fails: what each image then loads to is the commits that were acknowledged, and at
+// most one more.
+fn fails_once<R: Abort + Threads + Wait + Sync>(
+    rt: &R,
+    alloc: Global,
+    call: u64,
+) -> Result<(), Fail> {
+    let script = "register 1 C\nregister 2 N\nregister 3 O\n";
+    for choice in 0..6u32 {
+        let mut disk = disk_of(alloc, b"ZCHEMDB1\0")?;
+        disk.fail_once(call);
+        let answer = run(rt, alloc, disk, script)?;
+        if answer.status == 5 {
+            assert!(rt; put_by(&answer).is_empty(), "at {call}");
+            assert_eq!(rt; answer.a.bytes(), b"ZCHEMDB1\0".as_slice());
+            continue;
+        }
+        assert_eq!(rt; answer.status, 0, "at {call}");
+        let sure = acknowledged(put_by(&answer));
+        assert!(rt; sure >= 2, "at {call}");
+        let image = answer.a.image(choice);
+        let later = run(rt, alloc, image, "stats\n")?;
+        assert_eq!(rt; later.status, 0, "at {call}");
+        let text = put_by(&later);
+        let version = text.get(14).copied().unwrap_or(0).saturating_sub(b'0') as usize;
+        assert!(rt;
+            version == sure || version == sure.saturating_add(1),
+            "at {call}"
+        );
+    }
+    Ok(())
+}
+
+#[test]
+fn each_call_of_the_disk_fails_in_turn(rt: HostRuntime) -> Result<(), Fail> {
+    let alloc = rt.alloc();
+    for call in 1..20u64 {
+        fails_once(&rt, alloc, call)?;
+    }
+    let mut disk = MemDisk::new(alloc);
+    disk.fail_once(1);
+    let made = init(&rt, alloc, disk)?;
+    assert_eq!(rt; made.status, 5);
+    Ok(())
+}
+
+#[test]
+fn a_store_in_a_file(rt: HostRuntime) -> Result<(), Fail> {
+    let alloc = rt.alloc();
+    let path = "chem_rows_test.store";
+    let _ = fs::remove_file(&rt, path);
+    // the command, whether it makes the file, the script, the status, and what was put
+    let rows = [
+        ("run", false, "stats\n", 5u8, ""),
+        ("init", true, "", 0, ""),
+        ("run", false, "register 1 CCO\n", 0, "ok 1\n"),
+        (
+            "run",
+            false,
+            "show 1\n",
+            0,
+            "record 1 version 1 smiles CCO\n",
+        ),
+        ("init", true, "", 10, ""),
+    ];
+    for (command, create, script, status, put) in rows {
+        let disks = (FileDisk::at(&rt, path, create), FileDisk::none());
+        let words = [command, path];
+        let answer = call_on(&rt, alloc, &words, script.as_bytes(), PLAIN, disks)?;
+        assert_eq!(rt; answer.status, status, "at {command} {script:?}");
+        assert_eq!(rt; put_by(&answer), put.as_bytes(), "at {command} {script:?}");
+    }
+    assert_eq!(rt; fs::read(&rt, path)?.as_slice(), ONE_COMMIT);
+    fs::remove_file(&rt, path)?;
     Ok(())
 }

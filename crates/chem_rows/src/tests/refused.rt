@@ -11,46 +11,88 @@ fn refused_lines(rt: HostRuntime) -> Result<(), Fail> {
         &rt,
         rt.alloc(),
         &["mem"],
-        &[
-            ("", ""),
-            ("search *", "end at 0 tried 0 hits 0"),
-            ("register 1 C12CCCCC12", "refused smiles ring"),
-            ("register 1 C1CC", "refused smiles ring"),
-            ("register 1 C(", "refused smiles syntax"),
-            ("register 1 ", "refused smiles syntax"),
-            ("register 1  C", "refused smiles syntax"),
-            ("register 1", "refused syntax"),
-            ("register 0 C", "refused id"),
-            ("register 1000000000 C", "refused id"),
-            ("register 01 C", "refused id"),
-            ("register  1 C", "refused id"),
-            ("Register 1 C", "refused syntax"),
-            ("withdraw 1 ", "refused syntax"),
-            ("withdraw ", "refused id"),
-            ("show +1", "refused id"),
-            ("search", "refused syntax"),
-            ("search ", "refused smarts syntax"),
-            ("stats ", "refused syntax"),
-            // a name has 1 to 32 letters, digits or `_`
-            ("open abcdefghijklmnopqrstuvwxyz_12345 C", "opened 0"),
-            ("open abcdefghijklmnopqrstuvwxyz_123456 C", "refused syntax"),
-            ("next abcdefghijklmnopqrstuvwxyz_123456", "refused syntax"),
-            ("open a-b C(", "refused syntax"),
-            ("open  C", "refused syntax"),
-            ("open s", "refused syntax"),
-            // the pattern is looked at before the name, and the name before a pin
-            ("open s C(", "refused smarts syntax"),
-            ("next s", "refused cursor"),
-            ("close s", "refused cursor"),
-            ("next", "refused syntax"),
-            // a molfile belongs to its line, whatever that is answered
-            ("register-mol\nregister 1 C\nM  END", "refused syntax"),
-            ("register-mol 1 2\nM  END", "refused syntax"),
-            ("register-mol 01\nM  END of it", "refused id"),
-            ("register-mols 1", "refused syntax"),
-            ("revise-mol 1\nM  END", "refused molfile cut"),
-            ("register-mol 2\n\n\n", "refused molfile cut"),
-        ],
+        "\
+        > \n\
+        > search *\n\
+        < end at 0 tried 0 hits 0\n\
+        > register 1 C12CCCCC12\n\
+        < refused smiles ring\n\
+        > register 1 C1CC\n\
+        < refused smiles ring\n\
+        > register 1 C(\n\
+        < refused smiles syntax\n\
+        > register 1 \n\
+        < refused smiles syntax\n\
+        > register 1  C\n\
+        < refused smiles syntax\n\
+        > register 1\n\
+        < refused syntax\n\
+        > register 0 C\n\
+        < refused id\n\
+        > register 1000000000 C\n\
+        < refused id\n\
+        > register 01 C\n\
+        < refused id\n\
+        > register  1 C\n\
+        < refused id\n\
+        > Register 1 C\n\
+        < refused syntax\n\
+        > withdraw 1 \n\
+        < refused syntax\n\
+        > withdraw \n\
+        < refused id\n\
+        > show +1\n\
+        < refused id\n\
+        > search\n\
+        < refused syntax\n\
+        > search \n\
+        < refused smarts syntax\n\
+        > stats \n\
+        < refused syntax\n\
+        # a name has 1 to 32 letters, digits or `_`\n\
+        > open abcdefghijklmnopqrstuvwxyz_12345 C\n\
+        < opened 0\n\
+        > open abcdefghijklmnopqrstuvwxyz_123456 C\n\
+        < refused syntax\n\
+        > next abcdefghijklmnopqrstuvwxyz_123456\n\
+        < refused syntax\n\
+        > open a-b C(\n\
+        < refused syntax\n\
+        > open  C\n\
+        < refused syntax\n\
+        > open s\n\
+        < refused syntax\n\
+        # the pattern is looked at before the name, and the name before a pin\n\
+        > open s C(\n\
+        < refused smarts syntax\n\
+        > next s\n\
+        < refused cursor\n\
+        > close s\n\
+        < refused cursor\n\
+        > next\n\
+        < refused syntax\n\
+        # a molfile belongs to its line, whatever that is answered\n\
+        > register-mol\n\
+        > register 1 C\n\
+        > M  END\n\
+        < refused syntax\n\
+        > register-mol 1 2\n\
+        > M  END\n\
+        < refused syntax\n\
+        > register-mol 01\n\
+        > M  END of it\n\
+        < refused id\n\
+        > register-mols 1\n\
+        < refused syntax\n\
+        > revise-mol 1\n\
+        > M  END\n\
+        < refused molfile cut\n\
+        > register-mol 2\n\
+        > \n\
+        > \n\
+        > \n\
+        < refused molfile cut\n\
+        ",
     )
 }
 

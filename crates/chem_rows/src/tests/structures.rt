@@ -13,48 +13,85 @@ fn texts_of_structures(rt: HostRuntime) -> Result<(), Fail> {
         &rt,
         rt.alloc(),
         &["mem"],
-        &[
-            ("register 1 CCO", "ok 1"),
-            ("register 2 CC=O", "ok 2"),
-            ("search C=O", "hit 2\nend at 2 tried 1 hits 1"),
-            // a NUL, and symbols of no element
-            ("register 3 C\0", "refused smiles syntax"),
-            ("register 3 Cr", "refused smiles syntax"),
-            ("register 3 l", "refused smiles syntax"),
-            // brackets, charges, parts, hydrogen atoms, marks that are dropped
-            ("register 3 [13CH3][C@@H](O)C(=O)[O-].[Na+]", "ok 3"),
-            ("register 4 [H]C([H])([H])[H]", "ok 4"),
-            ("register 5 C/C=C\\C", "ok 5"),
-            ("search [CH4]", "hit 4\nend at 5 tried 5 hits 1"),
-            ("search C=C", "hit 5\nend at 5 tried 1 hits 1"),
-        ],
+        "\
+        > register 1 CCO\n\
+        < ok 1\n\
+        > register 2 CC=O\n\
+        < ok 2\n\
+        > search C=O\n\
+        < hit 2\n\
+        < end at 2 tried 1 hits 1\n\
+        # a NUL, and symbols of no element\n\
+        > register 3 C\0\n\
+        < refused smiles syntax\n\
+        > register 3 Cr\n\
+        < refused smiles syntax\n\
+        > register 3 l\n\
+        < refused smiles syntax\n\
+        # brackets, charges, parts, hydrogen atoms, marks that are dropped\n\
+        > register 3 [13CH3][C@@H](O)C(=O)[O-].[Na+]\n\
+        < ok 3\n\
+        > register 4 [H]C([H])([H])[H]\n\
+        < ok 4\n\
+        > register 5 C/C=C\\C\n\
+        < ok 5\n\
+        > search [CH4]\n\
+        < hit 4\n\
+        < end at 5 tried 5 hits 1\n\
+        > search C=C\n\
+        < hit 5\n\
+        < end at 5 tried 1 hits 1\n\
+        ",
     )?;
     check(
         &rt,
         rt.alloc(),
         &["mem"],
-        &[
-            ("register 1 c1ccccc1", "ok 1"),
-            ("register 2 C1=CC=CC=C1", "ok 2"),
-            ("search c1ccccc1", "hit 1\nhit 2\nend at 2 tried 2 hits 2"),
-            ("register 3 c1cccc1", "refused smiles aromatic 0"),
-            ("register 3 CC:C", "refused smiles aromatic 1"),
-        ],
+        "\
+        > register 1 c1ccccc1\n\
+        < ok 1\n\
+        > register 2 C1=CC=CC=C1\n\
+        < ok 2\n\
+        > search c1ccccc1\n\
+        < hit 1\n\
+        < hit 2\n\
+        < end at 2 tried 2 hits 2\n\
+        > register 3 c1cccc1\n\
+        < refused smiles aromatic 0\n\
+        > register 3 CC:C\n\
+        < refused smiles aromatic 1\n\
+        ",
     )?;
     // the charge of a CHG line stands in place of those of the atom lines
     check(
         &rt,
         rt.alloc(),
         &["mem"],
-        &[
-            (
-                "register-mol 1\nacetate\n  by hand\n\n  4  3  0  0  0  0  0  0  0  0999 V2000\n    0.0000    0.0000    0.0000 C   0  0  0  0  0  0\n    1.5000    0.0000    0.0000 C   0  0  0  0  0  0\n    2.2000    1.2000    0.0000 O   0  5  0  0  0  0\n    2.2000   -1.2000    0.0000 O   0  0  0  0  0  0\n  1  2  1  0\n  2  3  2  0\n  2  4  1  0\nM  CHG  1   4  -1\nM  END",
-                "ok 1",
-            ),
-            ("search [O-]", "hit 1\nend at 1 tried 1 hits 1"),
-            ("search [O+0]=C", "hit 1\nend at 1 tried 1 hits 1"),
-            ("register 1 C", "refused known"),
-        ],
+        "\
+        > register-mol 1\n\
+        > acetate\n\
+        >   by hand\n\
+        > \n\
+        >   4  3  0  0  0  0  0  0  0  0999 V2000\n\
+        >     0.0000    0.0000    0.0000 C   0  0  0  0  0  0\n\
+        >     1.5000    0.0000    0.0000 C   0  0  0  0  0  0\n\
+        >     2.2000    1.2000    0.0000 O   0  5  0  0  0  0\n\
+        >     2.2000   -1.2000    0.0000 O   0  0  0  0  0  0\n\
+        >   1  2  1  0\n\
+        >   2  3  2  0\n\
+        >   2  4  1  0\n\
+        > M  CHG  1   4  -1\n\
+        > M  END\n\
+        < ok 1\n\
+        > search [O-]\n\
+        < hit 1\n\
+        < end at 1 tried 1 hits 1\n\
+        > search [O+0]=C\n\
+        < hit 1\n\
+        < end at 1 tried 1 hits 1\n\
+        > register 1 C\n\
+        < refused known\n\
+        ",
     )
 }
 
