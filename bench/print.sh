@@ -1,7 +1,8 @@
 #!/usr/bin/env bash
 # Times single calls of the screen, each by itself, in a small program beside a copy of the crates; prints nanoseconds
-# for a call, the least of so many rounds: `print` of drug-like molecules (the mean of ten) and of the densest graph,
-# `need` of a pattern of twenty atoms, and `Print::holds` where all is held and where the first bit is lacking.
+# for a call, the least of so many rounds: `print` of drug-like molecules (the mean of a thousand different ones, one
+# after the other) and of the densest graph, `need` of a pattern of twenty atoms, and `Print::holds` where all is held
+# and where the first bit is lacking.
 # Usage: bench/print.sh [ROUNDS]
 set -euo pipefail
 cd "$(dirname "${BASH_SOURCE[0]}")/.."
@@ -30,18 +31,27 @@ use std::time::{Clock, Instant};
 /// The least time of so many rounds is printed.
 const ROUNDS: u32 = ${1:-300};
 
-/// The calls of a round, but for the densest graph.
+/// The calls of a round, but for prints.
 const CALLS: u32 = 100;
 
 fn main(rt: HostRuntime) -> io::Result<()> {
+    let mut mols = Vec::new(rt.alloc());
     for line in rt.lines(rt.alloc()) {
         let line = line?;
         let nanos = match line.as_str().split_once(' ') {
             Some(("need", smarts)) => time_need(&rt, smarts)?,
             Some((word, smiles)) => match structure(rt.alloc(), Format::Smiles, smiles.as_bytes()) {
                 Ok(mol) => match word {
-                    "print" => time_print(&rt, &mol, CALLS)?,
-                    "dense" => time_print(&rt, &mol, 1)?,
+                    "print" => {
+                        mols.push(mol)?;
+                        continue;
+                    }
+                    "all" => time_print(&rt, &mols)?,
+                    "dense" => {
+                        let mut one = Vec::new(rt.alloc());
+                        one.push(mol)?;
+                        time_print(&rt, &one)?
+                    }
                     "holds" => time_holds(&rt, &print(&mol), &print(&mol))?,
                     _ => time_holds(&rt, &Print::empty(), &print(&mol))?,
                 },
@@ -55,12 +65,12 @@ fn main(rt: HostRuntime) -> io::Result<()> {
 }
 
 // Of each answer one bit is read, so that no call is left out.
-fn time_print(clock: &impl Clock, mol: &Mol, calls: u32) -> io::Result<u128> {
+fn time_print(clock: &impl Clock, mols: &[Mol]) -> io::Result<u128> {
     let mut least = u128::MAX;
     for _ in 0..ROUNDS {
         let start = Instant::now(clock)?;
         let mut all = true;
-        for _ in 0..calls {
+        for mol in mols {
             all = all && !print(mol).has(1024);
         }
         if all {
@@ -115,6 +125,20 @@ import sys
 DRUGS = re.findall(r'^    "(.*)",$', open("bench/mem.sh").read(), re.M)
 PATTERN = "CC(C)Cc1ccc(cc1)C(C)C(=O)NCCNCC"
 MOST_BONDS, MOST_NEIGHBOURS = 999, 12
+# Each goes on behind its last atom that is not in parentheses.
+PIECES = ["c1ccc(cc1)", "C(=O)N", "CC(C)", "N1CCN(CC1)", "S(=O)(=O)N", "c1cnc(nc1)", "OCC", "C1CCN(CC1)", "C(F)", "c1cc(Cl)cc(c1)"]
+
+
+def drugs(count):
+    """Chains of pieces, of 20 atoms or a few more, and ten drugs."""
+    chance, found = random.Random(2), list(DRUGS)
+    while len(found) < count:
+        text = "C"
+        while sum(letter in "CNOSFcn" for letter in text) < 20:
+            text += chance.choice(PIECES)
+        found.append(text + "C")
+    return found
+
 
 
 def densest():
@@ -142,12 +166,13 @@ def densest():
 
 
 dense, bonds = densest()
-lines = [f"print {drug}" for drug in DRUGS] + [f"dense {dense}", f"need {PATTERN}", f"holds {DRUGS[1]}", f"lacks {DRUGS[1]}"]
+count = 1000
+lines = [f"print {drug}" for drug in drugs(count)] + ["all C", f"dense {dense}", f"need {PATTERN}", f"holds {DRUGS[1]}", f"lacks {DRUGS[1]}"]
 run = subprocess.run([sys.argv[1]], input="".join(line + "\n" for line in lines), capture_output=True, text=True, check=True)
 times = [int(line) for line in run.stdout.split()]
-drugs, (graph, need, holds, lacks) = times[: len(DRUGS)], times[len(DRUGS) :]
-assert max(times) < 10**12, "a text is refused"
-print(f"print of a drug-like molecule of 21 to 37 atoms: {sum(drugs) / len(drugs) / 100:,.0f} ns")
+assert len(times) == 5 and max(times) < 10**12, "a text is refused"
+each, graph, need, holds, lacks = times
+print(f"print of a drug-like molecule of 20 to 37 atoms: {each / count:,.0f} ns")
 print(f"print of a graph of {bonds} bonds: {graph:,.0f} ns")
 print(f"need of a pattern of twenty atoms: {need / 100:,.0f} ns")
 print(f"holds: {holds / 100:,.1f} ns where all is held, {lacks / 100:,.1f} ns where none is")
