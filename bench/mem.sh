@@ -1,6 +1,7 @@
 #!/usr/bin/env bash
 # Registers drug-like structures in memory and searches them; prints registrations per second, memory for each record, and
-# nanoseconds for each record of a search, the least of three runs each.
+# nanoseconds for each record of a search, the least of ten runs each. Script and replies are files: through a pipe each
+# reply wakes the reader, which costs a few microseconds more.
 # Usage: bench/mem.sh [STRUCTURES]
 set -euo pipefail
 cd "$(dirname "${BASH_SOURCE[0]}")/.."
@@ -10,6 +11,7 @@ import os
 import resource
 import subprocess
 import sys
+import tempfile
 import time
 
 PROGRAM = "crates/chemdb/out/chemdb"
@@ -26,16 +28,20 @@ DRUGS = [
     "O=C(O)c1cn(C2CC2)c2cc(N3CCNCC3)c(F)cc2c1=O",
 ]
 SEARCHES = 20
+RUNS = 10
 
 
 def run(script):
     """Seconds, the peak memory in bytes, and the last line."""
-    start = time.monotonic()
-    child = subprocess.Popen([PROGRAM, "mem"], stdin=subprocess.PIPE, stdout=subprocess.PIPE)
-    out, _ = child.communicate(script.encode())
-    seconds = time.monotonic() - start
-    assert child.returncode == 0, child.returncode
-    return seconds, (out.decode().splitlines() or [""])[-1]
+    with tempfile.TemporaryFile() as lines, tempfile.TemporaryFile() as replies:
+        lines.write(script.encode())
+        lines.seek(0)
+        start = time.monotonic()
+        done = subprocess.run([PROGRAM, "mem"], stdin=lines, stdout=replies)
+        seconds = time.monotonic() - start
+        assert done.returncode == 0, done.returncode
+        replies.seek(0)
+        return seconds, (replies.read().decode().splitlines() or [""])[-1]
 
 
 def peak(script):
@@ -51,11 +57,11 @@ def peak(script):
 
 count = int(sys.argv[1])
 registers = "".join(f"register {i + 1} {DRUGS[i % len(DRUGS)]}\n" for i in range(count))
-alone = min(run(registers)[0] for _ in range(3))
+alone = min(run(registers)[0] for _ in range(RUNS))
 record = (peak(registers) - peak("")) / count
 print(f"{count} structures of 17 to 37 atoms: {count / alone:,.0f} registrations per second, {record:,.0f} bytes for each record")
 for pattern in ["C(=O)[OX2H]", "[NX3;H2]", "c1ccccc1"]:
-    with_searches = min(run(registers + f"search {pattern}\n" * SEARCHES) for _ in range(3))
+    with_searches = min(run(registers + f"search {pattern}\n" * SEARCHES) for _ in range(RUNS))
     each = (with_searches[0] - alone) / SEARCHES / count
     print(f"search {pattern}: {each * 1e9:,.0f} ns for each record; {with_searches[1]}")
 PY
