@@ -5,8 +5,9 @@ ghost use Rattle.chem_core.specs.Graph.{IsSimpleGraph};
 ghost use Rattle.chem_core.specs.Sound.{ends_among};
 ghost use Rattle.aromatic.specs.Tallies.{AreTallies, no_bonds, tally_at, with_bond};
 
+use bumpalo::Bump;
 use chem_core::{SketchBond, SketchKind};
-use std::alloc::{AllocError, Global};
+use std::alloc::AllocError;
 
 /// What is read of an atom's bonds.
 #[derive(Clone, Copy, Debug, PartialEq, Eq)]
@@ -20,19 +21,19 @@ pub struct Tally {
 }
 
 /// The tally of each atom, by its place, in one pass over the bonds.
-pub fn tallies(
-    alloc: Global,
+pub fn tallies<'a>(
+    arena: &'a Bump,
     count: usize,
     bonds: &[SketchBond],
     aromatic: &[bool],
-) -> Result<Vec<Tally>, AllocError>
+) -> Result<Vec<Tally, &'a Bump>, AllocError>
     requires graph { IsSimpleGraph count (ends_among bonds.now) }
     requires each { length aromatic.now ≡ length bonds.now }
     ensures count { IfOk result (λ tallies. length tallies.items ≡ count) }
     ensures each { IfOk result (λ tallies. AreTallies bonds.now aromatic.now tallies.items) }
     ensures few { IfOk result (λ tallies. All (λ t. t.bonded ≤ 48) tallies.items) }
 {
-    let mut tallies = vec![in alloc; Tally::none(); count]?;
+    let mut tallies = vec![in arena; Tally::none(); count]?;
     add_bonds(&mut tallies, bonds, aromatic);
     Ok(tallies)
 }

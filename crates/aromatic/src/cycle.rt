@@ -8,37 +8,38 @@ ghost use Rattle.aromatic.specs.declared.limits.TheConstants.{LONGEST, SHORTEST}
 use crate::distance::{FAR, forget, spread};
 use crate::limits::{LONGEST, SHORTEST};
 use crate::links::{Link, Links, links_of};
-use std::alloc::{AllocError, Global};
+use bumpalo::Bump;
+use std::alloc::AllocError;
 
 /// A search's working memory, allocated once and reused.
 #[derive(Drop)]
-pub struct Scratch {
-    pub path: Path,
+pub struct Scratch<'a> {
+    pub path: Path<'a>,
     /// How far each atom is from the target. Between two searches no atom has a distance.
-    pub distances: Vec<u8>,
+    pub distances: Vec<u8, &'a Bump>,
     /// The atoms that have a distance.
-    pub queue: Vec<u16>,
+    pub queue: Vec<u16, &'a Bump>,
 }
 
 /// A path of links.
 #[derive(Drop)]
-pub struct Path {
-    pub links: Vec<Link>,
+pub struct Path<'a> {
+    pub links: Vec<Link, &'a Bump>,
     /// For each atom whether it is on the path. Between two searches none is.
-    pub flags: Vec<bool>,
+    pub flags: Vec<bool, &'a Bump>,
 }
 
-impl Scratch {
-    pub fn new(alloc: Global, atoms: usize) -> Result<Scratch, AllocError>
+impl<'a> Scratch<'a> {
+    pub fn new(arena: &'a Bump, atoms: usize) -> Result<Scratch<'a>, AllocError>
         ensures { IfOk result (IsBlank atoms) }
     {
         Ok(Scratch {
             path: Path {
-                links: Vec::with_capacity(alloc, LONGEST)?,
-                flags: vec![in alloc; false; atoms]?,
+                links: Vec::with_capacity(arena, LONGEST)?,
+                flags: vec![in arena; false; atoms]?,
             },
-            distances: vec![in alloc; FAR; atoms]?,
-            queue: Vec::with_capacity(alloc, atoms)?,
+            distances: vec![in arena; FAR; atoms]?,
+            queue: Vec::with_capacity(arena, atoms)?,
         })
     }
 }
@@ -49,11 +50,11 @@ impl Scratch {
 /// A candidate has at most three neighbours, so the ring bonds at it lie in one block, and a search never leaves the
 /// block of its bond.
 pub fn closes(
-    links: &[Links],
+    links: &[Links<'_>],
     gives: &[Option<u8>],
     first: Link,
     target: u16,
-    scratch: &mut Scratch,
+    scratch: &mut Scratch<'_>,
 ) -> Result<bool, AllocError>
     requires closed { AreClosed (links_in links.now) }
     requires both_ways { AreMutual (links_in links.now) }
@@ -80,11 +81,11 @@ pub fn closes(
 // Completes the path so that it ends at the target, if it can be; else the path is as before. An atom is tried only
 // where it is near enough to the target. The flags are left as before.
 fn extend(
-    links: &[Links],
+    links: &[Links<'_>],
     gives: &[Option<u8>],
     distances: &[u8],
     target: u16,
-    path: &mut Path,
+    path: &mut Path<'_>,
 ) -> Result<bool, AllocError>
     requires closed { AreClosed (links_in links.now) }
     requires each { length gives.now ≡ length links.now }
@@ -125,7 +126,7 @@ fn last_of(path: &[Link]) -> u16
     path[path.len() - 1].to
 }
 
-impl Path {
+impl Path<'_> {
     // One more link.
     fn push(&mut self, link: Link) -> Result<(), AllocError>
         requires { link.to < length self.old.flags.items }

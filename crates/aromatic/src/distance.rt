@@ -6,6 +6,7 @@ ghost use Rattle.aromatic.specs.declared.limits.TheConstants.{LONGEST};
 
 use crate::limits::LONGEST;
 use crate::links::{Links, links_of};
+use bumpalo::Bump;
 use std::alloc::AllocError;
 
 /// Stands for a distance of `LONGEST` links or more. A Hückel cycle has at most that many atoms, so no cycle through
@@ -15,10 +16,10 @@ pub const FAR: u8 = LONGEST as u8;
 /// Writes the distance of each atom that is nearer than `FAR`, and puts these atoms into the queue. Only these and
 /// their links are looked at.
 pub fn spread(
-    links: &[Links],
+    links: &[Links<'_>],
     target: u16,
     distances: &mut [u8],
-    queue: &mut Vec<u16>,
+    queue: &mut Vec<u16, &Bump>,
 ) -> Result<(), AllocError>
     requires closed { AreClosed (links_in links.now) }
     requires both_ways { AreMutual (links_in links.now) }
@@ -52,11 +53,11 @@ pub fn forget(distances: &mut [u8], queue: &[u16])
 
 // Takes the links of the atom at the head of the queue: an atom that has no distance yet is one farther.
 fn visit(
-    links: &[Links],
+    links: &[Links<'_>],
     target: u16,
     head: usize,
     distances: &mut [u8],
-    queue: &mut Vec<u16>,
+    queue: &mut Vec<u16, &Bump>,
 ) -> Result<(), AllocError>
     requires closed { AreClosed (links_in links.now) }
     requires head { head < length queue.old.items }

@@ -8,8 +8,9 @@ ghost use Rattle.aromatic.specs.Electrons.{candidate_row, electrons, element_bey
 ghost use Rattle.aromatic.specs.Counts.{AreEnvironments, HasFewBonds, add, without_bonds};
 
 use crate::table::{Row, row_of};
+use bumpalo::Bump;
 use chem_core::{Sketch, SketchAtom, SketchBond, SketchKind};
-use std::alloc::{AllocError, Global};
+use std::alloc::AllocError;
 
 /// What the table reads of an atom: how it is written, and how many of its bonds are of which kind.
 #[derive(Clone, Copy, Debug, PartialEq, Eq)]
@@ -43,18 +44,18 @@ pub fn electrons(sketch: &Sketch, bond_in_ring: &[bool], atom: u16) -> Option<u8
 }
 
 /// What the table reads of each atom, by the atom's place, in one pass over the bonds.
-pub fn environments(
-    alloc: Global,
+pub fn environments<'a>(
+    arena: &'a Bump,
     atoms: &[SketchAtom],
     bonds: &[SketchBond],
     bond_in_ring: &[bool],
-) -> Result<Vec<Environment>, AllocError>
+) -> Result<Vec<Environment, &'a Bump>, AllocError>
     requires sound { IsSound (record { atoms = atoms.now; bonds = bonds.now }) }
     requires rings { length bond_in_ring.now ≡ length bonds.now }
     ensures { IfOk result (λ environments. AreEnvironments atoms.now
         (zip bonds.now bond_in_ring.now) environments.items) }
 {
-    let mut environments = without_bonds_each(alloc, atoms)?;
+    let mut environments = without_bonds_each(arena, atoms)?;
     count_bonds(&mut environments, atoms, bonds, bond_in_ring);
     Ok(environments)
 }
@@ -75,10 +76,13 @@ fn row_at(
 }
 
 // Each atom before any bond is counted.
-fn without_bonds_each(alloc: Global, atoms: &[SketchAtom]) -> Result<Vec<Environment>, AllocError>
+fn without_bonds_each<'a>(
+    arena: &'a Bump,
+    atoms: &[SketchAtom],
+) -> Result<Vec<Environment, &'a Bump>, AllocError>
     ensures { IfOk result (λ environments. environments.items ≡ map without_bonds atoms.now) }
 {
-    atoms.iter().map(Environment::without_bonds).collect(alloc)
+    atoms.iter().map(Environment::without_bonds).collect(arena)
 }
 
 fn count_bonds(

@@ -12,83 +12,87 @@ ghost use Rattle.aromatic.specs.Route.{AreAromaticAtoms, AreAromaticBonds, AreMa
 use crate::cycle::{Scratch, closes};
 use crate::links::{Link, Links, are_candidates, links_between, unlink};
 use crate::table::Row;
+use bumpalo::Bump;
 use chem_core::{SketchAtom, SketchBond};
-use std::alloc::{AllocError, Global};
+use std::alloc::AllocError;
 
 // What the searches share.
 #[derive(Drop)]
-struct Search {
+struct Search<'a> {
     // For each bond whether a search may go over it. Each bond on a Hückel cycle is possible.
-    possible: Vec<bool>,
+    possible: Vec<bool, &'a Bump>,
     // The links by possible bonds.
-    links: Vec<Links>,
-    scratch: Scratch,
+    links: Vec<Links<'a>, &'a Bump>,
+    scratch: Scratch<'a>,
 }
 
 /// Which bonds lie on a Hückel cycle.
-pub fn find_bonds(
-    alloc: Global,
+pub fn find_bonds<'a>(
+    arena: &'a Bump,
     atoms: &[SketchAtom],
     bonds: &[SketchBond],
     bond_in_ring: &[bool],
     rows: &[Option<Row>],
-) -> Result<Vec<bool>, AllocError>
+) -> Result<Vec<bool, &'a Bump>, AllocError>
     requires sound { IsSound (record { atoms = atoms.now; bonds = bonds.now }) }
     requires rings { AreRingBonds (ends_among bonds.now) bond_in_ring.now }
     requires rows { AreRows (record { atoms = atoms.now; bonds = bonds.now }) bond_in_ring.now rows.now }
     ensures { IfOk result (λ marks. AreAromaticBonds (record { atoms = atoms.now; bonds = bonds.now })
         bond_in_ring.now marks.items) }
 {
-    let gives = electrons_of(alloc, rows)?;
-    let links = links_between(alloc, bonds, bond_in_ring, &gives)?;
-    let marks = aromatic_bonds(alloc, bonds, bond_in_ring, &gives, links)?;
+    let gives = electrons_of(arena, rows)?;
+    let links = links_between(arena, bonds, bond_in_ring, &gives)?;
+    let marks = aromatic_bonds(arena, bonds, bond_in_ring, &gives, links)?;
     Ok(marks)
 }
 
 /// Which atoms lie on a Hückel cycle.
-pub fn find_atoms(
-    alloc: Global,
+pub fn find_atoms<'a>(
+    arena: &'a Bump,
     atoms: &[SketchAtom],
     bonds: &[SketchBond],
     bond_in_ring: &[bool],
     marks: &[bool],
-) -> Result<Vec<bool>, AllocError>
+) -> Result<Vec<bool, &'a Bump>, AllocError>
     requires sound { IsSound (record { atoms = atoms.now; bonds = bonds.now }) }
     requires marks { AreAromaticBonds (record { atoms = atoms.now; bonds = bonds.now }) bond_in_ring.now marks.now }
     ensures { IfOk result (λ flags. AreAromaticAtoms (record { atoms = atoms.now; bonds = bonds.now })
         bond_in_ring.now flags.items) }
 {
-    let flags = ends_of_marked(alloc, atoms.len(), bonds, marks)?;
+    let flags = ends_of_marked(arena, atoms.len(), bonds, marks)?;
     Ok(flags)
 }
 
 // What each atom gives, by its row.
-fn electrons_of(alloc: Global, rows: &[Option<Row>]) -> Result<Vec<Option<u8>>, AllocError>
+fn electrons_of<'a>(
+    arena: &'a Bump,
+    rows: &[Option<Row>],
+) -> Result<Vec<Option<u8>, &'a Bump>, AllocError>
     ensures { IfOk result (λ gives. gives.items
         ≡ map (λ row. option_map (λ r. r.electrons) row) rows.now) }
 {
     rows.iter()
         .map(|row| row.map(|row| row.electrons))
-        .collect(alloc)
+        .collect(arena)
 }
 
 // Marks the bonds that lie on a Hückel cycle.
-fn aromatic_bonds(
-    alloc: Global,
+fn aromatic_bonds<'a>(
+    arena: &'a Bump,
     bonds: &[SketchBond],
     bond_in_ring: &[bool],
     gives: &[Option<u8>],
-    links: Vec<Links>,
-) -> Result<Vec<bool>, AllocError>
+    links: Vec<Links<'a>, &'a Bump>,
+) -> Result<Vec<bool, &'a Bump>, AllocError>
     requires net { IsNet (ends_among bonds.now) bond_in_ring.now gives.now (links_in links.items) }
     ensures { IfOk result (λ marks. AreMarksBelow (ends_among bonds.now) gives.now (length bonds.now) marks.items) }
 {
     let mut search = Search {
-        possible: bond_in_ring.to_vec(alloc)?,
+        possible: bond_in_ring.to_vec(arena)?,
         links,
-        scratch: Scratch::new(alloc, gives.len())?,
+        scratch: Scratch::new(arena, gives.len())?,
     };
-    let mut marks = vec![in alloc; false; bonds.len()]?;
+    let mut marks = vec![in arena; false; bonds.len()]?;
     for place in 0..bonds.len() {
         mark_through(bonds, gives, place, &mut search, &mut marks)?;
     }
@@ -101,7 +105,7 @@ fn mark_through(
     bonds: &[SketchBond],
     gives: &[Option<u8>],
     place: usize,
-    search: &mut Search,
+    search: &mut Search<'_>,
     marks: &mut [bool],
 ) -> Result<(), AllocError>
     requires net { IsNet (ends_among bonds.now) search.old.possible.items gives.now (links_in search.old.links.items) }
@@ -130,7 +134,7 @@ fn mark_through(
 }
 
 // Rules out a bond that lies on no Hückel cycle.
-fn rule_out(bonds: &[SketchBond], place: usize, possible: &mut [bool], links: &mut [Links])
+fn rule_out(bonds: &[SketchBond], place: usize, possible: &mut [bool], links: &mut [Links<'_>])
     requires place { place < length bonds.now }
     requires each { length possible.old ≡ length bonds.now }
     requires graph { IsSimpleGraph (length links.old) (ends_among bonds.now) }
@@ -155,19 +159,19 @@ fn mark_path(marks: &mut [bool], path: &[Link])
 }
 
 // Which atoms are ends of these bonds.
-fn ends_of_marked(
-    alloc: Global,
+fn ends_of_marked<'a>(
+    arena: &'a Bump,
     count: usize,
     bonds: &[SketchBond],
     marks: &[bool],
-) -> Result<Vec<bool>, AllocError>
+) -> Result<Vec<bool, &'a Bump>, AllocError>
     requires graph { IsSimpleGraph count (ends_among bonds.now) }
     requires each { length marks.now ≡ length bonds.now }
     ensures count { IfOk result (λ flags. length flags.items ≡ count) }
     ensures each { IfOk result (λ flags. (a : ℕ) → (slice_index_or flags.items a false ≡ true)
         ↔ IsMarkedEnd (ends_among bonds.now) marks.now (length bonds.now) a) }
 {
-    let mut flags = vec![in alloc; false; count]?;
+    let mut flags = vec![in arena; false; count]?;
     mark_all(&mut flags, bonds, marks);
     Ok(flags)
 }

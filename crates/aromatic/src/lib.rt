@@ -18,5 +18,5 @@ mod perception;
 mod table;
 
 pub use environment::electrons;
-pub use perception::{Arom, AromFault, perceive};
+pub use perception::{Arom, AromFault, perceive, perceive_in};
 pub use table::one_row;

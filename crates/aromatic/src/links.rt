@@ -4,9 +4,10 @@ ghost use Rattle.chem_core.specs.Graph.{IsSimpleGraph};
 ghost use Rattle.aromatic.specs.Links.{AreLinks, IsCandidateAt, IsNewLink, links_at, links_in};
 ghost use Rattle.chem_core.specs.Sound.{ends_among};
 
+use bumpalo::Bump;
 use chem_core::SketchBond;
 use smallvec::SmallVec;
-use std::alloc::{AllocError, Global};
+use std::alloc::AllocError;
 
 /// A link of an atom: the candidate that it leads to, and the ring bond that it follows.
 #[derive(Clone, Copy, Default)]
@@ -16,21 +17,21 @@ pub struct Link {
 }
 
 /// The links of an atom.
-pub type Links = SmallVec<Link, 4>;
+pub type Links<'a> = SmallVec<Link, 4, &'a Bump>;
 
 /// Links between the candidates that ring bonds join. Fails only for want of memory.
-pub fn links_between(
-    alloc: Global,
+pub fn links_between<'a>(
+    arena: &'a Bump,
     bonds: &[SketchBond],
     bond_in_ring: &[bool],
     gives: &[Option<u8>],
-) -> Result<Vec<Links>, AllocError>
+) -> Result<Vec<Links<'a>, &'a Bump>, AllocError>
     requires graph { IsSimpleGraph (length gives.now) (ends_among bonds.now) }
     requires rings { length bond_in_ring.now ≡ length bonds.now }
     ensures { IfOk result (λ links. AreLinks (ends_among bonds.now) bond_in_ring.now gives.now
         (length bonds.now) (links_in links.items)) }
 {
-    let mut links = no_links(alloc, gives.len())?;
+    let mut links = no_links(arena, gives.len())?;
     join_all(&mut links, bonds, bond_in_ring, gives)?;
     Ok(links)
 }
@@ -45,7 +46,7 @@ pub fn are_candidates(gives: &[Option<u8>], bond: SketchBond) -> bool
 }
 
 /// The links of one atom.
-pub fn links_of(links: &[Links], atom: u16) -> &[Link]
+pub fn links_of<'a>(links: &'a [Links<'_>], atom: u16) -> &'a [Link]
     requires { atom < length links.now }
     ensures { result.now ≡ links_at (links_in links.now) atom }
 {
@@ -53,7 +54,7 @@ pub fn links_of(links: &[Links], atom: u16) -> &[Link]
 }
 
 /// Takes a bond's links from its two ends.
-pub fn unlink(links: &mut [Links], bond: SketchBond, place: u16)
+pub fn unlink(links: &mut [Links<'_>], bond: SketchBond, place: u16)
     requires a_in_range { bond.a < length links.old }
     requires b_in_range { bond.b < length links.old }
     ensures { (a n b : ℕ) → Contains (links_at (links_in links.new) a) (record { to = n; bond = b })
@@ -65,7 +66,7 @@ pub fn unlink(links: &mut [Links], bond: SketchBond, place: u16)
 }
 
 fn join_all(
-    links: &mut [Links],
+    links: &mut [Links<'_>],
     bonds: &[SketchBond],
     bond_in_ring: &[bool],
     gives: &[Option<u8>],
@@ -83,19 +84,19 @@ fn join_all(
     Ok(())
 }
 
-fn no_links(alloc: Global, count: usize) -> Result<Vec<Links>, AllocError>
+fn no_links<'a>(arena: &'a Bump, count: usize) -> Result<Vec<Links<'a>, &'a Bump>, AllocError>
     ensures { IfOk result (λ links. links_in links.items ≡ replicate count []) }
 {
-    let mut links = Vec::with_capacity(alloc, count)?;
+    let mut links = Vec::with_capacity(arena, count)?;
     for _ in 0..count {
-        links.push(SmallVec::new(alloc))?;
+        links.push(SmallVec::new(arena))?;
     }
     Ok(links)
 }
 
 // Links the ends of a ring bond, if both are candidates.
 fn join(
-    links: &mut [Links],
+    links: &mut [Links<'_>],
     gives: &[Option<u8>],
     bond: SketchBond,
     place: u16,
@@ -123,7 +124,7 @@ fn join(
     Ok(())
 }
 
-fn add(links: &mut [Links], from: u16, link: Link) -> Result<(), AllocError>
+fn add(links: &mut [Links<'_>], from: u16, link: Link) -> Result<(), AllocError>
     requires { from < length links.old }
     ensures { OnOk result ((a n b : ℕ) → Contains (links_at (links_in links.new) a) (record { to = n; bond = b })
         ↔ (Contains (links_at (links_in links.old) a) (record { to = n; bond = b })
@@ -134,7 +135,7 @@ fn add(links: &mut [Links], from: u16, link: Link) -> Result<(), AllocError>
 }
 
 // Takes the links by a bond from an atom.
-fn take(links: &mut [Links], from: u16, place: u16)
+fn take(links: &mut [Links<'_>], from: u16, place: u16)
     requires { from < length links.old }
     ensures { (a n b : ℕ) → Contains (links_at (links_in links.new) a) (record { to = n; bond = b })
         ↔ (Contains (links_at (links_in links.old) a) (record { to = n; bond = b })

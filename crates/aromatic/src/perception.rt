@@ -12,18 +12,19 @@ use crate::bond_tallies::{Tally, tallies};
 use crate::environment::{Environment, environments};
 use crate::huckel::{find_atoms, find_bonds};
 use crate::table::Row;
+use bumpalo::Bump;
 use chem_core::{Sketch, SketchAtom, SketchBond};
-use std::alloc::{AllocError, Global};
+use std::alloc::{AllocError, Allocator, Global};
 use thiserror::Error;
 
 /// What perception finds: whether each atom and each bond is aromatic, and the valence of each atom, by their places.
 #[derive(Debug, Drop)]
-pub struct Arom {
-    pub atoms: Vec<bool>,
-    pub bonds: Vec<bool>,
+pub struct Arom<A: Allocator = Global> {
+    pub atoms: Vec<bool, A>,
+    pub bonds: Vec<bool, A>,
     /// The sum of an atom's bond orders, aromatic bonds as 1, and its hydrogens. It is 1 more for an aromatic atom that
     /// gives one electron, unless the electron is that of a double bond in a ring that is not aromatic.
-    pub valences: Vec<u8>,
+    pub valences: Vec<u8, A>,
 }
 
 /// Why perception fails.
@@ -65,15 +66,36 @@ pub fn perceive(alloc: Global, sketch: &Sketch, bond_in_ring: &[bool]) -> Result
         r.atoms.items r.bonds.items r.valences.items) }
     ensures refused { IfErr result (λ e. IsFaultOf sketch.now bond_in_ring.now e) }
 {
-    perceive_lists(alloc, &sketch.atoms, &sketch.bonds, bond_in_ring)
+    let arena = Bump::new(alloc);
+    let found = perceive_in(&arena, sketch, bond_in_ring)?;
+    Ok(Arom {
+        atoms: found.atoms.to_vec(alloc)?,
+        bonds: found.bonds.to_vec(alloc)?,
+        valences: found.valences.to_vec(alloc)?,
+    })
 }
 
-fn perceive_lists(
-    alloc: Global,
+/// The same, with all memory from an arena, for one sketch after another.
+pub fn perceive_in<'a>(
+    arena: &'a Bump,
+    sketch: &Sketch,
+    bond_in_ring: &[bool],
+) -> Result<Arom<&'a Bump>, AromFault>
+    requires sound { IsSound sketch.now }
+    requires rings { AreRingBonds (sketch_ends sketch.now) bond_in_ring.now }
+    ensures perceived { IfOk result (λ r. IsPerceived sketch.now bond_in_ring.now
+        r.atoms.items r.bonds.items r.valences.items) }
+    ensures refused { IfErr result (λ e. IsFaultOf sketch.now bond_in_ring.now e) }
+{
+    perceive_lists(arena, &sketch.atoms, &sketch.bonds, bond_in_ring)
+}
+
+fn perceive_lists<'a>(
+    arena: &'a Bump,
     atoms: &[SketchAtom],
     bonds: &[SketchBond],
     bond_in_ring: &[bool],
-) -> Result<Arom, AromFault>
+) -> Result<Arom<&'a Bump>, AromFault>
     requires sound { IsSound (record { atoms = atoms.now; bonds = bonds.now }) }
     requires rings { AreRingBonds (ends_among bonds.now) bond_in_ring.now }
     ensures perceived { IfOk result (λ r. IsPerceived (record { atoms = atoms.now; bonds = bonds.now })
@@ -81,14 +103,14 @@ fn perceive_lists(
     ensures refused { IfErr result (λ e. IsFaultOf (record { atoms = atoms.now; bonds = bonds.now })
         bond_in_ring.now e) }
 {
-    let rows = rows_of(alloc, atoms, bonds, bond_in_ring)?;
-    let marks = find_bonds(alloc, atoms, bonds, bond_in_ring, &rows)?;
-    let flags = find_atoms(alloc, atoms, bonds, bond_in_ring, &marks)?;
-    let tallies = tallies(alloc, atoms.len(), bonds, &marks)?;
+    let rows = rows_of(arena, atoms, bonds, bond_in_ring)?;
+    let marks = find_bonds(arena, atoms, bonds, bond_in_ring, &rows)?;
+    let flags = find_atoms(arena, atoms, bonds, bond_in_ring, &marks)?;
+    let tallies = tallies(arena, atoms.len(), bonds, &marks)?;
     if let Some(written) = first_refused(atoms, &tallies, &flags) {
         return Err(AromFault::Aromatic(written));
     }
-    let values = valences(alloc, atoms, &tallies, &rows, &flags)?;
+    let values = valences(arena, atoms, &tallies, &rows, &flags)?;
     Ok(Arom {
         atoms: flags,
         bonds: marks,
@@ -97,25 +119,28 @@ fn perceive_lists(
 }
 
 // The row of each atom; none where it is no candidate.
-fn rows_of(
-    alloc: Global,
+fn rows_of<'a>(
+    arena: &'a Bump,
     atoms: &[SketchAtom],
     bonds: &[SketchBond],
     bond_in_ring: &[bool],
-) -> Result<Vec<Option<Row>>, AllocError>
+) -> Result<Vec<Option<Row>, &'a Bump>, AllocError>
     requires sound { IsSound (record { atoms = atoms.now; bonds = bonds.now }) }
     requires rings { length bond_in_ring.now ≡ length bonds.now }
     ensures { IfOk result (λ rows. AreRows (record { atoms = atoms.now; bonds = bonds.now })
         bond_in_ring.now rows.items) }
 {
-    let environments = environments(alloc, atoms, bonds, bond_in_ring)?;
-    rows_by(alloc, &environments)
+    let environments = environments(arena, atoms, bonds, bond_in_ring)?;
+    rows_by(arena, &environments)
 }
 
-fn rows_by(alloc: Global, environments: &[Environment]) -> Result<Vec<Option<Row>>, AllocError>
+fn rows_by<'a>(
+    arena: &'a Bump,
+    environments: &[Environment],
+) -> Result<Vec<Option<Row>, &'a Bump>, AllocError>
     ensures { IfOk result (λ rows. rows.items ≡ map candidate_row environments.now) }
 {
-    environments.iter().map(Environment::row).collect(alloc)
+    environments.iter().map(Environment::row).collect(arena)
 }
 
 // The valence of an atom: its bond orders, its hydrogens, and 1 more where it is aromatic and its row adds one.
@@ -161,13 +186,13 @@ fn is_refused(atom: &SketchAtom, aromatic: bool, colon: bool) -> bool
 }
 
 // The valences of all atoms.
-fn valences(
-    alloc: Global,
+fn valences<'a>(
+    arena: &'a Bump,
     atoms: &[SketchAtom],
     tallies: &[Tally],
     rows: &[Option<Row>],
     flags: &[bool],
-) -> Result<Vec<u8>, AllocError>
+) -> Result<Vec<u8, &'a Bump>, AllocError>
     requires valid { All IsSketchAtom atoms.now }
     requires few { All (λ t. t.bonded ≤ 48) tallies.now }
     requires tallies_each { length tallies.now ≡ length atoms.now }
@@ -176,7 +201,7 @@ fn valences(
     ensures { IfOk result (λ v. v.items ≡ map (λ p. valence_at flags.now tallies.now rows.now p.0 p.1)
         (enumerate_from 0 atoms.now)) }
 {
-    let mut values = Vec::with_capacity(alloc, atoms.len())?;
+    let mut values = Vec::with_capacity(arena, atoms.len())?;
     for (place, atom) in atoms.iter().enumerate() {
         values.push(valence(atom, tallies[place], rows[place], flags[place]))?;
     }

@@ -8,10 +8,11 @@ ghost use Rattle.mol_finish.specs.declared.fault.Format.{Format};
 
 use crate::fault::{Format, TextFault};
 use crate::molecule::molecule;
-use aromatic::{AromFault, perceive};
+use aromatic::{AromFault, perceive_in};
+use bumpalo::Bump;
 use chem_core::{Mol, Sketch};
 use molfile_read::read_molfile;
-use ring_find::rings;
+use ring_find::rings_in;
 use smiles_read::read_smiles;
 use std::alloc::Global;
 use valence::{fill_hydrogens, suppress};
@@ -26,9 +27,22 @@ use valence::{fill_hydrogens, suppress};
 pub fn structure(alloc: Global, format: Format, text: &[u8]) -> Result<Mol, TextFault>
     ensures { IsAnswer format text.now result }
 {
+    let arena = Bump::new(alloc);
+    structure_in(alloc, &arena, format, text)
+}
+
+/// The same, with the working memory of rings and aromaticity from an arena, for one text after another.
+pub fn structure_in(
+    alloc: Global,
+    arena: &Bump,
+    format: Format,
+    text: &[u8],
+) -> Result<Mol, TextFault>
+    ensures { IsAnswer format text.now result }
+{
     match format {
-        Format::Smiles => of_smiles(alloc, text),
-        Format::Molfile => of_molfile(alloc, text),
+        Format::Smiles => of_smiles(alloc, arena, text),
+        Format::Molfile => of_molfile(alloc, arena, text),
     }
 }
 
@@ -53,29 +67,29 @@ pub fn one_answer()
     ring_find::one_answer();
 }
 
-fn of_smiles(alloc: Global, text: &[u8]) -> Result<Mol, TextFault>
+fn of_smiles(alloc: Global, arena: &Bump, text: &[u8]) -> Result<Mol, TextFault>
     ensures { IsStructure text.now result }
 {
     let sketch = read_smiles(alloc, text)?;
-    Ok(of_sketch(alloc, sketch)?)
+    Ok(of_sketch(alloc, arena, sketch)?)
 }
 
-fn of_molfile(alloc: Global, text: &[u8]) -> Result<Mol, TextFault>
+fn of_molfile(alloc: Global, arena: &Bump, text: &[u8]) -> Result<Mol, TextFault>
     ensures { IsMolfileStructure text.now result }
 {
     let sketch = read_molfile(alloc, text)?;
-    Ok(of_sketch(alloc, sketch)?)
+    Ok(of_sketch(alloc, arena, sketch)?)
 }
 
 // What a sketch means once its hydrogens are counted.
-fn of_sketch(alloc: Global, mut sketch: Sketch) -> Result<Mol, AromFault>
+fn of_sketch(alloc: Global, arena: &Bump, mut sketch: Sketch) -> Result<Mol, AromFault>
     requires sound { IsSound sketch }
     requires few { All (λ a. a.hydrogens ≤ 9) sketch.atoms }
     ensures { IsFinished sketch result }
 {
     fill_hydrogens(&mut sketch);
     suppress(&mut sketch);
-    let rings = rings(alloc, &sketch)?;
-    let found = perceive(alloc, &sketch, &rings.bond_in_ring)?;
+    let rings = rings_in(alloc, arena, &sketch)?;
+    let found = perceive_in(arena, &sketch, &rings.bond_in_ring)?;
     Ok(molecule(alloc, &sketch, &found, rings)?)
 }

@@ -5,7 +5,7 @@ mod answer;
 mod fault;
 mod molecule;
 
-pub use answer::{one_answer, one_structure, structure};
+pub use answer::{one_answer, one_structure, structure, structure_in};
 pub use fault::{Format, TextFault};
 
 #[cfg(test)]

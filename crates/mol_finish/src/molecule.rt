@@ -5,6 +5,7 @@ ghost use Rattle.chem_core.specs.RingFacts.{AreRingBonds, AreSmallestRings};
 ghost use Rattle.mol_finish.specs.Meant.{written_kind, meant_kind, meant_atom, meant_bond, meant_atoms, meant_bonds, meant};
 
 use aromatic::Arom;
+use bumpalo::Bump;
 use chem_core::{Atom, Bond, BondKind, Mol, Sketch, SketchAtom, SketchBond, SketchKind};
 use ring_find::Rings;
 use std::alloc::{AllocError, Global};
@@ -13,7 +14,7 @@ use std::alloc::{AllocError, Global};
 pub(crate) fn molecule(
     alloc: Global,
     sketch: &Sketch,
-    found: &Arom,
+    found: &Arom<&Bump>,
     rings: Rings,
 ) -> Result<Mol, AllocError>
     requires sound { IsSound sketch.now }

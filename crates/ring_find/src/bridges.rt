@@ -9,7 +9,8 @@ ghost use Rattle.ring_find.specs.BondRings.{KeepsRings};
 ghost use Rattle.ring_find.specs.Bridges.{AreForest, AreTaken};
 
 use crate::graph::Graph;
-use std::alloc::{AllocError, Global};
+use bumpalo::Bump;
+use std::alloc::AllocError;
 
 // In so few atoms a search over the bonds between rings costs no more than to find these.
 const FEW_ATOMS: usize = 40;
@@ -37,7 +38,7 @@ struct Seen {
 }
 
 /// Drops bonds that are kept and lie between rings. Each ring bond stays.
-pub fn drop_bridges(alloc: Global, graph: &Graph, kept: &mut [bool]) -> Result<(), AllocError>
+pub fn drop_bridges(arena: &Bump, graph: &Graph<'_>, kept: &mut [bool]) -> Result<(), AllocError>
     requires { KeepsRings graph.now.ends kept.old }
     ensures { OnOk result (KeepsRings graph.now.ends kept.new) }
 {
@@ -45,8 +46,8 @@ pub fn drop_bridges(alloc: Global, graph: &Graph, kept: &mut [bool]) -> Result<(
         return Ok(());
     }
     let ends = graph.ends();
-    let labels = labels(alloc, graph)?;
-    if is_forest(alloc, ends, &labels)? {
+    let labels = labels(arena, graph)?;
+    if is_forest(arena, ends, &labels)? {
         drop_between(kept, ends, &labels);
     }
     Ok(())
@@ -67,11 +68,11 @@ fn drop_between(kept: &mut [bool], ends: &[(u16, u16)], labels: &[u16])
 }
 
 // Whether from each label at most one bond leads to a lower one. It may answer `false` even if this holds.
-fn is_forest(alloc: Global, ends: &[(u16, u16)], labels: &[u16]) -> Result<bool, AllocError>
+fn is_forest(arena: &Bump, ends: &[(u16, u16)], labels: &[u16]) -> Result<bool, AllocError>
     requires { IsSimpleGraph (length labels.now) ends.now }
     ensures { result ≡ Ok true → AreForest ends.now labels.now }
 {
-    let mut taken = vec![in alloc; false; labels.len()]?;
+    let mut taken = vec![in arena; false; labels.len()]?;
     for place in 0..ends.len() {
         if !take(&mut taken, ends, labels, place) {
             return Ok(false);
@@ -114,7 +115,7 @@ fn higher(one: u16, other: u16) -> Option<u16>
 }
 
 // A label for each atom: the number of the first atom that it hangs together with by rings.
-fn labels(alloc: Global, graph: &Graph) -> Result<Vec<u16>, AllocError>
+fn labels<'a>(arena: &'a Bump, graph: &Graph<'_>) -> Result<Vec<u16, &'a Bump>, AllocError>
     ensures { IfOk result (λ labels. length labels.items ≡ graph.now.atoms) }
 {
     let unseen = Seen {
@@ -123,27 +124,40 @@ fn labels(alloc: Global, graph: &Graph) -> Result<Vec<u16>, AllocError>
         bond: NONE,
         low: NONE,
     };
-    let mut visits = vec![in alloc; unseen; graph.atoms()]?;
-    let mut order = Vec::with_capacity(alloc, graph.atoms())?;
-    let mut ways = Vec::new(alloc);
-    for atom in 0..graph.atoms() {
-        walk_from(graph, atom as u16, &mut visits, &mut order, &mut ways)?;
-    }
+    let mut visits = vec![in arena; unseen; graph.atoms()]?;
+    let mut order = Vec::with_capacity(arena, graph.atoms())?;
+    let mut ways = Vec::new(arena);
+    walk(graph, &mut visits, &mut order, &mut ways)?;
     find_lows(graph, &order, &mut visits);
-    let mut labels = vec![in alloc; 0; graph.atoms()]?;
+    let mut labels = vec![in arena; 0; graph.atoms()]?;
     for atom in order.iter() {
         label(*atom, &visits, &mut labels);
     }
     Ok(labels)
 }
 
+// Walks to all atoms.
+fn walk(
+    graph: &Graph<'_>,
+    visits: &mut [Seen],
+    order: &mut Vec<u16, &Bump>,
+    ways: &mut Vec<Way, &Bump>,
+) -> Result<(), AllocError>
+    requires { length visits.old ≡ graph.now.atoms }
+{
+    for atom in 0..graph.atoms() {
+        walk_from(graph, atom as u16, visits, order, ways)?;
+    }
+    Ok(())
+}
+
 // Walks to all atoms that can be reached from the first and that the walk has not come to.
 fn walk_from(
-    graph: &Graph,
+    graph: &Graph<'_>,
     first: u16,
     visits: &mut [Seen],
-    order: &mut Vec<u16>,
-    ways: &mut Vec<Way>,
+    order: &mut Vec<u16, &Bump>,
+    ways: &mut Vec<Way, &Bump>,
 ) -> Result<(), AllocError>
     requires { length visits.old ≡ graph.now.atoms }
 {
@@ -165,11 +179,11 @@ fn walk_from(
 
 // Comes to an atom for the first time, and sees the ways from there.
 fn visit(
-    graph: &Graph,
+    graph: &Graph<'_>,
     way: Way,
     visits: &mut [Seen],
-    order: &mut Vec<u16>,
-    ways: &mut Vec<Way>,
+    order: &mut Vec<u16, &Bump>,
+    ways: &mut Vec<Way, &Bump>,
 ) -> Result<(), AllocError>
     requires { length visits.old ≡ graph.now.atoms }
 {
@@ -195,7 +209,7 @@ fn visit(
 }
 
 // Finds the lows, those of later atoms first.
-fn find_lows(graph: &Graph, order: &[u16], visits: &mut [Seen])
+fn find_lows(graph: &Graph<'_>, order: &[u16], visits: &mut [Seen])
     requires { length visits.old ≡ graph.now.atoms }
 {
     for atom in order.iter().rev() {
@@ -207,7 +221,7 @@ fn find_lows(graph: &Graph, order: &[u16], visits: &mut [Seen])
 }
 
 // An atom's low number. Those of the atoms reached from it must be known.
-fn low_of(graph: &Graph, atom: u16, visits: &[Seen]) -> u16
+fn low_of(graph: &Graph<'_>, atom: u16, visits: &[Seen]) -> u16
     requires { length visits.now ≡ graph.now.atoms }
 {
     let place = usize::from(atom);

@@ -5,8 +5,9 @@ ghost use Rattle.chem_core.specs.declared.limits.TheConstants.{MOST_NEIGHBOURS};
 ghost use Rattle.chem_core.specs.Sound.{IsSound, ends_among, sketch_ends};
 ghost use Rattle.ring_find.specs.Network.{AreFilled, AreStepsFrom};
 
+use bumpalo::Bump;
 use chem_core::{MOST_NEIGHBOURS, Sketch, SketchBond};
-use std::alloc::{AllocError, Global};
+use std::alloc::AllocError;
 use std::marker::Model;
 
 /// A step from an atom: where it goes, and by which bond.
@@ -16,18 +17,18 @@ pub struct Step {
     pub bond: u16,
 }
 
-/// The graph of a sketch. Contracts see how many atoms it has, and the ends of its bonds.
-#[derive(Debug, Drop)]
-pub struct Graph {
+/// The graph of a sketch, in an arena. Contracts see how many atoms it has, and the ends of its bonds.
+#[derive(Drop)]
+pub struct Graph<'a> {
     atoms: usize,
-    ends: Vec<(u16, u16)>,
+    ends: Vec<(u16, u16), &'a Bump>,
     // Room for the steps from each atom, `MOST_NEIGHBOURS` for each.
-    steps: Vec<Step>,
+    steps: Vec<Step, &'a Bump>,
     // For each atom how many steps there are.
-    degrees: Vec<u16>,
+    degrees: Vec<u16, &'a Bump>,
 }
 
-impl Model for Graph {
+impl<'a> Model for Graph<'a> {
     ghost use Rattle.ring_find.specs.Network.{Network, IsNetworkInside};
 
     ghost Value = { Network };
@@ -37,9 +38,9 @@ impl Model for Graph {
     ghost invariant = { λ g. IsNetworkInside g.atoms g.ends.items g.steps.items g.degrees.items };
 }
 
-impl Graph {
+impl<'a> Graph<'a> {
     /// The graph of a sketch. Fails only for want of memory.
-    pub fn of(alloc: Global, sketch: &Sketch) -> Result<Graph, AllocError>
+    pub fn of(arena: &'a Bump, sketch: &Sketch) -> Result<Graph<'a>, AllocError>
         requires { IsSound sketch.now }
         ensures { IfOk result (λ graph. graph ≡ record {
           atoms = length sketch.now.atoms;
@@ -47,9 +48,9 @@ impl Graph {
         }) }
     {
         let atoms = sketch.atoms.len();
-        let ends = ends_of(alloc, &sketch.bonds)?;
-        let mut steps = vec![in alloc; Step { to: 0, bond: 0 }; MOST_NEIGHBOURS * atoms]?;
-        let mut degrees = vec![in alloc; 0u16; atoms]?;
+        let ends = ends_of(arena, &sketch.bonds)?;
+        let mut steps = vec![in arena; Step { to: 0, bond: 0 }; MOST_NEIGHBOURS * atoms]?;
+        let mut degrees = vec![in arena; 0u16; atoms]?;
         fill(&mut steps, &mut degrees, &ends);
         Ok(Graph {
             atoms,
@@ -87,10 +88,13 @@ impl Graph {
     }
 }
 
-fn ends_of(alloc: Global, bonds: &[SketchBond]) -> Result<Vec<(u16, u16)>, AllocError>
+fn ends_of<'a>(
+    arena: &'a Bump,
+    bonds: &[SketchBond],
+) -> Result<Vec<(u16, u16), &'a Bump>, AllocError>
     ensures { IfOk result (λ ends. ends.items ≡ ends_among bonds.now) }
 {
-    bonds.iter().map(|bond| (bond.a, bond.b)).collect(alloc)
+    bonds.iter().map(|bond| (bond.a, bond.b)).collect(arena)
 }
 
 // Puts each bond into the steps from each of its ends, where there are no steps yet.

@@ -23,6 +23,7 @@ use crate::graph::Graph;
 use crate::search::ring_lengths;
 use crate::smallest::smallest_rings;
 use crate::strip::strip_dead_ends;
+use bumpalo::Bump;
 use chem_core::Sketch;
 pub use ring_facts::Rings;
 use std::alloc::{AllocError, Global};
@@ -38,10 +39,21 @@ pub fn rings(alloc: Global, sketch: &Sketch) -> Result<Rings, AllocError>
     ensures atoms { IfOk result (λ r. AreSmallestRings (length sketch.now.atoms) (sketch_ends sketch.now)
         r.atom_small.items) }
 {
-    let graph = Graph::of(alloc, sketch)?;
-    let mut kept = strip_dead_ends(alloc, &graph)?;
-    drop_bridges(alloc, &graph, &mut kept)?;
-    let lengths = ring_lengths(alloc, &graph, &kept)?;
+    let arena = Bump::new(alloc);
+    rings_in(alloc, &arena, sketch)
+}
+
+/// The same, with working memory from an arena, for one sketch after another.
+pub fn rings_in(alloc: Global, arena: &Bump, sketch: &Sketch) -> Result<Rings, AllocError>
+    requires { IsSound sketch.now }
+    ensures bonds { IfOk result (λ r. AreRingBonds (sketch_ends sketch.now) r.bond_in_ring.items) }
+    ensures atoms { IfOk result (λ r. AreSmallestRings (length sketch.now.atoms) (sketch_ends sketch.now)
+        r.atom_small.items) }
+{
+    let graph = Graph::of(arena, sketch)?;
+    let mut kept = strip_dead_ends(arena, &graph)?;
+    drop_bridges(arena, &graph, &mut kept)?;
+    let lengths = ring_lengths(arena, &graph, &kept)?;
     let bond_in_ring = nonzero(alloc, &lengths)?;
     let atom_small = smallest_rings(alloc, &graph, &lengths)?;
     Ok(Rings {

@@ -8,17 +8,22 @@ ghost use Rattle.ring_find.specs.Strip.{IsOnlyBeside, is_beside};
 ghost use Rattle.ring_find.specs.declared.graph.Step.{Step};
 
 use crate::graph::{Graph, Step};
-use std::alloc::{AllocError, Global};
+use bumpalo::Bump;
+use std::alloc::AllocError;
 
 /// For each bond the length of the smallest ring through it, 0 where there is none. Only kept bonds are walked.
-pub fn ring_lengths(alloc: Global, graph: &Graph, kept: &[bool]) -> Result<Vec<u16>, AllocError>
+pub fn ring_lengths<'a>(
+    arena: &'a Bump,
+    graph: &Graph<'_>,
+    kept: &[bool],
+) -> Result<Vec<u16, &'a Bump>, AllocError>
     requires { KeepsRings graph.now.ends kept.now }
     ensures { IfOk result (λ lengths. AreBondRings graph.now.ends lengths.items) }
 {
     let bonds = graph.ends().len();
-    let mut lengths = Vec::with_capacity(alloc, bonds)?;
-    let mut marks: Vec<u16> = vec![in alloc; 0u16; graph.atoms()]?;
-    let mut queue: Vec<u16> = Vec::with_capacity(alloc, graph.atoms())?;
+    let mut lengths = Vec::with_capacity(arena, bonds)?;
+    let mut marks = vec![in arena; 0u16; graph.atoms()]?;
+    let mut queue = Vec::with_capacity(arena, graph.atoms())?;
     for place in 0..bonds {
         let length = ring_length(graph, kept, &lengths, place as u16, &mut marks, &mut queue)?;
         lengths.push(length)?;
@@ -29,12 +34,12 @@ pub fn ring_lengths(alloc: Global, graph: &Graph, kept: &[bool]) -> Result<Vec<u
 // The length of the smallest ring through a bond, 0 where there is none. The lengths are those of the bonds before it.
 // No atom is marked, before and after.
 fn ring_length(
-    graph: &Graph,
+    graph: &Graph<'_>,
     kept: &[bool],
     lengths: &[u16],
     bond: u16,
     marks: &mut [u16],
-    queue: &mut Vec<u16>,
+    queue: &mut Vec<u16, &Bump>,
 ) -> Result<u16, AllocError>
     requires kept { KeepsRings graph.now.ends kept.now }
     requires bond { bond < length graph.now.ends }
@@ -65,7 +70,7 @@ fn ring_length(
 }
 
 // The length of the smallest ring through a bond, where it is that of a bond before.
-fn known_length(graph: &Graph, kept: &[bool], lengths: &[u16], bond: u16) -> Option<u16>
+fn known_length(graph: &Graph<'_>, kept: &[bool], lengths: &[u16], bond: u16) -> Option<u16>
     requires kept { KeepsRings graph.now.ends kept.now }
     requires bond { bond < length graph.now.ends }
     requires before { (b : ℕ) → b < length lengths.now
@@ -118,12 +123,12 @@ fn is_beside(kept: &[bool], bond: u16, other: u16) -> bool
 // Marks the neighbours of the next atom of the queue that are not marked yet, and puts them at the end of the queue.
 // A mark is one more than the number of steps from the first atom.
 fn visit(
-    graph: &Graph,
+    graph: &Graph<'_>,
     kept: &[bool],
     bond: u16,
     next: usize,
     marks: &mut [u16],
-    queue: &mut Vec<u16>,
+    queue: &mut Vec<u16, &Bump>,
 ) -> Result<(), AllocError>
     requires few { graph.now.atoms ≤ MOST_ATOMS }
     requires kept { length kept.now ≡ length graph.now.ends }

@@ -8,7 +8,11 @@ use crate::graph::Graph;
 use std::alloc::{AllocError, Global};
 
 /// For each atom the length of its smallest ring, the least of its bonds' lengths; 0 where it is in none.
-pub fn smallest_rings(alloc: Global, graph: &Graph, lengths: &[u16]) -> Result<Vec<u16>, AllocError>
+pub fn smallest_rings(
+    alloc: Global,
+    graph: &Graph<'_>,
+    lengths: &[u16],
+) -> Result<Vec<u16>, AllocError>
     requires { AreBondRings graph.now.ends lengths.now }
     ensures { IfOk result (λ small. AreSmallestRings graph.now.atoms graph.now.ends small.items) }
 {

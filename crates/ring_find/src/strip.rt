@@ -5,14 +5,18 @@ ghost use Rattle.ring_find.specs.Strip.{IsOnlyKept, IsDeadEnd};
 ghost use Rattle.ring_find.specs.declared.graph.Step.{Step};
 
 use crate::graph::{Graph, Step};
-use std::alloc::{AllocError, Global};
+use bumpalo::Bump;
+use std::alloc::AllocError;
 
 /// For each bond whether it is kept: each ring bond is, and no atom is left as a dead end.
-pub fn strip_dead_ends(alloc: Global, graph: &Graph) -> Result<Vec<bool>, AllocError>
+pub fn strip_dead_ends<'a>(
+    arena: &'a Bump,
+    graph: &Graph<'_>,
+) -> Result<Vec<bool, &'a Bump>, AllocError>
     ensures rings { IfOk result (λ kept. KeepsRings graph.now.ends kept.items) }
     ensures ends { IfOk result (λ kept. (v : ℕ) → IsDeadEnd graph.now.ends kept.items v → ⊥) }
 {
-    let mut kept = vec![in alloc; true; graph.ends().len()]?;
+    let mut kept = vec![in arena; true; graph.ends().len()]?;
     for atom in 0..graph.atoms() {
         strip_from(graph, &mut kept, atom as u16);
     }
@@ -20,7 +24,7 @@ pub fn strip_dead_ends(alloc: Global, graph: &Graph) -> Result<Vec<bool>, AllocE
 }
 
 // Walks from a dead end inwards, stripping each bond on the way, as long as no other bond is kept.
-fn strip_from(graph: &Graph, kept: &mut [bool], atom: u16)
+fn strip_from(graph: &Graph<'_>, kept: &mut [bool], atom: u16)
     requires atom { atom < graph.now.atoms }
     requires rings { KeepsRings graph.now.ends kept.old }
     requires ends { (v : ℕ) → v < atom → IsDeadEnd graph.now.ends kept.old v → ⊥ }

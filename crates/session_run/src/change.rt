@@ -14,9 +14,8 @@ use crate::stop::Worn;
 use crate::texts::text_is_sound;
 use mol_finish::{Format, TextFault};
 use shell_lang::{Refusal, Reply};
-use std::alloc::Global;
 use std::sync::Arc;
-use store_core::{CallFault, Change, CommitFault, Record, Service};
+use store_core::{CallFault, Change, CommitFault, Record, Recorder, Service};
 
 /// A change to a text.
 #[derive(Clone, Copy, Debug, PartialEq, Eq)]
@@ -27,7 +26,7 @@ pub enum Verb {
 
 /// Commits a change to a text under an identifier. The text is looked at first.
 pub fn change_text<S: Service>(
-    alloc: Global,
+    recorder: &mut Recorder,
     service: &mut S,
     verb: Verb,
     id: u32,
@@ -41,7 +40,7 @@ pub fn change_text<S: Service>(
     ensures held { SameHeld (S.holds service.old) (S.holds service.new) }
     ensures bounds { NotRaised (S.bounds service.old) (S.bounds service.new) }
 {
-    let record = match Record::make(alloc, id, format, text) {
+    let record = match recorder.record(id, format, text) {
         Ok(record) => record,
         Err(fault) => return Ok(refuse_text(fault)),
     };

@@ -28,12 +28,13 @@ use par_search::Meter;
 use shell_lang::{Command, LineRefusal, MolfileChange, Refusal, Reply, read_command, reply_text};
 use std::alloc::{AllocError, Global};
 use std::thread::Threads;
-use store_core::{Change, Service};
+use store_core::{Change, Recorder, Service};
 
 /// What answers requests: the open cursors, and buffers that are reused for each request.
 #[derive(Drop)]
 pub struct Responder {
     alloc: Global,
+    recorder: Recorder,
     pub settings: Settings,
     pub cursors: Cursors,
     /// The text of the molfile that the request under way has.
@@ -51,6 +52,7 @@ impl Responder {
     {
         Ok(Responder {
             alloc,
+            recorder: Recorder::new(alloc),
             settings,
             cursors: Cursors::new(alloc, settings.page),
             molfile: Vec::new(alloc),
@@ -150,7 +152,7 @@ impl Responder {
             self.old self.new (text_command verb id text.now) result }
         ensures keeps { Keeps S.holds S.worn S.bounds service.old service.new self.old self.new result }
     {
-        let reply = change_text(self.alloc, service, verb, id, Format::Smiles, text);
+        let reply = change_text(&mut self.recorder, service, verb, id, Format::Smiles, text);
         say_line(reply, &mut self.out)
     }
 
@@ -314,7 +316,7 @@ impl Responder {
             Ok(change) => {
                 let (verb, id) = parts(change);
                 let reply = change_text(
-                    self.alloc,
+                    &mut self.recorder,
                     service,
                     verb,
                     id,

@@ -16,7 +16,7 @@ mod walk;
 mod words;
 
 pub use page::Page;
-pub use record::Record;
+pub use record::{Record, Recorder};
 pub use service::Service;
 pub use steps::Steps;
 pub use store::{MOST_COMMITS, Store};

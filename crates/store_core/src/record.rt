@@ -7,8 +7,9 @@ ghost use Rattle.store_machine.specs.History.{IsId};
 ghost use Rattle.store_machine.specs.Structures.{IsPrintOf, IsScreened};
 ghost use Rattle.store_core.specs.Records.{IsRecord};
 
+use bumpalo::Bump;
 use chem_core::{Mol, Print};
-use mol_finish::{Format, TextFault, one_structure, structure};
+use mol_finish::{Format, TextFault, one_structure, structure_in};
 use path_print::print;
 use std::alloc::Global;
 use std::marker::Model;
@@ -35,6 +36,13 @@ impl Model for Record {
         { id = r.id; format = r.format; text = r.text.items; mol = r.mol; print = r.print }) };
 }
 
+/// What makes records of one text after another, with working memory that is kept from one to the next.
+#[derive(Drop)]
+pub struct Recorder {
+    alloc: Global,
+    arena: Bump,
+}
+
 impl Record {
     /// The record of a text. It is refused as `structure` refuses the text.
     pub fn make(
@@ -49,20 +57,7 @@ impl Record {
         ensures text { IfOk result (λ r. (arc_value r).text ≡ text.now) }
         ensures fault { IfErr result (λ fault. IsAnswer format text.now (Err fault)) }
     {
-        let mol = structure(alloc, format, text)?;
-        let text = Vec::from_slice(alloc, text)?;
-        let print = print_of(&mol);
-        let record = Record {
-            id,
-            format,
-            text,
-            mol,
-            print,
-        };
-        match Arc::new(alloc, record) {
-            Ok(record) => Ok(record),
-            Err(_) => Err(TextFault::NoMemory),
-        }
+        Recorder::new(alloc).record(id, format, text)
     }
 
     pub fn id(&self) -> u32
@@ -106,6 +101,49 @@ impl Record {
     {
         one_structure();
         self.print.holds(want)
+    }
+}
+
+impl Recorder {
+    /// Takes no memory.
+    pub fn new(alloc: Global) -> Recorder {
+        Recorder {
+            alloc,
+            arena: Bump::new(alloc),
+        }
+    }
+
+    /// The record of a text. It is refused as `structure` refuses the text.
+    pub fn record(&mut self, id: u32, format: Format, text: &[u8]) -> Result<Arc<Record>, TextFault>
+        requires { IsId id }
+        ensures id { IfOk result (λ r. (arc_value r).id ≡ id) }
+        ensures format { IfOk result (λ r. (arc_value r).format ≡ format) }
+        ensures text { IfOk result (λ r. (arc_value r).text ≡ text.now) }
+        ensures fault { IfErr result (λ fault. IsAnswer format text.now (Err fault)) }
+    {
+        let made = structure_in(self.alloc, &self.arena, format, text);
+        self.free();
+        let mol = made?;
+        let text = Vec::from_slice(self.alloc, text)?;
+        let print = print_of(&mol);
+        let record = Record {
+            id,
+            format,
+            text,
+            mol,
+            print,
+        };
+        match Arc::new(self.alloc, record) {
+            Ok(record) => Ok(record),
+            Err(_) => Err(TextFault::NoMemory),
+        }
+    }
+
+    // Makes the working memory free for the next text.
+    fn free(&mut self) {
+        if self.arena.reset().is_err() {
+            self.arena = Bump::new(self.alloc);
+        }
     }
 }
 

@@ -12,7 +12,7 @@ ghost use Rattle.store_disk.specs.Payloads.{logged_format, payload, stored_forma
 use commit_log::{Wire, encode_register, encode_revise, encode_withdraw};
 use mol_finish::{Format, TextFault};
 use std::alloc::{AllocError, Global};
-use store_core::{Change, Record};
+use store_core::{Change, Recorder};
 
 /// The payload of a change. A record's text is short.
 pub(crate) fn payload_of(alloc: Global, change: &Change) -> Result<Vec<u8>, AllocError>
@@ -42,7 +42,7 @@ pub(crate) fn payload_of(alloc: Global, change: &Change) -> Result<Vec<u8>, Allo
 }
 
 /// The change that was logged, with the structure of its text. It is refused as the text is.
-pub(crate) fn change_from(alloc: Global, wire: &Wire) -> Result<Change, TextFault>
+pub(crate) fn change_from(recorder: &mut Recorder, wire: &Wire) -> Result<Change, TextFault>
     requires { IsInRange (logged.change_of wire.now) }
     ensures change { IfOk result (λ c. change_of c ≡ told (logged.change_of wire.now)) }
     ensures fault { IfErr result (λ fault. fault ≢ NoMemory → ¬ IsValid (told (logged.change_of wire.now))) }
@@ -50,11 +50,11 @@ pub(crate) fn change_from(alloc: Global, wire: &Wire) -> Result<Change, TextFaul
     mol_finish::one_answer();
     match wire {
         Wire::Register { id, format, text } => {
-            let record = Record::make(alloc, *id, stored_format(*format), text)?;
+            let record = recorder.record(*id, stored_format(*format), text)?;
             Ok(Change::Register(record))
         }
         Wire::Revise { id, format, text } => {
-            let record = Record::make(alloc, *id, stored_format(*format), text)?;
+            let record = recorder.record(*id, stored_format(*format), text)?;
             Ok(Change::Revise(record))
         }
         Wire::Withdraw { id } => Ok(Change::Withdraw(*id)),

@@ -18,7 +18,7 @@ use commit_log::Commit;
 use journal_core::LoadFault;
 use mol_finish::TextFault;
 use std::alloc::Global;
-use store_core::{CommitFault, MOST_COMMITS, Service, Store as Memory};
+use store_core::{CommitFault, MOST_COMMITS, Recorder, Service, Store as Memory};
 
 /// The store in memory after the commits of a log. It keeps what the head reads.
 pub(crate) fn replay(alloc: Global, log: &[Commit], commits: u32) -> Result<Memory, LoadFault>
@@ -31,14 +31,15 @@ pub(crate) fn replay(alloc: Global, log: &[Commit], commits: u32) -> Result<Memo
     ensures no_other { ¬ IsErrOf result LoadFault.NotAStore }
 {
     let mut memory = Memory::fresh(alloc, MOST_COMMITS);
+    let mut recorder = Recorder::new(alloc);
     for commit in log {
-        add(alloc, &mut memory, commit)?;
+        add(&mut recorder, &mut memory, commit)?;
     }
     Ok(opened(memory, commits))
 }
 
 // One commit more.
-fn add(alloc: Global, memory: &mut Memory, commit: &Commit) -> Result<(), LoadFault>
+fn add(recorder: &mut Recorder, memory: &mut Memory, commit: &Commit) -> Result<(), LoadFault>
     requires { IsLogged (logged.change_of commit.now.wire) }
     ensures ok { OnOk result ((s : State) → StandsFor memory.old s
         → MayAdd s (told (logged.change_of commit.now.wire))
@@ -48,7 +49,7 @@ fn add(alloc: Global, memory: &mut Memory, commit: &Commit) -> Result<(), LoadFa
     ensures no_disk { ¬ IsErrOf result LoadFault.Disk }
     ensures no_other { ¬ IsErrOf result LoadFault.NotAStore }
 {
-    match change_from(alloc, &commit.wire) {
+    match change_from(recorder, &commit.wire) {
         Ok(change) => match memory.advance(&change) {
             Ok(_) => Ok(()),
             Err(

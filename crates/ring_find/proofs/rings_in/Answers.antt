@@ -1,6 +1,6 @@
 use Rattle.std.proofs.Common.{ap}
 use Rattle.ring_find.proofs.Ringed.{ring_bonds_from}
-use Rattle.ring_find.proofs.rings.Goals as goal
+use Rattle.ring_find.proofs.rings_in.Goals as goal
 
 pub returns-clause-bonds : goal.returns-clause-bonds
 returns-clause-bonds c =
