@@ -11,9 +11,9 @@ use crate::molecule::molecule;
 use aromatic::{AromFault, perceive_in};
 use bumpalo::Bump;
 use chem_core::{Mol, Sketch};
-use molfile_read::read_molfile;
+use molfile_read::read_molfile_in;
 use ring_find::rings_in;
-use smiles_read::read_smiles;
+use smiles_read::read_smiles_in;
 use std::alloc::Global;
 use valence::{fill_hydrogens, suppress};
 
@@ -31,7 +31,7 @@ pub fn structure(alloc: Global, format: Format, text: &[u8]) -> Result<Mol, Text
     structure_in(alloc, &arena, format, text)
 }
 
-/// The same, with the working memory of rings and aromaticity from an arena, for one text after another.
+/// The same, with working memory from an arena, for one text after another.
 pub fn structure_in(
     alloc: Global,
     arena: &Bump,
@@ -70,14 +70,14 @@ pub fn one_answer()
 fn of_smiles(alloc: Global, arena: &Bump, text: &[u8]) -> Result<Mol, TextFault>
     ensures { IsStructure text.now result }
 {
-    let sketch = read_smiles(alloc, text)?;
+    let sketch = read_smiles_in(alloc, arena, text)?;
     Ok(of_sketch(alloc, arena, sketch)?)
 }
 
 fn of_molfile(alloc: Global, arena: &Bump, text: &[u8]) -> Result<Mol, TextFault>
     ensures { IsMolfileStructure text.now result }
 {
-    let sketch = read_molfile(alloc, text)?;
+    let sketch = read_molfile_in(alloc, arena, text)?;
     Ok(of_sketch(alloc, arena, sketch)?)
 }
 

@@ -9,7 +9,7 @@ use crate::fault::MolfileFault;
 use crate::field::{columns, is_other_than_zero, number, signed_number, trimmed};
 use crate::lines::Lines;
 use crate::symbol::{element_of, is_query_symbol};
-use std::alloc::Global;
+use bumpalo::Bump;
 
 /// What an atom line says.
 #[derive(Clone, Copy, Debug, PartialEq, Eq)]
@@ -27,18 +27,18 @@ pub(crate) struct AtomLine {
 }
 
 /// What the atom lines say that come next.
-pub(crate) fn read_atoms(
-    alloc: Global,
+pub(crate) fn read_atoms<'a>(
+    arena: &'a Bump,
     lines: &mut Lines,
     count: u16,
-) -> Result<Vec<AtomLine>, MolfileFault>
+) -> Result<Vec<AtomLine, &'a Bump>, MolfileFault>
     ensures found { IfOk result (λ atoms.
         (each atom_read (take count lines.old) ≡ Ok atoms.items)
         × (lines.new ≡ drop count lines.old) × (length atoms.items ≡ count)) }
     ensures range { IfOk result (λ atoms. AllByRecursion IsAtomLine atoms.items) }
     ensures fault { IfErr result (Faults (each atom_read (take count lines.old)) count lines.old) }
 {
-    let mut atoms = Vec::with_capacity(alloc, usize::from(count))?;
+    let mut atoms = Vec::with_capacity(arena, usize::from(count))?;
     for _ in 0..count {
         let Some((at, line)) = lines.next() else {
             return Err(MolfileFault::Cut);

@@ -7,6 +7,7 @@ use crate::counts::Counts;
 use crate::fault::MolfileFault;
 use crate::field::{is_other_than_zero, number};
 use crate::lines::Lines;
+use bumpalo::Bump;
 use chem_core::{SketchBond, SketchKind};
 use std::alloc::Global;
 use std::collections::HashSet;
@@ -14,6 +15,7 @@ use std::collections::HashSet;
 /// What the bond lines say that come next.
 pub(crate) fn read_bonds(
     alloc: Global,
+    arena: &Bump,
     lines: &mut Lines,
     counts: Counts,
 ) -> Result<Vec<SketchBond>, MolfileFault>
@@ -25,7 +27,7 @@ pub(crate) fn read_bonds(
         (Faults (bonds_read counts.atoms [] (take counts.bonds lines.old)) counts.bonds lines.old) }
 {
     let mut bonds = Vec::with_capacity(alloc, usize::from(counts.bonds))?;
-    let mut seen = HashSet::with_capacity(alloc, usize::from(counts.bonds))?;
+    let mut seen = HashSet::with_capacity(arena, usize::from(counts.bonds))?;
     for _ in 0..counts.bonds {
         let Some((at, line)) = lines.next() else {
             return Err(MolfileFault::Cut);

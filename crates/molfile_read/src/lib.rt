@@ -16,7 +16,7 @@ mod setting;
 mod symbol;
 
 pub use fault::MolfileFault;
-pub use read::{one_reading, read_molfile};
+pub use read::{one_reading, read_molfile, read_molfile_in};
 
 #[cfg(test)]
 mod tests;

@@ -9,14 +9,15 @@ use crate::fault::MolfileFault;
 use crate::field::{after_blanks, decimal, signed};
 use crate::lines::Lines;
 use crate::setting::{Setting, Tag, Value};
-use std::alloc::{AllocError, Global};
+use bumpalo::Bump;
+use std::alloc::AllocError;
 
 /// What the property lines set that come next, up to the end, among so many atoms.
-pub(crate) fn read_properties(
-    alloc: Global,
+pub(crate) fn read_properties<'a>(
+    arena: &'a Bump,
     lines: &mut Lines,
     atoms: u16,
-) -> Result<Vec<Setting>, MolfileFault>
+) -> Result<Vec<Setting, &'a Bump>, MolfileFault>
     ensures found { IfOk result (λ settings.
         (settings_read atoms (property_lines false lines.old) ≡ Ok settings.items)
         × (is_ended false lines.old ≡ true)) }
@@ -24,7 +25,7 @@ pub(crate) fn read_properties(
     ensures fault { IfErr result
         (Stops (settings_read atoms (property_lines false lines.old)) (is_ended false lines.old)) }
 {
-    let mut settings = Vec::new(alloc);
+    let mut settings = Vec::new(arena);
     while let Some((at, line)) = lines.next() {
         if line.starts_with(b"M  END") {
             return Ok(settings);
@@ -42,7 +43,7 @@ fn property(
     at: u32,
     line: &[u8],
     atoms: u16,
-    settings: &mut Vec<Setting>,
+    settings: &mut Vec<Setting, &Bump>,
 ) -> Result<(), MolfileFault>
     requires { AllByRecursion (IsSetting atoms) settings.old.items }
     ensures read { Appends (property_read atoms (at, line.now)) settings.old.items
@@ -119,7 +120,7 @@ fn read_pairs(
     text: &[u8],
     tag: Tag,
     atoms: u16,
-    settings: &mut Vec<Setting>,
+    settings: &mut Vec<Setting, &Bump>,
 ) -> Result<bool, AllocError>
     requires { AllByRecursion (IsSetting atoms) settings.old.items }
     ensures read { IfOk result

@@ -14,6 +14,7 @@ use crate::fault::MolfileFault;
 use crate::finish::{check_masses, sketch_atoms};
 use crate::lines::Lines;
 use crate::property::read_properties;
+use bumpalo::Bump;
 use chem_core::{MOST_BONDS, Sketch, are_few_neighbours};
 use std::alloc::Global;
 
@@ -30,10 +31,21 @@ pub fn read_molfile(alloc: Global, text: &[u8]) -> Result<Sketch, MolfileFault>
     ensures few_hydrogens { IfOk result (λ s. All (λ a. a.hydrogens ≤ 9) s.atoms) }
     ensures no_aromatic_mark { IfOk result HasNoAromaticMark }
 {
+    let arena = Bump::new(alloc);
+    read_molfile_in(alloc, &arena, text)
+}
+
+/// The same, with working memory from an arena, for one text after another.
+pub fn read_molfile_in(alloc: Global, arena: &Bump, text: &[u8]) -> Result<Sketch, MolfileFault>
+    ensures reading { IsReading text.now result }
+    ensures sound { IfOk result (λ s. IsSound s) }
+    ensures few_hydrogens { IfOk result (λ s. All (λ a. a.hydrogens ≤ 9) s.atoms) }
+    ensures no_aromatic_mark { IfOk result HasNoAromaticMark }
+{
     if text.len() > MOST_BYTES {
         return Err(MolfileFault::Limit);
     }
-    let sketch = drawn(alloc, text)?;
+    let sketch = drawn(alloc, arena, text)?;
     if !are_few_neighbours(alloc, sketch.atoms.len(), &sketch.bonds)? {
         return Err(MolfileFault::Limit);
     }
@@ -48,7 +60,7 @@ pub fn one_reading()
 {}
 
 // What the lines say, whatever the number of an atom's neighbours.
-fn drawn(alloc: Global, text: &[u8]) -> Result<Sketch, MolfileFault>
+fn drawn(alloc: Global, arena: &Bump, text: &[u8]) -> Result<Sketch, MolfileFault>
     requires { length text.now ≤ MOST_BYTES }
     ensures value { IsDrawn (drawn (numbered_lines text.now)) result }
     ensures atoms { IfOk result (λ s. AreAtoms s.atoms) }
@@ -57,9 +69,9 @@ fn drawn(alloc: Global, text: &[u8]) -> Result<Sketch, MolfileFault>
 {
     let mut lines = Lines::new(text);
     let counts = read_counts(&mut lines)?;
-    let atoms = read_atoms(alloc, &mut lines, counts.atoms)?;
-    let bonds = read_bonds(alloc, &mut lines, counts)?;
-    let settings = read_properties(alloc, &mut lines, counts.atoms)?;
+    let atoms = read_atoms(arena, &mut lines, counts.atoms)?;
+    let bonds = read_bonds(alloc, arena, &mut lines, counts)?;
+    let settings = read_properties(arena, &mut lines, counts.atoms)?;
     check_masses(&atoms, &settings)?;
     let atoms = sketch_atoms(alloc, &atoms, &settings)?;
     Ok(Sketch { atoms, bonds })

@@ -17,6 +17,7 @@ ghost use Rattle.smarts_parse.specs.declared.fault.SmartsFault.TheVariants.{NoMe
 use crate::expr::{atom_expr, bond_expr};
 use crate::fault::SmartsFault;
 use crate::pattern::{AtomPrim, Expr, Graph, PatBond};
+use bumpalo::Bump;
 use line_walk::{Link, one_tree, read_graph};
 use smarts_words::{PatternAtom, PatternBond, Smarts};
 use std::alloc::{AllocError, Global};
@@ -39,7 +40,8 @@ pub fn graph(
         × (map graph_of recs.new.items ≡ map graph_of recs.old.items ++ gs)) }
     ensures faults { IfErr result (λ e. e ≡ NoMemory) }
 {
-    let read = read(alloc, text)?;
+    let arena = Bump::new(alloc);
+    let read = read(alloc, &arena, text)?;
     let atoms = atoms(alloc, &read.atoms, levels, recs)?;
     let bonds = bonds(alloc, &read.links)?;
     Ok(Graph { atoms, bonds })
@@ -142,10 +144,11 @@ fn part_graphs(
 }
 
 // The atoms and bonds of a text.
-fn read(
+fn read<'a>(
     alloc: Global,
+    arena: &'a Bump,
     text: &[u8],
-) -> Result<line_walk::Graph<PatternAtom, PatternBond>, SmartsFault>
+) -> Result<line_walk::Graph<'a, PatternAtom, PatternBond>, SmartsFault>
     requires { (tree : Tree) × IsTreeOf smarts_words text.now tree × DoPair (placed_nodes tree) }
     ensures found { IfOk result (λ g. (tree : Tree) → IsTreeOf smarts_words text.now tree
         → IsGraphOf smarts_words tree g.atoms.items g.links.items) }
@@ -154,7 +157,7 @@ fn read(
     ensures faults { IfErr result (λ e. e ≡ NoMemory) }
 {
     one_tree::<Smarts>();
-    Ok(read_graph::<Smarts>(alloc, text)?)
+    Ok(read_graph::<Smarts>(alloc, arena, text)?)
 }
 
 // The bonds of a graph.

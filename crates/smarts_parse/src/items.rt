@@ -9,28 +9,29 @@ ghost use Rattle.smarts_parse.specs.declared.fault.SmartsFault.TheVariants.{Synt
 ghost use Rattle.line_walk.specs.Tree as walk;
 
 use crate::fault::SmartsFault;
+use bumpalo::Bump;
 use line_walk::{Notation, Reader, no_reader, read_part};
 use smarts_words::Smarts;
 use std::alloc::Global;
 
 /// What a text holds as a whole, without its recursive parts.
-pub type Read = Reader<smarts_words::PatternAtom, smarts_words::PatternBond>;
+pub type Read<'a> = Reader<'a, smarts_words::PatternAtom, smarts_words::PatternBond>;
 
 /// The items of a text, all of them in one reader, and whether one stands in parentheses.
 #[derive(Drop)]
-pub struct Items {
-    pub reader: Read,
+pub struct Items<'a> {
+    pub reader: Read<'a>,
     pub grouped: bool,
 }
 
 /// Reads the items of a text.
-pub fn read_items(alloc: Global, text: &[u8]) -> Result<Items, SmartsFault>
+pub fn read_items<'a>(alloc: Global, arena: &'a Bump, text: &[u8]) -> Result<Items<'a>, SmartsFault>
     ensures found { IfOk result (λ r. AreItemsRead text.now r.reader r.grouped) }
     ensures only { (x : Item) (xs : List Item) → AreItems x xs → text.now ≡ item_text x ++ others_text xs
         → IfErr result (λ e. e ≡ NoMemory) }
     ensures faults { IfErr result (λ e. (e ≡ Syntax) ⊎ (e ≡ NoMemory)) }
 {
-    let mut reader = no_reader::<Smarts>(alloc);
+    let mut reader = no_reader::<Smarts>(alloc, arena);
     let mut grouped = false;
     let mut rest = text;
     'items: loop {
@@ -45,12 +46,12 @@ pub fn read_items(alloc: Global, text: &[u8]) -> Result<Items, SmartsFault>
 }
 
 /// Reads a text of one item without parentheses.
-pub fn read_plain(alloc: Global, text: &[u8]) -> Result<Read, SmartsFault>
+pub fn read_plain<'a>(alloc: Global, arena: &'a Bump, text: &[u8]) -> Result<Read<'a>, SmartsFault>
     ensures found { IfOk result (λ r. IsTreeRead smarts_words text.now r) }
     ensures only { (tree : Tree) → walk.IsTreeOf smarts_words text.now tree → IfErr result (λ e. e ≡ NoMemory) }
     ensures faults { IfErr result (λ e. (e ≡ Syntax) ⊎ (e ≡ NoMemory)) }
 {
-    let mut reader = no_reader::<Smarts>(alloc);
+    let mut reader = no_reader::<Smarts>(alloc, arena);
     let rest = read_part::<Smarts>(alloc, &mut reader, text)?;
     if !rest.is_empty() {
         return Err(SmartsFault::Syntax);
@@ -61,7 +62,7 @@ pub fn read_plain(alloc: Global, text: &[u8]) -> Result<Read, SmartsFault>
 // Reads the item that the bytes begin with: whether it stands in parentheses, and the bytes after it.
 fn item<'a>(
     alloc: Global,
-    reader: &mut Read,
+    reader: &mut Read<'_>,
     bytes: &'a [u8],
 ) -> Result<(bool, &'a [u8]), SmartsFault>
     requires closed { IsBetween reader.old }

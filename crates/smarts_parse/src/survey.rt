@@ -11,6 +11,7 @@ ghost use Rattle.smarts_parse.specs.declared.fault.SmartsFault.TheVariants.{Synt
 
 use crate::fault::SmartsFault;
 use crate::items::{Read, read_items, read_plain};
+use bumpalo::Bump;
 use line_walk::finish;
 use smarts_words::{AtomWord, Letter, PatternAtom, Smarts, Step};
 use std::alloc::{AllocError, Global};
@@ -57,10 +58,10 @@ impl Survey {
     }
 
     // Takes in what a reader holds of a text that stands within so many recursive parts, itself included.
-    fn take(&mut self, reader: Read, level: usize)
+    fn take(&mut self, reader: Read<'_>, level: usize)
         requires { self.old.atoms + length reader.atoms.items < 2 ^ 64 }
-        ensures { (placed : Nodes) → Holds smarts_words placed reader
-            → IsTaken self.old self.new placed reader.depth level }
+        ensures { (placed : Nodes) → Holds smarts_words placed reader.entry
+            → IsTaken self.old self.new placed reader.entry.depth level }
     {
         self.atoms += reader.atoms.len();
         self.depth = self.depth.max(reader.depth);
@@ -84,7 +85,8 @@ pub fn look_over(alloc: Global, text: &[u8]) -> Result<Survey, SmartsFault>
     ensures only { IsErrOf result SmartsFault.Syntax → (whole : Whole) → IsWholeOf text.now whole → ⊥ }
     ensures faults { IfErr result (λ e. (e ≡ Syntax) ⊎ (e ≡ NoMemory)) }
 {
-    let items = read_items(alloc, text)?;
+    let arena = Bump::new(alloc);
+    let items = read_items(alloc, &arena, text)?;
     let mut survey = Survey {
         stereo: false,
         ring_set: false,
@@ -99,7 +101,7 @@ pub fn look_over(alloc: Global, text: &[u8]) -> Result<Survey, SmartsFault>
     put_parts(alloc, &items.reader.atoms, 1, &mut left)?;
     survey.take(items.reader, 0);
     'parts: while let Some(part) = left.pop() {
-        let reader = read_plain(alloc, &part.text)?;
+        let reader = read_plain(alloc, &arena, &part.text)?;
         put_parts(alloc, &reader.atoms, part.level + 1, &mut left)?;
         survey.take(reader, part.level);
         survey.parts += 1;
@@ -141,8 +143,8 @@ fn put_texts(
 }
 
 // Whether the ring numbers of what was read pair.
-fn do_pair(reader: Read) -> bool
-    ensures { (placed : Nodes) → Holds smarts_words placed reader → IsTrue result ↔ DoPair placed }
+fn do_pair(reader: Read<'_>) -> bool
+    ensures { (placed : Nodes) → Holds smarts_words placed reader.entry → IsTrue result ↔ DoPair placed }
 {
     finish::<Smarts>(reader).is_ok()
 }

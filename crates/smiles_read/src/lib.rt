@@ -19,5 +19,5 @@ mod symbol;
 pub use atom::organic_number;
 pub use digit::{digits_at, digits_value, is_digit};
 pub use fault::SmilesFault;
-pub use read::{one_reading, one_tree, read_smiles};
+pub use read::{one_reading, one_tree, read_smiles, read_smiles_in};
 pub use symbol::lower_letter_number;

@@ -13,7 +13,7 @@ pub const MOST_BYTES: usize = 65_536;
 pub const MOST_BRANCHES: usize = 256;
 
 /// Whether the branches open at once, the atoms and the bonds are within the limits.
-pub fn has_few_parts(graph: &Graph<SketchAtom, SketchKind>) -> bool
+pub fn has_few_parts(graph: &Graph<'_, SketchAtom, SketchKind>) -> bool
     ensures { IsTrue result ↔ HasFewParts graph.now }
 {
     graph.depth <= MOST_BRANCHES

@@ -11,6 +11,7 @@ use crate::fault::SmilesFault;
 use crate::limits::{MOST_BYTES, has_few_parts};
 use crate::notation::Smiles;
 use crate::sketch::sketch;
+use bumpalo::Bump;
 use chem_core::{Sketch, are_few_neighbours};
 use line_walk::read_graph;
 use std::alloc::Global;
@@ -27,10 +28,20 @@ pub fn read_smiles(alloc: Global, text: &[u8]) -> Result<Sketch, SmilesFault>
     ensures sound { IfOk result (λ s. IsSound s) }
     ensures few_hydrogens { IfOk result (λ s. All (λ a. a.hydrogens ≤ 9) s.atoms) }
 {
+    let arena = Bump::new(alloc);
+    read_smiles_in(alloc, &arena, text)
+}
+
+/// The same, with working memory from an arena, for one text after another.
+pub fn read_smiles_in(alloc: Global, arena: &Bump, text: &[u8]) -> Result<Sketch, SmilesFault>
+    ensures reading { IsReading text.now result }
+    ensures sound { IfOk result (λ s. IsSound s) }
+    ensures few_hydrogens { IfOk result (λ s. All (λ a. a.hydrogens ≤ 9) s.atoms) }
+{
     if text.len() > MOST_BYTES {
         return Err(SmilesFault::Limit);
     }
-    let graph = read_graph::<Smiles>(alloc, text)?;
+    let graph = read_graph::<Smiles>(alloc, arena, text)?;
     if !has_few_parts(&graph) {
         return Err(SmilesFault::Limit);
     }

@@ -10,13 +10,13 @@ use line_walk::{Graph, Link};
 use std::alloc::{AllocError, Global};
 
 /// The sketch of a graph.
-pub fn sketch(alloc: Global, graph: Graph<SketchAtom, SketchKind>) -> Result<Sketch, AllocError>
+pub fn sketch(alloc: Global, graph: Graph<'_, SketchAtom, SketchKind>) -> Result<Sketch, AllocError>
     requires few { length graph.atoms.items ≤ MOST_ATOMS }
     requires ends { AllByRecursion (λ x. (x.a < x.b) × (x.b < length graph.atoms.items))
         graph.links.items }
     ensures { IfOk result (λ s. s ≡ record {
-      atoms = numbered graph.atoms.items;
-      bonds = map bond_of graph.links.items;
+      atoms = numbered graph.entry.atoms.items;
+      bonds = map bond_of graph.entry.links.items;
     }) }
 {
     let Graph {

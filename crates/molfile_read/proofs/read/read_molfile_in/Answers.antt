@@ -6,7 +6,7 @@ use Rattle.chem_core.specs.Sketch.{SketchTerm}
 use Rattle.chem_core.specs.Sound.{ends_among}
 use Rattle.molfile_read.proofs.Joined.{sound_sketch, no_colons, apart}
 use Rattle.molfile_read.proofs.Readings.{fault_handed}
-use Rattle.molfile_read.proofs.read.read_molfile.Goals as goal
+use Rattle.molfile_read.proofs.read.read_molfile_in.Goals as goal
 
 abbrev AreFew : List SketchBond → Type 0
 AreFew bonds = (a : ℕ) → degree (ends_among bonds) a ≤ 12

@@ -6,7 +6,7 @@ use Rattle.chem_core.specs.Sound.{IsSound}
 use Rattle.smiles_read.specs.Sketch.{IsSketchOf}
 use Rattle.smiles_read.specs.Reading.{IsWithinLimits}
 use Rattle.smiles_read.proofs.Answer.{AreFew, sketch_of, answered, sketch_sound, sketch_hydrogens, sketch_ends_apart}
-use Rattle.smiles_read.proofs.read.read_smiles.Goals as goal
+use Rattle.smiles_read.proofs.read.read_smiles_in.Goals as goal
 
 pub returns-then-not-has_few_parts-clause-reading : goal.returns-then-not-has_few_parts-clause-reading
 returns-then-not-has_few_parts-clause-reading c =
