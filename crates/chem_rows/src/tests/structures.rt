@@ -2,10 +2,14 @@
 ghost use Rattle.std.specs.Prelude.{◌<◌};
 
 use super::{Answer, PLAIN, call, check, put_by};
+use aromatic::perceive;
+use ring_find::rings;
+use smiles_read::read_smiles;
 use std::alloc::{AllocError, Global};
 use std::sync::Wait;
 use std::test::Fail;
 use std::thread::Threads;
+use valence::{fill_hydrogens, suppress};
 
 #[test]
 fn texts_of_structures(rt: HostRuntime) -> Result<(), Fail> {
@@ -104,6 +108,22 @@ fn search<R: Threads + Wait + Sync>(
 ) -> Result<Answer, AllocError> {
     let script = format!(in alloc; "register 1 {text}\nsearch {pattern}\n")?;
     call(rt, alloc, &["mem"], script.as_bytes(), PLAIN)
+}
+
+// Benzene, its double bonds written, by the stages that make their own working memory.
+#[test]
+fn stages_one_after_another(rt: HostRuntime) -> Result<(), Fail> {
+    let alloc = rt.alloc();
+    let mut sketch = read_smiles(alloc, b"C1=CC=CC=C1")?;
+    fill_hydrogens(&mut sketch);
+    suppress(&mut sketch);
+    let rings = rings(alloc, &sketch)?;
+    let found = perceive(alloc, &sketch, &rings.bond_in_ring)?;
+    assert_eq!(rt; rings.atom_small.as_slice(), [6u16; 6].as_slice());
+    assert_eq!(rt; found.atoms.as_slice(), [true; 6].as_slice());
+    assert_eq!(rt; found.bonds.as_slice(), [true; 6].as_slice());
+    assert_eq!(rt; found.valences.as_slice(), [4u8; 6].as_slice());
+    Ok(())
 }
 
 // Fullerene C60, its 30 double bonds written: each of its 60 atoms lies on a hexagon of six electrons.
