@@ -8,7 +8,7 @@
 # Usage: bench/aromatic.sh [LINES]
 set -euo pipefail
 cd "$(dirname "${BASH_SOURCE[0]}")/.."
-./chemdb mem </dev/null   # builds it
+./build
 python3 - "${1:-20000}" <<'PY'
 import subprocess
 import sys

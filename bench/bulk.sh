@@ -4,7 +4,7 @@
 # Usage: bench/bulk.sh [STRUCTURES]
 set -euo pipefail
 cd "$(dirname "${BASH_SOURCE[0]}")/.."
-./chemdb mem </dev/null   # builds it
+./build
 python3 - "${1:-100000}" <<'PY'
 import resource
 import subprocess

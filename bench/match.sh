@@ -5,7 +5,7 @@
 # Usage: bench/match.sh [SEARCHES]
 set -euo pipefail
 cd "$(dirname "${BASH_SOURCE[0]}")/.."
-./chemdb mem </dev/null   # builds it
+./build
 python3 - "${1:-200}" <<'PY'
 import subprocess
 import sys

@@ -5,7 +5,7 @@
 # Usage: bench/mem.sh [STRUCTURES]
 set -euo pipefail
 cd "$(dirname "${BASH_SOURCE[0]}")/.."
-./chemdb mem </dev/null   # builds it
+./build
 python3 - "${1:-20000}" <<'PY'
 import os
 import resource

@@ -4,7 +4,7 @@
 # Usage: bench/molfiles.sh [RECORDS]
 set -euo pipefail
 cd "$(dirname "${BASH_SOURCE[0]}")/.."
-./chemdb mem </dev/null   # builds it
+./build
 python3 - "${1:-10000}" <<'PY'
 import random
 import subprocess

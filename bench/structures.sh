@@ -5,7 +5,7 @@
 set -euo pipefail
 cd "$(dirname "${BASH_SOURCE[0]}")/.."
 all=${1:-400000}
-./chemdb mem </dev/null   # builds it
+./build
 python3 - "$all" <<'PY'
 import subprocess
 import sys
