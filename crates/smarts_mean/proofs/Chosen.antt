@@ -24,16 +24,6 @@ pub record Chosen (Q : ℕ × ℕ → Type 0) (pairs : List (ℕ × ℕ)) (k n :
       × Q (get_or pairs j (0, 0))
   pub each : (j : ℕ) → j < k → Q (get_or pairs j (0, 0)) → Contains bonds (get_or pairs j (0, 0)).1
 
-pub chosen_none : (Q : ℕ × ℕ → Type 0) (pairs : List (ℕ × ℕ)) → Chosen Q pairs 0 0
-chosen_none Q pairs = record {
-  bonds = [];
-  ascends = tt;
-  count = refl;
-  few = omega arith;
-  from = λ b h. absurd (omega (arith, h.1));
-  each = λ j l. absurd (omega arith);
-}
-
 abbrev pair : ℕ → ℕ → ℕ × ℕ
 pair x y = (x, y)
 

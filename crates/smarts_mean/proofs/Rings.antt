@@ -50,19 +50,3 @@ small_some ends a n h =
           let three = (q.1).three in
           (λ yes. ring_atom_from_cycle ends a q.0 q.1 q.2, λ ring. ap not (ne_eqb n 0 (λ z. omega (arith, q.3))))
     ]
-
-pub smallest_one : (ends : Ends) (a n m : ℕ) → IsSmallestRing ends a n → IsSmallestRing ends a m → n ≡ m
-smallest_one ends a n m f g =
-    elim f [
-      | inl p ↦ elim g [
-        | inl q ↦ p.0 ∙ sym q.0
-        | inr q ↦ absurd (p.1 q.0 q.1 q.2)
-      ]
-      | inr p ↦ elim g [
-        | inl q ↦ absurd (q.1 p.0 p.1 p.2)
-        | inr q ↦
-            let low = p.4 q.0 q.1 q.2 in
-            let high = q.4 p.0 p.1 p.2 in
-            omega (arith, p.3, q.3)
-      ]
-    ]

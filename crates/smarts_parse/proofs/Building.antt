@@ -28,15 +28,6 @@ pub record PartsLeft (texts : List (List ℕ)) (all : Parts) (levels n m : ℕ) 
   pub numbers_are : numbers ++ numbers_from m left ≡ numbers_from n all
   pub put : (gs : List GraphTerm) → ArePartTerms m left gs → ArePut n all before (now ++ gs)
 
-pub parts_none : (texts : List (List ℕ)) (all : Parts) (levels n : ℕ) (before : List GraphTerm)
-    → AreBuildable texts all levels n → PartsLeft texts all levels n n [] before before
-parts_none texts all levels n before h = record {
-  left = all;
-  build = h;
-  numbers_are = refl;
-  put = λ gs a. (gs, a, refl);
-}
-
 -- what a part leaves: its number, its graph, and the graphs of its own parts before that
 abbrev pub PartPut : Tree → Parts → ℕ → ℕ → List GraphTerm → List GraphTerm → Type 0
 PartPut tree inner n k before now =
@@ -168,10 +159,6 @@ pub record AtomsLeft (values whole : List AtomValue) (all : Parts) (levels n m :
   pub have : HaveBuildable values left levels m
   pub steps_are : done ++ atoms_steps (numbers_from m left) values ≡ atoms_steps (numbers_from n all) whole
   pub put : (gs : List GraphTerm) → ArePartTerms m left gs → ArePut n all before (now ++ gs)
-
-pub atoms_none : (whole : List AtomValue) (all : Parts) (levels n : ℕ) (before : List GraphTerm)
-    → HaveBuildable whole all levels n → AtomsLeft whole whole all levels n n [] before before
-atoms_none whole all levels n before h = record { left = all; have = h; steps_are = refl; put = λ gs a. (gs, a, refl) }
 
 -- what can be built of the first atom
 pub record FirstAtom (value : AtomValue) (levels m : ℕ) : Type 0 where

@@ -1,12 +1,12 @@
 -- Items, one after another.
-use Rattle.std.proofs.Common.{◌≡◌, ◌≢◌, ℕ, inl, true, false, List, [], ◌∷◌, ◌++◌, refl, sym, ◌∙◌, ap, append_assoc}
+use Rattle.std.proofs.Common.{◌≡◌, ℕ, inl, true, false, List, [], ◌∷◌, ◌++◌, refl, sym, ◌∙◌, ap, append_assoc}
 use Rattle.line_walk.specs.Tree as walk
-use Rattle.line_walk.specs.Follow.{Begins, Stops}
+use Rattle.line_walk.specs.Follow.{Begins}
 use Rattle.line_walk.specs.Walk.{IsPartRead}
 use Rattle.line_walk.proofs.Follow.{begins-append, begins_clash}
 use Rattle.line_walk.proofs.Unique.{tails}
 use Rattle.smarts_words.specs.Words.{smarts_words, BeginsAtom}
-use Rattle.smarts_words.specs.Apart.{smarts_apart}
+use Rattle.smarts_words.proofs.Apart.{smarts_apart}
 use Rattle.smarts_parse.specs.Whole.{Tree, Nodes, Item, plain, group, item_text}
 use Rattle.smarts_parse.specs.Survey.{Read, IsItemOf, IsItemRead}
 
@@ -62,9 +62,3 @@ pub group_first : (bytes inside : List ℕ) → bytes ≡ 40 ∷ inside → (x :
 group_first bytes inside e (plain tree) rest is = absurd (not_open tree rest bytes inside is.tree is.spelled e)
 group_first bytes inside e (group tree) rest
     is = (tree, (is.tree, tails 40 40 inside _ (sym e ∙ is.spelled ∙ group_text tree rest)))
-
-pub plain_first : (bytes : List ℕ) → ((inside : List ℕ) → bytes ≢ 40 ∷ inside) → (x : Item) (rest : List ℕ)
-    → IsItemOf bytes x rest
-    → (tree : Tree) × walk.IsPartOf smarts_words bytes tree rest × Stops rest
-plain_first bytes other (plain tree) rest is = (tree, (is.tree, is.spelled), is.stops)
-plain_first bytes other (group tree) rest is = absurd (other _ (is.spelled ∙ group_text tree rest))

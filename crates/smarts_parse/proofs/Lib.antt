@@ -16,3 +16,5 @@ pub mod OnePattern
 pub mod Soundness
 pub mod Readings
 pub mod OneAnswer
+pub mod Complete
+pub mod Recursive

@@ -3,7 +3,7 @@ use Rattle.std.proofs.Common.{◌≡◌, ℕ, inl, List, [], ◌∷◌, ◌++◌
 use Rattle.line_walk.specs.Tree as walk
 use Rattle.line_walk.proofs.Unique.{one_part, one_tree, tails}
 use Rattle.smarts_words.specs.Words.{smarts_words}
-use Rattle.smarts_words.specs.Apart.{smarts_apart}
+use Rattle.smarts_words.proofs.Apart.{smarts_apart}
 use Rattle.smarts_parse.specs.Whole.{Tree, Item, plain, group, item_text, others_text, AreItems, Parts, none, part, part_texts, tree_atoms, AreParts, Whole, nodes_from, IsWholeOf}
 use Rattle.line_walk.specs.Places.{atoms_by}
 use Rattle.smarts_parse.specs.Survey.{IsItemOf}

@@ -34,11 +34,6 @@ all_split : {X : Type 0} (Q : X → Type 0) (xs ys : List X) → AllByRecursion 
 all_split Q [] ys h = (tt, h)
 all_split Q (x ∷ xs) ys h = let e = all_split Q xs ys h.1 in ((h.0, e.0), e.1)
 
-all_more : {X : Type 0} (P Q : X → Type 0) → ((x : X) → P x → Q x) → (xs : List X) → AllByRecursion P xs
-    → AllByRecursion Q xs
-all_more P Q f [] h = tt
-all_more P Q f (x ∷ xs) h = (f x h.0, all_more P Q f xs h.1)
-
 -- the names of recursive parts
 abbrev StepBelow : ℕ → Step AtomPrim → Type 0
 StepBelow n (steps.Prim p) = PrimNamesBelow n p

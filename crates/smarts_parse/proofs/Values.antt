@@ -7,7 +7,7 @@ use Rattle.smarts_words.specs.declared.word.AtomWord.{AtomWord}
 use Rattle.smarts_words.specs.declared.word.AtomWord.TheVariants as words
 use Rattle.smarts_words.specs.Prims as prims
 use Rattle.smarts_words.specs.Expression.{Operand, Joining, semicolon, comma, ampersand, beside, Expression, at_first, levels, joined}
-use Rattle.smarts_words.specs.Bracket.{Hydro, hydro_words, mass_words, charge_words, Inside, hydro, low, Atom, star, aromatic, aliphatic, organic, small, bracket, inside_value, value_of_atom, expression_value}
+use Rattle.smarts_words.specs.Bracket.{Hydro, hydro_words, mass_words, charge_words, Inside, hydro, low, Atom, star, aromatic, aliphatic, organic, lower, bracket, inside_value, value_of_atom, expression_value}
 use Rattle.smarts_words.specs.Bonds as in_bonds
 use Rattle.smarts_parse.specs.Steps.{operands, LeaveOne, part_count, parts_in, IsValue}
 use Rattle.smarts_parse.proofs.Postfix.{PutOne, leave_one, put_prim, put_not, put_joined}
@@ -238,7 +238,7 @@ atom_is_value star = single_is_value words.Any refl
 atom_is_value aromatic = single_is_value words.Aromatic refl
 atom_is_value aliphatic = single_is_value words.Aliphatic refl
 atom_is_value (organic x) = single_is_value _ refl
-atom_is_value (small x) = single_is_value _ refl
+atom_is_value (lower x) = single_is_value _ refl
 atom_is_value (bracket x) = inside_is_value x.inside
 
 -- a bond's steps are those of one expression, where one is written

@@ -6,14 +6,14 @@ use Rattle.line_walk.specs.Tree as walk
 use Rattle.line_walk.specs.Tree.{Node, Joint, Tail, stop, next, branch}
 use Rattle.line_walk.specs.Follow.{Begins}
 use Rattle.line_walk.specs.Places.{Placed, placed_from, placed_at, placed_nodes, joined_to, size_of, atoms_by}
-use Rattle.smarts_words.specs.Bracket.{Atom, star, aromatic, aliphatic, organic, small, bracket, atom_text, IsAtom, value_of_atom, Inside, hydro, low, end_text, bracket_text, expression_text}
+use Rattle.smarts_words.specs.Bracket.{Atom, star, aromatic, aliphatic, organic, lower, bracket, atom_text, IsAtom, value_of_atom, Inside, hydro, low, end_text, bracket_text, expression_text}
 use Rattle.smarts_words.specs.Prims.{Prim, prim_text, IsPrim, FollowsPrim, word_of, part_of}
 use Rattle.smarts_words.specs.Prims as prims
 use Rattle.smarts_words.specs.Bonds.{BondPrim}
 use Rattle.smarts_words.specs.Expression.{Expression, Operand, Joining, joining_text}
 use Rattle.smarts_words.specs.Expression as expression
 use Rattle.smarts_words.specs.Words.{smarts_words, BeginsAtom}
-use Rattle.smarts_words.specs.Apart.{smarts_apart}
+use Rattle.smarts_words.proofs.Apart.{smarts_apart}
 use Rattle.smarts_parse.specs.Whole.{Tree, Nodes, Item, plain, group, tree_of, item_text, others_text, AreItems, nodes_from, part_texts}
 
 -- texts, each with one byte more
@@ -88,7 +88,7 @@ atom_weight aliphatic is = let h = some_begins BeginsAtom (atom_text aliphatic) 
     in omega arith
 atom_weight (organic x) is = let h = some_begins BeginsAtom (atom_text (organic x))
     (smarts_apart.atom_begins (organic x) is) in omega arith
-atom_weight (small x) is = let h = some_begins BeginsAtom (atom_text (small x)) (smarts_apart.atom_begins (small x) is)
+atom_weight (lower x) is = let h = some_begins BeginsAtom (atom_text (lower x)) (smarts_apart.atom_begins (lower x) is)
     in omega arith
 atom_weight (bracket x) is = bracket_weight x.inside x.class
 

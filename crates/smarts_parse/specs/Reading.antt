@@ -33,8 +33,8 @@ is_ring_set (steps.Prim (words.Count letters.Rings (Some zero))) = false
 is_ring_set (steps.Prim (words.Count letters.Rings (Some (suc n)))) = true
 is_ring_set _ = false
 
--- a configuration stands at an atom, or `/` or `\`, which stand for nothing but the configuration of a bond, in the
--- text
+-- A configuration stands at an atom, or `/` or `\` in the text. No other piece of the grammar has these two bytes, so
+-- they stand in the text exactly where the configuration of a bond does.
 abbrev pub HasStereo : List ℕ → Whole → Type 0
 HasStereo text whole = (list_any (λ a. list_any is_stereo a.steps) (all_atoms whole) ≡ true) ⊎ Contains text 47
     ⊎ Contains text 92

@@ -17,9 +17,10 @@ ghost use Rattle.smarts_parse.specs.declared.fault.SmartsFault.TheVariants.{NoMe
 use crate::expr::{atom_expr, bond_expr};
 use crate::fault::SmartsFault;
 use crate::pattern::{AtomPrim, Expr, Graph, PatBond};
+use crate::smarts::Smarts;
 use bumpalo::Bump;
 use line_walk::{Link, one_tree, read_graph};
-use smarts_words::{PatternAtom, PatternBond, Smarts};
+use smarts_words::{PatternAtom, PatternBond};
 use std::alloc::{AllocError, Global};
 
 /// The graph of a text. Before it, the graphs of its recursive parts are put on the list, in the order in which their

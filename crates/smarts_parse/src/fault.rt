@@ -18,20 +18,20 @@ pub enum SmartsFault {
     #[error("not a SMARTS pattern")]
     Syntax,
     /// `/`, `\` or `@` in brackets: configurations are not read.
-    #[error("a configuration")]
+    #[error("a configuration is not read")]
     Stereo,
     /// `R<n>` with n above 0, in how many rings of a ring set an atom is: such sets are not unique.
     #[error("a count of a ring set")]
     RingSet,
-    /// A ring closure that is open at the end, has two bonds that differ, or joins atoms that are one or bonded.
-    #[error("a ring closure")]
+    /// A ring number that is open at the end, has two bonds that differ, or joins atoms that are one or bonded.
+    #[error("a ring number does not pair")]
     Ring,
     /// More than 4,096 bytes; or more than 256 atoms, 64 recursive parts, 8 of these within one another, or 256
     /// branches open at once.
     #[error("above a limit")]
     Limit,
     /// Parentheses round components: which molecule of several an atom is in is not asked.
-    #[error("a grouping of components")]
+    #[error("parentheses round a component")]
     Grouping,
     /// Memory ran out.
     #[error("out of memory")]

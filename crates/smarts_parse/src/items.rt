@@ -9,9 +9,9 @@ ghost use Rattle.smarts_parse.specs.declared.fault.SmartsFault.TheVariants.{Synt
 ghost use Rattle.line_walk.specs.Tree as walk;
 
 use crate::fault::SmartsFault;
+use crate::smarts::Smarts;
 use bumpalo::Bump;
 use line_walk::{Notation, Reader, no_reader, read_part};
-use smarts_words::Smarts;
 use std::alloc::Global;
 
 /// What a text holds as a whole, without its recursive parts.

@@ -9,13 +9,16 @@ mod build;
 mod expr;
 mod fault;
 mod items;
+mod law;
 mod pattern;
 mod read;
+mod smarts;
 mod survey;
 
 pub use fault::SmartsFault;
+pub use law::parts_hold;
 pub use pattern::{AtomPrim, BondPrim, Expr, Graph, PatBond, Pattern};
-pub use read::{one_answer, one_tree, parse};
+pub use read::{is_complete, one_answer, one_tree, parse};
 
 #[cfg(test)]
 mod tests;

@@ -1,4 +1,4 @@
-//! Patterns: atom and bond expressions in postfix order, and the graphs of a pattern and of its recursive parts.
+//! Patterns: atom and bond expressions as trees, and the graphs of a pattern and of its recursive parts.
 
 /// What an atom expression is made of.
 #[derive(Clone, Copy, Debug, PartialEq, Eq)]

@@ -1,10 +1,10 @@
 //! Reading a pattern.
 
-ghost use Rattle.std.specs.Prelude.{◌≡◌, ◌≢◌, ◌⊎◌, ◌↔◌, ℕ, true, List, Contains, IsTrue, IfOk, Result, Err};
+ghost use Rattle.std.specs.Prelude.{◌≡◌, ◌≢◌, ◌⊎◌, ◌↔◌, ℕ, true, List, Contains, IsTrue, IfOk, Result, Ok, Err};
 ghost use Rattle.smarts_parse.specs.Pattern.{pattern_of, PatternTerm};
 ghost use Rattle.smarts_parse.specs.Sound.{IsSoundPattern};
 ghost use Rattle.smarts_parse.specs.Whole.{Whole, IsWholeOf};
-ghost use Rattle.smarts_parse.specs.Reading.{IsReading, answer_of};
+ghost use Rattle.smarts_parse.specs.Reading.{HasGroup, NoLimit, IsReading, answer_of};
 ghost use Rattle.smarts_parse.specs.declared.fault.SmartsFault.{SmartsFault};
 ghost use Rattle.smarts_parse.specs.declared.fault.SmartsFault.TheVariants.{NoMemory};
 
@@ -63,6 +63,13 @@ pub fn one_tree()
 pub fn one_answer()
     ensures { (text : List ℕ) (r s : Result PatternTerm SmartsFault) → IsReading text r → IsReading text s
         → r ≢ Err NoMemory → s ≢ Err NoMemory → r ≡ s }
+{}
+
+/// A law: a text that has a tree, no configuration and no count of a ring set, whose ring numbers pair, that is within
+/// the limits and has no parentheses round an item, is refused only for want of memory.
+pub fn is_complete()
+    ensures { (text : List ℕ) (whole : Whole) (r : Result PatternTerm SmartsFault) → NoLimit text whole
+        → ¬ HasGroup whole → IsReading text r → (r ≡ Err NoMemory) ⊎ ((p : PatternTerm) × (r ≡ Ok p)) }
 {}
 
 // Whether a configuration stands at an atom or at a bond.

@@ -11,9 +11,10 @@ ghost use Rattle.smarts_parse.specs.declared.fault.SmartsFault.TheVariants.{Synt
 
 use crate::fault::SmartsFault;
 use crate::items::{Read, read_items, read_plain};
+use crate::smarts::Smarts;
 use bumpalo::Bump;
 use line_walk::finish;
-use smarts_words::{AtomWord, Letter, PatternAtom, Smarts, Step};
+use smarts_words::{AtomWord, Letter, PatternAtom, Step};
 use std::alloc::{AllocError, Global};
 
 /// The most atoms in all parts together.

@@ -9,9 +9,9 @@ use Rattle.smarts_words.specs.Expression.{Expression}
 use Rattle.smarts_words.specs.Bonds.{BondPrim, bond_text, IsBondExpression, bond_value}
 use Rattle.smarts_words.specs.State.{EndsBond}
 use Rattle.smarts_words.specs.Words.{smarts_words, IsBond}
-use Rattle.smarts_words.specs.Owed.LanguageApart.{bond_more, bond_less, after_no_mark, after_ends}
-use Rattle.smarts_words.specs.Bracket.{Atom, star, aromatic, aliphatic, organic, small, bracket, atom_text, IsAtom, AtomValue, value_of_atom}
-use Rattle.smarts_words.specs.Owed.BracketRead.{BracketAt, organic_first, lower_first}
+use Rattle.smarts_words.proofs.Apart.{bond_more, bond_less, after_no_mark, after_ends}
+use Rattle.smarts_words.specs.Bracket.{Atom, star, aromatic, aliphatic, organic, lower, bracket, atom_text, IsAtom, AtomValue, value_of_atom}
+use Rattle.smarts_words.proofs.BracketRead.{BracketAt, organic_first, lower_first}
 
 heads : (a b : ℕ) (r s : List ℕ) → a ∷ r ≡ b ∷ s → a ≡ b
 heads a b r s e = cc
@@ -30,7 +30,7 @@ bracket_atom May bytes r o e at = record { found = found_by o at; only = λ x re
     by aromatic rest is h = absurd (let k = heads 91 97 r _ h in omega arith)
     by aliphatic rest is h = absurd (let k = heads 91 65 r _ h in omega arith)
     by (organic x) rest is h = absurd (organic_first x r rest h)
-    by (small x) rest is h = absurd (lower_first x r rest h)
+    by (lower x) rest is h = absurd (lower_first x r rest h)
     by (bracket x) rest is h = at.only x rest is tt h
 
 pub ok_then : {X Y : Type 0} (r : Result X Y) {P Q : X → Type 0} → IfOk r P → ((x : X) → P x → Q x) → IfOk r Q

@@ -1,5 +1,5 @@
 -- Parentheses that pair.
-use Rattle.std.proofs.Common.{◌≡◌, ◌≢◌, ℕ, ◌+◌, ◌-◌, ◌≤◌, ◌==◌, ◌↔◌, Bool, true, false, List, [], ◌∷◌, ◌++◌, length, take, refl, sym, ◌∙◌, ap, subst, arith, append_assoc}
+use Rattle.std.proofs.Common.{◌≡◌, ◌≢◌, ℕ, ◌+◌, ◌-◌, ◌≤◌, ◌==◌, ◌↔◌, Bool, true, false, List, [], ◌∷◌, ◌++◌, length, take, refl, sym, ◌∙◌, ap, subst, arith}
 use Rattle.std.proofs.lemmas.Bool.Decides.{nat_tests}
 use Rattle.std.proofs.lemmas.List.{append-nil}
 use Rattle.std.specs.Bool.{MatchBool}
@@ -19,16 +19,6 @@ at_false : (b : Bool) (P Q : Type 0) → b ≡ false → Q ↔ MatchBool b P Q
 at_false true P Q e = absurd (cc)
 at_false false P Q e = (λ p. p, λ p. p)
 
-pub open_step : (b n : ℕ) (more : List ℕ) → b ≡ 40 → IsBalancedIn (n + 1) more ↔ IsBalancedIn n (b ∷ more)
-open_step b n more e = at_true (b == 40) _ _ (equal_is b 40 e)
-
-pub other_step : (b n : ℕ) (more : List ℕ) → b ≢ 40 → b ≢ 41 → IsBalancedIn n more ↔ IsBalancedIn n (b ∷ more)
-other_step b n more e f =
-    let outer = at_false (b == 40) (IsBalancedIn (n + 1) more)
-    (MatchBool (b == 41) ((1 ≤ n) × IsBalancedIn (n - 1) more) (IsBalancedIn n more)) (differ_is b 40 e) in
-    let inner = at_false (b == 41) ((1 ≤ n) × IsBalancedIn (n - 1) more) (IsBalancedIn n more) (differ_is b 41 f) in
-    (λ p. outer.0 (inner.0 p), λ p. inner.1 (outer.1 p))
-
 close_both : (b n : ℕ) (more : List ℕ) → b ≡ 41 → ((1 ≤ n) × IsBalancedIn (n - 1) more) ↔ IsBalancedIn n (b ∷ more)
 close_both b n more e =
     let outer = at_false (b == 40) (IsBalancedIn (n + 1) more)
@@ -37,9 +27,6 @@ close_both b n more e =
     let inner = at_true (b == 41) ((1 ≤ n) × IsBalancedIn (n - 1) more) (IsBalancedIn n more) (equal_is b 41 e) in
     (λ p. outer.0 (inner.0 p), λ p. inner.1 (outer.1 p))
 
-pub close_step : (b n : ℕ) (more : List ℕ) → b ≡ 41 → 1 ≤ n → IsBalancedIn (n - 1) more ↔ IsBalancedIn n (b ∷ more)
-close_step b n more e l = let k = close_both b n more e in (λ p. k.0 (l, p), λ p. (k.1 p).1)
-
 -- a `)` where none is depth
 pub close_none : (b n : ℕ) (more : List ℕ) → b ≡ 41 → n ≡ 0 → IsBalancedIn n (b ∷ more) → ⊥
 close_none b n more e z h = let k = (close_both b n more e).1 h in let l = k.0 in omega arith
@@ -47,18 +34,6 @@ close_none b n more e z h = let k = (close_both b n more e).1 h in let l = k.0 i
 -- what was read of a text, and how many parentheses are depth after it
 pub record IsOpen (front : List ℕ) (depth : ℕ) : Type 0 where
   pub closes : (more : List ℕ) → IsBalancedIn depth more → IsBalancedIn 0 (front ++ more)
-
-pub open_none : IsOpen [] 0
-open_none = record { closes = λ more h. h }
-
-pub open_more : (front : List ℕ) (b depth next : ℕ)
-    → ((more : List ℕ) → IsBalancedIn next more ↔ IsBalancedIn depth (b ∷ more)) → IsOpen front depth
-    → IsOpen (front ++ b ∷ []) next
-open_more front b depth next step h =
-    record {
-      closes = λ more k. subst (λ (v : List ℕ). IsBalancedIn 0 v) (sym (append_assoc front (b ∷ []) more))
-          (h.closes (b ∷ more) ((step more).0 k));
-    }
 
 -- the text of a part, and what follows it, in the bytes that are left
 pub record IsLeft (bytes left : List ℕ) (depth : ℕ) : Type 0 where
@@ -99,14 +74,6 @@ pub left_last : (bytes left after : List ℕ) (b depth : ℕ) → left ≡ b ∷
     → IsLeft bytes left depth → (text rest : List ℕ) → IsBalancedIn 0 text → bytes ≡ text ++ 41 ∷ rest → after ≡ rest
 left_last bytes left after b depth front eb eo h text rest k e = let p = h.text_of text rest k e in
     last_step b depth after p.0 rest eb eo p.1 (sym front ∙ p.2)
-
-pub left_never : (bytes left : List ℕ) (depth : ℕ) → left ≡ [] → IsLeft bytes left depth → (text rest : List ℕ)
-    → IsBalancedIn 0 text → bytes ≡ text ++ 41 ∷ rest → ⊥
-left_never bytes left depth none h text rest k e = let p = h.text_of text rest k e in no_end p.0 rest (sym none ∙ p.2)
-  where
-    no_end : (xs r : List ℕ) → [] ≡ xs ++ 41 ∷ r → ⊥
-    no_end [] r e = cc
-    no_end (x ∷ xs) r e = cc
 
 pub front_take : (xs rest bytes : List ℕ) (n : ℕ) → bytes ≡ xs ++ rest → length xs ≡ n → take n bytes ≡ xs
 front_take xs rest bytes n e l = ap (λ v. take v bytes) (sym l) ∙ ap (λ v. take (length xs) v) e ∙ take_front xs rest

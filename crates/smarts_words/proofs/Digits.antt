@@ -1,6 +1,6 @@
 -- No digit is first, in the words of SMILES and in those of SMARTS.
 use Rattle.std.proofs.Common.{ℕ, List, [], ◌∷◌, inl, inr, arith}
-use Rattle.smiles_read.specs.Follow.{NoDigitFirst}
+use Rattle.smiles_words.specs.Follow.{NoDigitFirst}
 use Rattle.smarts_words.specs.Prims.{NoDigit}
 
 pub no_digit : (rest : List ℕ) → NoDigitFirst rest → NoDigit rest

@@ -1,7 +1,7 @@
 -- The longest configuration that stands somewhere.
 use Rattle.std.proofs.Common.{◌≡◌, ◌≢◌, ℕ, ◌+◌, ◌≤◌, Bool, true, false, List, [], ◌∷◌, ◌++◌, length, refl, sym, ◌∙◌, ap, subst, arith, append_assoc}
 use Rattle.std.proofs.lemmas.List.{length-append}
-use Rattle.smiles_read.specs.Atom.{ChiralClass, th, al, sp, tb, oh, class_bytes}
+use Rattle.smiles_words.specs.Atom.{ChiralClass, th, al, sp, tb, oh, class_bytes}
 use Rattle.smarts_words.specs.Prims.{NoDigit, Turn, one, two, numbered, mark_text, stereo_text, IsTurn, IsLongest}
 use Rattle.smarts_words.specs.Follow.{TurnEnds}
 

@@ -1,15 +1,14 @@
 -- What is read by its first byte.
-use Rattle.std.proofs.Common.{◌≡◌, ◌≢◌, ℕ, ◌<◌, ◌≤◌, List, [], ◌∷◌, ◌++◌, length, Option, None, Some, ◌⊎◌, refl, sym, ◌∙◌, ap, subst, arith, append_assoc}
+use Rattle.std.proofs.Common.{◌≡◌, ℕ, ◌<◌, ◌≤◌, List, [], ◌∷◌, ◌++◌, length, Option, None, Some, ◌⊎◌, refl, sym, ◌∙◌, ap, subst, arith, append_assoc}
 use Rattle.std.proofs.lemmas.List.{length-append}
 use Rattle.std.specs.Option.{option_to_list}
-use Rattle.smiles_read.specs.Atom.{IsDigit}
+use Rattle.smiles_words.specs.Atom.{IsDigit}
 use Rattle.smarts_words.specs.declared.word.AtomWord.{AtomWord}
 use Rattle.smarts_words.specs.declared.word.AtomWord.TheVariants as words
 use Rattle.smarts_words.specs.Prims.{Prim, atomic, charge, mass, part, stereo, signs_text, AreSigns, FollowsSigns, charge_of, Stereo, stereo_text, IsTurn, IsLongest, IsBalancedIn, prim_text, IsPrim, FollowsPrim, word_of}
-use Rattle.smarts_words.specs.Follow.{Takes, IsWord, IsLettered, PrimAt}
-use Rattle.smarts_words.specs.Owed.Numbers.{SomeNumber}
-use Rattle.smarts_words.specs.Owed.FirstBytes.{first_of, kind_at, some_first, is_part, is_atomic, is_stereo, is_charge, is_mass, is_letters}
-use Rattle.smarts_words.specs.Owed.Lettered.{LetteredAt}
+use Rattle.smarts_words.specs.Follow.{Takes, IsWord, PrimAt}
+use Rattle.smarts_words.proofs.Numbers.{SomeNumber}
+use Rattle.smarts_words.proofs.FirstBytes.{first_of, kind_at, is_part, is_atomic, is_stereo, is_charge, is_mass}
 
 -- the primitive that bytes begin with, where it is no recursive part
 abbrev pub WordAt : List ℕ → Option (AtomWord × List ℕ) → Type 0
@@ -110,33 +109,6 @@ stereo_taken bytes r left z e is spelled longest = record {
       ∙ ap (λ v. prim_text v ++ rest) p.1 in
       same_left (stereo_text z) (stereo_text p.0) left rest (other z left is (sym both)) (longest p.0 rest iy both)
       both;
-}
-
-lettered_is_word : (x : Prim) → IsLettered x → IsWord x
-lettered_is_word (part text) h = absurd h
-lettered_is_word _ h = tt
-
-pub letters_taken : (bytes : List ℕ) (result : Option (AtomWord × List ℕ))
-    → ((b : ℕ) (r : List ℕ) → bytes ≡ b ∷ r → (b ≢ 64) × (b ≢ 35) × (b ≢ 43) × (b ≢ 45) × (¬ IsDigit b))
-    → LetteredAt bytes result → WordAt bytes result
-letters_taken [] None others at = record { found = tt; only = λ x rest is follows h. some_first x rest is.0 h }
-letters_taken [] (Some r) others at = record {
-  found = let f = at.found in (f.0, (f.1.0, lettered_is_word f.0 f.1.1), f.2, f.3, f.4);
-  only = λ x rest is follows h. absurd (some_first x rest is.0 h);
-}
-letters_taken (b ∷ bs) None others at = record {
-  found = tt;
-  only = λ x rest is follows h.
-      let o = others b bs refl in
-      at.only x rest (is.0, is_letters x b is.1 o.0 o.1 o.2 o.3 o.4 (kind_at x rest (b ∷ bs) bs b is.0 h refl)) follows
-      h;
-}
-letters_taken (b ∷ bs) (Some r) others at = record {
-  found = let f = at.found in (f.0, (f.1.0, lettered_is_word f.0 f.1.1), f.2, f.3, f.4);
-  only = λ x rest is follows h.
-      let o = others b bs refl in
-      at.only x rest (is.0, is_letters x b is.1 o.0 o.1 o.2 o.3 o.4 (kind_at x rest (b ∷ bs) bs b is.0 h refl)) follows
-      h;
 }
 
 part_only : (bytes r : List ℕ) → bytes ≡ 36 ∷ 40 ∷ r → (x : Prim) (rest : List ℕ) → IsPrim x → bytes ≡ prim_text x

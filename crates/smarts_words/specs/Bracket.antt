@@ -3,7 +3,7 @@
 use Rattle.std.specs.Prelude.{◌≢◌, ℕ, ◌≤◌, false, true, List, [], ◌∷◌, ◌++◌, length, map, ℤ, Option, None, Some, codes}
 use Rattle.std.specs.List.{AllByRecursion}
 use Rattle.chem_core.specs.Organic.{Organic, symbol_bytes, atomic_number}
-use Rattle.smiles_read.specs.Atom.{IsDigit, value_of, Lower, lower_bytes, lower_number, IsOrganicLower, class_text, IsClass}
+use Rattle.smiles_words.specs.Atom.{IsDigit, value_of, Lower, lower_bytes, lower_number, IsOrganicLower, class_text, IsClass}
 use Rattle.smarts_words.specs.declared.word.AtomWord.{AtomWord}
 use Rattle.smarts_words.specs.declared.word.AtomWord.TheVariants as words
 use Rattle.smarts_words.specs.declared.word.Step.{Step}
@@ -87,7 +87,7 @@ pub data Atom : Type 0 where
   aromatic : Atom
   aliphatic : Atom
   organic : Organic → Atom
-  small : Lower → Atom
+  lower : Lower → Atom
   bracket : Bracket → Atom
 
 abbrev pub atom_text : Atom → List ℕ
@@ -95,11 +95,11 @@ atom_text star = codes "*"
 atom_text aromatic = codes "a"
 atom_text aliphatic = codes "A"
 atom_text (organic x) = symbol_bytes x
-atom_text (small x) = lower_bytes x
+atom_text (lower x) = lower_bytes x
 atom_text (bracket x) = bracket_text x
 
 abbrev pub IsAtom : Atom → Type 0
-IsAtom (small x) = IsOrganicLower x
+IsAtom (lower x) = IsOrganicLower x
 IsAtom (bracket x) = IsBracket x
 IsAtom _ = Unit {0}
 
@@ -132,5 +132,5 @@ value_of_atom star = single words.Any
 value_of_atom aromatic = single words.Aromatic
 value_of_atom aliphatic = single words.Aliphatic
 value_of_atom (organic x) = single (words.Symbol (atomic_number x) false)
-value_of_atom (small x) = single (words.Symbol (lower_number x) true)
+value_of_atom (lower x) = single (words.Symbol (lower_number x) true)
 value_of_atom (bracket x) = inside_value x.inside

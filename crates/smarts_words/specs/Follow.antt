@@ -7,7 +7,7 @@ use Rattle.smarts_words.specs.Bracket.{Atom, atom_text, IsAtom, single, value_of
 use Rattle.smarts_words.specs.declared.word.AtomWord.{AtomWord}
 use Rattle.smarts_words.specs.declared.word.AtomWord.TheVariants as words
 use Rattle.smarts_words.specs.declared.word.Letter.{Letter}
-use Rattle.smiles_read.specs.Atom.{IsDigit, ChiralClass, class_bytes}
+use Rattle.smiles_words.specs.Atom.{IsDigit, ChiralClass, class_bytes}
 use Rattle.std.specs.List.{AllByRecursion}
 
 -- A piece that the bytes begin with, what it is read as, and the bytes after it; and the piece that stands there, where

@@ -4,6 +4,4 @@ pub mod Bracket
 pub mod Bonds
 pub mod Words
 pub mod Follow
-pub mod Apart
 pub mod State
-pub mod Owed

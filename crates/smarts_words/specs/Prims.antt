@@ -3,7 +3,7 @@
 use Rattle.std.specs.Prelude.{◌≡◌, ◌≢◌, ◌⊎◌, ℕ, ◌+◌, ◌-◌, ◌≤◌, ◌==◌, Bool, true, false, MatchBool, List, [], ◌∷◌, ◌++◌, length, replicate, slice_get, slice_index_or, ℤ, Option, None, Some, codes}
 use Rattle.std.specs.List.{AllByRecursion}
 use Rattle.chem_core.specs.Element.{symbols}
-use Rattle.smiles_read.specs.Atom.{IsDigit, value_of, Lower, lower_bytes, lower_number, ChiralClass, class_bytes, Sign, sign_byte, signed}
+use Rattle.smiles_words.specs.Atom.{IsDigit, value_of, Lower, lower_bytes, lower_number, ChiralClass, class_bytes, Sign, sign_byte, signed}
 use Rattle.smarts_words.specs.declared.word.Letter.{Letter}
 use Rattle.smarts_words.specs.declared.word.Letter.TheVariants as letters
 use Rattle.smarts_words.specs.declared.word.AtomWord.{AtomWord}
@@ -38,7 +38,7 @@ abbrev pub sign_of : Signs → ℕ
 sign_of (run sign count) = sign_byte sign
 sign_of (amount sign digits) = sign_byte sign
 
--- no text that is read has more signs
+-- No text that is read has more signs: a longer text is refused for its length before its grammar is asked.
 abbrev pub most_signs : ℕ
 most_signs = 4096
 
@@ -160,8 +160,7 @@ IsLongest x rest = (y : Stereo) (more : List ℕ) → IsTurn y.turn → stereo_t
     → length (stereo_text y) ≤ length (stereo_text x)
 
 -- What may follow: a symbol and a configuration are the longest that stand there, and a number has all digits that
--- stand
--- there.
+-- stand there.
 abbrev pub FollowsPrim : Prim → List ℕ → Type 0
 FollowsPrim any rest = Unit {0}
 FollowsPrim aromatic rest = StandsAlone 97 rest

@@ -11,7 +11,7 @@ use crate::bracket::bracket_at;
 use crate::symbol::symbol;
 use crate::value::PatternAtom;
 use crate::word::{AtomWord, Step};
-use smiles_read::{lower_letter_number, organic_number};
+use smiles_words::{lower_letter_number, organic_number};
 use std::alloc::{AllocError, Global};
 
 /// The atom that the bytes begin with, and the bytes after it.

@@ -1,6 +1,6 @@
 //! Bond expressions.
 
-ghost use Rattle.std.specs.Prelude.{◌≡◌, ◌≢◌, ℕ, ◌<◌, ◌≤◌, List, [], ◌∷◌, ◌++◌, length, Bool, false, Some, IfOk, IfSome, IfNone, IsSomeAnd, IsTrue, ◌↔◌, MatchOption, option_map};
+ghost use Rattle.std.specs.Prelude.{◌≡◌, ◌≢◌, ℕ, ◌<◌, ◌≤◌, List, [], ◌∷◌, ◌++◌, length, Bool, false, Some, None, IfOk, IfSome, IfNone, IsSomeAnd, IsTrue, ◌↔◌, MatchOption, option_map};
 ghost use Rattle.smarts_words.specs.Expression.{Expression};
 ghost use Rattle.smarts_words.specs.Bonds.{BondPrim, bond_prim_text, IsBondPrim, FollowsBondPrim, bond_word, bond_text, IsBondExpression, BeginsBond, bond_value, agreed_bond, same_steps, step_number, word_number};
 ghost use Rattle.smarts_words.specs.State.{JoinsAt, EndsBond};
@@ -37,7 +37,8 @@ pub fn bond_at(alloc: Global, bytes: &[u8]) -> Result<Option<(PatternBond, &[u8]
 
 /// The bond of two ends, where they agree: what is written at one of them, or at both alike.
 pub fn agree(first: PatternBond, second: PatternBond) -> Option<PatternBond>
-    ensures { result ≡ agreed_bond first second }
+    ensures agreed { result ≡ agreed_bond first second }
+    ensures disagree { (result ≡ None) ↔ ((first ≢ []) × (second ≢ []) × (first ≢ second)) }
 {
     if first.steps().is_empty() {
         return Some(second);

@@ -3,7 +3,7 @@
 ghost use Rattle.std.specs.Prelude.{◌≡◌, ℕ, ◌∷◌, ◌++◌, List, Option, Some, IfOk, OnOk, IfSome, IsSomeAnd, map, option_map};
 ghost use Rattle.std.specs.Option.{option_to_list};
 ghost use Rattle.line_walk.specs.Follow.{Reads, Anything};
-ghost use Rattle.smiles_read.specs.Atom.{class_text, IsClass};
+ghost use Rattle.smiles_words.specs.Atom.{class_text, IsClass};
 ghost use Rattle.smarts_words.specs.Bracket.{hydro_text, IsHydro, end_text, Bracket, bracket_text, IsBracket, inside_value, hydro};
 ghost use Rattle.smarts_words.specs.Bracket as bracket;
 ghost use Rattle.smarts_words.specs.State.{Holds, one_operand};

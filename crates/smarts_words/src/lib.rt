@@ -1,9 +1,9 @@
 //! What stands between the ring numbers, branches and dots of a SMARTS pattern: atoms and bond expressions (Daylight
 //! Theory Manual, chapter SMARTS).
 //!
-//! `Smarts` is the language of the walk: its atoms are symbols and brackets, which hold their recursive parts as texts,
-//! and its bonds are expressions. Both are read as steps in postfix order, which say what is written and not yet what
-//! it means.
+//! Atoms are symbols and brackets, which hold their recursive parts as texts, and bonds are expressions. Both are read
+//! as steps in postfix order, which say what is written and not yet what it means. `smarts_apart` in the proofs is what
+//! the walk asks of a language.
 #![tactic(auto)]
 
 mod atom;
@@ -13,12 +13,12 @@ mod inside;
 mod number;
 mod postfix;
 mod prim;
-mod smarts;
 mod stereo;
 mod symbol;
 mod value;
 mod word;
 
-pub use smarts::Smarts;
+pub use atom::atom_at;
+pub use bond::{agree, bond_at};
 pub use value::{PatternAtom, PatternBond};
 pub use word::{AtomWord, BondWord, Letter, Step};

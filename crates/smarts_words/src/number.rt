@@ -2,11 +2,11 @@
 
 ghost use Rattle.std.specs.Prelude.{◌≡◌, ◌≢◌, ◌⊎◌, ℕ, ◌<◌, ◌≤◌, ◌∷◌, ◌++◌, List, IfSome, IsSomeAnd, length, replicate, option_map};
 ghost use Rattle.std.specs.List.{AllByRecursion};
-ghost use Rattle.smiles_read.specs.Atom.{IsDigit, value_of, Sign, sign_byte, signed};
+ghost use Rattle.smiles_words.specs.Atom.{IsDigit, value_of, Sign, sign_byte, signed};
 ghost use Rattle.smarts_words.specs.Prims.{IsNumber, NoDigit, number_of, Signs, signs_text, AreSigns, FollowsSigns, sign_of, charge_of, most_signs};
 ghost use Rattle.smarts_words.specs.Follow.{Takes};
 
-use smiles_read::{digits_at, digits_value};
+use smiles_words::{digits_at, digits_value};
 
 // The most signs that a charge has; no text that is read has more.
 const MOST_SIGNS: usize = 4096;

@@ -10,7 +10,7 @@ use crate::number::{charge_at, number_at, written_at};
 use crate::stereo::after_stereo;
 use crate::symbol::{letter_of, one_letter, two_letters_at};
 use crate::word::{AtomWord, Letter};
-use smiles_read::is_digit;
+use smiles_words::is_digit;
 
 /// A primitive, and the text of the recursive part that it is.
 #[derive(Clone, Copy)]

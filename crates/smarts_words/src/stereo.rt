@@ -1,11 +1,11 @@
 //! Configurations, which are read so that they can be refused.
 
 ghost use Rattle.std.specs.Prelude.{◌≡◌, ◌≢◌, ℕ, Bool, false, List, ◌∷◌, ◌++◌, IfSome, IfNone, MatchOption};
-ghost use Rattle.smiles_read.specs.Atom.{IsDigit, ChiralClass, class_bytes};
+ghost use Rattle.smiles_words.specs.Atom.{IsDigit, ChiralClass, class_bytes};
 ghost use Rattle.smarts_words.specs.Prims.{Turn, Stereo, turn_text, mark_text, stereo_text, AreDigits, IsTurn, IsLongest};
 ghost use Rattle.smarts_words.specs.Follow.{DigitsEnd, TurnEnds};
 
-use smiles_read::is_digit;
+use smiles_words::is_digit;
 
 /// The bytes after the configuration that they begin with, the longest; the `@` at its front is read already.
 pub fn after_stereo(bytes: &[u8]) -> &[u8]

@@ -9,7 +9,7 @@ ghost use Rattle.smarts_words.specs.declared.word.AtomWord.TheVariants as words;
 
 use crate::word::{AtomWord, Letter};
 use chem_core::number_of;
-use smiles_read::lower_letter_number;
+use smiles_words::lower_letter_number;
 
 /// The symbol of two bytes that the bytes begin with, and the bytes after it.
 pub fn two_letters_at(bytes: &[u8]) -> Option<(AtomWord, &[u8])>

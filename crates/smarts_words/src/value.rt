@@ -44,14 +44,6 @@ impl PatternAtom {
     {
         &self.parts
     }
-
-    /// The texts of the recursive parts alone.
-    pub fn into_parts(self) -> Vec<Vec<u8>>
-        ensures { map (λ v. v.items) result.items ≡ self.parts }
-    {
-        let PatternAtom { steps: _, parts } = self;
-        parts
-    }
 }
 
 /// A bond: its expression in postfix order, which is empty where none is written.

@@ -20,7 +20,7 @@ use Rattle.line_walk.specs.Partners.{JoinSame, AreOnce, IsGraph}
 use Rattle.line_walk.specs.Places.{entries_of}
 use Rattle.line_walk.specs.Reading as walks
 use Rattle.smiles_read.specs.declared.limits.TheConstants.{MOST_BYTES}
-use Rattle.smiles_read.specs.Words.{smiles_words, agreed_kind, Tree, IsTreeOf}
+use Rattle.smiles_words.specs.Words.{smiles_words, agreed_kind, Tree, IsTreeOf}
 use Rattle.smiles_read.specs.Sketch.{numbered, link_of, IsSketchOf}
 use Rattle.smiles_read.specs.Faults.{walk_fault}
 use Rattle.smiles_read.specs.Reading.{IsWithinLimits, IsReading}

@@ -6,11 +6,11 @@ use Rattle.std.specs.List.{AllByRecursion}
 use Rattle.chem_core.specs.declared.sketch.SketchAtom.{SketchAtom}
 use Rattle.chem_core.specs.Organic.{Organic, boron, carbon, nitrogen, oxygen, phosphorus, sulfur, fluorine, chlorine, bromine, iodine, atomic_number}
 use Rattle.chem_core.specs.Sound.{IsSketchAtom}
-use Rattle.smiles_read.specs.Atom.{IsDigit, value_of, Lower, small_b, small_c, small_n, small_o, small_p, small_s, small_se, small_as, lower_number, Symbol, element, lower, symbol_number, IsSymbol, Sign, plus, minus, signed, Charge, neutral, run, amount, charge_value, IsCharge, AtomText, star, organic, aromatic, bracket, IsAtomText, atom_of}
+use Rattle.smiles_words.specs.Atom.{IsDigit, value_of, Lower, lower_b, lower_c, lower_n, lower_o, lower_p, lower_s, lower_se, lower_as, lower_number, Symbol, element, lower, symbol_number, IsSymbol, Sign, plus, minus, signed, Charge, neutral, run, amount, charge_value, IsCharge, AtomText, star, organic, aromatic, bracket, IsAtomText, atom_of}
 use Rattle.line_walk.specs.Tree.{Tail, stop, next, branch, IsTail, IsTree}
 use Rattle.line_walk.specs.Places.{Placed, placed_from, atoms_by, atoms_of, size_of}
-use Rattle.smiles_read.specs.Words.{BondText, smiles_words, Tree}
-use Rattle.smiles_read.specs.Owed.Pieces.{few_hydrogens}
+use Rattle.smiles_words.specs.Words.{BondText, smiles_words, Tree}
+use Rattle.smiles_words.proofs.Pieces.{few_hydrogens}
 
 small_organic : (x : Organic) → atomic_number x ≤ 103
 small_organic boron = omega arith
@@ -25,14 +25,14 @@ small_organic bromine = omega arith
 small_organic iodine = omega arith
 
 small_lower : (l : Lower) → lower_number l ≤ 103
-small_lower small_b = omega arith
-small_lower small_c = omega arith
-small_lower small_n = omega arith
-small_lower small_o = omega arith
-small_lower small_p = omega arith
-small_lower small_s = omega arith
-small_lower small_se = omega arith
-small_lower small_as = omega arith
+small_lower lower_b = omega arith
+small_lower lower_c = omega arith
+small_lower lower_n = omega arith
+small_lower lower_o = omega arith
+small_lower lower_p = omega arith
+small_lower lower_s = omega arith
+small_lower lower_se = omega arith
+small_lower lower_as = omega arith
 
 small_symbol : (s : Symbol) → IsSymbol s → symbol_number s ≤ 103
 small_symbol (element n) is = is

@@ -7,7 +7,7 @@ use Rattle.line_walk.specs.declared.pairs.Link.{Link}
 use Rattle.line_walk.specs.Partners.{Entry, IsGraph}
 use Rattle.smiles_read.specs.declared.fault.SmilesFault.{SmilesFault}
 use Rattle.smiles_read.specs.declared.fault.SmilesFault.TheVariants.{Syntax, Ring, Limit, Aromatic, NoMemory}
-use Rattle.smiles_read.specs.Words.{agreed_kind, Tree, IsTreeOf}
+use Rattle.smiles_words.specs.Words.{agreed_kind, Tree, IsTreeOf}
 use Rattle.smiles_read.specs.Sketch.{link_of, IsSketchOf}
 use Rattle.smiles_read.specs.Reading.{IsWithinLimits, IsReading}
 use Rattle.smiles_read.specs.Limits.{bond_of}

@@ -1,9 +1,4 @@
-pub mod Atom
-pub mod Follow
-pub mod Words
 pub mod Sketch
 pub mod Faults
 pub mod Reading
 pub mod Limits
-pub mod Parts
-pub mod Owed

@@ -8,7 +8,7 @@ use Rattle.line_walk.specs.Tree.{depth_of}
 use Rattle.smiles_read.specs.declared.limits.TheConstants.{MOST_BYTES, MOST_BRANCHES}
 use Rattle.smiles_read.specs.declared.fault.SmilesFault.{SmilesFault}
 use Rattle.smiles_read.specs.declared.fault.SmilesFault.TheVariants.{Syntax, Ring, Limit, Aromatic, NoMemory}
-use Rattle.smiles_read.specs.Words.{Tree, IsTreeOf}
+use Rattle.smiles_words.specs.Words.{Tree, IsTreeOf}
 use Rattle.smiles_read.specs.Sketch.{IsSketchOf}
 
 -- the branches open at once, the atoms, the bonds, and the neighbours of each atom

@@ -9,7 +9,7 @@ use Rattle.chem_core.specs.Sketch.{SketchTerm}
 use Rattle.line_walk.specs.declared.pairs.Link.{Link}
 use Rattle.line_walk.specs.Partners.{IsGraph}
 use Rattle.line_walk.specs.Places.{atoms_of, entries_of}
-use Rattle.smiles_read.specs.Words.{smiles_words, agreed_kind, Tree}
+use Rattle.smiles_words.specs.Words.{smiles_words, agreed_kind, Tree}
 
 -- each atom with its place
 abbrev pub numbered : List SketchAtom → List SketchAtom

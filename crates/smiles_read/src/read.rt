@@ -3,7 +3,7 @@
 ghost use Rattle.std.specs.Prelude.{◌≡◌, ◌⊎◌, ℕ, ◌≤◌, List, All, Result, Err, IfOk};
 ghost use Rattle.chem_core.specs.Sketch.{SketchTerm};
 ghost use Rattle.chem_core.specs.Sound.{IsSound};
-ghost use Rattle.smiles_read.specs.Words.{Tree, IsTreeOf};
+ghost use Rattle.smiles_words.specs.Words.{Tree, IsTreeOf};
 ghost use Rattle.smiles_read.specs.Reading.{IsReading};
 ghost use Rattle.smiles_read.specs.declared.fault.SmilesFault.{SmilesFault};
 

@@ -1,5 +1,5 @@
 use Rattle.std.proofs.Common.{arith}
-use Rattle.smiles_read.proofs.Fronts.{front_is}
+use Rattle.smiles_words.proofs.Fronts.{front_is}
 use Rattle.smarts_words.proofs.AtomRead.{bracket_atom, ok_then}
 use Rattle.smarts_words.proofs.atom.atom_at.Goals as goal
 

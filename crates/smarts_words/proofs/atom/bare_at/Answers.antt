@@ -1,6 +1,6 @@
 use Rattle.std.proofs.Common.{ap, arith}
 use Rattle.chem_core.specs.Organic.{chlorine, bromine}
-use Rattle.smiles_read.proofs.Fronts.{front_two}
+use Rattle.smiles_words.proofs.Fronts.{front_two}
 use Rattle.smarts_words.specs.Bracket.{organic, single}
 use Rattle.smarts_words.proofs.atom.bare_at.Goals as goal
 

@@ -1,6 +1,6 @@
 use Rattle.std.proofs.Common.{true, false, ◌∙◌, ap}
 use Rattle.smarts_words.specs.declared.word.AtomWord.TheVariants as words
-use Rattle.smarts_words.specs.Bracket.{organic, small, single}
+use Rattle.smarts_words.specs.Bracket.{organic, lower, single}
 use Rattle.smarts_words.proofs.atom.organic_word.Goals as goal
 
 pub returns-in-Some : goal.returns-in-Some
@@ -19,7 +19,7 @@ pub returns-in-Some-lower_letter_number : goal.returns-in-Some-lower_letter_numb
 returns-in-Some-lower_letter_number c =
     let f = c.in-Some-lower_letter_number.ensures in
     record {
-      atom = small f.0;
+      atom = lower f.0;
       is = f.1;
       bare = tt;
       spelled = f.2;

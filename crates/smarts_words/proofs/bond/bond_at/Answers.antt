@@ -1,5 +1,5 @@
 use Rattle.std.proofs.Common.{◌∙◌}
-use Rattle.smarts_words.specs.Owed.BondRead.{word_read, bond_last, bond_only, bond_never, bond_next, bond_begins}
+use Rattle.smarts_words.proofs.BondRead.{word_read, bond_last, bond_only, bond_never, bond_next, bond_begins}
 use Rattle.smarts_words.proofs.bond.bond_at.Goals as goal
 
 pub operands-init : goal.operands-init

@@ -1,5 +1,5 @@
 use Rattle.std.proofs.Common.{length}
-use Rattle.smarts_words.specs.Owed.BondRead.{BondGoes}
+use Rattle.smarts_words.proofs.BondRead.{BondGoes}
 use Rattle.smarts_words.proofs.bond.bond_at.Given as goal
 
 abbrev pub invariant-operands : goal.invariant-operands

@@ -1,6 +1,6 @@
 use Rattle.std.proofs.Common.{arith}
-use Rattle.smiles_read.proofs.Fronts.{front_two}
-use Rattle.smarts_words.specs.Owed.BondRead.{up_taken, down_taken}
+use Rattle.smiles_words.proofs.Fronts.{front_two}
+use Rattle.smarts_words.proofs.BondRead.{up_taken, down_taken}
 use Rattle.smarts_words.proofs.bond.word_at.Goals as goal
 
 pub returns-in-47-clause-reads : goal.returns-in-47-clause-reads

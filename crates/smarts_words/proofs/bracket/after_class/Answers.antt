@@ -2,8 +2,8 @@ use Rattle.std.proofs.Common.{◌≡◌, ℕ, List, Option, None, Some, ◌∷�
 use Rattle.std.specs.Option.{IfSome}
 use Rattle.std.specs.List.{AllByRecursion}
 use Rattle.std.proofs.Common.{length, ◌≤◌}
-use Rattle.smiles_read.specs.Atom.{IsDigit, class_text, IsClass}
-use Rattle.smiles_read.proofs.Fronts.{front_is}
+use Rattle.smiles_words.specs.Atom.{IsDigit, class_text, IsClass}
+use Rattle.smiles_words.proofs.Fronts.{front_is}
 use Rattle.smarts_words.proofs.bracket.after_class.Goals as goal
 
 class_found : {T : Type 0} (now : T → List ℕ) (o : Option T) (bytes r : List ℕ) → bytes ≡ 58 ∷ r

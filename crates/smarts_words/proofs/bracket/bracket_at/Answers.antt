@@ -1,6 +1,6 @@
 use Rattle.std.proofs.Common.{◌≡◌, Option, Some, None, subst}
 use Rattle.std.specs.Option.{IfSome, IsSomeAnd}
-use Rattle.smarts_words.specs.Owed.BracketRead.{hydro_taken, low_taken, bracket_refused}
+use Rattle.smarts_words.proofs.BracketRead.{hydro_taken, low_taken, bracket_refused}
 use Rattle.smarts_words.proofs.bracket.bracket_at.Goals as goal
 
 pub returns-in-Some : goal.returns-in-Some

@@ -1,7 +1,7 @@
 use Rattle.std.proofs.Common.{◌≡◌, ℕ, ◌-◌, List, Option, Some, ◌∷◌, length, take, drop, subst, arith}
-use Rattle.smiles_read.proofs.Fronts.{front_is}
-use Rattle.smarts_words.specs.Owed.Hydrogens.{HydroParts, parts_found, parts_only}
-use Rattle.smarts_words.specs.Owed.Numbers.{AnyNumber}
+use Rattle.smiles_words.proofs.Fronts.{front_is}
+use Rattle.smarts_words.proofs.Hydrogens.{HydroParts, parts_found, parts_only}
+use Rattle.smarts_words.proofs.Numbers.{AnyNumber}
 use Rattle.smarts_words.proofs.bracket.hydro_at.Goals as goal
 
 moved : (bytes after one : List ℕ) (mass : Option ℕ) → after ≡ 72 ∷ one → AnyNumber bytes (Some (mass, after))

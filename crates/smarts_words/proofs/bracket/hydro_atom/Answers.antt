@@ -7,7 +7,7 @@ use Rattle.smarts_words.specs.declared.word.AtomWord.TheVariants as words
 use Rattle.smarts_words.specs.Expression.{joined}
 use Rattle.smarts_words.specs.State.{one_operand, lows_ended}
 use Rattle.smarts_words.specs.Bracket.{AtomValue, inside_value, hydro}
-use Rattle.smarts_words.specs.Owed.Hydrogens.{hydro_steps}
+use Rattle.smarts_words.proofs.Hydrogens.{hydro_steps}
 use Rattle.smarts_words.proofs.bracket.hydro_atom.Goals as goal
 
 value_of : (v w : AtomValue) (ss ts : List (Step AtomWord)) (ps : List (List ℕ)) → v ≡ record { steps = ss; parts = ps }

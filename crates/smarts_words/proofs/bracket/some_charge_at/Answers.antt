@@ -5,7 +5,7 @@ use Rattle.std.proofs.lemmas.Int.{to_z-of_z}
 use Rattle.line_walk.specs.Follow.{Reads}
 use Rattle.smarts_words.specs.Bracket.{charge_text, IsCharge, charge_value}
 use Rattle.smarts_words.specs.Follow.{BeginsEnd}
-use Rattle.smarts_words.specs.Owed.Hydrogens.{charge_some, charge_none}
+use Rattle.smarts_words.proofs.Hydrogens.{charge_some, charge_none}
 use Rattle.smarts_words.proofs.bracket.some_charge_at.Goals as goal
 
 pub returns-in-Some : goal.returns-in-Some

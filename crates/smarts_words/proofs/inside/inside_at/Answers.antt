@@ -1,5 +1,5 @@
 use Rattle.std.proofs.Common.{List, ℕ, map, sym, ◌∙◌, ap, subst}
-use Rattle.smarts_words.specs.Owed.InsideRead.{InsideGoes, word_read, inside_last, inside_only, inside_never, inside_next, inside_begins}
+use Rattle.smarts_words.proofs.InsideRead.{InsideGoes, word_read, inside_last, inside_only, inside_never, inside_next, inside_begins}
 use Rattle.smarts_words.proofs.inside.inside_at.Goals as goal
 
 pub operands-init : goal.operands-init

@@ -1,5 +1,5 @@
 use Rattle.std.proofs.Common.{map, length}
-use Rattle.smarts_words.specs.Owed.InsideRead.{InsideGoes}
+use Rattle.smarts_words.proofs.InsideRead.{InsideGoes}
 use Rattle.smarts_words.proofs.inside.inside_at.Given as goal
 
 abbrev pub invariant-operands : goal.invariant-operands

@@ -1,5 +1,5 @@
 use Rattle.std.proofs.Common.{◌≡◌, get_or, refl, ap, arith}
-use Rattle.smiles_read.proofs.Fronts.{front_is}
+use Rattle.smiles_words.proofs.Fronts.{front_is}
 use Rattle.smarts_words.specs.Expression.{semicolon, comma, ampersand, beside}
 use Rattle.smarts_words.specs.State.{joins}
 use Rattle.smarts_words.proofs.inside.joint_at.Goals as goal

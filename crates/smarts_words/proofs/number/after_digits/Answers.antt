@@ -1,6 +1,6 @@
 use Rattle.std.proofs.Common.{◌≡◌, ◌≤◌, length, ◌∙◌, sym, subst, List, ℕ, arith}
 use Rattle.std.proofs.lemmas.Bool.Decides.{nat_tests}
-use Rattle.smarts_words.specs.Owed.Numbers.{same_digits}
+use Rattle.smarts_words.proofs.Numbers.{same_digits}
 use Rattle.smarts_words.proofs.Digits.{no_digit}
 use Rattle.smarts_words.proofs.number.after_digits.Goals as goal
 

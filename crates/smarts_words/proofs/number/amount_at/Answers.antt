@@ -1,6 +1,6 @@
 use Rattle.std.proofs.Common.{◌≡◌, ℕ, List, Option, Some, replicate, ◌≤◌, ◌++◌, ◌∙◌, ap, subst, arith}
 use Rattle.std.specs.Option.{IfSome}
-use Rattle.smarts_words.specs.Owed.Signs.{NumberRead, charge_is_at, never_read, run_read, number_read, run_found, number_found}
+use Rattle.smarts_words.proofs.Signs.{NumberRead, charge_is_at, never_read, run_read, number_read, run_found, number_found}
 use Rattle.smarts_words.proofs.number.amount_at.Goals as goal
 use Rattle.smarts_words.proofs.number.amount_at.Goals.{in_default-via-in-None+else-count-le-MOST_SIGNS, in_default-via-in-Some+else-count-eq1}
 

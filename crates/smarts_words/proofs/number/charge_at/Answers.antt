@@ -3,9 +3,9 @@ use mir.Val.{to_z, of_z}
 use lib.IntN.{pos, neg_ℤ, ◌-ℤ◌}
 use Rattle.std.proofs.Common.{ℕ, ◌≤◌, ◌≡◌, ◌∙◌, refl, sym, arith}
 use Rattle.std.proofs.lemmas.Int.{to_z_pos, ints}
-use Rattle.smiles_read.specs.Atom.{plus, minus}
-use Rattle.smiles_read.proofs.Fronts.{front_is}
-use Rattle.smarts_words.specs.Owed.Signs.{first_sign}
+use Rattle.smiles_words.specs.Atom.{plus, minus}
+use Rattle.smiles_words.proofs.Fronts.{front_is}
+use Rattle.smarts_words.proofs.Signs.{first_sign}
 use Rattle.smarts_words.proofs.number.charge_at.Goals as goal
 
 plus_value : (n : ℕ) → n ≤ 4096 → to_z w16 n ≡ pos n

@@ -1,7 +1,7 @@
 use Rattle.std.proofs.Common.{◌∙◌, ◌≤◌, length, None, Some, sym, ap, arith}
 use Rattle.std.proofs.lemmas.Bool.Decides.{nat_tests}
 use Rattle.smarts_words.specs.Prims.{number_of}
-use Rattle.smarts_words.specs.Owed.Numbers.{digits_taken, digits_refused, no_number, some_number}
+use Rattle.smarts_words.proofs.Numbers.{digits_taken, digits_refused, no_number, some_number}
 use Rattle.smarts_words.proofs.Digits.{no_digit}
 use Rattle.smarts_words.proofs.number.number_at.Goals as goal
 

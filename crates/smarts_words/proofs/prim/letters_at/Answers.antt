@@ -1,7 +1,7 @@
 use Rattle.std.proofs.Common.{◌≡◌, ℕ, List, ◌∷◌, [], length, get_or, take, drop, ◌-◌, ◌<◌, sym, ap, ◌∙◌, refl, arith}
-use Rattle.smiles_read.proofs.Fronts.{front_is}
+use Rattle.smiles_words.proofs.Fronts.{front_is}
 use Rattle.smarts_words.specs.Prims.{letter_byte}
-use Rattle.smarts_words.specs.Owed.Lettered.{pair_taken, count_taken, single_taken, single_refused, empty_refused}
+use Rattle.smarts_words.proofs.Lettered.{pair_taken, count_taken, single_taken, single_refused, empty_refused}
 use Rattle.smarts_words.proofs.prim.letters_at.Goals as goal
 
 no_bytes : (xs : List ℕ) → length xs < 1 → xs ≡ []

@@ -1,5 +1,5 @@
 use Rattle.std.proofs.Common.{◌-◌, length, take, drop, get_or, refl}
-use Rattle.smiles_read.proofs.Fronts.{front_is}
+use Rattle.smiles_words.proofs.Fronts.{front_is}
 use Rattle.smarts_words.proofs.Balance.{closed_part}
 use Rattle.smarts_words.proofs.prim.part_at.Goals as goal
 

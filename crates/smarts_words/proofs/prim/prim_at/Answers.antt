@@ -1,5 +1,5 @@
 use Rattle.std.proofs.Common.{◌-◌, length, take, drop, arith}
-use Rattle.smiles_read.proofs.Fronts.{front_two}
+use Rattle.smiles_words.proofs.Fronts.{front_two}
 use Rattle.smarts_words.proofs.Taken.{part_taken, part_refused, prim_shorter}
 use Rattle.smarts_words.proofs.prim.prim_at.Goals as goal
 

@@ -1,5 +1,5 @@
 use Rattle.std.proofs.Common.{◌-◌, length, take, drop, get_or, inl, inr, refl, arith}
-use Rattle.smiles_read.proofs.Fronts.{front_is}
+use Rattle.smiles_words.proofs.Fronts.{front_is}
 use Rattle.smarts_words.proofs.Taken.{atomic_taken, atomic_refused, mass_taken, mass_refused, charges_taken, stereo_taken}
 use Rattle.smarts_words.proofs.prim.word_at.Goals as goal
 

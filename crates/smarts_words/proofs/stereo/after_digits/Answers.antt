@@ -1,7 +1,7 @@
 use Rattle.std.proofs.Common.{◌≡◌, ℕ, ◌-◌, ◌<◌, List, [], ◌∷◌, length, take, drop, get_or, refl, sym, ◌∙◌, ap, subst, arith}
 use Rattle.std.proofs.lemmas.Grind.{common_steps}
-use Rattle.smiles_read.specs.Atom.{IsDigit}
-use Rattle.smiles_read.proofs.Fronts.{front_is}
+use Rattle.smiles_words.specs.Atom.{IsDigit}
+use Rattle.smiles_words.proofs.Fronts.{front_is}
 use Rattle.smarts_words.specs.Prims.{NoDigit}
 use Rattle.smarts_words.proofs.stereo.after_digits.Goals as goal
 

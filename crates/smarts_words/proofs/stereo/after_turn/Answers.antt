@@ -1,5 +1,5 @@
 use Rattle.std.proofs.Common.{ℕ, List, ◌∷◌, ◌++◌, sym, ◌∙◌, ap, append_assoc}
-use Rattle.smiles_read.specs.Atom.{class_bytes}
+use Rattle.smiles_words.specs.Atom.{class_bytes}
 use Rattle.smarts_words.specs.Prims.{numbered}
 use Rattle.smarts_words.proofs.stereo.after_turn.Goals as goal
 

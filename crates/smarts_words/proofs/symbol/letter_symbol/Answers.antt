@@ -2,7 +2,7 @@ use Rattle.std.proofs.Common.{◌∷◌, [], ap, ◌∙◌}
 use Rattle.std.proofs.lemmas.Option.{get_or_from_slice_get}
 use Rattle.chem_core.specs.Element.{symbols}
 use Rattle.smarts_words.specs.Prims.{lower, element}
-use Rattle.smarts_words.specs.Owed.Letters.{one_from, none_single}
+use Rattle.smarts_words.proofs.Letters.{one_from, none_single}
 use Rattle.smarts_words.proofs.symbol.letter_symbol.Goals as goal
 use Rattle.smarts_words.specs.declared.word.AtomWord.TheVariants as words
 use Rattle.std.proofs.Common.{true}

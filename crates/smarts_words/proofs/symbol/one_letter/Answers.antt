@@ -1,6 +1,6 @@
 use Rattle.std.proofs.Common.{◌∷◌, [], sym, ap, refl}
 use Rattle.smarts_words.specs.Prims.{any, aromatic, aliphatic}
-use Rattle.smarts_words.specs.Owed.Letters.{none_hydrogen}
+use Rattle.smarts_words.proofs.Letters.{none_hydrogen}
 use Rattle.smarts_words.proofs.symbol.one_letter.Goals as goal
 
 pub returns-in-42 : goal.returns-in-42

@@ -1,5 +1,5 @@
 use Rattle.std.proofs.Common.{arith}
-use Rattle.smiles_read.specs.Owed.Symbols.{two_is_lower}
+use Rattle.smiles_words.proofs.Symbols.{two_is_lower}
 use Rattle.smarts_words.proofs.symbol.pair_element.Goals as goal
 
 pub returns-then-second-lt97 : goal.returns-then-second-lt97

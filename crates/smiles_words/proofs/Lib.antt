@@ -1,0 +1,9 @@
+pub mod Bytes
+pub mod Digits
+pub mod Symbols
+pub mod Pieces
+pub mod BracketEnds
+pub mod Unique
+pub mod Apart
+pub mod Fronts
+pub mod Results

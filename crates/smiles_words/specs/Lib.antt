@@ -1,0 +1,4 @@
+pub mod Atom
+pub mod Follow
+pub mod Words
+pub mod Parts
