@@ -5,10 +5,12 @@
 #![tactic(auto)]
 
 mod fault;
+mod laws;
 mod limits;
 mod notation;
 mod read;
 mod sketch;
 
 pub use fault::SmilesFault;
+pub use laws::readings_are_sound;
 pub use read::{one_reading, one_tree, read_smiles, read_smiles_in};
