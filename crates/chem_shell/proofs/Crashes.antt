@@ -1,6 +1,7 @@
 -- What a crash leaves at each moment of a run on a disk: a run's history is what its steps acknowledged, and an image
 -- of some time is one of a step in it.
 use Rattle.std.proofs.Common.{◌≡◌, ◌⊎◌, ◌++◌, ◌∙◌, ◌≤◌, ◌<◌, ap, append-nil, append_assoc, arith, Bool, false, inl, inr, List, [], ◌∷◌, None, refl, Some, subst, sym, true, ℕ}
+use Rattle.disk_edge.specs.Disk.{DiskModel}
 use Rattle.std.specs.List.{AllByRecursion}
 use Rattle.std.specs.Prelude.{nat_le}
 use Rattle.std.proofs.lemmas.Bool.Decides.{nat_tests}
@@ -158,14 +159,14 @@ shows_later x xs s t v u image starts gives call le over later = record {
       later.opens;
 }
 
-module _ {D : Type 0} (clock : D → ℕ) (between : D → ℕ → ℕ → List ℕ → Type 0) (d : D)
-    (parts : (d : D) (t v u : ℕ) (c : List ℕ) → t ≤ v → v ≤ u → between d t u c → between d t v c ⊎ between d v u c)
-    (whole : (d : D) (t t' u' u : ℕ) (c : List ℕ) → t ≤ t' → u' ≤ u → between d t' u' c → between d t u c) where
+module _ {D : Type 0} (model : DiskModel D) (d : D)
+    (parts : (d : D) (t v u : ℕ) (c : List ℕ) → t ≤ v → v ≤ u → model.images_between d t u c → model.images_between d t v c ⊎ model.images_between d v u c)
+    (whole : (d : D) (t t' u' u : ℕ) (c : List ℕ) → t ≤ t' → u' ≤ u → model.images_between d t' u' c → model.images_between d t u c) where
   -- an image of the time of a run on a disk
   pub shows_between : (steps : List Step) (s last : State) (begin end : Times) (t u : ℕ) (image : List ℕ)
-      → IsRun s steps last → IsCalm steps → AreClocked begin steps end → AllByRecursion (IsTimed clock between d) steps
-      → ((c : List ℕ) → between d end.a end.a c → OpensAfter last c)
-      → begin.a ≤ t → t ≤ u → u ≤ end.a → between d t u image → ShowsBetween s steps t u image
+      → IsRun s steps last → IsCalm steps → AreClocked begin steps end → AllByRecursion (IsTimed model d) steps
+      → ((c : List ℕ) → model.images_between d end.a end.a c → OpensAfter last c)
+      → begin.a ≤ t → t ≤ u → u ≤ end.a → model.images_between d t u image → ShowsBetween s steps t u image
   shows_between [] s last begin end t u image run calm clocked timed left from le to b =
       let same : end.a ≡ begin.a = ap (λ (x : Times). x.a) clocked in
       let i = left image (whole d end.a t u end.a image (omega (arith, from, same)) to b) in
@@ -182,7 +183,7 @@ module _ {D : Type 0} (clock : D → ℕ) (between : D → ℕ → ℕ → List 
             (let ahead : t < x.end.a = grind (arith, nat_tests) in
             let none : AllByRecursion (λ y. t < y.end.a) (x ∷ xs) =
             (ahead, none_over xs x.end end t clocked.2 ahead) in
-            let first : (v : ℕ) → v ≤ x.end.a → between d t v image → ShowsBetween s (x ∷ xs) t u image =
+            let first : (v : ℕ) → v ≤ x.end.a → model.images_between d t v image → ShowsBetween s (x ∷ xs) t u image =
             (λ v to_end i.
             let i' = timed.0.1 image (whole d x.begin.a t v x.end.a image (omega (arith, starts, from)) to_end i) in
             subst (λ z. ShowsBetween z (x ∷ xs) t u image) run.0

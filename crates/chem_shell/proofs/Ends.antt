@@ -1,5 +1,6 @@
 -- Facts of each end, from what serving it leaves.
 use Rattle.std.proofs.Common.{◌≡◌, ◌≤◌, ℕ, Option, List, [], ◌∷◌, length, map, refl, sym, ap, ◌∙◌, subst, inl, inr, arith}
+use Rattle.disk_edge.specs.Disk.{DiskModel}
 use Rattle.std.specs.Prelude.{All}
 use Rattle.std.specs.List.{AllZip}
 use Rattle.std.proofs.lemmas.List.Elements.{All-nil, All-cons}
@@ -84,13 +85,12 @@ never_created_usage n (inr (inl a)) e = omega arith
 never_created_usage n (inr (inr (inl a))) e = omega arith
 never_created_usage n (inr (inr (inr a))) e = omega arith
 
-module _ {D S K : Type 0} (content : D → Option (List ℕ)) (images : D → List ℕ → Type 0) (clock : D → ℕ)
-    (between : D → ℕ → ℕ → List ℕ → Type 0) (faults : D → ℕ) (bound : D → Option ℕ)
+module _ {D S K : Type 0} (model : DiskModel D)
     (left : S → Option (List ℕ)) (source_faults : S → ℕ) (written : K → Option (List ℕ))
     (sink_faults : K → ℕ) (a a' : D) where
   abbrev Left : Verb → Plan → End S K → End S K → Type 0
   Left verb plan old new =
-      Serves verb content images clock between faults bound plan left source_faults written sink_faults a a' old new
+      Serves verb model plan left source_faults written sink_faults a a' old new
 
   pub source_fault_served : (verb : Verb) (plan : Plan) (old new : End S K) → Left verb plan old new
       → new.status ≡ SOURCE_FAULT → Rose (source_faults old.source) (source_faults new.source)
@@ -122,7 +122,7 @@ module _ {D S K : Type 0} (content : D → Option (List ℕ)) (images : D → Li
   bulk_served verb plan old new e s = subst (λ v. Left v plan old new) e s
 
   pub run_served : (verb : Verb) (plan : Plan) (old new : End S K) → verb ≡ Run → Left verb plan old new
-      → ServesRun content images clock between faults bound plan left source_faults written sink_faults a a' old new
+      → ServesRun model plan left source_faults written sink_faults a a' old new
   run_served verb plan old new e s = subst (λ v. Left v plan old new) e s
 
 -- a fact of every one of some ends

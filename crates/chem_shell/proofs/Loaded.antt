@@ -1,7 +1,7 @@
 -- A session over a store that was loaded: what the disk then has, and what was put.
 use Rattle.std.proofs.Common.{◌≡◌, ◌≢◌, ◌⊎◌, ◌≤◌, ◌++◌, ◌∙◌, ℕ, List, [], ◌∷◌, Option, None, Some, IfSome, option_map, refl, sym, ap, subst, inl, inr, append-nil, arith, true}
 use Rattle.std.proofs.lemmas.List.{map-append}
-use Rattle.disk_edge.specs.Disk.{IfTold}
+use Rattle.disk_edge.specs.Disk.{DiskModel, IfTold}
 use Rattle.io_edge.specs.Lines.{lines_of}
 use Rattle.journal_core.specs.Looks.{Narrows}
 use Rattle.journal_core.specs.Records.{Opens}
@@ -75,11 +75,10 @@ whole_of_status NoMemory status page calls h input before after is e law run ser
 whole_of_status InputTooLong status page calls h input before after is e law run served = absurd (omega (arith, is, e))
 whole_of_status Worn status page calls h input before after is e law run served = absurd is
 
-module _ {D : Type 0} (content : D → Option (List ℕ)) (images : D → List ℕ → Type 0) (clock : D → ℕ)
-    (between : D → ℕ → ℕ → List ℕ → Type 0) (faults : D → ℕ) where
+module _ {D : Type 0} (model : DiskModel D) where
   opens_by : (journal : Standing D) (s : State) (doubt : Option Change) → s.doubt ≡ doubt
-      → Has content images journal (payloads s.history) (option_map payload doubt)
-      → IfTold (content journal.disk) (λ _. (image : List ℕ) → images journal.disk image → OpensAfter s image)
+      → Has model journal (payloads s.history) (option_map payload doubt)
+      → IfTold (model.content journal.disk) (λ _. (image : List ℕ) → model.images journal.disk image → OpensAfter s image)
   opens_by journal s None is has l told image i = (s.history, inl refl, (has.1 l told).each image i)
   opens_by journal s (Some c) is has l told image i = elim ((has.1 l told).each image i) [
     | inl before ↦ (s.history, inl refl, before)
@@ -91,13 +90,13 @@ module _ {D : Type 0} (content : D → Option (List ℕ)) (images : D → List �
   ]
 
   -- each image of a store's disk opens to its history, or to this and the commit in doubt
-  pub opens_after : (store : StoreTerm D) (s : State) → StandsFor content images faults store s
-      → IfTold (content store.journal.disk) (λ _. (image : List ℕ) → images store.journal.disk image
+  pub opens_after : (store : StoreTerm D) (s : State) → StandsFor model store s
+      → IfTold (model.content store.journal.disk) (λ _. (image : List ℕ) → model.images store.journal.disk image
       → OpensAfter s image)
   opens_after store s stands = opens_by store.journal s s.doubt refl stands.journal
 
   in_run : (s : State) (old new : StoreTerm D) (calls : Calls)
-      → (made : core.Calls (Stretches content images clock between faults) (λ _. true) old new s calls)
+      → (made : core.Calls (Stretches model) (λ _. true) old new s calls)
       → IsInRun calls made.after.history
   in_run s old new calls made = record {
     before = s;
@@ -112,18 +111,18 @@ module _ {D : Type 0} (content : D → Option (List ℕ)) (images : D → List �
     is = refl;
   }
 
-  module _ (parts : (d : D) (t v u : ℕ) (c : List ℕ) → t ≤ v → v ≤ u → between d t u c
-      → between d t v c ⊎ between d v u c)
-      (whole : (d : D) (t t' u' u : ℕ) (c : List ℕ) → t ≤ t' → u' ≤ u → between d t' u' c → between d t u c)
-      (only_now : (d : D) (c : List ℕ) → between d (clock d) (clock d) c → images d c)
-      (bound : D → Option ℕ) (law : ServicesAreTrue)
+  module _ (parts : (d : D) (t v u : ℕ) (c : List ℕ) → t ≤ v → v ≤ u → model.images_between d t u c
+      → model.images_between d t v c ⊎ model.images_between d v u c)
+      (whole : (d : D) (t t' u' u : ℕ) (c : List ℕ) → t ≤ t' → u' ≤ u → model.images_between d t' u' c → model.images_between d t u c)
+      (only_now : (d : D) (c : List ℕ) → model.images_between d (model.clock d) (model.clock d) c → model.images d c)
+      (model : DiskModel D) (law : ServicesAreTrue)
       {S K : Type 0} (left : S → Option (List ℕ)) (written : K → Option (List ℕ)) (plan : Plan)
-      (a : D) (s : State) (old new : StoreTerm D) (stands : StandsFor content images faults old s)
-      (opened : IsOpened plan.commits s) (opens : IfTold (content a) (OpensTo s.history))
-      (read : Narrows content images clock between faults bound a old.journal.disk) where
+      (a : D) (s : State) (old new : StoreTerm D) (stands : StandsFor model old s)
+      (opened : IsOpened plan.commits s) (opens : IfTold (model.content a) (OpensTo s.history))
+      (read : Narrows model a old.journal.disk) where
     -- what calls leave of the disk
-    on_disk : (calls : Calls) → core.Calls (Stretches content images clock between faults) (λ _. true) old new s calls
-        → AreOnDisk content images clock between faults plan.commits a new.journal.disk calls
+    on_disk : (calls : Calls) → core.Calls (Stretches model) (λ _. true) old new s calls
+        → AreOnDisk model plan.commits a new.journal.disk calls
     on_disk calls made = record {
       first = s;
       steps = made.steps;
@@ -133,34 +132,34 @@ module _ {D : Type 0} (content : D → Option (List ℕ)) (images : D → List �
       run = made.stands.run;
       calm = made.stands.calm;
       all = made.own;
-      loaded = times clock old;
-      ended = times clock new;
+      loaded = times model.clock old;
+      ended = times model.clock new;
       later = read.past.later;
       clocked = made.stands.clocked;
       now = refl;
       loading = λ image b. read.moments image
-          (made.stands.past.no_more (clock a) (clock old.journal.disk) image (omega arith) b);
+          (made.stands.past.no_more (model.clock a) (model.clock old.journal.disk) image (omega arith) b);
       moments = λ l told t u image from le to b.
-          shows_between clock between new.journal.disk parts whole made.steps s made.after (times clock old)
-          (times clock new) t u image made.stands.run made.stands.calm made.stands.clocked (made.stands.moments l told)
+          shows_between model new.journal.disk parts whole made.steps s made.after (times model.clock old)
+          (times model.clock new) t u image made.stands.run made.stands.calm made.stands.clocked (made.stands.moments l told)
           (λ c now. opens_after new made.after made.stands.ends l told c (only_now new.journal.disk c now))
           from le to b;
       left = opens_after new made.after made.stands.ends;
       begins =
-          let count : s.faults.a ≡ faults old.journal.disk = ap (λ (f : Faults). f.a) stands.counts in
-          let more : faults a ≤ faults old.journal.disk = read.count.count in
+          let count : s.faults.a ≡ model.faults old.journal.disk = ap (λ (f : Faults). f.a) stands.counts in
+          let more : model.faults a ≤ model.faults old.journal.disk = read.count.count in
           omega (arith, more, count);
       ends = ap (λ (f : Faults). f.a) made.stands.ends.counts;
     }
 
     runs_by : (calls : Calls) (ended : EndStatus) (before after : End S K)
-        → core.Calls (Stretches content images clock between faults) (λ _. true) old new s calls
+        → core.Calls (Stretches model) (λ _. true) old new s calls
         → ended ≢ Worn → IsStatusOf ended after.status
         → IfSome (left before.source) (λ bytes. Writes (written before.sink) (written after.sink)
         (session.IsServed ended plan.page (lines_of bytes) calls))
         → (IsInputStatus after.status → session.WritesForTaken (left before.source) (left after.source)
         (written before.sink) (written after.sink) (session.IsAllOfTaken plan.page calls))
-        → RunsOn content images clock between faults left written plan a new.journal.disk before after
+        → RunsOn model left written plan a new.journal.disk before after
     unfolding on_disk
     runs_by calls ended before after made fit is served taken = record {
       status = end_of ended after.status is;
@@ -176,21 +175,21 @@ module _ {D : Type 0} (content : D → Option (List ℕ)) (images : D → List �
     -- what the contract of a session says of the calls and the text
     abbrev Serves : EndStatus → End S K → End S K → Type 0
     Serves ended before after = (calls : Calls)
-        × Makes (StandsFor content images faults) (λ _ _. true) (Stretches content images clock between faults)
+        × Makes (StandsFor model) (λ _ _. true) (Stretches model)
         old new calls
         × IfSome (left before.source) (λ bytes. Writes (written before.sink) (written after.sink)
         (session.IsServed ended plan.page (lines_of bytes) calls))
 
     abbrev Takes : End S K → End S K → Type 0
     Takes before after = (calls : Calls)
-        × Makes (StandsFor content images faults) (λ _ _. true) (Stretches content images clock between faults)
+        × Makes (StandsFor model) (λ _ _. true) (Stretches model)
         old new calls
         × session.WritesForTaken (left before.source) (left after.source) (written before.sink) (written after.sink)
         (session.IsAllOfTaken plan.page calls)
 
     other_end : (ended : EndStatus) (before after : End S K) → ¬ session.IsInputFault ended → ended ≢ Worn
         → IsStatusOf ended after.status → Serves ended before after
-        → RunsOn content images clock between faults left written plan a new.journal.disk before after
+        → RunsOn model left written plan a new.journal.disk before after
     other_end ended before after other fit is serves =
         runs_by serves.0 ended before after (serves.1.made s stands) fit is serves.2
         (λ e. absurd (other (input_fault_of ended after.status is e)))
@@ -199,13 +198,13 @@ module _ {D : Type 0} (content : D → Option (List ℕ)) (images : D → List �
         → (takes : Takes before after)
         → IfSome (left before.source) (λ bytes. Writes (written before.sink) (written after.sink)
         (session.IsServed ended plan.page (lines_of bytes) takes.0))
-        → RunsOn content images clock between faults left written plan a new.journal.disk before after
+        → RunsOn model left written plan a new.journal.disk before after
     input_end ended before after fit is takes served =
         runs_by takes.0 ended before after (takes.1.made s stands) fit is served (λ e. takes.2)
 
     ends_on : (ended : EndStatus) (before after : End S K) → ended ≢ Worn → IsStatusOf ended after.status
         → Serves ended before after → (session.IsInputFault ended → Takes before after)
-        → RunsOn content images clock between faults left written plan a new.journal.disk before after
+        → RunsOn model left written plan a new.journal.disk before after
     ends_on Done before after fit is serves takes = other_end Done before after (λ f. f) fit is serves
     ends_on SinkFault before after fit is serves takes = other_end SinkFault before after (λ f. f) fit is serves
     ends_on NoMemory before after fit is serves takes = other_end NoMemory before after (λ f. f) fit is serves
@@ -220,7 +219,7 @@ module _ {D : Type 0} (content : D → Option (List ℕ)) (images : D → List �
     pub runs_on : (a' : D) (ended : EndStatus) (before after : End S K) → a' ≡ new.journal.disk → ended ≢ Worn
         → IsStatusOf ended after.status → Serves ended before after
         → (session.IsInputFault ended → Takes before after)
-        → RunsOn content images clock between faults left written plan a a' before after
+        → RunsOn model left written plan a a' before after
     runs_on a' ended before after same fit is serves takes =
-        subst (λ d. RunsOn content images clock between faults left written plan a d before after) (sym same)
+        subst (λ d. RunsOn model left written plan a d before after) (sym same)
         (ends_on ended before after fit is serves takes)

@@ -1,33 +1,32 @@
 -- Where nothing was done, and the same at a plan that asks for the same.
 use Rattle.std.proofs.Common.{◌≡◌, ◌⊎◌, ◌∙◌, ℕ, List, Option, refl, sym, ap, subst, inl, inr}
-use Rattle.disk_edge.specs.Disk.{Same}
+use Rattle.disk_edge.specs.Disk.{DiskModel, Same}
 use Rattle.journal_core.specs.Looks.{Narrows}
 use Rattle.chem_shell.specs.Ends.{with_status}
 use Rattle.chem_shell.specs.OnDisk.{IsRefused, RunsOn, Stays}
 use Rattle.chem_shell.specs.declared.request.Plan.{Plan}
 use Rattle.chem_shell.specs.declared.top.End.{End}
 
-pub stays_same : {D : Type 0} (content : D → Option (List ℕ)) (images : D → List ℕ → Type 0) (a a' : D) → a' ≡ a
-    → Stays (content a) (content a') (images a) (images a')
-stays_same content images a a' same = (
+pub stays_same : {D : Type 0} (model : DiskModel D) (a a' : D) → a' ≡ a
+    → Stays (model.content a) (model.content a') (model.images a) (model.images a')
+stays_same model a a' same = (
   ap content same,
-  subst (λ d. Same (images a) (images d)) (sym same)
+  subst (λ d. Same (model.images a) (model.images d)) (sym same)
       (record { no_more = λ c i. i; no_fewer = λ c i. i }),
 )
 
-module _ {D S K : Type 0} (content : D → Option (List ℕ)) (images : D → List ℕ → Type 0) (clock : D → ℕ)
-    (between : D → ℕ → ℕ → List ℕ → Type 0) (faults : D → ℕ) (bound : D → Option ℕ) where
-  pub refused_unmoved : (a a' : D) → Narrows content images clock between faults bound a a' → (end : End S K)
-      → IsRefused content images clock between faults bound a a' end (with_status 8 end)
+module _ {D S K : Type 0} (model : DiskModel D) where
+  pub refused_unmoved : (a a' : D) → Narrows model a a' → (end : End S K)
+      → IsRefused model a a' end (with_status 8 end)
   refused_unmoved a a' read end = record { status = inr (inr (inr refl)); end = refl; disk = read }
 
   pub runs_same : (left : S → Option (List ℕ)) (written : K → Option (List ℕ)) (p q : Plan) (a a' : D)
       (old new : End S K)
       → p.commits ≡ q.commits → p.page ≡ q.page
-      → IsRefused content images clock between faults bound a a' old new
-      ⊎ RunsOn content images clock between faults left written q a a' old new
-      → IsRefused content images clock between faults bound a a' old new
-      ⊎ RunsOn content images clock between faults left written p a a' old new
+      → IsRefused model a a' old new
+      ⊎ RunsOn model left written q a a' old new
+      → IsRefused model a a' old new
+      ⊎ RunsOn model left written p a a' old new
   runs_same left written p q a a' old new commits page (inl r) = inl r
   runs_same left written p q a a' old new commits page (inr r) = inr (record {
     status = r.status;

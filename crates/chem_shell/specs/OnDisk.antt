@@ -1,7 +1,7 @@
 -- For callers: what `init` and `run` leave of disk `a`. What the disk tells, its images and its counts are told by
 -- functions.
 use Rattle.std.specs.Prelude.{◌≡◌, ◌≤◌, ℕ, List, [], Option, Some, IfSome, true}
-use Rattle.disk_edge.specs.Disk.{Exactly, IfTold, Same}
+use Rattle.disk_edge.specs.Disk.{DiskModel, Exactly, IfTold, Same}
 use Rattle.io_edge.specs.Lines.{lines_of}
 use Rattle.journal_core.specs.Looks.{Narrows}
 use Rattle.journal_core.specs.Records.{Opens, text}
@@ -27,7 +27,7 @@ use Rattle.chem_shell.specs.declared.top.TheConstants.{DONE}
 
 -- what a read gives is the empty store, and so is the only image
 abbrev pub IsEmptyStore : Option (List ℕ) → (List ℕ → Type 0) → Type 0
-IsEmptyStore content images = (content ≡ Some (text [])) × Exactly (text []) images
+IsEmptyStore model = (content ≡ Some (text [])) × Exactly (text []) images
 
 -- what a read gives stays, and so do the images
 abbrev pub Stays : Option (List ℕ) → Option (List ℕ) → (List ℕ → Type 0) → (List ℕ → Type 0) → Type 0
@@ -42,28 +42,27 @@ OpensAfter s bytes = (h : List Change) × Recovers s h × Opens (payloads h) byt
 -- image that the disk had; one at a moment since left each commit that was acknowledged before, in order, and at most
 -- one more. Now each image opens to the run's history, or to this and the commit in doubt; the counts of faults in the
 -- run's states are the disk's.
-pub record AreOnDisk {D : Type 0} (content : D → Option (List ℕ)) (images : D → List ℕ → Type 0) (clock : D → ℕ)
-    (images_between : D → ℕ → ℕ → List ℕ → Type 0) (faults : D → ℕ) (commits : ℕ) (old new : D) (calls : Calls)
+pub record AreOnDisk {D : Type 0} (model : DiskModel D) (commits : ℕ) (old new : D) (calls : Calls)
     : Type 0 where
   pub first : State
   pub steps : List Step
   pub last : State
   pub opened : IsOpened commits first
-  pub opens : IfTold (content old) (OpensTo first.history)
+  pub opens : IfTold (model.content old) (OpensTo first.history)
   pub run : IsRun first steps last
   pub calm : IsCalm steps
   pub all : calls_of (λ _. true) steps ≡ calls
   pub loaded : Times
   pub ended : Times
-  pub later : clock old ≤ loaded.a
+  pub later : model.clock old ≤ loaded.a
   pub clocked : AreClocked loaded steps ended
-  pub now : ended.a ≡ clock new
-  pub loading : (image : List ℕ) → images_between new (clock old) loaded.a image → images old image
-  pub moments : IfTold (content new) (λ _. (t u : ℕ) (image : List ℕ) → loaded.a ≤ t → t ≤ u → u ≤ clock new
-      → images_between new t u image → ShowsBetween first steps t u image)
-  pub left : IfTold (content new) (λ _. (image : List ℕ) → images new image → OpensAfter last image)
-  pub begins : faults old ≤ first.faults.a
-  pub ends : last.faults.a ≡ faults new
+  pub now : ended.a ≡ model.clock new
+  pub loading : (image : List ℕ) → model.images_between new (model.clock old) loaded.a image → model.images old image
+  pub moments : IfTold (model.content new) (λ _. (t u : ℕ) (image : List ℕ) → loaded.a ≤ t → t ≤ u → u ≤ model.clock new
+      → model.images_between new t u image → ShowsBetween first steps t u image)
+  pub left : IfTold (model.content new) (λ _. (image : List ℕ) → model.images new image → OpensAfter last image)
+  pub begins : model.faults old ≤ first.faults.a
+  pub ends : last.faults.a ≡ model.faults new
 
 -- The text is a transcript of the script by these calls, by pages of a size. Each search and each cursor that came to
 -- its end listed exactly the hits of the history
@@ -80,13 +79,12 @@ IsTranscriptPrefixBy page script calls history text =
 -- `run` after the store was loaded: what was written is a prefix of a transcript of the source's bytes by the calls of
 -- a run on the disk, and all of one where the status is 0. Where the source failed or its bytes are too many, exactly
 -- the requests that are whole in the bytes that were taken were answered
-pub record RunsOn {D S K : Type 0} (content : D → Option (List ℕ)) (images : D → List ℕ → Type 0) (clock : D → ℕ)
-    (images_between : D → ℕ → ℕ → List ℕ → Type 0) (faults : D → ℕ)
+pub record RunsOn {D S K : Type 0} (model : DiskModel D)
     (left : S → Option (List ℕ)) (written : K → Option (List ℕ)) (plan : Plan) (a a' : D) (old new : End S K)
     : Type 0 where
   pub status : IsEndStatus new.status
   pub calls : Calls
-  pub on : AreOnDisk content images clock images_between faults plan.commits a a' calls
+  pub on : AreOnDisk model plan.commits a a' calls
   pub prefix : IfSome (left old.source) (λ script. Writes (written old.sink) (written new.sink)
       (IsTranscriptPrefixBy plan.page script calls on.last.history))
   pub all : new.status ≡ DONE → IfSome (left old.source) (λ script. Writes (written old.sink) (written new.sink)
@@ -95,9 +93,8 @@ pub record RunsOn {D S K : Type 0} (content : D → Option (List ℕ)) (images :
       (written old.sink) (written new.sink) (IsAllOfTaken plan.page calls)
 
 -- `run` where the store was not loaded: nothing was taken or put, and the disk was only read
-pub record IsRefused {D S K : Type 0} (content : D → Option (List ℕ)) (images : D → List ℕ → Type 0) (clock : D → ℕ)
-    (images_between : D → ℕ → ℕ → List ℕ → Type 0) (faults : D → ℕ) (bound : D → Option ℕ)
+pub record IsRefused {D S K : Type 0} (model : DiskModel D)
     (a a' : D) (old new : End S K) : Type 0 where
   pub status : IsLoadStatus new.status
   pub end : new ≡ with_status new.status old
-  pub disk : Narrows content images clock images_between faults bound a a'
+  pub disk : Narrows model a a'

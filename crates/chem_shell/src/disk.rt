@@ -32,11 +32,11 @@ use store_disk::{Disks, Store};
 pub fn create<D: Disk + Drop>(a: D) -> (D, u8)
     ensures status { IsCreationStatus result.1 }
     ensures done { result.1 ≡ DONE
-        → IfTold (D.content a) (λ l. (l ≡ []) × IsEmptyStore (D.content result.0) (D.images result.0)) }
-    ensures not_empty { result.1 ≡ NOT_EMPTY → IfTold (D.content a) (λ l. 1 ≤ length l) }
+        → IfTold (D.model.content a) (λ l. (l ≡ []) × IsEmptyStore (D.model.content result.0) (D.model.images result.0)) }
+    ensures not_empty { result.1 ≡ NOT_EMPTY → IfTold (D.model.content a) (λ l. 1 ≤ length l) }
     ensures stays { (result.1 ≡ NOT_EMPTY) ⊎ (result.1 ≡ NO_MEMORY)
-        → Stays (D.content a) (D.content result.0) (D.images a) (D.images result.0) }
-    ensures disk_fault { result.1 ≡ DISK_FAULT → disk.Rose (D.faults a) (D.faults result.0) }
+        → Stays (D.model.content a) (D.model.content result.0) (D.model.images a) (D.model.images result.0) }
+    ensures disk_fault { result.1 ≡ DISK_FAULT → disk.Rose (D.model.faults a) (D.model.faults result.0) }
 {
     let (a, created) = Journal::create(a);
     let status = match created {
@@ -57,9 +57,9 @@ pub fn serve_run<R: Threads + Sync, D: Disk + Drop, S: Source + Drop, K: Sink + 
     end: &mut End<S, K>,
 ) -> (Disks<D>, u64)
     requires { IsWithinLimits plan.now }
-    ensures serves { ServesRun D.content D.images D.clock D.images_between D.faults D.bound plan.now
+    ensures serves { ServesRun D.model plan.now
         S.left S.faults K.written K.faults disks.a result.0.a end.old end.new }
-    ensures causes { HasCauses D.content D.faults disks.a result.0.a end.new.status result.1 }
+    ensures causes { HasCauses D.model.content D.model.faults disks.a result.0.a end.new.status result.1 }
     ensures other { result.0.b ≡ disks.b }
 {
     match Store::load(alloc, disks, plan.commits) {
@@ -81,10 +81,9 @@ fn serve_loaded<R: Threads + Sync, D: Disk + Drop, S: Source + Drop, K: Sink + D
     end: &mut End<S, K>,
 ) -> Disks<D>
     requires { IsWithinLimits plan.now }
-    ensures runs { (a : D) (s : State) → StandsFor D.content D.images D.faults store s
-        → IsOpened plan.now.commits s → IfTold (D.content a) (OpensTo s.history)
-        → Narrows D.content D.images D.clock D.images_between D.faults D.bound a store.journal.disk
-        → RunsOn D.content D.images D.clock D.images_between D.faults S.left K.written plan.now
+    ensures runs { (a : D) (s : State) → StandsFor D.model store s
+        → IsOpened plan.now.commits s → IfTold (D.model.content a) (OpensTo s.history)
+        → Narrows D.model a store.journal.disk → RunsOn D.model S.left K.written plan.now
         a result.a end.old end.new }
     ensures status { IsEndStatus end.new.status }
     ensures source_fault { end.new.status ≡ SOURCE_FAULT
@@ -92,7 +91,7 @@ fn serve_loaded<R: Threads + Sync, D: Disk + Drop, S: Source + Drop, K: Sink + D
     ensures sink_fault { end.new.status ≡ SINK_FAULT → Rose (K.faults end.old.sink) (K.faults end.new.sink) }
     ensures too_long { end.new.status ≡ INPUT_TOO_LONG
         → TakesExactly (S.left end.old.source) (S.left end.new.source) INPUT_LIMIT }
-    ensures other { (s : State) → StandsFor D.content D.images D.faults store s → result.b ≡ store.b }
+    ensures other { (s : State) → StandsFor D.model store s → result.b ≡ store.b }
 {
     services_are_true();
     let mut store = store;

@@ -120,9 +120,9 @@ pub fn chemdb<
 
     // A fault of the disk comes only where it failed in this call. It has no store where its bytes have no header, and
     // the place of damage is that of its bytes.
-    ensures disk_fault { result.status ≡ DISK_FAULT → disk.Rose (D.faults a) (D.faults result.a) }
-    ensures not_a_store { result.status ≡ NOT_A_STORE → IfTold (D.content a) IsNoJournal }
-    ensures damaged { result.status ≡ DAMAGED → IfTold (D.content a) (Damages result.place) }
+    ensures disk_fault { result.status ≡ DISK_FAULT → disk.Rose (D.model.faults a) (D.model.faults result.a) }
+    ensures not_a_store { result.status ≡ NOT_A_STORE → IfTold (D.model.content a) IsNoJournal }
+    ensures damaged { result.status ≡ DAMAGED → IfTold (D.model.content a) (Damages result.place) }
     ensures place { result.status ≢ DAMAGED → result.place ≡ 0 }
 
     // `mem`: what was written is a prefix of a transcript of the source's bytes, by pages of the plan, in a run of a
@@ -147,12 +147,12 @@ pub fn chemdb<
     ensures init_statuses { OnPlan (texts words.now) Verb.Init (λ _. IsCreationStatus result.status) }
     ensures init_ends { OnPlan (texts words.now) Verb.Init (λ _. result.ends.items ≡ []) }
     ensures init_done { OnPlan (texts words.now) Verb.Init (λ _. result.status ≡ DONE
-        → IfTold (D.content a) (λ l. (l ≡ []) × IsEmptyStore (D.content result.a) (D.images result.a))) }
+        → IfTold (D.model.content a) (λ l. (l ≡ []) × IsEmptyStore (D.model.content result.a) (D.model.images result.a))) }
     ensures init_not_empty { OnPlan (texts words.now) Verb.Init (λ _. result.status ≡ NOT_EMPTY
-        → IfTold (D.content a) (λ l. 1 ≤ length l)) }
+        → IfTold (D.model.content a) (λ l. 1 ≤ length l)) }
     ensures init_stays { OnPlan (texts words.now) Verb.Init (λ _.
         (result.status ≡ NOT_EMPTY) ⊎ (result.status ≡ NO_MEMORY)
-        → Stays (D.content a) (D.content result.a) (D.images a) (D.images result.a)) }
+        → Stays (D.model.content a) (D.model.content result.a) (D.model.images a) (D.model.images result.a)) }
 
     // `run`: where the store was not loaded, nothing was taken or put, and the disk was only read. Else what was
     // written is a prefix of a transcript of the source's bytes in a run that begins with the commits of the disk, all
@@ -160,10 +160,8 @@ pub fn chemdb<
     // crash at any moment leaves each commit that was acknowledged before, in order, and at most one more; and
     // afterwards the disk has the run's history.
     ensures run { OnPlan (texts words.now) Verb.Run (λ plan. AllZip (λ old new.
-        IsRefused D.content D.images D.clock D.images_between D.faults D.bound a result.a old new
-        ⊎ RunsOn D.content D.images D.clock D.images_between D.faults S.left K.written
-        plan a result.a old new)
-        ends.items result.ends.items) }
+        IsRefused D.model a result.a old new ⊎ RunsOn D.model S.left K.written
+        plan a result.a old new) ends.items result.ends.items) }
 
     // `bulk`: nothing is taken. What was written is the summary of a transcript of the generated script, in such a run
     // as for `mem`; a prefix of one where the sink failed; nothing where memory ran out. No other status comes.
@@ -206,11 +204,11 @@ fn makes_store(command: Verb) -> bool
 fn created<D: Disk + Drop, S: Drop, K: Drop>(a: D, b: D, ends: Vec<End<S, K>>) -> Outcome<D, S, K>
     ensures status { IsCreationStatus result.status }
     ensures done { result.status ≡ DONE
-        → IfTold (D.content a) (λ l. (l ≡ []) × IsEmptyStore (D.content result.a) (D.images result.a)) }
-    ensures not_empty { result.status ≡ NOT_EMPTY → IfTold (D.content a) (λ l. 1 ≤ length l) }
+        → IfTold (D.model.content a) (λ l. (l ≡ []) × IsEmptyStore (D.model.content result.a) (D.model.images result.a)) }
+    ensures not_empty { result.status ≡ NOT_EMPTY → IfTold (D.model.content a) (λ l. 1 ≤ length l) }
     ensures stays { (result.status ≡ NOT_EMPTY) ⊎ (result.status ≡ NO_MEMORY)
-        → Stays (D.content a) (D.content result.a) (D.images a) (D.images result.a) }
-    ensures causes { HasCauses D.content D.faults a result.a result.status result.place }
+        → Stays (D.model.content a) (D.model.content result.a) (D.model.images a) (D.model.images result.a) }
+    ensures causes { HasCauses D.model.content D.model.faults a result.a result.status result.place }
     ensures other { result.b ≡ b }
     ensures ends { result.ends.items ≡ ends.items }
 {
@@ -235,9 +233,9 @@ fn serve_one<R: Threads + Sync, D: Disk + Drop, S: Source + Drop, K: Sink + Drop
     requires plan { IsWithinLimits plan.now }
     requires end { plan.now.command ≢ Verb.Init }
     requires one_end { length ends.items ≡ 1 }
-    ensures served { AllZip (Serves plan.now.command D.content D.images D.clock D.images_between D.faults D.bound
+    ensures served { AllZip (Serves plan.now.command D.model
         plan.now S.left S.faults K.written K.faults disks.a result.a) ends.items result.ends.items }
-    ensures causes { HasCauses D.content D.faults disks.a result.a result.status result.place }
+    ensures causes { HasCauses D.model.content D.model.faults disks.a result.a result.status result.place }
     ensures other { result.b ≡ disks.b }
     ensures overall { result.status ≡ first_fault (map (λ end. end.status) result.ends.items) }
     ensures status { result.status ≢ USAGE }
@@ -265,9 +263,9 @@ fn serve<R: Threads + Sync, D: Disk + Drop, S: Source + Drop, K: Sink + Drop>(
 ) -> (Disks<D>, u64)
     requires plan { IsWithinLimits plan.now }
     requires end { plan.now.command ≢ Verb.Init }
-    ensures serves { Serves plan.now.command D.content D.images D.clock D.images_between D.faults D.bound
+    ensures serves { Serves plan.now.command D.model
         plan.now S.left S.faults K.written K.faults disks.a result.0.a end.old end.new }
-    ensures causes { HasCauses D.content D.faults disks.a result.0.a end.new.status result.1 }
+    ensures causes { HasCauses D.model.content D.model.faults disks.a result.0.a end.new.status result.1 }
     ensures other { result.0.b ≡ disks.b }
     ensures status { end.new.status ≢ USAGE }
 {
@@ -296,7 +294,7 @@ fn unserved<D: Disk + Drop, S: Drop, K: Drop>(
     ensures place { result.place ≡ 0 }
     ensures disk_a { result.a ≡ a }
     ensures disk_b { result.b ≡ b }
-    ensures read { Narrows D.content D.images D.clock D.images_between D.faults D.bound a result.a }
+    ensures read { Narrows D.model a result.a }
     ensures ends { result.ends.items ≡ map (with_status status) ends.items }
 {
     set_status(&mut ends, status);

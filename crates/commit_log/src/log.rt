@@ -1,7 +1,7 @@
 //! The commits of a journal are read.
 
 ghost use Rattle.std.specs.Prelude.{◌≡◌, ◌<◌, ◌+◌, ◌^◌, ◌⊎◌, ◌++◌, ℕ, List, [], ◌∷◌, length, true, false, OnOk, IfOk, IfSome, IfNone, IsErrOf};
-ghost use Rattle.disk_edge.specs.Disk.{IfTold, Rose};
+ghost use Rattle.disk_edge.specs.Disk.{IfTold, Faulted};
 ghost use Rattle.journal_core.specs.Answers.{OnDamaged};
 ghost use Rattle.journal_core.specs.Journal.{Reads, Rests};
 ghost use Rattle.journal_core.specs.Looks.{Looks};
@@ -22,20 +22,19 @@ pub fn read_all<D: Disk>(alloc: Global, journal: &mut Journal<D>) -> Result<Vec<
 
     ensures takes { IfOk result
         (λ commits. Takes journal.old.place commits.items journal.new.place) }
-    ensures log { IfOk result (λ commits. Reads D.content D.images journal.old []
-        → IfTold (D.content journal.old.disk) (IsLog (changes_of commits.items))) }
-    ensures rests { IfOk result (λ commits. Reads D.content D.images journal.old []
-        → Rests D.content D.images journal.new (payloads (changes_of commits.items))) }
+    ensures log { IfOk result (λ commits. Reads D.model journal.old []
+        → IfTold (D.model.content journal.old.disk) (IsLog (changes_of commits.items))) }
+    ensures rests { IfOk result (λ commits. Reads D.model journal.old []
+        → Rests D.model journal.new (payloads (changes_of commits.items))) }
     ensures ready { OnOk result (journal.new.ready ≡ true) }
-    ensures damaged { OnDamaged result (λ at. Reads D.content D.images journal.old []
-        → IfTold (D.content journal.old.disk) (DamagesLog at)) }
+    ensures damaged { OnDamaged result (λ at. Reads D.model journal.old []
+        → IfTold (D.model.content journal.old.disk) (DamagesLog at)) }
     ensures cause { IsErrOf result LoadFault.Disk
-        → Rose (D.faults journal.old.disk) (D.faults journal.new.disk) }
+        → Faulted D.model journal.old.disk journal.new.disk }
     ensures no_other { ¬ IsErrOf result LoadFault.NotAStore }
 
     ensures settled { journal.new.doubt ≡ false }
-    ensures looks { Looks D.content D.images D.clock D.images_between D.faults D.bound
-        journal.old.disk journal.new.disk }
+    ensures looks { Looks D.model journal.old.disk journal.new.disk }
 {
     let mut commits = Vec::new(alloc);
     loop {
@@ -58,22 +57,21 @@ fn next_commit<D: Disk>(
         × IsLogged (change_of commit.wire)
         × (journal.new.place ≡ commit.at + 5 + length (written (change_of commit.wire))))) }
     ensures reads { IfOk result (λ found. IfSome found (λ commit. (ps : List (List ℕ))
-        → Reads D.content D.images journal.old ps
-        → Reads D.content D.images journal.new (ps ++ written (change_of commit.wire) ∷ []))) }
+        → Reads D.model journal.old ps
+        → Reads D.model journal.new (ps ++ written (change_of commit.wire) ∷ []))) }
     ensures end { IfOk result (λ found. IfNone found ((journal.new.ready ≡ true)
         × (journal.new.place ≡ journal.old.place) × ((ps : List (List ℕ))
-        → Reads D.content D.images journal.old ps → Rests D.content D.images journal.new ps))) }
+        → Reads D.model journal.old ps → Rests D.model journal.new ps))) }
     ensures damaged { OnDamaged result (λ at. (ps : List (List ℕ))
-        → Reads D.content D.images journal.old ps → (at ≡ length (prefix ps))
-        × IfTold (D.content journal.old.disk) (λ l. Breaks ps l ⊎ Unread ps l)) }
+        → Reads D.model journal.old ps → (at ≡ length (prefix ps))
+        × IfTold (D.model.content journal.old.disk) (λ l. Breaks ps l ⊎ Unread ps l)) }
     ensures cause { IsErrOf result LoadFault.Disk
-        → Rose (D.faults journal.old.disk) (D.faults journal.new.disk) }
+        → Faulted D.model journal.old.disk journal.new.disk }
     ensures no_other { ¬ IsErrOf result LoadFault.NotAStore }
 
     ensures below { journal.new.place < 2 ^ 64 }
     ensures settled { journal.new.doubt ≡ false }
-    ensures looks { Looks D.content D.images D.clock D.images_between D.faults D.bound
-        journal.old.disk journal.new.disk }
+    ensures looks { Looks D.model journal.old.disk journal.new.disk }
 {
     let (at, payload) = match journal.next() {
         Ok(Some(record)) => record,

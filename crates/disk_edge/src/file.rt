@@ -1,7 +1,7 @@
 //! A file as a disk, the trusted edge: no contract says what std's files hold, so it tells nothing of its content.
 //! For contracts it is its count of faults.
 
-ghost use Rattle.std.specs.Prelude.{◌≡◌, None};
+ghost use Rattle.std.specs.Prelude.{◌≡◌};
 ghost use Rattle.disk_edge.specs.File as silent;
 
 use crate::disk::{Disk, DiskFail};
@@ -66,17 +66,7 @@ impl FileDisk {
 }
 
 impl Disk for FileDisk {
-    ghost content = { λ _. None };
-
-    ghost images = { silent.any_image };
-
-    ghost clock = { λ _. 0 };
-
-    ghost images_between = { silent.any_between };
-
-    ghost faults = { λ faults. faults };
-
-    ghost bound = { λ _. None };
+    ghost model = { silent.model };
 
     fn len(&mut self) -> Result<u64, DiskFail> {
         let given = length_of(&self.file);
@@ -99,6 +89,8 @@ impl Disk for FileDisk {
     }
 
     ghost content_is_image = { λ _ _ _. tt };
+
+    ghost loose = { λ _ _ _ _ _ _ _ _ _. tt };
 
     ghost counts_now = { λ _ _ _. tt };
 

@@ -1,7 +1,7 @@
 -- A call of the store in memory as one of the store on a disk: the doubt and the counts of faults stay.
 use Rattle.std.proofs.Common.{◌≡◌, ◌&&◌, ◌++◌, ◌∙◌, ap, arith, cond, inl, inr, length, List, [], ◌∷◌, None, Option, option_map, refl, Some, subst, sym, true, ℕ}
 use Rattle.std.proofs.lemmas.List.{map-append}
-use Rattle.disk_edge.specs.Disk.{IfTold, Keeps}
+use Rattle.disk_edge.specs.Disk.{DiskModel, IfTold, Keeps}
 use Rattle.disk_edge.specs.Moments.{AtEachMoment}
 use Rattle.journal_core.specs.Records.{Opens}
 use Rattle.journal_core.specs.Standing.{Standing}
@@ -123,25 +123,24 @@ shows-one x c image is (inr opens) = (
   inr (c, is, refl),
 )
 
-module _ {D : Type 0} (content : D → Option (List ℕ)) (images : D → List ℕ → Type 0) (clock : D → ℕ)
-    (between : D → ℕ → ℕ → List ℕ → Type 0) (faults : D → ℕ) where
+module _ {D : Type 0} (model : DiskModel D) where
   -- what the disk has, each image shows
   has-shows : (journal : Standing D) (ps : List (List ℕ)) (doubt : Option (List ℕ)) (l : List ℕ)
-      → content journal.disk ≡ Some l → Has content images journal ps doubt
-      → (image : List ℕ) → images journal.disk image → ShowsDoubt ps doubt image
+      → model.content journal.disk ≡ Some l → Has model journal ps doubt
+      → (image : List ℕ) → model.images journal.disk image → ShowsDoubt ps doubt image
   has-shows journal ps None l is h image i = inl ((h.1 l is).each image i)
   has-shows journal ps (Some p) l is h image i =
       elim ((h.1 l is).each image i) [ inl before ↦ inl before | inr after ↦ inr (p, refl, after) ]
 
   pub one-call : (old new : StoreTerm D) (s t : State) (owner : ℕ) (e : Event) (r : Reply) → is_call e ≡ true
-      → StandsFor content images faults old s → Gives s owner e r t → StandsFor content images faults new t
-      → new.b ≡ old.b → Keeps clock between old.journal.disk new.journal.disk
-      → (content old.journal.disk ≡ None → content new.journal.disk ≡ None)
-      → IfTold (content new.journal.disk) (λ _. AtEachMoment clock between old.journal.disk new.journal.disk
-      (Shows (step_of owner e r s t (times clock old) (times clock new))))
-      → Calls (Stretches content images clock between faults) all old new s ((e, r) ∷ [])
+      → StandsFor model old s → Gives s owner e r t → StandsFor model new t
+      → new.b ≡ old.b → Keeps model old.journal.disk new.journal.disk
+      → (model.content old.journal.disk ≡ None → model.content new.journal.disk ≡ None)
+      → IfTold (model.content new.journal.disk) (λ _. AtEachMoment model old.journal.disk new.journal.disk
+      (Shows (step_of owner e r s t (times model.clock old) (times model.clock new))))
+      → Calls (Stretches model) all old new s ((e, r) ∷ [])
   one-call old new s t owner e r call stands gives after other past untold moments = record {
-    steps = step_of owner e r s t (times clock old) (times clock new) ∷ [];
+    steps = step_of owner e r s t (times model.clock old) (times model.clock new) ∷ [];
     after = t;
     stands = record {
       begins = stands;
@@ -157,27 +156,27 @@ module _ {D : Type 0} (content : D → Option (List ℕ)) (images : D → List �
     own = ap (λ b. cond (b && true) ((e, r) ∷ []) []) call;
   }
 
-  module _ (only-now : (d : D) (c : List ℕ) → between d (clock d) (clock d) c → images d c) where
+  module _ (only-now : (d : D) (c : List ℕ) → model.images_between d (model.clock d) (model.clock d) c → model.images d c) where
     -- a call that does not touch the disks
     pub still-call : (old new : StoreTerm D) (s t : State) (owner : ℕ) (e : Event) (r : Reply) → is_call e ≡ true
-        → StandsFor content images faults old s → Gives s owner e r t → StandsFor content images faults new t
+        → StandsFor model old s → Gives s owner e r t → StandsFor model new t
         → new.b ≡ old.b → new.journal ≡ old.journal
-        → Calls (Stretches content images clock between faults) all old new s ((e, r) ∷ [])
+        → Calls (Stretches model) all old new s ((e, r) ∷ [])
     still-call old new s t owner e r call stands gives after other same =
-        let x : Step = step_of owner e r s t (times clock old) (times clock new) in
+        let x : Step = step_of owner e r s t (times model.clock old) (times model.clock new) in
         let disk : new.journal.disk ≡ old.journal.disk = ap (λ (j : Standing D). j.disk) same in
         one-call old new s t owner e r call stands gives after other
-        (subst (λ d. Keeps clock between old.journal.disk d) (sym disk) (keeps-itself clock between old.journal.disk))
-        (λ is. ap content disk ∙ is)
-        (λ l is. subst (λ d. AtEachMoment clock between old.journal.disk d (Shows x)) (sym disk)
+        (subst (λ d. Keeps model old.journal.disk d) (sym disk) (keeps-itself model old.journal.disk))
+        (λ is. ap model.content disk ∙ is)
+        (λ l is. subst (λ d. AtEachMoment model old.journal.disk d (Shows x)) (sym disk)
         (λ image b. shows-doubt x s.doubt image refl
         (has-shows old.journal (payloads s.history) (option_map payload s.doubt) l
-        (sym (ap content disk) ∙ is) stands.journal image (only-now old.journal.disk image b))))
+        (sym (ap model.content disk) ∙ is) stands.journal image (only-now old.journal.disk image b))))
 
     pub lifted : RunsStaySound → (store : StoreTerm D) (m : Memory) (s : State) (e : Event) (r : Reply)
-        → is_call e ≡ true → StandsFor content images faults store s → Lifts s e r
+        → is_call e ≡ true → StandsFor model store s → Lifts s e r
         → Calls memory.Stretches all store.memory m (calm s) ((e, r) ∷ [])
-        → Calls (Stretches content images clock between faults) all store (record store { memory = m }) s ((e, r) ∷ [])
+        → Calls (Stretches model) all store (record store { memory = m }) s ((e, r) ∷ [])
     lifted law store m s e r call h lifts c =
         let x = one store.memory m (calm s) e r c in
         let l = lifts x.owner x.after x.gives in
@@ -185,7 +184,7 @@ module _ {D : Type 0} (content : D → Option (List ℕ)) (images : D → List �
         (record {
           sound = sound-after law s (back s x.after) x.owner e r l.0 h.sound;
           memory = with-faults m x.after s.faults x.ends;
-          journal = subst (λ g. Has content images store.journal (payloads g) (option_map payload s.doubt))
+          journal = subst (λ g. Has model store.journal (payloads g) (option_map payload s.doubt))
               (sym l.1) h.journal;
           counts = h.counts;
         })

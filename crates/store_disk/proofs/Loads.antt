@@ -4,7 +4,7 @@ use Rattle.std.proofs.lemmas.List.{length-map}
 use Rattle.std.specs.List.{AllByRecursion}
 use Rattle.commit_log.specs.Change.{Change as Logged}
 use Rattle.commit_log.specs.Log.{IsLog, IsLogged, end_of, payloads as log_payloads}
-use Rattle.disk_edge.specs.Disk.{IfTold}
+use Rattle.disk_edge.specs.Disk.{DiskModel, IfTold}
 use Rattle.journal_core.specs.Answers.{OnDamaged}
 use Rattle.journal_core.specs.Journal.{Reads, Rests}
 use Rattle.journal_core.specs.Records.{Opens}
@@ -57,15 +57,15 @@ opened-after old new s commits (Ok n) none worn pins c =
       },
     )
 
-module _ {D : Type 0} (content : D → Option (List ℕ)) (images : D → List ℕ → Type 0) where
+module _ {D : Type 0} (model : DiskModel D) where
   same-history : (memory : Memory) (commits : ℕ) (cs : List Logged) (r : IsReplayed memory commits cs)
       → log_payloads cs ≡ payloads r.state.history
   same-history memory commits cs r = sym (ap payloads r.history ∙ same-payloads cs)
 
   pub loaded : (memory : Memory) (commits : ℕ) (cs : List Logged) (old new : Standing D) → IsReplayed memory commits cs
-      → (Reads content images old [] → IfTold (content old.disk) (IsLog cs))
-      → (Reads content images old [] → Rests content images new (log_payloads cs))
-      → IsLoaded content images memory commits old new
+      → (Reads model old [] → IfTold (model.content old.disk) (IsLog cs))
+      → (Reads model old [] → Rests model new (log_payloads cs))
+      → IsLoaded model memory commits old new
   loaded memory commits cs old new r log rests = record {
     state = r.state;
     stands = r.stands;
@@ -75,7 +75,7 @@ module _ {D : Type 0} (content : D → Option (List ℕ)) (images : D → List �
       few = omega (arith, r.stands.version, r.stands.within);
       opens = subst (λ ps. Opens ps l) (same-history memory commits cs r) (log reads l is).opens;
     };
-    rests = λ reads. subst (Rests content images new) (same-history memory commits cs r) (rests reads);
+    rests = λ reads. subst (Rests model new) (same-history memory commits cs r) (rests reads);
   }
 
   pub is-ready : (memory : Memory) (commits : ℕ) (cs : List Logged) (new : Standing D) → IsReplayed memory commits cs
@@ -94,15 +94,15 @@ module _ {D : Type 0} (content : D → Option (List ℕ)) (images : D → List �
     );
   }
 
-  pub opened-store : (faults : D → ℕ) (memory : Memory) (commits : ℕ) (a b : D) (old new : Standing D)
-      → IsLoaded content images memory commits old new → content old.disk ≡ content a
-      → content new.disk ≡ content old.disk
-      → IfTold (content a) (λ _. Reads content images old []) → new.doubt ≡ false
-      → (s : State) × StandsFor content images faults (record { memory = memory; journal = new; b = b }) s
-      × IsOpened commits s × IfTold (content a) (OpensTo s.history)
+  pub opened-store : (model : DiskModel D) (memory : Memory) (commits : ℕ) (a b : D) (old new : Standing D)
+      → IsLoaded model memory commits old new → model.content old.disk ≡ model.content a
+      → model.content new.disk ≡ model.content old.disk
+      → IfTold (model.content a) (λ _. Reads model old []) → new.doubt ≡ false
+      → (s : State) × StandsFor model (record { memory = memory; journal = new; b = b }) s
+      × IsOpened commits s × IfTold (model.content a) (OpensTo s.history)
   opened-store faults memory commits a b old new x first second reads flag =
       let t : State = x.state in
-      let s : State = record t { doubt = None; faults = record { a = faults new.disk; b = faults b } } in
+      let s : State = record t { doubt = None; faults = record { a = model.faults new.disk; b = model.faults b } } in
       let sound = x.stands.sound in (
         s,
         record {
@@ -114,7 +114,7 @@ module _ {D : Type 0} (content : D → Option (List ℕ)) (images : D → List �
             kept = sound.kept;
             made = sound.made;
           };
-          memory = with-faults memory t (record { a = faults new.disk; b = faults b }) x.stands;
+          memory = with-faults memory t (record { a = model.faults new.disk; b = model.faults b }) x.stands;
           journal = (flag, λ l is. x.rests (reads l (sym (second ∙ first) ∙ is)));
           counts = refl;
         },

@@ -1,5 +1,6 @@
 -- The rows of all calls but commit, lifted: none of them speaks of the doubt.
 use Rattle.std.proofs.Common.{◌≡◌, ap, arith, Bool, Err, List, None, Ok, Option, refl, Result, Some, true, ℕ}
+use Rattle.disk_edge.specs.Disk.{DiskModel}
 use Rattle.journal_core.specs.Standing.{Standing}
 use Rattle.snap_registry.specs.declared.Pin.{Pin}
 use Rattle.store_core.specs.Calls.{Calls, NeedsNone, is_worn}
@@ -125,15 +126,14 @@ still-ready e of (Err call.NoMemory) lifts old new journal c was =
     record { stands = n.0; ready = was.ready; few = omega (arith, n.1, was.few); place = omega (arith, n.1, was.place) }
 
 -- and is one of the store on the disk
-pub lifted-call : {X D : Type 0} (content : D → Option (List ℕ)) (images : D → List ℕ → Type 0) (clock : D → ℕ)
-    (between : D → ℕ → ℕ → List ℕ → Type 0) (faults : D → ℕ)
-    → ((d : D) (c : List ℕ) → between d (clock d) (clock d) c → images d c) → RunsStaySound
-    → (store : StoreTerm D) (m : Memory) (s : State) → StandsFor content images faults store s
+pub lifted-call : {X D : Type 0} (model : DiskModel D)
+    → ((d : D) (c : List ℕ) → model.images_between d (model.clock d) (model.clock d) c → model.images d c) → RunsStaySound
+    → (store : StoreTerm D) (m : Memory) (s : State) → StandsFor model store s
     → (e : Event) (of : X → Reply) → is_call e ≡ true → (r : Result X CallFault) → AllLift e of r
     → Calls memory.Stretches all store.memory m (calm s) (calls e of r)
-    → Calls (Stretches content images clock between faults) all store (record store { memory = m }) s (calls e of r)
-lifted-call content images clock between faults only-now law store m s h e of is (Ok x) lifts c =
-    lifted content images clock between faults only-now law store m s e (of x) is h (lifts s) c
-lifted-call content images clock between faults only-now law store m s h e of is (Err call.Worn) lifts c = absurd lifts
-lifted-call content images clock between faults only-now law store m s h e of is (Err call.NoMemory) lifts c =
-    lifted content images clock between faults only-now law store m s e reply.NoMemory is h (lifts s) c
+    → Calls (Stretches model) all store (record store { memory = m }) s (calls e of r)
+lifted-call model only-now law store m s h e of is (Ok x) lifts c =
+    lifted model only-now law store m s e (of x) is h (lifts s) c
+lifted-call model only-now law store m s h e of is (Err call.Worn) lifts c = absurd lifts
+lifted-call model only-now law store m s h e of is (Err call.NoMemory) lifts c =
+    lifted model only-now law store m s e reply.NoMemory is h (lifts s) c

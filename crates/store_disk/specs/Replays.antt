@@ -3,7 +3,7 @@ use Rattle.std.specs.Prelude.{◌≡◌, ◌++◌, ◌≤◌, length, List, [], 
 use Rattle.commit_log.specs.Change.{Change as Logged, change_of}
 use Rattle.commit_log.specs.Log.{changes_of}
 use Rattle.commit_log.specs.declared.change.Commit.{Commit}
-use Rattle.disk_edge.specs.Disk.{IfTold}
+use Rattle.disk_edge.specs.Disk.{DiskModel, IfTold}
 use Rattle.journal_core.specs.Journal.{Reads, Rests}
 use Rattle.journal_core.specs.Standing.{Standing}
 use Rattle.store_core.specs.Stored.{StandsFor, StoreTerm as Memory}
@@ -32,10 +32,10 @@ pub record Stops (log : List Commit) (at : ℕ) : Type 0 where
 
 -- What a loading makes of a journal: the store in memory stands for a state that was just opened, and where the journal
 -- has read nothing yet of a disk that tells its content, this has the state's history.
-pub record IsLoaded {D : Type 0} (content : D → Option (List ℕ)) (images : D → List ℕ → Type 0) (memory : Memory)
+pub record IsLoaded {D : Type 0} (model : DiskModel D) (memory : Memory)
     (commits : ℕ) (old new : Standing D) : Type 0 where
   pub state : State
   pub stands : StandsFor memory state
   pub opened : IsOpened commits state
-  pub opens : Reads content images old [] → IfTold (content old.disk) (OpensTo state.history)
-  pub rests : Reads content images old [] → Rests content images new (payloads state.history)
+  pub opens : Reads model old [] → IfTold (model.content old.disk) (OpensTo state.history)
+  pub rests : Reads model old [] → Rests model new (payloads state.history)

@@ -2,7 +2,7 @@
 //! journal does not take it. No other call touches the disk.
 
 ghost use Rattle.std.specs.Prelude.{◌≡◌, ◌≤◌, [], false, IfErr, IfOk, IsErrOf, Some, ℕ};
-ghost use Rattle.disk_edge.specs.Disk.{IfTold, Rose};
+ghost use Rattle.disk_edge.specs.Disk.{IfTold, Rose, Faulted};
 ghost use Rattle.disk_edge.specs.Failures.{bound_of};
 ghost use Rattle.journal_core.specs.Answers.{OnDamaged};
 ghost use Rattle.journal_core.specs.Journal.{Reads};
@@ -69,18 +69,17 @@ impl<D: Disk> Store<D> {
         requires some { 1 ≤ commits }
         requires few { commits ≤ MOST_COMMITS }
 
-        ensures opened { IfOk result (λ store. (s : State) × StandsFor D.content D.images D.faults store s
-            × IsOpened commits s × IfTold (D.content disks.a) (OpensTo s.history)) }
+        ensures opened { IfOk result (λ store. (s : State) × StandsFor D.model store s
+            × IsOpened commits s × IfTold (D.model.content disks.a) (OpensTo s.history)) }
         ensures not_a_store { IfErr result (λ e. e.0 ≡ LoadFault.NotAStore
-            → IfTold (D.content disks.a) IsNoJournal) }
+            → IfTold (D.model.content disks.a) IsNoJournal) }
         ensures damaged { IfErr result (λ e. (at : ℕ) → e.0 ≡ LoadFault.Damaged at
-            → IfTold (D.content disks.a) (Damages at)) }
+            → IfTold (D.model.content disks.a) (Damages at)) }
         ensures cause { IfErr result (λ e. e.0 ≡ LoadFault.Disk
-            → Rose (D.faults disks.a) (D.faults e.1.a)) }
+            → Rose (D.model.faults disks.a) (D.model.faults e.1.a)) }
 
         // What a read gives stays, and each image during the call was one before.
-        ensures narrows { Narrows D.content D.images D.clock D.images_between D.faults D.bound
-            disks.a (a_after result) }
+        ensures narrows { Narrows D.model disks.a (a_after result) }
         ensures other { b_after result ≡ disks.b }
     {
         let Disks { a, b } = disks;
@@ -175,17 +174,17 @@ impl<D: Disk> Service for Store<D> {
     ghost use Rattle.store_disk.specs.OnDisk.{StandsFor};
     ghost use Rattle.store_disk.specs.Stored.{Stretches, joins, lands, same, stays};
 
-    ghost at = { StandsFor D.content D.images D.faults };
+    ghost at = { StandsFor D.model };
 
     ghost owns = { λ _ _. true };
 
-    ghost stretch = { Stretches D.content D.images D.clock D.images_between D.faults };
+    ghost stretch = { Stretches D.model };
 
     ghost worn = { λ _. ⊥ };
 
     ghost holds = { λ store. HoldsPin store.memory };
 
-    ghost bounds = { λ store. (D.bound store.journal.disk, D.bound store.b) };
+    ghost bounds = { λ store. (D.model.bound store.journal.disk, D.model.bound store.b) };
 
     fn commit(&mut self, change: Change) -> Result<u32, CommitFault> {
         laws();
@@ -238,13 +237,13 @@ impl<D: Disk> Service for Store<D> {
         self.memory.stats()
     }
 
-    ghost stays = { stays D.content D.images D.clock D.images_between D.faults };
+    ghost stays = { stays D.model };
 
-    ghost joins = { joins D.content D.images D.clock D.images_between D.faults };
+    ghost joins = { joins D.model };
 
-    ghost lands = { lands D.content D.images D.clock D.images_between D.faults };
+    ghost lands = { lands D.model };
 
-    ghost same = { same D.content D.images D.clock D.images_between D.faults };
+    ghost same = { same D.model };
 }
 
 // The store in memory of a journal's commits, which are read to their end.
@@ -258,18 +257,17 @@ fn memory_of<D: Disk>(
     requires start { journal.old.place ≡ 8 }
     requires settled { journal.old.doubt ≡ false }
 
-    ensures loaded { IfOk result (λ memory. IsLoaded D.content D.images memory commits
+    ensures loaded { IfOk result (λ memory. IsLoaded D.model memory commits
         journal.old journal.new) }
     ensures ready { IfOk result (λ memory. IsReady memory journal.new) }
-    ensures damaged { OnDamaged result (λ at. Reads D.content D.images journal.old []
-        → IfTold (D.content journal.old.disk) (Damages at)) }
+    ensures damaged { OnDamaged result (λ at. Reads D.model journal.old []
+        → IfTold (D.model.content journal.old.disk) (Damages at)) }
     ensures cause { IsErrOf result LoadFault.Disk
-        → Rose (D.faults journal.old.disk) (D.faults journal.new.disk) }
+        → Faulted D.model journal.old.disk journal.new.disk }
     ensures no_other { ¬ IsErrOf result LoadFault.NotAStore }
 
     ensures settled { journal.new.doubt ≡ false }
-    ensures looks { Looks D.content D.images D.clock D.images_between D.faults D.bound
-        journal.old.disk journal.new.disk }
+    ensures looks { Looks D.model journal.old.disk journal.new.disk }
 {
     let log = read_all(alloc, journal)?;
     replay(alloc, &log, commits)

@@ -4,8 +4,8 @@ use Rattle.chem_shell.proofs.disk.serve_loaded.Goals as goal
 
 pub returns-clause-runs : goal.returns-clause-runs
 returns-clause-runs g c = λ a s stands opened opens read.
-    let d = g.D.Disk in
-    runs_on d.content d.images d.clock d.images_between d.faults g.met.D.Disk.parts g.met.D.Disk.whole
+    let d = g.D.Disk.model in
+    runs_on d g.met.D.Disk.parts g.met.D.Disk.whole
     g.met.D.Disk.only_now d.bound c.services_are_true.ensures g.S.Source.left g.K.Sink.written c.args.plan.now a s _ _
     stands opened opens read _ c.session-ended.result _ _ c.into_disks.ensures.a c.session-ended.ensures.worn
     c.end_status-end.ensures c.session-ended.ensures.serves c.session-ended.ensures.input_fault

@@ -160,13 +160,12 @@ returns-in-Err-NoMemory-clause-init_not_empty g c = λ plan asks verb done. absu
 
 pub returns-in-Err-NoMemory-clause-init_stays : goal.returns-in-Err-NoMemory-clause-init_stays
 returns-in-Err-NoMemory-clause-init_stays g c = λ plan asks verb which.
-    stays_same g.D.Disk.content g.D.Disk.images c.args.a c.unserved-in-Err-NoMemory.result.a
+    stays_same g.D.Disk.model c.args.a c.unserved-in-Err-NoMemory.result.a
     c.unserved-in-Err-NoMemory.ensures.disk_a
 
 pub returns-in-Err-NoMemory-clause-run : goal.returns-in-Err-NoMemory-clause-run
 returns-in-Err-NoMemory-clause-run g c = λ plan asks verb.
-    zip_mapped _ (with_status 8) (λ e. inl (refused_unmoved g.D.Disk.content g.D.Disk.images g.D.Disk.clock
-    g.D.Disk.images_between g.D.Disk.faults g.D.Disk.bound c.args.a c.unserved-in-Err-NoMemory.result.a
+    zip_mapped _ (with_status 8) (λ e. inl (refused_unmoved g.D.Disk.model c.args.a c.unserved-in-Err-NoMemory.result.a
     c.unserved-in-Err-NoMemory.ensures.read e)) _ _ c.unserved-in-Err-NoMemory.ensures.ends
 
 pub returns-in-Err-NoMemory-clause-overall : goal.returns-in-Err-NoMemory-clause-overall
@@ -330,11 +329,9 @@ returns-clause-overall g c = λ asks some. c.serve_one.ensures.overall
 pub returns-clause-source_fault : goal.returns-clause-source_fault
 returns-clause-source_fault g c =
     zip_weaker
-    (Serves c.in-Ok.plan.command g.D.Disk.content g.D.Disk.images g.D.Disk.clock g.D.Disk.images_between g.D.Disk.faults
-    g.D.Disk.bound
+    (Serves c.in-Ok.plan.command g.D.Disk.model
     c.in-Ok.plan g.S.Source.left g.S.Source.faults g.K.Sink.written g.K.Sink.faults c.args.a c.serve_one.result.a)
-    _ (λ old new. source_fault_served g.D.Disk.content g.D.Disk.images g.D.Disk.clock g.D.Disk.images_between
-    g.D.Disk.faults g.D.Disk.bound
+    _ (λ old new. source_fault_served g.D.Disk.model
     g.S.Source.left g.S.Source.faults g.K.Sink.written g.K.Sink.faults c.args.a c.serve_one.result.a
     c.in-Ok.plan.command c.in-Ok.plan old new)
     c.args.ends.items c.serve_one.result.ends.items c.serve_one.ensures.served
@@ -342,11 +339,9 @@ returns-clause-source_fault g c =
 pub returns-clause-sink_fault : goal.returns-clause-sink_fault
 returns-clause-sink_fault g c =
     zip_weaker
-    (Serves c.in-Ok.plan.command g.D.Disk.content g.D.Disk.images g.D.Disk.clock g.D.Disk.images_between g.D.Disk.faults
-    g.D.Disk.bound
+    (Serves c.in-Ok.plan.command g.D.Disk.model
     c.in-Ok.plan g.S.Source.left g.S.Source.faults g.K.Sink.written g.K.Sink.faults c.args.a c.serve_one.result.a)
-    _ (λ old new. sink_fault_served g.D.Disk.content g.D.Disk.images g.D.Disk.clock g.D.Disk.images_between
-    g.D.Disk.faults g.D.Disk.bound
+    _ (λ old new. sink_fault_served g.D.Disk.model
     g.S.Source.left g.S.Source.faults g.K.Sink.written g.K.Sink.faults c.args.a c.serve_one.result.a
     c.in-Ok.plan.command c.in-Ok.plan old new)
     c.args.ends.items c.serve_one.result.ends.items c.serve_one.ensures.served
@@ -354,11 +349,9 @@ returns-clause-sink_fault g c =
 pub returns-clause-input_too_long : goal.returns-clause-input_too_long
 returns-clause-input_too_long g c =
     zip_weaker
-    (Serves c.in-Ok.plan.command g.D.Disk.content g.D.Disk.images g.D.Disk.clock g.D.Disk.images_between g.D.Disk.faults
-    g.D.Disk.bound
+    (Serves c.in-Ok.plan.command g.D.Disk.model
     c.in-Ok.plan g.S.Source.left g.S.Source.faults g.K.Sink.written g.K.Sink.faults c.args.a c.serve_one.result.a)
-    _ (λ old new. too_long_served g.D.Disk.content g.D.Disk.images g.D.Disk.clock g.D.Disk.images_between
-    g.D.Disk.faults g.D.Disk.bound
+    _ (λ old new. too_long_served g.D.Disk.model
     g.S.Source.left g.S.Source.faults g.K.Sink.written g.K.Sink.faults c.args.a c.serve_one.result.a
     c.in-Ok.plan.command c.in-Ok.plan old new)
     c.args.ends.items c.serve_one.result.ends.items c.serve_one.ensures.served
@@ -380,11 +373,9 @@ returns-clause-mem_disk g c = λ plan asks verb.
     let same = one_plan _ plan c.in-Ok.plan asks c.in-Ok.ensures.ok in
     let is = sym same.command ∙ verb in
     of_one
-    (Serves c.in-Ok.plan.command g.D.Disk.content g.D.Disk.images g.D.Disk.clock g.D.Disk.images_between g.D.Disk.faults
-    g.D.Disk.bound
+    (Serves c.in-Ok.plan.command g.D.Disk.model
     c.in-Ok.plan g.S.Source.left g.S.Source.faults g.K.Sink.written g.K.Sink.faults c.args.a c.serve_one.result.a)
-    _ (λ old new s. (mem_served g.D.Disk.content g.D.Disk.images g.D.Disk.clock g.D.Disk.images_between g.D.Disk.faults
-    g.D.Disk.bound
+    _ (λ old new s. (mem_served g.D.Disk.model
     g.S.Source.left g.S.Source.faults g.K.Sink.written g.K.Sink.faults c.args.a c.serve_one.result.a
     c.in-Ok.plan.command c.in-Ok.plan old new is s).0)
     c.args.ends.items c.serve_one.result.ends.items
@@ -399,11 +390,9 @@ returns-clause-bulk_disk g c = λ plan asks verb.
     let same = one_plan _ plan c.in-Ok.plan asks c.in-Ok.ensures.ok in
     let is = sym same.command ∙ verb in
     of_one
-    (Serves c.in-Ok.plan.command g.D.Disk.content g.D.Disk.images g.D.Disk.clock g.D.Disk.images_between g.D.Disk.faults
-    g.D.Disk.bound
+    (Serves c.in-Ok.plan.command g.D.Disk.model
     c.in-Ok.plan g.S.Source.left g.S.Source.faults g.K.Sink.written g.K.Sink.faults c.args.a c.serve_one.result.a)
-    _ (λ old new s. (bulk_served g.D.Disk.content g.D.Disk.images g.D.Disk.clock g.D.Disk.images_between g.D.Disk.faults
-    g.D.Disk.bound
+    _ (λ old new s. (bulk_served g.D.Disk.model
     g.S.Source.left g.S.Source.faults g.K.Sink.written g.K.Sink.faults c.args.a c.serve_one.result.a
     c.in-Ok.plan.command c.in-Ok.plan old new is s).0)
     c.args.ends.items c.serve_one.result.ends.items
@@ -418,12 +407,10 @@ returns-clause-mem_statuses g c = λ plan asks verb.
     let same = one_plan _ plan c.in-Ok.plan asks c.in-Ok.ensures.ok in
     let is = sym same.command ∙ verb in
     zip_right
-    (Serves c.in-Ok.plan.command g.D.Disk.content g.D.Disk.images g.D.Disk.clock g.D.Disk.images_between g.D.Disk.faults
-    g.D.Disk.bound
+    (Serves c.in-Ok.plan.command g.D.Disk.model
     c.in-Ok.plan g.S.Source.left g.S.Source.faults g.K.Sink.written g.K.Sink.faults c.args.a c.serve_one.result.a)
     (λ end. IsEndStatus end.status)
-    (λ old new s. (mem_served g.D.Disk.content g.D.Disk.images g.D.Disk.clock g.D.Disk.images_between g.D.Disk.faults
-    g.D.Disk.bound
+    (λ old new s. (mem_served g.D.Disk.model
     g.S.Source.left g.S.Source.faults g.K.Sink.written g.K.Sink.faults c.args.a c.serve_one.result.a
     c.in-Ok.plan.command c.in-Ok.plan old new is s).1.status)
     c.args.ends.items c.serve_one.result.ends.items c.serve_one.ensures.served
@@ -433,11 +420,10 @@ returns-clause-mem_prefix g c = λ plan asks verb.
     let same = one_plan _ plan c.in-Ok.plan asks c.in-Ok.ensures.ok in
     let is = sym same.command ∙ verb in
     zip_weaker
-    (Serves c.in-Ok.plan.command g.D.Disk.content g.D.Disk.images g.D.Disk.clock g.D.Disk.images_between g.D.Disk.faults
-    g.D.Disk.bound
+    (Serves c.in-Ok.plan.command g.D.Disk.model
     c.in-Ok.plan g.S.Source.left g.S.Source.faults g.K.Sink.written g.K.Sink.faults c.args.a c.serve_one.result.a)
     _ (λ old new s. transcripts.prefix_same plan c.in-Ok.plan _ _ _ same
-    (mem_served g.D.Disk.content g.D.Disk.images g.D.Disk.clock g.D.Disk.images_between g.D.Disk.faults g.D.Disk.bound
+    (mem_served g.D.Disk.model
     g.S.Source.left g.S.Source.faults g.K.Sink.written g.K.Sink.faults c.args.a c.serve_one.result.a
     c.in-Ok.plan.command c.in-Ok.plan old new is s).1.prefix)
     c.args.ends.items c.serve_one.result.ends.items c.serve_one.ensures.served
@@ -447,11 +433,10 @@ returns-clause-mem_all g c = λ plan asks verb.
     let same = one_plan _ plan c.in-Ok.plan asks c.in-Ok.ensures.ok in
     let is = sym same.command ∙ verb in
     zip_weaker
-    (Serves c.in-Ok.plan.command g.D.Disk.content g.D.Disk.images g.D.Disk.clock g.D.Disk.images_between g.D.Disk.faults
-    g.D.Disk.bound
+    (Serves c.in-Ok.plan.command g.D.Disk.model
     c.in-Ok.plan g.S.Source.left g.S.Source.faults g.K.Sink.written g.K.Sink.faults c.args.a c.serve_one.result.a)
     _ (λ old new s done. transcripts.all_same plan c.in-Ok.plan _ _ _ same
-    ((mem_served g.D.Disk.content g.D.Disk.images g.D.Disk.clock g.D.Disk.images_between g.D.Disk.faults g.D.Disk.bound
+    ((mem_served g.D.Disk.model
     g.S.Source.left g.S.Source.faults g.K.Sink.written g.K.Sink.faults c.args.a c.serve_one.result.a
     c.in-Ok.plan.command c.in-Ok.plan old new is s).1.all done))
     c.args.ends.items c.serve_one.result.ends.items c.serve_one.ensures.served
@@ -461,11 +446,10 @@ returns-clause-mem_taken g c = λ plan asks verb.
     let same = one_plan _ plan c.in-Ok.plan asks c.in-Ok.ensures.ok in
     let is = sym same.command ∙ verb in
     zip_weaker
-    (Serves c.in-Ok.plan.command g.D.Disk.content g.D.Disk.images g.D.Disk.clock g.D.Disk.images_between g.D.Disk.faults
-    g.D.Disk.bound
+    (Serves c.in-Ok.plan.command g.D.Disk.model
     c.in-Ok.plan g.S.Source.left g.S.Source.faults g.K.Sink.written g.K.Sink.faults c.args.a c.serve_one.result.a)
     _ (λ old new s fault. transcripts.taken_same plan c.in-Ok.plan _ _ _ _ same
-    ((mem_served g.D.Disk.content g.D.Disk.images g.D.Disk.clock g.D.Disk.images_between g.D.Disk.faults g.D.Disk.bound
+    ((mem_served g.D.Disk.model
     g.S.Source.left g.S.Source.faults g.K.Sink.written g.K.Sink.faults c.args.a c.serve_one.result.a
     c.in-Ok.plan.command c.in-Ok.plan old new is s).1.taken fault))
     c.args.ends.items c.serve_one.result.ends.items c.serve_one.ensures.served
@@ -475,12 +459,10 @@ returns-clause-bulk_statuses g c = λ plan asks verb.
     let same = one_plan _ plan c.in-Ok.plan asks c.in-Ok.ensures.ok in
     let is = sym same.command ∙ verb in
     zip_right
-    (Serves c.in-Ok.plan.command g.D.Disk.content g.D.Disk.images g.D.Disk.clock g.D.Disk.images_between g.D.Disk.faults
-    g.D.Disk.bound
+    (Serves c.in-Ok.plan.command g.D.Disk.model
     c.in-Ok.plan g.S.Source.left g.S.Source.faults g.K.Sink.written g.K.Sink.faults c.args.a c.serve_one.result.a)
     (λ end. IsSinkStatus end.status)
-    (λ old new s. (bulk_served g.D.Disk.content g.D.Disk.images g.D.Disk.clock g.D.Disk.images_between g.D.Disk.faults
-    g.D.Disk.bound
+    (λ old new s. (bulk_served g.D.Disk.model
     g.S.Source.left g.S.Source.faults g.K.Sink.written g.K.Sink.faults c.args.a c.serve_one.result.a
     c.in-Ok.plan.command c.in-Ok.plan old new is s).1.status)
     c.args.ends.items c.serve_one.result.ends.items c.serve_one.ensures.served
@@ -490,11 +472,9 @@ returns-clause-bulk_source g c = λ plan asks verb.
     let same = one_plan _ plan c.in-Ok.plan asks c.in-Ok.ensures.ok in
     let is = sym same.command ∙ verb in
     zip_weaker
-    (Serves c.in-Ok.plan.command g.D.Disk.content g.D.Disk.images g.D.Disk.clock g.D.Disk.images_between g.D.Disk.faults
-    g.D.Disk.bound
+    (Serves c.in-Ok.plan.command g.D.Disk.model
     c.in-Ok.plan g.S.Source.left g.S.Source.faults g.K.Sink.written g.K.Sink.faults c.args.a c.serve_one.result.a)
-    _ (λ old new s. (bulk_served g.D.Disk.content g.D.Disk.images g.D.Disk.clock g.D.Disk.images_between g.D.Disk.faults
-    g.D.Disk.bound
+    _ (λ old new s. (bulk_served g.D.Disk.model
     g.S.Source.left g.S.Source.faults g.K.Sink.written g.K.Sink.faults c.args.a c.serve_one.result.a
     c.in-Ok.plan.command c.in-Ok.plan old new is s).1.source)
     c.args.ends.items c.serve_one.result.ends.items c.serve_one.ensures.served
@@ -504,11 +484,10 @@ returns-clause-bulk_all g c = λ plan asks verb.
     let same = one_plan _ plan c.in-Ok.plan asks c.in-Ok.ensures.ok in
     let is = sym same.command ∙ verb in
     zip_weaker
-    (Serves c.in-Ok.plan.command g.D.Disk.content g.D.Disk.images g.D.Disk.clock g.D.Disk.images_between g.D.Disk.faults
-    g.D.Disk.bound
+    (Serves c.in-Ok.plan.command g.D.Disk.model
     c.in-Ok.plan g.S.Source.left g.S.Source.faults g.K.Sink.written g.K.Sink.faults c.args.a c.serve_one.result.a)
     _ (λ old new s done. summaries.all_same plan c.in-Ok.plan _ _ same
-    ((bulk_served g.D.Disk.content g.D.Disk.images g.D.Disk.clock g.D.Disk.images_between g.D.Disk.faults g.D.Disk.bound
+    ((bulk_served g.D.Disk.model
     g.S.Source.left g.S.Source.faults g.K.Sink.written g.K.Sink.faults c.args.a c.serve_one.result.a
     c.in-Ok.plan.command c.in-Ok.plan old new is s).1.all done))
     c.args.ends.items c.serve_one.result.ends.items c.serve_one.ensures.served
@@ -518,11 +497,10 @@ returns-clause-bulk_prefix g c = λ plan asks verb.
     let same = one_plan _ plan c.in-Ok.plan asks c.in-Ok.ensures.ok in
     let is = sym same.command ∙ verb in
     zip_weaker
-    (Serves c.in-Ok.plan.command g.D.Disk.content g.D.Disk.images g.D.Disk.clock g.D.Disk.images_between g.D.Disk.faults
-    g.D.Disk.bound
+    (Serves c.in-Ok.plan.command g.D.Disk.model
     c.in-Ok.plan g.S.Source.left g.S.Source.faults g.K.Sink.written g.K.Sink.faults c.args.a c.serve_one.result.a)
     _ (λ old new s failed. summaries.prefix_same plan c.in-Ok.plan _ _ same
-    ((bulk_served g.D.Disk.content g.D.Disk.images g.D.Disk.clock g.D.Disk.images_between g.D.Disk.faults g.D.Disk.bound
+    ((bulk_served g.D.Disk.model
     g.S.Source.left g.S.Source.faults g.K.Sink.written g.K.Sink.faults c.args.a c.serve_one.result.a
     c.in-Ok.plan.command c.in-Ok.plan old new is s).1.prefix failed))
     c.args.ends.items c.serve_one.result.ends.items c.serve_one.ensures.served
@@ -532,11 +510,9 @@ returns-clause-bulk_nothing g c = λ plan asks verb.
     let same = one_plan _ plan c.in-Ok.plan asks c.in-Ok.ensures.ok in
     let is = sym same.command ∙ verb in
     zip_weaker
-    (Serves c.in-Ok.plan.command g.D.Disk.content g.D.Disk.images g.D.Disk.clock g.D.Disk.images_between g.D.Disk.faults
-    g.D.Disk.bound
+    (Serves c.in-Ok.plan.command g.D.Disk.model
     c.in-Ok.plan g.S.Source.left g.S.Source.faults g.K.Sink.written g.K.Sink.faults c.args.a c.serve_one.result.a)
-    _ (λ old new s none. (bulk_served g.D.Disk.content g.D.Disk.images g.D.Disk.clock g.D.Disk.images_between
-    g.D.Disk.faults g.D.Disk.bound
+    _ (λ old new s none. (bulk_served g.D.Disk.model
     g.S.Source.left g.S.Source.faults g.K.Sink.written g.K.Sink.faults c.args.a c.serve_one.result.a
     c.in-Ok.plan.command c.in-Ok.plan old new is s).1.nothing none)
     c.args.ends.items c.serve_one.result.ends.items c.serve_one.ensures.served
@@ -571,13 +547,11 @@ returns-clause-run g c = λ plan asks verb.
     let same = one_plan _ plan c.in-Ok.plan asks c.in-Ok.ensures.ok in
     let is = sym same.command ∙ verb in
     zip_weaker
-    (Serves c.in-Ok.plan.command g.D.Disk.content g.D.Disk.images g.D.Disk.clock g.D.Disk.images_between g.D.Disk.faults
-    g.D.Disk.bound
+    (Serves c.in-Ok.plan.command g.D.Disk.model
     c.in-Ok.plan g.S.Source.left g.S.Source.faults g.K.Sink.written g.K.Sink.faults c.args.a c.serve_one.result.a)
-    _ (λ old new s. runs_same g.D.Disk.content g.D.Disk.images g.D.Disk.clock g.D.Disk.images_between g.D.Disk.faults
-    g.D.Disk.bound
+    _ (λ old new s. runs_same g.D.Disk.model
     g.S.Source.left g.K.Sink.written plan c.in-Ok.plan c.args.a c.serve_one.result.a old new same.commits same.page
-    (run_served g.D.Disk.content g.D.Disk.images g.D.Disk.clock g.D.Disk.images_between g.D.Disk.faults g.D.Disk.bound
+    (run_served g.D.Disk.model
     g.S.Source.left g.S.Source.faults g.K.Sink.written g.K.Sink.faults c.args.a c.serve_one.result.a
     c.in-Ok.plan.command c.in-Ok.plan old new is s).runs)
     c.args.ends.items c.serve_one.result.ends.items c.serve_one.ensures.served

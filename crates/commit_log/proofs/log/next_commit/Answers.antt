@@ -19,14 +19,14 @@ pub returns-in-Ok-None-decode-clause-damaged : goal.returns-in-Ok-None-decode-cl
 returns-in-Ok-None-decode-clause-damaged g c ps q =
     let found = c.in-Ok-Some.ensures in
     let payload = c.in-Ok-Some.record.1.items in
-    let d = g.D.Disk in
+    let d = g.D.Disk.model in
     let facts : (c.in-Ok-Some.record.0 ≡ c.args.journal.now.place) × IsShort payload
     × (c.next.new.self.place ≡ c.in-Ok-Some.record.0 + 5 + length payload) × (c.next.new.self.ready ≡ false) =
     at_record c.in-Ok-Some.field-0 c.in-Ok-Some.record (λ at p. (at ≡ c.args.journal.now.place) × IsShort p
     × (c.next.new.self.place ≡ at + 5 + length p) × (c.next.new.self.ready ≡ false)) c.in-Ok-Some.field-0-is
     found.record in
     let new = at_record c.in-Ok-Some.field-0 c.in-Ok-Some.record (λ at p. (qs : List (List ℕ))
-    → Reads d.content d.images c.args.journal.now qs → Reads d.content d.images c.next.new.self (qs ++ p ∷ []))
+    → Reads d c.args.journal.now qs → Reads d c.next.new.self (qs ++ p ∷ []))
     c.in-Ok-Some.field-0-is found.reads ps q in (
       facts.0 ∙ q.place,
       λ l told.

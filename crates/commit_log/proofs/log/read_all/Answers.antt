@@ -20,7 +20,7 @@ on_damaged T U NoMemory P Q f p = tt
 
 pub loop-commit-preserved : goal.loop-commit-preserved
 loop-commit-preserved g c =
-    let d = g.D.Disk in
+    let d = g.D.Disk.model in
     let was = c.loop-commit.invariant in
     let commits = c.loop-commit.commits.items in
     let commit = c.in-Ok-Some.commit in
@@ -40,16 +40,16 @@ loop-commit-preserved g c =
       takes = subst (λ (l : List Commit). Takes c.args.journal.now.place l new.place) (sym items)
           (subst (λ (n : ℕ). Takes c.args.journal.now.place (commits ++ commit ∷ []) n) (sym place)
           (takes_more c.args.journal.now.place c.loop-commit.journal.place commits commit was.takes found.0 found.1));
-      reads = λ q. subst (λ (ps : List (List ℕ)). Reads d.content d.images new ps) same
+      reads = λ q. subst (λ (ps : List (List ℕ)). Reads d new ps) same
           (reads (payloads (changes_of commits)) (was.reads q));
-      looks = looks_twice d.content d.images d.clock d.images_between d.faults d.bound g.met.D.Disk.parts
+      looks = looks_twice d g.met.D.Disk.parts
           c.args.journal.now.disk c.loop-commit.journal.disk new.disk was.looks c.in-Ok-Some.ensures.looks;
     }
 
 pub returns-in_err-push-in-Ok-Some-clause-looks : goal.returns-in_err-push-in-Ok-Some-clause-looks
 returns-in_err-push-in-Ok-Some-clause-looks g c =
-    let d = g.D.Disk in
-    looks_twice d.content d.images d.clock d.images_between d.faults d.bound g.met.D.Disk.parts
+    let d = g.D.Disk.model in
+    looks_twice d g.met.D.Disk.parts
     c.args.journal.now.disk c.loop-commit.journal.disk c.next_commit.new.journal.disk c.loop-commit.invariant.looks
     c.in-Ok-Some.ensures.looks
 

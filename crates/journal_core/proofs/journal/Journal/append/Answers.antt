@@ -14,9 +14,9 @@ use Rattle.journal_core.proofs.journal.Journal.append.Goals as goal
 -- the record was not written, or not synced
 pub returns-in-Err-Failed-clause-sure : goal.returns-in-Err-Failed-clause-sure
 returns-in-Err-Failed-clause-sure g c ps q =
-    let r = subst (λ (j : Standing g.row.D.Denot). Rests g.D.Disk.content g.D.Disk.images j ps) (sym c.self.view_is)
+    let r = subst (λ (j : Standing g.row.D.Denot). Rests g.D.Disk.model j ps) (sym c.self.view_is)
     q in
-    let d = g.D.Disk in
+    let d = g.D.Disk.model in
     let old = c.self.inside.disk in
     let mid = c.put.new.disk in
     let place = c.self.inside.place in
@@ -41,36 +41,36 @@ returns-in-Err-Failed-clause-no_image g c ps q image i o =
 
 pub returns-in-Err-Failed-clause-moments : goal.returns-in-Err-Failed-clause-moments
 returns-in-Err-Failed-clause-moments g c ps q =
-    let r = subst (λ (j : Standing g.row.D.Denot). Rests g.D.Disk.content g.D.Disk.images j ps) (sym c.self.view_is)
+    let r = subst (λ (j : Standing g.row.D.Denot). Rests g.D.Disk.model j ps) (sym c.self.view_is)
     q in
-    let d = g.D.Disk in
+    let d = g.D.Disk.model in
     let old = c.self.inside.disk in
     let mid = c.put.new.disk in
     let place = c.self.inside.place in
     let payload = c.args.payload.now in
-    at_view d.clock d.images_between (BeforeOrAfter ps payload) _ _ mid c.self.view_is (λ image m. let t =
+    at_view d (BeforeOrAfter ps payload) _ _ mid c.self.view_is (λ image m. let t =
     c.put.ensures.moments image m in
     inl ((behind ps payload place r.place (length c.deref.result.now) t.0 image (r.each t.0 t.1) t.2)))
 
 pub returns-in-Err-NoMemory-clause-moments : goal.returns-in-Err-NoMemory-clause-moments
 returns-in-Err-NoMemory-clause-moments g c ps q =
-    let r = subst (λ (j : Standing g.row.D.Denot). Rests g.D.Disk.content g.D.Disk.images j ps) (sym c.self.view_is)
+    let r = subst (λ (j : Standing g.row.D.Denot). Rests g.D.Disk.model j ps) (sym c.self.view_is)
     q in
-    let d = g.D.Disk in
+    let d = g.D.Disk.model in
     let old = c.self.inside.disk in
     let mid = c.put.new.disk in
     let place = c.self.inside.place in
     let payload = c.args.payload.now in
-    at_view d.clock d.images_between (BeforeOrAfter ps payload) _ _ mid c.self.view_is (λ image m. let t =
+    at_view d (BeforeOrAfter ps payload) _ _ mid c.self.view_is (λ image m. let t =
     c.put.ensures.moments image m in
     inl ((behind ps payload place r.place (length c.deref.result.now) t.0 image (r.each t.0 t.1) t.2)))
 
 -- the gate was not written, or not synced
 pub returns-in-Err-Failed-put-clause-doubt : goal.returns-in-Err-Failed-put-clause-doubt
 returns-in-Err-Failed-put-clause-doubt g c ps q =
-    let r = subst (λ (j : Standing g.row.D.Denot). Rests g.D.Disk.content g.D.Disk.images j ps) (sym c.self.view_is)
+    let r = subst (λ (j : Standing g.row.D.Denot). Rests g.D.Disk.model j ps) (sym c.self.view_is)
     q in
-    let d = g.D.Disk in
+    let d = g.D.Disk.model in
     let old = c.self.inside.disk in
     let mid = c.put.new.disk in
     let place = c.self.inside.place in
@@ -99,7 +99,7 @@ returns-in-Err-Failed-put-clause-doubt g c ps q =
 
 pub invariant_of-self-in-Err-Failed-put : goal.invariant_of-self-in-Err-Failed-put
 invariant_of-self-in-Err-Failed-put g c =
-    let d = g.D.Disk in
+    let d = g.D.Disk.model in
     let old = c.self.inside.disk in
     let mid = c.put.new.disk in
     let new = c.put-2.new.disk in
@@ -119,9 +119,9 @@ invariant_of-self-in-Err-Failed-put g c =
 
 pub returns-in-Err-Failed-put-clause-moments : goal.returns-in-Err-Failed-put-clause-moments
 returns-in-Err-Failed-put-clause-moments g c ps q =
-    let r = subst (λ (j : Standing g.row.D.Denot). Rests g.D.Disk.content g.D.Disk.images j ps) (sym c.self.view_is)
+    let r = subst (λ (j : Standing g.row.D.Denot). Rests g.D.Disk.model j ps) (sym c.self.view_is)
     q in
-    let d = g.D.Disk in
+    let d = g.D.Disk.model in
     let old = c.self.inside.disk in
     let mid = c.put.new.disk in
     let place = c.self.inside.place in
@@ -131,8 +131,8 @@ returns-in-Err-Failed-put-clause-moments g c ps q =
     (d.images old) (d.images mid) r.told
     (c.deref.ensures.value ∙ c.in-Ok.ensures) r.is_told (g.met.D.Disk.content_is_image old r.told r.is_told) r.each
     c.in-Ok-put.ensures.content c.in-Ok-put.ensures.synced in
-    at_view d.clock d.images_between (BeforeOrAfter ps payload) _ _ new c.self.view_is (
-    two_calls d.clock d.images_between old mid new (BeforeOrAfter ps payload) (g.met.D.Disk.parts new)
+    at_view d (BeforeOrAfter ps payload) _ _ new c.self.view_is (
+    two_calls d old mid new (BeforeOrAfter ps payload) (g.met.D.Disk.parts new)
     c.put.ensures.past.later c.put-2.ensures.past
     (λ image m. let t = c.put.ensures.moments image m in
     inl ((behind ps payload place r.place (length c.deref.result.now) t.0 image (r.each t.0 t.1) t.2)))
@@ -143,9 +143,9 @@ returns-in-Err-Failed-put-clause-moments g c ps q =
 -- no memory for the write of the gate
 pub returns-in-Err-NoMemory-put-clause-no_memory : goal.returns-in-Err-NoMemory-put-clause-no_memory
 returns-in-Err-NoMemory-put-clause-no_memory g c ps q =
-    let r = subst (λ (j : Standing g.row.D.Denot). Rests g.D.Disk.content g.D.Disk.images j ps) (sym c.self.view_is)
+    let r = subst (λ (j : Standing g.row.D.Denot). Rests g.D.Disk.model j ps) (sym c.self.view_is)
     q in
-    let d = g.D.Disk in
+    let d = g.D.Disk.model in
     let old = c.self.inside.disk in
     let mid = c.put.new.disk in
     let place = c.self.inside.place in
@@ -168,9 +168,9 @@ returns-in-Err-NoMemory-put-clause-no_memory g c ps q =
 
 pub returns-in-Err-NoMemory-put-clause-moments : goal.returns-in-Err-NoMemory-put-clause-moments
 returns-in-Err-NoMemory-put-clause-moments g c ps q =
-    let r = subst (λ (j : Standing g.row.D.Denot). Rests g.D.Disk.content g.D.Disk.images j ps) (sym c.self.view_is)
+    let r = subst (λ (j : Standing g.row.D.Denot). Rests g.D.Disk.model j ps) (sym c.self.view_is)
     q in
-    let d = g.D.Disk in
+    let d = g.D.Disk.model in
     let old = c.self.inside.disk in
     let mid = c.put.new.disk in
     let place = c.self.inside.place in
@@ -180,8 +180,8 @@ returns-in-Err-NoMemory-put-clause-moments g c ps q =
     (d.images old) (d.images mid) r.told
     (c.deref.ensures.value ∙ c.in-Ok.ensures) r.is_told (g.met.D.Disk.content_is_image old r.told r.is_told) r.each
     c.in-Ok-put.ensures.content c.in-Ok-put.ensures.synced in
-    at_view d.clock d.images_between (BeforeOrAfter ps payload) _ _ new c.self.view_is (
-    two_calls d.clock d.images_between old mid new (BeforeOrAfter ps payload) (g.met.D.Disk.parts new)
+    at_view d (BeforeOrAfter ps payload) _ _ new c.self.view_is (
+    two_calls d old mid new (BeforeOrAfter ps payload) (g.met.D.Disk.parts new)
     c.put.ensures.past.later c.put-2.ensures.past
     (λ image m. let t = c.put.ensures.moments image m in
     inl ((behind ps payload place r.place (length c.deref.result.now) t.0 image (r.each t.0 t.1) t.2)))
@@ -192,9 +192,9 @@ returns-in-Err-NoMemory-put-clause-moments g c ps q =
 -- all is on the disk
 pub returns-clause-ok : goal.returns-clause-ok
 returns-clause-ok g c ps q =
-    let r = subst (λ (j : Standing g.row.D.Denot). Rests g.D.Disk.content g.D.Disk.images j ps) (sym c.self.view_is)
+    let r = subst (λ (j : Standing g.row.D.Denot). Rests g.D.Disk.model j ps) (sym c.self.view_is)
     q in
-    let d = g.D.Disk in
+    let d = g.D.Disk.model in
     let old = c.self.inside.disk in
     let mid = c.put.new.disk in
     let place = c.self.inside.place in
@@ -216,9 +216,9 @@ returns-clause-ok g c ps q =
 
 pub returns-clause-moments : goal.returns-clause-moments
 returns-clause-moments g c ps q =
-    let r = subst (λ (j : Standing g.row.D.Denot). Rests g.D.Disk.content g.D.Disk.images j ps) (sym c.self.view_is)
+    let r = subst (λ (j : Standing g.row.D.Denot). Rests g.D.Disk.model j ps) (sym c.self.view_is)
     q in
-    let d = g.D.Disk in
+    let d = g.D.Disk.model in
     let old = c.self.inside.disk in
     let mid = c.put.new.disk in
     let place = c.self.inside.place in
@@ -228,8 +228,8 @@ returns-clause-moments g c ps q =
     (d.images old) (d.images mid) r.told
     (c.deref.ensures.value ∙ c.in-Ok.ensures) r.is_told (g.met.D.Disk.content_is_image old r.told r.is_told) r.each
     c.in-Ok-put.ensures.content c.in-Ok-put.ensures.synced in
-    at_view d.clock d.images_between (BeforeOrAfter ps payload) _ _ new c.self.view_is (
-    two_calls d.clock d.images_between old mid new (BeforeOrAfter ps payload) (g.met.D.Disk.parts new)
+    at_view d (BeforeOrAfter ps payload) _ _ new c.self.view_is (
+    two_calls d old mid new (BeforeOrAfter ps payload) (g.met.D.Disk.parts new)
     c.put.ensures.past.later c.put-2.ensures.past
     (λ image m. let t = c.put.ensures.moments image m in
     inl ((behind ps payload place r.place (length c.deref.result.now) t.0 image (r.each t.0 t.1) t.2)))
@@ -240,7 +240,7 @@ returns-clause-moments g c ps q =
 -- a disk that tells nothing goes on so
 pub returns-in-Err-Failed-clause-untold : goal.returns-in-Err-Failed-clause-untold
 returns-in-Err-Failed-clause-untold g c is =
-    let d = g.D.Disk in
+    let d = g.D.Disk.model in
     let content = at_failed c.in-Err-Failed.field-0 (TearsContent (c.self.inside.place + 1) (length c.deref.result.now)
     (d.content c.self.inside.disk) (d.content c.put.new.disk)) c.in-Err-Failed.field-0-is
     c.in-Err-Failed.ensures.failed_content in
@@ -250,14 +250,14 @@ returns-in-Err-Failed-clause-untold g c is =
 
 pub returns-in-Err-NoMemory-clause-untold : goal.returns-in-Err-NoMemory-clause-untold
 returns-in-Err-NoMemory-clause-untold g c is =
-    let d = g.D.Disk in
+    let d = g.D.Disk.model in
     at_no_memory c.in-Err-NoMemory.field-0 (d.content c.put.new.disk ≡ d.content c.self.inside.disk)
     c.in-Err-NoMemory.field-0-is c.in-Err-NoMemory.ensures.no_memory_content
     ∙ (ap (λ (j : Standing g.row.D.Denot). d.content j.disk) c.self.view_is ∙ is)
 
 pub returns-in-Err-Failed-put-clause-untold : goal.returns-in-Err-Failed-put-clause-untold
 returns-in-Err-Failed-put-clause-untold g c is =
-    let d = g.D.Disk in
+    let d = g.D.Disk.model in
     let content = at_failed c.in-Err-Failed-put.field-0 (TearsContent c.self.inside.place 1 (d.content c.put.new.disk)
     (d.content c.put-2.new.disk)) c.in-Err-Failed-put.field-0-is c.in-Err-Failed-put.ensures.failed_content in
     tears_untold c.self.inside.place 1 (d.content c.put.new.disk) (d.content c.put-2.new.disk) content
@@ -266,7 +266,7 @@ returns-in-Err-Failed-put-clause-untold g c is =
 
 pub returns-in-Err-NoMemory-put-clause-untold : goal.returns-in-Err-NoMemory-put-clause-untold
 returns-in-Err-NoMemory-put-clause-untold g c is =
-    let d = g.D.Disk in
+    let d = g.D.Disk.model in
     at_no_memory c.in-Err-NoMemory-put.field-0 (d.content c.put-2.new.disk ≡ d.content c.put.new.disk)
     c.in-Err-NoMemory-put.field-0-is c.in-Err-NoMemory-put.ensures.no_memory_content
     ∙ becomes_untold (d.content c.self.inside.disk) (d.content c.put.new.disk) _ c.in-Ok-put.ensures.content
@@ -274,7 +274,7 @@ returns-in-Err-NoMemory-put-clause-untold g c is =
 
 pub returns-clause-untold : goal.returns-clause-untold
 returns-clause-untold g c is =
-    let d = g.D.Disk in
+    let d = g.D.Disk.model in
     becomes_untold (d.content c.put.new.disk) (d.content c.put-2.new.disk) _ c.in-Ok-put-2.ensures.content
     (becomes_untold (d.content c.self.inside.disk) (d.content c.put.new.disk) _ c.in-Ok-put.ensures.content
     (ap (λ (j : Standing g.row.D.Denot). d.content j.disk) c.self.view_is ∙ is))

@@ -25,8 +25,8 @@ invariant_of-self g c =
 
 pub returns-in-Ok-Shut-clause-opens : goal.returns-in-Ok-Shut-clause-opens
 returns-in-Ok-Shut-clause-opens g c ps q =
-    let d = g.D.Disk in
-    let r = subst (λ (j : Standing g.row.D.Denot). Reads d.content d.images j ps) (sym c.self.view_is) q in
+    let d = g.D.Disk.model in
+    let r = subst (λ (j : Standing g.row.D.Denot). Reads d j ps) (sym c.self.view_is) q in
     let place = c.self.inside.place in
     let looks = c.in-Ok-Shut.ensures.looks in
     let found = subst (λ (f : Found). IsFound f (drop place r.told)) c.in-Ok-Shut.field-0-is
@@ -49,8 +49,8 @@ returns-in-Ok-Shut-clause-opens g c ps q =
 
 pub returns-in-Ok-Record-clause-reads : goal.returns-in-Ok-Record-clause-reads
 returns-in-Ok-Record-clause-reads g c ps q =
-    let d = g.D.Disk in
-    let r = subst (λ (j : Standing g.row.D.Denot). Reads d.content d.images j ps) (sym c.self.view_is) q in
+    let d = g.D.Disk.model in
+    let r = subst (λ (j : Standing g.row.D.Denot). Reads d j ps) (sym c.self.view_is) q in
     let place = c.self.inside.place in
     let payload = c.in-Ok-Record.payload.items in
     let looks = c.in-Ok-Record.ensures.looks in
@@ -62,7 +62,7 @@ returns-in-Ok-Record-clause-reads g c ps q =
       told = r.told;
       tail = found.0;
       is_told = looks.narrows.same ∙ r.is_told;
-      exactly = still_exactly d.content d.images d.clock d.images_between d.faults d.bound c.self.inside.disk
+      exactly = still_exactly d c.self.inside.disk
           c.record_at.new.disk looks r.told r.exactly;
       is = r.is ∙ ap (λ (l : List ℕ). prefix ps ++ l) (sym tail ∙ found.1) ∙ sym (prefix_push ps payload found.0);
       place = omega (arith, r.place, length-prefix_push ps payload, c.len.ensures);
@@ -73,8 +73,8 @@ pub returns-in-Ok-Broken-clause-damaged : goal.returns-in-Ok-Broken-clause-damag
 returns-in-Ok-Broken-clause-damaged g c = (
   ap (λ (j : Standing g.row.D.Denot). j.place) c.self.view_is,
   λ ps q l told.
-      let d = g.D.Disk in
-      let r = subst (λ (j : Standing g.row.D.Denot). Reads d.content d.images j ps) (sym c.self.view_is) q in
+      let d = g.D.Disk.model in
+      let r = subst (λ (j : Standing g.row.D.Denot). Reads d j ps) (sym c.self.view_is) q in
       let place = c.self.inside.place in
       let found = subst (λ (f : Found). IsFound f (drop place r.told)) c.in-Ok-Broken.field-0-is
       (c.in-Ok-Broken.ensures.found r.told r.is_told) in

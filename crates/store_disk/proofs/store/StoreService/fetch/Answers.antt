@@ -16,9 +16,9 @@ invariant_of-self g c =
 
 pub returns-clause-call : goal.returns-clause-call
 returns-clause-call g c =
-    let d = g.D.Disk in
+    let d = g.D.Disk.model in
     rw (sym c.self.view_is)
-    (λ s h. lifted-call d.content d.images d.clock d.images_between d.faults g.met.D.Disk.only_now c.laws.ensures _
+    (λ s h. lifted-call d g.met.D.Disk.only_now c.laws.ensures _
     c.fetch.new.self s h (Fetch c.args.pin.now.slot c.args.want.now c.args.from c.args.limit)
     (λ last. Page (founds c.fetch.new.page.records) last) refl c.fetch.result
     (fetch-lifts c.args.pin.now.slot c.args.want.now c.args.from c.args.limit c.fetch.new.page.records c.fetch.result

@@ -14,9 +14,9 @@ invariant_of-self g c =
 
 pub returns-clause-call : goal.returns-clause-call
 returns-clause-call g c =
-    let d = g.D.Disk in
+    let d = g.D.Disk.model in
     rw (sym c.self.view_is)
-    (λ s h. lifted-call d.content d.images d.clock d.images_between d.faults g.met.D.Disk.only_now c.laws.ensures _
+    (λ s h. lifted-call d g.met.D.Disk.only_now c.laws.ensures _
     c.look.new.self s h (Look c.args.id) (λ l. Looked (looked l)) refl c.look.result
     (look-lifts c.args.id c.look.result c.look.ensures.worn.1) (c.look.ensures.call (calm s) h.memory))
 

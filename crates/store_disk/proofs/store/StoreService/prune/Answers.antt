@@ -13,9 +13,9 @@ invariant_of-self g c =
 
 pub returns-clause-call : goal.returns-clause-call
 returns-clause-call g c =
-    let d = g.D.Disk in
+    let d = g.D.Disk.model in
     rw (sym c.self.view_is)
-    (λ s h. lifted-call d.content d.images d.clock d.images_between d.faults g.met.D.Disk.only_now c.laws.ensures _
+    (λ s h. lifted-call d g.met.D.Disk.only_now c.laws.ensures _
     c.prune.new.self s h Prune (λ n. Pruned n) refl c.prune.result
     (prune-lifts c.prune.result c.prune.ensures.worn.1 c.prune.ensures.memory) (c.prune.ensures.call (calm s) h.memory))
 
