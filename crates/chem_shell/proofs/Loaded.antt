@@ -78,7 +78,8 @@ whole_of_status Worn status page calls h input before after is e law run served 
 module _ {D : Type 0} (model : DiskModel D) where
   opens_by : (journal : Standing D) (s : State) (doubt : Option Change) → s.doubt ≡ doubt
       → Has model journal (payloads s.history) (option_map payload doubt)
-      → IfTold (model.content journal.disk) (λ _. (image : List ℕ) → model.images journal.disk image → OpensAfter s image)
+      → IfTold (model.content journal.disk) (λ _. (image : List ℕ) → model.images journal.disk image
+      → OpensAfter s image)
   opens_by journal s None is has l told image i = (s.history, inl refl, (has.1 l told).each image i)
   opens_by journal s (Some c) is has l told image i = elim ((has.1 l told).each image i) [
     | inl before ↦ (s.history, inl refl, before)
@@ -113,10 +114,10 @@ module _ {D : Type 0} (model : DiskModel D) where
 
   module _ (parts : (d : D) (t v u : ℕ) (c : List ℕ) → t ≤ v → v ≤ u → model.images_between d t u c
       → model.images_between d t v c ⊎ model.images_between d v u c)
-      (whole : (d : D) (t t' u' u : ℕ) (c : List ℕ) → t ≤ t' → u' ≤ u → model.images_between d t' u' c → model.images_between d t u c)
+      (whole : (d : D) (t t' u' u : ℕ) (c : List ℕ) → t ≤ t' → u' ≤ u
+          → model.images_between d t' u' c → model.images_between d t u c)
       (only_now : (d : D) (c : List ℕ) → model.images_between d (model.clock d) (model.clock d) c → model.images d c)
-      (model : DiskModel D) (law : ServicesAreTrue)
-      {S K : Type 0} (left : S → Option (List ℕ)) (written : K → Option (List ℕ)) (plan : Plan)
+      (law : ServicesAreTrue) {S K : Type 0} (left : S → Option (List ℕ)) (written : K → Option (List ℕ)) (plan : Plan)
       (a : D) (s : State) (old new : StoreTerm D) (stands : StandsFor model old s)
       (opened : IsOpened plan.commits s) (opens : IfTold (model.content a) (OpensTo s.history))
       (read : Narrows model a old.journal.disk) where
@@ -132,16 +133,17 @@ module _ {D : Type 0} (model : DiskModel D) where
       run = made.stands.run;
       calm = made.stands.calm;
       all = made.own;
-      loaded = times model.clock old;
-      ended = times model.clock new;
+      loaded = times model old;
+      ended = times model new;
       later = read.past.later;
       clocked = made.stands.clocked;
       now = refl;
       loading = λ image b. read.moments image
           (made.stands.past.no_more (model.clock a) (model.clock old.journal.disk) image (omega arith) b);
       moments = λ l told t u image from le to b.
-          shows_between model new.journal.disk parts whole made.steps s made.after (times model.clock old)
-          (times model.clock new) t u image made.stands.run made.stands.calm made.stands.clocked (made.stands.moments l told)
+          shows_between model new.journal.disk parts whole made.steps s made.after (times model old)
+          (times model new) t u image made.stands.run made.stands.calm made.stands.clocked
+          (made.stands.moments l told)
           (λ c now. opens_after new made.after made.stands.ends l told c (only_now new.journal.disk c now))
           from le to b;
       left = opens_after new made.after made.stands.ends;
@@ -175,15 +177,13 @@ module _ {D : Type 0} (model : DiskModel D) where
     -- what the contract of a session says of the calls and the text
     abbrev Serves : EndStatus → End S K → End S K → Type 0
     Serves ended before after = (calls : Calls)
-        × Makes (StandsFor model) (λ _ _. true) (Stretches model)
-        old new calls
+        × Makes (StandsFor model) (λ _ _. true) (Stretches model) old new calls
         × IfSome (left before.source) (λ bytes. Writes (written before.sink) (written after.sink)
         (session.IsServed ended plan.page (lines_of bytes) calls))
 
     abbrev Takes : End S K → End S K → Type 0
     Takes before after = (calls : Calls)
-        × Makes (StandsFor model) (λ _ _. true) (Stretches model)
-        old new calls
+        × Makes (StandsFor model) (λ _ _. true) (Stretches model) old new calls
         × session.WritesForTaken (left before.source) (left after.source) (written before.sink) (written after.sink)
         (session.IsAllOfTaken plan.page calls)
 

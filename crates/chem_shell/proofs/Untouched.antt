@@ -1,16 +1,15 @@
 -- Where nothing was done, and the same at a plan that asks for the same.
-use Rattle.std.proofs.Common.{◌≡◌, ◌⊎◌, ◌∙◌, ℕ, List, Option, refl, sym, ap, subst, inl, inr}
+use Rattle.std.proofs.Common.{◌≡◌, ◌⊎◌, ◌∙◌, List, Option, ℕ, refl, sym, ap, subst, inl, inr}
 use Rattle.disk_edge.specs.Disk.{DiskModel, Same}
-use Rattle.journal_core.specs.Looks.{Narrows}
+use Rattle.journal_core.specs.Looks.{Narrows, Stays}
 use Rattle.chem_shell.specs.Ends.{with_status}
-use Rattle.chem_shell.specs.OnDisk.{IsRefused, RunsOn, Stays}
+use Rattle.chem_shell.specs.OnDisk.{IsRefused, RunsOn}
 use Rattle.chem_shell.specs.declared.request.Plan.{Plan}
 use Rattle.chem_shell.specs.declared.top.End.{End}
 
-pub stays_same : {D : Type 0} (model : DiskModel D) (a a' : D) → a' ≡ a
-    → Stays (model.content a) (model.content a') (model.images a) (model.images a')
+pub stays_same : {D : Type 0} (model : DiskModel D) (a a' : D) → a' ≡ a → Stays model a a'
 stays_same model a a' same = (
-  ap content same,
+  ap model.content same,
   subst (λ d. Same (model.images a) (model.images d)) (sym same)
       (record { no_more = λ c i. i; no_fewer = λ c i. i }),
 )
@@ -23,10 +22,8 @@ module _ {D S K : Type 0} (model : DiskModel D) where
   pub runs_same : (left : S → Option (List ℕ)) (written : K → Option (List ℕ)) (p q : Plan) (a a' : D)
       (old new : End S K)
       → p.commits ≡ q.commits → p.page ≡ q.page
-      → IsRefused model a a' old new
-      ⊎ RunsOn model left written q a a' old new
-      → IsRefused model a a' old new
-      ⊎ RunsOn model left written p a a' old new
+      → IsRefused model a a' old new ⊎ RunsOn model left written q a a' old new
+      → IsRefused model a a' old new ⊎ RunsOn model left written p a a' old new
   runs_same left written p q a a' old new commits page (inl r) = inl r
   runs_same left written p q a a' old new commits page (inr r) = inr (record {
     status = r.status;

@@ -1,7 +1,6 @@
 -- For private clauses alone: what serving an end on disk `a` leaves, by the command.
 use Rattle.std.specs.Prelude.{◌≡◌, ◌≢◌, ◌⊎◌, ℕ, List, Option}
-use Rattle.disk_edge.specs.Disk as disk
-use Rattle.disk_edge.specs.Disk.{DiskModel, IfTold}
+use Rattle.disk_edge.specs.Disk.{DiskModel, Faulted, IfTold}
 use Rattle.io_edge.specs.Faults.{Rose}
 use Rattle.journal_core.specs.Records.{IsNoJournal}
 use Rattle.journal_core.specs.declared.faults.LoadFault.{LoadFault}
@@ -17,9 +16,8 @@ use Rattle.chem_shell.specs.declared.top.End.{End}
 use Rattle.chem_shell.specs.declared.top.TheConstants.{DISK_FAULT, NOT_A_STORE, DAMAGED, NO_MEMORY, SOURCE_FAULT, SINK_FAULT, INPUT_TOO_LONG, INPUT_LIMIT}
 
 -- the causes of the statuses that come of a disk
-pub record HasCauses {D : Type 0} (model : DiskModel D) (a a' : D) (status place : ℕ)
-    : Type 0 where
-  pub disk_fault : status ≡ DISK_FAULT → disk.Rose (model.faults a) (model.faults a')
+pub record HasCauses {D : Type 0} (model : DiskModel D) (a a' : D) (status place : ℕ) : Type 0 where
+  pub disk_fault : status ≡ DISK_FAULT → Faulted model a a'
   pub not_a_store : status ≡ NOT_A_STORE → IfTold (model.content a) IsNoJournal
   pub damaged : status ≡ DAMAGED → IfTold (model.content a) (Damages place)
   pub undamaged : status ≢ DAMAGED → place ≡ 0
@@ -35,16 +33,14 @@ IsCausedBy fault.NoMemory status place = (status ≡ NO_MEMORY) × (place ≡ 0)
 pub record ServesRun {D S K : Type 0} (model : DiskModel D) (plan : Plan)
     (left : S → Option (List ℕ)) (source_faults : S → ℕ) (written : K → Option (List ℕ)) (sink_faults : K → ℕ)
     (a a' : D) (old new : End S K) : Type 0 where
-  pub runs : IsRefused model a a' old new
-      ⊎ RunsOn model left written plan a a' old new
+  pub runs : IsRefused model a a' old new ⊎ RunsOn model left written plan a a' old new
   pub source_fault : new.status ≡ SOURCE_FAULT → Rose (source_faults old.source) (source_faults new.source)
   pub sink_fault : new.status ≡ SINK_FAULT → Rose (sink_faults old.sink) (sink_faults new.sink)
   pub input_too_long : new.status ≡ INPUT_TOO_LONG → TakesExactly (left old.source) (left new.source) INPUT_LIMIT
 
 -- what the command of a plan leaves of an end and of the disk
-abbrev pub Serves : {D S K : Type 0} → Verb → DiskModel D → (D → ℕ)
-    → (D → ℕ → ℕ → List ℕ → Type 0) → (D → ℕ) → (D → Option ℕ) → Plan
-    → (S → Option (List ℕ)) → (S → ℕ) → (K → Option (List ℕ)) → (K → ℕ) → D → D → End S K → End S K → Type 0
+abbrev pub Serves : {D S K : Type 0} → Verb → DiskModel D → Plan → (S → Option (List ℕ)) → (S → ℕ)
+    → (K → Option (List ℕ)) → (K → ℕ) → D → D → End S K → End S K → Type 0
 Serves Mem model plan left source_faults written sink_faults a a' old new =
     (a' ≡ a) × ServesMem plan left source_faults written sink_faults old new
 Serves Bulk model plan left source_faults written sink_faults a a' old new =

@@ -1,10 +1,9 @@
--- For callers: what `init` and `run` leave of disk `a`. What the disk tells, its images and its counts are told by
--- functions.
-use Rattle.std.specs.Prelude.{◌≡◌, ◌≤◌, ℕ, List, [], Option, Some, IfSome, true}
-use Rattle.disk_edge.specs.Disk.{DiskModel, Exactly, IfTold, Same}
+-- For callers: what `run` leaves of disk `a`.
+use Rattle.std.specs.Prelude.{◌≡◌, ◌≤◌, ℕ, List, Option, IfSome, true}
+use Rattle.disk_edge.specs.Disk.{DiskModel, IfTold}
 use Rattle.io_edge.specs.Lines.{lines_of}
 use Rattle.journal_core.specs.Looks.{Narrows}
-use Rattle.journal_core.specs.Records.{Opens, text}
+use Rattle.journal_core.specs.Records.{Opens}
 use Rattle.session_run.specs.Cursors.{Calls}
 use Rattle.session_run.specs.Served.{IsAllOfTaken, Writes, WritesForTaken}
 use Rattle.session_run.specs.Transcript as session
@@ -25,14 +24,6 @@ use Rattle.chem_shell.specs.declared.request.Plan.{Plan}
 use Rattle.chem_shell.specs.declared.top.End.{End}
 use Rattle.chem_shell.specs.declared.top.TheConstants.{DONE}
 
--- what a read gives is the empty store, and so is the only image
-abbrev pub IsEmptyStore : Option (List ℕ) → (List ℕ → Type 0) → Type 0
-IsEmptyStore model = (content ≡ Some (text [])) × Exactly (text []) images
-
--- what a read gives stays, and so do the images
-abbrev pub Stays : Option (List ℕ) → Option (List ℕ) → (List ℕ → Type 0) → (List ℕ → Type 0) → Type 0
-Stays old new old_images new_images = (new ≡ old) × Same old_images new_images
-
 -- the bytes open to the state's history, or to this and the commit in doubt
 abbrev pub OpensAfter : State → List ℕ → Type 0
 OpensAfter s bytes = (h : List Change) × Recovers s h × Opens (payloads h) bytes
@@ -42,8 +33,7 @@ OpensAfter s bytes = (h : List Change) × Recovers s h × Opens (payloads h) byt
 -- image that the disk had; one at a moment since left each commit that was acknowledged before, in order, and at most
 -- one more. Now each image opens to the run's history, or to this and the commit in doubt; the counts of faults in the
 -- run's states are the disk's.
-pub record AreOnDisk {D : Type 0} (model : DiskModel D) (commits : ℕ) (old new : D) (calls : Calls)
-    : Type 0 where
+pub record AreOnDisk {D : Type 0} (model : DiskModel D) (commits : ℕ) (old new : D) (calls : Calls) : Type 0 where
   pub first : State
   pub steps : List Step
   pub last : State
@@ -58,7 +48,8 @@ pub record AreOnDisk {D : Type 0} (model : DiskModel D) (commits : ℕ) (old new
   pub clocked : AreClocked loaded steps ended
   pub now : ended.a ≡ model.clock new
   pub loading : (image : List ℕ) → model.images_between new (model.clock old) loaded.a image → model.images old image
-  pub moments : IfTold (model.content new) (λ _. (t u : ℕ) (image : List ℕ) → loaded.a ≤ t → t ≤ u → u ≤ model.clock new
+  pub moments : IfTold (model.content new) (λ _. (t u : ℕ) (image : List ℕ)
+      → loaded.a ≤ t → t ≤ u → u ≤ model.clock new
       → model.images_between new t u image → ShowsBetween first steps t u image)
   pub left : IfTold (model.content new) (λ _. (image : List ℕ) → model.images new image → OpensAfter last image)
   pub begins : model.faults old ≤ first.faults.a
@@ -79,9 +70,8 @@ IsTranscriptPrefixBy page script calls history text =
 -- `run` after the store was loaded: what was written is a prefix of a transcript of the source's bytes by the calls of
 -- a run on the disk, and all of one where the status is 0. Where the source failed or its bytes are too many, exactly
 -- the requests that are whole in the bytes that were taken were answered
-pub record RunsOn {D S K : Type 0} (model : DiskModel D)
-    (left : S → Option (List ℕ)) (written : K → Option (List ℕ)) (plan : Plan) (a a' : D) (old new : End S K)
-    : Type 0 where
+pub record RunsOn {D S K : Type 0} (model : DiskModel D) (left : S → Option (List ℕ))
+    (written : K → Option (List ℕ)) (plan : Plan) (a a' : D) (old new : End S K) : Type 0 where
   pub status : IsEndStatus new.status
   pub calls : Calls
   pub on : AreOnDisk model plan.commits a a' calls
@@ -93,8 +83,7 @@ pub record RunsOn {D S K : Type 0} (model : DiskModel D)
       (written old.sink) (written new.sink) (IsAllOfTaken plan.page calls)
 
 -- `run` where the store was not loaded: nothing was taken or put, and the disk was only read
-pub record IsRefused {D S K : Type 0} (model : DiskModel D)
-    (a a' : D) (old new : End S K) : Type 0 where
+pub record IsRefused {D S K : Type 0} (model : DiskModel D) (a a' : D) (old new : End S K) : Type 0 where
   pub status : IsLoadStatus new.status
   pub end : new ≡ with_status new.status old
   pub disk : Narrows model a a'

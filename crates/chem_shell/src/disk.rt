@@ -1,15 +1,15 @@
 //! `init` and `run`: a store on disk `a`.
 ghost use Rattle.std.specs.Prelude.{◌≡◌, ◌≢◌, ◌⊎◌, ◌≤◌, [], length};
-ghost use Rattle.disk_edge.specs.Disk as disk;
-ghost use Rattle.disk_edge.specs.Disk.{IfTold};
+ghost use Rattle.disk_edge.specs.Disk.{Faulted, IfTold};
 ghost use Rattle.io_edge.specs.Faults.{Rose};
-ghost use Rattle.journal_core.specs.Looks.{Narrows};
+ghost use Rattle.journal_core.specs.Journal.{IsEmptyJournal};
+ghost use Rattle.journal_core.specs.Looks.{Narrows, Stays};
 ghost use Rattle.session_run.specs.Served.{TakesExactly};
 ghost use Rattle.store_disk.specs.Loads.{IsOpened, OpensTo};
 ghost use Rattle.store_disk.specs.OnDisk.{StandsFor};
 ghost use Rattle.store_machine.specs.declared.machine.State.{State};
 ghost use Rattle.chem_shell.specs.Loading.{HasCauses, IsCausedBy, ServesRun};
-ghost use Rattle.chem_shell.specs.OnDisk.{IsEmptyStore, RunsOn, Stays};
+ghost use Rattle.chem_shell.specs.OnDisk.{RunsOn};
 ghost use Rattle.chem_shell.specs.Status.{IsCreationStatus, IsEndStatus};
 ghost use Rattle.chem_shell.specs.Words.{IsWithinLimits};
 
@@ -32,11 +32,11 @@ use store_disk::{Disks, Store};
 pub fn create<D: Disk + Drop>(a: D) -> (D, u8)
     ensures status { IsCreationStatus result.1 }
     ensures done { result.1 ≡ DONE
-        → IfTold (D.model.content a) (λ l. (l ≡ []) × IsEmptyStore (D.model.content result.0) (D.model.images result.0)) }
+        → IfTold (D.model.content a) (λ l. (l ≡ []) × IsEmptyJournal D.model result.0) }
     ensures not_empty { result.1 ≡ NOT_EMPTY → IfTold (D.model.content a) (λ l. 1 ≤ length l) }
     ensures stays { (result.1 ≡ NOT_EMPTY) ⊎ (result.1 ≡ NO_MEMORY)
-        → Stays (D.model.content a) (D.model.content result.0) (D.model.images a) (D.model.images result.0) }
-    ensures disk_fault { result.1 ≡ DISK_FAULT → disk.Rose (D.model.faults a) (D.model.faults result.0) }
+        → Stays D.model a result.0 }
+    ensures disk_fault { result.1 ≡ DISK_FAULT → Faulted D.model a result.0 }
 {
     let (a, created) = Journal::create(a);
     let status = match created {
@@ -59,7 +59,7 @@ pub fn serve_run<R: Threads + Sync, D: Disk + Drop, S: Source + Drop, K: Sink + 
     requires { IsWithinLimits plan.now }
     ensures serves { ServesRun D.model plan.now
         S.left S.faults K.written K.faults disks.a result.0.a end.old end.new }
-    ensures causes { HasCauses D.model.content D.model.faults disks.a result.0.a end.new.status result.1 }
+    ensures causes { HasCauses D.model disks.a result.0.a end.new.status result.1 }
     ensures other { result.0.b ≡ disks.b }
 {
     match Store::load(alloc, disks, plan.commits) {

@@ -1,16 +1,16 @@
 //! The top call: the words, the ends and the disks in, and what became of them out.
 ghost use Rattle.std.specs.Prelude.{◌≡◌, ◌≢◌, ◌≤◌, ◌⊎◌, All, [], false, length, map, true};
 ghost use Rattle.std.specs.List.{AllZip};
-ghost use Rattle.disk_edge.specs.Disk as disk;
-ghost use Rattle.disk_edge.specs.Disk.{IfTold};
+ghost use Rattle.disk_edge.specs.Disk.{Faulted, IfTold};
 ghost use Rattle.io_edge.specs.Faults.{Rose};
-ghost use Rattle.journal_core.specs.Looks.{Narrows};
+ghost use Rattle.journal_core.specs.Journal.{IsEmptyJournal};
+ghost use Rattle.journal_core.specs.Looks.{Narrows, Stays};
 ghost use Rattle.journal_core.specs.Records.{IsNoJournal};
 ghost use Rattle.session_run.specs.Served.{TakesExactly, Writes};
 ghost use Rattle.store_disk.specs.Loads.{Damages};
 ghost use Rattle.chem_shell.specs.Ends.{with_status};
 ghost use Rattle.chem_shell.specs.Loading.{HasCauses, Serves};
-ghost use Rattle.chem_shell.specs.OnDisk.{IsEmptyStore, IsRefused, RunsOn, Stays};
+ghost use Rattle.chem_shell.specs.OnDisk.{IsRefused, RunsOn};
 ghost use Rattle.chem_shell.specs.Served.{WritesAll, WritesPrefix, WritesTaken};
 ghost use Rattle.chem_shell.specs.Status.{IsCreationStatus, IsEndStatus, IsInputStatus, IsSinkStatus, first_fault};
 ghost use Rattle.chem_shell.specs.Summed.{IsSummary, IsSummaryPrefix, WritesNothing};
@@ -120,7 +120,7 @@ pub fn chemdb<
 
     // A fault of the disk comes only where it failed in this call. It has no store where its bytes have no header, and
     // the place of damage is that of its bytes.
-    ensures disk_fault { result.status ≡ DISK_FAULT → disk.Rose (D.model.faults a) (D.model.faults result.a) }
+    ensures disk_fault { result.status ≡ DISK_FAULT → Faulted D.model a result.a }
     ensures not_a_store { result.status ≡ NOT_A_STORE → IfTold (D.model.content a) IsNoJournal }
     ensures damaged { result.status ≡ DAMAGED → IfTold (D.model.content a) (Damages result.place) }
     ensures place { result.status ≢ DAMAGED → result.place ≡ 0 }
@@ -147,12 +147,12 @@ pub fn chemdb<
     ensures init_statuses { OnPlan (texts words.now) Verb.Init (λ _. IsCreationStatus result.status) }
     ensures init_ends { OnPlan (texts words.now) Verb.Init (λ _. result.ends.items ≡ []) }
     ensures init_done { OnPlan (texts words.now) Verb.Init (λ _. result.status ≡ DONE
-        → IfTold (D.model.content a) (λ l. (l ≡ []) × IsEmptyStore (D.model.content result.a) (D.model.images result.a))) }
+        → IfTold (D.model.content a) (λ l. (l ≡ []) × IsEmptyJournal D.model result.a)) }
     ensures init_not_empty { OnPlan (texts words.now) Verb.Init (λ _. result.status ≡ NOT_EMPTY
         → IfTold (D.model.content a) (λ l. 1 ≤ length l)) }
     ensures init_stays { OnPlan (texts words.now) Verb.Init (λ _.
         (result.status ≡ NOT_EMPTY) ⊎ (result.status ≡ NO_MEMORY)
-        → Stays (D.model.content a) (D.model.content result.a) (D.model.images a) (D.model.images result.a)) }
+        → Stays D.model a result.a) }
 
     // `run`: where the store was not loaded, nothing was taken or put, and the disk was only read. Else what was
     // written is a prefix of a transcript of the source's bytes in a run that begins with the commits of the disk, all
@@ -160,8 +160,9 @@ pub fn chemdb<
     // crash at any moment leaves each commit that was acknowledged before, in order, and at most one more; and
     // afterwards the disk has the run's history.
     ensures run { OnPlan (texts words.now) Verb.Run (λ plan. AllZip (λ old new.
-        IsRefused D.model a result.a old new ⊎ RunsOn D.model S.left K.written
-        plan a result.a old new) ends.items result.ends.items) }
+        IsRefused D.model a result.a old new
+        ⊎ RunsOn D.model S.left K.written plan a result.a old new)
+        ends.items result.ends.items) }
 
     // `bulk`: nothing is taken. What was written is the summary of a transcript of the generated script, in such a run
     // as for `mem`; a prefix of one where the sink failed; nothing where memory ran out. No other status comes.
@@ -204,11 +205,11 @@ fn makes_store(command: Verb) -> bool
 fn created<D: Disk + Drop, S: Drop, K: Drop>(a: D, b: D, ends: Vec<End<S, K>>) -> Outcome<D, S, K>
     ensures status { IsCreationStatus result.status }
     ensures done { result.status ≡ DONE
-        → IfTold (D.model.content a) (λ l. (l ≡ []) × IsEmptyStore (D.model.content result.a) (D.model.images result.a)) }
+        → IfTold (D.model.content a) (λ l. (l ≡ []) × IsEmptyJournal D.model result.a) }
     ensures not_empty { result.status ≡ NOT_EMPTY → IfTold (D.model.content a) (λ l. 1 ≤ length l) }
     ensures stays { (result.status ≡ NOT_EMPTY) ⊎ (result.status ≡ NO_MEMORY)
-        → Stays (D.model.content a) (D.model.content result.a) (D.model.images a) (D.model.images result.a) }
-    ensures causes { HasCauses D.model.content D.model.faults a result.a result.status result.place }
+        → Stays D.model a result.a }
+    ensures causes { HasCauses D.model a result.a result.status result.place }
     ensures other { result.b ≡ b }
     ensures ends { result.ends.items ≡ ends.items }
 {
@@ -235,7 +236,7 @@ fn serve_one<R: Threads + Sync, D: Disk + Drop, S: Source + Drop, K: Sink + Drop
     requires one_end { length ends.items ≡ 1 }
     ensures served { AllZip (Serves plan.now.command D.model
         plan.now S.left S.faults K.written K.faults disks.a result.a) ends.items result.ends.items }
-    ensures causes { HasCauses D.model.content D.model.faults disks.a result.a result.status result.place }
+    ensures causes { HasCauses D.model disks.a result.a result.status result.place }
     ensures other { result.b ≡ disks.b }
     ensures overall { result.status ≡ first_fault (map (λ end. end.status) result.ends.items) }
     ensures status { result.status ≢ USAGE }
@@ -265,7 +266,7 @@ fn serve<R: Threads + Sync, D: Disk + Drop, S: Source + Drop, K: Sink + Drop>(
     requires end { plan.now.command ≢ Verb.Init }
     ensures serves { Serves plan.now.command D.model
         plan.now S.left S.faults K.written K.faults disks.a result.0.a end.old end.new }
-    ensures causes { HasCauses D.model.content D.model.faults disks.a result.0.a end.new.status result.1 }
+    ensures causes { HasCauses D.model disks.a result.0.a end.new.status result.1 }
     ensures other { result.0.b ≡ disks.b }
     ensures status { end.new.status ≢ USAGE }
 {

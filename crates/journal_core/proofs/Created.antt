@@ -15,7 +15,8 @@ unfolding prefix
 text_on_nothing l is = ap (λ (k : List ℕ). written 0 (header ++ CLOSED ∷ []) k) is
 
 module _ {D : Type 0} (model : DiskModel D) (old mid new : D)
-    (parts : (t v u : ℕ) (c : List ℕ) → t ≤ v → v ≤ u → model.images_between new t u c → model.images_between new t v c ⊎ model.images_between new v u c)
+    (parts : (t v u : ℕ) (c : List ℕ) → t ≤ v → v ≤ u
+    → model.images_between new t u c → model.images_between new t v c ⊎ model.images_between new v u c)
     (time : Elapses model old mid) (same : Same (model.images old) (model.images mid))
     (past : Keeps model mid new)
     (moments : AtEachMoment model mid new (λ c. (d : List ℕ) × model.images mid d × Torn 0 9 d c)) where
@@ -30,8 +31,9 @@ module _ {D : Type 0} (model : DiskModel D) (old mid new : D)
       (λ c m. let t = moments c m in (t.0, same.no_more t.0 t.1, t.2))
 
   pub torn_now : ((c : List ℕ) → model.images new c → model.images_between new (model.clock new) (model.clock new) c)
-      → ((t t' u' u : ℕ) (c : List ℕ) → t ≤ t' → u' ≤ u → model.images_between new t' u' c → model.images_between new t u c)
+      → ((t t' u' u : ℕ) (c : List ℕ) → t ≤ t' → u' ≤ u
+      → model.images_between new t' u' c → model.images_between new t u c)
       → (c : List ℕ) → model.images new c → (d : List ℕ) × model.images old d × Torn 0 9 d c
   torn_now counts_now whole c i =
-      torn_moments c (whole (model.clock old) (model.clock new) (model.clock new) (model.clock new) c (omega (arith, time.later, past.later))
-      (omega arith) (counts_now c i))
+      torn_moments c (whole (model.clock old) (model.clock new) (model.clock new) (model.clock new) c
+      (omega (arith, time.later, past.later)) (omega arith) (counts_now c i))

@@ -2,8 +2,12 @@
 use Rattle.std.specs.Prelude.{◌≡◌, ℕ, List, [], ◌∷◌, ◌++◌, length, Some}
 use Rattle.std.specs.List.{AllByRecursion}
 use Rattle.disk_edge.specs.Disk.{DiskModel, Exactly}
-use Rattle.journal_core.specs.Records.{IsShort, prefix, Opens, Staged, BeforeOrAfter}
+use Rattle.journal_core.specs.Records.{IsShort, prefix, text, Opens, Staged, BeforeOrAfter}
 use Rattle.journal_core.specs.Standing.{Standing}
+
+-- The disk holds a journal with no records, synced.
+abbrev pub IsEmptyJournal : {D : Type 0} → DiskModel D → D → Type 0
+IsEmptyJournal model disk = (model.content disk ≡ Some (text [])) × Exactly (text []) (model.images disk)
 
 -- The journal has read these payloads: the disk tells its content, which is synced and begins with their records, and
 -- the journal stands behind them.
@@ -24,7 +28,8 @@ pub record Rests {D : Type 0} (model : DiskModel D) (journal : Standing D) (payl
   pub each : (c : List ℕ) → model.images journal.disk c → Opens payloads c
 
 -- This payload is in doubt: each image opens to the payloads without it or with it, and some image with it.
-pub record Doubts {D : Type 0} (model : DiskModel D) (journal : Standing D) (payloads : List (List ℕ)) (payload : List ℕ) : Type 0 where
+pub record Doubts {D : Type 0} (model : DiskModel D) (journal : Standing D) (payloads : List (List ℕ))
+    (payload : List ℕ) : Type 0 where
   pub told : List ℕ
   pub is_told : model.content journal.disk ≡ Some told
   pub place : journal.place ≡ length (prefix payloads)

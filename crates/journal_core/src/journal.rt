@@ -65,7 +65,8 @@ impl<D: Disk> Journal<D> {
             → Doubts D.model self.new ps payload.now) }
         ensures no_memory { OnWant result ((ps : List (List ℕ)) → Rests D.model self.old ps
             → Rests D.model self.new ps) }
-        ensures untold { D.model.content self.old.disk ≡ None → D.model.content self.new.disk ≡ None }
+        ensures untold { D.model.content self.old.disk ≡ None
+            → D.model.content self.new.disk ≡ None }
         ensures in_doubt { self.new.doubt ≡ is_doubt result }
         ensures ready { self.new.ready ≡ true }
         ensures moved { OnOk result (self.new.place ≡ self.old.place + 5 + length payload.now) }
@@ -113,7 +114,8 @@ impl<D: Disk> Journal<D> {
             → Doubts D.model self.old ps p → Doubts D.model self.new ps p) }
         ensures no_memory { OnNoMemory result ((ps : List (List ℕ)) (p : List ℕ)
             → Doubts D.model self.old ps p → Doubts D.model self.new ps p) }
-        ensures untold { D.model.content self.old.disk ≡ None → D.model.content self.new.disk ≡ None }
+        ensures untold { D.model.content self.old.disk ≡ None
+            → D.model.content self.new.disk ≡ None }
         ensures settled { OnOk result (self.new.doubt ≡ false) }
         ensures in_doubt { OnErr result (self.new.doubt ≡ true) }
         ensures ready { self.new.ready ≡ true }

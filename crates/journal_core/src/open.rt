@@ -1,13 +1,13 @@
 //! A journal is created, opened, and read up to the first gate that is not open.
 
 ghost use Rattle.std.specs.Prelude.{◌≡◌, ◌<◌, ◌≤◌, ◌+◌, ◌-◌, ◌^◌, ◌⊎◌, [], ◌∷◌, ◌++◌, ℕ, List, Some, None, true, false, length, OnOk, OnErr, IfOk, IfErr, IfSome, IsErrOf};
-ghost use Rattle.disk_edge.specs.Disk.{Torn, TearsContent, Exactly, Same, Keeps, IfTold, OnFailed, OnNoMemory, Counted, Faulted};
+ghost use Rattle.disk_edge.specs.Disk.{Torn, TearsContent, Exactly, Keeps, IfTold, OnFailed, OnNoMemory, Counted, Faulted};
 ghost use Rattle.disk_edge.specs.Moments.{AtEachMoment};
 ghost use Rattle.journal_core.specs.Answers.{OnUnwritten, OnRecord, OnEnd, OnDamaged, disk_after};
-ghost use Rattle.journal_core.specs.Journal.{Reads, Rests};
-ghost use Rattle.journal_core.specs.Looks.{Narrows, Looks};
+ghost use Rattle.journal_core.specs.Journal.{IsEmptyJournal, Reads, Rests};
+ghost use Rattle.journal_core.specs.Looks.{Narrows, Looks, Stays};
 ghost use Rattle.journal_core.specs.Found.{IsMeasured};
-ghost use Rattle.journal_core.specs.Records.{IsShort, Breaks, IsNoJournal, text};
+ghost use Rattle.journal_core.specs.Records.{IsShort, Breaks, IsNoJournal};
 
 use crate::faults::{CreateFault, LoadFault};
 use crate::format::{HEADER, NO_RECORDS};
@@ -21,12 +21,11 @@ use std::alloc::Global;
 impl<D: Disk> Journal<D> {
     /// Writes a journal with no records on an empty disk, and syncs it. The disk comes back.
     pub fn create(disk: D) -> (D, Result<(), CreateFault>)
-        ensures ok { OnOk result.1 (IfTold (D.model.content disk) (λ l. (l ≡ [])
-            × (D.model.content result.0 ≡ Some (text [])) × Exactly (text []) (D.model.images result.0))) }
+        ensures ok { OnOk result.1 (IfTold (D.model.content disk)
+            (λ l. (l ≡ []) × IsEmptyJournal D.model result.0)) }
         ensures not_empty { IsErrOf result.1 CreateFault.NotEmpty
             → IfTold (D.model.content disk) (λ l. 1 ≤ length l) }
-        ensures stays { OnUnwritten result.1 ((D.model.content result.0 ≡ D.model.content disk)
-            × Same (D.model.images disk) (D.model.images result.0)) }
+        ensures stays { OnUnwritten result.1 (Stays D.model disk result.0) }
         ensures cause { IsErrOf result.1 CreateFault.Disk → Faulted D.model disk result.0 }
 
         // Whatever it answers, what is left is what was there, torn in the bytes that are written.
@@ -119,12 +118,11 @@ impl<D: Disk> Journal<D> {
 
 // Writes the header and a closed gate where the disk is empty, and syncs them.
 fn write_header<D: Disk>(disk: &mut D) -> Result<(), CreateFault>
-    ensures ok { OnOk result (IfTold (D.model.content disk.old) (λ l. (l ≡ [])
-        × (D.model.content disk.new ≡ Some (text [])) × Exactly (text []) (D.model.images disk.new))) }
+    ensures ok { OnOk result (IfTold (D.model.content disk.old)
+        (λ l. (l ≡ []) × IsEmptyJournal D.model disk.new)) }
     ensures not_empty { IsErrOf result CreateFault.NotEmpty
         → IfTold (D.model.content disk.old) (λ l. 1 ≤ length l) }
-    ensures stays { OnUnwritten result ((D.model.content disk.new ≡ D.model.content disk.old)
-        × Same (D.model.images disk.old) (D.model.images disk.new)) }
+    ensures stays { OnUnwritten result (Stays D.model disk.old disk.new) }
     ensures cause { IsErrOf result CreateFault.Disk → Faulted D.model disk.old disk.new }
     ensures content { TearsContent 0 9 (D.model.content disk.old) (D.model.content disk.new) }
     ensures images { (c : List ℕ) → D.model.images disk.new c

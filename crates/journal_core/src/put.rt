@@ -19,8 +19,10 @@ pub(crate) fn put<D: Disk>(disk: &mut D, at: u64, bytes: &[u8]) -> Result<(), Di
         (Tears at (length bytes.now) (D.model.images disk.old) (D.model.images disk.new)) }
     ensures failed_content { OnFailed result
         (TearsContent at (length bytes.now) (D.model.content disk.old) (D.model.content disk.new)) }
-    ensures no_memory { OnNoMemory result (Same (D.model.images disk.old) (D.model.images disk.new)) }
-    ensures no_memory_content { OnNoMemory result (D.model.content disk.new ≡ D.model.content disk.old) }
+    ensures no_memory { OnNoMemory result
+        (Same (D.model.images disk.old) (D.model.images disk.new)) }
+    ensures no_memory_content { OnNoMemory result
+        (D.model.content disk.new ≡ D.model.content disk.old) }
 
     ensures moments { AtEachMoment D.model disk.old disk.new
         (λ c. (d : List ℕ) × D.model.images disk.old d × Torn at (length bytes.now) d c) }

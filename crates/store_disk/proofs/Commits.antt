@@ -30,7 +30,8 @@ use Rattle.store_disk.proofs.Lifts.{calm, one-call, shows-one, sound-after, step
 use Rattle.store_disk.proofs.Steps.{all}
 
 module _ {D : Type 0} (model : DiskModel D)
-    (only-now : (d : D) (c : List ℕ) → model.images_between d (model.clock d) (model.clock d) c → model.images d c) where
+    (only-now : (d : D) (c : List ℕ)
+        → model.images_between d (model.clock d) (model.clock d) c → model.images d c) where
   abbrev Gone : StoreTerm D → StoreTerm D → State → Asked → Result ℕ CommitFault → Type 0
   Gone store new s c r = Calls (Stretches model) all store new s (commit_calls c r)
 
@@ -103,13 +104,16 @@ module _ {D : Type 0} (model : DiskModel D)
           counts = refl;
         })
         refl past untold
-        (λ l is image b. shows-one (step_of 0 (event.Commit told) (reply.Committed m.version) s t (times model.clock store)
-        (times model.clock (record { memory = m; journal = journal; b = store.b }))) told image refl (moments l is image b))
+        (λ l is image b. shows-one (step_of 0 (event.Commit told) (reply.Committed m.version) s t (times model store)
+        (times model (record { memory = m; journal = journal; b = store.b }))) told image refl (moments l is image b))
 
     module _ (ends : memory.StandsFor m (calm s)) where
       -- after a fault the state is as before, with this doubt
       abbrev then : Option Change → State
-      then doubt = record s { doubt = doubt; faults = record { a = model.faults journal.disk; b = model.faults store.b } }
+      then doubt = record s {
+        doubt = doubt;
+        faults = record { a = model.faults journal.disk; b = model.faults store.b };
+      }
 
       with-doubt : (doubt : Option Change) (r : Reply) → CommitGives s (change_of c) r (then doubt)
           → Has model journal (payloads s.history) (option_map payload doubt)
@@ -127,8 +131,8 @@ module _ {D : Type 0} (model : DiskModel D)
             counts = refl;
           })
           refl past untold
-          (λ l is image b. shows-one (step_of 0 (event.Commit (change_of c)) r s t (times model.clock store)
-          (times model.clock (record { memory = m; journal = journal; b = store.b }))) (change_of c) image refl
+          (λ l is image b. shows-one (step_of 0 (event.Commit (change_of c)) r s t (times model store)
+          (times model (record { memory = m; journal = journal; b = store.b }))) (change_of c) image refl
           (moments l is image b))
 
       older : (r : Reply)

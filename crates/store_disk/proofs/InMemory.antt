@@ -6,7 +6,7 @@ use Rattle.std.proofs.lemmas.List.{append-nil}
 use Rattle.std.specs.Result.{is_err}
 use Rattle.disk_edge.specs.Disk.{Bounded}
 use Rattle.disk_edge.specs.Failures.{bound_of}
-use Rattle.disk_edge.specs.Medium.{Images, Medium, replay}
+use Rattle.disk_edge.specs.Medium.{Medium, model}
 use Rattle.disk_edge.specs.MediumLaws.{within}
 use Rattle.disk_edge.specs.declared.failures.Failures.{Failures}
 use Rattle.journal_core.specs.RecordLaws.{one_list, text_opens}
@@ -23,12 +23,6 @@ use Rattle.store_disk.specs.InMemory.{StandsInMemory}
 use Rattle.store_disk.specs.OnDisk.{Has, StoreTerm}
 use Rattle.store_disk.specs.Payloads.{payload, payloads}
 
-abbrev told : Medium → Option (List ℕ)
-told d = Some (replay d.first d.calls)
-
-abbrev left : Medium → List ℕ → Type 0
-left d = Images d.first d.calls
-
 abbrev pub set-once : Medium → Option ℕ → Medium
 set-once d call = record d { failures = record d.failures { once = call } }
 
@@ -36,8 +30,8 @@ abbrev pub set-passes : Medium → Option ℕ → Medium
 set-passes d calls = record d { failures = record d.failures { passes = calls } }
 
 has-still : (journal : Standing Medium) (f : Failures) (ps : List (List ℕ)) (doubt : Option (List ℕ))
-    → Has told left journal ps doubt
-    → Has told left (record journal { disk = record journal.disk { failures = f } }) ps doubt
+    → Has model journal ps doubt
+    → Has model (record journal { disk = record journal.disk { failures = f } }) ps doubt
 has-still journal f ps None h =
     (h.0, λ l is. let r = h.1 l is in record { told = r.told; is_told = r.is_told; place = r.place; each = r.each })
 has-still journal f ps (Some p) h = (

@@ -137,10 +137,10 @@ module _ {D : Type 0} (model : DiskModel D) where
       → new.b ≡ old.b → Keeps model old.journal.disk new.journal.disk
       → (model.content old.journal.disk ≡ None → model.content new.journal.disk ≡ None)
       → IfTold (model.content new.journal.disk) (λ _. AtEachMoment model old.journal.disk new.journal.disk
-      (Shows (step_of owner e r s t (times model.clock old) (times model.clock new))))
+      (Shows (step_of owner e r s t (times model old) (times model new))))
       → Calls (Stretches model) all old new s ((e, r) ∷ [])
   one-call old new s t owner e r call stands gives after other past untold moments = record {
-    steps = step_of owner e r s t (times model.clock old) (times model.clock new) ∷ [];
+    steps = step_of owner e r s t (times model old) (times model new) ∷ [];
     after = t;
     stands = record {
       begins = stands;
@@ -156,14 +156,15 @@ module _ {D : Type 0} (model : DiskModel D) where
     own = ap (λ b. cond (b && true) ((e, r) ∷ []) []) call;
   }
 
-  module _ (only-now : (d : D) (c : List ℕ) → model.images_between d (model.clock d) (model.clock d) c → model.images d c) where
+  module _ (only-now : (d : D) (c : List ℕ)
+      → model.images_between d (model.clock d) (model.clock d) c → model.images d c) where
     -- a call that does not touch the disks
     pub still-call : (old new : StoreTerm D) (s t : State) (owner : ℕ) (e : Event) (r : Reply) → is_call e ≡ true
         → StandsFor model old s → Gives s owner e r t → StandsFor model new t
         → new.b ≡ old.b → new.journal ≡ old.journal
         → Calls (Stretches model) all old new s ((e, r) ∷ [])
     still-call old new s t owner e r call stands gives after other same =
-        let x : Step = step_of owner e r s t (times model.clock old) (times model.clock new) in
+        let x : Step = step_of owner e r s t (times model old) (times model new) in
         let disk : new.journal.disk ≡ old.journal.disk = ap (λ (j : Standing D). j.disk) same in
         one-call old new s t owner e r call stands gives after other
         (subst (λ d. Keeps model old.journal.disk d) (sym disk) (keeps-itself model old.journal.disk))

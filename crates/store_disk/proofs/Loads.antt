@@ -94,13 +94,13 @@ module _ {D : Type 0} (model : DiskModel D) where
     );
   }
 
-  pub opened-store : (model : DiskModel D) (memory : Memory) (commits : ℕ) (a b : D) (old new : Standing D)
+  pub opened-store : (memory : Memory) (commits : ℕ) (a b : D) (old new : Standing D)
       → IsLoaded model memory commits old new → model.content old.disk ≡ model.content a
       → model.content new.disk ≡ model.content old.disk
       → IfTold (model.content a) (λ _. Reads model old []) → new.doubt ≡ false
       → (s : State) × StandsFor model (record { memory = memory; journal = new; b = b }) s
       × IsOpened commits s × IfTold (model.content a) (OpensTo s.history)
-  opened-store faults memory commits a b old new x first second reads flag =
+  opened-store memory commits a b old new x first second reads flag =
       let t : State = x.state in
       let s : State = record t { doubt = None; faults = record { a = model.faults new.disk; b = model.faults b } } in
       let sound = x.stands.sound in (

@@ -21,7 +21,11 @@ module _ {D : Type 0} (model : DiskModel D) (old new : Standing D) where
       → Has model new ps doubt
   unsettled untold flag stays ok ps None h = apart (sym flag ∙ h.0)
   unsettled untold flag stays ok ps (Some p) h =
-      (stays, λ l is. let k = told-before (model.content old.disk) (model.content new.disk) untold l is in ok ps p (h.1 k.0 k.1))
+      (
+        stays,
+        λ l is. let k = told-before (model.content old.disk) (model.content new.disk) untold l is in
+            ok ps p (h.1 k.0 k.1),
+      )
 
 -- what holds at each fault
 pub on-fault : {T P Q R : Type 0} (r : Result T DiskFail) → (P → Q → R) → OnFailed r P → OnNoMemory r P → OnErr r Q
@@ -32,7 +36,8 @@ on-fault (Err NoMemory) f p m q = f m q
 
 -- what each image shows
 module _ {D : Type 0} (model : DiskModel D) where
-  pub settle-shows : (old new : Standing D) → (model.content old.disk ≡ None → model.content new.disk ≡ None) → old.doubt ≡ true
+  pub settle-shows : (old new : Standing D) → (model.content old.disk ≡ None → model.content new.disk ≡ None)
+      → old.doubt ≡ true
       → ((ps : List (List ℕ)) (p : List ℕ) → Doubts model old ps p
       → AtEachMoment model old.disk new.disk (BeforeOrAfter ps p))
       → (ps : List (List ℕ)) (doubt : Option (List ℕ)) → Has model old ps doubt
@@ -43,8 +48,9 @@ module _ {D : Type 0} (model : DiskModel D) where
       elim (moments ps p (h.1 k.0 k.1) image b) [ inl before ↦ inl before | inr after ↦ inr (p, refl, after) ]
 
   -- first a doubt is ended, then a payload is appended
-  pub put-shows : (parts : (d : D) (t v u : ℕ) (c : List ℕ) → t ≤ v → v ≤ u → model.images_between d t u c → model.images_between d t v c
-      ⊎ model.images_between d v u c) (old mid new : Standing D)
+  pub put-shows : (parts : (d : D) (t v u : ℕ) (c : List ℕ) → t ≤ v → v ≤ u
+      → model.images_between d t u c → model.images_between d t v c ⊎ model.images_between d v u c)
+      (old mid new : Standing D)
       → Keeps model old.disk mid.disk → Keeps model mid.disk new.disk
       → (model.content mid.disk ≡ None → model.content new.disk ≡ None)
       → (ps : List (List ℕ)) (doubt : Option (List ℕ)) (payload : List ℕ) → Has model mid ps None

@@ -127,7 +127,8 @@ still-ready e of (Err call.NoMemory) lifts old new journal c was =
 
 -- and is one of the store on the disk
 pub lifted-call : {X D : Type 0} (model : DiskModel D)
-    → ((d : D) (c : List ℕ) → model.images_between d (model.clock d) (model.clock d) c → model.images d c) → RunsStaySound
+    → ((d : D) (c : List ℕ) → model.images_between d (model.clock d) (model.clock d) c → model.images d c)
+    → RunsStaySound
     → (store : StoreTerm D) (m : Memory) (s : State) → StandsFor model store s
     → (e : Event) (of : X → Reply) → is_call e ≡ true → (r : Result X CallFault) → AllLift e of r
     → Calls memory.Stretches all store.memory m (calm s) (calls e of r)

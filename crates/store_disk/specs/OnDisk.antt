@@ -19,8 +19,7 @@ pub record StoreTerm (D : Type 0) : Type 0 where
 
 -- The journal has these payloads, where its disk tells its content: each image opens to them. Where one more is in
 -- doubt, each image opens to them or to them and this one, and some image with it.
-abbrev pub Has : {D : Type 0} → DiskModel D → Standing D → List (List ℕ)
-    → Option (List ℕ) → Type 0
+abbrev pub Has : {D : Type 0} → DiskModel D → Standing D → List (List ℕ) → Option (List ℕ) → Type 0
 Has model journal payloads None =
     (journal.doubt ≡ false) × IfTold (model.content journal.disk) (λ _. Rests model journal payloads)
 Has model journal payloads (Some p) =
@@ -28,8 +27,7 @@ Has model journal payloads (Some p) =
 
 -- The store stands for a state: what is in memory stands for it but for the doubt, which is the journal's; the journal
 -- has the history; the counts of faults are those of the disks. Whose the pins are is free.
-pub record StandsFor {D : Type 0} (model : DiskModel D)
-    (store : StoreTerm D) (s : State) : Type 0 where
+pub record StandsFor {D : Type 0} (model : DiskModel D) (store : StoreTerm D) (s : State) : Type 0 where
   pub sound : IsSound s
   pub memory : memory.StandsFor store.memory (record s { doubt = None })
   pub journal : Has model store.journal (payloads s.history) (option_map payload s.doubt)

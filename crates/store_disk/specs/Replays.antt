@@ -32,8 +32,8 @@ pub record Stops (log : List Commit) (at : ℕ) : Type 0 where
 
 -- What a loading makes of a journal: the store in memory stands for a state that was just opened, and where the journal
 -- has read nothing yet of a disk that tells its content, this has the state's history.
-pub record IsLoaded {D : Type 0} (model : DiskModel D) (memory : Memory)
-    (commits : ℕ) (old new : Standing D) : Type 0 where
+pub record IsLoaded {D : Type 0} (model : DiskModel D) (memory : Memory) (commits : ℕ) (old new : Standing D)
+    : Type 0 where
   pub state : State
   pub stands : StandsFor memory state
   pub opened : IsOpened commits state

@@ -23,8 +23,8 @@ MayShow x h = Recovers x.before h ⊎ ((c : Change) × (x.event ≡ Commit c) ×
 abbrev pub Shows : Step → List ℕ → Type 0
 Shows x image = (h : List Change) × Opens (payloads h) image × MayShow x h
 
-abbrev pub times : {D : Type 0} → (D → ℕ) → StoreTerm D → Times
-times model.clock store = record { a = model.clock store.journal.disk; b = model.clock store.b }
+abbrev pub times : {D : Type 0} → DiskModel D → StoreTerm D → Times
+times model store = record { a = model.clock store.journal.disk; b = model.clock store.b }
 
 -- the steps lie one after the other on the disks' clocks, and that of disk `a` never falls
 abbrev pub AreClocked : Times → List Step → Times → Type 0
@@ -34,15 +34,16 @@ AreClocked begin (x ∷ xs) end = (x.begin ≡ begin) × (x.begin.a ≤ x.end.a)
 -- each image of disk `a` that was possible at some moment of the step, which is over
 abbrev pub IsTimed : {D : Type 0} → DiskModel D → D → Step → Type 0
 IsTimed model disk x =
-    (x.end.a ≤ model.clock disk) × ((image : List ℕ) → model.images_between disk x.begin.a x.end.a image → Shows x image)
+    (x.end.a ≤ model.clock disk)
+    × ((image : List ℕ) → model.images_between disk x.begin.a x.end.a image → Shows x image)
 
-pub record Stretches {D : Type 0} (model : DiskModel D)
-    (old new : StoreTerm D) (s : State) (steps : List Step) (t : State) : Type 0 where
+pub record Stretches {D : Type 0} (model : DiskModel D) (old new : StoreTerm D) (s : State) (steps : List Step)
+    (t : State) : Type 0 where
   pub begins : StandsFor model old s
   pub ends : StandsFor model new t
   pub run : IsRun s steps t
   pub calm : IsCalm steps
-  pub clocked : AreClocked (times model.clock old) steps (times model.clock new)
+  pub clocked : AreClocked (times model old) steps (times model new)
   pub moments : IfTold (model.content new.journal.disk) (λ _. AllByRecursion (IsTimed model new.journal.disk) steps)
   pub past : Keeps model old.journal.disk new.journal.disk
   pub untold : model.content old.journal.disk ≡ None → model.content new.journal.disk ≡ None
@@ -69,20 +70,18 @@ told-before None new untold l is = absurd (none (sym (untold refl) ∙ is))
     none e = cc e
 told-before (Some k) new untold l is = (k, refl)
 
-pub keeps-itself : {D : Type 0} (model : DiskModel D) (d : D)
-    → Keeps model d d
+pub keeps-itself : {D : Type 0} (model : DiskModel D) (d : D) → Keeps model d d
 keeps-itself model d = record { later = omega arith; no_more = λ t u c le b. b; no_fewer = λ t u c le b. b }
 
-pub keeps-twice : {D : Type 0} (model : DiskModel D) (a b c : D)
-    → Keeps model a b → Keeps model b c → Keeps model a c
+pub keeps-twice : {D : Type 0} (model : DiskModel D) (a b c : D) → Keeps model a b → Keeps model b c
+    → Keeps model a c
 keeps-twice model a b c p q = record {
   later = omega (arith, p.later, q.later);
   no_more = λ t u image le i. p.no_more t u image le (q.no_more t u image (omega (arith, le, p.later)) i);
   no_fewer = λ t u image le i. q.no_fewer t u image (omega (arith, le, p.later)) (p.no_fewer t u image le i);
 }
 
-module _ {D : Type 0} (model : DiskModel D) (mid new : D)
-    (later : Keeps model mid new) where
+module _ {D : Type 0} (model : DiskModel D) (mid new : D) (later : Keeps model mid new) where
   still-timed : (x : Step) → IsTimed model mid x → IsTimed model new x
   still-timed x t = (
     omega (arith, t.0, later.later),
@@ -96,8 +95,7 @@ module _ {D : Type 0} (model : DiskModel D) (mid new : D)
   timed-joins (x ∷ xs) ys a b = (still-timed x a.0, timed-joins xs ys a.1 b)
 
 module _ {D : Type 0} (model : DiskModel D) where
-  pub stays : (a : StoreTerm D) (s : State) → StandsFor model a s
-      → Stretches model a a s [] s
+  pub stays : (a : StoreTerm D) (s : State) → StandsFor model a s → Stretches model a a s [] s
   stays a s at = record {
     begins = at;
     ends = at;
@@ -111,15 +109,13 @@ module _ {D : Type 0} (model : DiskModel D) where
   }
 
   pub joins : (a b c : StoreTerm D) (s t u : State) (xs ys : List Step)
-      → Stretches model a b s xs t
-      → Stretches model b c t ys u
-      → Stretches model a c s (xs ++ ys) u
+      → Stretches model a b s xs t → Stretches model b c t ys u → Stretches model a c s (xs ++ ys) u
   joins a b c s t u xs ys r q = record {
     begins = r.begins;
     ends = q.ends;
     run = run-joins xs ys s t u r.run q.run;
     calm = calm-joins xs ys r.calm q.calm;
-    clocked = clocked-joins xs ys (times model.clock a) (times model.clock b) (times model.clock c) r.clocked q.clocked;
+    clocked = clocked-joins xs ys (times model a) (times model b) (times model c) r.clocked q.clocked;
     moments = λ l is.
         let k = told-before (model.content b.journal.disk) (model.content c.journal.disk) q.untold l is in
         timed-joins model b.journal.disk c.journal.disk q.past xs ys (r.moments k.0 k.1) (q.moments l is);
@@ -129,8 +125,7 @@ module _ {D : Type 0} (model : DiskModel D) where
   }
 
   pub lands : (a b : StoreTerm D) (s t : State) (xs : List Step)
-      → Stretches model a b s xs t → StandsFor model b t × IsRun s xs t
-      × IsCalm xs
+      → Stretches model a b s xs t → StandsFor model b t × IsRun s xs t × IsCalm xs
   lands a b s t xs r = (r.ends, r.run, r.calm)
 
   pub same : (a b : StoreTerm D) (s t : State) (xs : List Step) (n : ℕ)

@@ -27,7 +27,8 @@ pub(crate) fn put<D: Disk>(journal: &mut Journal<D>, payload: &[u8]) -> Result<(
         → IfTold (D.model.content journal.new.disk) (λ _. AtEachMoment D.model
         journal.old.disk journal.new.disk (ShowsOne ps doubt payload.now)) }
     ensures past { Keeps D.model journal.old.disk journal.new.disk }
-    ensures untold { D.model.content journal.old.disk ≡ None → D.model.content journal.new.disk ≡ None }
+    ensures untold { D.model.content journal.old.disk ≡ None
+        → D.model.content journal.new.disk ≡ None }
     ensures not_worn { is_worn_out result ≡ false }
     ensures cause { OnFault result (Faulted D.model journal.old.disk journal.new.disk) }
     ensures count { Counted D.model journal.old.disk journal.new.disk }
@@ -61,7 +62,8 @@ fn settle<D: Disk>(journal: &mut Journal<D>) -> Result<(), DiskFail>
         → IfTold (D.model.content journal.new.disk) (λ _. AtEachMoment D.model
         journal.old.disk journal.new.disk (ShowsDoubt ps doubt)) }
     ensures past { Keeps D.model journal.old.disk journal.new.disk }
-    ensures untold { D.model.content journal.old.disk ≡ None → D.model.content journal.new.disk ≡ None }
+    ensures untold { D.model.content journal.old.disk ≡ None
+        → D.model.content journal.new.disk ≡ None }
     ensures settled { OnOk result (journal.new.doubt ≡ false) }
     ensures cause { OnFailed result (Faulted D.model journal.old.disk journal.new.disk) }
     ensures count { Counted D.model journal.old.disk journal.new.disk }

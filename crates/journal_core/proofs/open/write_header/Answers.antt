@@ -12,7 +12,7 @@ returns-in-Ok-put-clause-ok g c l told =
     let new = becomes_told (d.content c.len.new.self) (d.content c.put.new.disk) _ l (len.content ∙ told)
     c.in-Ok-put.ensures.content in
     let is = new ∙ ap (λ (k : List ℕ). Some k) (text_on_nothing l empty) in
-    (empty, is, c.in-Ok-put.ensures.synced (text []) is)
+    (empty, (is, c.in-Ok-put.ensures.synced (text []) is))
 
 pub returns-in-Ok-put-clause-images : goal.returns-in-Ok-put-clause-images
 returns-in-Ok-put-clause-images g c =
