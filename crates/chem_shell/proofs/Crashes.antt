@@ -161,9 +161,9 @@ shows_later x xs s t v u image starts gives call le over later = record {
 
 module _ {D : Type 0} (model : DiskModel D) (d : D)
     (parts : (d : D) (t v u : ℕ) (c : List ℕ) → t ≤ v → v ≤ u
-        → model.images_between d t u c → model.images_between d t v c ⊎ model.images_between d v u c)
+    → model.images_between d t u c → model.images_between d t v c ⊎ model.images_between d v u c)
     (whole : (d : D) (t t' u' u : ℕ) (c : List ℕ) → t ≤ t' → u' ≤ u
-        → model.images_between d t' u' c → model.images_between d t u c) where
+    → model.images_between d t' u' c → model.images_between d t u c) where
   -- an image of the time of a run on a disk
   pub shows_between : (steps : List Step) (s last : State) (begin end : Times) (t u : ℕ) (image : List ℕ)
       → IsRun s steps last → IsCalm steps → AreClocked begin steps end → AllByRecursion (IsTimed model d) steps

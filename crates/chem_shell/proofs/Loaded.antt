@@ -115,7 +115,7 @@ module _ {D : Type 0} (model : DiskModel D) where
   module _ (parts : (d : D) (t v u : ℕ) (c : List ℕ) → t ≤ v → v ≤ u → model.images_between d t u c
       → model.images_between d t v c ⊎ model.images_between d v u c)
       (whole : (d : D) (t t' u' u : ℕ) (c : List ℕ) → t ≤ t' → u' ≤ u
-          → model.images_between d t' u' c → model.images_between d t u c)
+      → model.images_between d t' u' c → model.images_between d t u c)
       (only_now : (d : D) (c : List ℕ) → model.images_between d (model.clock d) (model.clock d) c → model.images d c)
       (law : ServicesAreTrue) {S K : Type 0} (left : S → Option (List ℕ)) (written : K → Option (List ℕ)) (plan : Plan)
       (a : D) (s : State) (old new : StoreTerm D) (stands : StandsFor model old s)

@@ -31,7 +31,7 @@ use Rattle.store_disk.proofs.Steps.{all}
 
 module _ {D : Type 0} (model : DiskModel D)
     (only-now : (d : D) (c : List ℕ)
-        → model.images_between d (model.clock d) (model.clock d) c → model.images d c) where
+    → model.images_between d (model.clock d) (model.clock d) c → model.images d c) where
   abbrev Gone : StoreTerm D → StoreTerm D → State → Asked → Result ℕ CommitFault → Type 0
   Gone store new s c r = Calls (Stretches model) all store new s (commit_calls c r)
 

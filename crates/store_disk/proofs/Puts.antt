@@ -20,12 +20,11 @@ module _ {D : Type 0} (model : DiskModel D) (old new : Standing D) where
       → (ps : List (List ℕ)) (doubt : Option (List ℕ)) → Has model old ps doubt
       → Has model new ps doubt
   unsettled untold flag stays ok ps None h = apart (sym flag ∙ h.0)
-  unsettled untold flag stays ok ps (Some p) h =
-      (
-        stays,
-        λ l is. let k = told-before (model.content old.disk) (model.content new.disk) untold l is in
-            ok ps p (h.1 k.0 k.1),
-      )
+  unsettled untold flag stays ok ps (Some p) h = (
+    stays,
+    λ l is. let k = told-before (model.content old.disk) (model.content new.disk) untold l is in
+        ok ps p (h.1 k.0 k.1),
+  )
 
 -- what holds at each fault
 pub on-fault : {T P Q R : Type 0} (r : Result T DiskFail) → (P → Q → R) → OnFailed r P → OnNoMemory r P → OnErr r Q
