@@ -4,10 +4,7 @@ use Rattle.disk_edge.specs.Disk.{DiskModel, IfTold}
 use Rattle.journal_core.specs.Journal.{Doubts, Rests}
 use Rattle.journal_core.specs.Standing.{Standing}
 use Rattle.journal_core.specs.declared.format.TheConstants.{LONGEST_PAYLOAD}
-use Rattle.store_core.specs.Stored.{StoreTerm as Memory}
-use Rattle.store_core.specs.Stored as memory
-use Rattle.store_core.specs.Stored.{IsStore}
-use Rattle.store_machine.specs.Laws.{IsSound}
+use Rattle.store_core.specs.Stored.{IsAt, IsStore, StoreTerm as Memory}
 use Rattle.store_machine.specs.declared.machine.State.{State}
 use Rattle.store_disk.specs.Payloads.{payload, payloads}
 
@@ -25,11 +22,10 @@ Has model journal payloads None =
 Has model journal payloads (Some p) =
     (journal.doubt ≡ true) × IfTold (model.content journal.disk) (λ _. Doubts model journal payloads p)
 
--- The store stands for a state: what is in memory stands for it but for the doubt, which is the journal's; the journal
--- has the history; the counts of faults are those of the disks. Whose the pins are is free.
+-- The store stands for a state: what is in memory is at it; the journal has the history, and the commit in doubt; the
+-- counts of faults are those of the disks. Whose the pins are is free.
 pub record StandsFor {D : Type 0} (model : DiskModel D) (store : StoreTerm D) (s : State) : Type 0 where
-  pub sound : IsSound s
-  pub memory : memory.StandsFor store.memory (record s { doubt = None })
+  pub memory : IsAt store.memory s
   pub journal : Has model store.journal (payloads s.history) (option_map payload s.doubt)
   pub counts : s.faults ≡ record { a = model.faults store.journal.disk; b = model.faults store.b }
 

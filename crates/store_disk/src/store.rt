@@ -1,17 +1,24 @@
 //! A store on a disk. A commit is first kept in memory, then put into the journal, and taken back from memory where the
-//! journal does not take it. No other call touches the disk.
+//! journal does not take it. No other call touches the disk (`Stretches`, fields `causes` and `untouched`).
 
-ghost use Rattle.std.specs.Prelude.{◌≡◌, ◌≤◌, [], false, IfErr, IfOk, IsErrOf, Some, ℕ};
+ghost use Rattle.std.specs.Prelude.{◌≡◌, ◌≤◌, [], All, false, IfErr, IfOk, IsErrOf, length, OnErr, Some, true, ℕ};
 ghost use Rattle.disk_edge.specs.Disk.{IfTold, Rose, Faulted};
 ghost use Rattle.disk_edge.specs.Failures.{bound_of};
 ghost use Rattle.journal_core.specs.Answers.{OnDamaged};
 ghost use Rattle.journal_core.specs.Journal.{Reads};
 ghost use Rattle.journal_core.specs.Looks.{Looks, Narrows};
 ghost use Rattle.journal_core.specs.Records.{IsNoJournal};
-ghost use Rattle.store_core.specs.Stored.{empty};
+ghost use Rattle.store_core.specs.Calls.{Calls, NotRaised, SameHeld, WornAs, is_worn};
+ghost use Rattle.store_core.specs.Records.{Shared};
+ghost use Rattle.store_core.specs.Replies.{fetch_calls};
+ghost use Rattle.store_core.specs.Stored.{HoldsPin, empty};
+ghost use Rattle.store_machine.specs.History.{IsId, begun, head};
+ghost use Rattle.store_machine.specs.Openings.{IsOpened};
 ghost use Rattle.store_machine.specs.declared.machine.State.{State};
 ghost use Rattle.store_disk.specs.OnDisk.{IsReady, StandsFor};
-ghost use Rattle.store_disk.specs.Loads.{Damages, IsOpened, OpensTo, a_after, b_after};
+ghost use Rattle.store_disk.specs.Stored.{Stretches};
+ghost use Rattle.std.specs.Arc.{arc_value};
+ghost use Rattle.store_disk.specs.Loads.{Damages, OpensTo, a_after, b_after};
 ghost use Rattle.store_disk.specs.Replays.{IsLoaded};
 ghost use Rattle.store_disk.specs.InMemory.{StandsInMemory};
 
@@ -29,7 +36,7 @@ use std::alloc::{AllocError, Global};
 use std::marker::Model;
 use std::sync::ledger::Ledger;
 use store_core::{
-    CallFault, Change, CommitFault, Look, MOST_COMMITS, Page, Service, Stats, Steps,
+    CallFault, Change, CommitFault, Look, MOST_COMMITS, MOST_RECORDS, Page, Service, Stats, Steps,
     Store as Memory,
 };
 
@@ -104,6 +111,13 @@ impl<D: Disk> Store<D> {
         }
     }
 
+    /// The number of commits: the version that the store is at.
+    pub fn version(&self) -> u32
+        ensures { (s : State) → StandsFor D.model self.now s → result ≡ head s.history }
+    {
+        self.memory.version()
+    }
+
     /// The disks. Takes no memory.
     pub fn into_disks(self) -> Disks<D>
         ensures a { result.a ≡ self.journal.disk }
@@ -123,7 +137,7 @@ impl Store<MemDisk> {
         requires some { 1 ≤ commits }
         requires few { commits ≤ MOST_COMMITS }
         ensures opened { IfOk result (λ store. (s : State) × StandsInMemory store s × IsOpened commits s
-            × (s.history ≡ [])) }
+            × (s.history ≡ begun)) }
         ensures empty { IfOk result (λ store. StandsInMemory store (empty commits)) }
         ensures no_failures { IfOk result (λ store. (bound_of store.journal.disk.failures ≡ Some 0)
             × (bound_of store.b.failures ≡ Some 0)) }
@@ -169,10 +183,7 @@ impl Store<MemDisk> {
 }
 
 impl<D: Disk> Service for Store<D> {
-    ghost use Rattle.std.specs.Prelude.{true};
-    ghost use Rattle.store_core.specs.Stored.{HoldsPin};
-    ghost use Rattle.store_disk.specs.OnDisk.{StandsFor};
-    ghost use Rattle.store_disk.specs.Stored.{Stretches, joins, lands, same, stays};
+    ghost use Rattle.store_disk.specs.Stored.{joins, lands, same, stays};
 
     ghost at = { StandsFor D.model };
 
@@ -212,7 +223,25 @@ impl<D: Disk> Service for Store<D> {
         limit: u32,
         page: &mut Page,
         steps: &mut Steps<L>,
-    ) -> Result<bool, CallFault> {
+    ) -> Result<bool, CallFault>
+        requires held { HoldsPin self.old.memory pin.now.slot pin.now.version }
+        requires some { 1 ≤ limit }
+        requires few { limit ≤ MOST_RECORDS }
+        requires room { limit ≤ page.old.room }
+        ensures call { (s : State) → StandsFor D.model self.old s
+            → Calls (Stretches D.model) (λ _. true) self.old self.new s
+            (fetch_calls pin.now.slot want.now from limit page.new.records result) }
+        ensures few { length page.new.records ≤ limit }
+        ensures in_range { All (λ (r : Shared). IsId (arc_value r).id) page.new.records }
+        ensures err { OnErr result (page.new.records ≡ []) }
+        ensures room { page.new.room ≡ page.old.room }
+        ensures steps { steps.new ≡ steps.old }
+        ensures worn { WornAs ⊥ ⊥ (is_worn result) }
+        ensures held { SameHeld (HoldsPin self.old.memory) (HoldsPin self.new.memory) }
+        ensures bounds { NotRaised
+            (D.model.bound self.old.journal.disk, D.model.bound self.old.b)
+            (D.model.bound self.new.journal.disk, D.model.bound self.new.b) }
+    {
         laws();
         self.memory.fetch(pin, want, from, limit, page, steps)
     }
