@@ -12,6 +12,7 @@ ghost use Rattle.store_core.specs.Calls.{Calls, NotRaised, SameHeld, WornAs, is_
 ghost use Rattle.store_core.specs.Records.{Shared};
 ghost use Rattle.store_core.specs.Replies.{fetch_calls};
 ghost use Rattle.store_core.specs.Stored.{HoldsPin, empty};
+ghost use Rattle.store_core.specs.declared.page.TheConstants.{MOST_RECORDS};
 ghost use Rattle.store_machine.specs.History.{IsId, begun, head};
 ghost use Rattle.store_machine.specs.Openings.{IsOpened};
 ghost use Rattle.store_machine.specs.declared.machine.State.{State};
@@ -36,7 +37,7 @@ use std::alloc::{AllocError, Global};
 use std::marker::Model;
 use std::sync::ledger::Ledger;
 use store_core::{
-    CallFault, Change, CommitFault, Look, MOST_COMMITS, MOST_RECORDS, Page, Service, Stats, Steps,
+    CallFault, Change, CommitFault, Look, MOST_COMMITS, Page, Service, Stats, Steps,
     Store as Memory,
 };
 
