@@ -189,7 +189,7 @@ search_passes size slot pattern calls lines s apart = subst (PassBy slot) (sym s
   refl,
   refl,
   passes-append slot s.pages ((events.Unpin s.slot, replies.Unpinned) ∷ [])
-      (fetches_pass s.slot size slot s.searched.want s.pages (λ e. apart (sym e)) s.searched.fetches)
+      (fetches_pass s.slot size slot s.searched.want (At 0) s.place s.pages (λ e. apart (sym e)) s.searched.fetches)
       (ne_eqb s.slot slot (λ e. apart (sym e)), refl, tt),
 )
 
@@ -310,6 +310,7 @@ module _ (reading : OneReading) (whole : Calls) (free : AreFree whole) (size : �
             (subst (λ (x : Cursor). Advances size x.place x its lines d') (sym s.1) advances) f.open_since
         | inr k ↦
             let same = advances_same size d.place d its lines d' advances in
+            let fetches = advances_fetch size d.place d its lines d' advances in
             let m = k.again (d' ∷ [])
             ((λ e. k.name_apart (sym same.name ∙ e)), (λ e. k.slot_apart (sym same.slot ∙ e)), tt) in
             stays calls its cursors' hits more f.c m.0 m.1 (now ∙ m.2) f.named f.pattern_is f.version_is m.3 m.4
@@ -317,8 +318,7 @@ module _ (reading : OneReading) (whole : Calls) (free : AreFree whole) (size : �
             (λ q. absurd (k.name_apart
             (at.named ∙ next_one named name
             (one_command reading request (command.Next named) (command.Next name) is q)))))
-            (fetches_pass d.slot size f.c.slot d.want its k.slot_apart
-            (advances_fetch size d.place d its lines d' advances)) f.open_since
+            (fetches_pass d.slot size f.c.slot d.want d.place fetches.0 its k.slot_apart fetches.1) f.open_since
       ]
   follow calls its later cursors cursors' request lines hits more w
       (Closed named before after d is at made said now) close adds f =

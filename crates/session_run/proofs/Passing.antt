@@ -1,5 +1,5 @@
 -- What is known of an open cursor by the calls so far, how it goes on by its pages, and calls that pass its pin by.
-use Rattle.std.proofs.Common.{◌≡◌, ◌≢◌, ◌++◌, ◌+◌, ◌==◌, ◌∙◌, ap, append-nil, append_assoc, Bool, cond, eq-eqb, false, inl, inr, length, length-append, List, [], ◌∷◌, map, ne_eqb, None, Option, refl, Some, subst, sym, true, ℕ}
+use Rattle.std.proofs.Common.{◌≡◌, ◌≢◌, ◌++◌, ◌+◌, ◌==◌, ◌∙◌, ap, ap₂, append-nil, append_assoc, Bool, cond, eq-eqb, false, inl, inr, length, length-append, List, [], ◌∷◌, map, ne_eqb, None, Option, refl, Some, subst, sym, true, ℕ}
 use Rattle.std.proofs.lemmas.Bool.{cond-false, cond-true}
 use Rattle.std.specs.List.{cons_option}
 use Rattle.shell_lang.specs.Reply as line
@@ -13,7 +13,7 @@ use Rattle.store_machine.specs.declared.machine.Found.{Found}
 use Rattle.store_machine.specs.declared.machine.Reply.{Reply}
 use Rattle.store_machine.specs.declared.machine.Reply.TheVariants as replies
 use Rattle.session_run.specs.Answer.{Advances, Lines, after_page, page_end}
-use Rattle.session_run.specs.Cursors.{AreFetches, Calls, Cursor, IsFetch}
+use Rattle.session_run.specs.Cursors.{AreFetches, Calls, Cursor}
 use Rattle.session_run.specs.Dialogue.{hits_in}
 use Rattle.session_run.proofs.Listings.{fetched-append, matched-append, records-append, search-append}
 
@@ -39,9 +39,9 @@ passes-append slot [] ys h k = k
 passes-append slot (x ∷ xs) ys h k = (h.0, h.1, passes-append slot xs ys h.2 k)
 
 -- a pin's fetches give no pin back, and are no pages of another
-fetch_keeps : (slot size other : ℕ) (want : List Bool) (e : Event) → IsFetch slot size want e → unpins other e ≡ false
-fetch_keeps slot size other want (Fetch pin asked from limit) h = refl
-fetch_keeps slot size other want _ h = absurd h
+fetch_keeps : (slot size from other : ℕ) (want : List Bool) (e : Event) → e ≡ Fetch slot want from size
+    → unpins other e ≡ false
+fetch_keeps slot size from other want e is = ap (λ (x : Event). unpins other x) is
 
 no_page : (other pin : ℕ) (asked : List Bool) (from limit : ℕ) (r : Reply) → (pin == other) ≡ false
     → page_in other (Fetch pin asked from limit) r ≡ None
@@ -51,27 +51,49 @@ no_page other pin asked from limit (replies.Page records last) h =
     f)) None h
 no_page other pin asked from limit _ h = refl
 
-fetch_none : (slot size other : ℕ) (want : List Bool) (e : Event) (r : Reply) → slot ≢ other → IsFetch slot size want e
-    → page_in other e r ≡ None
-fetch_none slot size other want (Fetch pin asked from limit) r apart h =
-    no_page other pin asked from limit r (ne_eqb pin other (λ e. apart (sym h.0 ∙ e)))
-fetch_none slot size other want _ r apart h = absurd h
+fetch_none : (slot size from other : ℕ) (want : List Bool) (e : Event) (r : Reply) → slot ≢ other
+    → e ≡ Fetch slot want from size → page_in other e r ≡ None
+fetch_none slot size from other want e r apart is =
+    ap (λ (x : Event). page_in other x r) is ∙ no_page other slot want from size r (ne_eqb slot other apart)
 
-pub fetches_keep : (slot size other : ℕ) (want : List Bool) (cs : Calls) → AreFetches slot size want cs
-    → KeepsPin other cs
-fetches_keep slot size other want [] h = tt
-fetches_keep slot size other want (c ∷ cs) h =
-    (fetch_keeps slot size other want c.0 h.0, fetches_keep slot size other want cs h.1)
+pub fetches_keep : (slot size other : ℕ) (want : List Bool) (place place' : Place) (cs : Calls)
+    → AreFetches slot size want place cs place' → KeepsPin other cs
+fetches_keep slot size other want place place' [] h = tt
+fetches_keep slot size other want place place' (c ∷ cs) (from, at, is, inl k) =
+    (fetch_keeps slot size from other want c.0 is, subst (KeepsPin other) (sym k.1) tt)
+fetches_keep slot size other want place place' (c ∷ cs) (from, at, is, inr k) =
+    (fetch_keeps slot size from other want c.0 is, fetches_keep slot size other want _ place' cs k.3)
 
-pub fetches_pass : (slot size other : ℕ) (want : List Bool) (cs : Calls) → slot ≢ other → AreFetches slot size want cs
-    → PassBy other cs
-fetches_pass slot size other want [] apart h = tt
-fetches_pass slot size other want (c ∷ cs) apart h = (
-  fetch_keeps slot size other want c.0 h.0,
-  fetch_none slot size other want c.0 c.1 apart h.0,
-  fetches_pass slot size
-      other want cs apart h.1,
+pub fetches_pass : (slot size other : ℕ) (want : List Bool) (place place' : Place) (cs : Calls) → slot ≢ other
+    → AreFetches slot size want place cs place' → PassBy other cs
+fetches_pass slot size other want place place' [] apart h = tt
+fetches_pass slot size other want place place' (c ∷ cs) apart (from, at, is, inl k) = (
+  fetch_keeps slot size from other want c.0 is,
+  fetch_none slot size from other want c.0 c.1 apart is,
+  subst (PassBy other) (sym k.1) tt,
 )
+fetches_pass slot size other want place place' (c ∷ cs) apart (from, at, is, inr k) = (
+  fetch_keeps slot size from other want c.0 is,
+  fetch_none slot size from other want c.0 c.1 apart is,
+  fetches_pass slot size other want _ place' cs apart k.3,
+)
+
+-- the pages that they gave are those of the search
+pub fetches_search : (slot size : ℕ) (want : List Bool) (place place' : Place) (cs : Calls)
+    → AreFetches slot size want place cs place' → IsSearch want place (fetched slot cs) place'
+fetches_search slot size want place place' [] h = h
+fetches_search slot size want place place' (c ∷ cs) (from, at, is, inl k) =
+    let none : fetched slot (c ∷ cs) ≡ [] =
+    ap₂ (λ (o : Option Fetched) (l : List Fetched). cons_option o l)
+    (ap₂ (λ (e : Event) (r : Reply). page_in slot e r) is k.0) (ap (λ (l : Calls). fetched slot l) k.1) in
+    subst (λ (fs : List Fetched). IsSearch want place fs place') (sym none) k.2
+fetches_search slot size want place place' (c ∷ cs) (from, at, is, inr k) =
+    let f : Fetched = record { want = want; from = from; limit = size; records = k.0; last = k.1 } in
+    let page : page_in slot c.0 c.1 ≡ Some f =
+    ap₂ (λ (e : Event) (r : Reply). page_in slot e r) is k.2
+    ∙ cond-true (slot == slot) (Some f) None (eq-eqb slot slot refl) in
+    subst (λ (o : Option Fetched). IsSearch want place (cons_option o (fetched slot cs)) place') (sym page)
+    (at, refl, fetches_search slot size want _ place' cs k.3)
 
 -- By these calls the cursor's pin was taken and not given back, its pages brought its search to where it stands, and
 -- these are its hits
@@ -176,12 +198,19 @@ advances_same size (At from) c calls lines c' (inr a) =
 
 -- its calls are fetches of its pin
 pub advances_fetch : (size : ℕ) (place : Place) (c : Cursor) (calls : Calls) (lines : Lines) (c' : Cursor)
-    → Advances size place c calls lines c' → AreFetches c.slot size c.want calls
-advances_fetch size End c calls lines c' a = subst (λ (l : Calls). AreFetches c.slot size c.want l) (sym a.0.0) tt
-advances_fetch size (At from) c calls lines c' (inl t) =
-    subst (λ (l : Calls). AreFetches c.slot size c.want l) (sym t.made) ((refl, refl, refl), tt)
-advances_fetch size (At from) c calls lines c' (inr a) =
-    subst (λ (l : Calls). AreFetches c.slot size c.want l) (sym a.0) ((refl, refl, refl), tt)
+    → Advances size place c calls lines c' → (place' : Place) × AreFetches c.slot size c.want place calls place'
+advances_fetch size End c calls lines c' a =
+    (End, subst (λ (l : Calls). AreFetches c.slot size c.want End l End) (sym a.0.0) refl)
+advances_fetch size (At from) c calls lines c' (inl t) = (
+  cond t.last End (At (past from t.records)),
+  subst (λ (l : Calls). AreFetches c.slot size c.want (At from) l (cond t.last End (At (past from t.records))))
+      (sym t.made) (from, refl, refl, inr (t.records, t.last, refl, refl)),
+)
+advances_fetch size (At from) c calls lines c' (inr a) = (
+  At from,
+  subst (λ (l : Calls). AreFetches c.slot size c.want (At from) l (At from)) (sym a.0)
+      (from, refl, refl, inl (refl, refl, refl)),
+)
 
 -- the cursor goes on, and lists the hits among its lines
 pub open_advances : (size : ℕ) (place : Place) (calls its : Calls) (lines : Lines) (c c' : Cursor) (hits : List ℕ)

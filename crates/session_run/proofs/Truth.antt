@@ -20,11 +20,11 @@ use Rattle.session_run.specs.Cursors.{Calls, Cursor, IsNoName}
 use Rattle.session_run.specs.Dialogue.{AreExchanged, AreListed, Exchange, IsCommand, IsShown, StaysOpen, hits_in}
 use Rattle.session_run.specs.Requests.{Request}
 use Rattle.session_run.specs.Texts.{IsPatternOf}
-use Rattle.session_run.specs.Truths.{AreAllHits, CursorsAreTrue, DialoguesAreTrue, IsTrueList, IsUpToDate, SearchesAreHits, SearchesAreTrue}
+use Rattle.session_run.specs.Truths.{AreAllHits, AreTrue, CursorsAreTrue, DialoguesAreTrue, IsTrueList, IsUpToDate, SearchesAreHits, SearchesAreTrue}
 use Rattle.session_run.proofs.Followed.{Follows, OneReading, follow_all, follow_new, one_command, places}
 use Rattle.session_run.proofs.Acts.{Closed, Kind, Moved, Opened, Other, Searched, first_or_rest, kind, one_in}
 use Rattle.session_run.proofs.Parting.{Laws, pin_new, slot_free, whole_pages}
-use Rattle.session_run.proofs.Passing.{IsOpen, advances_same, fetches_keep, hits_listed, open_advances}
+use Rattle.session_run.proofs.Passing.{IsOpen, advances_same, fetches_keep, fetches_search, hits_listed, open_advances}
 use Rattle.session_run.proofs.Pinned.{AreFree, dialogue_pins, next_calls, pin_first}
 
 -- A search
@@ -43,9 +43,10 @@ searches-are-hits laws s t steps own size pattern before its after lines sound r
       whole_pages laws own s t steps before found.pages
           (unpin ∷ after) found.slot found.version found.tried pattern found.searched.want found.hits
           sound run calm (made ∙ cut_calls before found.pages after pin unpin)
-          (fetches_keep found.slot size found.slot found.searched.want found.pages found.searched.fetches)
+          (fetches_keep found.slot size found.slot found.searched.want (At 0) found.place found.pages
+          found.searched.fetches)
           (subst (λ (p : Place). IsSearch found.searched.want (At 0) (fetched found.slot found.pages) p) ended
-          found.searched.search)
+          (fetches_search found.slot size found.searched.want (At 0) found.place found.pages found.searched.fetches))
           found.searched.need found.searched.matched found.searched.count,
       pin_new laws own s t steps before
           ((found.pages ++ unpin ∷ []) ++ after) found.slot found.version sound run calm made,
@@ -467,7 +468,7 @@ module _ (laws : Laws) (reading : OneReading) (s t : State) (steps : List Step) 
       let a = spot before (between ++ y ∷ after) x e in
       opened before between after x y name text hits version0 version tried count a a.did start k kept next end list
 
-  pub both_true : SearchesAreTrue t.history exchanges × CursorsAreTrue t.history exchanges
+  pub both_true : AreTrue t.history exchanges
   both_true = (searches_true, cursors_true)
 
 pub dialogues-are-true : Laws → OneReading → DialoguesAreTrue
