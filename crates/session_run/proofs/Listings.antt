@@ -49,7 +49,7 @@ fetches-append slot size want a b d [] ys p h k = subst (λ (q : Place). AreFetc
 fetches-append slot size want a b d (x ∷ xs) ys p (from, at, is, inl lost) k =
     absurd (no_page_lost x.1 p.0 p.1 p.2 lost.0)
 fetches-append slot size want a b d (x ∷ xs) ys p (from, at, is, inr h) k =
-    (from, at, is, inr (h.0, h.1, h.2, fetches-append slot size want _ b d xs ys p.3 h.3 k))
+    (from, at, is, inr (h.0, h.1, h.2, fetches-append slot size want (cond h.1 End (At (past from h.0))) b d xs ys p.3 h.3 k))
 
 pub fetched-append : (slot : ℕ) (xs ys : Calls) → fetched slot (xs ++ ys) ≡ fetched slot xs ++ fetched slot ys
 fetched-append slot xs ys = filter_map-append (λ (c : Event × Reply). page_in slot c.0 c.1) xs ys

@@ -18,11 +18,11 @@ module _ (law : DialoguesAreTrue) (size : ℕ) (lines : List TextLine) (h : List
     (r : IsInRun calls h) where
   -- the law of a dialogue whose calls are the first ones
   true_by : (exchanges : List Exchange) (own rest : Calls) (cursors : List Cursor) → calls ≡ own ++ rest
-      → AreExchanged size [] exchanges own cursors → AreTrue h exchanges
+      → AreExchanged size [] exchanges own cursors → AreTrue h size exchanges
   true_by exchanges own rest cursors e a =
       let made : calls_of r.own r.steps ≡ own ++ (rest ++ r.more) =
       r.made ∙ (ap (λ (l : Calls). l ++ r.more) e ∙ append_assoc own rest r.more) in
-      subst (λ (g : List Change). AreTrue g exchanges) (sym r.is)
+      subst (λ (g : List Change). AreTrue g size exchanges) (sym r.is)
       (law r.before r.after r.steps r.own size exchanges own (rest ++ r.more) cursors r.sound r.run r.calm made a)
 
   whole_true : (text : List ℕ) → IsTranscript size lines calls text → IsTrueTranscript h size lines calls text
