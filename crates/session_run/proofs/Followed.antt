@@ -465,29 +465,33 @@ module _ (reading : OneReading) (whole : Calls) (free : AreFree whole) (size : �
         tried = 0;
         hits = 0;
       } in
-      let begin = pin_first whole calls its later [] o.slot o.version w o.made in (record {
-        front = cursors;
-        back = [];
-        c = c;
-        among = o.added;
-        named = refl;
-        pattern_is = refl;
-        version_is = v;
-        left = others_new (IsPinned calls) name o.slot cursors held new
-            (λ s x p. new_slot whole calls later s x o.slot o.version free begin p);
-        right = tt;
-        turned = 0;
-        open_since = record {
-          before = calls;
-          pages = [];
-          own = ap (λ (l : Calls). calls ++ l) o.made;
-          keeps = tt;
-          search = refl;
-          sized = tt;
-          turned_is = refl;
-          need = o.need;
-          tried = refl;
-          matched = refl;
-          count = refl;
-        };
-      }, refl, refl)
+      let begin = pin_first whole calls its later [] o.slot o.version w o.made in (
+        record {
+          front = cursors;
+          back = [];
+          c = c;
+          among = o.added;
+          named = refl;
+          pattern_is = refl;
+          version_is = v;
+          left = others_new (IsPinned calls) name o.slot cursors held new
+              (λ s x p. new_slot whole calls later s x o.slot o.version free begin p);
+          right = tt;
+          turned = 0;
+          open_since = record {
+            before = calls;
+            pages = [];
+            own = ap (λ (l : Calls). calls ++ l) o.made;
+            keeps = tt;
+            search = refl;
+            sized = tt;
+            turned_is = refl;
+            need = o.need;
+            tried = refl;
+            matched = refl;
+            count = refl;
+          };
+        },
+        refl,
+        refl,
+      )

@@ -359,8 +359,15 @@ module _ (size limit : ℕ) (before now put0 put : Option (List ℕ)) (r : Readi
           k.0,
           t.2 ∙ (ap (λ x. t.0 ++ x) k.2 ∙ sym (append_assoc t.0 reads.got k.0)),
           k.1,
-          omega (arith, length-append t.0 reads.got, t.4, reads.counts.taken, reads.counts.limit, u.limit_is,
-              reads.counts.within),
+          omega (
+            arith,
+            length-append t.0 reads.got,
+            t.4,
+            reads.counts.taken,
+            reads.counts.limit,
+            u.limit_is,
+            reads.counts.within,
+          ),
         )
 
   -- the source's end was met

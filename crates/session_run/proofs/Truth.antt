@@ -1,10 +1,7 @@
 -- Dialogues over a run: what their searches and cursors listed is the history's answer.
-use Rattle.std.proofs.Common.{◌≡◌, ◌++◌, ◌+◌, ◌*◌, ◌<◌, ◌≤◌, ◌↔◌, ◌∙◌, ap, append-nil, append_assoc, arith, Bool, cond, Contains, drop, false, leb-false, leb-true, nat_le, take, inl, inr, length, List, [], ◌∷◌, map, refl, subst, sym, true, ℕ}
-use Rattle.std.proofs.lemmas.List.Elements.{Contains-append_right}
+use Rattle.std.proofs.Common.{◌≡◌, ◌++◌, ◌+◌, ◌*◌, ◌≤◌, ◌∙◌, ap, append-nil, append_assoc, arith, Bool, cond, Contains, drop, nat_le, take, inl, inr, length, List, [], ◌∷◌, refl, subst, sym, ℕ}
 use Rattle.shell_lang.specs.Command as command
-use Rattle.shell_lang.specs.Command.{Command}
 use Rattle.shell_lang.specs.Reply as line
-use Rattle.shell_lang.specs.Reply.{text_of}
 use Rattle.smarts_parse.specs.Pattern.{PatternTerm}
 use Rattle.store_machine.specs.Answers.{AreFound, AreMatched}
 use Rattle.store_machine.specs.History.{snapshot}
@@ -20,7 +17,7 @@ use Rattle.store_machine.specs.declared.machine.Reply.{Reply}
 use Rattle.store_machine.specs.declared.machine.Reply.TheVariants as replies
 use Rattle.store_machine.specs.declared.machine.State.{State}
 use Rattle.store_machine.specs.declared.machine.Step.{Step}
-use Rattle.session_run.specs.Answer.{Advances, IsCutShort, Lines, Lists, Opens, Turns, page_end}
+use Rattle.session_run.specs.Answer.{Advances, Lines, Opens, Turns, page_end}
 use Rattle.session_run.specs.Cursors.{Calls, Cursor, IsNoName}
 use Rattle.session_run.specs.Dialogue.{AreExchanged, AreListed, AreTurned, Exchange, GivePage, IsCommand, IsShown, StaysOpen, hits_in}
 use Rattle.session_run.specs.Requests.{Request}
@@ -29,8 +26,10 @@ use Rattle.session_run.specs.Truths.{AreAllHits, AreTrue, CursorsAreTrue, Dialog
 use Rattle.session_run.proofs.Followed.{Follows, OneReading, follow_all, follow_new, one_command, places, turn_all}
 use Rattle.session_run.proofs.Acts.{Closed, Kind, Moved, Opened, Other, Searched, kind}
 use Rattle.session_run.proofs.Parting.{Laws, last_piece, pieces_so_far, pin_new, slot_free, whole_pages}
-use Rattle.session_run.proofs.Passing.{IsOpen, advances_same, behind_hits, end_or_more, fault_or_more, fetches_keep, fetches_search, hit_or_more, hits_listed, no_hit, one_in, open_advances, page_more, page_of}
+use Rattle.session_run.proofs.Passing.{IsOpen, advances_same, fault_or_more, fetches_keep, fetches_search, hits_listed, no_hit, one_in, open_advances, page_more, page_of}
 use Rattle.session_run.proofs.Pinned.{AreFree, dialogue_pins, next_calls, pin_first}
+use Rattle.session_run.proofs.Endings.{SameEnd, advance_end, fault_or_end, no_page_said, says_more, search_end}
+use Rattle.session_run.proofs.Orders.{close_or_next, close_or_search, close_or_start, next_or_search, next_or_start, one_next, one_opened, one_search, one_start, search_or_next, search_or_start, start_or_next, start_or_search}
 
 -- A search
 cut_calls : (before pages after : Calls) (pin unpin : Event × Reply)
@@ -57,118 +56,6 @@ searches-are-hits laws s t steps own size pattern before its after lines sound r
           ((found.pages ++ unpin ∷ []) ++ after) found.slot found.version sound run calm made,
     )
 
--- The end among lines
-hit_or_end : (id version tried hits : ℕ) → line.Hit id ≡ line.End version tried hits → ⊥
-hit_or_end id version tried hits e = cc
-
-end_behind : (hits : List ℕ) (said : line.Reply) (version tried count : ℕ)
-    → Contains (map line.Hit hits ++ said ∷ []) (line.End version tried count) → said ≡ line.End version tried count
-end_behind hits said version tried count k =
-    behind_hits (line.End version tried count) (λ id e. hit_or_end id version tried count e) hits said k
-
-fault_or_end : (version tried hits : ℕ) → line.MemoryFault ≡ line.End version tried hits → ⊥
-fault_or_end version tried hits e = cc
-
--- lines that give no page
-no_page_said : (lines : Lines) → GivePage lines → ¬ Contains lines line.More
-    → ((version tried hits : ℕ) → ¬ Contains lines (line.End version tried hits)) → ⊥
-no_page_said lines (inl m) no_more no_end = no_more m
-no_page_said lines (inr m) no_more no_end = no_end m.0 m.1 m.2 m.3
-
--- whether a page says `more`
-says_more : (c : Cursor) (last : Bool) (hits : List ℕ) (lines : Lines) (n size : ℕ)
-    → lines ≡ map line.Hit hits ++ page_end last c ∷ [] → last ≡ nat_le n size
-    → Contains lines line.More ↔ (size < n)
-says_more c true hits lines n size said e = (
-  λ m. absurd (end_or_more c (behind_hits line.More hit_or_more hits (page_end true c)
-      (subst (λ (l : Lines). Contains l line.More) said m))),
-  λ lt. let le : n ≤ size = leb-true n size (sym e) in absurd (omega arith),
-)
-says_more c false hits lines n size said e = (
-  λ m. leb-false n size (sym e),
-  λ lt. subst (λ (l : Lines). Contains l line.More) (sym said)
-      (Contains-append_right (map line.Hit hits) (line.More ∷ []) line.More (0, omega arith, refl)),
-)
-
-more_or_end : (version tried hits : ℕ) → line.More ≡ line.End version tried hits → ⊥
-more_or_end version tried hits e = cc
-
--- the numbers of an end
-record SameEnd (version tried hits version' tried' hits' : ℕ) : Type 0 where
-  version_is : version ≡ version'
-  tried_is : tried ≡ tried'
-  hits_is : hits ≡ hits'
-
-same_end : (version tried hits version' tried' hits' : ℕ) → line.End version tried hits ≡ line.End version' tried' hits'
-    → SameEnd version tried hits version' tried' hits'
-same_end version tried hits version' tried' hits' e = record { version_is = a; tried_is = b; hits_is = c } where
-  a : version ≡ version'
-  a = cc
-
-  b : tried ≡ tried'
-  b = cc
-
-  c : hits ≡ hits'
-  c = cc
-
-cut_end : (hits : List ℕ) (lines : Lines) (version tried count : ℕ) → IsCutShort hits lines
-    → Contains lines (line.End version tried count) → ⊥
-cut_end hits lines version tried count c k =
-    fault_or_end version tried count
-    (end_behind c.0 line.MemoryFault version tried count
-    (subst (λ (l : Lines). Contains l (line.End version tried count)) c.3 k))
-
--- a search whose lines have an end
-record IsEndOf (place : Place) (version tried : ℕ) (hits : List ℕ) (lines : Lines)
-    (version' tried' count : ℕ) : Type 0 where
-  place_is : place ≡ End
-  numbers : SameEnd version tried (length hits) version' tried' count
-  listed : hits_in lines ≡ hits
-
-search_end : (place : Place) (version tried : ℕ) (hits : List ℕ) (lines : Lines) (version' tried' count : ℕ)
-    → Lists place version tried hits lines
-    → Contains lines (line.End version' tried' count) → IsEndOf place version tried hits lines version' tried' count
-search_end End version tried hits lines version' tried' count (inl e) k = record {
-  place_is = refl;
-  numbers = same_end version tried (length hits) version' tried' count
-      (end_behind hits (line.End version tried (length hits)) version' tried' count
-      (subst (λ (l : Lines). Contains l (line.End version' tried' count)) e k));
-  listed = ap hits_in e ∙ hits_listed hits (line.End version tried (length hits)) refl;
-}
-search_end End version tried hits lines version' tried' count (inr c) k =
-    absurd (cut_end hits lines version' tried' count c k)
-search_end (At from) version tried hits lines version' tried' count c k =
-    absurd (cut_end hits lines version' tried' count c k)
-
--- a cursor whose lines have an end
-advance_end : (size : ℕ) (place : Place) (c : Cursor) (calls : Calls) (lines : Lines) (c' : Cursor)
-    (version tried count : ℕ) → c.place ≡ place → Advances size place c calls lines c'
-    → Contains lines (line.End version tried count)
-    → (c'.place ≡ End) × SameEnd c'.version c'.tried c'.hits version tried count
-advance_end size End c calls lines c' version tried count at a k =
-    let e : line.End c.version c.tried c.hits ≡ line.End version tried count =
-    one_in (line.End c.version c.tried c.hits) (line.End version tried count)
-    (subst (λ (l : Lines). Contains l (line.End version tried count)) a.0.1 k) in (
-      ap (λ (x : Cursor). x.place) a.1 ∙ at,
-      subst (λ (x : Cursor). SameEnd x.version x.tried x.hits version tried count) (sym a.1)
-          (same_end c.version c.tried c.hits version tried count e),
-    )
-advance_end size (At from) c calls lines c' version tried count at (inl t) k =
-    by t.last refl (end_behind t.hits (page_end t.last c') version tried count
-    (subst (λ (l : Lines). Contains l (line.End version tried count)) t.said k))
-  where
-    by : (last : Bool) → t.last ≡ last → page_end last c' ≡ line.End version tried count
-        → (c'.place ≡ End) × SameEnd c'.version c'.tried c'.hits version tried count
-    by true q e = (
-      ap (λ (x : Cursor). x.place) t.moved ∙ ap (λ (b : Bool). cond b End (At (past from t.records))) q,
-      same_end c'.version c'.tried c'.hits version tried count e,
-    )
-    by false q e = absurd (more_or_end version tried count e)
-advance_end size (At from) c calls lines c' version tried count at (inr a) k =
-    absurd (fault_or_end version tried count
-    (one_in line.MemoryFault (line.End version tried count)
-    (subst (λ (l : Lines). Contains l (line.End version tried count)) a.1 k)))
-
 -- the cursor of a name after a reply with an end
 record Ended (size : ℕ) (calls : Calls) (pattern : PatternTerm) (opened : ℕ) (hits : List ℕ)
     (version tried count : ℕ) : Type 0 where
@@ -179,50 +66,6 @@ record Ended (size : ℕ) (calls : Calls) (pattern : PatternTerm) (opened : ℕ)
   numbers : SameEnd c.version c.tried c.hits version tried count
   pattern_is : c.pattern ≡ pattern
   opened_at : c.version ≡ opened
-
-search_or_next : (text name : List ℕ) → command.Search text ≡ command.Next name → ⊥
-search_or_next text name e = cc
-
-start_or_next : (text other name : List ℕ) → command.Start other text ≡ command.Next name → ⊥
-start_or_next text other name e = cc
-
-close_or_next : (other name : List ℕ) → command.Close other ≡ command.Next name → ⊥
-close_or_next other name e = cc
-
-search_or_start : (text other name : List ℕ) → command.Search text ≡ command.Start name other → ⊥
-search_or_start text other name e = cc
-
-next_or_start : (other name text : List ℕ) → command.Next other ≡ command.Start name text → ⊥
-next_or_start other name text e = cc
-
-close_or_start : (other name text : List ℕ) → command.Close other ≡ command.Start name text → ⊥
-close_or_start other name text e = cc
-
-start_or_search : (name other text : List ℕ) → command.Start name other ≡ command.Search text → ⊥
-start_or_search name other text e = cc
-
-next_or_search : (name text : List ℕ) → command.Next name ≡ command.Search text → ⊥
-next_or_search name text e = cc
-
-close_or_search : (name text : List ℕ) → command.Close name ≡ command.Search text → ⊥
-close_or_search name text e = cc
-
-one_search : (a b : List ℕ) → command.Search a ≡ command.Search b → a ≡ b
-one_search a b e = cc
-
-one_next : (a b : List ℕ) → command.Next a ≡ command.Next b → a ≡ b
-one_next a b e = cc
-
-one_start : (a b c d : List ℕ) → command.Start a b ≡ command.Start c d → (a ≡ c) × (b ≡ d)
-one_start a b c d e = (x, y) where
-  x : a ≡ c
-  x = cc
-
-  y : b ≡ d
-  y = cc
-
-one_opened : (a b : ℕ) → line.Opened a ≡ line.Opened b → a ≡ b
-one_opened a b e = cc
 
 module _ (reading : OneReading) (size : ℕ) (name : List ℕ) where
   ends : (calls its : Calls) (cursors cursors' : List Cursor) (request : Request) (lines : Lines)
@@ -523,7 +366,7 @@ module _ (laws : Laws) (reading : OneReading) (s t : State) (steps : List Step) 
     λ all found.
         let m = page_more size k calls' c hits turn.hits from turn.records turn.last at turn.matched o in
         let own_is : calls_of own steps ≡ (m.0.before ++ (events.Pin, replies.Pinned c.slot c.version) ∷ m.0.pages)
-            ++ later =
+        ++ later =
         w ∙ (ap (λ (l : Calls). (calls' ++ l) ++ later) turn.made ∙ ap (λ (l : Calls). l ++ later) m.0.own) in
         let pieces = pieces_so_far laws own s t steps m.0.before m.0.pages later c.slot c.version size c.want
         (cond turn.last End (At (past from turn.records))) all sound run calm own_is m.0.keeps m.0.search m.0.sized
@@ -531,7 +374,7 @@ module _ (laws : Laws) (reading : OneReading) (s t : State) (steps : List Step) 
         let last = last_piece size all (fetched c.slot o.pages) (page_of c size from turn.records turn.last)
         (subst (λ (fs : List Fetched). ArePieces size all fs) m.1 pieces) in
         let here = subst (λ (n : ℕ). (turn.records ≡ take size (drop (n * size) all))
-            × (turn.last ≡ nat_le (length (drop (n * size) all)) size)) o.turned_is last in
+        × (turn.last ≡ nat_le (length (drop (n * size) all)) size)) o.turned_is last in
         let listed : hits_in lines ≡ turn.hits =
         ap hits_in turn.said ∙ hits_listed turn.hits (page_end turn.last c') (no_hit turn.last c') in
         record {

@@ -22,8 +22,8 @@ use std::alloc::Global;
 use std::thread::Threads;
 use store_core::Service;
 
-/// Answers the requests of a source into a sink, each before more is read. At the end the pins of the cursors that are
-/// still open are given back, unless the service is worn.
+/// Answers the requests of a source into a sink, each before more is read, and takes no more bytes than `input_limit`.
+/// At the end the pins of the cursors that are still open are given back, unless the service is worn.
 pub fn session<R: Threads + Sync, S: Service, I: Source, O: Sink, M: Meter>(
     rt: &R,
     alloc: Global,
