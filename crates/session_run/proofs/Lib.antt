@@ -29,3 +29,5 @@ pub mod Told
 pub mod Placed
 pub mod Begun
 pub mod Unpinned
+pub mod Endings
+pub mod Orders

@@ -1,16 +1,18 @@
 -- A run cut at its caller's calls: where a pin is taken its slot was free, and what the pages of a pin are together.
-use Rattle.std.proofs.Common.{◌≡◌, ◌&&◌, ◌++◌, ◌==◌, ◌≤◌, ◌∙◌, ap, ap₂, arith, Bool, cond, eq-eqb, false, length, List, [], ◌∷◌, None, refl, Some, subst, suc, sym, true, ℕ}
+use Rattle.std.proofs.Common.{◌≡◌, ◌&&◌, ◌++◌, ◌+◌, ◌*◌, ◌==◌, ◌≤◌, ◌∙◌, ap, ap₂, arith, Bool, cond, drop, drop-drop, eq-eqb, false, length, nat_le, take, List, [], ◌∷◌, None, refl, Some, subst, suc, sym, true, ℕ}
 use Rattle.std.specs.FinMap.{get}
+use Rattle.std.specs.List.{AllByRecursion}
+use Rattle.std.proofs.Math.Nat.{suc-mul}
 use Rattle.std.proofs.lemmas.Bool.{cond-false, cond-true, true≢false}
 use Rattle.mol_finish.specs.declared.fault.Format.{Format}
 use Rattle.smarts_parse.specs.Pattern.{PatternTerm}
-use Rattle.store_machine.specs.Answers.{AreAnswers, AreMatched, IsAnswer, ids}
+use Rattle.store_machine.specs.Answers.{AreAnswers, AreFound, AreMatched, IsAnswer, ids}
 use Rattle.store_machine.specs.ByCalls.{CallsGivePages, Pages}
 use Rattle.store_machine.specs.History.{Snapshot, head, snapshot}
 use Rattle.store_machine.specs.Laws.{IsSound, NeedsScreen, PinsStay, RunsGrow, RunsStaySound, SnapshotsStay, StatesStay}
 use Rattle.store_machine.specs.Machine.{Gives, Holds, PinGives, pin_in}
 use Rattle.store_machine.specs.Runs.{IsCalm, IsRun, IsStep, calls_of, is_call, is_own}
-use Rattle.store_machine.specs.Searches.{At, End, IsSearch, KeepsPin, fetched, records_of}
+use Rattle.store_machine.specs.Searches.{ArePieces, At, End, Fetched, IsSearch, KeepsPin, Place, fetched, records_of}
 use Rattle.store_machine.specs.Structures.{IsMatched, IsNeedOf, IsScreened}
 use Rattle.store_machine.specs.declared.machine.Change.{Change}
 use Rattle.store_machine.specs.declared.machine.Event.{Event}
@@ -351,3 +353,38 @@ whole_pages laws own s t steps before pages later slot version tried pattern wan
           (ids (records_of (fetched slot pages))) stays (p.tried refl);
       count = count ∙ sym (ids-length (records_of (fetched slot pages)));
     }
+
+-- the pages of a pin so far are pieces of what is wanted at its version, whatever follows
+pub pieces_so_far : Laws
+    → (own : ℕ → Bool) (s t : State) (steps : List Step) (before pages later : Calls) (slot version size : ℕ)
+    (want : List Bool) (place : Place) (all : List Found) → IsSound s → IsRun s steps t → IsCalm steps
+    → calls_of own steps ≡ (before ++ (Pin, Pinned slot version) ∷ pages) ++ later → KeepsPin slot pages
+    → IsSearch want (At 0) (fetched slot pages) place
+    → AllByRecursion (λ (f : Fetched). f.limit ≡ size) (fetched slot pages)
+    → AreFound (IsScreened want) (snapshot t.history version) all → ArePieces size all (fetched slot pages)
+pieces_so_far laws own s t steps before pages later slot version size want place all sound run calm e keeps search sized
+    found =
+    let a = halves own s t steps (before ++ (Pin, Pinned slot version) ∷ pages) later run calm e in
+    let p : Pages s a.middle slot version want place pages =
+    laws.pages s a.middle a.front own slot version 0 want place pages sound a.to a.calm_to (omega arith)
+    (record { before = before; own = a.first_calls; keeps = keeps; search = search }) in
+    let more = laws.grow a.middle t a.back a.from in
+    let stays : snapshot a.middle.history version ≡ snapshot t.history version =
+    sym (ap (λ (h : List Change). snapshot h version) more.1
+    ∙ laws.snapshots a.middle.history more.0 version p.not_after) in
+    p.pieces all size (subst (λ (m : Snapshot). AreFound (IsScreened want) m all) (sym stays) found) sized
+
+-- the last of some pieces
+pub last_piece : (size : ℕ) (all : List Found) (fs : List Fetched) (f : Fetched) → ArePieces size all (fs ++ f ∷ [])
+    → (f.records ≡ take size (drop (length fs * size) all))
+    × (f.last ≡ nat_le (length (drop (length fs * size) all)) size)
+last_piece size all [] f p =
+    let none : 0 * size ≡ 0 = omega arith in
+    subst (λ (n : ℕ). (f.records ≡ take size (drop n all)) × (f.last ≡ nat_le (length (drop n all)) size)) (sym none)
+    (p.0, p.1)
+last_piece size all (g ∷ fs) f p =
+    let one : size + length fs * size ≡ suc (length fs) * size = omega (arith, suc-mul (length fs) size) in
+    let same : drop (length fs * size) (drop size all) ≡ drop (suc (length fs) * size) all =
+    drop-drop (length fs * size) size all ∙ ap (λ (n : ℕ). drop n all) one in
+    subst (λ (l : List Found). (f.records ≡ take size l) × (f.last ≡ nat_le (length l) size)) same
+    (last_piece size (drop size all) fs f p.2)

@@ -154,7 +154,7 @@ pub search_keeps : (size slot : ℕ) (pattern : PatternTerm) (calls : Calls) (li
 search_keeps size slot pattern calls lines s apart = subst (KeepsPin slot) (sym s.made) (
   refl,
   keeps-append slot s.pages ((events.Unpin s.slot, replies.Unpinned) ∷ [])
-      (fetches_keep s.slot size slot s.searched.want s.pages s.searched.fetches)
+      (fetches_keep s.slot size slot s.searched.want (At 0) s.place s.pages s.searched.fetches)
       (ne_eqb s.slot slot (λ e. apart (sym e)), tt),
 )
 
@@ -220,7 +220,7 @@ module _ (whole : Calls) (free : AreFree whole) (size : ℕ) where
       (held-moved (IsPinned (calls ++ its)) before after c c' same.slot same.version
       (held_as (IsPinned calls) (IsPinned (calls ++ its)) (λ s. KeepsPin s its) (before ++ c ∷ after)
       (λ s v p k. pinned_more calls its s v k p)
-      (λ s v k p. fetches_keep c.slot size s c.want its fetches) (subst (AreHeld (IsPinned calls)) named.place h)))
+      (λ s v k p. fetches_keep c.slot size s c.want c.place fetches.0 its fetches.1) (subst (AreHeld (IsPinned calls)) named.place h)))
   pins_then calls its later cursors cursors' request lines w (Closed name before after c is named made said now) h =
       let r = held_drop (IsPinned calls) before after c (subst (AreHeld (IsPinned calls)) named.place h) in
       subst (AreHeld (IsPinned (calls ++ its))) (sym now)

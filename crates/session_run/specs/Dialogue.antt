@@ -1,5 +1,5 @@
 -- For callers: a session as a dialogue, each request with the lines of its reply, and the versions that replies tell.
-use Rattle.std.specs.Prelude.{◌≡◌, ◌⊎◌, ℕ, Ok, Some, List, [], ◌∷◌, ◌++◌, map}
+use Rattle.std.specs.Prelude.{◌≡◌, ◌⊎◌, ◌+◌, ℕ, Contains, Ok, Some, List, [], ◌∷◌, ◌++◌, map}
 use Rattle.io_edge.specs.Lines.{Whole}
 use Rattle.shell_lang.specs.Command as command
 use Rattle.shell_lang.specs.Command.{Command, IsLine}
@@ -50,6 +50,20 @@ AreListed name (x ∷ xs) hits =
     (IsCommand x.request (command.Next name) × (more : List ℕ) × (hits ≡ hits_in x.lines ++ more)
     × AreListed name xs more)
     ⊎ (¬ IsCommand x.request (command.Next name) × AreListed name xs hits)
+
+-- so many replies to `next` with the name gave a page and `more`; any other found no memory
+abbrev pub AreTurned : List ℕ → List Exchange → ℕ → Type 0
+AreTurned name [] k = k ≡ 0
+AreTurned name (x ∷ xs) k =
+    (IsCommand x.request (command.Next name) × Contains x.lines line.More × (j : ℕ) × (k ≡ j + 1)
+    × AreTurned name xs j)
+    ⊎ ((IsCommand x.request (command.Next name) × (x.lines ≡ line.MemoryFault ∷ []) × AreTurned name xs k)
+    ⊎ (¬ IsCommand x.request (command.Next name) × AreTurned name xs k))
+
+-- the lines end with `more`, or with the end of a search
+abbrev pub GivePage : Lines → Type 0
+GivePage lines = Contains lines line.More
+    ⊎ ((version tried hits : ℕ) × Contains lines (line.End version tried hits))
 
 -- no request closes the cursor of the name
 abbrev pub StaysOpen : List ℕ → List Exchange → Type 0
