@@ -19,9 +19,10 @@ use Rattle.store_machine.specs.declared.machine.Reply.{Reply}
 use Rattle.store_machine.specs.declared.machine.Reply.TheVariants as replies
 use Rattle.store_machine.specs.declared.machine.Status.{Status}
 use Rattle.store_machine.specs.declared.machine.Status.TheVariants as status
+use Rattle.store_machine.specs.Told.{IsTold, TellsVersion}
 use Rattle.session_run.specs.Answer.{Advances, Answers, Asks, CloseAnswer, Commits, FindsNoMemory, FindsNoPin, IsCommitLine, IsLookLine, IsNamed, IsNoPattern, IsPruneLine, IsStatsLine, LineAnswer, Lines, MolfileAnswer, NextAnswer, OpenAnswer, Opens, Refuses, RequestAnswer, Says, SearchAnswer, Searches, TextAnswer, shown}
 use Rattle.session_run.specs.Cursors.{Calls, Cursor, IsNoName}
-use Rattle.session_run.specs.Dialogue.{IsCommand, IsShownIn, IsTold, ShowsVersion, TellsVersion, hits_in}
+use Rattle.session_run.specs.Dialogue.{IsCommand, IsShownIn, ShowsVersion, hits_in}
 use Rattle.session_run.specs.Requests.{Request, molfile_text}
 use Rattle.session_run.specs.Texts.{IsPatternOf}
 use Rattle.session_run.proofs.Passing.{PassBy, none_in, one_in}

@@ -6,9 +6,10 @@ use Rattle.smarts_parse.specs.Pattern.{PatternTerm}
 use Rattle.store_machine.specs.Searches.{At, End, KeepsPin, Place}
 use Rattle.store_machine.specs.declared.machine.Event.TheVariants as events
 use Rattle.store_machine.specs.declared.machine.Reply.TheVariants as replies
+use Rattle.store_machine.specs.Told.{IsTold}
 use Rattle.session_run.specs.Answer.{Advances, IsCutShort, Lines, Lists, Searches, page_end}
 use Rattle.session_run.specs.Cursors.{Calls, Cursor}
-use Rattle.session_run.specs.Dialogue.{AreExchanged, Exchange, IsShown, IsShownIn, IsTold}
+use Rattle.session_run.specs.Dialogue.{AreExchanged, Exchange, IsShown, IsShownIn}
 use Rattle.session_run.specs.Made.{AreHeld, HasSlot}
 use Rattle.session_run.specs.Requests.{Request}
 use Rattle.session_run.proofs.Held.{held-at, held-moved, slot-cases, slot-left, slot-right}

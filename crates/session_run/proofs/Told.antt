@@ -3,7 +3,7 @@ use Rattle.std.proofs.Common.{◌≡◌, ◌⊎◌, ◌++◌, ◌∙◌, ap, app
 use Rattle.io_edge.specs.Lines.{TextLine}
 use Rattle.shell_lang.specs.Reply.{text_of}
 use Rattle.store_machine.specs.Runs.{calls_of}
-use Rattle.store_machine.specs.declared.machine.Change.{Change}
+use Rattle.store_machine.specs.declared.machine.History.{History}
 use Rattle.session_run.specs.Answer.{Lines, RequestAnswer}
 use Rattle.session_run.specs.Cursors.{Calls, Cursor, unpins}
 use Rattle.session_run.specs.Dialogue.{AreExchanged, Exchange}
@@ -14,7 +14,7 @@ use Rattle.session_run.specs.Truths.{AreTrue, DialoguesAreTrue, IsInRun, IsTrueB
 use Rattle.session_run.specs.declared.settings.EndStatus.TheVariants.{Done, SourceFault, SinkFault, NoMemory, InputTooLong, Worn}
 use Rattle.session_run.proofs.Scripts.{begin_more, exchanged_more, replies_more}
 
-module _ (law : DialoguesAreTrue) (size : ℕ) (lines : List TextLine) (h : List Change) (calls : Calls)
+module _ (law : DialoguesAreTrue) (size : ℕ) (lines : List TextLine) (h : History) (calls : Calls)
     (r : IsInRun calls h) where
   -- the law of a dialogue whose calls are the first ones
   true_by : (exchanges : List Exchange) (own rest : Calls) (cursors : List Cursor) → calls ≡ own ++ rest
@@ -22,7 +22,7 @@ module _ (law : DialoguesAreTrue) (size : ℕ) (lines : List TextLine) (h : List
   true_by exchanges own rest cursors e a =
       let made : calls_of r.own r.steps ≡ own ++ (rest ++ r.more) =
       r.made ∙ (ap (λ (l : Calls). l ++ r.more) e ∙ append_assoc own rest r.more) in
-      subst (λ (g : List Change). AreTrue g size exchanges) (sym r.is)
+      subst (λ (g : History). AreTrue g size exchanges) (sym r.is)
       (law r.before r.after r.steps r.own size exchanges own (rest ++ r.more) cursors r.sound r.run r.calm made a)
 
   whole_true : (text : List ℕ) → IsTranscript size lines calls text → IsTrueTranscript h size lines calls text

@@ -9,7 +9,7 @@ use Rattle.store_machine.specs.Laws.{IsSound}
 use Rattle.store_machine.specs.Runs.{IsCalm, IsRun, calls_of}
 use Rattle.store_machine.specs.Searches.{ArePieces, At, End, Fetched, IsSearch, Place, fetched, past}
 use Rattle.store_machine.specs.Structures.{IsNeedOf, IsScreened}
-use Rattle.store_machine.specs.declared.machine.Change.{Change}
+use Rattle.store_machine.specs.declared.machine.History.{History}
 use Rattle.store_machine.specs.declared.machine.Event.{Event}
 use Rattle.store_machine.specs.declared.machine.Event.TheVariants as events
 use Rattle.store_machine.specs.declared.machine.Found.{Found}
@@ -25,7 +25,7 @@ use Rattle.session_run.specs.Texts.{IsPatternOf}
 use Rattle.session_run.specs.Truths.{AreAllHits, AreTrue, CursorsAreTrue, DialoguesAreTrue, IsPageOf, IsTrueList, IsTruePage, IsUpToDate, PagesAreTrue, SearchesAreHits, SearchesAreTrue}
 use Rattle.session_run.proofs.Followed.{Follows, OneReading, follow_all, follow_new, one_command, places, turn_all}
 use Rattle.session_run.proofs.Acts.{Closed, Kind, Moved, Opened, Other, Searched, kind}
-use Rattle.session_run.proofs.Parting.{Laws, last_piece, pieces_so_far, pin_new, slot_free, whole_pages}
+use Rattle.session_run.proofs.Parting.{Laws, last_piece, pieces_so_far, whole_pages}
 use Rattle.session_run.proofs.Passing.{IsOpen, advances_same, fault_or_more, fetches_keep, fetches_search, hits_listed, no_hit, one_in, open_advances, page_more, page_of}
 use Rattle.session_run.proofs.Pinned.{AreFree, dialogue_pins, next_calls, pin_first}
 use Rattle.session_run.proofs.Endings.{SameEnd, advance_end, fault_or_end, no_page_said, says_more, search_end}
@@ -52,8 +52,7 @@ searches-are-hits laws s t steps own size pattern before its after lines sound r
           (subst (λ (p : Place). IsSearch found.searched.want (At 0) (fetched found.slot found.pages) p) ended
           (fetches_search found.slot size found.searched.want (At 0) found.place found.pages found.searched.fetches))
           found.searched.need found.searched.matched found.searched.count,
-      pin_new laws own s t steps before
-          ((found.pages ++ unpin ∷ []) ++ after) found.slot found.version sound run calm made,
+      laws.pins s t steps own found.slot found.version before ((found.pages ++ unpin ∷ []) ++ after) sound run calm made,
     )
 
 -- the cursor of a name after a reply with an end
@@ -142,7 +141,7 @@ listed_parts name (x ∷ xs) y hits (inl k) is =
     )
 listed_parts name (x ∷ xs) y hits (inr k) is = let r = listed_parts name xs y hits k.1 is in (r.0, inr (k.0, r.1), r.2)
 
-same_hits : (h : List Change) (version version' tried tried' : ℕ) (pattern pattern' : PatternTerm) (hits hits' : List ℕ)
+same_hits : (h : History) (version version' tried tried' : ℕ) (pattern pattern' : PatternTerm) (hits hits' : List ℕ)
     → version ≡ version' → tried ≡ tried' → pattern ≡ pattern' → hits ≡ hits'
     → AreAllHits h version pattern tried hits → AreAllHits h version' pattern' tried' hits'
 same_hits h version version' tried tried' pattern pattern' hits hits' a b c d all =
@@ -156,7 +155,7 @@ module _ (laws : Laws) (reading : OneReading) (s t : State) (steps : List Step) 
     (sound : IsSound s) (run : IsRun s steps t) (calm : IsCalm steps) (made : calls_of own steps ≡ calls ++ more)
     (said : AreExchanged size [] exchanges calls cursors) where
   free : AreFree (calls_of own steps)
-  free before pages later slot v v' e keeps = slot_free laws own s t steps before pages later slot v v' run calm e keeps
+  free before pages later slot v v' e keeps = laws.slots s t steps own slot v v' before pages later run calm e keeps
 
   -- an exchange of the dialogue, with the calls before it
   record Spot (before after : List Exchange) (x : Exchange) : Type 0 where
@@ -332,7 +331,7 @@ module _ (laws : Laws) (reading : OneReading) (s t : State) (steps : List Step) 
       let r = last_page between after y name hits p version0 version tried count
       (a.first ++ a.its) a.rest a.then a.behind a.from kept next end list f in
       let fresh : IsUpToDate t.history a.first o.version =
-      pin_new laws own s t steps a.first (a.rest ++ more) o.slot o.version sound run calm
+      laws.pins s t steps own o.slot o.version a.first (a.rest ++ more) sound run calm
       (pin_first (calls_of own steps) a.first a.its (a.rest ++ more) [] o.slot o.version a.calls_are o.made) in (
         record {
           pattern = p;

@@ -1,13 +1,10 @@
 -- For callers: a session as a dialogue, each request with the lines of its reply, and the versions that replies tell.
-use Rattle.std.specs.Prelude.{◌≡◌, ◌⊎◌, ◌+◌, ℕ, Contains, Ok, Some, List, [], ◌∷◌, ◌++◌, map}
+use Rattle.std.specs.Prelude.{◌≡◌, ◌⊎◌, ◌+◌, ℕ, Contains, Ok, List, [], ◌∷◌, ◌++◌, map}
 use Rattle.io_edge.specs.Lines.{Whole}
 use Rattle.shell_lang.specs.Command as command
 use Rattle.shell_lang.specs.Command.{Command, IsLine}
 use Rattle.shell_lang.specs.Reply as line
 use Rattle.shell_lang.specs.Reply.{text_of}
-use Rattle.store_machine.specs.History.{made_at}
-use Rattle.store_machine.specs.declared.machine.Reply.{Reply}
-use Rattle.store_machine.specs.declared.machine.Reply.TheVariants as replies
 use Rattle.session_run.specs.Answer.{Lines, RequestAnswer}
 use Rattle.session_run.specs.Cursors.{Calls, Cursor}
 use Rattle.session_run.specs.Requests.{Request}
@@ -69,19 +66,6 @@ GivePage lines = Contains lines line.More
 abbrev pub StaysOpen : List ℕ → List Exchange → Type 0
 StaysOpen name [] = Unit {0}
 StaysOpen name (x ∷ xs) = ¬ IsCommand x.request (command.Close name) × StaysOpen name xs
-
--- the reply tells this version
-abbrev pub TellsVersion : Reply → ℕ → Type 0
-TellsVersion (replies.Committed version) v = v ≡ version
-TellsVersion (replies.Pinned slot version) v = v ≡ version
-TellsVersion (replies.Looked (Some status)) v = v ≡ made_at status
-TellsVersion (replies.Counted version live withdrawn kept pins) v = v ≡ version
-TellsVersion _ v = ⊥
-
--- one of these calls was told this version
-abbrev pub IsTold : Calls → ℕ → Type 0
-IsTold [] v = ⊥
-IsTold (c ∷ cs) v = TellsVersion c.1 v ⊎ IsTold cs v
 
 -- the line shows this version
 abbrev pub ShowsVersion : line.Reply → ℕ → Type 0

@@ -11,13 +11,14 @@ use Rattle.store_machine.specs.Laws.{IsSound}
 use Rattle.store_machine.specs.Runs.{IsCalm, IsRun, calls_of}
 use Rattle.store_machine.specs.Searches.{End}
 use Rattle.store_machine.specs.Structures.{IsNeedOf, IsScreened}
-use Rattle.store_machine.specs.declared.machine.Change.{Change}
+use Rattle.store_machine.specs.declared.machine.History.{History}
 use Rattle.store_machine.specs.declared.machine.Found.{Found}
 use Rattle.store_machine.specs.declared.machine.State.{State}
 use Rattle.store_machine.specs.declared.machine.Step.{Step}
+use Rattle.store_machine.specs.Told.{IsTold}
 use Rattle.session_run.specs.Answer.{Lines, Searches}
 use Rattle.session_run.specs.Cursors.{Calls, Cursor}
-use Rattle.session_run.specs.Dialogue.{AreExchanged, AreListed, AreTurned, Exchange, GivePage, IsCommand, IsShown, IsTold, StaysOpen, hits_in}
+use Rattle.session_run.specs.Dialogue.{AreExchanged, AreListed, AreTurned, Exchange, GivePage, IsCommand, IsShown, StaysOpen, hits_in}
 use Rattle.session_run.specs.Served.{IsServed}
 use Rattle.session_run.specs.Texts.{IsPatternOf}
 use Rattle.session_run.specs.Transcript.{IsDialogue, IsPrefixOf}
@@ -26,7 +27,7 @@ use Rattle.session_run.specs.declared.settings.EndStatus.TheVariants.{Done}
 
 -- These are the hits of the pattern at a version of the history, each once, ascending; and so many records have in
 -- their print what the pattern needs
-pub record AreAllHits (h : List Change) (version : ℕ) (pattern : PatternTerm) (tried : ℕ) (hits : List ℕ) : Type 0 where
+pub record AreAllHits (h : History) (version : ℕ) (pattern : PatternTerm) (tried : ℕ) (hits : List ℕ) : Type 0 where
   pub are : AreHits h version pattern hits
   pub want : List Bool
   pub need : IsNeedOf pattern want
@@ -35,7 +36,7 @@ pub record AreAllHits (h : List Change) (version : ℕ) (pattern : PatternTerm) 
   pub count : tried ≡ length screened
 
 -- a version that the history has, and that is no older than any that these calls were told
-abbrev pub IsUpToDate : List Change → Calls → ℕ → Type 0
+abbrev pub IsUpToDate : History → Calls → ℕ → Type 0
 IsUpToDate h before version = (version ≤ head h) × ((v : ℕ) → IsTold before v → v ≤ version)
 
 -- A search that came to its end listed the hits of the history, at a version no older than any that its caller was told
@@ -49,14 +50,14 @@ SearchesAreHits =
     → AreAllHits t.history listed.version pattern listed.tried listed.hits × IsUpToDate t.history before listed.version
 
 -- what was listed for the text of a pattern, with the numbers of its end
-pub record IsTrueList (h : List Change) (text : List ℕ) (version tried count : ℕ) (hits : List ℕ) : Type 0 where
+pub record IsTrueList (h : History) (text : List ℕ) (version tried count : ℕ) (hits : List ℕ) : Type 0 where
   pub pattern : PatternTerm
   pub is : IsPatternOf text pattern
   pub all : AreAllHits h version pattern tried hits
   pub length_is : count ≡ length hits
 
 -- each search that came to its end listed the hits, at a version no older than any that a line before it shows
-abbrev pub SearchesAreTrue : List Change → List Exchange → Type 0
+abbrev pub SearchesAreTrue : History → List Exchange → Type 0
 SearchesAreTrue h exchanges =
     (before after : List Exchange) (x : Exchange) (text : List ℕ) (version tried count : ℕ)
     → exchanges ≡ before ++ x ∷ after
@@ -65,7 +66,7 @@ SearchesAreTrue h exchanges =
 
 -- Each cursor that was opened, and whose pages came to their end before it was closed, listed the hits at the version
 -- of its opening; and that is no older than any version that a line before the opening shows
-abbrev pub CursorsAreTrue : List Change → List Exchange → Type 0
+abbrev pub CursorsAreTrue : History → List Exchange → Type 0
 CursorsAreTrue h exchanges =
     (before between after : List Exchange) (x y : Exchange) (name text hits : List ℕ) (opened version tried count : ℕ)
     → exchanges ≡ before ++ x ∷ (between ++ y ∷ after)
@@ -82,7 +83,7 @@ pub record IsPageOf (pattern : PatternTerm) (size : ℕ) (records : List Found) 
   pub more : Contains lines line.More ↔ (size < length records)
 
 -- the page with this number, from 0, of what is tried for the pattern of a text at a version of the history
-pub record IsTruePage (h : List Change) (text : List ℕ) (version size k : ℕ) (lines : Lines) : Type 0 where
+pub record IsTruePage (h : History) (text : List ℕ) (version size k : ℕ) (lines : Lines) : Type 0 where
   pub pattern : PatternTerm
   pub is : IsPatternOf text pattern
   pub want : List Bool
@@ -92,7 +93,7 @@ pub record IsTruePage (h : List Change) (text : List ℕ) (version size k : ℕ)
 
 -- Each reply to `next` that gave a page of a cursor listed the hits among its piece of what is tried at the version of
 -- the cursor's opening, whether the cursor came to its end or not
-abbrev pub PagesAreTrue : List Change → ℕ → List Exchange → Type 0
+abbrev pub PagesAreTrue : History → ℕ → List Exchange → Type 0
 PagesAreTrue h size exchanges =
     (before between after : List Exchange) (x y : Exchange) (name text : List ℕ) (version k : ℕ)
     → exchanges ≡ before ++ x ∷ (between ++ y ∷ after)
@@ -102,7 +103,7 @@ PagesAreTrue h size exchanges =
     → IsTruePage h text version size k y.lines
 
 -- every search and every cursor of the dialogue, by pages of a size, listed the hits of the history
-pub record AreTrue (h : List Change) (size : ℕ) (exchanges : List Exchange) : Type 0 where
+pub record AreTrue (h : History) (size : ℕ) (exchanges : List Exchange) : Type 0 where
   pub searches : SearchesAreTrue h exchanges
   pub cursors : CursorsAreTrue h exchanges
   pub pages : PagesAreTrue h size exchanges
@@ -117,7 +118,7 @@ DialoguesAreTrue =
 
 -- A transcript that is true by a history: the text is the replies of a true dialogue over all the lines, and the calls
 -- of the dialogue are the first of these
-pub record IsTrueTranscript (h : List Change) (size : ℕ) (lines : List TextLine) (calls : Calls) (text : List ℕ)
+pub record IsTrueTranscript (h : History) (size : ℕ) (lines : List TextLine) (calls : Calls) (text : List ℕ)
     : Type 0 where
   pub own : Calls
   pub left_open : List Cursor
@@ -126,7 +127,7 @@ pub record IsTrueTranscript (h : List Change) (size : ℕ) (lines : List TextLin
   pub are_true : AreTrue h size dialogue.exchanges
 
 -- The same of a session that stopped early: the text is a beginning of the replies of a dialogue over the first lines
-pub record IsTrueBeginning (h : List Change) (size : ℕ) (lines : List TextLine) (calls : Calls) (text : List ℕ)
+pub record IsTrueBeginning (h : History) (size : ℕ) (lines : List TextLine) (calls : Calls) (text : List ℕ)
     : Type 0 where
   pub left : List TextLine
   pub own : Calls
@@ -138,12 +139,12 @@ pub record IsTrueBeginning (h : List Change) (size : ℕ) (lines : List TextLine
   pub are_true : AreTrue h size dialogue.exchanges
 
 -- what is true of what was served of a script, by how the session ended
-abbrev pub IsTrueService : EndStatus → List Change → ℕ → List TextLine → Calls → List ℕ → Type 0
+abbrev pub IsTrueService : EndStatus → History → ℕ → List TextLine → Calls → List ℕ → Type 0
 IsTrueService Done h size lines calls text = IsTrueTranscript h size lines calls text
 IsTrueService _ h size lines calls text = IsTrueBeginning h size lines calls text
 
 -- a run from a sound state in which these are the caller's own calls, perhaps with others behind them
-pub record IsInRun (calls : Calls) (h : List Change) : Type 0 where
+pub record IsInRun (calls : Calls) (h : History) : Type 0 where
   pub before : State
   pub after : State
   pub steps : List Step
@@ -158,5 +159,5 @@ pub record IsInRun (calls : Calls) (h : List Change) : Type 0 where
 -- what a session served over such a run is true by the history at the run's end
 abbrev pub ServicesAreTrue : Type 0
 ServicesAreTrue =
-    (end : EndStatus) (size : ℕ) (lines : List TextLine) (calls : Calls) (text : List ℕ) (h : List Change)
+    (end : EndStatus) (size : ℕ) (lines : List TextLine) (calls : Calls) (text : List ℕ) (h : History)
     → IsInRun calls h → IsServed end size lines calls text → IsTrueService end h size lines calls text
