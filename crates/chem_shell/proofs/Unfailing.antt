@@ -10,7 +10,7 @@ use Rattle.store_core.specs.Calls.{NotAbove, NotRaised}
 use Rattle.store_core.specs.Stored.{empty}
 use Rattle.store_disk.specs.OnDisk.{StoreTerm}
 use Rattle.store_disk.specs.Stored.{Stretches}
-use Rattle.store_machine.specs.Machine.{CommitGives, FetchGives, Gives, LookGives, NoneFell, PinGives, PruneGives, Rose, SomeRose, StatsGives, UnpinGives}
+use Rattle.store_machine.specs.Machine.{CommitGives, FetchGives, Gives, IsSure, LookGives, NoneFell, PinGives, PruneGives, Rose, SomeRose, StatsGives, UnpinGives}
 use Rattle.store_machine.specs.Runs.{IsCalm, IsRun, calls_of, is_call}
 use Rattle.store_machine.specs.declared.machine.Change.{Change}
 use Rattle.store_machine.specs.declared.machine.Event.{Event}
@@ -20,7 +20,7 @@ use Rattle.store_machine.specs.declared.machine.Reply.{Reply}
 use Rattle.store_machine.specs.declared.machine.Reply.TheVariants.{DiskFault}
 use Rattle.store_machine.specs.declared.machine.State.{State}
 use Rattle.store_machine.specs.declared.machine.Step.{Step}
-use Rattle.chem_shell.specs.Runs.{AreOfRun, IsSure}
+use Rattle.chem_shell.specs.Runs.{AreOfRun}
 
 -- a call lets no count of faults fall
 fell_of : (s : State) (owner : ℕ) (e : Event) (r : Reply) (s' : State) → is_call e ≡ true → Gives s owner e r s'

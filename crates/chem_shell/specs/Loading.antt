@@ -29,22 +29,18 @@ IsCausedBy fault.NotAStore status place = (status ≡ NOT_A_STORE) × (place ≡
 IsCausedBy (fault.Damaged at) status place = (status ≡ DAMAGED) × (place ≡ at)
 IsCausedBy fault.NoMemory status place = (status ≡ NO_MEMORY) × (place ≡ 0)
 
--- what `run` leaves of an end and of the disk
-pub record ServesRun {D S K : Type 0} (model : DiskModel D) (plan : Plan)
-    (left : S → Option (List ℕ)) (source_faults : S → ℕ) (written : K → Option (List ℕ)) (sink_faults : K → ℕ)
-    (a a' : D) (old new : End S K) : Type 0 where
-  pub runs : IsRefused model a a' old new ⊎ RunsOn model left written plan a a' old new
+-- the causes of the statuses that come of an end
+pub record HasEndCauses {S K : Type 0} (left : S → Option (List ℕ)) (source_faults : S → ℕ) (sink_faults : K → ℕ)
+    (old new : End S K) : Type 0 where
   pub source_fault : new.status ≡ SOURCE_FAULT → Rose (source_faults old.source) (source_faults new.source)
   pub sink_fault : new.status ≡ SINK_FAULT → Rose (sink_faults old.sink) (sink_faults new.sink)
   pub input_too_long : new.status ≡ INPUT_TOO_LONG → TakesExactly (left old.source) (left new.source) INPUT_LIMIT
 
--- what the command of a plan leaves of an end and of the disk
-abbrev pub Serves : {D S K : Type 0} → Verb → DiskModel D → Plan → (S → Option (List ℕ)) → (S → ℕ)
-    → (K → Option (List ℕ)) → (K → ℕ) → D → D → End S K → End S K → Type 0
-Serves Mem model plan left source_faults written sink_faults a a' old new =
-    (a' ≡ a) × ServesMem plan left source_faults written sink_faults old new
-Serves Bulk model plan left source_faults written sink_faults a a' old new =
-    (a' ≡ a) × ServesBulk plan written sink_faults old new
-Serves Run model plan left source_faults written sink_faults a a' old new =
-    ServesRun model plan left source_faults written sink_faults a a' old new
-Serves Init model plan left source_faults written sink_faults a a' old new = ⊥
+-- what the command of a plan leaves of an end and of disk `a`; `b` is the second disk
+abbrev pub Serves : {D S K : Type 0} → Verb → DiskModel D → Plan → (S → Option (List ℕ)) → (K → Option (List ℕ))
+    → D → D → D → End S K → End S K → Type 0
+Serves Mem model plan left written a a' b old new = (a' ≡ a) × ServesMem plan left written old new
+Serves Bulk model plan left written a a' b old new = (a' ≡ a) × ServesBulk plan written old new
+Serves Run model plan left written a a' b old new =
+    IsRefused model a a' old new ⊎ RunsOn model left written plan a a' b old new
+Serves Init model plan left written a a' b old new = ⊥
