@@ -16,8 +16,8 @@ const PIECE: usize = 16 * 1024;
 // How often a call that a signal interrupted is made again.
 const TRIES: u32 = 1_000_000;
 
-/// A reader of std as a source. Each error of the reader is a fault, but not an interrupted call. Over a reader whose bytes std's clauses
-/// know, it tells what is left. Over a file or a terminal it tells nothing.
+/// A reader of std as a source. Each error of the reader is a fault, but an interrupted call is made again. Over a reader
+/// whose bytes std's clauses know, it tells what is left. Over a file or a terminal it tells nothing.
 #[derive(Drop)]
 pub struct StdSource<R> {
     reader: R,
@@ -58,9 +58,9 @@ impl<R: Read + Drop> Source for StdSource<R> {
     }
 }
 
-/// A writer of std as a sink. Each error of the writer is a fault, but not an interrupted call, and so is a write that takes nothing of a
-/// piece that is not empty. Over a writer whose bytes std's clauses know, it tells what was written. Over a
-/// file or a terminal it tells nothing.
+/// A writer of std as a sink. Each error of the writer is a fault, but an interrupted call is made again; so is a write
+/// that takes nothing of a piece that is not empty. Over a writer whose bytes std's clauses know, it tells what was
+/// written. Over a file or a terminal it tells nothing.
 #[derive(Drop)]
 pub struct StdSink<W> {
     writer: W,
