@@ -10,7 +10,7 @@ pub nil_of : (l : List ℕ) → length l ≡ 0 → l ≡ []
 nil_of [] is = refl
 nil_of (b ∷ l) is = absurd (omega (arith, is))
 
-pub text_on_nothing : (l : List ℕ) → l ≡ [] → written 0 (header ++ CLOSED ∷ []) l ≡ text []
+pub text_on_nothing : (l : List ℕ) → l ≡ [] → written 0 (header ++ CLOSED ∷ []) l ≡ text header []
 unfolding prefix
 text_on_nothing l is = ap (λ (k : List ℕ). written 0 (header ++ CLOSED ∷ []) k) is
 

@@ -11,7 +11,7 @@ ghost use Rattle.journal_core.specs.declared.format.TheConstants.{CLOSED};
 
 use crate::faults::AppendFault;
 use crate::format::{CLOSED, OPEN};
-use crate::put::put;
+use crate::synced::put;
 use crate::window::Window;
 use disk_edge::{Disk, DiskFail, MemDisk};
 use std::alloc::{AllocError, Global};
@@ -55,16 +55,18 @@ impl<D: Disk> Journal<D> {
         requires few { IsShort payload.now }
         requires room { self.old.place < 2 ^ 62 }
 
-        ensures ok { OnOk result ((ps : List (List ℕ)) → Rests D.model self.old ps
-            → Rests D.model self.new (ps ++ payload.now ∷ [])) }
-        ensures sure { OnSure result ((ps : List (List ℕ)) → Rests D.model self.old ps
-            → Rests D.model self.new ps) }
-        ensures no_image { OnSure result ((ps : List (List ℕ)) → Rests D.model self.old ps
-            → (c : List ℕ) → D.model.images self.new.disk c → ¬ Opens (ps ++ payload.now ∷ []) c) }
-        ensures doubt { OnDoubt result ((ps : List (List ℕ)) → Rests D.model self.old ps
-            → Doubts D.model self.new ps payload.now) }
-        ensures no_memory { OnWant result ((ps : List (List ℕ)) → Rests D.model self.old ps
-            → Rests D.model self.new ps) }
+        ensures ok { OnOk result ((front : List ℕ) (ps : List (List ℕ))
+            → Rests D.model self.old front ps
+            → Rests D.model self.new front (ps ++ payload.now ∷ [])) }
+        ensures sure { OnSure result ((front : List ℕ) (ps : List (List ℕ))
+            → Rests D.model self.old front ps → Rests D.model self.new front ps) }
+        ensures no_image { OnSure result ((front : List ℕ) (ps : List (List ℕ))
+            → Rests D.model self.old front ps → (c : List ℕ) → D.model.images self.new.disk c
+            → ¬ Opens front (ps ++ payload.now ∷ []) c) }
+        ensures doubt { OnDoubt result ((front : List ℕ) (ps : List (List ℕ))
+            → Rests D.model self.old front ps → Doubts D.model self.new front ps payload.now) }
+        ensures no_memory { OnWant result ((front : List ℕ) (ps : List (List ℕ))
+            → Rests D.model self.old front ps → Rests D.model self.new front ps) }
         ensures untold { D.model.content self.old.disk ≡ None
             → D.model.content self.new.disk ≡ None }
         ensures in_doubt { self.new.doubt ≡ is_doubt result }
@@ -73,8 +75,9 @@ impl<D: Disk> Journal<D> {
         ensures stays { OnErr result (self.new.place ≡ self.old.place) }
 
         // A crash at any moment of the call leaves the payloads from before it, with the new one or without.
-        ensures moments { (ps : List (List ℕ)) → Rests D.model self.old ps
-            → AtEachMoment D.model self.old.disk self.new.disk (BeforeOrAfter ps payload.now) }
+        ensures moments { (front : List ℕ) (ps : List (List ℕ)) → Rests D.model self.old front ps
+            → AtEachMoment D.model self.old.disk self.new.disk
+            (BeforeOrAfter front ps payload.now) }
         ensures past { Keeps D.model self.old.disk self.new.disk }
 
         ensures sure_cause { OnSure result (Faulted D.model self.old.disk self.new.disk) }
@@ -106,14 +109,15 @@ impl<D: Disk> Journal<D> {
     pub fn settle(&mut self) -> Result<(), DiskFail>
         requires doubt { self.old.doubt ≡ true }
 
-        ensures ok { OnOk result ((ps : List (List ℕ)) (p : List ℕ)
-            → Doubts D.model self.old ps p → Rests D.model self.new ps) }
-        ensures gone { OnOk result ((ps : List (List ℕ)) (p : List ℕ) → Doubts D.model self.old ps p
-            → (c : List ℕ) → D.model.images self.new.disk c → ¬ Opens (ps ++ p ∷ []) c) }
-        ensures failed { OnFailed result ((ps : List (List ℕ)) (p : List ℕ)
-            → Doubts D.model self.old ps p → Doubts D.model self.new ps p) }
-        ensures no_memory { OnNoMemory result ((ps : List (List ℕ)) (p : List ℕ)
-            → Doubts D.model self.old ps p → Doubts D.model self.new ps p) }
+        ensures ok { OnOk result ((front : List ℕ) (ps : List (List ℕ)) (p : List ℕ)
+            → Doubts D.model self.old front ps p → Rests D.model self.new front ps) }
+        ensures gone { OnOk result ((front : List ℕ) (ps : List (List ℕ)) (p : List ℕ)
+            → Doubts D.model self.old front ps p → (c : List ℕ) → D.model.images self.new.disk c
+            → ¬ Opens front (ps ++ p ∷ []) c) }
+        ensures failed { OnFailed result ((front : List ℕ) (ps : List (List ℕ)) (p : List ℕ)
+            → Doubts D.model self.old front ps p → Doubts D.model self.new front ps p) }
+        ensures no_memory { OnNoMemory result ((front : List ℕ) (ps : List (List ℕ)) (p : List ℕ)
+            → Doubts D.model self.old front ps p → Doubts D.model self.new front ps p) }
         ensures untold { D.model.content self.old.disk ≡ None
             → D.model.content self.new.disk ≡ None }
         ensures settled { OnOk result (self.new.doubt ≡ false) }
@@ -122,8 +126,9 @@ impl<D: Disk> Journal<D> {
         ensures place { self.new.place ≡ self.old.place }
 
         // A crash at any moment of the call leaves the payloads without the one in doubt or with it.
-        ensures moments { (ps : List (List ℕ)) (p : List ℕ) → Doubts D.model self.old ps p
-            → AtEachMoment D.model self.old.disk self.new.disk (BeforeOrAfter ps p) }
+        ensures moments { (front : List ℕ) (ps : List (List ℕ)) (p : List ℕ)
+            → Doubts D.model self.old front ps p
+            → AtEachMoment D.model self.old.disk self.new.disk (BeforeOrAfter front ps p) }
         ensures past { Keeps D.model self.old.disk self.new.disk }
 
         ensures cause { OnFailed result (Faulted D.model self.old.disk self.new.disk) }

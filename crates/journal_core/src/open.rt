@@ -7,13 +7,13 @@ ghost use Rattle.journal_core.specs.Answers.{OnUnwritten, OnRecord, OnEnd, OnDam
 ghost use Rattle.journal_core.specs.Journal.{IsEmptyJournal, Reads, Rests};
 ghost use Rattle.journal_core.specs.Looks.{Narrows, Looks, Stays};
 ghost use Rattle.journal_core.specs.Found.{IsMeasured};
-ghost use Rattle.journal_core.specs.Records.{IsShort, Breaks, IsNoJournal};
+ghost use Rattle.journal_core.specs.Records.{IsShort, Breaks, IsNoJournal, header};
 
 use crate::faults::{CreateFault, LoadFault};
 use crate::format::{HEADER, NO_RECORDS};
 use crate::journal::Journal;
-use crate::put::put;
 use crate::record::{Found, record_at};
+use crate::synced::put;
 use crate::window::Window;
 use disk_edge::{Disk, DiskFail};
 use std::alloc::Global;
@@ -45,7 +45,7 @@ impl<D: Disk> Journal<D> {
     /// Opens a journal at its first record. It syncs first, and writes nothing. Takes no memory.
     pub fn load(alloc: Global, disk: D) -> Result<Journal<D>, (LoadFault, D)>
         ensures ok { IfOk result (λ journal. IfTold (D.model.content disk)
-            (λ _. Reads D.model journal [])) }
+            (λ _. Reads D.model journal header [])) }
         ensures start { IfOk result (λ journal. (journal.place ≡ 8)
             × (journal.ready ≡ false) × (journal.doubt ≡ false)) }
         ensures not_a_store { IfErr result (λ e. e.0 ≡ LoadFault.NotAStore
@@ -79,22 +79,23 @@ impl<D: Disk> Journal<D> {
 
         ensures record { OnRecord result (λ at payload. (at ≡ self.old.place) × IsShort payload
             × (self.new.place ≡ at + 5 + length payload) × (self.new.ready ≡ false)) }
-        ensures reads { OnRecord result (λ at payload. (ps : List (List ℕ))
-            → Reads D.model self.old ps → Reads D.model self.new (ps ++ payload ∷ [])) }
+        ensures reads { OnRecord result (λ at payload. (front : List ℕ) (ps : List (List ℕ))
+            → Reads D.model self.old front ps → Reads D.model self.new front (ps ++ payload ∷ [])) }
         ensures below { self.new.place < 2 ^ 64 }
         ensures end { OnEnd result ((self.new.place ≡ self.old.place) × (self.new.ready ≡ true)) }
-        ensures opens { OnEnd result ((ps : List (List ℕ)) → Reads D.model self.old ps
-            → Rests D.model self.new ps) }
-        ensures damaged { OnDamaged result (λ at. (at ≡ self.old.place) × ((ps : List (List ℕ))
-            → Reads D.model self.old ps → IfTold (D.model.content self.old.disk) (Breaks ps))) }
+        ensures opens { OnEnd result ((front : List ℕ) (ps : List (List ℕ))
+            → Reads D.model self.old front ps → Rests D.model self.new front ps) }
+        ensures damaged { OnDamaged result (λ at. (at ≡ self.old.place)
+            × ((front : List ℕ) (ps : List (List ℕ)) → Reads D.model self.old front ps
+            → IfTold (D.model.content self.old.disk) (Breaks front ps))) }
         ensures cause { IsErrOf result LoadFault.Disk
             → Faulted D.model self.old.disk self.new.disk }
         ensures no_other { ¬ IsErrOf result LoadFault.NotAStore }
 
         ensures stays { OnErr result ((self.new.place ≡ self.old.place)
             × (self.new.ready ≡ self.old.ready)) }
-        ensures still_reads { OnErr result ((ps : List (List ℕ))
-            → Reads D.model self.old ps → Reads D.model self.new ps) }
+        ensures still_reads { OnErr result ((front : List ℕ) (ps : List (List ℕ))
+            → Reads D.model self.old front ps → Reads D.model self.new front ps) }
         ensures settled { self.new.doubt ≡ false }
         ensures looks { Looks D.model self.old.disk self.new.disk }
     {

@@ -1,4 +1,4 @@
-use Rattle.std.proofs.Common.{◌≡◌, ◌-◌, ◌^◌, [], false}
+use Rattle.std.proofs.Common.{◌≡◌, ◌++◌, ◌-◌, ◌^◌, ℕ, List, false}
 use Rattle.journal_core.specs.Journal.{Reads}
 use Rattle.journal_core.specs.Looks.{Looks}
 use Rattle.commit_log.specs.Log.{Takes, changes_of, payloads}
@@ -10,8 +10,8 @@ invariant-loop-commit g l =
     record {
       settled : l.journal.doubt ≡ false;
       takes : Takes l.fn.journal.place l.commits.items l.journal.place;
-      reads : Reads d l.fn.journal []
-          → Reads d l.journal (payloads (changes_of l.commits.items));
+      reads : (front : List ℕ) (before : List (List ℕ)) → Reads d l.fn.journal front before
+          → Reads d l.journal front (before ++ payloads (changes_of l.commits.items));
       looks : Looks d l.fn.journal.disk l.journal.disk;
     }
 

@@ -1,5 +1,5 @@
 use Rattle.std.proofs.Common.{ℕ, List, [], Some, ◌∙◌, ap, arith}
-use Rattle.journal_core.specs.Records.{text}
+use Rattle.journal_core.specs.Records.{header, text}
 use Rattle.journal_core.proofs.Created.{nil_of, text_on_nothing, torn_moments, torn_now}
 use Rattle.journal_core.proofs.Told.{becomes_told}
 use Rattle.journal_core.proofs.open.write_header.Goals as goal
@@ -12,7 +12,7 @@ returns-in-Ok-put-clause-ok g c l told =
     let new = becomes_told (d.content c.len.new.self) (d.content c.put.new.disk) _ l (len.content ∙ told)
     c.in-Ok-put.ensures.content in
     let is = new ∙ ap (λ (k : List ℕ). Some k) (text_on_nothing l empty) in
-    (empty, (is, c.in-Ok-put.ensures.synced (text []) is))
+    (empty, (is, c.in-Ok-put.ensures.synced (text header []) is))
 
 pub returns-in-Ok-put-clause-images : goal.returns-in-Ok-put-clause-images
 returns-in-Ok-put-clause-images g c =

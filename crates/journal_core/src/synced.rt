@@ -7,7 +7,7 @@ ghost use Rattle.disk_edge.specs.Moments.{AtEachMoment};
 use disk_edge::{Disk, DiskFail};
 
 /// Writes bytes at a place and syncs. A crash at any moment of it leaves an image from before, torn in the range.
-pub(crate) fn put<D: Disk>(disk: &mut D, at: u64, bytes: &[u8]) -> Result<(), DiskFail>
+pub fn put<D: Disk>(disk: &mut D, at: u64, bytes: &[u8]) -> Result<(), DiskFail>
     requires start { IfTold (D.model.content disk.old) (λ l. at ≤ length l) }
     requires end { at + length bytes.now < 2 ^ 63 }
 
