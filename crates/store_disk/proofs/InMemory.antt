@@ -10,7 +10,7 @@ use Rattle.disk_edge.specs.Medium.{Medium, model}
 use Rattle.disk_edge.specs.MediumLaws.{within}
 use Rattle.disk_edge.specs.declared.failures.Failures.{Failures}
 use Rattle.journal_core.specs.RecordLaws.{one_list, text_opens}
-use Rattle.journal_core.specs.Records.{Opens, text}
+use Rattle.journal_core.specs.Records.{Opens, header, text}
 use Rattle.journal_core.specs.Standing.{Standing}
 use Rattle.store_core.specs.Stored.{empty}
 use Rattle.store_machine.specs.History.{begun, head, of_commits}
@@ -74,11 +74,12 @@ no-commits [] e = refl
 no-commits (c ∷ cs) e = cc e
 
 -- where nothing was written nothing was committed
-pub none-yet : (h : History) → OpensTo h (text []) → h ≡ begun
+pub none-yet : (h : History) → OpensTo h (text header []) → h ≡ begun
 none-yet h o =
-    let opens : Opens [] (text []) = subst (Opens []) (append-nil (text [])) (text_opens [] [] tt) in
+    let opens : Opens header [] (text header []) =
+    subst (Opens header []) (append-nil (text header [])) (text_opens header [] [] tt) in
     plain h o.history
-    ∙ ap of_commits (no-commits h.commits (one_list (payloads h) [] (text []) o.opens opens))
+    ∙ ap of_commits (no-commits h.commits (one_list header (payloads h) [] (text header []) o.opens opens))
 
 pub at-ok : {T E P : Type 0} (r : Result T E) → is_err r ≡ false → OnOk r P → P
 at-ok (Ok x) e p = p

@@ -3,7 +3,7 @@ use Rattle.std.proofs.Common.{◌≡◌, ◌&&◌, ◌+◌, ◌++◌, ◌∙◌,
 use Rattle.std.proofs.lemmas.List.{map-append}
 use Rattle.disk_edge.specs.Disk.{DiskModel, IfTold, Keeps}
 use Rattle.disk_edge.specs.Moments.{AtEachMoment}
-use Rattle.journal_core.specs.Records.{Opens}
+use Rattle.journal_core.specs.Records.{Opens, header}
 use Rattle.journal_core.specs.Standing.{Standing}
 use Rattle.store_core.specs.Calls.{Calls}
 use Rattle.store_core.specs.Stored as memory
@@ -68,19 +68,19 @@ history-after law s c sound serves may =
 
 -- what the bytes of a disk open to: the history, and this with a commit that may be added
 module _ (law : RunsStaySound) (m : Memory) (s : State) (h : memory.IsAt m s) where
-  pub opens-to : (bytes : List ℕ) → Opens (payloads s.history) bytes → OpensTo s.history bytes
+  pub opens-to : (bytes : List ℕ) → Opens header (payloads s.history) bytes → OpensTo s.history bytes
   opens-to bytes o = record {
     history = h.sound.history;
     few = omega (arith, h.stands.version, h.stands.within);
     opens = o;
   }
 
-  pub opens-with : (c : Change) (bytes : List ℕ) → MayAdd s c → Opens (payloads s.history ++ payload c ∷ []) bytes
+  pub opens-with : (c : Change) (bytes : List ℕ) → MayAdd s c → Opens header (payloads s.history ++ payload c ∷ []) bytes
       → OpensTo (grown s.history (c ∷ [])) bytes
   opens-with c bytes may o = record {
     history = history-after law s c h.sound h.serves may;
     few = omega (arith, may.2, h.stands.limit, h.stands.most, length-append s.history.commits (c ∷ []));
-    opens = subst (λ ps. Opens ps bytes) (sym (map-append payload s.history.commits (c ∷ []))) o;
+    opens = subst (λ ps. Opens header ps bytes) (sym (map-append payload s.history.commits (c ∷ []))) o;
   }
 
   -- what the images of now show
@@ -95,7 +95,7 @@ module _ (law : RunsStaySound) (m : Memory) (s : State) (h : memory.IsAt m s) wh
     grown s.history (c ∷ []),
     inr (c, is, refl),
     opens-with c image (subst (λ d. MatchOption d (Unit {0}) (MayAdd s)) is h.sound.doubt)
-        (subst (λ p. Opens (payloads s.history ++ p ∷ []) image) (sym (same (payload c) more.0 more.1)) more.2),
+        (subst (λ p. Opens header (payloads s.history ++ p ∷ []) image) (sym (same (payload c) more.0 more.1)) more.2),
   )
     where
       same : (p q : List ℕ) → Some p ≡ Some q → p ≡ q

@@ -7,7 +7,7 @@ use Rattle.commit_log.specs.Log.{IsLog, IsLogged, end_of, payloads as log_payloa
 use Rattle.disk_edge.specs.Disk.{DiskModel, IfTold}
 use Rattle.journal_core.specs.Answers.{OnDamaged}
 use Rattle.journal_core.specs.Journal.{Reads, Rests}
-use Rattle.journal_core.specs.Records.{Opens}
+use Rattle.journal_core.specs.Records.{Opens, header}
 use Rattle.journal_core.specs.Standing.{Standing}
 use Rattle.journal_core.specs.declared.faults.LoadFault.{LoadFault}
 use Rattle.journal_core.specs.declared.faults.LoadFault.TheVariants as fault
@@ -81,8 +81,8 @@ module _ {D : Type 0} (model : DiskModel D) where
   same-history memory commits cs r = sym (ap payloads r.history ∙ same-payloads cs)
 
   pub loaded : (memory : Memory) (commits : ℕ) (cs : List Logged) (old new : Standing D) → IsReplayed memory commits cs
-      → (Reads model old [] → IfTold (model.content old.disk) (IsLog cs))
-      → (Reads model old [] → Rests model new (log_payloads cs))
+      → (Reads model old header [] → IfTold (model.content old.disk) (IsLog header [] cs))
+      → (Reads model old header [] → Rests model new header (log_payloads cs))
       → IsLoaded model memory commits old new
   loaded memory commits cs old new r log rests = record {
     state = r.state;
@@ -91,7 +91,7 @@ module _ {D : Type 0} (model : DiskModel D) where
     opens = λ reads l is. record {
       history = r.at.sound.history;
       few = omega (arith, r.at.stands.version, r.at.stands.within);
-      opens = subst (λ ps. Opens ps l) (same-history memory commits cs r) (log reads l is).opens;
+      opens = subst (λ ps. Opens header ps l) (same-history memory commits cs r) (log reads l is).opens;
     };
     rests = λ reads. subst (Rests model new) (same-history memory commits cs r) (rests reads);
   }
@@ -115,7 +115,7 @@ module _ {D : Type 0} (model : DiskModel D) where
   pub opened-store : (memory : Memory) (commits : ℕ) (a b : D) (old new : Standing D)
       → IsLoaded model memory commits old new → model.content old.disk ≡ model.content a
       → model.content new.disk ≡ model.content old.disk
-      → IfTold (model.content a) (λ _. Reads model old []) → new.doubt ≡ false
+      → IfTold (model.content a) (λ _. Reads model old header []) → new.doubt ≡ false
       → (s : State) × StandsFor model (record { memory = memory; journal = new; b = b }) s
       × IsOpened commits s × IfTold (model.content a) (OpensTo s.history)
   opened-store memory commits a b old new x first second reads flag =

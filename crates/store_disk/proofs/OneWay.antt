@@ -81,9 +81,9 @@ logged-payloads : (h : List Change) → log_payloads (map logged_change h) ≡ m
 logged-payloads [] = refl
 logged-payloads (c ∷ cs) = ap (λ l. payload c ∷ l) (logged-payloads cs)
 
-is-log : (h : History) (bytes : List ℕ) → OpensTo h bytes → IsLog (map logged_change h.commits) bytes
+is-log : (h : History) (bytes : List ℕ) → OpensTo h bytes → IsLog header [] (map logged_change h.commits) bytes
 is-log h bytes o = record {
-  opens = subst (λ ps. Opens ps bytes) (sym (logged-payloads h.commits)) o.opens;
+  opens = subst (λ ps. Opens header ps bytes) (sym (logged-payloads h.commits)) o.opens;
   logged = logged-all h.commits (history-in-range h o.history) o.opens.fit;
 }
 
@@ -145,10 +145,11 @@ never before c zs longer is h few refused =
     (omega (arith, few, ap (λ (l : List Logged). length l) is, length-append before (c ∷ zs))))
 
 module _ (one : OneChange)
-    (lists : (ps qs : List (List ℕ)) (bytes : List ℕ) → Opens ps bytes → Opens qs bytes → ps ≡ qs)
-    (logs : (cs ds : List Logged) (bytes : List ℕ) → IsLog cs bytes → IsLog ds bytes → cs ≡ ds)
-    (places : (a b : ℕ) (bytes : List ℕ) → DamagesLog a bytes → DamagesLog b bytes → a ≡ b)
-    (apart : (cs : List Logged) (at : ℕ) (bytes : List ℕ) → IsLog cs bytes → DamagesLog at bytes → ⊥) where
+    (lists : (ps qs : List (List ℕ)) (bytes : List ℕ) → Opens header ps bytes → Opens header qs bytes → ps ≡ qs)
+    (logs : (cs ds : List Logged) (bytes : List ℕ) → IsLog header [] cs bytes → IsLog header [] ds bytes → cs ≡ ds)
+    (places : (a b : ℕ) (bytes : List ℕ) → DamagesLog header [] a bytes → DamagesLog header [] b bytes → a ≡ b)
+    (apart : (cs : List Logged) (at : ℕ) (bytes : List ℕ) → IsLog header [] cs bytes → DamagesLog header [] at bytes
+    → ⊥) where
   pub one-history : (h k : History) (bytes : List ℕ) → OpensTo h bytes → OpensTo k bytes → h ≡ k
   one-history h k bytes o p =
       let e = lists (payloads h) (payloads k) bytes o.opens p.opens in
@@ -168,7 +169,7 @@ module _ (one : OneChange)
   one-place a b bytes (inr d) (inl e) = absurd (apart _ b bytes d.log e)
   one-place a b bytes (inr d) (inr e) =
       elim (compare d.before d.change d.more e.before e.change e.more (logs _ _ bytes d.log e.log)) [
-        | inl same ↦ d.place ∙ (ap (λ cs. length (prefix (log_payloads cs))) same ∙ sym e.place)
+        | inl same ↦ d.place ∙ (ap (λ cs. length (prefix header (log_payloads cs))) same ∙ sym e.place)
         | inr rest ↦ elim rest [
           | inl on ↦ absurd (never d.before d.change on.0 e.before on.1 e.history e.few d.refused)
           | inr on ↦ absurd (never e.before e.change on.0 d.before on.1 d.history d.few e.refused)
@@ -185,8 +186,8 @@ module _ (one : OneChange)
       never d.before d.change d.more cs refl (subst IsHistory (plain h o.history ∙ ap of_commits same) o.history)
       (omega (arith, o.few, ap (λ (l : List Change). length l) same, length-map cs told)) d.refused
 
-pub damaged-header : ((ps : List (List ℕ)) (bytes : List ℕ) → Opens ps bytes → ¬ IsNoJournal bytes)
-    → ((ps : List (List ℕ)) (bytes : List ℕ) → Breaks ps bytes → ¬ IsNoJournal bytes)
+pub damaged-header : ((ps : List (List ℕ)) (bytes : List ℕ) → Opens header ps bytes → ¬ IsNoJournal bytes)
+    → ((ps : List (List ℕ)) (bytes : List ℕ) → Breaks header ps bytes → ¬ IsNoJournal bytes)
     → (at : ℕ) (bytes : List ℕ) → Damages at bytes → IsNoJournal bytes → ⊥
 unfolding prefix
 damaged-header opens breaks at bytes (inl d) none =

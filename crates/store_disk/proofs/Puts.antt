@@ -5,7 +5,7 @@ use Rattle.disk_edge.specs.Moments.{AtEachMoment, two_calls}
 use Rattle.disk_edge.specs.declared.disk.DiskFail.{DiskFail}
 use Rattle.disk_edge.specs.declared.disk.DiskFail.TheVariants.{Failed, NoMemory}
 use Rattle.journal_core.specs.Journal.{Doubts, Rests}
-use Rattle.journal_core.specs.Records.{BeforeOrAfter}
+use Rattle.journal_core.specs.Records.{BeforeOrAfter, header}
 use Rattle.journal_core.specs.Standing.{Standing}
 use Rattle.store_disk.specs.OnDisk.{Has}
 use Rattle.store_disk.specs.Puts.{ShowsDoubt, ShowsOne}
@@ -16,7 +16,7 @@ apart e = cc e
 
 module _ {D : Type 0} (model : DiskModel D) (old new : Standing D) where
   pub unsettled : (model.content old.disk ≡ None → model.content new.disk ≡ None) → old.doubt ≡ true → new.doubt ≡ true
-      → ((ps : List (List ℕ)) (p : List ℕ) → Doubts model old ps p → Doubts model new ps p)
+      → ((ps : List (List ℕ)) (p : List ℕ) → Doubts model old header ps p → Doubts model new header ps p)
       → (ps : List (List ℕ)) (doubt : Option (List ℕ)) → Has model old ps doubt
       → Has model new ps doubt
   unsettled untold flag stays ok ps None h = apart (sym flag ∙ h.0)
@@ -37,8 +37,8 @@ on-fault (Err NoMemory) f p m q = f m q
 module _ {D : Type 0} (model : DiskModel D) where
   pub settle-shows : (old new : Standing D) → (model.content old.disk ≡ None → model.content new.disk ≡ None)
       → old.doubt ≡ true
-      → ((ps : List (List ℕ)) (p : List ℕ) → Doubts model old ps p
-      → AtEachMoment model old.disk new.disk (BeforeOrAfter ps p))
+      → ((ps : List (List ℕ)) (p : List ℕ) → Doubts model old header ps p
+      → AtEachMoment model old.disk new.disk (BeforeOrAfter header ps p))
       → (ps : List (List ℕ)) (doubt : Option (List ℕ)) → Has model old ps doubt
       → IfTold (model.content new.disk) (λ _. AtEachMoment model old.disk new.disk (ShowsDoubt ps doubt))
   settle-shows old new untold flag moments ps None h = apart (sym flag ∙ h.0)
@@ -54,7 +54,7 @@ module _ {D : Type 0} (model : DiskModel D) where
       → (model.content mid.disk ≡ None → model.content new.disk ≡ None)
       → (ps : List (List ℕ)) (doubt : Option (List ℕ)) (payload : List ℕ) → Has model mid ps None
       → IfTold (model.content mid.disk) (λ _. AtEachMoment model old.disk mid.disk (ShowsDoubt ps doubt))
-      → (Rests model mid ps → AtEachMoment model mid.disk new.disk (BeforeOrAfter ps payload))
+      → (Rests model mid header ps → AtEachMoment model mid.disk new.disk (BeforeOrAfter header ps payload))
       → IfTold (model.content new.disk) (λ _. AtEachMoment model old.disk new.disk (ShowsOne ps doubt payload))
   put-shows parts old mid new first then untold ps doubt payload h before moments l is =
       let k = told-before (model.content mid.disk) (model.content new.disk) untold l is in

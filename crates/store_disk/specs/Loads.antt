@@ -2,7 +2,7 @@
 use Rattle.std.specs.Prelude.{◌≡◌, ◌⊎◌, ◌++◌, ◌<◌, ◌≤◌, Err, List, [], ◌∷◌, length, None, Ok, Result, ℕ}
 use Rattle.commit_log.specs.Change.{Change as Logged}
 use Rattle.commit_log.specs.Log.{DamagesLog, IsLog, payloads as log_payloads}
-use Rattle.journal_core.specs.Records.{Opens, prefix}
+use Rattle.journal_core.specs.Records.{Opens, header, prefix}
 use Rattle.journal_core.specs.declared.faults.LoadFault.{LoadFault}
 use Rattle.store_machine.specs.History.{IsAllowed, IsHistory, IsValid, head, snapshot}
 use Rattle.store_machine.specs.Machine.{Recovers}
@@ -17,7 +17,7 @@ use Rattle.store_disk.specs.declared.disks.Disks.{Disks}
 pub record OpensTo (h : History) (bytes : List ℕ) : Type 0 where
   pub history : IsHistory h
   pub few : length h.commits ≤ 16777215
-  pub opens : Opens (payloads h) bytes
+  pub opens : Opens header (payloads h) bytes
 
 -- the change may come after a history
 abbrev pub MayFollow : History → Change → Type 0
@@ -28,15 +28,15 @@ pub record Disallows (at : ℕ) (bytes : List ℕ) : Type 0 where
   pub before : List Logged
   pub change : Logged
   pub more : List Logged
-  pub log : IsLog (before ++ change ∷ more) bytes
-  pub place : at ≡ length (prefix (log_payloads before))
+  pub log : IsLog header [] (before ++ change ∷ more) bytes
+  pub place : at ≡ length (prefix header (log_payloads before))
   pub history : IsHistory (history_of before)
   pub few : length before ≤ 16777215
   pub refused : ¬ MayFollow (history_of before) (told change)
 
 -- The store is damaged at a place: the log is, or else a commit is not allowed or has a text without a structure.
 abbrev pub Damages : ℕ → List ℕ → Type 0
-Damages at bytes = DamagesLog at bytes ⊎ Disallows at bytes
+Damages at bytes = DamagesLog header [] at bytes ⊎ Disallows at bytes
 
 -- the bytes open to what a crash may recover of a state: its history, or this and the commit in doubt
 abbrev pub OpensAfter : State → List ℕ → Type 0

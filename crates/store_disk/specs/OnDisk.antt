@@ -4,6 +4,7 @@ use Rattle.disk_edge.specs.Disk.{DiskModel, IfTold}
 use Rattle.journal_core.specs.Journal.{Doubts, Rests}
 use Rattle.journal_core.specs.Standing.{Standing}
 use Rattle.journal_core.specs.declared.format.TheConstants.{LONGEST_PAYLOAD}
+use Rattle.journal_core.specs.Records.{header}
 use Rattle.store_core.specs.Stored.{IsAt, IsStore, StoreTerm as Memory}
 use Rattle.store_machine.specs.declared.machine.State.{State}
 use Rattle.store_disk.specs.Payloads.{payload, payloads}
@@ -18,9 +19,9 @@ pub record StoreTerm (D : Type 0) : Type 0 where
 -- doubt, each image opens to them or to them and this one, and some image with it.
 abbrev pub Has : {D : Type 0} → DiskModel D → Standing D → List (List ℕ) → Option (List ℕ) → Type 0
 Has model journal payloads None =
-    (journal.doubt ≡ false) × IfTold (model.content journal.disk) (λ _. Rests model journal payloads)
+    (journal.doubt ≡ false) × IfTold (model.content journal.disk) (λ _. Rests model journal header payloads)
 Has model journal payloads (Some p) =
-    (journal.doubt ≡ true) × IfTold (model.content journal.disk) (λ _. Doubts model journal payloads p)
+    (journal.doubt ≡ true) × IfTold (model.content journal.disk) (λ _. Doubts model journal header payloads p)
 
 -- The store stands for a state: what is in memory is at it; the journal has the history, and the commit in doubt; the
 -- counts of faults are those of the disks. Whose the pins are is free.

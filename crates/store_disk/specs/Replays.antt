@@ -6,6 +6,7 @@ use Rattle.commit_log.specs.declared.change.Commit.{Commit}
 use Rattle.disk_edge.specs.Disk.{DiskModel, IfTold}
 use Rattle.journal_core.specs.Journal.{Reads, Rests}
 use Rattle.journal_core.specs.Standing.{Standing}
+use Rattle.journal_core.specs.Records.{header}
 use Rattle.store_core.specs.Stored.{IsAt, StoreTerm as Memory}
 use Rattle.store_machine.specs.History.{IsHistory}
 use Rattle.store_machine.specs.Openings.{IsOpened}
@@ -38,5 +39,5 @@ pub record IsLoaded {D : Type 0} (model : DiskModel D) (memory : Memory) (commit
   pub state : State
   pub at : IsAt memory state
   pub opened : IsOpened commits state
-  pub opens : Reads model old [] → IfTold (model.content old.disk) (OpensTo state.history)
-  pub rests : Reads model old [] → Rests model new (payloads state.history)
+  pub opens : Reads model old header [] → IfTold (model.content old.disk) (OpensTo state.history)
+  pub rests : Reads model old header [] → Rests model new header (payloads state.history)

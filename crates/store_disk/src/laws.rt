@@ -1,7 +1,7 @@
 //! What the bytes of a disk open to, as laws of any bytes and of any store, and the law on which the store's proofs stand.
 ghost use Rattle.std.specs.Prelude.{◌≡◌, ◌≤◌, ◌++◌, List, length, ℕ};
 ghost use Rattle.disk_edge.specs.Disk.{IfTold};
-ghost use Rattle.journal_core.specs.Records.{IsNoJournal, text};
+ghost use Rattle.journal_core.specs.Records.{IsNoJournal, header, text};
 ghost use Rattle.store_machine.specs.History.{IsHistory};
 ghost use Rattle.store_machine.specs.Laws.{RunsStaySound};
 ghost use Rattle.store_machine.specs.Owners.{SameButOwners};
@@ -32,7 +32,7 @@ pub fn a_store_opens_one_way()
 /// A store that was written opens to its history, whatever follows.
 pub fn what_was_written_opens()
     ensures { (h : History) (rest : List ℕ) → IsHistory h → length h.commits ≤ 16777215
-        → OpensTo h (text (payloads h) ++ rest) }
+        → OpensTo h (text header (payloads h) ++ rest) }
 {
     a_text_opens();
 }

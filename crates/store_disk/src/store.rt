@@ -7,7 +7,7 @@ ghost use Rattle.disk_edge.specs.Failures.{bound_of};
 ghost use Rattle.journal_core.specs.Answers.{OnDamaged};
 ghost use Rattle.journal_core.specs.Journal.{Reads};
 ghost use Rattle.journal_core.specs.Looks.{Looks, Narrows};
-ghost use Rattle.journal_core.specs.Records.{IsNoJournal};
+ghost use Rattle.journal_core.specs.Records.{IsNoJournal, header};
 ghost use Rattle.store_core.specs.Calls.{Calls, NotRaised, SameHeld, WornAs, is_worn};
 ghost use Rattle.store_core.specs.Records.{Shared};
 ghost use Rattle.store_core.specs.Replies.{fetch_calls};
@@ -290,7 +290,7 @@ fn memory_of<D: Disk>(
     ensures loaded { IfOk result (λ memory. IsLoaded D.model memory commits
         journal.old journal.new) }
     ensures ready { IfOk result (λ memory. IsReady memory journal.new) }
-    ensures damaged { OnDamaged result (λ at. Reads D.model journal.old []
+    ensures damaged { OnDamaged result (λ at. Reads D.model journal.old header []
         → IfTold (D.model.content journal.old.disk) (Damages at)) }
     ensures cause { IsErrOf result LoadFault.Disk
         → Faulted D.model journal.old.disk journal.new.disk }

@@ -1,4 +1,5 @@
-use Rattle.std.proofs.Common.{◌∙◌, ap, inr, List, subst, ℕ}
+use Rattle.std.proofs.Common.{◌∙◌, ap, inr, List, [], subst, ℕ}
+use Rattle.journal_core.specs.Records.{header}
 use Rattle.std.proofs.lemmas.Result.{IfOk-weaker}
 use Rattle.commit_log.specs.Log.{Takes, changes_of, end_of}
 use Rattle.commit_log.specs.declared.change.Commit.{Commit}
@@ -14,7 +15,7 @@ returns-clause-loaded g c =
     (λ memory r. loaded d memory c.args.commits
     (changes_of c.in_ok-log.log.items) c.args.journal.now c.read_all.new.journal
     (subst (λ (l : List Commit). IsReplayed memory c.args.commits (changes_of l)) c.deref.ensures.value r)
-    c.in_ok-log.ensures.log c.in_ok-log.ensures.rests) c.replay.ensures.ok
+    (c.in_ok-log.ensures.log header []) (c.in_ok-log.ensures.rests header [])) c.replay.ensures.ok
 
 pub returns-clause-ready : goal.returns-clause-ready
 returns-clause-ready g c =
@@ -33,4 +34,4 @@ returns-clause-damaged g c =
     (λ at stops reads l is. inr (disallowed c.in_ok-log.log.items at c.read_all.new.journal.place l
     (subst (λ (n : ℕ). Takes n c.in_ok-log.log.items c.read_all.new.journal.place) c.requires.start
     c.in_ok-log.ensures.takes) (subst (λ (l : List Commit). Stops l at) c.deref.ensures.value stops)
-    (c.in_ok-log.ensures.log reads l is))) c.replay.ensures.damaged
+    (c.in_ok-log.ensures.log header [] reads l is))) c.replay.ensures.damaged
