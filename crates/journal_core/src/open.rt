@@ -26,6 +26,8 @@ impl<D: Disk> Journal<D> {
         ensures not_empty { IsErrOf result.1 CreateFault.NotEmpty
             → IfTold (D.model.content disk) (λ l. 1 ≤ length l) }
         ensures stays { OnUnwritten result.1 (Stays D.model disk result.0) }
+        ensures kept { IsErrOf result.1 CreateFault.Disk → IfTold (D.model.content disk)
+            (λ l. 1 ≤ length l → Stays D.model disk result.0) }
         ensures cause { IsErrOf result.1 CreateFault.Disk → Faulted D.model disk result.0 }
 
         // Whatever it answers, what is left is what was there, torn in the bytes that are written.
@@ -124,6 +126,8 @@ fn write_header<D: Disk>(disk: &mut D) -> Result<(), CreateFault>
     ensures not_empty { IsErrOf result CreateFault.NotEmpty
         → IfTold (D.model.content disk.old) (λ l. 1 ≤ length l) }
     ensures stays { OnUnwritten result (Stays D.model disk.old disk.new) }
+    ensures kept { IsErrOf result CreateFault.Disk → IfTold (D.model.content disk.old)
+        (λ l. 1 ≤ length l → Stays D.model disk.old disk.new) }
     ensures cause { IsErrOf result CreateFault.Disk → Faulted D.model disk.old disk.new }
     ensures content { TearsContent 0 9 (D.model.content disk.old) (D.model.content disk.new) }
     ensures images { (c : List ℕ) → D.model.images disk.new c

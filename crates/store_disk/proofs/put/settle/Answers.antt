@@ -1,4 +1,5 @@
 use Rattle.std.proofs.Common.{sym}
+use Rattle.journal_core.specs.Records.{header}
 use Rattle.store_disk.proofs.Puts.{on-fault, settle-shows, unsettled}
 use Rattle.store_disk.proofs.put.settle.Goals as goal
 
@@ -7,11 +8,11 @@ returns-then-doubt-clause-err g c =
     let d = g.D.Disk.model in
     on-fault c.settle.result
     (λ stays flag. unsettled d c.args.journal.now c.settle.new.self c.settle.ensures.untold
-    (sym c.if-doubt.ensures) flag stays)
+    (sym c.if-doubt.ensures) flag (stays header))
     c.settle.ensures.failed c.settle.ensures.no_memory c.settle.ensures.in_doubt
 
 pub returns-then-doubt-clause-moments : goal.returns-then-doubt-clause-moments
 returns-then-doubt-clause-moments g c =
     let d = g.D.Disk.model in
     settle-shows d c.args.journal.now c.settle.new.self
-    c.settle.ensures.untold (sym c.if-doubt.ensures) c.settle.ensures.moments
+    c.settle.ensures.untold (sym c.if-doubt.ensures) (c.settle.ensures.moments header)
