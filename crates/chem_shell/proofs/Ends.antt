@@ -1,18 +1,19 @@
 -- Facts of each end, from what serving it leaves.
-use Rattle.std.proofs.Common.{◌≡◌, ◌≤◌, ℕ, Option, List, [], ◌∷◌, length, map, refl, sym, ap, ◌∙◌, subst, inl, inr, arith}
+use Rattle.std.proofs.Common.{◌≡◌, ◌⊎◌, ◌≤◌, ℕ, Option, List, [], ◌∷◌, length, map, refl, sym, ap, ◌∙◌, subst, inl, inr, arith}
+use Rattle.disk_edge.specs.Disk.{DiskModel}
 use Rattle.std.specs.Prelude.{All}
 use Rattle.std.specs.List.{AllZip}
 use Rattle.std.proofs.lemmas.List.Elements.{All-nil, All-cons}
 use Rattle.io_edge.specs.Faults.{Rose}
-use Rattle.session_run.specs.Served.{TakesExactly}
 use Rattle.chem_shell.specs.declared.request.Plan.{Plan}
 use Rattle.chem_shell.specs.declared.request.Verb.{Verb}
 use Rattle.chem_shell.specs.declared.request.Verb.TheVariants.{Mem, Init, Run, Bulk}
 use Rattle.chem_shell.specs.declared.top.End.{End}
-use Rattle.chem_shell.specs.declared.top.TheConstants.{SOURCE_FAULT, SINK_FAULT, INPUT_TOO_LONG, INPUT_LIMIT}
-use Rattle.chem_shell.specs.Status.{first_fault, IsCreationStatus, IsInputStatus, IsSinkStatus}
+use Rattle.chem_shell.specs.declared.top.TheConstants.{SOURCE_FAULT, SINK_FAULT, INPUT_TOO_LONG}
+use Rattle.chem_shell.specs.Status.{first_fault, IsCreationStatus, IsSinkStatus}
 use Rattle.chem_shell.specs.Ends.{with_status, ServesBulk, ServesMem}
-use Rattle.chem_shell.specs.Loading.{Serves, ServesRun}
+use Rattle.chem_shell.specs.Loading.{HasEndCauses, Serves}
+use Rattle.chem_shell.specs.OnDisk.{IsRefused, RunsOn}
 
 pub zip_weaker : {A B : Type 0} (R Q : A → B → Type 0) → ((x : A) (y : B) → R x y → Q x y) → (xs : List A) (ys : List B)
     → AllZip R xs ys → AllZip Q xs ys
@@ -61,7 +62,7 @@ fault_of_all_alike [] new n e f = absurd (omega arith)
 fault_of_all_alike (end ∷ []) new n e f = sym (ap (λ ends. first_fault (map (λ x. x.status) ends)) f ∙ first_of_one n)
 fault_of_all_alike (end ∷ other ∷ rest) new n e f = absurd (omega arith)
 
--- what serving leaves of an end, clause by clause
+-- no status of an end from which nothing is taken is its source's
 no_source_fault : (n : ℕ) → IsSinkStatus n → n ≡ SOURCE_FAULT → ⊥
 no_source_fault n (inl a) e = omega arith
 no_source_fault n (inr (inl a)) e = omega arith
@@ -72,11 +73,6 @@ no_long_input n (inl a) e = omega arith
 no_long_input n (inr (inl a)) e = omega arith
 no_long_input n (inr (inr a)) e = omega arith
 
--- want of memory is no fault of the input
-pub no_input_status : {P : Type 0} (n : ℕ) → n ≡ 8 → IsInputStatus n → P
-no_input_status n e (inl a) = absurd (omega (arith, e, a))
-no_input_status n e (inr a) = absurd (omega (arith, e, a))
-
 -- no creation has the status of words that ask for nothing
 pub never_created_usage : (n : ℕ) → IsCreationStatus n → n ≡ 2 → ⊥
 never_created_usage n (inl a) e = omega arith
@@ -84,45 +80,32 @@ never_created_usage n (inr (inl a)) e = omega arith
 never_created_usage n (inr (inr (inl a))) e = omega arith
 never_created_usage n (inr (inr (inr a))) e = omega arith
 
-module _ {D S K : Type 0} (content : D → Option (List ℕ)) (images : D → List ℕ → Type 0) (clock : D → ℕ)
-    (between : D → ℕ → ℕ → List ℕ → Type 0) (faults : D → ℕ) (bound : D → Option ℕ)
-    (left : S → Option (List ℕ)) (source_faults : S → ℕ) (written : K → Option (List ℕ))
-    (sink_faults : K → ℕ) (a a' : D) where
+-- the causes of an end's statuses, where nothing is taken from it
+pub sink_causes : {S K : Type 0} (left : S → Option (List ℕ)) (source_faults : S → ℕ) (sink_faults : K → ℕ)
+    (old new : End S K) → IsSinkStatus new.status
+    → (new.status ≡ SINK_FAULT → Rose (sink_faults old.sink) (sink_faults new.sink))
+    → HasEndCauses left source_faults sink_faults old new
+sink_causes left source_faults sink_faults old new status fault = record {
+  source_fault = λ e. absurd (no_source_fault new.status status e);
+  sink_fault = fault;
+  input_too_long = λ e. absurd (no_long_input new.status status e);
+}
+
+module _ {D S K : Type 0} (model : DiskModel D) (left : S → Option (List ℕ)) (written : K → Option (List ℕ))
+    (a a' b : D) where
   abbrev Left : Verb → Plan → End S K → End S K → Type 0
-  Left verb plan old new =
-      Serves verb content images clock between faults bound plan left source_faults written sink_faults a a' old new
-
-  pub source_fault_served : (verb : Verb) (plan : Plan) (old new : End S K) → Left verb plan old new
-      → new.status ≡ SOURCE_FAULT → Rose (source_faults old.source) (source_faults new.source)
-  source_fault_served Mem plan old new s = s.1.source_fault
-  source_fault_served Bulk plan old new s = λ e. absurd (no_source_fault new.status s.1.status e)
-  source_fault_served Run plan old new s = s.source_fault
-  source_fault_served Init plan old new s = absurd s
-
-  pub sink_fault_served : (verb : Verb) (plan : Plan) (old new : End S K) → Left verb plan old new
-      → new.status ≡ SINK_FAULT → Rose (sink_faults old.sink) (sink_faults new.sink)
-  sink_fault_served Mem plan old new s = s.1.sink_fault
-  sink_fault_served Bulk plan old new s = s.1.sink_fault
-  sink_fault_served Run plan old new s = s.sink_fault
-  sink_fault_served Init plan old new s = absurd s
-
-  pub too_long_served : (verb : Verb) (plan : Plan) (old new : End S K) → Left verb plan old new
-      → new.status ≡ INPUT_TOO_LONG → TakesExactly (left old.source) (left new.source) INPUT_LIMIT
-  too_long_served Mem plan old new s = s.1.input_too_long
-  too_long_served Bulk plan old new s = λ e. absurd (no_long_input new.status s.1.status e)
-  too_long_served Run plan old new s = s.input_too_long
-  too_long_served Init plan old new s = absurd s
+  Left verb plan old new = Serves verb model plan left written a a' b old new
 
   pub mem_served : (verb : Verb) (plan : Plan) (old new : End S K) → verb ≡ Mem → Left verb plan old new
-      → (a' ≡ a) × ServesMem plan left source_faults written sink_faults old new
+      → (a' ≡ a) × ServesMem plan left written old new
   mem_served verb plan old new e s = subst (λ v. Left v plan old new) e s
 
   pub bulk_served : (verb : Verb) (plan : Plan) (old new : End S K) → verb ≡ Bulk → Left verb plan old new
-      → (a' ≡ a) × ServesBulk plan written sink_faults old new
+      → (a' ≡ a) × ServesBulk plan written old new
   bulk_served verb plan old new e s = subst (λ v. Left v plan old new) e s
 
   pub run_served : (verb : Verb) (plan : Plan) (old new : End S K) → verb ≡ Run → Left verb plan old new
-      → ServesRun content images clock between faults bound plan left source_faults written sink_faults a a' old new
+      → IsRefused model a a' old new ⊎ RunsOn model left written plan a a' b old new
   run_served verb plan old new e s = subst (λ v. Left v plan old new) e s
 
 -- a fact of every one of some ends

@@ -6,6 +6,5 @@ pub mod WordsExamples
 pub mod Loaded
 pub mod EndCounts
 pub mod Untouched
-pub mod Lines
 pub mod Crashes
 pub mod Unfailing

@@ -1,40 +1,35 @@
--- Transcripts over a store in memory: whole ones, beginnings, and what a session put.
+-- What a session put of a script: whole transcripts, beginnings, and what is true of them.
 use Rattle.std.proofs.Common.{◌≡◌, ◌≢◌, ◌∙◌, ℕ, List, [], ◌∷◌, ◌++◌, Option, None, Some, IfSome, refl, sym, ap, subst, inl, inr, append-nil, arith, true}
 use Rattle.io_edge.specs.Lines.{TextLine, lines_of}
 use Rattle.session_run.specs.Cursors.{Calls}
-use Rattle.session_run.specs.Requests.{BeginWithAll}
 use Rattle.session_run.specs.Served as session
-use Rattle.session_run.specs.Served.{Writes}
+use Rattle.session_run.specs.Served.{TakesAll, TakesAtMost, Writes, WritesForTaken}
 use Rattle.session_run.specs.Transcript as script
-use Rattle.session_run.specs.Truths.{IsTrueBeginning, IsTrueService, ServicesAreTrue}
+use Rattle.session_run.specs.Truths.{IsInRun, IsTrueBeginning, IsTrueService, ServicesAreTrue}
 use Rattle.session_run.specs.declared.settings.EndStatus.{EndStatus}
 use Rattle.session_run.specs.declared.settings.EndStatus.TheVariants.{Done, SourceFault, SinkFault, NoMemory, InputTooLong, Worn}
 use Rattle.store_core.specs.Stored.{empty}
-use Rattle.store_machine.specs.Laws.{IsSound}
-use Rattle.store_machine.specs.declared.machine.Change.{Change}
-use Rattle.chem_shell.specs.Runs.{AreOfRun, IsTranscriptOfTaken, IsTranscriptPrefix}
-use Rattle.chem_shell.specs.Served.{WritesAll, WritesPrefix, WritesTaken}
-use Rattle.chem_shell.specs.Serving.{IsServed}
-use Rattle.chem_shell.specs.Status.{IsInputStatus, IsStatusOf}
+use Rattle.store_machine.specs.declared.machine.History.{History}
+use Rattle.chem_shell.specs.Ends.{ServesMem, ServesScript, with_status}
+use Rattle.chem_shell.specs.Runs.{AreOfRun, IsTranscriptBy, IsTranscriptPrefixBy}
+use Rattle.chem_shell.specs.Serving.{IsScriptServed}
+use Rattle.chem_shell.specs.Status.{IsEndStatus, IsInputStatus, IsStatusOf}
 use Rattle.chem_shell.specs.declared.request.Plan.{Plan}
-use Rattle.chem_shell.specs.declared.top.TheConstants.{DONE}
-use Rattle.chem_shell.proofs.Asked.{SamePlan}
-use Rattle.chem_shell.proofs.Lines.{first_lines}
+use Rattle.chem_shell.specs.declared.top.End.{End}
+use Rattle.chem_shell.specs.declared.top.TheConstants.{DONE, INPUT_LIMIT}
 
 -- requests that were answered whole are a beginning
 answered_begins : (page : ℕ) (lines : List TextLine) (calls : Calls) (text : List ℕ)
     → session.IsWholePrefix page lines calls text → script.IsTranscriptPrefix page lines calls text
-answered_begins page lines calls text (requests, left, own, cursors, begin, answered, all) = (
+answered_begins page lines calls text (left, own, cursors, dialogue, all) = (
   own,
   cursors,
   record {
-    requests = requests;
     left = left;
-    begin = begin;
     own = own;
     replies = text;
     cursors_open = cursors;
-    answered = answered;
+    answered = dialogue;
     last = inl (refl, refl, refl);
   },
   all,
@@ -42,28 +37,26 @@ answered_begins page lines calls text (requests, left, own, cursors, begin, answ
 
 whole_begins : (page : ℕ) (lines : List TextLine) (calls : Calls) (text : List ℕ)
     → script.IsTranscript page lines calls text → script.IsTranscriptPrefix page lines calls text
-whole_begins page lines calls text (requests, own, cursors, begin, answered, all) =
-    answered_begins page lines calls text (requests, [], own, cursors, begin, answered, all)
+whole_begins page lines calls text (own, cursors, dialogue, all) =
+    answered_begins page lines calls text ([], own, cursors, dialogue, all)
 
 nothing_begins : (page : ℕ) (lines : List TextLine) → script.IsTranscriptPrefix page lines [] []
 nothing_begins page lines = (
   [],
   [],
   record {
-    requests = [];
     left = lines;
-    begin = refl;
     own = [];
     replies = [];
     cursors_open = [];
-    answered = (refl, refl, refl);
+    answered = record { exchanges = []; begin = refl; exchanged = (refl, refl); said = refl };
     last = inl (refl, refl, refl);
   },
   refl,
 )
 
 -- a session that is not worn put a prefix
-pub served_begins : (ended : EndStatus) (page : ℕ) (lines : List TextLine) (calls : Calls) (text : List ℕ)
+served_begins : (ended : EndStatus) (page : ℕ) (lines : List TextLine) (calls : Calls) (text : List ℕ)
     → ended ≢ Worn
     → session.IsServed ended page lines calls text → script.IsTranscriptPrefix page lines calls text
 served_begins Done page lines calls text fit served = whole_begins page lines calls text served
@@ -74,194 +67,122 @@ served_begins NoMemory page lines calls text fit served = served
 served_begins InputTooLong page lines calls text fit served = answered_begins page lines calls text served
 
 -- the same of what is true of them
-pub true_begins : (ended : EndStatus) (h : List Change) (page : ℕ) (lines : List TextLine) (calls : Calls)
-    (text : List ℕ)
-    → ended ≢ Worn → IsTrueService ended h page lines calls text → IsTrueBeginning h page lines calls text
-true_begins Done h page lines calls text fit t = record {
-  exchanges = t.exchanges;
+true_begins : (ended : EndStatus) (h : History) (page : ℕ) (lines : List TextLine) (calls : Calls) (text : List ℕ)
+    → IsTrueService ended h page lines calls text → IsTrueBeginning h page lines calls text
+true_begins Done h page lines calls text t = record {
   left = [];
-  begin = t.begin;
-  said = ([], append-nil text ∙ t.said);
   own = t.own;
+  replies = text;
   left_open = t.left_open;
-  exchanged = t.exchanged;
+  dialogue = t.dialogue;
+  said = ([], append-nil text);
   made = t.made;
-  searches = t.searches;
-  cursors = t.cursors;
+  are_true = t.are_true;
 }
-true_begins Worn h page lines calls text fit t = absurd (fit refl)
-true_begins SourceFault h page lines calls text fit t = t
-true_begins SinkFault h page lines calls text fit t = t
-true_begins NoMemory h page lines calls text fit t = t
-true_begins InputTooLong h page lines calls text fit t = t
+true_begins Worn h page lines calls text t = t
+true_begins SourceFault h page lines calls text t = t
+true_begins SinkFault h page lines calls text t = t
+true_begins NoMemory h page lines calls text t = t
+true_begins InputTooLong h page lines calls text t = t
 
 nothing_inside : {X : Type 0} (before : List X) (x : X) (after : List X) → [] ≡ before ++ x ∷ after → ⊥
 nothing_inside [] x after e = cc
 nothing_inside (b ∷ before) x after e = cc
 
-nothing_is_true : (h : List Change) (page : ℕ) (lines : List TextLine) → IsTrueBeginning h page lines [] []
+nothing_is_true : (h : History) (page : ℕ) (lines : List TextLine) → IsTrueBeginning h page lines [] []
 nothing_is_true h page lines = record {
-  exchanges = [];
   left = lines;
-  begin = refl;
-  said = ([], refl);
   own = [];
+  replies = [];
   left_open = [];
-  exchanged = (refl, refl);
+  dialogue = record { exchanges = []; begin = refl; exchanged = (refl, refl); said = refl };
+  said = ([], refl);
   made = ([], refl);
-  searches = λ before after x text version tried count e is ends. absurd (nothing_inside before x after e);
-  cursors =
-      λ before between after x y name text hits opened version tried count e first begun stays last ends listed.
-      absurd (nothing_inside before x (between ++ y ∷ after) e);
+  are_true = record {
+    searches = λ before after x text version tried count e is ends. absurd (nothing_inside before x after e);
+    cursors =
+        λ before between after x y name text hits opened version tried count e first begun stays last ends listed.
+        absurd (nothing_inside before x (between ++ y ∷ after) e);
+    pages = λ before between after x y name text version k e first begun stays turned last gives.
+        absurd (nothing_inside before x (between ++ y ∷ after) e);
+  };
 }
 
 -- no calls are those of no run
 none_of_run : (commits : ℕ) → AreOfRun commits []
 none_of_run commits = record { steps = []; last = empty commits; run = refl; calm = tt; all = refl; sure = tt }
 
-pub writes_as : (before after : Option (List ℕ)) (P Q : List ℕ → Type 0) → ((text : List ℕ) → P text → Q text)
+writes_as : (before after : Option (List ℕ)) (P Q : List ℕ → Type 0) → ((text : List ℕ) → P text → Q text)
     → Writes before after P → Writes before after Q
 writes_as None after P Q f h = tt
 writes_as (Some old) after P Q f h = (h.0, h.1, f h.0 h.2)
 
--- what a session put, in the words of an end
-pub served_prefix : (ended : EndStatus) (commits page : ℕ) (input before after : Option (List ℕ)) → ended ≢ Worn
-    → IfSome input (λ bytes. Writes before after (IsServed ended commits page bytes))
-    → WritesPrefix commits page input before after
-served_prefix ended commits page None before after fit h = tt
-served_prefix ended commits page (Some bytes) before after fit h =
-    writes_as before after (IsServed ended commits page bytes) (IsTranscriptPrefix commits page bytes)
-    (λ text served. (
-      served.0,
-      served.1,
-      served_begins ended page (lines_of bytes) served.0 text fit served.2,
-      true_begins ended served.1.last.history page (lines_of bytes) served.0 text fit served.3,
-    )) h
+-- what a session put by the calls of a run is true by its history
+pub served_true : ServicesAreTrue → (ended : EndStatus) (page : ℕ) (input left before after : Option (List ℕ))
+    (calls : Calls) (h : History) → IsInRun calls h → session.IsServedBy ended page input left before after calls
+    → IsScriptServed ended page input left before after calls h
+served_true law ended page input left before after calls h run served =
+    record { script = go input served.script; taken = served.taken }
+  where
+    go : (input : Option (List ℕ))
+        → IfSome input (λ bytes. Writes before after (session.IsServed ended page (lines_of bytes) calls))
+        → IfSome input (λ bytes. Writes before after (λ text. session.IsServed ended page (lines_of bytes) calls text
+        × IsTrueService ended h page (lines_of bytes) calls text))
+    go None s = tt
+    go (Some bytes) s = writes_as before after (session.IsServed ended page (lines_of bytes) calls)
+        (λ text. session.IsServed ended page (lines_of bytes) calls text
+        × IsTrueService ended h page (lines_of bytes) calls text)
+        (λ text is. (is, law ended page (lines_of bytes) calls text h run is)) s
 
-served_all : (commits page : ℕ) (input before after : Option (List ℕ))
-    → IfSome input (λ bytes. Writes before after (IsServed Done commits page bytes))
-    → WritesAll commits page input before after
-served_all commits page None before after h = tt
-served_all commits page (Some bytes) before after h = h
+-- as a beginning
+prefix_of : (ended : EndStatus) (page : ℕ) (input before after : Option (List ℕ)) (calls : Calls) (h : History)
+    → ended ≢ Worn
+    → IfSome input (λ bytes. Writes before after (λ text. session.IsServed ended page (lines_of bytes) calls text
+    × IsTrueService ended h page (lines_of bytes) calls text))
+    → IfSome input (λ bytes. Writes before after (IsTranscriptPrefixBy page bytes calls h))
+prefix_of ended page None before after calls h fit s = tt
+prefix_of ended page (Some bytes) before after calls h fit s = writes_as before after
+    (λ text. session.IsServed ended page (lines_of bytes) calls text
+    × IsTrueService ended h page (lines_of bytes) calls text)
+    (IsTranscriptPrefixBy page bytes calls h)
+    (λ text is. (
+      served_begins ended page (lines_of bytes) calls text fit is.0,
+      true_begins ended h page (lines_of bytes) calls text is.1,
+    )) s
 
--- status 0 comes where the session came to the input's end
-pub all_of_status : (ended : EndStatus) (status commits page : ℕ) (input before after : Option (List ℕ))
+-- and as the whole, where the session came to the input's end
+all_of : (ended : EndStatus) (status page : ℕ) (input before after : Option (List ℕ)) (calls : Calls) (h : History)
     → IsStatusOf ended status → status ≡ DONE
-    → IfSome input (λ bytes. Writes before after (IsServed ended commits page bytes))
-    → WritesAll commits page input before after
-all_of_status Done status commits page input before after is e h = served_all commits page input before after h
-all_of_status Worn status commits page input before after is e h = absurd is
-all_of_status SourceFault status commits page input before after is e h = absurd (omega (arith, is, e))
-all_of_status SinkFault status commits page input before after is e h = absurd (omega (arith, is, e))
-all_of_status NoMemory status commits page input before after is e h = absurd (omega (arith, is, e))
-all_of_status InputTooLong status commits page input before after is e h = absurd (omega (arith, is, e))
+    → IfSome input (λ bytes. Writes before after (λ text. session.IsServed ended page (lines_of bytes) calls text
+    × IsTrueService ended h page (lines_of bytes) calls text))
+    → IfSome input (λ bytes. Writes before after (IsTranscriptBy page bytes calls h))
+all_of Done status page input before after calls h is e s = s
+all_of Worn status page input before after calls h is e s = absurd is
+all_of SourceFault status page input before after calls h is e s = absurd (omega (arith, is, e))
+all_of SinkFault status page input before after calls h is e s = absurd (omega (arith, is, e))
+all_of NoMemory status page input before after calls h is e s = absurd (omega (arith, is, e))
+all_of InputTooLong status page input before after calls h is e s = absurd (omega (arith, is, e))
 
--- where nothing was put
-pub prefix_unmoved : (commits page : ℕ) (input before : Option (List ℕ)) → WritesPrefix commits page input before before
-prefix_unmoved commits page None before = tt
-prefix_unmoved commits page (Some bytes) None = tt
-prefix_unmoved commits page (Some bytes) (Some old) =
-    let run = none_of_run commits in (
-      [],
-      ap Some (sym (append-nil old)),
-      ([], run, nothing_begins page (lines_of bytes), nothing_is_true run.last.history page (lines_of bytes)),
-    )
+-- status 0 comes where the session was done
+done_of : (ended : EndStatus) (status : ℕ) → IsStatusOf ended status → status ≡ DONE → ended ≡ Done
+done_of Done status is e = refl
+done_of Worn status is e = absurd is
+done_of SourceFault status is e = absurd (omega (arith, is, e))
+done_of SinkFault status is e = absurd (omega (arith, is, e))
+done_of NoMemory status is e = absurd (omega (arith, is, e))
+done_of InputTooLong status is e = absurd (omega (arith, is, e))
 
--- the same in the words of a session for which memory ran out
-pub served_none : (commits page : ℕ) (input before : Option (List ℕ))
-    → IfSome input (λ bytes. Writes before before (IsServed NoMemory commits page bytes))
-served_none commits page None before = tt
-served_none commits page (Some bytes) None = tt
-served_none commits page (Some bytes) (Some old) =
-    let run = none_of_run commits in (
-      [],
-      ap Some (sym (append-nil old)),
-      ([], run, nothing_begins page (lines_of bytes), nothing_is_true run.last.history page (lines_of bytes)),
-    )
-
--- what is served over a run that begins empty is true
-true_of_run : ServicesAreTrue → (ended : EndStatus) (commits page : ℕ) (lines : List TextLine) (calls : Calls)
-    (text : List ℕ) → IsSound (empty commits) → (run : AreOfRun commits calls)
-    → session.IsServed ended page lines calls text → IsTrueService ended run.last.history page lines calls text
-true_of_run law ended commits page lines calls text sound run served =
-    law ended page lines calls text run.last.history
-    (record {
-      before = empty commits;
-      after = run.last;
-      steps = run.steps;
-      own = λ _. true;
-      more = [];
-      sound = sound;
-      run = run.run;
-      calm = run.calm;
-      made = run.all ∙ sym (append-nil calls);
-      is = refl;
-    })
-    served
-
--- the same of calls that are told apart from the text
-pub served_of_run : ServicesAreTrue → (ended : EndStatus) (commits page : ℕ) (input before after : Option (List ℕ))
-    (calls : Calls) → IsSound (empty commits) → AreOfRun commits calls
-    → IfSome input (λ bytes. Writes before after (session.IsServed ended page (lines_of bytes) calls))
-    → IfSome input (λ bytes. Writes before after (IsServed ended commits page bytes))
-served_of_run law ended commits page None before after calls sound run h = tt
-served_of_run law ended commits page (Some bytes) before after calls sound run h =
-    writes_as before after (session.IsServed ended page (lines_of bytes) calls) (IsServed ended commits page bytes)
-    (λ text served. (
-      calls,
-      run,
-      served,
-      true_of_run law ended commits page (lines_of bytes) calls text sound run served,
-    )) h
-
--- the same at a plan that asks for the same
-pub prefix_same : (p q : Plan) (input before after : Option (List ℕ)) → SamePlan p q
-    → WritesPrefix q.commits q.page input before after → WritesPrefix p.commits p.page input before after
-prefix_same p q input before after same h = rw (same.commits, same.page) h
-
-pub all_same : (p q : Plan) (input before after : Option (List ℕ)) → SamePlan p q
-    → WritesAll q.commits q.page input before after → WritesAll p.commits p.page input before after
-all_same p q input before after same h = rw (same.commits, same.page) h
-
--- where exactly the whole requests of what was taken were answered, a beginning of the script was
-taken_begins : (page : ℕ) (got rest : List ℕ) (calls : Calls) (text : List ℕ)
-    → session.IsAllOfTaken page calls got text → session.IsWholePrefix page (lines_of (got ++ rest)) calls text
-taken_begins page got rest calls text (requests, own, cursors, whole, answered, all) =
-    let more = first_lines got rest in (
-      requests,
-      whole.0 ++ more.0,
-      own,
-      cursors,
-      subst (λ l. BeginWithAll l requests (whole.0 ++ more.0)) (sym more.1) (whole.2 more.0),
-      answered,
-      all,
-    )
-
-pub served_of_taken : (page : ℕ) (input left before after : Option (List ℕ)) (calls : Calls)
-    → session.WritesForTaken input left before after (session.IsAllOfTaken page calls)
-    → IfSome input (λ bytes. Writes before after (session.IsWholePrefix page (lines_of bytes) calls))
-served_of_taken page None left before after calls taken = tt
-served_of_taken page (Some bytes) left before after calls (got, rest, is, is_left, written) =
-    writes_as before after (session.IsAllOfTaken page calls got) (session.IsWholePrefix page (lines_of bytes) calls)
-    (λ text answered. subst (λ l. session.IsWholePrefix page (lines_of l) calls text) (sym is)
-    (taken_begins page got rest calls text answered)) written
-
--- the same by the calls of a run
-pub taken_of_run : (commits page : ℕ) (input left before after : Option (List ℕ)) (calls : Calls)
-    → AreOfRun commits calls → session.WritesForTaken input left before after (session.IsAllOfTaken page calls)
-    → WritesTaken commits page input left before after
-taken_of_run commits page None left before after calls run taken = tt
-taken_of_run commits page (Some bytes) left before after calls run (got, rest, is, is_left, written) = (
-  got,
-  rest,
-  is,
-  is_left,
-  writes_as before after (session.IsAllOfTaken page calls got) (IsTranscriptOfTaken commits page got)
-      (λ text answered. (calls, run, answered)) written,
-)
+-- a status of a session is one of an end
+pub end_of : (ended : EndStatus) (status : ℕ) → IsStatusOf ended status → IsEndStatus status
+end_of Done status is = inl is
+end_of SourceFault status is = inr (inl is)
+end_of SinkFault status is = inr (inr (inl is))
+end_of NoMemory status is = inr (inr (inr (inl is)))
+end_of InputTooLong status is = inr (inr (inr (inr is)))
+end_of Worn status is = absurd is
 
 -- the statuses of a source's fault and of too many bytes are those of these ends of a session
-pub input_fault_of : (ended : EndStatus) (status : ℕ) → IsStatusOf ended status → IsInputStatus status
+input_fault_of : (ended : EndStatus) (status : ℕ) → IsStatusOf ended status → IsInputStatus status
     → session.IsInputFault ended
 input_fault_of Done status is (inl e) = absurd (omega (arith, is, e))
 input_fault_of Done status is (inr e) = absurd (omega (arith, is, e))
@@ -273,6 +194,89 @@ input_fault_of SourceFault status is e = tt
 input_fault_of InputTooLong status is e = tt
 input_fault_of Worn status is e = absurd is
 
-pub taken_same : (p q : Plan) (input left before after : Option (List ℕ)) → SamePlan p q
-    → WritesTaken q.commits q.page input left before after → WritesTaken p.commits p.page input left before after
-taken_same p q input left before after same h = rw (same.commits, same.page) h
+-- what a session leaves of an end
+pub script_of : {S K : Type 0} (left : S → Option (List ℕ)) (written : K → Option (List ℕ)) (ended : EndStatus)
+    (page : ℕ) (calls : Calls) (h : History) (old new : End S K) → ended ≢ Worn → IsStatusOf ended new.status
+    → IsScriptServed ended page (left old.source) (left new.source) (written old.sink) (written new.sink) calls h
+    → (ended ≡ Done → TakesAll (left old.source) (left new.source))
+    → TakesAtMost (left old.source) (left new.source) INPUT_LIMIT
+    → ServesScript left written page calls h old new
+script_of left written ended page calls h old new fit is served done within = record {
+  status = end_of ended new.status is;
+  prefix = prefix_of ended page (left old.source) (written old.sink) (written new.sink) calls h fit served.script;
+  all = λ e. all_of ended new.status page (left old.source) (written old.sink) (written new.sink) calls h is e
+      served.script;
+  taken = λ e. served.taken (input_fault_of ended new.status is e);
+  done = λ e. done (done_of ended new.status is e);
+  within = within;
+}
+
+-- where nothing was put
+nothing_put : (page : ℕ) (h : History) (input before : Option (List ℕ))
+    → IfSome input (λ bytes. Writes before before (IsTranscriptPrefixBy page bytes [] h))
+nothing_put page h None before = tt
+nothing_put page h (Some bytes) None = tt
+nothing_put page h (Some bytes) (Some old) =
+    ([], ap Some (sym (append-nil old)), (nothing_begins page (lines_of bytes), nothing_is_true h page (lines_of bytes)))
+
+pub none_taken : (input : Option (List ℕ)) (n : ℕ) → TakesAtMost input input n
+none_taken None n = tt
+none_taken (Some bytes) n = ([], bytes, refl, refl, omega arith)
+
+-- the same in the words of a session for which memory ran out
+nothing_served : (page : ℕ) (h : History) (input before : Option (List ℕ))
+    → IfSome input (λ bytes. Writes before before (λ text. session.IsServed NoMemory page (lines_of bytes) [] text
+    × IsTrueService NoMemory h page (lines_of bytes) [] text))
+nothing_served page h None before = tt
+nothing_served page h (Some bytes) None = tt
+nothing_served page h (Some bytes) (Some old) =
+    ([], ap Some (sym (append-nil old)), (nothing_begins page (lines_of bytes), nothing_is_true h page (lines_of bytes)))
+
+pub served_none : (commits page : ℕ) (input before : Option (List ℕ))
+    → (calls : Calls) × (run : AreOfRun commits calls)
+    × IsScriptServed NoMemory page input input before before calls run.last.history
+served_none commits page input before =
+    let run = none_of_run commits in (
+      [],
+      run,
+      record { script = nothing_served page run.last.history input before; taken = λ f. absurd f },
+    )
+
+-- an end for which memory ran out before anything was served
+pub mem_unmoved : {S K : Type 0} (plan : Plan) (left : S → Option (List ℕ)) (written : K → Option (List ℕ))
+    (end : End S K) → ServesMem plan left written end (with_status 8 end)
+mem_unmoved plan left written end =
+    let run = none_of_run plan.commits in
+    record {
+      calls = [];
+      run = run;
+      script = record {
+        status = inr (inr (inr (inl refl)));
+        prefix = nothing_put plan.page run.last.history (left end.source) (written end.sink);
+        all = λ e. absurd (omega (arith, e));
+        taken = λ e. absurd (no_input e);
+        done = λ e. absurd (omega (arith, e));
+        within = none_taken (left end.source) INPUT_LIMIT;
+      };
+    }
+  where
+    no_input : IsInputStatus 8 → ⊥
+    no_input (inl e) = omega (arith, e)
+    no_input (inr e) = omega (arith, e)
+
+-- the same at a plan that asks for the same
+pub mem_same : {S K : Type 0} (left : S → Option (List ℕ)) (written : K → Option (List ℕ)) (p q : Plan)
+    (old new : End S K) → p.commits ≡ q.commits → p.page ≡ q.page → ServesMem q left written old new
+    → ServesMem p left written old new
+mem_same left written p q old new commits page m = record {
+  calls = m.calls;
+  run = record {
+    steps = m.run.steps;
+    last = m.run.last;
+    run = rw commits m.run.run;
+    calm = m.run.calm;
+    all = m.run.all;
+    sure = m.run.sure;
+  };
+  script = rw page m.script;
+}

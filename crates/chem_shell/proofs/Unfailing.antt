@@ -2,7 +2,7 @@
 use Rattle.std.proofs.Common.{◌≡◌, ◌&&◌, ap, arith, Bool, cond, inl, inr, List, [], ◌∷◌, length, None, Option, Some, subst, sym, true, ℕ}
 use Rattle.std.specs.List.{AllByRecursion}
 use Rattle.disk_edge.specs.Failures.{bound_of}
-use Rattle.disk_edge.specs.Medium.{Between, Images, Medium, replay}
+use Rattle.disk_edge.specs.Medium.{Medium, model}
 use Rattle.disk_edge.specs.MediumLaws.{within}
 use Rattle.session_run.specs.Cursors.{Calls}
 use Rattle.store_core.specs.Calls as core
@@ -10,7 +10,7 @@ use Rattle.store_core.specs.Calls.{NotAbove, NotRaised}
 use Rattle.store_core.specs.Stored.{empty}
 use Rattle.store_disk.specs.OnDisk.{StoreTerm}
 use Rattle.store_disk.specs.Stored.{Stretches}
-use Rattle.store_machine.specs.Machine.{CommitGives, FetchGives, Gives, LookGives, NoneFell, PinGives, PruneGives, Rose, SomeRose, StatsGives, UnpinGives}
+use Rattle.store_machine.specs.Machine.{CommitGives, FetchGives, Gives, IsSure, LookGives, NoneFell, PinGives, PruneGives, Rose, SomeRose, StatsGives, UnpinGives}
 use Rattle.store_machine.specs.Runs.{IsCalm, IsRun, calls_of, is_call}
 use Rattle.store_machine.specs.declared.machine.Change.{Change}
 use Rattle.store_machine.specs.declared.machine.Event.{Event}
@@ -20,7 +20,7 @@ use Rattle.store_machine.specs.declared.machine.Reply.{Reply}
 use Rattle.store_machine.specs.declared.machine.Reply.TheVariants.{DiskFault}
 use Rattle.store_machine.specs.declared.machine.State.{State}
 use Rattle.store_machine.specs.declared.machine.Step.{Step}
-use Rattle.chem_shell.specs.Runs.{AreOfRun, IsSure}
+use Rattle.chem_shell.specs.Runs.{AreOfRun}
 
 -- a call lets no count of faults fall
 fell_of : (s : State) (owner : ℕ) (e : Event) (r : Reply) (s' : State) → is_call e ≡ true → Gives s owner e r s'
@@ -123,8 +123,7 @@ not_above_none (Some n) (Some m) is h =
 
 -- the stretches of a store on disks in memory
 abbrev pub InMemory : StoreTerm Medium → StoreTerm Medium → State → List Step → State → Type 0
-InMemory = Stretches (λ d. Some (replay d.first d.calls)) (λ d. Images d.first d.calls) (λ d. length d.calls)
-    (λ d. Between d.first d.calls) (λ d. d.failures.count)
+InMemory = Stretches model
 
 -- the bounds that the two disks tell
 abbrev pub bounds : StoreTerm Medium → Option ℕ × Option ℕ

@@ -1,47 +1,46 @@
 -- Where nothing was done, and the same at a plan that asks for the same.
-use Rattle.std.proofs.Common.{◌≡◌, ◌⊎◌, ◌∙◌, ℕ, List, Option, refl, sym, ap, subst, inl, inr}
-use Rattle.disk_edge.specs.Disk.{Same}
-use Rattle.journal_core.specs.Looks.{Narrows}
-use Rattle.chem_shell.specs.Ends.{with_status}
-use Rattle.chem_shell.specs.OnDisk.{IsRefused, RunsOn, Stays}
+use Rattle.std.proofs.Common.{◌≡◌, ◌⊎◌, ◌∙◌, List, Option, ℕ, arith, refl, sym, ap, subst, inl, inr}
+use Rattle.disk_edge.specs.Disk.{DiskModel, Same}
+use Rattle.journal_core.specs.Looks.{Narrows, Stays}
+use Rattle.chem_shell.specs.Ends.{ServesBulk, with_status}
+use Rattle.chem_shell.specs.OnDisk.{Creates, IsRefused, RunsOn}
 use Rattle.chem_shell.specs.declared.request.Plan.{Plan}
 use Rattle.chem_shell.specs.declared.top.End.{End}
+use Rattle.chem_shell.proofs.Asked.{SamePlan}
+use Rattle.chem_shell.proofs.Summaries as summaries
 
-pub stays_same : {D : Type 0} (content : D → Option (List ℕ)) (images : D → List ℕ → Type 0) (a a' : D) → a' ≡ a
-    → Stays (content a) (content a') (images a) (images a')
-stays_same content images a a' same = (
-  ap content same,
-  subst (λ d. Same (images a) (images d)) (sym same)
+pub stays_same : {D : Type 0} (model : DiskModel D) (a a' : D) → a' ≡ a → Stays model a a'
+stays_same model a a' same = (
+  ap model.content same,
+  subst (λ d. Same (model.images a) (model.images d)) (sym same)
       (record { no_more = λ c i. i; no_fewer = λ c i. i }),
 )
 
-module _ {D S K : Type 0} (content : D → Option (List ℕ)) (images : D → List ℕ → Type 0) (clock : D → ℕ)
-    (between : D → ℕ → ℕ → List ℕ → Type 0) (faults : D → ℕ) (bound : D → Option ℕ) where
-  pub refused_unmoved : (a a' : D) → Narrows content images clock between faults bound a a' → (end : End S K)
-      → IsRefused content images clock between faults bound a a' end (with_status 8 end)
+module _ {D S K : Type 0} (model : DiskModel D) where
+  pub refused_unmoved : (a a' : D) → Narrows model a a' → (end : End S K)
+      → IsRefused model a a' end (with_status 8 end)
   refused_unmoved a a' read end = record { status = inr (inr (inr refl)); end = refl; disk = read }
 
-  pub runs_same : (left : S → Option (List ℕ)) (written : K → Option (List ℕ)) (p q : Plan) (a a' : D)
+  pub runs_same : (left : S → Option (List ℕ)) (written : K → Option (List ℕ)) (p q : Plan) (a a' b : D)
       (old new : End S K)
       → p.commits ≡ q.commits → p.page ≡ q.page
-      → IsRefused content images clock between faults bound a a' old new
-      ⊎ RunsOn content images clock between faults left written q a a' old new
-      → IsRefused content images clock between faults bound a a' old new
-      ⊎ RunsOn content images clock between faults left written p a a' old new
-  runs_same left written p q a a' old new commits page (inl r) = inl r
-  runs_same left written p q a a' old new commits page (inr r) = inr (record {
-    status = r.status;
+      → IsRefused model a a' old new ⊎ RunsOn model left written q a a' b old new
+      → IsRefused model a a' old new ⊎ RunsOn model left written p a a' b old new
+  runs_same left written p q a a' b old new commits page (inl r) = inl r
+  runs_same left written p q a a' b old new commits page (inr r) = inr (record {
     calls = r.calls;
     on = record {
       first = r.on.first;
       steps = r.on.steps;
       last = r.on.last;
       opened = record {
+        serves = r.on.opened.serves;
         limit = r.on.opened.limit ∙ sym commits;
         pins = r.on.opened.pins;
         doubt = r.on.opened.doubt;
         kept = r.on.opened.kept;
       };
+      sound = r.on.sound;
       opens = r.on.opens;
       run = r.on.run;
       calm = r.on.calm;
@@ -54,10 +53,41 @@ module _ {D S K : Type 0} (content : D → Option (List ℕ)) (images : D → Li
       loading = r.on.loading;
       moments = r.on.moments;
       left = r.on.left;
+      causes = r.on.causes;
       begins = r.on.begins;
       ends = r.on.ends;
     };
-    prefix = rw page r.prefix;
-    all = λ e. rw page (r.all e);
-    taken = λ e. rw page (r.taken e);
+    script = rw page r.script;
   })
+
+-- where memory ran out before anything was done, `init` leaves the disk as it was
+pub creates_nothing : {D : Type 0} (model : DiskModel D) (a a' : D) (status : ℕ) → status ≡ 8 → a' ≡ a
+    → Creates model a a' status
+creates_nothing model a a' status is same = record {
+  status_is = inr (inr (inl is));
+  done = λ e. absurd (omega (arith, is, e));
+  not_empty = λ e. absurd (omega (arith, is, e));
+  stays = λ e. stays_same model a a' same;
+  kept = λ e. absurd (omega (arith, is, e));
+}
+
+-- the summary at a plan that asks for the same
+pub bulk_same : {S K : Type 0} (written : K → Option (List ℕ)) (p q : Plan) (old new : End S K) → SamePlan p q
+    → ServesBulk q written old new → ServesBulk p written old new
+bulk_same written p q old new same s = record {
+  status = s.status;
+  source = s.source;
+  all = λ e. summaries.all_same p q (written old.sink) (written new.sink) same (s.all e);
+  prefix = λ e. summaries.prefix_same p q (written old.sink) (written new.sink) same (s.prefix e);
+  nothing = s.nothing;
+}
+
+pub bulk_unmoved : {S K : Type 0} (plan : Plan) (written : K → Option (List ℕ)) (end : End S K)
+    → ServesBulk plan written end (with_status 8 end)
+bulk_unmoved plan written end = record {
+  status = inr (inr refl);
+  source = refl;
+  all = λ e. absurd (omega (arith, e));
+  prefix = λ e. absurd (omega (arith, e));
+  nothing = λ e. summaries.nothing_unmoved (written end.sink);
+}

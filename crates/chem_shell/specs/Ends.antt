@@ -1,12 +1,13 @@
--- The ends that are served. What a source has left and a sink was given, and their counts of faults, are told by
+-- For callers: what is left of the ends that are served. What a source has left and a sink was given are told by
 -- functions.
-use Rattle.std.specs.Prelude.{◌≡◌, ℕ, Option, List}
-use Rattle.io_edge.specs.Faults.{Rose}
-use Rattle.session_run.specs.Served.{TakesExactly, Writes}
+use Rattle.std.specs.Prelude.{◌≡◌, ℕ, Option, List, IfSome}
+use Rattle.session_run.specs.Cursors.{Calls}
+use Rattle.session_run.specs.Served.{IsAllOfTaken, TakesAll, TakesAtMost, Writes, WritesForTaken}
+use Rattle.store_machine.specs.declared.machine.History.{History}
 use Rattle.chem_shell.specs.declared.request.Plan.{Plan}
 use Rattle.chem_shell.specs.declared.top.End.{End}
-use Rattle.chem_shell.specs.declared.top.TheConstants.{DONE, SOURCE_FAULT, SINK_FAULT, NO_MEMORY, INPUT_TOO_LONG, INPUT_LIMIT}
-use Rattle.chem_shell.specs.Served.{WritesAll, WritesPrefix, WritesTaken}
+use Rattle.chem_shell.specs.declared.top.TheConstants.{DONE, SINK_FAULT, NO_MEMORY, INPUT_LIMIT}
+use Rattle.chem_shell.specs.Runs.{AreOfRun, IsTranscriptBy, IsTranscriptPrefixBy}
 use Rattle.chem_shell.specs.Status.{IsEndStatus, IsInputStatus, IsSinkStatus}
 use Rattle.chem_shell.specs.Summed.{IsSummary, IsSummaryPrefix, WritesNothing}
 
@@ -14,24 +15,33 @@ use Rattle.chem_shell.specs.Summed.{IsSummary, IsSummaryPrefix, WritesNothing}
 abbrev pub with_status : {S K : Type 0} → ℕ → End S K → End S K
 with_status status end = record end { status = status }
 
--- what `mem` leaves of an end
-pub record ServesMem {S K : Type 0} (plan : Plan) (left : S → Option (List ℕ)) (source_faults : S → ℕ)
-    (written : K → Option (List ℕ)) (sink_faults : K → ℕ) (old new : End S K) : Type 0 where
+-- What a session leaves of an end, by its calls and the history of their run: what was written is a prefix of a
+-- transcript of the source's bytes, by pages of a size. Where the status is 0 it is all of one, and the source was read
+-- to its end. Where the source failed or its bytes are too many, exactly the requests that are whole in the bytes that
+-- were taken were answered. No more than the limit is ever taken
+pub record ServesScript {S K : Type 0} (left : S → Option (List ℕ)) (written : K → Option (List ℕ)) (page : ℕ)
+    (calls : Calls) (history : History) (old new : End S K) : Type 0 where
   pub status : IsEndStatus new.status
-  pub prefix : WritesPrefix plan.commits plan.page (left old.source) (written old.sink) (written new.sink)
-  pub all : new.status ≡ DONE → WritesAll plan.commits plan.page (left old.source) (written old.sink) (written new.sink)
-  pub taken : IsInputStatus new.status → WritesTaken plan.commits plan.page (left old.source) (left new.source)
-      (written old.sink) (written new.sink)
-  pub source_fault : new.status ≡ SOURCE_FAULT → Rose (source_faults old.source) (source_faults new.source)
-  pub sink_fault : new.status ≡ SINK_FAULT → Rose (sink_faults old.sink) (sink_faults new.sink)
-  pub input_too_long : new.status ≡ INPUT_TOO_LONG → TakesExactly (left old.source) (left new.source) INPUT_LIMIT
+  pub prefix : IfSome (left old.source) (λ script. Writes (written old.sink) (written new.sink)
+      (IsTranscriptPrefixBy page script calls history))
+  pub all : new.status ≡ DONE → IfSome (left old.source) (λ script. Writes (written old.sink) (written new.sink)
+      (IsTranscriptBy page script calls history))
+  pub taken : IsInputStatus new.status → WritesForTaken (left old.source) (left new.source)
+      (written old.sink) (written new.sink) (IsAllOfTaken page calls)
+  pub done : new.status ≡ DONE → TakesAll (left old.source) (left new.source)
+  pub within : TakesAtMost (left old.source) (left new.source) INPUT_LIMIT
 
--- what `bulk` leaves of an end
-pub record ServesBulk {S K : Type 0} (plan : Plan)
-    (written : K → Option (List ℕ)) (sink_faults : K → ℕ) (old new : End S K) : Type 0 where
+-- what `mem` leaves of an end
+pub record ServesMem {S K : Type 0} (plan : Plan) (left : S → Option (List ℕ)) (written : K → Option (List ℕ))
+    (old new : End S K) : Type 0 where
+  pub calls : Calls
+  pub run : AreOfRun plan.commits calls
+  pub script : ServesScript left written plan.page calls run.last.history old new
+
+-- what `bulk` leaves of an end: nothing is taken, and the summary was put, a prefix of it, or nothing
+pub record ServesBulk {S K : Type 0} (plan : Plan) (written : K → Option (List ℕ)) (old new : End S K) : Type 0 where
   pub status : IsSinkStatus new.status
   pub source : new.source ≡ old.source
   pub all : new.status ≡ DONE → Writes (written old.sink) (written new.sink) (IsSummary plan)
   pub prefix : new.status ≡ SINK_FAULT → Writes (written old.sink) (written new.sink) (IsSummaryPrefix plan)
   pub nothing : new.status ≡ NO_MEMORY → WritesNothing (written old.sink) (written new.sink)
-  pub sink_fault : new.status ≡ SINK_FAULT → Rose (sink_faults old.sink) (sink_faults new.sink)

@@ -1,6 +1,5 @@
 pub mod Words
 pub mod Runs
-pub mod Served
 pub mod Summed
 pub mod Status
 pub mod Serving

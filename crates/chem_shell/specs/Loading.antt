@@ -1,7 +1,6 @@
 -- For private clauses alone: what serving an end on disk `a` leaves, by the command.
 use Rattle.std.specs.Prelude.{◌≡◌, ◌≢◌, ◌⊎◌, ℕ, List, Option}
-use Rattle.disk_edge.specs.Disk as disk
-use Rattle.disk_edge.specs.Disk.{IfTold}
+use Rattle.disk_edge.specs.Disk.{DiskModel, Faulted, IfTold}
 use Rattle.io_edge.specs.Faults.{Rose}
 use Rattle.journal_core.specs.Records.{IsNoJournal}
 use Rattle.journal_core.specs.declared.faults.LoadFault.{LoadFault}
@@ -17,11 +16,10 @@ use Rattle.chem_shell.specs.declared.top.End.{End}
 use Rattle.chem_shell.specs.declared.top.TheConstants.{DISK_FAULT, NOT_A_STORE, DAMAGED, NO_MEMORY, SOURCE_FAULT, SINK_FAULT, INPUT_TOO_LONG, INPUT_LIMIT}
 
 -- the causes of the statuses that come of a disk
-pub record HasCauses {D : Type 0} (content : D → Option (List ℕ)) (faults : D → ℕ) (a a' : D) (status place : ℕ)
-    : Type 0 where
-  pub disk_fault : status ≡ DISK_FAULT → disk.Rose (faults a) (faults a')
-  pub not_a_store : status ≡ NOT_A_STORE → IfTold (content a) IsNoJournal
-  pub damaged : status ≡ DAMAGED → IfTold (content a) (Damages place)
+pub record HasCauses {D : Type 0} (model : DiskModel D) (a a' : D) (status place : ℕ) : Type 0 where
+  pub disk_fault : status ≡ DISK_FAULT → Faulted model a a'
+  pub not_a_store : status ≡ NOT_A_STORE → IfTold (model.content a) IsNoJournal
+  pub damaged : status ≡ DAMAGED → IfTold (model.content a) (Damages place)
   pub undamaged : status ≢ DAMAGED → place ≡ 0
 
 -- the status and the place of a loading that was refused so
@@ -31,25 +29,18 @@ IsCausedBy fault.NotAStore status place = (status ≡ NOT_A_STORE) × (place ≡
 IsCausedBy (fault.Damaged at) status place = (status ≡ DAMAGED) × (place ≡ at)
 IsCausedBy fault.NoMemory status place = (status ≡ NO_MEMORY) × (place ≡ 0)
 
--- what `run` leaves of an end and of the disk
-pub record ServesRun {D S K : Type 0} (content : D → Option (List ℕ)) (images : D → List ℕ → Type 0) (clock : D → ℕ)
-    (images_between : D → ℕ → ℕ → List ℕ → Type 0) (faults : D → ℕ) (bound : D → Option ℕ) (plan : Plan)
-    (left : S → Option (List ℕ)) (source_faults : S → ℕ) (written : K → Option (List ℕ)) (sink_faults : K → ℕ)
-    (a a' : D) (old new : End S K) : Type 0 where
-  pub runs : IsRefused content images clock images_between faults bound a a' old new
-      ⊎ RunsOn content images clock images_between faults left written plan a a' old new
+-- the causes of the statuses that come of an end
+pub record HasEndCauses {S K : Type 0} (left : S → Option (List ℕ)) (source_faults : S → ℕ) (sink_faults : K → ℕ)
+    (old new : End S K) : Type 0 where
   pub source_fault : new.status ≡ SOURCE_FAULT → Rose (source_faults old.source) (source_faults new.source)
   pub sink_fault : new.status ≡ SINK_FAULT → Rose (sink_faults old.sink) (sink_faults new.sink)
   pub input_too_long : new.status ≡ INPUT_TOO_LONG → TakesExactly (left old.source) (left new.source) INPUT_LIMIT
 
--- what the command of a plan leaves of an end and of the disk
-abbrev pub Serves : {D S K : Type 0} → Verb → (D → Option (List ℕ)) → (D → List ℕ → Type 0) → (D → ℕ)
-    → (D → ℕ → ℕ → List ℕ → Type 0) → (D → ℕ) → (D → Option ℕ) → Plan
-    → (S → Option (List ℕ)) → (S → ℕ) → (K → Option (List ℕ)) → (K → ℕ) → D → D → End S K → End S K → Type 0
-Serves Mem content images clock between faults bound plan left source_faults written sink_faults a a' old new =
-    (a' ≡ a) × ServesMem plan left source_faults written sink_faults old new
-Serves Bulk content images clock between faults bound plan left source_faults written sink_faults a a' old new =
-    (a' ≡ a) × ServesBulk plan written sink_faults old new
-Serves Run content images clock between faults bound plan left source_faults written sink_faults a a' old new =
-    ServesRun content images clock between faults bound plan left source_faults written sink_faults a a' old new
-Serves Init content images clock between faults bound plan left source_faults written sink_faults a a' old new = ⊥
+-- what the command of a plan leaves of an end and of disk `a`; `b` is the second disk
+abbrev pub Serves : {D S K : Type 0} → Verb → DiskModel D → Plan → (S → Option (List ℕ)) → (K → Option (List ℕ))
+    → D → D → D → End S K → End S K → Type 0
+Serves Mem model plan left written a a' b old new = (a' ≡ a) × ServesMem plan left written old new
+Serves Bulk model plan left written a a' b old new = (a' ≡ a) × ServesBulk plan written old new
+Serves Run model plan left written a a' b old new =
+    IsRefused model a a' old new ⊎ RunsOn model left written plan a a' b old new
+Serves Init model plan left written a a' b old new = ⊥

@@ -1,5 +1,6 @@
 //! `bulk`: the summary of a generated script's transcript.
-ghost use Rattle.std.specs.Prelude.{IfOk};
+ghost use Rattle.std.specs.Prelude.{◌≡◌, IfOk};
+ghost use Rattle.io_edge.specs.Faults.{Rose};
 ghost use Rattle.chem_shell.specs.Ends.{ServesBulk};
 ghost use Rattle.chem_shell.specs.Serving.{Puts};
 ghost use Rattle.chem_shell.specs.Summed.{IsSummary};
@@ -25,7 +26,8 @@ pub fn serve_bulk<R: Threads + Sync, S: Drop, K: Sink + Drop>(
     end: &mut End<S, K>,
 )
     requires { IsWithinLimits plan.now }
-    ensures { ServesBulk plan.now K.written K.faults end.old end.new }
+    ensures serves { ServesBulk plan.now K.written end.old end.new }
+    ensures sink_fault { end.new.status ≡ SINK_FAULT → Rose (K.faults end.old.sink) (K.faults end.new.sink) }
 {
     end.status = match summed(rt, alloc, plan) {
         Ok(text) => put(&text, &mut end.sink),

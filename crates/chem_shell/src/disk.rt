@@ -1,23 +1,20 @@
 //! `init` and `run`: a store on disk `a`.
-ghost use Rattle.std.specs.Prelude.{◌≡◌, ◌≢◌, ◌⊎◌, ◌≤◌, [], length};
-ghost use Rattle.disk_edge.specs.Disk as disk;
-ghost use Rattle.disk_edge.specs.Disk.{IfTold};
-ghost use Rattle.io_edge.specs.Faults.{Rose};
+ghost use Rattle.std.specs.Prelude.{◌≡◌, ◌≢◌, ◌⊎◌};
+ghost use Rattle.disk_edge.specs.Disk.{Faulted, IfTold};
 ghost use Rattle.journal_core.specs.Looks.{Narrows};
-ghost use Rattle.session_run.specs.Served.{TakesExactly};
-ghost use Rattle.store_disk.specs.Loads.{IsOpened, OpensTo};
+ghost use Rattle.store_disk.specs.Loads.{OpensTo};
 ghost use Rattle.store_disk.specs.OnDisk.{StandsFor};
+ghost use Rattle.store_machine.specs.Openings.{IsOpened};
 ghost use Rattle.store_machine.specs.declared.machine.State.{State};
-ghost use Rattle.chem_shell.specs.Loading.{HasCauses, IsCausedBy, ServesRun};
-ghost use Rattle.chem_shell.specs.OnDisk.{IsEmptyStore, RunsOn, Stays};
-ghost use Rattle.chem_shell.specs.Status.{IsCreationStatus, IsEndStatus};
+ghost use Rattle.chem_shell.specs.Loading.{HasCauses, HasEndCauses, IsCausedBy};
+ghost use Rattle.chem_shell.specs.OnDisk.{Creates, IsRefused, RunsOn};
+ghost use Rattle.chem_shell.specs.Status.{IsEndStatus};
 ghost use Rattle.chem_shell.specs.Words.{IsWithinLimits};
 
 use crate::request::Plan;
 use crate::serving::end_status;
 use crate::top::{
-    DAMAGED, DISK_FAULT, DONE, End, INPUT_LIMIT, INPUT_TOO_LONG, NO_MEMORY, NOT_A_STORE, NOT_EMPTY,
-    SINK_FAULT, SOURCE_FAULT,
+    DAMAGED, DISK_FAULT, DONE, End, INPUT_LIMIT, NO_MEMORY, NOT_A_STORE, NOT_EMPTY, USAGE,
 };
 use disk_edge::Disk;
 use io_edge::{Sink, Source};
@@ -26,17 +23,13 @@ use par_search::NoMeter;
 use session_run::{Settings, services_are_true, session};
 use std::alloc::Global;
 use std::thread::Threads;
-use store_disk::{Disks, Store};
+use store_disk::{Disks, Store, a_standing_store_opens};
+use store_machine::replies_tell;
 
 /// Makes an empty store on an empty disk. The disk comes back, with the status.
 pub fn create<D: Disk + Drop>(a: D) -> (D, u8)
-    ensures status { IsCreationStatus result.1 }
-    ensures done { result.1 ≡ DONE
-        → IfTold (D.content a) (λ l. (l ≡ []) × IsEmptyStore (D.content result.0) (D.images result.0)) }
-    ensures not_empty { result.1 ≡ NOT_EMPTY → IfTold (D.content a) (λ l. 1 ≤ length l) }
-    ensures stays { (result.1 ≡ NOT_EMPTY) ⊎ (result.1 ≡ NO_MEMORY)
-        → Stays (D.content a) (D.content result.0) (D.images a) (D.images result.0) }
-    ensures disk_fault { result.1 ≡ DISK_FAULT → disk.Rose (D.faults a) (D.faults result.0) }
+    ensures creates { Creates D.model a result.0 result.1 }
+    ensures disk_fault { result.1 ≡ DISK_FAULT → Faulted D.model a result.0 }
 {
     let (a, created) = Journal::create(a);
     let status = match created {
@@ -57,9 +50,11 @@ pub fn serve_run<R: Threads + Sync, D: Disk + Drop, S: Source + Drop, K: Sink + 
     end: &mut End<S, K>,
 ) -> (Disks<D>, u64)
     requires { IsWithinLimits plan.now }
-    ensures serves { ServesRun D.content D.images D.clock D.images_between D.faults D.bound plan.now
-        S.left S.faults K.written K.faults disks.a result.0.a end.old end.new }
-    ensures causes { HasCauses D.content D.faults disks.a result.0.a end.new.status result.1 }
+    ensures serves { IsRefused D.model disks.a result.0.a end.old end.new
+        ⊎ RunsOn D.model S.left K.written plan.now disks.a result.0.a disks.b end.old end.new }
+    ensures ends { HasEndCauses S.left S.faults K.faults end.old end.new }
+    ensures status { end.new.status ≢ USAGE }
+    ensures causes { HasCauses D.model disks.a result.0.a end.new.status result.1 }
     ensures other { result.0.b ≡ disks.b }
 {
     match Store::load(alloc, disks, plan.commits) {
@@ -81,20 +76,17 @@ fn serve_loaded<R: Threads + Sync, D: Disk + Drop, S: Source + Drop, K: Sink + D
     end: &mut End<S, K>,
 ) -> Disks<D>
     requires { IsWithinLimits plan.now }
-    ensures runs { (a : D) (s : State) → StandsFor D.content D.images D.faults store s
-        → IsOpened plan.now.commits s → IfTold (D.content a) (OpensTo s.history)
-        → Narrows D.content D.images D.clock D.images_between D.faults D.bound a store.journal.disk
-        → RunsOn D.content D.images D.clock D.images_between D.faults S.left K.written plan.now
-        a result.a end.old end.new }
+    ensures runs { (a : D) (s : State) → StandsFor D.model store s
+        → IsOpened plan.now.commits s → IfTold (D.model.content a) (OpensTo s.history)
+        → Narrows D.model a store.journal.disk → RunsOn D.model S.left K.written plan.now
+        a result.a store.b end.old end.new }
     ensures status { IsEndStatus end.new.status }
-    ensures source_fault { end.new.status ≡ SOURCE_FAULT
-        → Rose (S.faults end.old.source) (S.faults end.new.source) }
-    ensures sink_fault { end.new.status ≡ SINK_FAULT → Rose (K.faults end.old.sink) (K.faults end.new.sink) }
-    ensures too_long { end.new.status ≡ INPUT_TOO_LONG
-        → TakesExactly (S.left end.old.source) (S.left end.new.source) INPUT_LIMIT }
-    ensures other { (s : State) → StandsFor D.content D.images D.faults store s → result.b ≡ store.b }
+    ensures ends { HasEndCauses S.left S.faults K.faults end.old end.new }
+    ensures other { (s : State) → StandsFor D.model store s → result.b ≡ store.b }
 {
     services_are_true();
+    replies_tell();
+    a_standing_store_opens::<D>();
     let mut store = store;
     let settings = Settings {
         workers: plan.workers,

@@ -1,10 +1,12 @@
 //! `mem`: a session over a store in memory, which keeps its journal on a disk in memory.
-ghost use Rattle.std.specs.Prelude.{◌≡◌, ◌≢◌, IfSome};
+ghost use Rattle.std.specs.Prelude.{◌≡◌, ◌≢◌};
 ghost use Rattle.io_edge.specs.Faults.{Rose};
-ghost use Rattle.session_run.specs.Served.{IsInputFault, TakesExactly, Writes};
+ghost use Rattle.session_run.specs.Cursors.{Calls};
+ghost use Rattle.session_run.specs.Served.{TakesAll, TakesAtMost, TakesExactly};
 ghost use Rattle.chem_shell.specs.Ends.{ServesMem};
-ghost use Rattle.chem_shell.specs.Served.{WritesTaken};
-ghost use Rattle.chem_shell.specs.Serving.{IsServed};
+ghost use Rattle.chem_shell.specs.Loading.{HasEndCauses};
+ghost use Rattle.chem_shell.specs.Runs.{AreOfRun};
+ghost use Rattle.chem_shell.specs.Serving.{IsScriptServed};
 ghost use Rattle.chem_shell.specs.Words.{IsWithinLimits};
 
 use crate::request::Plan;
@@ -25,7 +27,8 @@ pub fn serve_mem<R: Threads + Sync, S: Source + Drop, K: Sink + Drop>(
     end: &mut End<S, K>,
 )
     requires { IsWithinLimits plan.now }
-    ensures { ServesMem plan.now S.left S.faults K.written K.faults end.old end.new }
+    ensures serves { ServesMem plan.now S.left K.written end.old end.new }
+    ensures causes { HasEndCauses S.left S.faults K.faults end.old end.new }
 {
     let ended = run_script(rt, alloc, plan, &mut end.source, &mut end.sink);
     end.status = end_status(ended);
@@ -40,13 +43,14 @@ pub fn run_script<R: Threads + Sync, I: Source, O: Sink>(
     sink: &mut O,
 ) -> EndStatus
     requires { IsWithinLimits plan.now }
-    ensures serves { IfSome (I.left source.old) (λ script. Writes (O.written sink.old) (O.written sink.new)
-        (IsServed result plan.now.commits plan.now.page script)) }
-    ensures taken { IsInputFault result → WritesTaken plan.now.commits plan.now.page
-        (I.left source.old) (I.left source.new) (O.written sink.old) (O.written sink.new) }
+    ensures serves { (calls : Calls) × (run : AreOfRun plan.now.commits calls)
+        × IsScriptServed result plan.now.page (I.left source.old) (I.left source.new)
+        (O.written sink.old) (O.written sink.new) calls run.last.history }
     ensures not_worn { result ≢ EndStatus.Worn }
     ensures source_fault { result ≡ EndStatus.SourceFault → Rose (I.faults source.old) (I.faults source.new) }
     ensures sink_fault { result ≡ EndStatus.SinkFault → Rose (O.faults sink.old) (O.faults sink.new) }
+    ensures done { result ≡ EndStatus.Done → TakesAll (I.left source.old) (I.left source.new) }
+    ensures within { TakesAtMost (I.left source.old) (I.left source.new) INPUT_LIMIT }
     ensures too_long { result ≡ EndStatus.InputTooLong
         → TakesExactly (I.left source.old) (I.left source.new) INPUT_LIMIT }
 {

@@ -1,19 +1,16 @@
 //! The top call: the words, the ends and the disks in, and what became of them out.
-ghost use Rattle.std.specs.Prelude.{◌≡◌, ◌≢◌, ◌≤◌, ◌⊎◌, All, [], false, length, map, true};
+ghost use Rattle.std.specs.Prelude.{◌≡◌, ◌≢◌, ◌≤◌, ◌⊎◌, [], false, length, map, true};
 ghost use Rattle.std.specs.List.{AllZip};
-ghost use Rattle.disk_edge.specs.Disk as disk;
-ghost use Rattle.disk_edge.specs.Disk.{IfTold};
+ghost use Rattle.disk_edge.specs.Disk.{Faulted, IfTold};
 ghost use Rattle.io_edge.specs.Faults.{Rose};
 ghost use Rattle.journal_core.specs.Looks.{Narrows};
 ghost use Rattle.journal_core.specs.Records.{IsNoJournal};
-ghost use Rattle.session_run.specs.Served.{TakesExactly, Writes};
+ghost use Rattle.session_run.specs.Served.{TakesExactly};
 ghost use Rattle.store_disk.specs.Loads.{Damages};
-ghost use Rattle.chem_shell.specs.Ends.{with_status};
-ghost use Rattle.chem_shell.specs.Loading.{HasCauses, Serves};
-ghost use Rattle.chem_shell.specs.OnDisk.{IsEmptyStore, IsRefused, RunsOn, Stays};
-ghost use Rattle.chem_shell.specs.Served.{WritesAll, WritesPrefix, WritesTaken};
-ghost use Rattle.chem_shell.specs.Status.{IsCreationStatus, IsEndStatus, IsInputStatus, IsSinkStatus, first_fault};
-ghost use Rattle.chem_shell.specs.Summed.{IsSummary, IsSummaryPrefix, WritesNothing};
+ghost use Rattle.chem_shell.specs.Ends.{ServesBulk, ServesMem, with_status};
+ghost use Rattle.chem_shell.specs.Loading.{HasCauses, HasEndCauses, Serves};
+ghost use Rattle.chem_shell.specs.OnDisk.{Creates, IsRefused, RunsOn};
+ghost use Rattle.chem_shell.specs.Status.{first_fault};
 ghost use Rattle.chem_shell.specs.declared.request.Plan.{Plan as ThePlan};
 ghost use Rattle.chem_shell.specs.Words.{texts, Asks, AsksFor, IsWithinLimits, OnPlan};
 
@@ -84,8 +81,7 @@ pub struct Outcome<D, S, K> {
 
 /// The program over the objects that it is handed: what the words ask for is done with the ends and the disks, and the
 /// statuses say how it ended. `mem` serves one end by a session over a store in memory, and `run` over the store of
-/// disk
-/// `a`; `bulk` puts a summary to one; `init` makes a store on disk `a`, and has no end. Disk `b` is not used yet.
+/// disk `a`; `bulk` puts a summary to one; `init` makes a store on disk `a`, and has no end. Disk `b` is not used yet.
 pub fn chemdb<
     R: Threads + Wait + Sync,
     D: Disk + Send + Drop,
@@ -120,64 +116,36 @@ pub fn chemdb<
 
     // A fault of the disk comes only where it failed in this call. It has no store where its bytes have no header, and
     // the place of damage is that of its bytes.
-    ensures disk_fault { result.status ≡ DISK_FAULT → disk.Rose (D.faults a) (D.faults result.a) }
-    ensures not_a_store { result.status ≡ NOT_A_STORE → IfTold (D.content a) IsNoJournal }
-    ensures damaged { result.status ≡ DAMAGED → IfTold (D.content a) (Damages result.place) }
+    ensures disk_fault { result.status ≡ DISK_FAULT → Faulted D.model a result.a }
+    ensures not_a_store { result.status ≡ NOT_A_STORE → IfTold (D.model.content a) IsNoJournal }
+    ensures damaged { result.status ≡ DAMAGED → IfTold (D.model.content a) (Damages result.place) }
     ensures place { result.status ≢ DAMAGED → result.place ≡ 0 }
 
     // `mem`: what was written is a prefix of a transcript of the source's bytes, by pages of the plan, in a run of a
-    // store in memory that begins empty and may have the plan's commits; all of one where the status is 0. Where the
-    // source failed or its bytes are too many, exactly the requests that are whole in the bytes that were taken were
-    // answered.
-    ensures mem_statuses { OnPlan (texts words.now) Verb.Mem (λ _.
-        All (λ end. IsEndStatus end.status) result.ends.items) }
-    ensures mem_disk { OnPlan (texts words.now) Verb.Mem (λ _. result.a ≡ a) }
-    ensures mem_prefix { OnPlan (texts words.now) Verb.Mem (λ plan. AllZip (λ old new.
-        WritesPrefix plan.commits plan.page (S.left old.source) (K.written old.sink) (K.written new.sink))
-        ends.items result.ends.items) }
-    ensures mem_all { OnPlan (texts words.now) Verb.Mem (λ plan. AllZip (λ old new. new.status ≡ DONE
-        → WritesAll plan.commits plan.page (S.left old.source) (K.written old.sink) (K.written new.sink))
-        ends.items result.ends.items) }
-    ensures mem_taken { OnPlan (texts words.now) Verb.Mem (λ plan. AllZip (λ old new. IsInputStatus new.status
-        → WritesTaken plan.commits plan.page (S.left old.source) (S.left new.source)
-        (K.written old.sink) (K.written new.sink)) ends.items result.ends.items) }
+    // store in memory that begins empty and may have the plan's commits; all of one where the status is 0, and then the
+    // source was read to its end. Where the source failed or its bytes are too many, exactly the requests that are
+    // whole in the bytes that were taken were answered.
+    ensures mem { OnPlan (texts words.now) Verb.Mem (λ plan. (result.a ≡ a)
+        × AllZip (ServesMem plan S.left K.written) ends.items result.ends.items) }
 
-    // `init`: where it is done, the disk was empty, and has the empty store. Where the disk has bytes or memory ran
-    // out, the disk is as before.
-    ensures init_statuses { OnPlan (texts words.now) Verb.Init (λ _. IsCreationStatus result.status) }
-    ensures init_ends { OnPlan (texts words.now) Verb.Init (λ _. result.ends.items ≡ []) }
-    ensures init_done { OnPlan (texts words.now) Verb.Init (λ _. result.status ≡ DONE
-        → IfTold (D.content a) (λ l. (l ≡ []) × IsEmptyStore (D.content result.a) (D.images result.a))) }
-    ensures init_not_empty { OnPlan (texts words.now) Verb.Init (λ _. result.status ≡ NOT_EMPTY
-        → IfTold (D.content a) (λ l. 1 ≤ length l)) }
-    ensures init_stays { OnPlan (texts words.now) Verb.Init (λ _.
-        (result.status ≡ NOT_EMPTY) ⊎ (result.status ≡ NO_MEMORY)
-        → Stays (D.content a) (D.content result.a) (D.images a) (D.images result.a)) }
+    // `init`: where it is done, the disk was empty, and has the empty store. A disk that has bytes is as before, and so
+    // is any where memory ran out.
+    ensures init { OnPlan (texts words.now) Verb.Init (λ _. (result.ends.items ≡ [])
+        × Creates D.model a result.a result.status) }
 
     // `run`: where the store was not loaded, nothing was taken or put, and the disk was only read. Else what was
-    // written is a prefix of a transcript of the source's bytes in a run that begins with the commits of the disk, all
-    // of one where the status is 0, and of the requests that were taken whole where the input failed or is too long. A
-    // crash at any moment leaves each commit that was acknowledged before, in order, and at most one more; and
-    // afterwards the disk has the run's history.
+    // written is a prefix of a transcript, as for `mem`, in a run that begins with the commits of the disk. A crash at
+    // any moment of a step leaves each commit that was acknowledged before it, in order, and at most one more; and
+    // afterwards the disk has the run's history. A disk fault comes only where the disk counted one in that commit.
     ensures run { OnPlan (texts words.now) Verb.Run (λ plan. AllZip (λ old new.
-        IsRefused D.content D.images D.clock D.images_between D.faults D.bound a result.a old new
-        ⊎ RunsOn D.content D.images D.clock D.images_between D.faults S.left K.written
-        plan a result.a old new)
+        IsRefused D.model a result.a old new
+        ⊎ RunsOn D.model S.left K.written plan a result.a b old new)
         ends.items result.ends.items) }
 
     // `bulk`: nothing is taken. What was written is the summary of a transcript of the generated script, in such a run
-    // as for `mem`; a prefix of one where the sink failed; nothing where memory ran out. No other status comes.
-    ensures bulk_statuses { OnPlan (texts words.now) Verb.Bulk (λ _.
-        All (λ end. IsSinkStatus end.status) result.ends.items) }
-    ensures bulk_disk { OnPlan (texts words.now) Verb.Bulk (λ _. result.a ≡ a) }
-    ensures bulk_source { OnPlan (texts words.now) Verb.Bulk (λ _.
-        AllZip (λ old new. new.source ≡ old.source) ends.items result.ends.items) }
-    ensures bulk_all { OnPlan (texts words.now) Verb.Bulk (λ plan. AllZip (λ old new. new.status ≡ DONE
-        → Writes (K.written old.sink) (K.written new.sink) (IsSummary plan)) ends.items result.ends.items) }
-    ensures bulk_prefix { OnPlan (texts words.now) Verb.Bulk (λ plan. AllZip (λ old new. new.status ≡ SINK_FAULT
-        → Writes (K.written old.sink) (K.written new.sink) (IsSummaryPrefix plan)) ends.items result.ends.items) }
-    ensures bulk_nothing { OnPlan (texts words.now) Verb.Bulk (λ _. AllZip (λ old new. new.status ≡ NO_MEMORY
-        → WritesNothing (K.written old.sink) (K.written new.sink)) ends.items result.ends.items) }
+    // as for `mem`; a prefix of one where the sink failed; nothing where memory ran out.
+    ensures bulk { OnPlan (texts words.now) Verb.Bulk (λ plan. (result.a ≡ a)
+        × AllZip (ServesBulk plan K.written) ends.items result.ends.items) }
 {
     let plan = match plan(alloc, words) {
         Err(PlanFault::Usage) => return unserved(USAGE, a, b, ends),
@@ -204,13 +172,8 @@ fn makes_store(command: Verb) -> bool
 
 // `init`: makes an empty store on disk `a`.
 fn created<D: Disk + Drop, S: Drop, K: Drop>(a: D, b: D, ends: Vec<End<S, K>>) -> Outcome<D, S, K>
-    ensures status { IsCreationStatus result.status }
-    ensures done { result.status ≡ DONE
-        → IfTold (D.content a) (λ l. (l ≡ []) × IsEmptyStore (D.content result.a) (D.images result.a)) }
-    ensures not_empty { result.status ≡ NOT_EMPTY → IfTold (D.content a) (λ l. 1 ≤ length l) }
-    ensures stays { (result.status ≡ NOT_EMPTY) ⊎ (result.status ≡ NO_MEMORY)
-        → Stays (D.content a) (D.content result.a) (D.images a) (D.images result.a) }
-    ensures causes { HasCauses D.content D.faults a result.a result.status result.place }
+    ensures creates { Creates D.model a result.a result.status }
+    ensures causes { HasCauses D.model a result.a result.status result.place }
     ensures other { result.b ≡ b }
     ensures ends { result.ends.items ≡ ends.items }
 {
@@ -235,9 +198,10 @@ fn serve_one<R: Threads + Sync, D: Disk + Drop, S: Source + Drop, K: Sink + Drop
     requires plan { IsWithinLimits plan.now }
     requires end { plan.now.command ≢ Verb.Init }
     requires one_end { length ends.items ≡ 1 }
-    ensures served { AllZip (Serves plan.now.command D.content D.images D.clock D.images_between D.faults D.bound
-        plan.now S.left S.faults K.written K.faults disks.a result.a) ends.items result.ends.items }
-    ensures causes { HasCauses D.content D.faults disks.a result.a result.status result.place }
+    ensures served { AllZip (Serves plan.now.command D.model plan.now S.left K.written disks.a result.a disks.b)
+        ends.items result.ends.items }
+    ensures ends { AllZip (HasEndCauses S.left S.faults K.faults) ends.items result.ends.items }
+    ensures causes { HasCauses D.model disks.a result.a result.status result.place }
     ensures other { result.b ≡ disks.b }
     ensures overall { result.status ≡ first_fault (map (λ end. end.status) result.ends.items) }
     ensures status { result.status ≢ USAGE }
@@ -265,9 +229,10 @@ fn serve<R: Threads + Sync, D: Disk + Drop, S: Source + Drop, K: Sink + Drop>(
 ) -> (Disks<D>, u64)
     requires plan { IsWithinLimits plan.now }
     requires end { plan.now.command ≢ Verb.Init }
-    ensures serves { Serves plan.now.command D.content D.images D.clock D.images_between D.faults D.bound
-        plan.now S.left S.faults K.written K.faults disks.a result.0.a end.old end.new }
-    ensures causes { HasCauses D.content D.faults disks.a result.0.a end.new.status result.1 }
+    ensures serves { Serves plan.now.command D.model plan.now S.left K.written disks.a result.0.a disks.b
+        end.old end.new }
+    ensures ends { HasEndCauses S.left S.faults K.faults end.old end.new }
+    ensures causes { HasCauses D.model disks.a result.0.a end.new.status result.1 }
     ensures other { result.0.b ≡ disks.b }
     ensures status { end.new.status ≢ USAGE }
 {
@@ -296,7 +261,7 @@ fn unserved<D: Disk + Drop, S: Drop, K: Drop>(
     ensures place { result.place ≡ 0 }
     ensures disk_a { result.a ≡ a }
     ensures disk_b { result.b ≡ b }
-    ensures read { Narrows D.content D.images D.clock D.images_between D.faults D.bound a result.a }
+    ensures read { Narrows D.model a result.a }
     ensures ends { result.ends.items ≡ map (with_status status) ends.items }
 {
     set_status(&mut ends, status);

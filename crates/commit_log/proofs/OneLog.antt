@@ -1,5 +1,5 @@
 -- Bytes are a log of one list of changes.
-use Rattle.std.proofs.Common.{◌≡◌, inl, inr, ⊎_elim, ◌≤◌, ℕ, List, [], ◌∷◌, ◌++◌, length, take, drop, refl, sym, ◌∙◌, ap, subst, arith}
+use Rattle.std.proofs.Common.{◌≡◌, inl, inr, ⊎_elim, ◌≤◌, ℕ, List, [], ◌∷◌, ◌++◌, length, take, drop, refl, sym, ◌∙◌, ap, subst, arith, append_assoc}
 use Rattle.std.proofs.lemmas.List.{take_at, drop_at}
 use Rattle.std.proofs.lemmas.Nat.{from_le_bytes-to_le_bytes_4}
 use Rattle.std.specs.Int.{to_le_bytes, from_le_bytes, w32}
@@ -16,9 +16,23 @@ all_short : (changes : List Change) → AllByRecursion IsLogged changes → AllB
 all_short [] all = tt
 all_short (c ∷ changes) all = (all.0.1, all_short changes all.1)
 
-pub is_read : (changes : List Change) (rest : List ℕ) → AllByRecursion IsLogged changes
-    → IsLog changes (log_text changes ++ rest)
-is_read changes rest all = record { opens = text_opens (payloads changes) rest (all_short changes all); logged = all }
+behind_short : (before : List (List ℕ)) (changes : List Change) → AllByRecursion IsShort before
+    → AllByRecursion IsLogged changes → AllByRecursion IsShort (before ++ payloads changes)
+behind_short [] changes short all = all_short changes all
+behind_short (p ∷ before) changes short all = (short.0, behind_short before changes short.1 all)
+
+pub is_read : (front : List ℕ) (before : List (List ℕ)) (changes : List Change) (rest : List ℕ)
+    → AllByRecursion IsShort before → AllByRecursion IsLogged changes
+    → IsLog front before changes (log_text front before changes ++ rest)
+is_read front before changes rest short all = record {
+  opens = text_opens front (before ++ payloads changes) rest (behind_short before changes short all);
+  logged = all;
+}
+
+-- the same payloads in front leave the same behind them
+same_behind : (before xs ys : List (List ℕ)) → before ++ xs ≡ before ++ ys → xs ≡ ys
+same_behind before xs ys is = sym (drop_at before xs (length before) refl)
+    ∙ ap (λ (l : List (List ℕ)). drop (length before) l) is ∙ drop_at before ys (length before) refl
 
 head_is : (x y : List ℕ) (xs ys : List (List ℕ)) → x ∷ xs ≡ y ∷ ys → x ≡ y
 head_is x y xs ys is = cc is
@@ -41,65 +55,75 @@ is_change (c ∷ cs) [] p more is all none = none c all.0.0 (sym (head_is (writt
 is_change (c ∷ cs) (x ∷ xs) p more is all none =
     is_change cs xs p more (tail_is (written c) x (payloads cs) (xs ++ p ∷ more) is) all.1 none
 
--- no log goes on where one payload is not read
-unread_stops : (ps : List (List ℕ)) (payload rest : List ℕ) → IsShort payload → IsNoChange payload → (ds : List Change)
-    → AllByRecursion IsLogged ds
-    → GoesOn ps (payloads ds) (OPEN ∷ (body payload ++ rest)) → ⊥
-unread_stops ps payload rest short none ds all on =
-    let same = same_body payload on.payload rest on.rest short on.short (behind_is OPEN OPEN (body payload ++ rest)
-    (body on.payload ++ on.rest) on.is) in
-    is_change ds ps on.payload on.more on.longer all (subst IsNoChange same.0 none)
+module _ (front : List ℕ) (before : List (List ℕ)) where
+  -- no log goes on where one payload is not read
+  unread_stops : (cs : List Change) (payload rest : List ℕ) → IsShort payload → IsNoChange payload → (ds : List Change)
+      → AllByRecursion IsLogged ds
+      → GoesOn (before ++ payloads cs) (before ++ payloads ds) (OPEN ∷ (body payload ++ rest)) → ⊥
+  unread_stops cs payload rest short none ds all on =
+      let same = same_body payload on.payload rest on.rest short on.short (behind_is OPEN OPEN (body payload ++ rest)
+      (body on.payload ++ on.rest) on.is) in
+      is_change ds (payloads cs) on.payload on.more
+      (same_behind before (payloads ds) (payloads cs ++ on.payload ∷ on.more)
+      (on.longer ∙ append_assoc before (payloads cs) (on.payload ∷ on.more)))
+      all (subst IsNoChange same.0 none)
 
--- what stands behind these records, where no log goes on
-record Stops (changes : List Change) (bytes : List ℕ) : Type 0 where
-  tail : List ℕ
-  is : bytes ≡ prefix (payloads changes) ++ tail
-  stops : (ds : List Change) → AllByRecursion IsLogged ds → GoesOn (payloads changes) (payloads ds) tail → ⊥
+  -- what stands behind these records, where no log goes on
+  record Stops (changes : List Change) (bytes : List ℕ) : Type 0 where
+    tail : List ℕ
+    is : bytes ≡ prefix front (before ++ payloads changes) ++ tail
+    fit : AllByRecursion IsShort (before ++ payloads changes)
+    stops : (ds : List Change) → AllByRecursion IsLogged ds
+        → GoesOn (before ++ payloads changes) (before ++ payloads ds) tail → ⊥
 
-stops_at : (at : ℕ) (bytes : List ℕ) (d : DamagesLog at bytes) → Stops d.changes bytes
-unfolding NoRecord
-stops_at at bytes d = ⊎_elim
-    (λ (b : Breaks (payloads d.changes) bytes). record {
-      tail = b.tail;
-      is = b.is;
-      stops = λ ds all on.
-          broken_none b.tail b.broken (payloads d.changes) (payloads ds) on;
-    })
-    (λ (u : Unread (payloads d.changes) bytes). record {
-      tail = OPEN ∷ (body u.payload ++ u.rest);
-      is = u.is;
-      stops =
-          unread_stops (payloads d.changes) u.payload u.rest u.short u.none;
-    })
-    d.damage
+  stops_at : (at : ℕ) (bytes : List ℕ) (d : DamagesLog front before at bytes) → Stops d.changes bytes
+  unfolding NoRecord
+  stops_at at bytes d = ⊎_elim
+      (λ (b : Breaks front (before ++ payloads d.changes) bytes). record {
+        tail = b.tail;
+        is = b.is;
+        fit = b.fit;
+        stops = λ ds all on.
+            broken_none b.tail b.broken (before ++ payloads d.changes) (before ++ payloads ds) on;
+      })
+      (λ (u : Unread front (before ++ payloads d.changes) bytes). record {
+        tail = OPEN ∷ (body u.payload ++ u.rest);
+        is = u.is;
+        fit = u.fit;
+        stops = unread_stops d.changes u.payload u.rest u.short u.none;
+      })
+      d.damage
 
-pub one_place : (a b : ℕ) (bytes : List ℕ) → DamagesLog a bytes → DamagesLog b bytes → a ≡ b
-one_place a b bytes d e =
-    let s = stops_at a bytes d in
-    let t = stops_at b bytes e in
-    elim (compare (payloads d.changes) (payloads e.changes) s.tail t.tail (all_short d.changes d.logged)
-    (all_short e.changes e.logged) (sym s.is ∙ t.is)) [
-      | inl same ↦ d.place ∙ ap (λ (ps : List (List ℕ)). length (prefix ps)) same.0 ∙ sym e.place
-      | inr on ↦ absurd (⊎_elim (s.stops e.changes e.logged) (t.stops d.changes d.logged) on)
-    ]
+  pub one_place : (a b : ℕ) (bytes : List ℕ) → DamagesLog front before a bytes → DamagesLog front before b bytes → a ≡ b
+  one_place a b bytes d e =
+      let s = stops_at a bytes d in
+      let t = stops_at b bytes e in
+      elim (compare front (before ++ payloads d.changes) (before ++ payloads e.changes) s.tail t.tail s.fit t.fit
+      (sym s.is ∙ t.is)) [
+        | inl same ↦ d.place ∙ ap (λ (ps : List (List ℕ)). length (prefix front ps)) same.0 ∙ sym e.place
+        | inr on ↦ absurd (⊎_elim (s.stops e.changes e.logged) (t.stops d.changes d.logged) on)
+      ]
 
-unread_none : (cs : List Change) (ps : List (List ℕ)) (bytes : List ℕ) → IsLog cs bytes → AllByRecursion IsShort ps
-    → Unread ps bytes → ⊥
-unfolding NoRecord
-unread_none cs ps bytes log short u =
-    let o = log.opens in
-    elim (compare ps (payloads cs) (OPEN ∷ (body u.payload ++ u.rest)) (o.gate ∷ o.rest) short o.fit (sym u.is ∙ o.is)) [
-      | inl same ↦ o.shut (sym (first_is OPEN o.gate (body u.payload ++ u.rest) o.rest same.1))
-      | inr on ↦ ⊎_elim (unread_stops ps u.payload u.rest u.short u.none cs log.logged)
-          (shut_none o.gate o.rest o.shut (payloads cs) ps) on
-    ]
+  unread_none : (cs ds : List Change) (bytes : List ℕ) → IsLog front before cs bytes
+      → Unread front (before ++ payloads ds) bytes → ⊥
+  unfolding NoRecord
+  unread_none cs ds bytes log u =
+      let o = log.opens in
+      let ps = before ++ payloads ds in
+      elim (compare front ps (before ++ payloads cs) (OPEN ∷ (body u.payload ++ u.rest)) (o.gate ∷ o.rest) u.fit o.fit
+      (sym u.is ∙ o.is)) [
+        | inl same ↦ o.shut (sym (first_is OPEN o.gate (body u.payload ++ u.rest) o.rest same.1))
+        | inr on ↦ ⊎_elim (unread_stops ds u.payload u.rest u.short u.none cs log.logged)
+            (shut_none o.gate o.rest o.shut (before ++ payloads cs) ps) on
+      ]
 
-pub log_or_damage : (changes : List Change) (at : ℕ) (bytes : List ℕ) → IsLog changes bytes → DamagesLog at bytes → ⊥
-log_or_damage changes at bytes log d = ⊎_elim
-    (λ (b : Breaks (payloads d.changes) bytes). not_both (payloads changes) (payloads d.changes) bytes log.opens b)
-    (λ (u : Unread (payloads d.changes) bytes). unread_none changes (payloads d.changes) bytes log
-    (all_short d.changes d.logged) u)
-    d.damage
+  pub log_or_damage : (changes : List Change) (at : ℕ) (bytes : List ℕ) → IsLog front before changes bytes
+      → DamagesLog front before at bytes → ⊥
+  log_or_damage changes at bytes log d = ⊎_elim
+      (λ (b : Breaks front (before ++ payloads d.changes) bytes).
+      not_both front (before ++ payloads changes) (before ++ payloads d.changes) bytes log.opens b)
+      (λ (u : Unread front (before ++ payloads d.changes) bytes). unread_none changes d.changes bytes log u)
+      d.damage
 
 -- an identifier in four bytes, and what is behind it
 same_field : (m n : ℕ) (xs ys : List ℕ) → m ≤ 999999999 → n ≤ 999999999 → to_le_bytes w32 m ++ xs ≡ to_le_bytes w32 n
@@ -172,6 +196,8 @@ same_changes (c ∷ cs) (d ∷ ds) p q is =
     let rest = same_changes cs ds p.1 q.1 (tail_is (written c) (written d) (payloads cs) (payloads ds) is) in
     λ i. first i ∷ rest i
 
-pub one_log : (cs ds : List Change) (bytes : List ℕ) → IsLog cs bytes → IsLog ds bytes → cs ≡ ds
-one_log cs ds bytes p q = same_changes cs ds p.logged q.logged (one_list (payloads cs) (payloads ds) bytes p.opens
-    q.opens)
+pub one_log : (front : List ℕ) (before : List (List ℕ)) (cs ds : List Change) (bytes : List ℕ)
+    → IsLog front before cs bytes → IsLog front before ds bytes → cs ≡ ds
+one_log front before cs ds bytes p q = same_changes cs ds p.logged q.logged
+    (same_behind before (payloads cs) (payloads ds)
+    (one_list front (before ++ payloads cs) (before ++ payloads ds) bytes p.opens q.opens))

@@ -14,29 +14,32 @@ payloads changes = map written changes
 abbrev pub IsLogged : Change → Type 0
 IsLogged change = IsInRange change × IsShort (written change)
 
--- The bytes are a log of these changes: they open to their payloads, and each change is in range.
-pub record IsLog (changes : List Change) (bytes : List ℕ) : Type 0 where
-  pub opens : Opens (payloads changes) bytes
+-- Behind what stands in front and the records of payloads that were read before, the bytes are a log of these changes:
+-- they open to those payloads and the changes', and each change is in range.
+pub record IsLog (front : List ℕ) (before : List (List ℕ)) (changes : List Change) (bytes : List ℕ) : Type 0 where
+  pub opens : Opens front (before ++ payloads changes) bytes
   pub logged : AllByRecursion IsLogged changes
 
 -- Behind open records of these payloads is one more, and no change in range is read from its payload.
-pub record Unread (payloads : List (List ℕ)) (bytes : List ℕ) : Type 0 where
+pub record Unread (front : List ℕ) (payloads : List (List ℕ)) (bytes : List ℕ) : Type 0 where
   pub payload : List ℕ
   pub rest : List ℕ
-  pub is : bytes ≡ prefix payloads ++ OPEN ∷ (body payload ++ rest)
+  pub is : bytes ≡ prefix front payloads ++ OPEN ∷ (body payload ++ rest)
+  pub fit : AllByRecursion IsShort payloads
   pub short : IsShort payload
   pub none : IsNoChange payload
 
--- The log is damaged at a place: the records of changes lead up to it, and what is there is broken or is not read.
-pub record DamagesLog (at : ℕ) (bytes : List ℕ) : Type 0 where
+-- The log is damaged at a place: behind what stands in front and the records of payloads that were read before, records
+-- of changes lead up to it, and what is there is broken or is not read.
+pub record DamagesLog (front : List ℕ) (before : List (List ℕ)) (at : ℕ) (bytes : List ℕ) : Type 0 where
   pub changes : List Change
   pub logged : AllByRecursion IsLogged changes
-  pub place : at ≡ length (prefix (payloads changes))
-  pub damage : Breaks (payloads changes) bytes ⊎ Unread (payloads changes) bytes
+  pub place : at ≡ length (prefix front (before ++ payloads changes))
+  pub damage : Breaks front (before ++ payloads changes) bytes ⊎ Unread front (before ++ payloads changes) bytes
 
--- a whole file of these changes
-abbrev pub log_text : List Change → List ℕ
-log_text changes = text (payloads changes)
+-- a whole file: what stands in front, the records of these payloads and of these changes, and a closed gate
+abbrev pub log_text : List ℕ → List (List ℕ) → List Change → List ℕ
+log_text front before changes = text front (before ++ payloads changes)
 
 abbrev pub changes_of : List Commit → List Change
 changes_of commits = map (λ commit. change_of commit.wire) commits

@@ -4,21 +4,23 @@ ghost use Rattle.std.specs.Prelude.{◌≡◌, ◌++◌, ℕ, List};
 ghost use Rattle.std.specs.List.{AllByRecursion};
 ghost use Rattle.commit_log.specs.Change.{Change, IsInRange, written};
 ghost use Rattle.commit_log.specs.Log.{DamagesLog, IsLog, IsLogged, log_text};
+ghost use Rattle.journal_core.specs.Records.{IsShort};
 
 /// A payload is written for one change, and bytes are a log of one list of changes, or are damaged at one place.
 pub fn a_log_reads_one_way()
     ensures one_change { (a b : Change)
         → IsInRange a → IsInRange b → written a ≡ written b → a ≡ b }
-    ensures one_list { (cs ds : List Change) (bytes : List ℕ)
-        → IsLog cs bytes → IsLog ds bytes → cs ≡ ds }
-    ensures one_place { (a b : ℕ) (bytes : List ℕ)
-        → DamagesLog a bytes → DamagesLog b bytes → a ≡ b }
-    ensures not_both { (changes : List Change) (at : ℕ) (bytes : List ℕ)
-        → IsLog changes bytes → DamagesLog at bytes → ⊥ }
+    ensures one_list { (front : List ℕ) (before : List (List ℕ)) (cs ds : List Change)
+        (bytes : List ℕ) → IsLog front before cs bytes → IsLog front before ds bytes → cs ≡ ds }
+    ensures one_place { (front : List ℕ) (before : List (List ℕ)) (a b : ℕ) (bytes : List ℕ)
+        → DamagesLog front before a bytes → DamagesLog front before b bytes → a ≡ b }
+    ensures not_both { (front : List ℕ) (before : List (List ℕ)) (changes : List Change) (at : ℕ)
+        (bytes : List ℕ) → IsLog front before changes bytes → DamagesLog front before at bytes → ⊥ }
 {}
 
 /// A log that is written is read, whatever follows it.
 pub fn a_written_log_is_read()
-    ensures { (changes : List Change) (rest : List ℕ) → AllByRecursion IsLogged changes
-        → IsLog changes (log_text changes ++ rest) }
+    ensures { (front : List ℕ) (before : List (List ℕ)) (changes : List Change) (rest : List ℕ)
+        → AllByRecursion IsShort before → AllByRecursion IsLogged changes
+        → IsLog front before changes (log_text front before changes ++ rest) }
 {}

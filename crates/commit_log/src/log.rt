@@ -1,7 +1,7 @@
 //! The commits of a journal are read.
 
-ghost use Rattle.std.specs.Prelude.{◌≡◌, ◌<◌, ◌+◌, ◌^◌, ◌⊎◌, ◌++◌, ℕ, List, [], ◌∷◌, length, true, false, OnOk, IfOk, IfSome, IfNone, IsErrOf};
-ghost use Rattle.disk_edge.specs.Disk.{IfTold, Rose};
+ghost use Rattle.std.specs.Prelude.{◌≡◌, ◌<◌, ◌+◌, ◌^◌, ◌⊎◌, ◌++◌, ℕ, List, [], ◌∷◌, length, true, false, OnErr, OnOk, IfOk, IfSome, IfNone, IsErrOf};
+ghost use Rattle.disk_edge.specs.Disk.{IfTold, Faulted};
 ghost use Rattle.journal_core.specs.Answers.{OnDamaged};
 ghost use Rattle.journal_core.specs.Journal.{Reads, Rests};
 ghost use Rattle.journal_core.specs.Looks.{Looks};
@@ -15,27 +15,32 @@ use disk_edge::Disk;
 use journal_core::{Journal, LoadFault};
 use std::alloc::Global;
 
-/// All commits of a journal that was loaded, up to the first gate that is not open. It may then be appended to. After a
-/// fault it stands at some record, and is loaded anew.
+/// All commits from the record on at which a journal stands, up to the first gate that is not open. It may then be
+/// appended to. After a fault, want of memory too, it stands at some record, and is loaded anew.
 pub fn read_all<D: Disk>(alloc: Global, journal: &mut Journal<D>) -> Result<Vec<Commit>, LoadFault>
     requires settled { journal.old.doubt ≡ false }
 
     ensures takes { IfOk result
         (λ commits. Takes journal.old.place commits.items journal.new.place) }
-    ensures log { IfOk result (λ commits. Reads D.content D.images journal.old []
-        → IfTold (D.content journal.old.disk) (IsLog (changes_of commits.items))) }
-    ensures rests { IfOk result (λ commits. Reads D.content D.images journal.old []
-        → Rests D.content D.images journal.new (payloads (changes_of commits.items))) }
+    ensures log { IfOk result (λ commits. (front : List ℕ) (before : List (List ℕ))
+        → Reads D.model journal.old front before → IfTold (D.model.content journal.old.disk)
+        (IsLog front before (changes_of commits.items))) }
+    ensures rests { IfOk result (λ commits. (front : List ℕ) (before : List (List ℕ))
+        → Reads D.model journal.old front before
+        → Rests D.model journal.new front (before ++ payloads (changes_of commits.items))) }
     ensures ready { OnOk result (journal.new.ready ≡ true) }
-    ensures damaged { OnDamaged result (λ at. Reads D.content D.images journal.old []
-        → IfTold (D.content journal.old.disk) (DamagesLog at)) }
+    ensures damaged { OnDamaged result (λ at. (front : List ℕ) (before : List (List ℕ))
+        → Reads D.model journal.old front before
+        → IfTold (D.model.content journal.old.disk) (DamagesLog front before at)) }
     ensures cause { IsErrOf result LoadFault.Disk
-        → Rose (D.faults journal.old.disk) (D.faults journal.new.disk) }
+        → Faulted D.model journal.old.disk journal.new.disk }
     ensures no_other { ¬ IsErrOf result LoadFault.NotAStore }
+    ensures stands { OnErr result ((front : List ℕ) (before : List (List ℕ))
+        → Reads D.model journal.old front before
+        → (more : List (List ℕ)) × Reads D.model journal.new front (before ++ more)) }
 
     ensures settled { journal.new.doubt ≡ false }
-    ensures looks { Looks D.content D.images D.clock D.images_between D.faults D.bound
-        journal.old.disk journal.new.disk }
+    ensures looks { Looks D.model journal.old.disk journal.new.disk }
 {
     let mut commits = Vec::new(alloc);
     loop {
@@ -57,23 +62,26 @@ fn next_commit<D: Disk>(
     ensures commit { IfOk result (λ found. IfSome found (λ commit. (commit.at ≡ journal.old.place)
         × IsLogged (change_of commit.wire)
         × (journal.new.place ≡ commit.at + 5 + length (written (change_of commit.wire))))) }
-    ensures reads { IfOk result (λ found. IfSome found (λ commit. (ps : List (List ℕ))
-        → Reads D.content D.images journal.old ps
-        → Reads D.content D.images journal.new (ps ++ written (change_of commit.wire) ∷ []))) }
+    ensures reads { IfOk result (λ found. IfSome found (λ commit. (front : List ℕ)
+        (ps : List (List ℕ)) → Reads D.model journal.old front ps
+        → Reads D.model journal.new front (ps ++ written (change_of commit.wire) ∷ []))) }
     ensures end { IfOk result (λ found. IfNone found ((journal.new.ready ≡ true)
-        × (journal.new.place ≡ journal.old.place) × ((ps : List (List ℕ))
-        → Reads D.content D.images journal.old ps → Rests D.content D.images journal.new ps))) }
-    ensures damaged { OnDamaged result (λ at. (ps : List (List ℕ))
-        → Reads D.content D.images journal.old ps → (at ≡ length (prefix ps))
-        × IfTold (D.content journal.old.disk) (λ l. Breaks ps l ⊎ Unread ps l)) }
+        × (journal.new.place ≡ journal.old.place) × ((front : List ℕ) (ps : List (List ℕ))
+        → Reads D.model journal.old front ps → Rests D.model journal.new front ps))) }
+    ensures damaged { OnDamaged result (λ at. (front : List ℕ) (ps : List (List ℕ))
+        → Reads D.model journal.old front ps → (at ≡ length (prefix front ps))
+        × IfTold (D.model.content journal.old.disk)
+        (λ l. Breaks front ps l ⊎ Unread front ps l)) }
     ensures cause { IsErrOf result LoadFault.Disk
-        → Rose (D.faults journal.old.disk) (D.faults journal.new.disk) }
+        → Faulted D.model journal.old.disk journal.new.disk }
     ensures no_other { ¬ IsErrOf result LoadFault.NotAStore }
+    ensures stands { OnErr result ((front : List ℕ) (ps : List (List ℕ))
+        → Reads D.model journal.old front ps
+        → (more : List (List ℕ)) × Reads D.model journal.new front (ps ++ more)) }
 
     ensures below { journal.new.place < 2 ^ 64 }
     ensures settled { journal.new.doubt ≡ false }
-    ensures looks { Looks D.content D.images D.clock D.images_between D.faults D.bound
-        journal.old.disk journal.new.disk }
+    ensures looks { Looks D.model journal.old.disk journal.new.disk }
 {
     let (at, payload) = match journal.next() {
         Ok(Some(record)) => record,

@@ -1,9 +1,9 @@
 //! A disk, as a journal sees it: what a read gives, and which images a crash may leave, now and at each moment
 //! from one time of its clock to another. Where the disk tells no content, the clauses on content say nothing.
 
-ghost use Rattle.std.specs.Prelude.{◌≡◌, ◌⊎◌, ◌<◌, ◌≤◌, ◌^◌, ◌+◌, ℕ, List, Option, Some, length, take, drop, OnOk, IfOk};
+ghost use Rattle.std.specs.Prelude.{◌≡◌, ◌≢◌, ◌⊎◌, ◌<◌, ◌≤◌, ◌^◌, ◌+◌, ℕ, List, Option, Some, length, take, drop, OnOk, IfOk};
 ghost use Rattle.disk_edge.specs.declared.disk.DiskFail.TheVariants.{NoMemory};
-ghost use Rattle.disk_edge.specs.Disk.{written, Same, Exactly, Tears, Elapses, Rose, Counts, OnFailed, OnNoMemory, Becomes, TearsContent, IfTold};
+ghost use Rattle.disk_edge.specs.Disk.{DiskModel, written, Torn, Same, Exactly, Tears, Elapses, OnFailed, OnNoMemory, Becomes, TearsContent, IfTold, Counted, Faulted};
 
 use std::alloc::{AllocError, AllocFailed};
 use thiserror::Error;
@@ -39,106 +39,101 @@ impl<T: Drop> From<AllocFailed<T>> for DiskFail {
 /// bytes after a crash; bytes outside stay. The length after a crash is that of the last sync, or any greater one up to
 /// the greatest end of a write since. After a sync that succeeds, a crash leaves what a read gives.
 pub trait Disk {
-    /// What a read gives, where the disk tells it.
-    ghost content: { Self → Option (List ℕ) };
-
-    /// The images that a crash now may leave.
-    ghost images: { Self → List ℕ → Type 0 };
-
-    /// A time that never falls. Only the four calls move it.
-    ghost clock: { Self → ℕ };
-
-    /// The images that a crash at some moment from one time to another may have left.
-    ghost images_between: { Self → ℕ → ℕ → List ℕ → Type 0 };
-
-    /// How many faults there were. The count stands still at 2^64 - 1.
-    ghost faults: { Self → ℕ };
-
-    /// A number that the count never exceeds, where the disk tells one.
-    ghost bound: { Self → Option ℕ };
+    /// What a read gives, which images a crash may leave, now and at each moment, and how many faults there were.
+    ghost model: { DiskModel Self };
 
     /// The length.
     fn len(&mut self) -> Result<u64, DiskFail>
-        ensures length { IfOk result (λ n. IfTold (content self.old) (λ l. n ≡ length l)) }
-        ensures content { content self.new ≡ content self.old }
-        ensures images { Same (images self.old) (images self.new) }
-        ensures time { Elapses clock images_between images self.old self.new }
-        ensures failed { OnFailed result (Rose (faults self.old) (faults self.new)) }
+        ensures length { IfOk result (λ n. IfTold (model.content self.old) (λ l. n ≡ length l)) }
+        ensures content { model.content self.new ≡ model.content self.old }
+        ensures images { Same (model.images self.old) (model.images self.new) }
+        ensures time { Elapses model self.old self.new }
+        ensures failed { OnFailed result (Faulted model self.old self.new) }
         ensures no_memory { OnNoMemory result ⊥ }
-        ensures held { faults self.new < 2 ^ 64 }
-        ensures count { Counts (faults self.old) (faults self.new)
-            (bound self.old) (bound self.new) };
+        ensures held { model.faults self.new < 2 ^ 64 }
+        ensures count { Counted model self.old self.new };
 
     /// Fills `room` with the bytes from a place on.
     fn read_at(&mut self, at: u64, room: &mut [u8]) -> Result<(), DiskFail>
-        requires { IfTold (content self.old) (λ l. at + length room.old ≤ length l) }
-        ensures bytes { OnOk result (IfTold (content self.old)
+        requires { IfTold (model.content self.old) (λ l. at + length room.old ≤ length l) }
+        ensures bytes { OnOk result (IfTold (model.content self.old)
             (λ l. room.new ≡ take (length room.old) (drop at l))) }
-        ensures content { content self.new ≡ content self.old }
-        ensures images { Same (images self.old) (images self.new) }
-        ensures time { Elapses clock images_between images self.old self.new }
-        ensures failed { OnFailed result (Rose (faults self.old) (faults self.new)) }
+        ensures content { model.content self.new ≡ model.content self.old }
+        ensures images { Same (model.images self.old) (model.images self.new) }
+        ensures time { Elapses model self.old self.new }
+        ensures failed { OnFailed result (Faulted model self.old self.new) }
         ensures no_memory { OnNoMemory result ⊥ }
-        ensures held { faults self.new < 2 ^ 64 }
-        ensures count { Counts (faults self.old) (faults self.new)
-            (bound self.old) (bound self.new) };
+        ensures held { model.faults self.new < 2 ^ 64 }
+        ensures count { Counted model self.old self.new };
 
     /// Writes over what is there, and past the end. Until a sync succeeds, a crash may leave any bytes in the
     /// range, also where the write failed.
     fn write_at(&mut self, at: u64, bytes: &[u8]) -> Result<(), DiskFail>
-        requires start { IfTold (content self.old) (λ l. at ≤ length l) }
+        requires start { IfTold (model.content self.old) (λ l. at ≤ length l) }
         requires end { at + length bytes.now < 2 ^ 63 }
         ensures written { OnOk result
-            (Becomes (content self.old) (content self.new) (written at bytes.now)) }
+            (Becomes (model.content self.old) (model.content self.new) (written at bytes.now)) }
         ensures images { OnOk result
-            (Tears at (length bytes.now) (images self.old) (images self.new)) }
-        ensures failed { OnFailed result (Rose (faults self.old) (faults self.new)) }
-        ensures failed_content { OnFailed result
-            (TearsContent at (length bytes.now) (content self.old) (content self.new)) }
+            (Tears at (length bytes.now) (model.images self.old) (model.images self.new)) }
+        ensures failed { OnFailed result (Faulted model self.old self.new) }
+        ensures failed_content { OnFailed result (TearsContent at (length bytes.now)
+            (model.content self.old) (model.content self.new)) }
         ensures failed_images { OnFailed result
-            (Tears at (length bytes.now) (images self.old) (images self.new)) }
-        ensures no_memory_content { OnNoMemory result (content self.new ≡ content self.old) }
-        ensures no_memory_images { OnNoMemory result (Same (images self.old) (images self.new)) }
-        ensures no_memory_time { OnNoMemory result (clock self.new ≡ clock self.old) }
-        ensures no_memory_count { OnNoMemory result (faults self.new ≡ faults self.old) }
-        ensures no_memory_bound { OnNoMemory result (bound self.new ≡ bound self.old) }
-        ensures time { Elapses clock images_between images self.old self.new }
-        ensures held { faults self.new < 2 ^ 64 }
-        ensures count { Counts (faults self.old) (faults self.new)
-            (bound self.old) (bound self.new) };
+            (Tears at (length bytes.now) (model.images self.old) (model.images self.new)) }
+        ensures no_memory_content { OnNoMemory result
+            (model.content self.new ≡ model.content self.old) }
+        ensures no_memory_images { OnNoMemory result
+            (Same (model.images self.old) (model.images self.new)) }
+        ensures no_memory_time { OnNoMemory result
+            (model.clock self.new ≡ model.clock self.old) }
+        ensures no_memory_count { OnNoMemory result
+            (model.faults self.new ≡ model.faults self.old) }
+        ensures no_memory_bound { OnNoMemory result
+            (model.bound self.new ≡ model.bound self.old) }
+        ensures time { Elapses model self.old self.new }
+        ensures held { model.faults self.new < 2 ^ 64 }
+        ensures count { Counted model self.old self.new };
 
     /// After a sync that succeeds a crash leaves what a read gives.
     fn sync(&mut self) -> Result<(), DiskFail>
         ensures synced { OnOk result
-            (IfTold (content self.old) (λ l. Exactly l (images self.new))) }
-        ensures content { content self.new ≡ content self.old }
-        ensures failed { OnFailed result (Rose (faults self.old) (faults self.new)) }
-        ensures failed_images { OnFailed result (Same (images self.old) (images self.new)) }
-        ensures no_new { (c : List ℕ) → images self.new c → images self.old c }
+            (IfTold (model.content self.old) (λ l. Exactly l (model.images self.new))) }
+        ensures content { model.content self.new ≡ model.content self.old }
+        ensures failed { OnFailed result (Faulted model self.old self.new) }
+        ensures failed_images { OnFailed result
+            (Same (model.images self.old) (model.images self.new)) }
+        ensures no_new { (c : List ℕ) → model.images self.new c → model.images self.old c }
         ensures no_memory { OnNoMemory result ⊥ }
-        ensures time { Elapses clock images_between images self.old self.new }
-        ensures held { faults self.new < 2 ^ 64 }
-        ensures count { Counts (faults self.old) (faults self.new)
-            (bound self.old) (bound self.new) };
+        ensures time { Elapses model self.old self.new }
+        ensures held { model.faults self.new < 2 ^ 64 }
+        ensures count { Counted model self.old self.new };
 
     /// What a read gives is one of the images.
-    ghost content_is_image: { (d : Self) (l : List ℕ) → content d ≡ Some l → images d l };
+    ghost content_is_image: { (d : Self) (l : List ℕ)
+        → model.content d ≡ Some l → model.images d l };
+
+    /// A place at which an image has another byte than a read gives, or has one where a read gives none, or the other
+    /// way round, was written, or was to be, and not synced: it may hold any byte.
+    ghost loose: { (d : Self) (l c e : List ℕ) (at : ℕ) → model.content d ≡ Some l
+        → model.images d c → take 1 (drop at c) ≢ take 1 (drop at l)
+        → Torn at 1 c e → model.images d e };
 
     /// At this moment a crash leaves the images of now.
     ghost counts_now: { (d : Self) (c : List ℕ)
-        → images d c → images_between d (clock d) (clock d) c };
+        → model.images d c → model.images_between d (model.clock d) (model.clock d) c };
 
     ghost only_now: { (d : Self) (c : List ℕ)
-        → images_between d (clock d) (clock d) c → images d c };
+        → model.images_between d (model.clock d) (model.clock d) c → model.images d c };
 
     /// A moment lies before a time between, or after it.
     ghost parts: { (d : Self) (t v u : ℕ) (c : List ℕ) → t ≤ v → v ≤ u
-        → images_between d t u c → images_between d t v c ⊎ images_between d v u c };
+        → model.images_between d t u c
+        → model.images_between d t v c ⊎ model.images_between d v u c };
 
     /// A longer time has each moment of a shorter one.
     ghost whole: { (d : Self) (t t' u' u : ℕ) (c : List ℕ) → t ≤ t' → u' ≤ u
-        → images_between d t' u' c → images_between d t u c };
+        → model.images_between d t' u' c → model.images_between d t u c };
 
     /// The count never exceeds the bound.
-    ghost within: { (d : Self) (b : ℕ) → bound d ≡ Some b → faults d ≤ b };
+    ghost within: { (d : Self) (b : ℕ) → model.bound d ≡ Some b → model.faults d ≤ b };
 }

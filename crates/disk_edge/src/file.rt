@@ -1,15 +1,19 @@
 //! A file as a disk, the trusted edge: no contract says what std's files hold, so it tells nothing of its content.
 //! For contracts it is its count of faults.
 
-ghost use Rattle.std.specs.Prelude.{◌≡◌, None};
+ghost use Rattle.std.specs.Prelude.{◌≡◌};
 ghost use Rattle.disk_edge.specs.File as silent;
 
 use crate::disk::{Disk, DiskFail};
+use std::fs;
 use std::fs::{File, Files, OpenOptions};
 use std::marker::Model;
+use std::os::fd::AsRawFd;
 use std::os::unix::fs::FileExt;
+use std::path::Path;
 
-/// A file as a disk. Each call on a file that could not be opened fails, and each failed call counts.
+/// A file as a disk, locked as long as the disk is there. Each call on a file that could not be opened fails, and each
+/// failed call counts.
 #[derive(Drop)]
 pub struct FileDisk {
     file: Option<File>,
@@ -25,19 +29,19 @@ impl Model for FileDisk {
 }
 
 impl FileDisk {
-    /// The file of this path, for reading and writing. With `create` it is made where it is not there.
+    /// The regular file of this path, for reading and writing, under an exclusive lock that the disk holds. With `create`
+    /// it is made where nothing is there, and its folder is synced. Where the path names something else, another holds
+    /// the lock, or a standard stream is closed, so that the file would stand for it, each call of the disk fails; no
+    /// byte of anything was changed then.
     pub fn at<R: Files<File = File>>(rt: &R, path: &str, create: bool) -> FileDisk
         ensures { result ≡ 0 }
     {
-        let opened = OpenOptions::new()
-            .read(true)
-            .write(true)
-            .create(create)
-            .open(rt, path);
-        FileDisk {
-            file: opened.ok(),
-            faults: 0,
-        }
+        let file = if create {
+            found_or_made(rt, path)
+        } else {
+            found(rt, path)
+        };
+        FileDisk { file, faults: 0 }
     }
 
     /// A file that could not be opened.
@@ -66,17 +70,7 @@ impl FileDisk {
 }
 
 impl Disk for FileDisk {
-    ghost content = { λ _. None };
-
-    ghost images = { silent.any_image };
-
-    ghost clock = { λ _. 0 };
-
-    ghost images_between = { silent.any_between };
-
-    ghost faults = { λ faults. faults };
-
-    ghost bound = { λ _. None };
+    ghost model = { silent.model };
 
     fn len(&mut self) -> Result<u64, DiskFail> {
         let given = length_of(&self.file);
@@ -100,6 +94,8 @@ impl Disk for FileDisk {
 
     ghost content_is_image = { λ _ _ _. tt };
 
+    ghost loose = { λ _ _ _ _ _ _ _ _ _. tt };
+
     ghost counts_now = { λ _ _ _. tt };
 
     ghost only_now = { λ _ _ _. tt };
@@ -111,30 +107,70 @@ impl Disk for FileDisk {
     ghost within = { silent.no_bound };
 }
 
-fn length_of(file: &Option<File>) -> Option<u64> {
-    match file {
-        Some(file) => Some(file.metadata().ok()?.len()),
-        None => None,
+// The file of this path. The path is looked at first, since opening a device or a pipe may do something to it.
+fn found<R: Files<File = File>>(rt: &R, path: &str) -> Option<File> {
+    if !fs::metadata(rt, path).ok()?.is_file() {
+        return None;
     }
+    let file = OpenOptions::new()
+        .read(true)
+        .write(true)
+        .open(rt, path)
+        .ok()?;
+    locked(file)
+}
+
+// The file of this path, which is made where nothing is there, also no link. Its folder is opened before, so that no
+// file is made where a standard stream is closed.
+fn found_or_made<R: Files<File = File>>(rt: &R, path: &str) -> Option<File> {
+    let folder = File::open(rt, folder_of(path)).ok()?;
+    if !is_apart(&folder) {
+        return None;
+    }
+    let file = if fs::symlink_metadata(rt, path).is_ok() {
+        found(rt, path)?
+    } else {
+        locked(File::create_new(rt, path).ok()?)?
+    };
+    folder.sync_all().ok()?;
+    Some(file)
+}
+
+// The folder that a path names its file in.
+fn folder_of(path: &str) -> &str {
+    match Path::new(path).parent() {
+        Some(folder) if !folder.as_str().is_empty() => folder.as_str(),
+        _ => ".",
+    }
+}
+
+// The file, where it is a regular one, stands apart from the standard streams, and its lock was free.
+fn locked(file: File) -> Option<File> {
+    let is_file = file.metadata().ok()?.is_file();
+    if is_file && is_apart(&file) && file.try_lock().is_ok() {
+        Some(file)
+    } else {
+        None
+    }
+}
+
+// Whether a file has none of the descriptors of the standard streams.
+fn is_apart(file: &File) -> bool {
+    file.as_raw_fd() > 2
+}
+
+fn length_of(file: &Option<File>) -> Option<u64> {
+    Some(file.as_ref()?.metadata().ok()?.len())
 }
 
 fn read(file: &Option<File>, at: u64, room: &mut [u8]) -> Option<()> {
-    match file {
-        Some(file) => file.read_exact_at(room, at).ok(),
-        None => None,
-    }
+    file.as_ref()?.read_exact_at(room, at).ok()
 }
 
 fn write(file: &Option<File>, at: u64, bytes: &[u8]) -> Option<()> {
-    match file {
-        Some(file) => file.write_all_at(bytes, at).ok(),
-        None => None,
-    }
+    file.as_ref()?.write_all_at(bytes, at).ok()
 }
 
 fn sync(file: &Option<File>) -> Option<()> {
-    match file {
-        Some(file) => file.sync_all().ok(),
-        None => None,
-    }
+    file.as_ref()?.sync_all().ok()
 }

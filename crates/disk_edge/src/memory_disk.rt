@@ -1,25 +1,15 @@
 //! A disk in memory is a disk: its images at each moment follow from its record.
 
-ghost use Rattle.std.specs.Prelude.{Some, length};
-ghost use Rattle.disk_edge.specs.Failures.{bound_of};
+ghost use Rattle.std.specs.Prelude.{length};
 ghost use Rattle.disk_edge.specs.Medium as medium;
 ghost use Rattle.disk_edge.specs.MediumLaws as laws;
+ghost use Rattle.disk_edge.specs.Loose as loose;
 
 use crate::disk::{Disk, DiskFail};
 use crate::memory::MemDisk;
 
 impl Disk for MemDisk {
-    ghost content = { λ d. Some (medium.replay d.first d.calls) };
-
-    ghost images = { λ d. medium.Images d.first d.calls };
-
-    ghost clock = { λ d. length d.calls };
-
-    ghost images_between = { λ d. medium.Between d.first d.calls };
-
-    ghost faults = { λ d. d.failures.count };
-
-    ghost bound = { λ d. bound_of d.failures };
+    ghost model = { medium.model };
 
     fn len(&mut self) -> Result<u64, DiskFail> {
         if self.call() {
@@ -46,6 +36,8 @@ impl Disk for MemDisk {
     }
 
     ghost content_is_image = { laws.content_is_image };
+
+    ghost loose = { loose.loose_at };
 
     ghost counts_now = { λ d. laws.counts d.first d.calls };
 

@@ -1,18 +1,23 @@
 //! The edge to the system: std's readers and writers.
 ghost use Rattle.std.specs.Prelude.{◌≡◌, ◌<◌, ◌^◌};
 ghost use Rattle.std.specs.Bool.{OnTrue, OnFalse};
-ghost use Rattle.std.specs.Io.KnownBytes.{Appends};
+ghost use Rattle.std.specs.Io.{ReadsAtMost, WritesAtMost};
+ghost use Rattle.std.specs.Io.KnownBytes.{Appends, Keeps, ReadConsumes, WriteAppends};
 ghost use Rattle.io_edge.specs.Sink.{AppendsPrefix};
 
 use crate::sinks::{PutFault, Sink};
 use crate::sources::{Source, Take};
-use std::io::{Read, Write};
+use std::io;
+use std::io::{ErrorKind, Read, Write};
 
 // How many bytes are read at once, at most.
 const PIECE: usize = 16 * 1024;
 
-/// A reader of std as a source. Each error of the reader is a fault. Over a reader whose bytes std's clauses
-/// know, it tells what is left. Over a file or a terminal it tells nothing.
+// How often a call that a signal interrupted is made again.
+const TRIES: u32 = 1_000_000;
+
+/// A reader of std as a source. Each error of the reader is a fault, but an interrupted call is made again. Over a reader
+/// whose bytes std's clauses know, it tells what is left. Over a file or a terminal it tells nothing.
 #[derive(Drop)]
 pub struct StdSource<R> {
     reader: R,
@@ -35,11 +40,11 @@ impl<R: Read + Drop> Source for StdSource<R> {
 
     ghost faults = { λ s. s.faults };
 
-    /// Reads once. An error counts as a fault, and the answer is `Failed`.
+    /// Reads once, and goes on after an interrupted call. An error counts as a fault, and the answer is `Failed`.
     fn take(&mut self, room: &mut [u8]) -> Take {
         let mut piece = [0u8; PIECE];
         let most = room.len().min(PIECE);
-        match self.reader.read(&mut piece[..most]) {
+        match read_on(&mut self.reader, &mut piece[..most]) {
             Ok(0) => Take::End,
             Ok(n) => {
                 room[..n].copy_from_slice(&piece[..n]);
@@ -53,9 +58,9 @@ impl<R: Read + Drop> Source for StdSource<R> {
     }
 }
 
-/// A writer of std as a sink. Each error of the writer is a fault, and so is a write that takes nothing of a
-/// piece that is not empty. Over a writer whose bytes std's clauses know, it tells what was written. Over a
-/// file or a terminal it tells nothing.
+/// A writer of std as a sink. Each error of the writer is a fault, but an interrupted call is made again; so is a write
+/// that takes nothing of a piece that is not empty. Over a writer whose bytes std's clauses know, it tells what was
+/// written. Over a file or a terminal it tells nothing.
 #[derive(Drop)]
 pub struct StdSink<W> {
     writer: W,
@@ -95,10 +100,51 @@ fn write_whole<W: Write>(writer: &mut W, bytes: &[u8]) -> bool
 {
     let mut rest = bytes;
     while !rest.is_empty() {
-        match writer.write(rest) {
+        match write_on(writer, rest) {
             Ok(n) if n > 0 => rest = &rest[n..],
             _ => return false,
         }
     }
-    writer.flush().is_ok()
+    flush_on(writer).is_ok()
+}
+
+// Reads once, and again after each call that was interrupted.
+fn read_on<R: Read>(reader: &mut R, room: &mut [u8]) -> io::Result<usize>
+    ensures bound { ReadsAtMost result room.new }
+    ensures bytes { ReadConsumes (R.remaining reader.old) (R.remaining reader.new) result room.new }
+{
+    for _ in 0..TRIES {
+        match reader.read(room) {
+            Err(e) if e.kind() == ErrorKind::Interrupted => {}
+            given => return given,
+        }
+    }
+    reader.read(room)
+}
+
+// Writes once, and again after each call that was interrupted.
+fn write_on<W: Write>(writer: &mut W, bytes: &[u8]) -> io::Result<usize>
+    ensures bound { WritesAtMost result bytes.now }
+    ensures bytes { WriteAppends (W.contents writer.old) (W.contents writer.new) result bytes.now }
+{
+    for _ in 0..TRIES {
+        match writer.write(bytes) {
+            Err(e) if e.kind() == ErrorKind::Interrupted => {}
+            given => return given,
+        }
+    }
+    writer.write(bytes)
+}
+
+// Flushes, and again after each call that was interrupted.
+fn flush_on<W: Write>(writer: &mut W) -> io::Result<()>
+    ensures { Keeps (W.contents writer.old) (W.contents writer.new) }
+{
+    for _ in 0..TRIES {
+        match writer.flush() {
+            Err(e) if e.kind() == ErrorKind::Interrupted => {}
+            given => return given,
+        }
+    }
+    writer.flush()
 }

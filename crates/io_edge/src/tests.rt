@@ -3,6 +3,8 @@ use crate::{
     Line, LineFault, Lines, MemSink, MemSource, PutFault, Sink, Source, StdSink, StdSource, Take,
 };
 use std::alloc::{AllocError, Global};
+use std::io;
+use std::io::{ErrorKind, Read, Write};
 use std::test::Fail;
 
 /// What calls for the next line answer: each text and `|`, `L|` for a long line, `!` for a fault of the
@@ -120,6 +122,62 @@ fn readers_and_writers_of_std(rt: HostRuntime) -> Result<(), Fail> {
     let mut full = StdSink::new(room.as_mut_slice());
     assert_eq!(rt; full.put(b"abc"), Ok(()));
     assert_eq!(rt; full.put(b"d"), Err(PutFault::Failed));
+    Ok(())
+}
+
+// What is read and written, where so many calls are interrupted first.
+#[derive(Drop)]
+struct Interrupted<T> {
+    inner: T,
+    times: u32,
+}
+
+impl<T> Interrupted<T> {
+    fn is_now(&mut self) -> bool {
+        let times = self.times;
+        self.times = times.saturating_sub(1);
+        times > 0
+    }
+}
+
+impl<T: Read> Read for Interrupted<T> {
+    fn read(&mut self, buf: &mut [u8]) -> io::Result<usize> {
+        if self.is_now() {
+            return Err(io::Error::from(ErrorKind::Interrupted));
+        }
+        self.inner.read(buf)
+    }
+}
+
+impl<T: Write> Write for Interrupted<T> {
+    fn write(&mut self, buf: &[u8]) -> io::Result<usize> {
+        if self.is_now() {
+            return Err(io::Error::from(ErrorKind::Interrupted));
+        }
+        self.inner.write(buf)
+    }
+
+    fn flush(&mut self) -> io::Result<()> {
+        self.inner.flush()
+    }
+}
+
+#[test]
+fn an_interrupted_call_goes_on(rt: HostRuntime) -> Result<(), Fail> {
+    let text: &[u8] = b"ab";
+    let mut source = StdSource::new(Interrupted {
+        inner: text,
+        times: 3,
+    });
+    assert_eq!(rt; source.take(&mut [0; 4]), Take::Bytes(2));
+    let mut out = Vec::new(rt.alloc());
+    let mut sink = StdSink::new(Interrupted {
+        inner: &mut out,
+        times: 3,
+    });
+    assert_eq!(rt; sink.put(b"ab"), Ok(()));
+    drop(sink);
+    assert_eq!(rt; out.as_slice(), b"ab".as_slice());
     Ok(())
 }
 

@@ -1,36 +1,40 @@
 -- What a journal stands for. For callers.
-use Rattle.std.specs.Prelude.{◌≡◌, ℕ, List, [], ◌∷◌, ◌++◌, length, Option, Some}
+use Rattle.std.specs.Prelude.{◌≡◌, ℕ, List, [], ◌∷◌, ◌++◌, length, Some}
 use Rattle.std.specs.List.{AllByRecursion}
-use Rattle.disk_edge.specs.Disk.{Exactly}
-use Rattle.journal_core.specs.Records.{IsShort, prefix, Opens, Staged, BeforeOrAfter}
+use Rattle.disk_edge.specs.Disk.{DiskModel, Exactly}
+use Rattle.journal_core.specs.Records.{IsShort, header, prefix, text, Opens, Staged, BeforeOrAfter}
 use Rattle.journal_core.specs.Standing.{Standing}
 
--- The journal has read these payloads: the disk tells its content, which is synced and begins with their records, and
--- the journal stands behind them.
-pub record Reads {D : Type 0} (content : D → Option (List ℕ)) (images : D → List ℕ → Type 0) (journal : Standing D)
+-- The disk holds a journal with no records, synced.
+abbrev pub IsEmptyJournal : {D : Type 0} → DiskModel D → D → Type 0
+IsEmptyJournal model disk = (model.content disk ≡ Some (text header [])) × Exactly (text header []) (model.images disk)
+
+-- The journal has read these payloads behind what stands in front: the disk tells its content, which is synced and
+-- begins with the front and their records, and the journal stands behind them.
+pub record Reads {D : Type 0} (model : DiskModel D) (journal : Standing D) (front : List ℕ)
     (payloads : List (List ℕ)) : Type 0 where
   pub told : List ℕ
   pub tail : List ℕ
-  pub is_told : content journal.disk ≡ Some told
-  pub exactly : Exactly told (images journal.disk)
-  pub is : told ≡ prefix payloads ++ tail
-  pub place : journal.place ≡ length (prefix payloads)
+  pub is_told : model.content journal.disk ≡ Some told
+  pub exactly : Exactly told (model.images journal.disk)
+  pub is : told ≡ prefix front payloads ++ tail
+  pub place : journal.place ≡ length (prefix front payloads)
   pub fit : AllByRecursion IsShort payloads
 
 -- The disk tells its content. Each image opens to these payloads, and the journal stands at the gate behind them.
-pub record Rests {D : Type 0} (content : D → Option (List ℕ)) (images : D → List ℕ → Type 0) (journal : Standing D)
+pub record Rests {D : Type 0} (model : DiskModel D) (journal : Standing D) (front : List ℕ)
     (payloads : List (List ℕ)) : Type 0 where
   pub told : List ℕ
-  pub is_told : content journal.disk ≡ Some told
-  pub place : journal.place ≡ length (prefix payloads)
-  pub each : (c : List ℕ) → images journal.disk c → Opens payloads c
+  pub is_told : model.content journal.disk ≡ Some told
+  pub place : journal.place ≡ length (prefix front payloads)
+  pub each : (c : List ℕ) → model.images journal.disk c → Opens front payloads c
 
 -- This payload is in doubt: each image opens to the payloads without it or with it, and some image with it.
-pub record Doubts {D : Type 0} (content : D → Option (List ℕ)) (images : D → List ℕ → Type 0) (journal : Standing D)
+pub record Doubts {D : Type 0} (model : DiskModel D) (journal : Standing D) (front : List ℕ)
     (payloads : List (List ℕ)) (payload : List ℕ) : Type 0 where
   pub told : List ℕ
-  pub is_told : content journal.disk ≡ Some told
-  pub place : journal.place ≡ length (prefix payloads)
-  pub each : (c : List ℕ) → images journal.disk c → BeforeOrAfter payloads payload c
-  pub some : (c : List ℕ) × images journal.disk c × Opens (payloads ++ payload ∷ []) c
-  pub staged : (c : List ℕ) → images journal.disk c → Staged payloads payload c
+  pub is_told : model.content journal.disk ≡ Some told
+  pub place : journal.place ≡ length (prefix front payloads)
+  pub each : (c : List ℕ) → model.images journal.disk c → BeforeOrAfter front payloads payload c
+  pub some : (c : List ℕ) × model.images journal.disk c × Opens front (payloads ++ payload ∷ []) c
+  pub staged : (c : List ℕ) → model.images journal.disk c → Staged front payloads payload c

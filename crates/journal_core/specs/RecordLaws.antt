@@ -20,30 +20,30 @@ records_push (p ∷ payloads) payload rest = ap (λ (l : List ℕ). OPEN ∷ l)
     ∙ sym (append_assoc (body p) (records payloads) (OPEN ∷ (body payload ++ rest))))
 
 -- one record more
-pub prefix_push : (payloads : List (List ℕ)) (payload rest : List ℕ) → prefix (payloads ++ payload ∷ []) ++ rest
-    ≡ prefix payloads ++ OPEN ∷ (body payload ++ rest)
+pub prefix_push : (front : List ℕ) (payloads : List (List ℕ)) (payload rest : List ℕ)
+    → prefix front (payloads ++ payload ∷ []) ++ rest ≡ prefix front payloads ++ OPEN ∷ (body payload ++ rest)
 unfolding prefix
-prefix_push payloads payload rest =
-    append_assoc header (records (payloads ++ payload ∷ [])) rest
-    ∙ ap (λ (l : List ℕ). header ++ l) (records_push payloads payload rest)
-    ∙ sym (append_assoc header (records payloads) (OPEN ∷ (body payload ++ rest)))
+prefix_push front payloads payload rest =
+    append_assoc front (records (payloads ++ payload ∷ [])) rest
+    ∙ ap (λ (l : List ℕ). front ++ l) (records_push payloads payload rest)
+    ∙ sym (append_assoc front (records payloads) (OPEN ∷ (body payload ++ rest)))
 
-pub length-prefix_push : (payloads : List (List ℕ)) (payload : List ℕ) → length (prefix (payloads ++ payload ∷ []))
-    ≡ length (prefix payloads) + 5 + length payload
-length-prefix_push payloads payload =
-    let same : prefix (payloads ++ payload ∷ []) ≡ prefix payloads ++ OPEN ∷ (body payload ++ []) =
-    sym (append-nil (prefix (payloads ++ payload ∷ []))) ∙ prefix_push payloads payload [] in
+pub length-prefix_push : (front : List ℕ) (payloads : List (List ℕ)) (payload : List ℕ)
+    → length (prefix front (payloads ++ payload ∷ [])) ≡ length (prefix front payloads) + 5 + length payload
+length-prefix_push front payloads payload =
+    let same : prefix front (payloads ++ payload ∷ []) ≡ prefix front payloads ++ OPEN ∷ (body payload ++ []) =
+    sym (append-nil (prefix front (payloads ++ payload ∷ []))) ∙ prefix_push front payloads payload [] in
     omega (
       arith,
       ap length same,
-      length-append (prefix payloads) (OPEN ∷ (body payload ++ [])),
+      length-append (prefix front payloads) (OPEN ∷ (body payload ++ [])),
       length-append (body payload) [],
       length-body payload,
     )
 
-pub prefix_nil : prefix [] ≡ header
+pub prefix_nil : (front : List ℕ) → prefix front [] ≡ front
 unfolding prefix
-prefix_nil = append-nil header
+prefix_nil front = append-nil front
 
 pub all_short : (payloads : List (List ℕ)) (payload : List ℕ) → AllByRecursion IsShort payloads → IsShort payload
     → AllByRecursion IsShort (payloads ++ payload ∷ [])
@@ -133,26 +133,28 @@ compare_records (p ∷ ps) (q ∷ qs) t u fp fq is =
     ]
 
 -- Two readings of the same bytes are one, or one of them goes on.
-pub compare : (ps qs : List (List ℕ)) (t u : List ℕ) → AllByRecursion IsShort ps → AllByRecursion IsShort qs
-    → prefix ps ++ t ≡ prefix qs ++ u → Compared ps qs t u
+pub compare : (front : List ℕ) (ps qs : List (List ℕ)) (t u : List ℕ) → AllByRecursion IsShort ps
+    → AllByRecursion IsShort qs
+    → prefix front ps ++ t ≡ prefix front qs ++ u → Compared ps qs t u
 unfolding prefix
-compare ps qs t u fp fq is =
+compare front ps qs t u fp fq is =
     let behind : records ps ++ t ≡ records qs ++ u =
-    sym (drop_at header (records ps ++ t) 8 refl)
-    ∙ ap (λ (l : List ℕ). drop 8 l) (sym (append_assoc header (records ps) t) ∙ is
-    ∙ append_assoc header (records qs) u) ∙ drop_at header (records qs ++ u) 8 refl in
+    sym (drop_at front (records ps ++ t) (length front) refl)
+    ∙ ap (λ (l : List ℕ). drop (length front) l) (sym (append_assoc front (records ps) t) ∙ is
+    ∙ append_assoc front (records qs) u) ∙ drop_at front (records qs ++ u) (length front) refl in
     compare_records ps qs t u fp fq behind
 
 -- no record stands at the front of these bytes
 unfoldable pub NoRecord : List ℕ → Type 0
 NoRecord bytes = (ps qs : List (List ℕ)) → GoesOn ps qs bytes → ⊥
 
-unique_prefix : (ps qs : List (List ℕ)) (t u : List ℕ) → AllByRecursion IsShort ps → AllByRecursion IsShort qs
+unique_prefix : (front : List ℕ) (ps qs : List (List ℕ)) (t u : List ℕ) → AllByRecursion IsShort ps
+    → AllByRecursion IsShort qs
     → NoRecord t → NoRecord u
-    → prefix ps ++ t ≡ prefix qs ++ u → (ps ≡ qs) × (t ≡ u)
+    → prefix front ps ++ t ≡ prefix front qs ++ u → (ps ≡ qs) × (t ≡ u)
 unfolding NoRecord
-unique_prefix ps qs t u fp fq nt nu is = ⊎_elim (λ same. same) (λ on. absurd (⊎_elim (nt ps qs) (nu qs ps) on))
-    (compare ps qs t u fp fq is)
+unique_prefix front ps qs t u fp fq nt nu is = ⊎_elim (λ same. same) (λ on. absurd (⊎_elim (nt ps qs) (nu qs ps) on))
+    (compare front ps qs t u fp fq is)
 
 pub shut_none : (gate : ℕ) (rest : List ℕ) → gate ≢ OPEN → NoRecord (gate ∷ rest)
 unfolding NoRecord
@@ -165,45 +167,51 @@ broken_none (gate ∷ rest) broken ps qs on =
     broken.1 on.payload on.rest on.short (same_tail gate OPEN rest (body on.payload ++ on.rest) on.is)
 
 -- where no record stands, the other reading goes on to there
-pub leads_to : (ps qs : List (List ℕ)) (t u : List ℕ) → AllByRecursion IsShort ps → AllByRecursion IsShort qs
-    → NoRecord u → prefix ps ++ t ≡ prefix qs ++ u
+pub leads_to : (front : List ℕ) (ps qs : List (List ℕ)) (t u : List ℕ) → AllByRecursion IsShort ps
+    → AllByRecursion IsShort qs
+    → NoRecord u → prefix front ps ++ t ≡ prefix front qs ++ u
     → ((ps ≡ qs) × (t ≡ u)) ⊎ GoesOn ps qs t
 unfolding NoRecord
-leads_to ps qs t u fp fq nu is = ⊎_elim (λ same. inl same) (λ on. ⊎_elim (λ x. inr x) (λ y. absurd (nu qs ps y)) on)
-    (compare ps qs t u fp fq is)
+leads_to front ps qs t u fp fq nu is = ⊎_elim (λ same. inl same)
+    (λ on. ⊎_elim (λ x. inr x) (λ y. absurd (nu qs ps y)) on)
+    (compare front ps qs t u fp fq is)
 
-pub one_list : (ps qs : List (List ℕ)) (bytes : List ℕ) → Opens ps bytes → Opens qs bytes → ps ≡ qs
-one_list ps qs bytes o r = (unique_prefix ps qs (o.gate ∷ o.rest) (r.gate ∷ r.rest) o.fit r.fit
+pub one_list : (front : List ℕ) (ps qs : List (List ℕ)) (bytes : List ℕ) → Opens front ps bytes → Opens front qs bytes
+    → ps ≡ qs
+one_list front ps qs bytes o r = (unique_prefix front ps qs (o.gate ∷ o.rest) (r.gate ∷ r.rest) o.fit r.fit
     (shut_none o.gate o.rest o.shut) (shut_none r.gate r.rest r.shut) (sym o.is ∙ r.is)).0
 
-pub one_break : (ps qs : List (List ℕ)) (bytes : List ℕ) → Breaks ps bytes → Breaks qs bytes → ps ≡ qs
-one_break ps qs bytes o r = (unique_prefix ps qs o.tail r.tail o.fit r.fit (broken_none o.tail o.broken)
+pub one_break : (front : List ℕ) (ps qs : List (List ℕ)) (bytes : List ℕ) → Breaks front ps bytes
+    → Breaks front qs bytes → ps ≡ qs
+one_break front ps qs bytes o r = (unique_prefix front ps qs o.tail r.tail o.fit r.fit (broken_none o.tail o.broken)
     (broken_none r.tail r.broken) (sym o.is ∙ r.is)).0
 
 not_broken : (gate : ℕ) (rest tail : List ℕ) → gate ≢ OPEN → gate ∷ rest ≡ tail → IsBroken tail → ⊥
 not_broken gate rest [] shut is broken = cc is
 not_broken gate rest (g ∷ r) shut is broken = shut (same_head gate g rest r is ∙ broken.0)
 
-pub not_both : (ps qs : List (List ℕ)) (bytes : List ℕ) → Opens ps bytes → Breaks qs bytes → ⊥
-not_both ps qs bytes o r =
-    not_broken o.gate o.rest r.tail o.shut (unique_prefix ps qs (o.gate ∷ o.rest) r.tail o.fit r.fit
+pub not_both : (front : List ℕ) (ps qs : List (List ℕ)) (bytes : List ℕ) → Opens front ps bytes
+    → Breaks front qs bytes → ⊥
+not_both front ps qs bytes o r =
+    not_broken o.gate o.rest r.tail o.shut (unique_prefix front ps qs (o.gate ∷ o.rest) r.tail o.fit r.fit
     (shut_none o.gate o.rest o.shut) (broken_none r.tail r.broken) (sym o.is ∙ r.is)).1 r.broken
 
-has_header : (ps : List (List ℕ)) (tail bytes : List ℕ) → bytes ≡ prefix ps ++ tail → IsNoJournal bytes → ⊥
+has_header : (ps : List (List ℕ)) (tail bytes : List ℕ) → bytes ≡ prefix header ps ++ tail → IsNoJournal bytes → ⊥
 unfolding prefix
 has_header ps tail bytes is none = none (records ps ++ tail) (is ∙ append_assoc header (records ps) tail)
 
-pub opens_header : (ps : List (List ℕ)) (bytes : List ℕ) → Opens ps bytes → IsNoJournal bytes → ⊥
+pub opens_header : (ps : List (List ℕ)) (bytes : List ℕ) → Opens header ps bytes → IsNoJournal bytes → ⊥
 opens_header ps bytes o = has_header ps (o.gate ∷ o.rest) bytes o.is
 
-pub breaks_header : (ps : List (List ℕ)) (bytes : List ℕ) → Breaks ps bytes → IsNoJournal bytes → ⊥
+pub breaks_header : (ps : List (List ℕ)) (bytes : List ℕ) → Breaks header ps bytes → IsNoJournal bytes → ⊥
 breaks_header ps bytes o = has_header ps o.tail bytes o.is
 
-pub text_opens : (ps : List (List ℕ)) (rest : List ℕ) → AllByRecursion IsShort ps → Opens ps (text ps ++ rest)
-text_opens ps rest fit = record {
+pub text_opens : (front : List ℕ) (ps : List (List ℕ)) (rest : List ℕ) → AllByRecursion IsShort ps
+    → Opens front ps (text front ps ++ rest)
+text_opens front ps rest fit = record {
   gate = CLOSED;
   rest = rest;
-  is = append_assoc (prefix ps) (CLOSED ∷ []) rest;
+  is = append_assoc (prefix front ps) (CLOSED ∷ []) rest;
   shut =
       λ e. omega (arith, e);
   fit = fit;
@@ -213,25 +221,28 @@ longer : (ps : List (List ℕ)) (p : List ℕ) → ps ≡ ps ++ p ∷ [] → ⊥
 longer ps p is = omega (arith, ap (λ (l : List (List ℕ)). length l) is, length-append ps (p ∷ []))
 
 -- what opens to some payloads does not open to these and one more
-pub never_both : (ps : List (List ℕ)) (p bytes : List ℕ) → Opens ps bytes → Opens (ps ++ p ∷ []) bytes → ⊥
-never_both ps p bytes o r = longer ps p (one_list ps (ps ++ p ∷ []) bytes o r)
+pub never_both : (front : List ℕ) (ps : List (List ℕ)) (p bytes : List ℕ) → Opens front ps bytes
+    → Opens front (ps ++ p ∷ []) bytes → ⊥
+never_both front ps p bytes o r = longer ps p (one_list front ps (ps ++ p ∷ []) bytes o r)
 
-module _ (payloads : List (List ℕ)) where
+module _ (front : List ℕ) (payloads : List (List ℕ)) where
   -- behind an open gate the record counts
   pub opened : (payload bytes rest : List ℕ) → AllByRecursion IsShort payloads → IsShort payload
-      → bytes ≡ prefix payloads ++ OPEN ∷ (body payload ++ CLOSED ∷ rest) → Opens (payloads ++ payload ∷ []) bytes
+      → bytes ≡ prefix front payloads ++ OPEN ∷ (body payload ++ CLOSED ∷ rest)
+      → Opens front (payloads ++ payload ∷ []) bytes
   opened payload bytes rest fit few is = record {
     gate = CLOSED;
     rest = rest;
     fit = all_short payloads payload fit few;
-    is = is ∙ sym (prefix_push payloads payload (CLOSED ∷ rest));
+    is = is ∙ sym (prefix_push front payloads payload (CLOSED ∷ rest));
     shut = λ e. omega (arith, e);
   }
 
-  pub before_or_after : (payload bytes : List ℕ) → Staged payloads payload bytes → BeforeOrAfter payloads payload bytes
+  pub before_or_after : (payload bytes : List ℕ) → Staged front payloads payload bytes
+      → BeforeOrAfter front payloads payload bytes
   before_or_after payload bytes e = elim (cases_eq e.gate OPEN) [
     | inl is_open ↦ inr (opened payload bytes e.rest e.fit e.few (e.is
-        ∙ ap (λ (b : ℕ). prefix payloads ++ b ∷ (body payload ++ CLOSED ∷ e.rest)) is_open))
+        ∙ ap (λ (b : ℕ). prefix front payloads ++ b ∷ (body payload ++ CLOSED ∷ e.rest)) is_open))
     | inr shut ↦ inl (record {
       gate = e.gate;
       rest = body payload ++ CLOSED ∷ e.rest;

@@ -18,22 +18,22 @@ abbrev pub records : List (List ℕ) → List ℕ
 records [] = []
 records (payload ∷ payloads) = (OPEN ∷ body payload) ++ records payloads
 
--- the header and these records
-unfoldable pub prefix : List (List ℕ) → List ℕ
-prefix payloads = header ++ records payloads
+-- what stands in front, and these records
+unfoldable pub prefix : List ℕ → List (List ℕ) → List ℕ
+prefix front payloads = front ++ records payloads
 
--- a whole file: the header, these records and a closed gate
-abbrev pub text : List (List ℕ) → List ℕ
-text payloads = prefix payloads ++ CLOSED ∷ []
+-- a whole file: what stands in front, these records and a closed gate
+abbrev pub text : List ℕ → List (List ℕ) → List ℕ
+text front payloads = prefix front payloads ++ CLOSED ∷ []
 
 abbrev pub IsShort : List ℕ → Type 0
 IsShort payload = length payload ≤ LONGEST_PAYLOAD
 
 -- The bytes open to these payloads: their records are open, and behind them stands a gate that is not.
-pub record Opens (payloads : List (List ℕ)) (bytes : List ℕ) : Type 0 where
+pub record Opens (front : List ℕ) (payloads : List (List ℕ)) (bytes : List ℕ) : Type 0 where
   pub gate : ℕ
   pub rest : List ℕ
-  pub is : bytes ≡ prefix payloads ++ gate ∷ rest
+  pub is : bytes ≡ prefix front payloads ++ gate ∷ rest
   pub shut : gate ≢ OPEN
   pub fit : AllByRecursion IsShort payloads
 
@@ -44,9 +44,9 @@ IsBroken (gate ∷ rest) = (gate ≡ OPEN)
     × ((payload behind : List ℕ) → IsShort payload → rest ≡ body payload ++ behind → ⊥)
 
 -- Open records of these payloads, and behind them what is broken.
-pub record Breaks (payloads : List (List ℕ)) (bytes : List ℕ) : Type 0 where
+pub record Breaks (front : List ℕ) (payloads : List (List ℕ)) (bytes : List ℕ) : Type 0 where
   pub tail : List ℕ
-  pub is : bytes ≡ prefix payloads ++ tail
+  pub is : bytes ≡ prefix front payloads ++ tail
   pub broken : IsBroken tail
   pub fit : AllByRecursion IsShort payloads
 
@@ -55,13 +55,13 @@ abbrev pub IsNoJournal : List ℕ → Type 0
 IsNoJournal bytes = (rest : List ℕ) → bytes ≡ header ++ rest → ⊥
 
 -- Open records of these payloads, any gate, and behind it this payload's record and a closed gate.
-pub record Staged (payloads : List (List ℕ)) (payload bytes : List ℕ) : Type 0 where
+pub record Staged (front : List ℕ) (payloads : List (List ℕ)) (payload bytes : List ℕ) : Type 0 where
   pub gate : ℕ
   pub rest : List ℕ
-  pub is : bytes ≡ prefix payloads ++ gate ∷ (body payload ++ CLOSED ∷ rest)
+  pub is : bytes ≡ prefix front payloads ++ gate ∷ (body payload ++ CLOSED ∷ rest)
   pub fit : AllByRecursion IsShort payloads
   pub few : IsShort payload
 
 -- the payloads from before an append, or these and the new one
-abbrev pub BeforeOrAfter : List (List ℕ) → List ℕ → List ℕ → Type 0
-BeforeOrAfter payloads payload bytes = Opens payloads bytes ⊎ Opens (payloads ++ payload ∷ []) bytes
+abbrev pub BeforeOrAfter : List ℕ → List (List ℕ) → List ℕ → List ℕ → Type 0
+BeforeOrAfter front payloads payload bytes = Opens front payloads bytes ⊎ Opens front (payloads ++ payload ∷ []) bytes

@@ -2,7 +2,7 @@
 //! that is not open, with a closed gate behind it, and synced; then the gate is opened, and synced.
 
 ghost use Rattle.std.specs.Prelude.{◌≡◌, ◌<◌, ◌≤◌, ◌+◌, ◌^◌, [], ◌∷◌, ◌++◌, ℕ, List, None, Some, true, false, length, OnOk, OnErr, IfOk};
-ghost use Rattle.disk_edge.specs.Disk.{Keeps, Rose, Counts, OnFailed, OnNoMemory};
+ghost use Rattle.disk_edge.specs.Disk.{Keeps, OnFailed, OnNoMemory, Counted, Faulted};
 ghost use Rattle.disk_edge.specs.Moments.{AtEachMoment};
 ghost use Rattle.journal_core.specs.Answers.{OnSure, OnDoubt, OnWant, is_doubt};
 ghost use Rattle.journal_core.specs.Journal.{Rests, Doubts};
@@ -11,7 +11,7 @@ ghost use Rattle.journal_core.specs.declared.format.TheConstants.{CLOSED};
 
 use crate::faults::AppendFault;
 use crate::format::{CLOSED, OPEN};
-use crate::put::put;
+use crate::synced::put;
 use crate::window::Window;
 use disk_edge::{Disk, DiskFail, MemDisk};
 use std::alloc::{AllocError, Global};
@@ -42,7 +42,7 @@ impl<D: Disk> Model for Journal<D> {
       doubt = j.doubt;
     } };
 
-    ghost invariant = { λ j. IsSound (D.content j.disk) j.window j.place j.ready j.doubt };
+    ghost invariant = { λ j. IsSound (D.model.content j.disk) j.window j.place j.ready j.doubt };
 }
 
 impl<D: Disk> Journal<D> {
@@ -55,36 +55,34 @@ impl<D: Disk> Journal<D> {
         requires few { IsShort payload.now }
         requires room { self.old.place < 2 ^ 62 }
 
-        ensures ok { OnOk result ((ps : List (List ℕ)) → Rests D.content D.images self.old ps
-            → Rests D.content D.images self.new (ps ++ payload.now ∷ [])) }
-        ensures sure { OnSure result ((ps : List (List ℕ)) → Rests D.content D.images self.old ps
-            → Rests D.content D.images self.new ps) }
-        ensures no_image { OnSure result ((ps : List (List ℕ))
-            → Rests D.content D.images self.old ps
-            → (c : List ℕ) → D.images self.new.disk c → ¬ Opens (ps ++ payload.now ∷ []) c) }
-        ensures doubt { OnDoubt result ((ps : List (List ℕ)) → Rests D.content D.images self.old ps
-            → Doubts D.content D.images self.new ps payload.now) }
-        ensures no_memory { OnWant result ((ps : List (List ℕ))
-            → Rests D.content D.images self.old ps
-            → Rests D.content D.images self.new ps) }
-        ensures untold { D.content self.old.disk ≡ None → D.content self.new.disk ≡ None }
+        ensures ok { OnOk result ((front : List ℕ) (ps : List (List ℕ))
+            → Rests D.model self.old front ps
+            → Rests D.model self.new front (ps ++ payload.now ∷ [])) }
+        ensures sure { OnSure result ((front : List ℕ) (ps : List (List ℕ))
+            → Rests D.model self.old front ps → Rests D.model self.new front ps) }
+        ensures no_image { OnSure result ((front : List ℕ) (ps : List (List ℕ))
+            → Rests D.model self.old front ps → (c : List ℕ) → D.model.images self.new.disk c
+            → ¬ Opens front (ps ++ payload.now ∷ []) c) }
+        ensures doubt { OnDoubt result ((front : List ℕ) (ps : List (List ℕ))
+            → Rests D.model self.old front ps → Doubts D.model self.new front ps payload.now) }
+        ensures no_memory { OnWant result ((front : List ℕ) (ps : List (List ℕ))
+            → Rests D.model self.old front ps → Rests D.model self.new front ps) }
+        ensures untold { D.model.content self.old.disk ≡ None
+            → D.model.content self.new.disk ≡ None }
         ensures in_doubt { self.new.doubt ≡ is_doubt result }
         ensures ready { self.new.ready ≡ true }
         ensures moved { OnOk result (self.new.place ≡ self.old.place + 5 + length payload.now) }
         ensures stays { OnErr result (self.new.place ≡ self.old.place) }
 
         // A crash at any moment of the call leaves the payloads from before it, with the new one or without.
-        ensures moments { (ps : List (List ℕ)) → Rests D.content D.images self.old ps
-            → AtEachMoment D.clock D.images_between self.old.disk self.new.disk
-            (BeforeOrAfter ps payload.now) }
-        ensures past { Keeps D.clock D.images_between self.old.disk self.new.disk }
+        ensures moments { (front : List ℕ) (ps : List (List ℕ)) → Rests D.model self.old front ps
+            → AtEachMoment D.model self.old.disk self.new.disk
+            (BeforeOrAfter front ps payload.now) }
+        ensures past { Keeps D.model self.old.disk self.new.disk }
 
-        ensures sure_cause { OnSure result
-            (Rose (D.faults self.old.disk) (D.faults self.new.disk)) }
-        ensures doubt_cause { OnDoubt result
-            (Rose (D.faults self.old.disk) (D.faults self.new.disk)) }
-        ensures count { Counts (D.faults self.old.disk) (D.faults self.new.disk)
-            (D.bound self.old.disk) (D.bound self.new.disk) }
+        ensures sure_cause { OnSure result (Faulted D.model self.old.disk self.new.disk) }
+        ensures doubt_cause { OnDoubt result (Faulted D.model self.old.disk self.new.disk) }
+        ensures count { Counted D.model self.old.disk self.new.disk }
     {
         let Ok(staged) = staged_bytes(self.alloc, payload) else {
             return Err(AppendFault::NoMemory);
@@ -111,31 +109,30 @@ impl<D: Disk> Journal<D> {
     pub fn settle(&mut self) -> Result<(), DiskFail>
         requires doubt { self.old.doubt ≡ true }
 
-        ensures ok { OnOk result ((ps : List (List ℕ)) (p : List ℕ)
-            → Doubts D.content D.images self.old ps p → Rests D.content D.images self.new ps) }
-        ensures gone { OnOk result ((ps : List (List ℕ)) (p : List ℕ)
-            → Doubts D.content D.images self.old ps p
-            → (c : List ℕ) → D.images self.new.disk c → ¬ Opens (ps ++ p ∷ []) c) }
-        ensures failed { OnFailed result ((ps : List (List ℕ)) (p : List ℕ)
-            → Doubts D.content D.images self.old ps p → Doubts D.content D.images self.new ps p) }
-        ensures no_memory { OnNoMemory result ((ps : List (List ℕ)) (p : List ℕ)
-            → Doubts D.content D.images self.old ps p → Doubts D.content D.images self.new ps p) }
-        ensures untold { D.content self.old.disk ≡ None → D.content self.new.disk ≡ None }
+        ensures ok { OnOk result ((front : List ℕ) (ps : List (List ℕ)) (p : List ℕ)
+            → Doubts D.model self.old front ps p → Rests D.model self.new front ps) }
+        ensures gone { OnOk result ((front : List ℕ) (ps : List (List ℕ)) (p : List ℕ)
+            → Doubts D.model self.old front ps p → (c : List ℕ) → D.model.images self.new.disk c
+            → ¬ Opens front (ps ++ p ∷ []) c) }
+        ensures failed { OnFailed result ((front : List ℕ) (ps : List (List ℕ)) (p : List ℕ)
+            → Doubts D.model self.old front ps p → Doubts D.model self.new front ps p) }
+        ensures no_memory { OnNoMemory result ((front : List ℕ) (ps : List (List ℕ)) (p : List ℕ)
+            → Doubts D.model self.old front ps p → Doubts D.model self.new front ps p) }
+        ensures untold { D.model.content self.old.disk ≡ None
+            → D.model.content self.new.disk ≡ None }
         ensures settled { OnOk result (self.new.doubt ≡ false) }
         ensures in_doubt { OnErr result (self.new.doubt ≡ true) }
         ensures ready { self.new.ready ≡ true }
         ensures place { self.new.place ≡ self.old.place }
 
         // A crash at any moment of the call leaves the payloads without the one in doubt or with it.
-        ensures moments { (ps : List (List ℕ)) (p : List ℕ)
-            → Doubts D.content D.images self.old ps p
-            → AtEachMoment D.clock D.images_between self.old.disk self.new.disk
-            (BeforeOrAfter ps p) }
-        ensures past { Keeps D.clock D.images_between self.old.disk self.new.disk }
+        ensures moments { (front : List ℕ) (ps : List (List ℕ)) (p : List ℕ)
+            → Doubts D.model self.old front ps p
+            → AtEachMoment D.model self.old.disk self.new.disk (BeforeOrAfter front ps p) }
+        ensures past { Keeps D.model self.old.disk self.new.disk }
 
-        ensures cause { OnFailed result (Rose (D.faults self.old.disk) (D.faults self.new.disk)) }
-        ensures count { Counts (D.faults self.old.disk) (D.faults self.new.disk)
-            (D.bound self.old.disk) (D.bound self.new.disk) }
+        ensures cause { OnFailed result (Faulted D.model self.old.disk self.new.disk) }
+        ensures count { Counted D.model self.old.disk self.new.disk }
     {
         self.window.forget();
         match put(&mut self.disk, self.place, &[CLOSED]) {

@@ -8,8 +8,8 @@ mod format;
 mod journal;
 mod laws;
 mod open;
-mod put;
 mod record;
+mod synced;
 #[cfg(test)]
 mod tests;
 mod window;
@@ -18,3 +18,4 @@ pub use faults::{AppendFault, CreateFault, LoadFault};
 pub use format::{CLOSED, LONGEST_PAYLOAD, OPEN};
 pub use journal::Journal;
 pub use laws::{a_text_opens, bytes_open_one_way};
+pub use synced::put;

@@ -1,19 +1,19 @@
 //! A journal is created, opened, and read up to the first gate that is not open.
 
 ghost use Rattle.std.specs.Prelude.{◌≡◌, ◌<◌, ◌≤◌, ◌+◌, ◌-◌, ◌^◌, ◌⊎◌, [], ◌∷◌, ◌++◌, ℕ, List, Some, None, true, false, length, OnOk, OnErr, IfOk, IfErr, IfSome, IsErrOf};
-ghost use Rattle.disk_edge.specs.Disk.{Torn, TearsContent, Exactly, Same, Keeps, Rose, Counts, IfTold, OnFailed, OnNoMemory};
+ghost use Rattle.disk_edge.specs.Disk.{Torn, TearsContent, Exactly, Keeps, IfTold, OnFailed, OnNoMemory, Counted, Faulted};
 ghost use Rattle.disk_edge.specs.Moments.{AtEachMoment};
 ghost use Rattle.journal_core.specs.Answers.{OnUnwritten, OnRecord, OnEnd, OnDamaged, disk_after};
-ghost use Rattle.journal_core.specs.Journal.{Reads, Rests};
-ghost use Rattle.journal_core.specs.Looks.{Narrows, Looks};
+ghost use Rattle.journal_core.specs.Journal.{IsEmptyJournal, Reads, Rests};
+ghost use Rattle.journal_core.specs.Looks.{Narrows, Looks, Stays};
 ghost use Rattle.journal_core.specs.Found.{IsMeasured};
-ghost use Rattle.journal_core.specs.Records.{IsShort, Breaks, IsNoJournal, text};
+ghost use Rattle.journal_core.specs.Records.{IsShort, Breaks, IsNoJournal, header};
 
 use crate::faults::{CreateFault, LoadFault};
 use crate::format::{HEADER, NO_RECORDS};
 use crate::journal::Journal;
-use crate::put::put;
 use crate::record::{Found, record_at};
+use crate::synced::put;
 use crate::window::Window;
 use disk_edge::{Disk, DiskFail};
 use std::alloc::Global;
@@ -21,24 +21,23 @@ use std::alloc::Global;
 impl<D: Disk> Journal<D> {
     /// Writes a journal with no records on an empty disk, and syncs it. The disk comes back.
     pub fn create(disk: D) -> (D, Result<(), CreateFault>)
-        ensures ok { OnOk result.1 (IfTold (D.content disk) (λ l. (l ≡ [])
-            × (D.content result.0 ≡ Some (text [])) × Exactly (text []) (D.images result.0))) }
+        ensures ok { OnOk result.1 (IfTold (D.model.content disk)
+            (λ l. (l ≡ []) × IsEmptyJournal D.model result.0)) }
         ensures not_empty { IsErrOf result.1 CreateFault.NotEmpty
-            → IfTold (D.content disk) (λ l. 1 ≤ length l) }
-        ensures stays { OnUnwritten result.1 ((D.content result.0 ≡ D.content disk)
-            × Same (D.images disk) (D.images result.0)) }
-        ensures cause { IsErrOf result.1 CreateFault.Disk
-            → Rose (D.faults disk) (D.faults result.0) }
+            → IfTold (D.model.content disk) (λ l. 1 ≤ length l) }
+        ensures stays { OnUnwritten result.1 (Stays D.model disk result.0) }
+        ensures kept { IsErrOf result.1 CreateFault.Disk → IfTold (D.model.content disk)
+            (λ l. 1 ≤ length l → Stays D.model disk result.0) }
+        ensures cause { IsErrOf result.1 CreateFault.Disk → Faulted D.model disk result.0 }
 
         // Whatever it answers, what is left is what was there, torn in the bytes that are written.
-        ensures content { TearsContent 0 9 (D.content disk) (D.content result.0) }
-        ensures images { (c : List ℕ) → D.images result.0 c
-            → (d : List ℕ) × D.images disk d × Torn 0 9 d c }
-        ensures moments { AtEachMoment D.clock D.images_between disk result.0
-            (λ c. (d : List ℕ) × D.images disk d × Torn 0 9 d c) }
-        ensures past { Keeps D.clock D.images_between disk result.0 }
-        ensures count { Counts (D.faults disk) (D.faults result.0)
-            (D.bound disk) (D.bound result.0) }
+        ensures content { TearsContent 0 9 (D.model.content disk) (D.model.content result.0) }
+        ensures images { (c : List ℕ) → D.model.images result.0 c
+            → (d : List ℕ) × D.model.images disk d × Torn 0 9 d c }
+        ensures moments { AtEachMoment D.model disk result.0
+            (λ c. (d : List ℕ) × D.model.images disk d × Torn 0 9 d c) }
+        ensures past { Keeps D.model disk result.0 }
+        ensures count { Counted D.model disk result.0 }
     {
         let mut disk = disk;
         let outcome = write_header(&mut disk);
@@ -47,20 +46,18 @@ impl<D: Disk> Journal<D> {
 
     /// Opens a journal at its first record. It syncs first, and writes nothing. Takes no memory.
     pub fn load(alloc: Global, disk: D) -> Result<Journal<D>, (LoadFault, D)>
-        ensures ok { IfOk result (λ journal. IfTold (D.content disk)
-            (λ _. Reads D.content D.images journal [])) }
+        ensures ok { IfOk result (λ journal. IfTold (D.model.content disk)
+            (λ _. Reads D.model journal header [])) }
         ensures start { IfOk result (λ journal. (journal.place ≡ 8)
             × (journal.ready ≡ false) × (journal.doubt ≡ false)) }
         ensures not_a_store { IfErr result (λ e. e.0 ≡ LoadFault.NotAStore
-            → IfTold (D.content disk) IsNoJournal) }
-        ensures cause { IfErr result (λ e. e.0 ≡ LoadFault.Disk
-            → Rose (D.faults disk) (D.faults e.1)) }
+            → IfTold (D.model.content disk) IsNoJournal) }
+        ensures cause { IfErr result (λ e. e.0 ≡ LoadFault.Disk → Faulted D.model disk e.1) }
         ensures no_other { IfErr result
             (λ e. (e.0 ≡ LoadFault.NotAStore) ⊎ (e.0 ≡ LoadFault.Disk)) }
 
         // Each image that was possible during the call was possible before it.
-        ensures narrows { Narrows D.content D.images D.clock D.images_between D.faults D.bound
-            disk (disk_after result) }
+        ensures narrows { Narrows D.model disk (disk_after result) }
     {
         let mut disk = disk;
         match measured(&mut disk) {
@@ -84,27 +81,25 @@ impl<D: Disk> Journal<D> {
 
         ensures record { OnRecord result (λ at payload. (at ≡ self.old.place) × IsShort payload
             × (self.new.place ≡ at + 5 + length payload) × (self.new.ready ≡ false)) }
-        ensures reads { OnRecord result (λ at payload. (ps : List (List ℕ))
-            → Reads D.content D.images self.old ps
-            → Reads D.content D.images self.new (ps ++ payload ∷ [])) }
+        ensures reads { OnRecord result (λ at payload. (front : List ℕ) (ps : List (List ℕ))
+            → Reads D.model self.old front ps → Reads D.model self.new front (ps ++ payload ∷ [])) }
         ensures below { self.new.place < 2 ^ 64 }
         ensures end { OnEnd result ((self.new.place ≡ self.old.place) × (self.new.ready ≡ true)) }
-        ensures opens { OnEnd result ((ps : List (List ℕ)) → Reads D.content D.images self.old ps
-            → Rests D.content D.images self.new ps) }
-        ensures damaged { OnDamaged result (λ at. (at ≡ self.old.place) × ((ps : List (List ℕ))
-            → Reads D.content D.images self.old ps
-            → IfTold (D.content self.old.disk) (Breaks ps))) }
+        ensures opens { OnEnd result ((front : List ℕ) (ps : List (List ℕ))
+            → Reads D.model self.old front ps → Rests D.model self.new front ps) }
+        ensures damaged { OnDamaged result (λ at. (at ≡ self.old.place)
+            × ((front : List ℕ) (ps : List (List ℕ)) → Reads D.model self.old front ps
+            → IfTold (D.model.content self.old.disk) (Breaks front ps))) }
         ensures cause { IsErrOf result LoadFault.Disk
-            → Rose (D.faults self.old.disk) (D.faults self.new.disk) }
+            → Faulted D.model self.old.disk self.new.disk }
         ensures no_other { ¬ IsErrOf result LoadFault.NotAStore }
 
         ensures stays { OnErr result ((self.new.place ≡ self.old.place)
             × (self.new.ready ≡ self.old.ready)) }
-        ensures still_reads { OnErr result ((ps : List (List ℕ))
-            → Reads D.content D.images self.old ps → Reads D.content D.images self.new ps) }
+        ensures still_reads { OnErr result ((front : List ℕ) (ps : List (List ℕ))
+            → Reads D.model self.old front ps → Reads D.model self.new front ps) }
         ensures settled { self.new.doubt ≡ false }
-        ensures looks { Looks D.content D.images D.clock D.images_between D.faults D.bound
-            self.old.disk self.new.disk }
+        ensures looks { Looks D.model self.old.disk self.new.disk }
     {
         let place = self.place;
         match record_at(self.alloc, &mut self.disk, &mut self.window, place) {
@@ -126,21 +121,21 @@ impl<D: Disk> Journal<D> {
 
 // Writes the header and a closed gate where the disk is empty, and syncs them.
 fn write_header<D: Disk>(disk: &mut D) -> Result<(), CreateFault>
-    ensures ok { OnOk result (IfTold (D.content disk.old) (λ l. (l ≡ [])
-        × (D.content disk.new ≡ Some (text [])) × Exactly (text []) (D.images disk.new))) }
+    ensures ok { OnOk result (IfTold (D.model.content disk.old)
+        (λ l. (l ≡ []) × IsEmptyJournal D.model disk.new)) }
     ensures not_empty { IsErrOf result CreateFault.NotEmpty
-        → IfTold (D.content disk.old) (λ l. 1 ≤ length l) }
-    ensures stays { OnUnwritten result ((D.content disk.new ≡ D.content disk.old)
-        × Same (D.images disk.old) (D.images disk.new)) }
-    ensures cause { IsErrOf result CreateFault.Disk → Rose (D.faults disk.old) (D.faults disk.new) }
-    ensures content { TearsContent 0 9 (D.content disk.old) (D.content disk.new) }
-    ensures images { (c : List ℕ) → D.images disk.new c
-        → (d : List ℕ) × D.images disk.old d × Torn 0 9 d c }
-    ensures moments { AtEachMoment D.clock D.images_between disk.old disk.new
-        (λ c. (d : List ℕ) × D.images disk.old d × Torn 0 9 d c) }
-    ensures past { Keeps D.clock D.images_between disk.old disk.new }
-    ensures count { Counts (D.faults disk.old) (D.faults disk.new)
-        (D.bound disk.old) (D.bound disk.new) }
+        → IfTold (D.model.content disk.old) (λ l. 1 ≤ length l) }
+    ensures stays { OnUnwritten result (Stays D.model disk.old disk.new) }
+    ensures kept { IsErrOf result CreateFault.Disk → IfTold (D.model.content disk.old)
+        (λ l. 1 ≤ length l → Stays D.model disk.old disk.new) }
+    ensures cause { IsErrOf result CreateFault.Disk → Faulted D.model disk.old disk.new }
+    ensures content { TearsContent 0 9 (D.model.content disk.old) (D.model.content disk.new) }
+    ensures images { (c : List ℕ) → D.model.images disk.new c
+        → (d : List ℕ) × D.model.images disk.old d × Torn 0 9 d c }
+    ensures moments { AtEachMoment D.model disk.old disk.new
+        (λ c. (d : List ℕ) × D.model.images disk.old d × Torn 0 9 d c) }
+    ensures past { Keeps D.model disk.old disk.new }
+    ensures count { Counted D.model disk.old disk.new }
 {
     match disk.len() {
         Ok(0) => {}
@@ -157,11 +152,10 @@ fn write_header<D: Disk>(disk: &mut D) -> Result<(), CreateFault>
 // Syncs, and gives the disk's length where the header is there.
 fn measured<D: Disk>(disk: &mut D) -> Result<Option<u64>, DiskFail>
     ensures synced { OnOk result
-        (IfTold (D.content disk.new) (λ l. Exactly l (D.images disk.new))) }
-    ensures header { IfOk result (λ len. IfTold (D.content disk.old) (IsMeasured len)) }
-    ensures failed { OnErr result (Rose (D.faults disk.old) (D.faults disk.new)) }
-    ensures narrows { Narrows D.content D.images D.clock D.images_between D.faults D.bound
-        disk.old disk.new }
+        (IfTold (D.model.content disk.new) (λ l. Exactly l (D.model.images disk.new))) }
+    ensures header { IfOk result (λ len. IfTold (D.model.content disk.old) (IsMeasured len)) }
+    ensures failed { OnErr result (Faulted D.model disk.old disk.new) }
+    ensures narrows { Narrows D.model disk.old disk.new }
 {
     disk.sync()?;
     let len = disk.len()?;

@@ -118,6 +118,7 @@ fn a_file_keeps_a_journal(rt: HostRuntime) -> Result<(), Fail> {
     let (mut journal, _) = read(rt.alloc(), disk)?;
     assert!(rt; journal.place() < 100);
     assert_eq!(rt; journal.append(&PAYLOAD), Ok(()));
+    drop(journal);
     assert_eq!(rt; count(rt.alloc(), FileDisk::at(&rt, path, false)), Ok(1));
     assert_eq!(rt; fs::read(&rt, path)?.as_slice(), FILE.as_slice());
     fs::remove_file(&rt, path)?;

@@ -2,7 +2,7 @@
 
 ghost use Rattle.std.specs.Prelude.{◌≡◌, ◌<◌, ◌≤◌, ◌+◌, ◌-◌, ◌^◌, [], ◌∷◌, None, Some, length, take, drop, OnOk, IfOk, true};
 ghost use Rattle.std.specs.Int.{to_le_bytes, w32};
-ghost use Rattle.disk_edge.specs.Disk.{IfTold, Rose, OnFailed};
+ghost use Rattle.disk_edge.specs.Disk.{IfTold, OnFailed, Faulted};
 ghost use Rattle.journal_core.specs.Found.{Holds, Covers};
 ghost use Rattle.journal_core.specs.Looks.{Looks};
 
@@ -44,12 +44,11 @@ impl Window {
 
     /// The disk's length.
     pub(crate) fn measure<D: Disk>(&mut self, disk: &mut D) -> Result<u64, DiskFail>
-        requires holds { Holds (D.content disk.old) self.old }
-        ensures length { IfOk result (λ n. IfTold (D.content disk.old) (λ l. n ≡ length l)) }
-        ensures holds { Holds (D.content disk.new) self.new }
-        ensures looks { Looks D.content D.images D.clock D.images_between D.faults D.bound
-            disk.old disk.new }
-        ensures failed { OnFailed result (Rose (D.faults disk.old) (D.faults disk.new)) }
+        requires holds { Holds (D.model.content disk.old) self.old }
+        ensures length { IfOk result (λ n. IfTold (D.model.content disk.old) (λ l. n ≡ length l)) }
+        ensures holds { Holds (D.model.content disk.new) self.new }
+        ensures looks { Looks D.model disk.old disk.new }
+        ensures failed { OnFailed result (Faulted D.model disk.old disk.new) }
     {
         if let Some(len) = self.len {
             return Ok(len);
@@ -67,14 +66,13 @@ impl Window {
         len: u64,
     ) -> Result<u8, DiskFail>
         requires inside { at < len }
-        requires len { IfTold (D.content disk.old) (λ l. len ≡ length l) }
-        requires holds { Holds (D.content disk.old) self.old }
-        ensures byte { IfOk result (λ b. IfTold (D.content disk.old)
+        requires len { IfTold (D.model.content disk.old) (λ l. len ≡ length l) }
+        requires holds { Holds (D.model.content disk.old) self.old }
+        ensures byte { IfOk result (λ b. IfTold (D.model.content disk.old)
             (λ l. take 1 (drop at l) ≡ b ∷ [])) }
-        ensures holds { Holds (D.content disk.new) self.new }
-        ensures looks { Looks D.content D.images D.clock D.images_between D.faults D.bound
-            disk.old disk.new }
-        ensures failed { OnFailed result (Rose (D.faults disk.old) (D.faults disk.new)) }
+        ensures holds { Holds (D.model.content disk.new) self.new }
+        ensures looks { Looks D.model disk.old disk.new }
+        ensures failed { OnFailed result (Faulted D.model disk.old disk.new) }
     {
         self.cover(disk, at, 1, len)?;
         Ok(self.shown(at, 1)[0])
@@ -88,14 +86,13 @@ impl Window {
         len: u64,
     ) -> Result<u32, DiskFail>
         requires inside { at + 4 ≤ len }
-        requires len { IfTold (D.content disk.old) (λ l. len ≡ length l) }
-        requires holds { Holds (D.content disk.old) self.old }
-        ensures number { IfOk result (λ n. IfTold (D.content disk.old)
+        requires len { IfTold (D.model.content disk.old) (λ l. len ≡ length l) }
+        requires holds { Holds (D.model.content disk.old) self.old }
+        ensures number { IfOk result (λ n. IfTold (D.model.content disk.old)
             (λ l. take 4 (drop at l) ≡ to_le_bytes w32 n)) }
-        ensures holds { Holds (D.content disk.new) self.new }
-        ensures looks { Looks D.content D.images D.clock D.images_between D.faults D.bound
-            disk.old disk.new }
-        ensures failed { OnFailed result (Rose (D.faults disk.old) (D.faults disk.new)) }
+        ensures holds { Holds (D.model.content disk.new) self.new }
+        ensures looks { Looks D.model disk.old disk.new }
+        ensures failed { OnFailed result (Faulted D.model disk.old disk.new) }
     {
         self.cover(disk, at, 4, len)?;
         Ok(number_of(self.shown(at, 4)))
@@ -112,15 +109,14 @@ impl Window {
     ) -> Result<Vec<u8>, DiskFail>
         requires inside { at + count ≤ len }
         requires few { count ≤ 1048576 }
-        requires len { IfTold (D.content disk.old) (λ l. len ≡ length l) }
-        requires holds { Holds (D.content disk.old) self.old }
+        requires len { IfTold (D.model.content disk.old) (λ l. len ≡ length l) }
+        requires holds { Holds (D.model.content disk.old) self.old }
         ensures count { IfOk result (λ v. length v.items ≡ count) }
-        ensures bytes { IfOk result (λ v. IfTold (D.content disk.old)
+        ensures bytes { IfOk result (λ v. IfTold (D.model.content disk.old)
             (λ l. v.items ≡ take count (drop at l))) }
-        ensures holds { Holds (D.content disk.new) self.new }
-        ensures looks { Looks D.content D.images D.clock D.images_between D.faults D.bound
-            disk.old disk.new }
-        ensures failed { OnFailed result (Rose (D.faults disk.old) (D.faults disk.new)) }
+        ensures holds { Holds (D.model.content disk.new) self.new }
+        ensures looks { Looks D.model disk.old disk.new }
+        ensures failed { OnFailed result (Faulted D.model disk.old disk.new) }
     {
         self.cover(disk, at, count, len)?;
         Ok(self.shown(at, count).to_vec(alloc)?)
@@ -136,13 +132,12 @@ impl Window {
     ) -> Result<(), DiskFail>
         requires inside { at + count ≤ len }
         requires few { count ≤ 1048576 }
-        requires len { IfTold (D.content disk.old) (λ l. len ≡ length l) }
-        requires holds { Holds (D.content disk.old) self.old }
+        requires len { IfTold (D.model.content disk.old) (λ l. len ≡ length l) }
+        requires holds { Holds (D.model.content disk.old) self.old }
         ensures covers { OnOk result (Covers self.new at count) }
-        ensures holds { Holds (D.content disk.new) self.new }
-        ensures looks { Looks D.content D.images D.clock D.images_between D.faults D.bound
-            disk.old disk.new }
-        ensures failed { OnFailed result (Rose (D.faults disk.old) (D.faults disk.new)) }
+        ensures holds { Holds (D.model.content disk.new) self.new }
+        ensures looks { Looks D.model disk.old disk.new }
+        ensures failed { OnFailed result (Faulted D.model disk.old disk.new) }
     {
         if self.covers(at, count) {
             return Ok(());

@@ -1,6 +1,5 @@
 -- What a request did: its command, its calls, what its lines say, and the cursors after it.
 use Rattle.std.proofs.Common.{◌≡◌, ◌⊎◌, ◌++◌, arith, Contains, Err, false, inl, inr, List, [], ◌∷◌, None, Ok, Option, refl, Result, Some, subst, sym, ℕ}
-use Rattle.std.proofs.lemmas.List.Elements.{Contains-append_cases, Contains-push_cases}
 use Rattle.io_edge.specs.Lines.{Whole}
 use Rattle.mol_finish.specs.declared.fault.Format.{Format}
 use Rattle.mol_finish.specs.declared.fault.Format.TheVariants.{Smiles, Molfile}
@@ -20,18 +19,20 @@ use Rattle.store_machine.specs.declared.machine.Reply.{Reply}
 use Rattle.store_machine.specs.declared.machine.Reply.TheVariants as replies
 use Rattle.store_machine.specs.declared.machine.Status.{Status}
 use Rattle.store_machine.specs.declared.machine.Status.TheVariants as status
+use Rattle.store_machine.specs.Told.{IsTold, TellsVersion}
 use Rattle.session_run.specs.Answer.{Advances, Answers, Asks, CloseAnswer, Commits, FindsNoMemory, FindsNoPin, IsCommitLine, IsLookLine, IsNamed, IsNoPattern, IsPruneLine, IsStatsLine, LineAnswer, Lines, MolfileAnswer, NextAnswer, OpenAnswer, Opens, Refuses, RequestAnswer, Says, SearchAnswer, Searches, TextAnswer, shown}
 use Rattle.session_run.specs.Cursors.{Calls, Cursor, IsNoName}
-use Rattle.session_run.specs.Dialogue.{IsCommand, IsShownIn, IsTold, ShowsVersion, TellsVersion, hits_in}
+use Rattle.session_run.specs.Dialogue.{IsCommand, IsShownIn, ShowsVersion, hits_in}
 use Rattle.session_run.specs.Requests.{Request, molfile_text}
 use Rattle.session_run.specs.Texts.{IsPatternOf}
-use Rattle.session_run.proofs.Passing.{PassBy}
+use Rattle.session_run.proofs.Passing.{PassBy, none_in, one_in}
 
 -- lines without a hit, an end or an opening, which show no version but what was told
 pub record ArePlain (calls : Calls) (lines : Lines) : Type 0 where
   pub hits : hits_in lines ≡ []
   pub ends : (version tried hits : ℕ) → ¬ Contains lines (line.End version tried hits)
   pub opens : (version : ℕ) → ¬ Contains lines (line.Opened version)
+  pub turns : ¬ Contains lines line.More
   pub shows : (v : ℕ) → IsShownIn lines v → IsTold calls v
 
 pub data Kind (size : ℕ) (cursors : List Cursor) (request : Request) (calls : Calls) (lines : Lines)
@@ -60,16 +61,8 @@ abbrev pub IsPlainLine : line.Reply → Type 0
 IsPlainLine (line.Hit id) = ⊥
 IsPlainLine (line.End version tried hits) = ⊥
 IsPlainLine (line.Opened version) = ⊥
+IsPlainLine line.More = ⊥
 IsPlainLine _ = Unit {0}
-
-pub none_in : {X : Type 0} → (x : X) → ¬ Contains [] x
-none_in x h = omega (arith, h.1)
-
-pub one_in : {X : Type 0} → (y x : X) → Contains (y ∷ []) x → y ≡ x
-one_in y x h = elim (Contains-push_cases [] y x h) [ inl k ↦ absurd (none_in x k) | inr e ↦ e ]
-
-pub first_or_rest : {X : Type 0} → (y : X) (ys : List X) (x : X) → Contains (y ∷ ys) x → (y ≡ x) ⊎ Contains ys x
-first_or_rest y ys x h = elim (Contains-append_cases (y ∷ []) ys x h) [ inl k ↦ inl (one_in y x k) | inr k ↦ inr k ]
 
 plain_hits : (said : line.Reply) → IsPlainLine said → hits_in (said ∷ []) ≡ []
 plain_hits (line.Hit id) p = absurd p
@@ -81,6 +74,9 @@ plain_end said version tried hits p e = subst IsPlainLine e p
 plain_opened : (said : line.Reply) (version : ℕ) → IsPlainLine said → ¬ (said ≡ line.Opened version)
 plain_opened said version p e = subst IsPlainLine e p
 
+plain_turned : (said : line.Reply) → IsPlainLine said → ¬ (said ≡ line.More)
+plain_turned said p e = subst IsPlainLine e p
+
 -- one line
 plain_one : (calls : Calls) (said : line.Reply) → IsPlainLine said → ((v : ℕ) → ShowsVersion said v → IsTold calls v)
     → ArePlain calls (said ∷ [])
@@ -88,6 +84,7 @@ plain_one calls said p told = record {
   hits = plain_hits said p;
   ends = λ version tried hits k. plain_end said version tried hits p (one_in said (line.End version tried hits) k);
   opens = λ version k. plain_opened said version p (one_in said (line.Opened version) k);
+  turns = λ k. plain_turned said p (one_in said line.More k);
   shows = λ v k. elim k [ inl s ↦ told v s | inr n ↦ absurd n ];
 }
 
@@ -95,8 +92,8 @@ plain_none : (calls : Calls) → ArePlain calls []
 plain_none calls = record {
   hits = refl;
   ends = λ version tried hits k. none_in (line.End version tried hits) k;
-  opens =
-      λ version k. none_in (line.Opened version) k;
+  opens = λ version k. none_in (line.Opened version) k;
+  turns = λ k. none_in line.More k;
   shows = λ v k. absurd k;
 }
 

@@ -1,11 +1,10 @@
 -- How a session is closed: the pins of its open cursors are given back.
-use Rattle.std.proofs.Common.{◌≡◌, ◌++◌, ◌∙◌, ap, append-nil, append_assoc, IfSome, inl, List, [], None, Option, refl, Some, sym, ℕ}
+use Rattle.std.proofs.Common.{◌≡◌, ◌++◌, ap, append-nil, arith, IfSome, inl, List, [], None, Option, refl, Some, sym, ℕ}
 use Rattle.io_edge.specs.Lines.{TextLine, lines_of}
 use Rattle.session_run.specs.Cursors.{Calls, Cursor, unpins}
-use Rattle.session_run.specs.Requests.{Request, BeginWithAll}
-use Rattle.session_run.specs.Served.{IsAllOfTaken, IsServed, Writes, WritesForTaken}
+use Rattle.session_run.specs.Served.{IsAllOfTaken, IsServed, IsServedBy, TakesAtMost, Writes, WritesForTaken}
 use Rattle.session_run.specs.Serving.{AnswersTaken, Ends, Serves}
-use Rattle.session_run.specs.Transcript.{AreAnswered, IsPrefixOf, IsWornPrefix, Stops}
+use Rattle.session_run.specs.Transcript.{IsDialogue, IsPrefixOf, InClosing, Stops, WornAt}
 use Rattle.session_run.specs.declared.settings.EndStatus.{EndStatus}
 use Rattle.session_run.specs.declared.settings.EndStatus.TheVariants.{Done, SourceFault, SinkFault, NoMemory, InputTooLong, Worn}
 
@@ -20,100 +19,101 @@ writes_as (Some bytes) (Some old) put' P Q f h = (h.0, h.1, f bytes h.0 h.2)
 closed-end : (end : EndStatus) (size : ℕ) (lines : List TextLine) (calls : Calls) (cursors : List Cursor)
     (text : List ℕ)
     → (end ≡ Worn → ⊥) → Ends end size lines calls cursors text → IsServed end size lines (calls ++ unpins cursors) text
-closed-end Done size lines calls cursors text n e = (e.0, calls, cursors, e.1, e.2, refl)
+closed-end Done size lines calls cursors text n e = (calls, cursors, e, refl)
 closed-end Worn size lines calls cursors text n e = absurd (n refl)
-closed-end SourceFault size lines calls cursors text n e = (e.0, e.1, calls, cursors, e.2, e.3, refl)
+closed-end SourceFault size lines calls cursors text n e = (e.0, calls, cursors, e.1, refl)
 closed-end SinkFault size lines calls cursors text n e = (calls, cursors, e, refl)
 closed-end NoMemory size lines calls cursors text n e = (calls, cursors, e, refl)
-closed-end InputTooLong size lines calls cursors text n e = (e.0, e.1, calls, cursors, e.2, e.3, refl)
-
-some-closed : (calls some : Calls) (cursors : List Cursor) → IsPrefixOf some (unpins cursors)
-    → IsPrefixOf (calls ++ some) (calls ++ unpins cursors)
-some-closed calls some cursors p = (p.0, append_assoc calls some p.0 ∙ ap (λ l. calls ++ l) p.1)
+closed-end InputTooLong size lines calls cursors text n e = (e.0, calls, cursors, e.1, refl)
 
 -- some first requests were answered whole
-stops-whole : (size : ℕ) (lines : List TextLine) (calls : Calls) (cursors : List Cursor) (text : List ℕ)
-    (requests : List Request) (left : List TextLine) → BeginWithAll lines requests left
-    → AreAnswered size [] requests calls text cursors → Stops size lines calls text cursors
-stops-whole size lines calls cursors text requests left b a = record {
-  requests = requests;
+stops-whole : (size : ℕ) (lines left : List TextLine) (calls : Calls) (cursors : List Cursor) (text : List ℕ)
+    → IsDialogue size lines left calls text cursors → Stops size lines calls text cursors
+stops-whole size lines left calls cursors text d = record {
   left = left;
-  begin = b;
   own = calls;
   replies = text;
   cursors_open = cursors;
-  answered = a;
+  answered = d;
   last = inl (refl, refl, refl);
 }
 
-worn-prefix : (size : ℕ) (lines : List TextLine) (calls some : Calls) (cursors : List Cursor) (text : List ℕ)
-    → IsPrefixOf some (unpins cursors) → Stops size lines calls text cursors
-    → IsWornPrefix size lines (calls ++ some) text
-worn-prefix size lines calls some cursors text p s =
-    (calls ++ unpins cursors, some-closed calls some cursors p, (calls, cursors, s, refl))
-
 worn-end : (end : EndStatus) (size : ℕ) (lines : List TextLine) (calls some : Calls) (cursors : List Cursor)
     (text : List ℕ) → (end ≡ Worn → ⊥) → IsPrefixOf some (unpins cursors) → Ends end size lines calls cursors text
-    → IsWornPrefix size lines (calls ++ some) text
+    → WornAt size lines (calls ++ some) text
 worn-end Done size lines calls some cursors text n p e =
-    worn-prefix size lines calls some cursors text p (stops-whole size lines calls cursors text e.0 [] e.1 e.2)
+    InClosing calls some cursors (stops-whole size lines [] calls cursors text e) p refl
 worn-end Worn size lines calls some cursors text n p e = absurd (n refl)
 worn-end SourceFault size lines calls some cursors text n p e =
-    worn-prefix size lines calls some cursors text p (stops-whole size lines calls cursors text e.0 e.1 e.2 e.3)
+    InClosing calls some cursors (stops-whole size lines e.0 calls cursors text e.1) p refl
 worn-end InputTooLong size lines calls some cursors text n p e =
-    worn-prefix size lines calls some cursors text p (stops-whole size lines calls cursors text e.0 e.1 e.2 e.3)
-worn-end SinkFault size lines calls some cursors text n p e = worn-prefix size lines calls some cursors text p e
-worn-end NoMemory size lines calls some cursors text n p e = worn-prefix size lines calls some cursors text p e
-
--- all pins were given back
-pub served-closed : (end : EndStatus) (size : ℕ) (input put put' : Option (List ℕ)) (calls : Calls)
-    (cursors : List Cursor) → (end ≡ Worn → ⊥) → Serves end size input put put' calls cursors
-    → IfSome input (λ bytes. Writes put put' (IsServed end size (lines_of bytes) (calls ++ unpins cursors)))
-served-closed end size input put put' calls cursors n =
-    writes_as input put put' (λ bytes text. Ends end size (lines_of bytes) calls cursors text)
-    (λ bytes text. IsServed end size (lines_of bytes) (calls ++ unpins cursors) text)
-    (λ bytes text e. closed-end end size (lines_of bytes) calls cursors text n e)
-
--- the service was worn before
-pub served-worn : (size : ℕ) (input put put' : Option (List ℕ)) (calls : Calls) (cursors : List Cursor)
-    → Serves Worn size input put put' calls cursors
-    → IfSome input (λ bytes. Writes put put' (IsServed Worn size (lines_of bytes) calls))
-served-worn size input put put' calls cursors =
-    writes_as input put put' (λ bytes text. Ends Worn size (lines_of bytes) calls cursors text)
-    (λ bytes text. IsServed Worn size (lines_of bytes) calls text) (λ bytes text e. e)
-
--- it was worn while pins were given back
-pub served-closing : (end : EndStatus) (size : ℕ) (input put put' : Option (List ℕ)) (calls some : Calls)
-    (cursors : List Cursor) → (end ≡ Worn → ⊥) → IsPrefixOf some (unpins cursors)
-    → Serves end size input put put' calls cursors
-    → IfSome input (λ bytes. Writes put put' (IsServed Worn size (lines_of bytes) (calls ++ some)))
-served-closing end size input put put' calls some cursors n p =
-    writes_as input put put' (λ bytes text. Ends end size (lines_of bytes) calls cursors text)
-    (λ bytes text. IsServed Worn size (lines_of bytes) (calls ++ some) text)
-    (λ bytes text e. worn-end end size (lines_of bytes) calls some cursors text n p e)
-
--- nothing was read
-pub served-none : (size : ℕ) (input put : Option (List ℕ))
-    → IfSome input (λ bytes. Writes put put (IsServed NoMemory size (lines_of bytes) []))
-served-none size None put = tt
-served-none size (Some bytes) None = tt
-served-none size (Some bytes) (Some old) = (
-  [],
-  ap Some (sym (append-nil old)),
-  (
-    [],
-    [],
-    stops-whole size (lines_of bytes) [] [] [] [] (lines_of bytes) refl (refl, refl, refl),
-    refl,
-  ),
-)
+    InClosing calls some cursors (stops-whole size lines e.0 calls cursors text e.1) p refl
+worn-end SinkFault size lines calls some cursors text n p e = InClosing calls some cursors e p refl
+worn-end NoMemory size lines calls some cursors text n p e = InClosing calls some cursors e p refl
 
 -- all whole requests of what was taken were answered, and all pins were given back
-pub taken-closed : (size : ℕ) (before after put put' : Option (List ℕ)) (calls : Calls) (cursors : List Cursor)
+taken-closed : (size : ℕ) (before after put put' : Option (List ℕ)) (calls : Calls) (cursors : List Cursor)
     → WritesForTaken before after put put' (AnswersTaken size calls cursors)
     → WritesForTaken before after put put' (IsAllOfTaken size (calls ++ unpins cursors))
 taken-closed size None after put put' calls cursors h = tt
 taken-closed size (Some bytes) after None put' calls cursors h = (h.0, h.1, h.2, h.3, tt)
 taken-closed size (Some bytes) after (Some old) put' calls cursors h =
     let w = h.4 in
-    (h.0, h.1, h.2, h.3, (w.0, w.1, (w.2.0, calls, cursors, w.2.1, w.2.2, refl)))
+    let a = w.2 in
+    (h.0, h.1, h.2, h.3, (w.0, w.1, (a.0, calls, cursors, a.1, a.2, a.3, refl)))
+
+-- all pins were given back
+pub served-closed : (end : EndStatus) (size : ℕ) (before after put put' : Option (List ℕ)) (calls : Calls)
+    (cursors : List Cursor) → (end ≡ Worn → ⊥) → Serves end size before after put put' calls cursors
+    → IsServedBy end size before after put put' (calls ++ unpins cursors)
+served-closed end size before after put put' calls cursors n s = record {
+  script = writes_as before put put' (λ bytes text. Ends end size (lines_of bytes) calls cursors text)
+      (λ bytes text. IsServed end size (lines_of bytes) (calls ++ unpins cursors) text)
+      (λ bytes text e. closed-end end size (lines_of bytes) calls cursors text n e) s.script;
+  taken = λ is. taken-closed size before after put put' calls cursors (s.taken is);
+}
+
+-- the service was worn before
+pub served-worn : (size : ℕ) (before after put put' : Option (List ℕ)) (calls : Calls) (cursors : List Cursor)
+    → Serves Worn size before after put put' calls cursors → IsServedBy Worn size before after put put' calls
+served-worn size before after put put' calls cursors s = record {
+  script = writes_as before put put' (λ bytes text. Ends Worn size (lines_of bytes) calls cursors text)
+      (λ bytes text. IsServed Worn size (lines_of bytes) calls text) (λ bytes text e. e) s.script;
+  taken = λ is. absurd is;
+}
+
+-- it was worn while pins were given back
+pub served-closing : (end : EndStatus) (size : ℕ) (before after put put' : Option (List ℕ)) (calls some : Calls)
+    (cursors : List Cursor) → (end ≡ Worn → ⊥) → IsPrefixOf some (unpins cursors)
+    → Serves end size before after put put' calls cursors
+    → IsServedBy Worn size before after put put' (calls ++ some)
+served-closing end size before after put put' calls some cursors n p s = record {
+  script = writes_as before put put' (λ bytes text. Ends end size (lines_of bytes) calls cursors text)
+      (λ bytes text. IsServed Worn size (lines_of bytes) (calls ++ some) text)
+      (λ bytes text e. worn-end end size (lines_of bytes) calls some cursors text n p e) s.script;
+  taken = λ is. absurd is;
+}
+
+-- nothing was read
+pub served-none : (size : ℕ) (before put : Option (List ℕ))
+    → IsServedBy NoMemory size before before put put []
+served-none size before put = record { script = none before put; taken = λ is. absurd is } where
+  none : (b p : Option (List ℕ)) → IfSome b (λ bytes. Writes p p (IsServed NoMemory size (lines_of bytes) []))
+  none None p = tt
+  none (Some bytes) None = tt
+  none (Some bytes) (Some old) = (
+    [],
+    ap Some (sym (append-nil old)),
+    (
+      [],
+      [],
+      stops-whole size (lines_of bytes) (lines_of bytes) [] [] []
+          (record { exchanges = []; begin = refl; exchanged = (refl, refl); said = refl }),
+      refl,
+    ),
+  )
+
+-- nothing was taken
+pub takes_nothing : (before : Option (List ℕ)) (n : ℕ) → TakesAtMost before before n
+takes_nothing None n = tt
+takes_nothing (Some bytes) n = ([], bytes, refl, refl, omega arith)

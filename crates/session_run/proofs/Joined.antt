@@ -6,8 +6,7 @@ use Rattle.store_machine.specs.declared.machine.Event.{Event}
 use Rattle.store_machine.specs.declared.machine.Reply.{Reply}
 use Rattle.store_machine.specs.declared.machine.State.{State}
 use Rattle.store_machine.specs.declared.machine.Step.{Step}
-use Rattle.session_run.specs.Cursors.{Calls}
-use Rattle.session_run.specs.Made.{Makes}
+use Rattle.session_run.specs.Cursors.{Calls, Makes}
 
 chosen : (b : Bool) (c : Event × Reply) (xs ys zs : Calls) → zs ≡ xs ++ ys
     → (if b then c ∷ zs else zs) ≡ (if b then c ∷ xs else xs) ++ ys

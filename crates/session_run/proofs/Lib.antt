@@ -18,7 +18,6 @@ pub mod Turning
 pub mod Named
 pub mod ByName
 pub mod Closing
-pub mod Growing
 pub mod Parting
 pub mod Passing
 pub mod Acts
@@ -29,3 +28,5 @@ pub mod Told
 pub mod Placed
 pub mod Begun
 pub mod Unpinned
+pub mod Endings
+pub mod Orders

@@ -19,7 +19,7 @@ use Rattle.session_run.specs.Cursors.{Calls, IsSearched}
 use Rattle.session_run.specs.Walks.{ArePartlyWritten, AreWritten, IsLost, IsNoPage, IsPage, Listed, Listing, Pages}
 use Rattle.session_run.specs.declared.listing.Shown.{Shown}
 use Rattle.session_run.specs.declared.listing.Walk.{Walk}
-use Rattle.session_run.proofs.Listings.{searched_lost, searched_none, searched_page}
+use Rattle.session_run.proofs.Listings.{pages_more, searched_lost, searched_none, searched_page}
 use Rattle.session_run.proofs.Pages.{moved_to}
 
 pub text-append : (xs ys : Lines) → text_of (xs ++ ys) ≡ text_of xs ++ text_of ys
@@ -80,7 +80,11 @@ listing_none Made s out m e need =
       moved = refl;
       length_is = refl;
       written = sym (append-nil out);
+      answered = λ e. tt;
     }
+
+not_whole : false ≡ true → ⊥
+not_whole e = cc
 
 -- whether all is written or a part
 pub listing_cut : (Made : Calls → Type 0) (begun now : SearchTerm) (tried count : ℕ) (out out' : List ℕ) (w : Bool)
@@ -94,6 +98,7 @@ listing_cut Made begun now tried count out out' w l = record {
   moved = l.moved;
   length_is = l.length_is;
   written = partly w l.hits out out' l.written;
+  answered = λ e. absurd (not_whole e);
 }
 
 module _ (First Next All : Calls → Type 0) (joins : (xs ys : Calls) → First xs → Next ys → All (xs ++ ys))
@@ -119,6 +124,7 @@ module _ (First Next All : Calls → Type 0) (joins : (xs ys : Calls) → First 
     moved = e ∙ (l.moved ∙ ap (λ (p : Place). moved_to begun p) (sym (ap (λ (s : SearchTerm). s.place) e)));
     length_is = l.length_is;
     written = all w;
+    answered = λ e. l.answered refl;
   } where
     there : SearchedTo begun begun.want new.place l.pages tried l.hits
     there = subst (λ (p : Place). SearchedTo begun begun.want p l.pages tried l.hits)
@@ -143,6 +149,8 @@ module _ (First Next All : Calls → Type 0) (joins : (xs ys : Calls) → First 
         ∙ ap (λ (q : Place). moved_to begun q) (sym next));
     length_is = omega (arith, length-append l.hits p.hits, l.length_is, p.count);
     written = written_more shown.whole l.hits p.hits out out' out'' l.written p.written;
+    answered = λ e. pages_more l.pages (events.Fetch begun.slot l.searched.want p.from begun.size) p.records shown.last
+        (l.answered refl);
   } where
     call : Event × Reply
     call = fetch begun.slot l.searched.want p.from begun.size (replies.Page p.records shown.last)
@@ -154,7 +162,7 @@ module _ (First Next All : Calls → Type 0) (joins : (xs ys : Calls) → First 
     there = subst (λ (n : ℕ). SearchedTo begun l.searched.want new.place (l.pages ++ call ∷ []) n (l.hits ++ p.hits))
         (ap (λ n. tried + n) (sym p.tried))
         (searched_page (pattern_of begun.pattern) begun.slot begun.size p.from now.place new.place l.pages tried l.hits
-        p.hits p.records shown.last l.searched p.place
+        p.hits p.records shown.last l.searched (l.answered refl) p.place
         (subst (λ (s : SearchTerm). AreMatched (pattern_of s.pattern) p.records p.hits) l.moved p.matched) next)
 
   -- a fetch that found no memory
@@ -175,6 +183,7 @@ module _ (First Next All : Calls → Type 0) (joins : (xs ys : Calls) → First 
       moved = p.same ∙ (l.moved ∙ ap (λ (q : Place). moved_to begun q) (sym place_is));
       length_is = l.length_is;
       written = (l.hits, [], sym (append-nil l.hits), p.unwritten ∙ l.written);
+      answered = λ q. absurd (not_whole q);
     } where
       call : Event × Reply
       call = fetch begun.slot l.searched.want e.0 begun.size replies.NoMemory
@@ -185,7 +194,8 @@ module _ (First Next All : Calls → Type 0) (joins : (xs ys : Calls) → First 
       there : SearchedTo begun l.searched.want new.place (l.pages ++ call ∷ []) tried l.hits
       there = subst (λ (q : Place). SearchedTo begun l.searched.want q (l.pages ++ call ∷ []) tried l.hits)
           (sym place_is)
-          (searched_lost (pattern_of begun.pattern) begun.slot begun.size e.0 now.place l.pages tried l.hits l.searched)
+          (searched_lost (pattern_of begun.pattern) begun.slot begun.size e.0 now.place l.pages tried l.hits l.searched
+          (l.answered refl) e.1)
 
   -- a step that was shown
   pub listing_shown : (shown : Shown) → IsPage Next now new out' out'' shown ⊎ IsNoPage Next now new out' out'' shown

@@ -13,6 +13,7 @@ use Rattle.store_machine.specs.declared.machine.Reply.{Reply}
 use Rattle.store_machine.specs.declared.machine.Reply.TheVariants as replies
 use Rattle.store_machine.specs.Structures.{IsNeedOf}
 use Rattle.session_run.specs.Cursors.{AreFetches, Calls, IsSearched}
+use Rattle.session_run.specs.Walks.{ArePages}
 
 pub matched-append : (p : PatternTerm) (rs ss : List Found) (hits more : List ℕ) → AreMatched p rs hits
     → AreMatched p ss more → AreMatched p (rs ++ ss) (hits ++ more)
@@ -32,10 +33,23 @@ pub search-append : (want : List Bool) (a b d : Place) (fs gs : List Fetched) �
 search-append want a b d [] gs s t = subst (λ (p : Place). IsSearch want p gs d) s t
 search-append want a b d (f ∷ fs) gs s t = (s.0, s.1, search-append want (place_after f) b d fs gs s.2 t)
 
-fetches-append : (slot size : ℕ) (want : List Bool) (xs ys : Calls) → AreFetches slot size want xs
-    → AreFetches slot size want ys → AreFetches slot size want (xs ++ ys)
-fetches-append slot size want [] ys a b = b
-fetches-append slot size want (x ∷ xs) ys a b = (a.0, fetches-append slot size want xs ys a.1 b)
+pub pages_more : (cs : Calls) (e : Event) (records : List Found) (last : Bool) → ArePages cs
+    → ArePages (cs ++ (e, replies.Page records last) ∷ [])
+pages_more [] e records last h = (records, last, refl, tt)
+pages_more (c ∷ cs) e records last h = (h.0, h.1, h.2, pages_more cs e records last h.3)
+
+no_page_lost : (r : Reply) (records : List Found) (last : Bool) → r ≡ replies.Page records last → r ≡ replies.NoMemory
+    → ⊥
+no_page_lost r records last p q = cc
+
+-- more fetches behind pages
+fetches-append : (slot size : ℕ) (want : List Bool) (a b d : Place) (xs ys : Calls) → ArePages xs
+    → AreFetches slot size want a xs b → AreFetches slot size want b ys d → AreFetches slot size want a (xs ++ ys) d
+fetches-append slot size want a b d [] ys p h k = subst (λ (q : Place). AreFetches slot size want q ys d) h k
+fetches-append slot size want a b d (x ∷ xs) ys p (from, at, is, inl lost) k =
+    absurd (no_page_lost x.1 p.0 p.1 p.2 lost.0)
+fetches-append slot size want a b d (x ∷ xs) ys p (from, at, is, inr h) k =
+    (from, at, is, inr (h.0, h.1, h.2, fetches-append slot size want (cond h.1 End (At (past from h.0))) b d xs ys p.3 h.3 k))
 
 pub fetched-append : (slot : ℕ) (xs ys : Calls) → fetched slot (xs ++ ys) ≡ fetched slot xs ++ fetched slot ys
 fetched-append slot xs ys = filter_map-append (λ (c : Event × Reply). page_in slot c.0 c.1) xs ys
@@ -44,16 +58,17 @@ fetched-append slot xs ys = filter_map-append (λ (c : Event × Reply). page_in 
 pub searched_none : (p : PatternTerm) (want : List Bool) (slot size : ℕ) → IsNeedOf p want
     → (s : IsSearched p slot size (At 0) [] 0 []) × (s.want ≡ want)
 searched_none p want slot size need =
-    (record { want = want; need = need; fetches = tt; search = refl; count = refl; matched = refl }, refl)
+    (record { want = want; need = need; fetches = refl; count = refl; matched = refl }, refl)
 
 -- a page more
 pub searched_page : (p : PatternTerm) (slot size from : ℕ) (place next : Place) (pages : Calls) (tried : ℕ)
     (hits more : List ℕ) (records : List Found) (last : Bool)
-    → (s : IsSearched p slot size place pages tried hits) → place ≡ At from → AreMatched p records more
+    → (s : IsSearched p slot size place pages tried hits) → ArePages pages → place ≡ At from
+    → AreMatched p records more
     → next ≡ (cond last End (At (past from records)))
     → (t : IsSearched p slot size next (pages ++ (Fetch slot s.want from size, replies.Page records last) ∷ [])
     (tried + length records) (hits ++ more)) × (t.want ≡ s.want)
-searched_page p slot size from place next pages tried hits more records last s e m n =
+searched_page p slot size from place next pages tried hits more records last s all_pages e m n =
     let f : Fetched = record { want = s.want; from = from; limit = size; records = records; last = last } in
     let call : Event × Reply = (Fetch slot s.want from size, replies.Page records last) in
     let page : page_in slot call.0 call.1 ≡ Some f = cond-true (slot == slot) (Some f) None (eq-eqb slot slot refl) in
@@ -66,9 +81,8 @@ searched_page p slot size from place next pages tried hits more records last s e
       record {
         want = s.want;
         need = s.need;
-        fetches = fetches-append slot size s.want pages (call ∷ []) s.fetches ((refl, refl, refl), tt);
-        search = subst (λ (fs : List Fetched). IsSearch s.want (At 0) fs next) (sym all)
-            (search-append s.want (At 0) place next (fetched slot pages) (f ∷ []) s.search (e, refl, n));
+        fetches = fetches-append slot size s.want (At 0) place next pages (call ∷ []) all_pages s.fetches
+            (from, e, refl, inr (records, last, refl, n));
         count = ap (λ t. t + length records) s.count
             ∙ (sym (length-append (records_of (fetched slot pages)) records) ∙ sym (ap length records_are));
         matched = subst (λ (rs : List Found). AreMatched p rs (hits ++ more)) (sym records_are)
@@ -79,18 +93,18 @@ searched_page p slot size from place next pages tried hits more records last s e
 
 -- a fetch that found no memory
 pub searched_lost : (p : PatternTerm) (slot size from : ℕ) (place : Place) (pages : Calls) (tried : ℕ) (hits : List ℕ)
-    (s : IsSearched p slot size place pages tried hits)
+    (s : IsSearched p slot size place pages tried hits) → ArePages pages → place ≡ At from
     → (t : IsSearched p slot size place (pages ++ (Fetch slot s.want from size, replies.NoMemory) ∷ []) tried hits)
     × (t.want ≡ s.want)
-searched_lost p slot size from place pages tried hits s =
+searched_lost p slot size from place pages tried hits s all_pages e =
     let call : Event × Reply = (Fetch slot s.want from size, replies.NoMemory) in
     let all : fetched slot (pages ++ call ∷ []) ≡ fetched slot pages =
     fetched-append slot pages (call ∷ []) ∙ append-nil (fetched slot pages) in (
       record {
         want = s.want;
         need = s.need;
-        fetches = fetches-append slot size s.want pages (call ∷ []) s.fetches ((refl, refl, refl), tt);
-        search = subst (λ (fs : List Fetched). IsSearch s.want (At 0) fs place) (sym all) s.search;
+        fetches = fetches-append slot size s.want (At 0) place place pages (call ∷ []) all_pages s.fetches
+            (from, e, refl, inl (refl, refl, refl));
         count = s.count ∙ sym (ap (λ fs. length (records_of fs)) all);
         matched = subst (λ (fs : List Fetched). AreMatched p (records_of fs) hits) (sym all) s.matched;
       },

@@ -1,38 +1,36 @@
--- A run cut at its caller's calls: where a pin is taken its slot was free, and what the pages of a pin are together.
-use Rattle.std.proofs.Common.{◌≡◌, ◌&&◌, ◌++◌, ◌==◌, ◌≤◌, ◌∙◌, ap, ap₂, arith, Bool, cond, eq-eqb, false, length, List, [], ◌∷◌, None, refl, Some, subst, suc, sym, true, ℕ}
+-- A run cut at its caller's calls: what the pages of a pin are together, whatever follows.
+use Rattle.std.proofs.Common.{◌≡◌, ◌&&◌, ◌++◌, ◌+◌, ◌*◌, ◌==◌, ◌≤◌, ◌∙◌, ap, ap₂, arith, Bool, cond, drop, drop-drop, eq-eqb, false, length, nat_le, take, List, [], ◌∷◌, None, refl, Some, subst, suc, sym, true, ℕ}
 use Rattle.std.specs.FinMap.{get}
+use Rattle.std.specs.List.{AllByRecursion}
+use Rattle.std.proofs.Math.Nat.{suc-mul}
 use Rattle.std.proofs.lemmas.Bool.{cond-false, cond-true, true≢false}
 use Rattle.mol_finish.specs.declared.fault.Format.{Format}
 use Rattle.smarts_parse.specs.Pattern.{PatternTerm}
-use Rattle.store_machine.specs.Answers.{AreAnswers, AreMatched, IsAnswer, ids}
+use Rattle.store_machine.specs.Answers.{AreAnswers, AreFound, AreMatched, IsAnswer, ids}
 use Rattle.store_machine.specs.ByCalls.{CallsGivePages, Pages}
-use Rattle.store_machine.specs.History.{Snapshot, head, snapshot}
-use Rattle.store_machine.specs.Laws.{IsSound, NeedsScreen, PinsStay, RunsGrow, RunsStaySound, SnapshotsStay, StatesStay}
-use Rattle.store_machine.specs.Machine.{Gives, Holds, PinGives, pin_in}
-use Rattle.store_machine.specs.Runs.{IsCalm, IsRun, IsStep, calls_of, is_call, is_own}
-use Rattle.store_machine.specs.Searches.{At, End, IsSearch, KeepsPin, fetched, records_of}
+use Rattle.store_machine.specs.History.{Snapshot, snapshot}
+use Rattle.store_machine.specs.Laws.{IsSound, NeedsScreen, RunsGrow, SnapshotsStay}
+use Rattle.store_machine.specs.Runs.{IsCalm, IsRun, calls_of, is_own}
+use Rattle.store_machine.specs.Searches.{ArePieces, At, End, Fetched, IsSearch, KeepsPin, Place, fetched, records_of}
 use Rattle.store_machine.specs.Structures.{IsMatched, IsNeedOf, IsScreened}
-use Rattle.store_machine.specs.declared.machine.Change.{Change}
+use Rattle.store_machine.specs.Told.{PinsAreNew, SlotsWereFree}
 use Rattle.store_machine.specs.declared.machine.Event.{Event}
 use Rattle.store_machine.specs.declared.machine.Event.TheVariants.{Pin}
 use Rattle.store_machine.specs.declared.machine.Found.{Found}
-use Rattle.store_machine.specs.declared.machine.Held.{Held}
+use Rattle.store_machine.specs.declared.machine.History.{History}
 use Rattle.store_machine.specs.declared.machine.Reply.{Reply}
 use Rattle.store_machine.specs.declared.machine.Reply.TheVariants.{Pinned}
 use Rattle.store_machine.specs.declared.machine.State.{State}
 use Rattle.store_machine.specs.declared.machine.Step.{Step}
 use Rattle.session_run.specs.Cursors.{Calls}
-use Rattle.session_run.specs.Dialogue.{IsTold}
-use Rattle.session_run.specs.Truths.{AreAllHits, IsUpToDate}
-use Rattle.session_run.proofs.Growing.{longer, run-told}
+use Rattle.session_run.specs.Truths.{AreAllHits}
 
 -- the machine's laws
 pub record Laws : Type 0 where
   pub snapshots : SnapshotsStay
-  pub states : StatesStay
-  pub sound : RunsStaySound
   pub grow : RunsGrow
-  pub pins : PinsStay
+  pub slots : SlotsWereFree
+  pub pins : PinsAreNew
   pub pages : CallsGivePages
   pub needs : NeedsScreen
 
@@ -94,60 +92,6 @@ cut own (s ∷ ss) (x ∷ xs) ys e =
           }
     ] refl e
 
--- the step of the first call
-record First (own : ℕ → Bool) (steps : List Step) (c : Event × Reply) (later : Calls) : Type 0 where
-  skip : List Step
-  step : Step
-  rest : List Step
-  is : steps ≡ skip ++ step ∷ rest
-  none : calls_of own skip ≡ []
-  by : own step.owner ≡ true
-  event : step.event ≡ c.0
-  reply : step.reply ≡ c.1
-  later_is : calls_of own rest ≡ later
-
-both_own : (own : ℕ → Bool) (x : Step) → is_own own x ≡ true → own x.owner ≡ true
-both_own own x e = second (is_call x.event) (own x.owner) e
-  where
-    second : (a b : Bool) → (a && b) ≡ true → b ≡ true
-    second true b e = e
-    second false b e = absurd (true≢false (sym e))
-
-first_step : (own : ℕ → Bool) (steps : List Step) (c : Event × Reply) (later : Calls) → calls_of own steps ≡ c ∷ later
-    → First own steps c later
-first_step own [] c later e = absurd (nothing_left c later e)
-first_step own (s ∷ ss) c later e =
-    elim (is_own own s) as (λ b. is_own own s ≡ b
-    → cond b ((s.event, s.reply) ∷ calls_of own ss) (calls_of own ss) ≡ c ∷ later → First own (s ∷ ss) c later) [
-      | true ↦ λ o i.
-          let same : (s.event, s.reply) ≡ c = one_call (s.event, s.reply) c (calls_of own ss) later i in
-          record {
-            skip = [];
-            step = s;
-            rest = ss;
-            is = refl;
-            none = refl;
-            by = both_own own s o;
-            event = ap (λ d. d.0) same;
-            reply = ap (λ d. d.1) same;
-            later_is = same_rest (s.event, s.reply) c (calls_of own ss) later i;
-          }
-      | false ↦ λ o i.
-          let k = first_step own ss c later i in
-          record {
-            skip = s ∷ k.skip;
-            step = k.step;
-            rest = k.rest;
-            is = ap (λ l. s ∷ l) k.is;
-            none = cond-false (is_own own s) ((s.event, s.reply) ∷ calls_of own k.skip) (calls_of own k.skip) o
-                ∙ k.none;
-            by = k.by;
-            event = k.event;
-            reply = k.reply;
-            later_is = k.later_is;
-          }
-    ] refl e
-
 -- a run up to a state, and from it on
 run_parts : (s t : State) (front back : List Step) → IsRun s (front ++ back) t
     → (m : State) × IsRun s front m × IsRun m back t
@@ -189,127 +133,15 @@ halves own s t steps xs ys run calm e =
       last_calls = k.rest;
     }
 
--- a calm run whose first call is this: the steps before it, its step, and the steps after it
-record Begins (own : ℕ → Bool) (s t : State) (c : Event × Reply) (later : Calls) : Type 0 where
-  skip : List Step
-  step : Step
-  rest : List Step
-  to : IsRun s skip step.before
-  is : IsStep step
-  from : IsRun step.after rest t
-  calm_to : IsCalm skip
-  calm_from : IsCalm rest
-  none : calls_of own skip ≡ []
-  by : own step.owner ≡ true
-  event : step.event ≡ c.0
-  reply : step.reply ≡ c.1
-  later_is : calls_of own rest ≡ later
-
-begins : (own : ℕ → Bool) (s t : State) (steps : List Step) (c : Event × Reply) (later : Calls) → IsRun s steps t
-    → IsCalm steps → calls_of own steps ≡ c ∷ later → Begins own s t c later
-begins own s t steps c later run calm e =
-    let k = first_step own steps c later e in
-    let r = run_parts s t k.skip (k.step ∷ k.rest) (subst (λ (l : List Step). IsRun s l t) k.is run) in
-    let q = calm_parts k.skip (k.step ∷ k.rest) (subst IsCalm k.is calm) in
-    record {
-      skip = k.skip;
-      step = k.step;
-      rest = k.rest;
-      to = subst (λ (m : State). IsRun s k.skip m) (sym r.2.0) r.1;
-      is = r.2.1;
-      from = r.2.2;
-      calm_to = q.0;
-      calm_from = q.1.1;
-      none = k.none;
-      by = k.by;
-      event = k.event;
-      reply = k.reply;
-      later_is = k.later_is;
-    }
-
--- what a Pin was answered, and leaves
-pin_given : (x : Step) (slot version : ℕ) → x.event ≡ Pin → x.reply ≡ Pinned slot version → IsStep x
-    → PinGives x.before x.owner (Pinned slot version) x.after
-pin_given x slot version p q g =
-    let same : Gives x.before x.owner Pin (Pinned slot version) x.after =
-    subst (λ (e : Event). Gives x.before x.owner e (Pinned slot version) x.after) p
-    (subst (λ (r : Reply). Gives x.before x.owner x.event r x.after) q g) in
-    same.1
-
-pin_in-new : (slot : ℕ) (p : Held) (ps : List Held) → p.slot ≡ slot → pin_in slot ps ≡ None
-    → pin_in slot (ps ++ p ∷ []) ≡ Some p
-pin_in-new slot p [] e h = cond-true (p.slot == slot) (Some p) None (eq-eqb p.slot slot e)
-pin_in-new slot p (x ∷ xs) e h =
-    elim (x.slot == slot) as (λ b. cond b (Some x) (pin_in slot xs) ≡ None
-    → cond b (Some x) (pin_in slot (xs ++ p ∷ [])) ≡ Some p) [
-      | true ↦ λ n. cc
-      | false ↦ λ n. pin_in-new slot p xs e n
-    ] h
-
-is_held : (s s' : State) (slot owner version : ℕ) → PinGives s owner (Pinned slot version) s'
-    → Holds s' slot owner version
-is_held s s' slot owner version g =
-    ap (λ (x : State). pin_in slot x.pins) g.4
-    ∙ (pin_in-new slot (record { slot = slot; owner = owner; version = head s.history }) s.pins refl g.2
-    ∙ ap (λ (v : ℕ). Some (let p : Held = record { slot = slot; owner = owner; version = v } in p)) (sym g.3))
-
-not_both : (slot : ℕ) (ps : List Held) (p : Held) → pin_in slot ps ≡ None → pin_in slot ps ≡ Some p → ⊥
-not_both slot ps p free held = cc
-
-keeps_as : (slot : ℕ) (xs ys : Calls) → xs ≡ ys → KeepsPin slot ys → KeepsPin slot xs
-keeps_as slot xs ys e k = subst (KeepsPin slot) (sym e) k
-
--- a pin that was not given back is in its slot, so that no other is taken there
-pub slot_free : Laws → (own : ℕ → Bool) (s t : State) (steps : List Step) (before pages later : Calls) (slot v v' : ℕ)
-    → IsRun s steps t → IsCalm steps
-    → calls_of own steps ≡ before ++ (Pin, Pinned slot v) ∷ (pages ++ (Pin, Pinned slot v') ∷ later)
-    → KeepsPin slot pages → ⊥
-slot_free laws own s t steps before pages later slot v v' run calm e keeps =
-    let a = halves own s t steps before ((Pin, Pinned slot v) ∷ (pages ++ (Pin, Pinned slot v') ∷ later)) run calm e in
-    let b = begins own a.middle t a.back (Pin, Pinned slot v)
-    (pages ++ (Pin, Pinned slot v') ∷ later) a.from a.calm_from a.last_calls in
-    let held : Holds b.step.after slot b.step.owner v =
-    is_held b.step.before b.step.after slot b.step.owner v (pin_given b.step slot v b.event b.reply b.is) in
-    let c = halves own b.step.after t b.rest pages ((Pin, Pinned slot v') ∷ later) b.from b.calm_from b.later_is in
-    let still : Holds c.middle slot b.step.owner v =
-    laws.pins b.step.after c.middle c.front own slot b.step.owner v c.to c.calm_to b.by held
-    (keeps_as slot (calls_of own c.front) pages c.first_calls keeps) in
-    let d = begins own c.middle t c.back (Pin, Pinned slot v') later c.from c.calm_from c.last_calls in
-    let then : Holds d.step.before slot b.step.owner v =
-    laws.pins c.middle d.step.before d.skip own slot b.step.owner v d.to d.calm_to b.by still
-    (keeps_as slot (calls_of own d.skip) [] d.none tt) in
-    let free = pin_given d.step slot v' d.event d.reply d.is in
-    not_both slot d.step.before.pins (record { slot = slot; owner = b.step.owner; version = v }) free.2 then
-
--- a pin is at the head, and so at no version older than its caller was told
-pub pin_new : Laws → (own : ℕ → Bool) (s t : State) (steps : List Step) (before later : Calls) (slot version : ℕ)
-    → IsSound s → IsRun s steps t → IsCalm steps
-    → calls_of own steps ≡ before ++ (Pin, Pinned slot version) ∷ later → IsUpToDate t.history before version
-pin_new laws own s t steps before later slot version sound run calm e =
-    let a = halves own s t steps before ((Pin, Pinned slot version) ∷ later) run calm e in
-    let b = begins own a.middle t a.back (Pin, Pinned slot version) later a.from a.calm_from a.last_calls in
-    let at : version ≡ head b.step.before.history = (pin_given b.step slot version b.event b.reply b.is).3 in
-    let up : head a.middle.history ≤ head b.step.before.history =
-    longer laws.grow a.middle b.step.before b.skip b.to in
-    let on : head b.step.before.history ≤ head t.history =
-    longer laws.grow b.step.before t (b.step ∷ b.rest) (refl, b.is, b.from) in (
-      omega (arith, at, on),
-      λ v is.
-          let le : v ≤ head a.middle.history =
-          run-told laws.states laws.sound laws.grow s a.middle a.front own v sound a.to
-          (subst (λ (l : Calls). IsTold l v) (sym a.first_calls) is) in
-          omega (arith, le, at, up),
-    )
-
 -- answers at a version that two histories have
-then_answers : (Asked : Format → List ℕ → Type 0) (h h' : List Change) (v : ℕ) (found : List ℕ)
+then_answers : (Asked : Format → List ℕ → Type 0) (h h' : History) (v : ℕ) (found : List ℕ)
     → snapshot h v ≡ snapshot h' v → AreAnswers Asked h v found → AreAnswers Asked h' v found
 then_answers Asked h h' v found e a = record {
   ascending = a.ascending;
   only = λ id is. moved h h' e id (a.only id is);
   all = λ id is. a.all id (moved h' h (sym e) id is);
 } where
-  moved : (g g' : List Change) → snapshot g v ≡ snapshot g' v → (id : ℕ) → IsAnswer Asked g v id
+  moved : (g g' : History) → snapshot g v ≡ snapshot g' v → (id : ℕ) → IsAnswer Asked g v id
       → IsAnswer Asked g' v id
   moved g g' same id k = record {
     version = k.version;
@@ -337,9 +169,9 @@ whole_pages laws own s t steps before pages later slot version tried pattern wan
     let p : Pages s a.middle slot version want End pages =
     laws.pages s a.middle a.front own slot version 0 want End pages sound a.to a.calm_to (omega arith)
     (record { before = before; own = a.first_calls; keeps = keeps; search = search }) in
-    let more = laws.grow a.middle t a.back a.from in
+    let more = laws.grow a.middle t a.back a.from a.calm_from in
     let stays : snapshot a.middle.history version ≡ snapshot t.history version =
-    sym (ap (λ (h : List Change). snapshot h version) more.1
+    sym (ap (λ (h : History). snapshot h version) more.1
     ∙ laws.snapshots a.middle.history more.0 version p.not_after) in
     record {
       are = then_answers (IsMatched pattern) a.middle.history t.history version hits stays
@@ -351,3 +183,38 @@ whole_pages laws own s t steps before pages later slot version tried pattern wan
           (ids (records_of (fetched slot pages))) stays (p.tried refl);
       count = count ∙ sym (ids-length (records_of (fetched slot pages)));
     }
+
+-- the pages of a pin so far are pieces of what is wanted at its version, whatever follows
+pub pieces_so_far : Laws
+    → (own : ℕ → Bool) (s t : State) (steps : List Step) (before pages later : Calls) (slot version size : ℕ)
+    (want : List Bool) (place : Place) (all : List Found) → IsSound s → IsRun s steps t → IsCalm steps
+    → calls_of own steps ≡ (before ++ (Pin, Pinned slot version) ∷ pages) ++ later → KeepsPin slot pages
+    → IsSearch want (At 0) (fetched slot pages) place
+    → AllByRecursion (λ (f : Fetched). f.limit ≡ size) (fetched slot pages)
+    → AreFound (IsScreened want) (snapshot t.history version) all → ArePieces size all (fetched slot pages)
+pieces_so_far laws own s t steps before pages later slot version size want place all sound run calm e keeps search sized
+    found =
+    let a = halves own s t steps (before ++ (Pin, Pinned slot version) ∷ pages) later run calm e in
+    let p : Pages s a.middle slot version want place pages =
+    laws.pages s a.middle a.front own slot version 0 want place pages sound a.to a.calm_to (omega arith)
+    (record { before = before; own = a.first_calls; keeps = keeps; search = search }) in
+    let more = laws.grow a.middle t a.back a.from a.calm_from in
+    let stays : snapshot a.middle.history version ≡ snapshot t.history version =
+    sym (ap (λ (h : History). snapshot h version) more.1
+    ∙ laws.snapshots a.middle.history more.0 version p.not_after) in
+    p.pieces all size (subst (λ (m : Snapshot). AreFound (IsScreened want) m all) (sym stays) found) sized
+
+-- the last of some pieces
+pub last_piece : (size : ℕ) (all : List Found) (fs : List Fetched) (f : Fetched) → ArePieces size all (fs ++ f ∷ [])
+    → (f.records ≡ take size (drop (length fs * size) all))
+    × (f.last ≡ nat_le (length (drop (length fs * size) all)) size)
+last_piece size all [] f p =
+    let none : 0 * size ≡ 0 = omega arith in
+    subst (λ (n : ℕ). (f.records ≡ take size (drop n all)) × (f.last ≡ nat_le (length (drop n all)) size)) (sym none)
+    (p.0, p.1)
+last_piece size all (g ∷ fs) f p =
+    let one : size + length fs * size ≡ suc (length fs) * size = omega (arith, suc-mul (length fs) size) in
+    let same : drop (length fs * size) (drop size all) ≡ drop (suc (length fs) * size) all =
+    drop-drop (length fs * size) size all ∙ ap (λ (n : ℕ). drop n all) one in
+    subst (λ (l : List Found). (f.records ≡ take size l) × (f.last ≡ nat_le (length l) size)) same
+    (last_piece size (drop size all) fs f p.2)

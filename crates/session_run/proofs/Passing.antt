@@ -1,7 +1,8 @@
 -- What is known of an open cursor by the calls so far, how it goes on by its pages, and calls that pass its pin by.
-use Rattle.std.proofs.Common.{◌≡◌, ◌≢◌, ◌++◌, ◌+◌, ◌==◌, ◌∙◌, ap, append-nil, append_assoc, Bool, cond, eq-eqb, false, inl, inr, length, length-append, List, [], ◌∷◌, map, ne_eqb, None, Option, refl, Some, subst, sym, true, ℕ}
+use Rattle.std.proofs.Common.{◌≡◌, ◌≢◌, ◌⊎◌, ◌++◌, ◌+◌, ◌==◌, ◌∙◌, ap, ap₂, append-nil, append_assoc, arith, Bool, cond, Contains, eq-eqb, false, inl, inr, length, length-append, List, [], ◌∷◌, map, ne_eqb, None, Option, refl, Some, subst, sym, true, ℕ}
 use Rattle.std.proofs.lemmas.Bool.{cond-false, cond-true}
-use Rattle.std.specs.List.{cons_option}
+use Rattle.std.proofs.lemmas.List.Elements.{Contains-append_cases, Contains-push_cases}
+use Rattle.std.specs.List.{AllByRecursion, cons_option}
 use Rattle.shell_lang.specs.Reply as line
 use Rattle.smarts_parse.specs.Pattern.{PatternTerm}
 use Rattle.store_machine.specs.Answers.{AreMatched}
@@ -13,7 +14,7 @@ use Rattle.store_machine.specs.declared.machine.Found.{Found}
 use Rattle.store_machine.specs.declared.machine.Reply.{Reply}
 use Rattle.store_machine.specs.declared.machine.Reply.TheVariants as replies
 use Rattle.session_run.specs.Answer.{Advances, Lines, after_page, page_end}
-use Rattle.session_run.specs.Cursors.{AreFetches, Calls, Cursor, IsFetch}
+use Rattle.session_run.specs.Cursors.{AreFetches, Calls, Cursor}
 use Rattle.session_run.specs.Dialogue.{hits_in}
 use Rattle.session_run.proofs.Listings.{fetched-append, matched-append, records-append, search-append}
 
@@ -39,9 +40,9 @@ passes-append slot [] ys h k = k
 passes-append slot (x ∷ xs) ys h k = (h.0, h.1, passes-append slot xs ys h.2 k)
 
 -- a pin's fetches give no pin back, and are no pages of another
-fetch_keeps : (slot size other : ℕ) (want : List Bool) (e : Event) → IsFetch slot size want e → unpins other e ≡ false
-fetch_keeps slot size other want (Fetch pin asked from limit) h = refl
-fetch_keeps slot size other want _ h = absurd h
+fetch_keeps : (slot size from other : ℕ) (want : List Bool) (e : Event) → e ≡ Fetch slot want from size
+    → unpins other e ≡ false
+fetch_keeps slot size from other want e is = ap (λ (x : Event). unpins other x) is
 
 no_page : (other pin : ℕ) (asked : List Bool) (from limit : ℕ) (r : Reply) → (pin == other) ≡ false
     → page_in other (Fetch pin asked from limit) r ≡ None
@@ -51,45 +52,69 @@ no_page other pin asked from limit (replies.Page records last) h =
     f)) None h
 no_page other pin asked from limit _ h = refl
 
-fetch_none : (slot size other : ℕ) (want : List Bool) (e : Event) (r : Reply) → slot ≢ other → IsFetch slot size want e
-    → page_in other e r ≡ None
-fetch_none slot size other want (Fetch pin asked from limit) r apart h =
-    no_page other pin asked from limit r (ne_eqb pin other (λ e. apart (sym h.0 ∙ e)))
-fetch_none slot size other want _ r apart h = absurd h
+fetch_none : (slot size from other : ℕ) (want : List Bool) (e : Event) (r : Reply) → slot ≢ other
+    → e ≡ Fetch slot want from size → page_in other e r ≡ None
+fetch_none slot size from other want e r apart is =
+    ap (λ (x : Event). page_in other x r) is ∙ no_page other slot want from size r (ne_eqb slot other apart)
 
-pub fetches_keep : (slot size other : ℕ) (want : List Bool) (cs : Calls) → AreFetches slot size want cs
-    → KeepsPin other cs
-fetches_keep slot size other want [] h = tt
-fetches_keep slot size other want (c ∷ cs) h =
-    (fetch_keeps slot size other want c.0 h.0, fetches_keep slot size other want cs h.1)
+pub fetches_keep : (slot size other : ℕ) (want : List Bool) (place place' : Place) (cs : Calls)
+    → AreFetches slot size want place cs place' → KeepsPin other cs
+fetches_keep slot size other want place place' [] h = tt
+fetches_keep slot size other want place place' (c ∷ cs) (from, at, is, inl k) =
+    (fetch_keeps slot size from other want c.0 is, subst (KeepsPin other) (sym k.1) tt)
+fetches_keep slot size other want place place' (c ∷ cs) (from, at, is, inr k) =
+    (fetch_keeps slot size from other want c.0 is, fetches_keep slot size other want (cond k.1 End (At (past from k.0))) place' cs k.3)
 
-pub fetches_pass : (slot size other : ℕ) (want : List Bool) (cs : Calls) → slot ≢ other → AreFetches slot size want cs
-    → PassBy other cs
-fetches_pass slot size other want [] apart h = tt
-fetches_pass slot size other want (c ∷ cs) apart h = (
-  fetch_keeps slot size other want c.0 h.0,
-  fetch_none slot size other want c.0 c.1 apart h.0,
-  fetches_pass slot size
-      other want cs apart h.1,
+pub fetches_pass : (slot size other : ℕ) (want : List Bool) (place place' : Place) (cs : Calls) → slot ≢ other
+    → AreFetches slot size want place cs place' → PassBy other cs
+fetches_pass slot size other want place place' [] apart h = tt
+fetches_pass slot size other want place place' (c ∷ cs) apart (from, at, is, inl k) = (
+  fetch_keeps slot size from other want c.0 is,
+  fetch_none slot size from other want c.0 c.1 apart is,
+  subst (PassBy other) (sym k.1) tt,
+)
+fetches_pass slot size other want place place' (c ∷ cs) apart (from, at, is, inr k) = (
+  fetch_keeps slot size from other want c.0 is,
+  fetch_none slot size from other want c.0 c.1 apart is,
+  fetches_pass slot size other want (cond k.1 End (At (past from k.0))) place' cs apart k.3,
 )
 
--- By these calls the cursor's pin was taken and not given back, its pages brought its search to where it stands, and
--- these are its hits
-pub record IsOpen (calls : Calls) (c : Cursor) (hits : List ℕ) : Type 0 where
+-- the pages that they gave are those of the search
+pub fetches_search : (slot size : ℕ) (want : List Bool) (place place' : Place) (cs : Calls)
+    → AreFetches slot size want place cs place' → IsSearch want place (fetched slot cs) place'
+fetches_search slot size want place place' [] h = h
+fetches_search slot size want place place' (c ∷ cs) (from, at, is, inl k) =
+    let none : fetched slot (c ∷ cs) ≡ [] =
+    ap₂ (λ (o : Option Fetched) (l : List Fetched). cons_option o l)
+    (ap₂ (λ (e : Event) (r : Reply). page_in slot e r) is k.0) (ap (λ (l : Calls). fetched slot l) k.1) in
+    subst (λ (fs : List Fetched). IsSearch want place fs place') (sym none) k.2
+fetches_search slot size want place place' (c ∷ cs) (from, at, is, inr k) =
+    let f : Fetched = record { want = want; from = from; limit = size; records = k.0; last = k.1 } in
+    let page : page_in slot c.0 c.1 ≡ Some f =
+    ap₂ (λ (e : Event) (r : Reply). page_in slot e r) is k.2
+    ∙ cond-true (slot == slot) (Some f) None (eq-eqb slot slot refl) in
+    subst (λ (o : Option Fetched). IsSearch want place (cons_option o (fetched slot cs)) place') (sym page)
+    (at, refl, fetches_search slot size want (cond k.1 End (At (past from k.0))) place' cs k.3)
+
+-- By these calls the cursor's pin was taken and not given back, so many pages of a size brought its search to where it
+-- stands, and these are its hits
+pub record IsOpen (size turned : ℕ) (calls : Calls) (c : Cursor) (hits : List ℕ) : Type 0 where
   pub before : Calls
   pub pages : Calls
   pub own : calls ≡ before ++ (Pin, replies.Pinned c.slot c.version) ∷ pages
   pub keeps : KeepsPin c.slot pages
   pub search : IsSearch c.want (At 0) (fetched c.slot pages) c.place
+  pub sized : AllByRecursion (λ (f : Fetched). f.limit ≡ size) (fetched c.slot pages)
+  pub turned_is : length (fetched c.slot pages) ≡ turned
   pub need : IsNeedOf c.pattern c.want
   pub tried : c.tried ≡ length (records_of (fetched c.slot pages))
   pub matched : AreMatched c.pattern (records_of (fetched c.slot pages)) hits
   pub count : c.hits ≡ length hits
 
 -- other calls
-pub open_passes : (calls its : Calls) (c : Cursor) (hits : List ℕ) → PassBy c.slot its → IsOpen calls c hits
-    → IsOpen (calls ++ its) c hits
-open_passes calls its c hits pass o =
+pub open_passes : (size k : ℕ) (calls its : Calls) (c : Cursor) (hits : List ℕ) → PassBy c.slot its
+    → IsOpen size k calls c hits → IsOpen size k (calls ++ its) c hits
+open_passes size k calls its c hits pass o =
     let same : fetched c.slot (o.pages ++ its) ≡ fetched c.slot o.pages =
     fetched-append c.slot o.pages its
     ∙ (ap (λ (fs : List Fetched). fetched c.slot o.pages ++ fs) (passes_none c.slot its pass)
@@ -101,20 +126,31 @@ open_passes calls its c hits pass o =
           ∙ append_assoc o.before ((Pin, replies.Pinned c.slot c.version) ∷ o.pages) its;
       keeps = keeps-append c.slot o.pages its o.keeps (passes_keep c.slot its pass);
       search = subst (λ (fs : List Fetched). IsSearch c.want (At 0) fs c.place) (sym same) o.search;
+      sized = subst (λ (fs : List Fetched). AllByRecursion (λ (f : Fetched). f.limit ≡ size) fs) (sym same) o.sized;
+      turned_is = ap (λ (fs : List Fetched). length fs) same ∙ o.turned_is;
       need = o.need;
       tried = o.tried ∙ sym (ap (λ (fs : List Fetched). length (records_of fs)) same);
       matched = subst (λ (fs : List Fetched). AreMatched c.pattern (records_of fs) hits) (sym same) o.matched;
       count = o.count;
     }
 
+sized-append : (size : ℕ) (fs : List Fetched) (f : Fetched) → AllByRecursion (λ (g : Fetched). g.limit ≡ size) fs
+    → f.limit ≡ size → AllByRecursion (λ (g : Fetched). g.limit ≡ size) (fs ++ f ∷ [])
+sized-append size [] f h e = (e, tt)
+sized-append size (g ∷ fs) f h e = (h.0, sized-append size fs f h.1 e)
+
+abbrev pub page_of : Cursor → ℕ → ℕ → List Found → Bool → Fetched
+page_of c size from records last =
+    record { want = c.want; from = from; limit = size; records = records; last = last }
+
 -- a page of the pin
-page_more : (calls : Calls) (c : Cursor) (hits more : List ℕ) (size from : ℕ) (records : List Found) (last : Bool)
-    → c.place ≡ At from → AreMatched c.pattern records more
-    → IsOpen calls c hits
-    → IsOpen (calls ++ (Fetch c.slot c.want from size, replies.Page records last) ∷ [])
-    (after_page c from records last more) (hits ++ more)
-page_more calls c hits more size from records last e m o =
-    let f : Fetched = record { want = c.want; from = from; limit = size; records = records; last = last } in
+pub page_more : (size k : ℕ) (calls : Calls) (c : Cursor) (hits more : List ℕ) (from : ℕ) (records : List Found)
+    (last : Bool) → c.place ≡ At from → AreMatched c.pattern records more → (o : IsOpen size k calls c hits)
+    → (p : IsOpen size (k + 1) (calls ++ (Fetch c.slot c.want from size, replies.Page records last) ∷ [])
+    (after_page c from records last more) (hits ++ more))
+    × (fetched c.slot p.pages ≡ fetched c.slot o.pages ++ page_of c size from records last ∷ [])
+page_more size k calls c hits more from records last e m o =
+    let f : Fetched = page_of c size from records last in
     let call : Event × Reply = (Fetch c.slot c.want from size, replies.Page records last) in
     let page : page_in c.slot call.0 call.1 ≡ Some f =
     cond-true (c.slot == c.slot) (Some f) None (eq-eqb c.slot c.slot refl) in
@@ -124,25 +160,31 @@ page_more calls c hits more size from records last e m o =
     let records_are : records_of (fetched c.slot (o.pages ++ call ∷ [])) ≡ records_of
     (fetched c.slot o.pages) ++ records =
     ap records_of all ∙ (records-append (fetched c.slot o.pages) (f ∷ [])
-    ∙ ap (λ (l : List Found). records_of (fetched c.slot o.pages) ++ l) (append-nil records)) in
-    record {
-      before = o.before;
-      pages = o.pages ++ call ∷ [];
-      own = ap (λ (l : Calls). l ++ call ∷ []) o.own
-          ∙ append_assoc o.before ((Pin, replies.Pinned c.slot c.version) ∷ o.pages) (call ∷ []);
-      keeps = keeps-append c.slot o.pages (call ∷ []) o.keeps (refl, tt);
-      search = subst (λ (fs : List Fetched). IsSearch c.want (At 0) fs (cond last End (At (past from records))))
-          (sym all)
-          (search-append c.want (At 0) c.place (cond last End (At (past from records))) (fetched c.slot o.pages)
-          (f ∷ []) o.search (e, refl, refl));
-      need = o.need;
-      tried = ap (λ (n : ℕ). n + length records) o.tried
-          ∙ (sym (length-append (records_of (fetched c.slot o.pages)) records)
-          ∙ sym (ap (λ (l : List Found). length l) records_are));
-      matched = subst (λ (rs : List Found). AreMatched c.pattern rs (hits ++ more)) (sym records_are)
-          (matched-append c.pattern (records_of (fetched c.slot o.pages)) records hits more o.matched m);
-      count = ap (λ (n : ℕ). n + length more) o.count ∙ sym (length-append hits more);
-    }
+    ∙ ap (λ (l : List Found). records_of (fetched c.slot o.pages) ++ l) (append-nil records)) in (
+      record {
+        before = o.before;
+        pages = o.pages ++ call ∷ [];
+        own = ap (λ (l : Calls). l ++ call ∷ []) o.own
+            ∙ append_assoc o.before ((Pin, replies.Pinned c.slot c.version) ∷ o.pages) (call ∷ []);
+        keeps = keeps-append c.slot o.pages (call ∷ []) o.keeps (refl, tt);
+        search = subst (λ (fs : List Fetched). IsSearch c.want (At 0) fs (cond last End (At (past from records))))
+            (sym all)
+            (search-append c.want (At 0) c.place (cond last End (At (past from records))) (fetched c.slot o.pages)
+            (f ∷ []) o.search (e, refl, refl));
+        sized = subst (λ (fs : List Fetched). AllByRecursion (λ (g : Fetched). g.limit ≡ size) fs) (sym all)
+            (sized-append size (fetched c.slot o.pages) f o.sized refl);
+        turned_is = ap (λ (fs : List Fetched). length fs) all
+            ∙ (length-append (fetched c.slot o.pages) (f ∷ []) ∙ ap (λ (n : ℕ). n + 1) o.turned_is);
+        need = o.need;
+        tried = ap (λ (n : ℕ). n + length records) o.tried
+            ∙ (sym (length-append (records_of (fetched c.slot o.pages)) records)
+            ∙ sym (ap (λ (l : List Found). length l) records_are));
+        matched = subst (λ (rs : List Found). AreMatched c.pattern rs (hits ++ more)) (sym records_are)
+            (matched-append c.pattern (records_of (fetched c.slot o.pages)) records hits more o.matched m);
+        count = ap (λ (n : ℕ). n + length more) o.count ∙ sym (length-append hits more);
+      },
+      all,
+    )
 
 -- the hits in the lines of a page
 pub hits_listed : (hits : List ℕ) (said : line.Reply) → hits_in (said ∷ []) ≡ []
@@ -176,38 +218,122 @@ advances_same size (At from) c calls lines c' (inr a) =
 
 -- its calls are fetches of its pin
 pub advances_fetch : (size : ℕ) (place : Place) (c : Cursor) (calls : Calls) (lines : Lines) (c' : Cursor)
-    → Advances size place c calls lines c' → AreFetches c.slot size c.want calls
-advances_fetch size End c calls lines c' a = subst (λ (l : Calls). AreFetches c.slot size c.want l) (sym a.0.0) tt
-advances_fetch size (At from) c calls lines c' (inl t) =
-    subst (λ (l : Calls). AreFetches c.slot size c.want l) (sym t.made) ((refl, refl, refl), tt)
-advances_fetch size (At from) c calls lines c' (inr a) =
-    subst (λ (l : Calls). AreFetches c.slot size c.want l) (sym a.0) ((refl, refl, refl), tt)
+    → Advances size place c calls lines c' → (place' : Place) × AreFetches c.slot size c.want place calls place'
+advances_fetch size End c calls lines c' a =
+    (End, subst (λ (l : Calls). AreFetches c.slot size c.want End l End) (sym a.0.0) refl)
+advances_fetch size (At from) c calls lines c' (inl t) = (
+  cond t.last End (At (past from t.records)),
+  subst (λ (l : Calls). AreFetches c.slot size c.want (At from) l (cond t.last End (At (past from t.records))))
+      (sym t.made) (from, refl, refl, inr (t.records, t.last, refl, refl)),
+)
+advances_fetch size (At from) c calls lines c' (inr a) = (
+  At from,
+  subst (λ (l : Calls). AreFetches c.slot size c.want (At from) l (At from)) (sym a.0)
+      (from, refl, refl, inl (refl, refl, refl)),
+)
+
+-- Lines
+pub none_in : {X : Type 0} → (x : X) → ¬ Contains [] x
+none_in x h = omega (arith, h.1)
+
+pub one_in : {X : Type 0} → (y x : X) → Contains (y ∷ []) x → y ≡ x
+one_in y x h = elim (Contains-push_cases [] y x h) [ inl k ↦ absurd (none_in x k) | inr e ↦ e ]
+
+pub first_or_rest : {X : Type 0} → (y : X) (ys : List X) (x : X) → Contains (y ∷ ys) x → (y ≡ x) ⊎ Contains ys x
+first_or_rest y ys x h = elim (Contains-append_cases (y ∷ []) ys x h) [ inl k ↦ inl (one_in y x k) | inr k ↦ inr k ]
+
+-- a line that is no hit, among hits and one line more
+pub behind_hits : (x : line.Reply) → ((id : ℕ) → line.Hit id ≡ x → ⊥) → (hits : List ℕ) (said : line.Reply)
+    → Contains (map line.Hit hits ++ said ∷ []) x → said ≡ x
+behind_hits x other [] said k = one_in said x k
+behind_hits x other (h ∷ hs) said k = elim (first_or_rest (line.Hit h) (map line.Hit hs ++ said ∷ []) x k) [
+  | inl e ↦ absurd (other h e)
+  | inr m ↦ behind_hits x other hs said m
+]
+
+pub hit_or_more : (id : ℕ) → line.Hit id ≡ line.More → ⊥
+hit_or_more id e = cc
+
+hit_or_fault : (id : ℕ) → line.Hit id ≡ line.MemoryFault → ⊥
+hit_or_fault id e = cc
+
+pub end_or_more : (c : Cursor) → page_end true c ≡ line.More → ⊥
+end_or_more c e = cc
+
+end_or_fault : (last : Bool) (c : Cursor) → page_end last c ≡ line.MemoryFault → ⊥
+end_or_fault true c e = cc
+end_or_fault false c e = cc
+
+pub fault_or_more : line.MemoryFault ≡ line.More → ⊥
+fault_or_more e = cc
+
+fault_among : (lines : Lines) → lines ≡ line.MemoryFault ∷ [] → Contains lines line.MemoryFault
+fault_among lines e = subst (λ (l : Lines). Contains l line.MemoryFault) (sym e) (0, omega arith, refl)
+
+-- How a reply moves a cursor: by a page with `more`, or not at all where it found no memory
+pub record IsTurn (lines : Lines) (k : ℕ) (place : Place) (k' : ℕ) (place' : Place) : Type 0 where
+  pub more : Contains lines line.More → (k' ≡ k + 1) × (from : ℕ) × (place' ≡ At from)
+  pub lost : lines ≡ line.MemoryFault ∷ [] → (k' ≡ k) × (place' ≡ place)
+
+page_turn : (c c' : Cursor) (from k : ℕ) (place : Place) (records : List Found) (last : Bool) (hits : List ℕ)
+    (lines : Lines) → lines ≡ map line.Hit hits ++ page_end last c' ∷ []
+    → c'.place ≡ cond last End (At (past from records)) → IsTurn lines k place (k + 1) c'.place
+page_turn c c' from k place records last hits lines said moved = record {
+  more = λ m.
+      let g = goes_on last moved (behind_hits line.More hit_or_more hits (page_end last c')
+      (subst (λ (l : Lines). Contains l line.More) said m)) in
+      (refl, g.0, g.1);
+  lost = λ e. absurd (end_or_fault last c' (behind_hits line.MemoryFault hit_or_fault hits (page_end last c')
+      (subst (λ (l : Lines). Contains l line.MemoryFault) said (fault_among lines e))));
+} where
+  goes_on : (b : Bool) → c'.place ≡ cond b End (At (past from records)) → page_end b c' ≡ line.More
+      → (n : ℕ) × (c'.place ≡ At n)
+  goes_on true q e = absurd (end_or_more c' e)
+  goes_on false q e = (past from records, q)
 
 -- the cursor goes on, and lists the hits among its lines
-pub open_advances : (size : ℕ) (place : Place) (calls its : Calls) (lines : Lines) (c c' : Cursor) (hits : List ℕ)
-    → c.place ≡ place
-    → Advances size place c its lines c' → IsOpen calls c hits → IsOpen (calls ++ its) c' (hits ++ hits_in lines)
-open_advances size End calls its lines c c' hits e a o =
+pub open_advances : (size k : ℕ) (place : Place) (calls its : Calls) (lines : Lines) (c c' : Cursor) (hits : List ℕ)
+    → c.place ≡ place → Advances size place c its lines c' → IsOpen size k calls c hits
+    → (k' : ℕ) × IsTurn lines k c.place k' c'.place × IsOpen size k' (calls ++ its) c' (hits ++ hits_in lines)
+open_advances size k End calls its lines c c' hits e a o =
     let none : hits_in lines ≡ [] = ap hits_in a.0.1 in
-    let same : IsOpen (calls ++ []) c hits = open_passes calls [] c hits tt o in
-    subst (λ (x : Cursor). IsOpen (calls ++ its) x (hits ++ hits_in lines)) (sym a.1)
-    (subst (λ (l : Calls). IsOpen (calls ++ l) c (hits ++ hits_in lines)) (sym a.0.0)
-    (subst (λ (l : List ℕ). IsOpen (calls ++ []) c l)
-    (sym (ap (λ (l : List ℕ). hits ++ l) none ∙ append-nil hits)) same))
-open_advances size (At from) calls its lines c c' hits e (inl t) o =
+    let same : IsOpen size k (calls ++ []) c hits = open_passes size k calls [] c hits tt o in (
+      k,
+      record {
+        more = λ m. absurd (end_or_more c (one_in (page_end true c) line.More
+            (subst (λ (l : Lines). Contains l line.More) a.0.1 m)));
+        lost = λ q. (refl, ap (λ (x : Cursor). x.place) a.1);
+      },
+      subst (λ (x : Cursor). IsOpen size k (calls ++ its) x (hits ++ hits_in lines)) (sym a.1)
+          (subst (λ (l : Calls). IsOpen size k (calls ++ l) c (hits ++ hits_in lines)) (sym a.0.0)
+          (subst (λ (l : List ℕ). IsOpen size k (calls ++ []) c l)
+          (sym (ap (λ (l : List ℕ). hits ++ l) none ∙ append-nil hits)) same)),
+    )
+open_advances size k (At from) calls its lines c c' hits e (inl t) o =
     let listed : hits_in lines ≡ t.hits =
-    ap hits_in t.said ∙ hits_listed t.hits (page_end t.last c') (no_hit t.last c') in
-    subst (λ (x : Cursor). IsOpen (calls ++ its) x (hits ++ hits_in lines)) (sym t.moved)
-    (subst (λ (l : Calls). IsOpen (calls ++ l) (after_page c from t.records t.last t.hits) (hits ++ hits_in lines))
-    (sym t.made)
-    (subst (λ (l : List ℕ). IsOpen (calls ++ (Fetch c.slot c.want from size, replies.Page t.records t.last) ∷ [])
-    (after_page c from t.records t.last t.hits) (hits ++ l)) (sym listed)
-    (page_more calls c hits t.hits size from t.records t.last e t.matched o)))
-open_advances size (At from) calls its lines c c' hits e (inr a) o =
+    ap hits_in t.said ∙ hits_listed t.hits (page_end t.last c') (no_hit t.last c') in (
+      k + 1,
+      page_turn c c' from k c.place t.records t.last t.hits lines t.said (ap (λ (x : Cursor). x.place) t.moved),
+      subst (λ (x : Cursor). IsOpen size (k + 1) (calls ++ its) x (hits ++ hits_in lines)) (sym t.moved)
+          (subst (λ (l : Calls). IsOpen size (k + 1) (calls ++ l) (after_page c from t.records t.last t.hits)
+          (hits ++ hits_in lines)) (sym t.made)
+          (subst (λ (l : List ℕ). IsOpen size (k + 1)
+          (calls ++ (Fetch c.slot c.want from size, replies.Page t.records t.last) ∷ [])
+          (after_page c from t.records t.last t.hits) (hits ++ l)) (sym listed)
+          (page_more size k calls c hits t.hits from t.records t.last e t.matched o).0)),
+    )
+open_advances size k (At from) calls its lines c c' hits e (inr a) o =
     let none : hits_in lines ≡ [] = ap hits_in a.1 in
-    let same : IsOpen (calls ++ (Fetch c.slot c.want from size, replies.NoMemory) ∷ []) c hits =
-    open_passes calls ((Fetch c.slot c.want from size, replies.NoMemory) ∷ []) c hits (refl, refl, tt) o in
-    subst (λ (x : Cursor). IsOpen (calls ++ its) x (hits ++ hits_in lines)) (sym a.2)
-    (subst (λ (l : Calls). IsOpen (calls ++ l) c (hits ++ hits_in lines)) (sym a.0)
-    (subst (λ (l : List ℕ). IsOpen (calls ++ (Fetch c.slot c.want from size, replies.NoMemory) ∷ []) c l)
-    (sym (ap (λ (l : List ℕ). hits ++ l) none ∙ append-nil hits)) same))
+    let same : IsOpen size k (calls ++ (Fetch c.slot c.want from size, replies.NoMemory) ∷ []) c hits =
+    open_passes size k calls ((Fetch c.slot c.want from size, replies.NoMemory) ∷ []) c hits (refl, refl, tt) o in (
+      k,
+      record {
+        more = λ m. absurd (fault_or_more (one_in line.MemoryFault line.More
+            (subst (λ (l : Lines). Contains l line.More) a.1 m)));
+        lost = λ q. (refl, ap (λ (x : Cursor). x.place) a.2);
+      },
+      subst (λ (x : Cursor). IsOpen size k (calls ++ its) x (hits ++ hits_in lines)) (sym a.2)
+          (subst (λ (l : Calls). IsOpen size k (calls ++ l) c (hits ++ hits_in lines)) (sym a.0)
+          (subst (λ (l : List ℕ). IsOpen size k (calls ++ (Fetch c.slot c.want from size, replies.NoMemory) ∷ []) c l)
+          (sym (ap (λ (l : List ℕ). hits ++ l) none ∙ append-nil hits)) same)),
+    )

@@ -6,9 +6,10 @@ use Rattle.smarts_parse.specs.Pattern.{PatternTerm}
 use Rattle.store_machine.specs.Searches.{At, End, KeepsPin, Place}
 use Rattle.store_machine.specs.declared.machine.Event.TheVariants as events
 use Rattle.store_machine.specs.declared.machine.Reply.TheVariants as replies
+use Rattle.store_machine.specs.Told.{IsTold}
 use Rattle.session_run.specs.Answer.{Advances, IsCutShort, Lines, Lists, Searches, page_end}
 use Rattle.session_run.specs.Cursors.{Calls, Cursor}
-use Rattle.session_run.specs.Dialogue.{AreExchanged, Exchange, IsShown, IsShownIn, IsTold}
+use Rattle.session_run.specs.Dialogue.{AreExchanged, Exchange, IsShown, IsShownIn}
 use Rattle.session_run.specs.Made.{AreHeld, HasSlot}
 use Rattle.session_run.specs.Requests.{Request}
 use Rattle.session_run.proofs.Held.{held-at, held-moved, slot-cases, slot-left, slot-right}
@@ -154,7 +155,7 @@ pub search_keeps : (size slot : ℕ) (pattern : PatternTerm) (calls : Calls) (li
 search_keeps size slot pattern calls lines s apart = subst (KeepsPin slot) (sym s.made) (
   refl,
   keeps-append slot s.pages ((events.Unpin s.slot, replies.Unpinned) ∷ [])
-      (fetches_keep s.slot size slot s.searched.want s.pages s.searched.fetches)
+      (fetches_keep s.slot size slot s.searched.want (At 0) s.place s.pages s.searched.fetches)
       (ne_eqb s.slot slot (λ e. apart (sym e)), tt),
 )
 
@@ -220,7 +221,7 @@ module _ (whole : Calls) (free : AreFree whole) (size : ℕ) where
       (held-moved (IsPinned (calls ++ its)) before after c c' same.slot same.version
       (held_as (IsPinned calls) (IsPinned (calls ++ its)) (λ s. KeepsPin s its) (before ++ c ∷ after)
       (λ s v p k. pinned_more calls its s v k p)
-      (λ s v k p. fetches_keep c.slot size s c.want its fetches) (subst (AreHeld (IsPinned calls)) named.place h)))
+      (λ s v k p. fetches_keep c.slot size s c.want c.place fetches.0 its fetches.1) (subst (AreHeld (IsPinned calls)) named.place h)))
   pins_then calls its later cursors cursors' request lines w (Closed name before after c is named made said now) h =
       let r = held_drop (IsPinned calls) before after c (subst (AreHeld (IsPinned calls)) named.place h) in
       subst (AreHeld (IsPinned (calls ++ its))) (sym now)

@@ -6,50 +6,51 @@ use Rattle.io_edge.specs.Sink.{AppendsPrefix}
 use Rattle.io_edge.specs.Lines.{TextLine, Reading, lines_of, lines_left}
 use Rattle.shell_lang.specs.Reply.{text_of}
 use Rattle.session_run.specs.Answer.{Lines, RequestAnswer}
-use Rattle.session_run.specs.Cursors.{Calls, Cursor, unpins}
+use Rattle.session_run.specs.Cursors.{Calls, Cursor}
+use Rattle.session_run.specs.Dialogue.{AreExchanged, Exchange, replies_of, requests_of}
 use Rattle.session_run.specs.Requests.{Request, BeginWith, BeginWithAll, IsPartOfRequest}
-use Rattle.session_run.specs.Served.{IsInputFault, TakesExactly, WritesForTaken}
-use Rattle.session_run.specs.Serving.{AnswersTaken, AnswersWhole, Ends, IsFresh, Serves}
-use Rattle.session_run.specs.Transcript.{AreAnswered, IsPrefixOf, Stops}
+use Rattle.session_run.specs.Served.{IsInputFault, TakesAll, TakesAtMost, TakesExactly, WritesForTaken}
+use Rattle.session_run.specs.Serving.{AnswersTaken, Ends, IsFresh, Script, Serves}
+use Rattle.session_run.specs.Transcript.{IsDialogue, IsPrefixOf, Stops, InAnswer}
 use Rattle.session_run.specs.Turn.{ReadsOn, TakesNone, TakesPart, TakesRequest, Turns}
 use Rattle.session_run.specs.declared.settings.EndStatus.{EndStatus}
 use Rattle.session_run.specs.declared.settings.EndStatus.TheVariants.{Done, SourceFault, SinkFault, NoMemory, InputTooLong, Worn}
 use Rattle.session_run.proofs.Continued.{leaves, none_more}
 use Rattle.session_run.proofs.Wholes.{all_whole}
 
-pub begin_more : (all lines left : List TextLine) (requests : List Request) (request : Request)
-    → BeginWithAll all requests lines
-    → BeginWith lines request left → BeginWithAll all (requests ++ request ∷ []) left
-begin_more all lines left [] request b t =
-    (left, subst (λ (l : List TextLine). BeginWith l request left) (sym b) t, refl)
-begin_more all lines left (r ∷ rs) request b t = (b.0, b.1, begin_more b.0 lines left rs request b.2 t)
+pub begin_more : (all lines left : List TextLine) (xs : List Exchange) (x : Exchange)
+    → BeginWithAll all (requests_of xs) lines
+    → BeginWith lines x.request left → BeginWithAll all (requests_of (xs ++ x ∷ [])) left
+begin_more all lines left [] x b t =
+    (left, subst (λ (l : List TextLine). BeginWith l x.request left) (sym b) t, refl)
+begin_more all lines left (y ∷ ys) x b t = (b.0, b.1, begin_more b.0 lines left ys x b.2 t)
 
-pub answers_more : (size : ℕ) (first between after : List Cursor) (requests : List Request) (request : Request)
-    (calls its : Calls) (text : List ℕ) (lines : Lines)
-    → AreAnswered size first requests calls text between → RequestAnswer size between request its lines after
-    → AreAnswered size first (requests ++ request ∷ []) (calls ++ its) (text ++ text_of lines) after
-answers_more size first between after [] request calls its text lines h a = (
+pub exchanged_more : (size : ℕ) (first between after : List Cursor) (xs : List Exchange) (x : Exchange)
+    (calls its : Calls)
+    → AreExchanged size first xs calls between → RequestAnswer size between x.request its x.lines after
+    → AreExchanged size first (xs ++ x ∷ []) (calls ++ its) after
+exchanged_more size first between after [] x calls its h a = (
   its,
   [],
-  lines,
-  [],
   after,
-  subst (λ (c : List Cursor). RequestAnswer size c request its lines after) h.2 a,
+  subst (λ (c : List Cursor). RequestAnswer size c x.request its x.lines after) h.1 a,
   ap (λ l. l ++ its) h.0 ∙ sym (append-nil its),
-  ap (λ t. t ++ text_of lines) h.1 ∙ sym (append-nil (text_of lines)),
-  (refl, refl, refl),
+  (refl, refl),
 )
-answers_more size first between after (r ∷ rs) request calls its text lines h a = (
+exchanged_more size first between after (y ∷ ys) x calls its h a = (
   h.0,
   h.1 ++ its,
   h.2,
-  h.3 ++ text_of lines,
-  h.4,
-  h.5,
-  ap (λ l. l ++ its) h.6 ∙ append_assoc h.0 h.1 its,
-  ap (λ t. t ++ text_of lines) h.7 ∙ append_assoc (text_of h.2) h.3 (text_of lines),
-  answers_more size h.4 between after rs request h.1 its h.3 lines h.8 a,
+  h.3,
+  ap (λ l. l ++ its) h.4 ∙ append_assoc h.0 h.1 its,
+  exchanged_more size h.2 between after ys x h.1 its h.5 a,
 )
+
+pub replies_more : (xs : List Exchange) (x : Exchange)
+    → replies_of (xs ++ x ∷ []) ≡ replies_of xs ++ text_of x.lines
+replies_more [] x = append-nil (text_of x.lines)
+replies_more (y ∷ ys) x = ap (λ l. text_of y.lines ++ l) (replies_more ys x)
+    ∙ sym (append_assoc (text_of y.lines) (replies_of ys) (text_of x.lines))
 
 -- what was answered of a script, and how its source goes on, however that is
 pub record Told (size : ℕ) (input old : List ℕ) (now put : Option (List ℕ)) (reading : Reading) (calls : Calls)
@@ -57,13 +58,14 @@ pub record Told (size : ℕ) (input old : List ℕ) (now put : Option (List ℕ)
   pub got : List ℕ
   pub left : List ℕ
   pub done : List ℕ
-  pub requests : List Request
+  pub exchanges : List Exchange
   pub left_is : now ≡ Some left
   pub put_is : put ≡ Some (old ++ done)
   pub split : input ≡ got ++ left
   pub begin : (rest : List ℕ) → (IsTrue reading.ended → rest ≡ [])
-      → BeginWithAll (lines_of (got ++ rest)) requests (lines_left reading rest)
-  pub answered : AreAnswered size [] requests calls done cursors
+      → BeginWithAll (lines_of (got ++ rest)) (requests_of exchanges) (lines_left reading rest)
+  pub exchanged : AreExchanged size [] exchanges calls cursors
+  pub said : done ≡ replies_of exchanges
   pub ended : IsTrue reading.ended → left ≡ []
 
 -- A session under way: what was left and put at its start and is now, how far its source was read, its calls and its
@@ -73,7 +75,7 @@ pub record IsUnderWay (size limit : ℕ) (before now put0 put : Option (List ℕ
   pub told : (input old : List ℕ) → before ≡ Some input → put0 ≡ Some old
       → Told size input old now put reading calls cursors
   pub taken : (input : List ℕ) → before ≡ Some input → (got l : List ℕ) × (input ≡ got ++ l) × (now ≡ Some l)
-      × (length got ≡ reading.taken)
+      × (length got ≡ reading.taken) × (IsTrue reading.ended → l ≡ [])
   pub limit_is : reading.limit ≡ limit
   pub within : reading.taken ≤ reading.limit
 
@@ -99,15 +101,17 @@ under_way-start size before put r cursors fresh none = record {
     got = [];
     left = input;
     done = [];
-    requests = [];
+    exchanges = [];
     left_is = p;
     put_is = q ∙ ap Some (sym (append-nil old));
     split = refl;
     begin = λ rest met. left rest;
-    answered = (refl, refl, none);
+    exchanged = (refl, none);
+    said = refl;
     ended = λ ended. absurd (false_is_not_true (rw fresh.unended at ended));
   };
-  taken = λ input p. ([], input, refl, p, sym fresh.untaken);
+  taken = λ input p.
+      ([], input, refl, p, sym fresh.untaken, λ ended. absurd (false_is_not_true (rw fresh.unended at ended)));
   limit_is = refl;
   within = omega (arith, fresh.untaken);
 } where
@@ -134,23 +138,25 @@ module _ (size limit : ℕ) (before now put0 put : Option (List ℕ)) (r : Readi
         let t = u.told input old p q in
         let k = leaves t.left reads.got now now' t.left_is reads.leaves in
         let a : put' ≡ Some ((old ++ t.done) ++ text_of lines) = appended (old ++ t.done) (text_of lines) put put'
-        t.put_is appends in record {
+        t.put_is appends in
+        let x : Exchange = record { request = request; lines = lines } in record {
           got = t.got ++ reads.got;
           left = k.0;
           done = t.done ++ text_of lines;
-          requests = t.requests ++ request ∷ [];
+          exchanges = t.exchanges ++ x ∷ [];
           left_is = k.1;
           put_is = a ∙ ap Some (append_assoc old t.done (text_of lines));
           split = t.split ∙ (ap (λ x. t.got ++ x) k.2 ∙ sym (append_assoc t.got reads.got k.0));
           begin = λ rest met.
               let none : IsTrue r.ended → reads.got ++ rest ≡ [] =
               (λ e. none_more reads.got k.0 rest (sym k.2 ∙ t.ended e) (met (reads.ended e))) in
-              subst (λ (x : List ℕ). BeginWithAll (lines_of x) (t.requests ++ request ∷ []) (lines_left r' rest))
+              subst (λ (b : List ℕ). BeginWithAll (lines_of b) (requests_of (t.exchanges ++ x ∷ [])) (lines_left r' rest))
               (sym (append_assoc t.got reads.got rest))
               (begin_more (lines_of (t.got ++ (reads.got ++ rest))) (lines_left r (reads.got ++ rest))
-              (lines_left r' rest) t.requests request (t.begin (reads.got ++ rest) none)
+              (lines_left r' rest) t.exchanges x (t.begin (reads.got ++ rest) none)
               (takes t.left k.0 reads.got t.left_is k.1 k.2 t.ended rest met));
-          answered = answers_more size [] cursors cursors' t.requests request calls its t.done lines t.answered answers;
+          exchanged = exchanged_more size [] cursors cursors' t.exchanges x calls its t.exchanged answers;
+          said = ap (λ l. l ++ text_of lines) t.said ∙ sym (replies_more t.exchanges x);
           ended = reads.met t.left k.0 t.left_is k.1 t.ended;
         };
     taken = λ input p.
@@ -161,63 +167,71 @@ module _ (size limit : ℕ) (before now put0 put : Option (List ℕ)) (r : Readi
           t.2 ∙ (ap (λ x. t.0 ++ x) k.2 ∙ sym (append_assoc t.0 reads.got k.0)),
           k.1,
           omega (arith, length-append t.0 reads.got, t.4, reads.counts.taken),
+          reads.met t.1 k.0 t.3 k.1 t.5,
         );
     limit_is = reads.counts.limit ∙ u.limit_is;
     within = reads.counts.within;
   }
 
   -- the script's requests so far
-  begun : (input old : List ℕ) → (t : Told size input old now put r calls cursors)
-      → BeginWithAll (lines_of input) t.requests (lines_left r t.left)
-  begun input old t = subst (λ (x : List ℕ). BeginWithAll (lines_of x) t.requests (lines_left r t.left)) (sym t.split)
-      (t.begin t.left t.ended)
+  dialogue : (input old : List ℕ) → (t : Told size input old now put r calls cursors)
+      → IsDialogue size (lines_of input) (lines_left r t.left) calls t.done cursors
+  dialogue input old t = record {
+    exchanges = t.exchanges;
+    begin = subst (λ (x : List ℕ). BeginWithAll (lines_of x) (requests_of t.exchanges) (lines_left r t.left))
+        (sym t.split) (t.begin t.left t.ended);
+    exchanged = t.exchanged;
+    said = t.said;
+  }
 
-  serves_told : (status : EndStatus) (put' : Option (List ℕ)) (all : Calls) (cursors' : List Cursor)
+  script_told : (status : EndStatus) (put' : Option (List ℕ)) (all : Calls) (cursors' : List Cursor)
       → ((input old : List ℕ) → before ≡ Some input → put0 ≡ Some old → (t : List ℕ) × (put' ≡ Some (old ++ t))
       × Ends status size (lines_of input) all cursors' t)
-      → Serves status size before put0 put' all cursors'
-  serves_told status put' all cursors' f = by before put0 refl refl where
-    by : (b q : Option (List ℕ)) → before ≡ b → put0 ≡ q → Serves status size b q put' all cursors'
+      → Script status size before put0 put' all cursors'
+  script_told status put' all cursors' f = by before put0 refl refl where
+    by : (b q : Option (List ℕ)) → before ≡ b → put0 ≡ q → Script status size b q put' all cursors'
     by None q e d = tt
     by (Some input) None e d = tt
     by (Some input) (Some old) e d = f input old e d
 
+  -- nothing more was put
+  put_here : (input old : List ℕ) → (t : Told size input old now put r calls cursors) → (put' : Option (List ℕ))
+      → Appends put put' [] → put' ≡ Some (old ++ t.done)
+  put_here input old t put' appends =
+      let a : put' ≡ Some ((old ++ t.done) ++ []) = appended (old ++ t.done) [] put put' t.put_is appends in
+      a ∙ ap Some (append-nil (old ++ t.done))
+
   -- the input was answered to its end
-  pub serves-done : (put' : Option (List ℕ)) → TakesNone r now → Appends put put' []
-      → Serves Done size before put0 put' calls cursors
-  serves-done put' none appends = serves_told Done put' calls cursors (λ input old p q.
-      let t = u.told input old p q in
-      let a : put' ≡ Some ((old ++ t.done) ++ []) = appended (old ++ t.done) [] put put' t.put_is appends in (
+  pub script-done : (put' : Option (List ℕ)) → TakesNone r now → Appends put put' []
+      → Script Done size before put0 put' calls cursors
+  script-done put' none appends = script_told Done put' calls cursors (λ input old p q.
+      let t = u.told input old p q in (
         t.done,
-        a ∙ ap Some (append-nil (old ++ t.done)),
-        (
-          t.requests,
-          subst (BeginWithAll (lines_of input) t.requests) (none t.left t.left_is t.ended) (begun input old t),
-          t.answered,
-        ),
+        put_here input old t put' appends,
+        subst (λ (l : List TextLine). IsDialogue size (lines_of input) l calls t.done cursors)
+            (none t.left t.left_is t.ended) (dialogue input old t),
       ))
 
   -- nothing more was asked
   answered-here : (put' : Option (List ℕ)) → Appends put put' [] → (input old : List ℕ) → before ≡ Some input
-      → put0 ≡ Some old → (t : List ℕ) × (put' ≡ Some (old ++ t)) × AnswersWhole size (lines_of input) calls cursors t
+      → put0 ≡ Some old → (t : List ℕ) × (put' ≡ Some (old ++ t)) × (left : List TextLine)
+      × IsDialogue size (lines_of input) left calls t cursors
   answered-here put' appends input old p q =
       let t = u.told input old p q in
-      let a : put' ≡ Some ((old ++ t.done) ++ []) = appended (old ++ t.done) [] put put' t.put_is appends in (
-        t.done,
-        a ∙ ap Some (append-nil (old ++ t.done)),
-        (t.requests, lines_left r t.left, begun input old t, t.answered),
-      )
+      (t.done, put_here input old t put' appends, lines_left r t.left, dialogue input old t)
 
-  pub serves-source_fault : (put' : Option (List ℕ)) → Appends put put' []
-      → Serves SourceFault size before put0 put' calls cursors
-  serves-source_fault put' appends = serves_told SourceFault put' calls cursors (answered-here put' appends)
+  pub script-source_fault : (put' : Option (List ℕ)) → Appends put put' []
+      → Script SourceFault size before put0 put' calls cursors
+  script-source_fault put' appends = script_told SourceFault put' calls cursors
+      (λ input old p q. let t = answered-here put' appends input old p q in (t.0, t.1, (t.2, t.3)))
 
-  pub serves-too_long : (put' : Option (List ℕ)) → Appends put put' []
-      → Serves InputTooLong size before put0 put' calls cursors
-  serves-too_long put' appends = serves_told InputTooLong put' calls cursors (answered-here put' appends)
+  pub script-too_long : (put' : Option (List ℕ)) → Appends put put' []
+      → Script InputTooLong size before put0 put' calls cursors
+  script-too_long put' appends = script_told InputTooLong put' calls cursors
+      (λ input old p q. let t = answered-here put' appends input old p q in (t.0, t.1, (t.2, t.3)))
 
   -- no whole request was left
-  answered_taken : (now' put' : Option (List ℕ)) (r' : Reading) (f f' : ℕ) → ReadsOn now now' f f' r r'
+  pub answered_taken : (now' put' : Option (List ℕ)) (r' : Reading) (f f' : ℕ) → ReadsOn now now' f f' r r'
       → TakesPart r r' now now' IsPartOfRequest → Appends put put' []
       → WritesForTaken before now' put0 put' (AnswersTaken size calls cursors)
   answered_taken now' put' r' f f' reads part appends = by before put0 refl refl where
@@ -236,7 +250,6 @@ module _ (size limit : ℕ) (before now put0 put : Option (List ℕ)) (r : Readi
     by (Some input) (Some old) e d =
         let t = u.told input old e d in
         let k = leaves t.left reads.got now now' t.left_is reads.leaves in
-        let a : put' ≡ Some ((old ++ t.done) ++ []) = appended (old ++ t.done) [] put put' t.put_is appends in
         let more : IsTrue r'.ended → 10 ∷ [] ≡ [] =
         (λ e. absurd (false_is_not_true (rw part.awaits.not_ended at e))) in
         let none : IsTrue r.ended → reads.got ++ 10 ∷ [] ≡ [] =
@@ -249,20 +262,36 @@ module _ (size limit : ℕ) (before now put0 put : Option (List ℕ)) (r : Readi
           k.1,
           (
             t.done,
-            a ∙ ap Some (append-nil (old ++ t.done)),
+            put_here input old t put' appends,
             (
-              t.requests,
-              all_whole (t.got ++ reads.got) t.requests part.part r' part.is part.awaits
-                  (subst (λ (x : List ℕ). BeginWithAll (lines_of x) t.requests (part.part ++ lines_left r' (10 ∷ [])))
+              t.exchanges,
+              all_whole (t.got ++ reads.got) (requests_of t.exchanges) part.part r' part.is part.awaits
+                  (subst (λ (x : List ℕ). BeginWithAll (lines_of x) (requests_of t.exchanges)
+                  (part.part ++ lines_left r' (10 ∷ [])))
                   (sym (append_assoc t.got reads.got (10 ∷ [])))
-                  (subst (BeginWithAll (lines_of (t.got ++ (reads.got ++ 10 ∷ []))) t.requests) left begin)),
-              t.answered,
+                  (subst (BeginWithAll (lines_of (t.got ++ (reads.got ++ 10 ∷ []))) (requests_of t.exchanges)) left
+                  begin)),
+              t.exchanged,
+              t.said,
             ),
           ),
         )
 
+  -- the next request's lines
+  next_begins : (now' : Option (List ℕ)) (r' : Reading) (f f' : ℕ) (request : Request)
+      → ReadsOn now now' f f' r r' → TakesRequest r r' now now' request → (input old : List ℕ)
+      → (t : Told size input old now put r calls cursors)
+      → (more : List TextLine) × BeginWith (lines_left r t.left) request more
+  next_begins now' r' f f' request reads takes input old t =
+      let k = leaves t.left reads.got now now' t.left_is reads.leaves in (
+        lines_left r' k.0,
+        subst (λ (x : List ℕ). BeginWith (lines_left r x) request (lines_left r' k.0)) (sym k.2)
+            (takes t.left k.0 reads.got t.left_is k.1 k.2 t.ended k.0
+            (reads.met t.left k.0 t.left_is k.1 t.ended)),
+      )
+
   -- a request was answered, and a part of its reply was put
-  stops-part : (now' put' : Option (List ℕ)) (r' : Reading) (f f' : ℕ) (request : Request) (its : Calls)
+  pub stops-part : (now' put' : Option (List ℕ)) (r' : Reading) (f f' : ℕ) (request : Request) (its : Calls)
       (lines : Lines) (cursors' : List Cursor)
       → ReadsOn now now' f f' r r' → TakesRequest r r' now now' request
       → RequestAnswer size cursors request its lines cursors' → AppendsPrefix put put' (text_of lines)
@@ -270,80 +299,36 @@ module _ (size limit : ℕ) (before now put0 put : Option (List ℕ)) (r : Readi
       × Stops size (lines_of input) (calls ++ its) t cursors'
   stops-part now' put' r' f f' request its lines cursors' reads takes answers part input old p q =
       let t = u.told input old p q in
-      let k = leaves t.left reads.got now now' t.left_is reads.leaves in
+      let n = next_begins now' r' f f' request reads takes input old t in
       let a : put' ≡ Some ((old ++ t.done) ++ part.0) = appended (old ++ t.done) part.0 put put' t.put_is part.3 in (
         t.done ++ part.0,
         a ∙ ap Some (append_assoc old t.done part.0),
         record {
-          requests = t.requests;
           left = lines_left r t.left;
-          begin = begun input old t;
           own = calls;
           replies = t.done;
           cursors_open = cursors;
-          answered = t.answered;
-          last = inr (
-            request,
-            lines_left r' k.0,
-            subst (λ (x : List ℕ). BeginWith (lines_left r x) request (lines_left r' k.0)) (sym k.2)
-                (takes t.left k.0 reads.got t.left_is k.1 k.2 t.ended k.0
-                (reads.met t.left k.0 t.left_is k.1 t.ended)),
-            its,
-            lines,
-            part.0,
-            answers,
-            refl,
-            (part.1, sym part.2),
-            refl,
-          );
+          answered = dialogue input old t;
+          last = inr
+              (request, n.0, n.1, its, lines, part.0, answers, refl, (part.1, sym part.2), refl);
         },
       )
 
-  pub serves-sink_fault : (now' put' : Option (List ℕ)) (r' : Reading) (f f' : ℕ) (request : Request) (its : Calls)
-      (lines : Lines) (cursors' : List Cursor)
-      → ReadsOn now now' f f' r r' → TakesRequest r r' now now' request
-      → RequestAnswer size cursors request its lines cursors' → AppendsPrefix put put' (text_of lines)
-      → Serves SinkFault size before put0 put' (calls ++ its) cursors'
-  serves-sink_fault now' put' r' f f' request its lines cursors' reads takes answers part =
-      serves_told SinkFault put' (calls ++ its) cursors'
-      (stops-part now' put' r' f f' request its lines cursors' reads takes answers part)
-
-  pub serves-no_memory : (now' put' : Option (List ℕ)) (r' : Reading) (f f' : ℕ) (request : Request) (its : Calls)
-      (lines : Lines) (cursors' : List Cursor)
-      → ReadsOn now now' f f' r r' → TakesRequest r r' now now' request
-      → RequestAnswer size cursors request its lines cursors' → AppendsPrefix put put' (text_of lines)
-      → Serves NoMemory size before put0 put' (calls ++ its) cursors'
-  serves-no_memory now' put' r' f f' request its lines cursors' reads takes answers part =
-      serves_told NoMemory put' (calls ++ its) cursors'
-      (stops-part now' put' r' f f' request its lines cursors' reads takes answers part)
-
   -- in the answer to a request the service was worn
-  pub serves-worn : (now' put' : Option (List ℕ)) (r' : Reading) (f f' : ℕ) (request : Request) (some whole : Calls)
+  pub script-worn : (now' put' : Option (List ℕ)) (r' : Reading) (f f' : ℕ) (request : Request) (some whole : Calls)
       (lines : Lines) (after cursors' : List Cursor)
       → ReadsOn now now' f f' r r' → TakesRequest r r' now now' request → IsPrefixOf some whole
       → RequestAnswer size cursors request whole lines after → Appends put put' []
-      → Serves Worn size before put0 put' (calls ++ some) cursors'
-  serves-worn now' put' r' f f' request some whole lines after cursors' reads takes begins answers appends =
-      serves_told Worn put' (calls ++ some) cursors' (λ input old p q.
-      let s = stops-part now' put' r' f f' request whole lines after reads takes answers
-      ([], text_of lines, refl, appends) input old p q in (
-        s.0,
-        s.1,
-        (
-          (calls ++ whole) ++ unpins after,
-          (
-            begins.0 ++ unpins after,
-            longer begins.0 begins.1
-                (unpins after),
-          ),
-          (calls ++ whole, after, s.2, refl),
-        ),
-      )) where
-        longer : (rest : Calls) → some ++ rest ≡ whole → (more : Calls)
-            → (calls ++ some) ++ (rest ++ more) ≡ (calls ++ whole) ++ more
-        longer rest e more = append_assoc calls some (rest ++ more)
-            ∙ (ap (λ l. calls ++ l) (sym (append_assoc some rest more) ∙ ap (λ l. l ++ more) e)
-            ∙ sym (append_assoc calls whole more))
+      → Script Worn size before put0 put' (calls ++ some) cursors'
+  script-worn now' put' r' f f' request some whole lines after cursors' reads takes begins answers appends =
+      script_told Worn put' (calls ++ some) cursors' (λ input old p q.
+      let t = u.told input old p q in
+      let n = next_begins now' r' f f' request reads takes input old t in (
+        t.done,
+        put_here input old t put' appends,
+        InAnswer (lines_left r t.left) n.0 calls whole some cursors after request lines (dialogue input old t) n.1
+            answers begins refl,
+      ))
 
   -- as many bytes were taken as may be
   pub takes_all : (now' : Option (List ℕ)) (r' : Reading) (f f' : ℕ) → ReadsOn now now' f f' r r'
@@ -361,6 +346,41 @@ module _ (size limit : ℕ) (before now put0 put : Option (List ℕ)) (r : Readi
           omega (arith, length-append t.0 reads.got, t.4, reads.counts.taken, reads.counts.limit, u.limit_is, full),
         )
 
+  -- no more were taken
+  pub takes_within : (now' : Option (List ℕ)) (r' : Reading) (f f' : ℕ) → ReadsOn now now' f f' r r'
+      → TakesAtMost before now' limit
+  takes_within now' r' f f' reads = by before refl where
+    by : (b : Option (List ℕ)) → before ≡ b → TakesAtMost b now' limit
+    by None e = tt
+    by (Some input) e =
+        let t = u.taken input e in
+        let k = leaves t.1 reads.got now now' t.3 reads.leaves in (
+          t.0 ++ reads.got,
+          k.0,
+          t.2 ∙ (ap (λ x. t.0 ++ x) k.2 ∙ sym (append_assoc t.0 reads.got k.0)),
+          k.1,
+          omega (
+            arith,
+            length-append t.0 reads.got,
+            t.4,
+            reads.counts.taken,
+            reads.counts.limit,
+            u.limit_is,
+            reads.counts.within,
+          ),
+        )
+
+  -- the source's end was met
+  pub takes_whole : (now' : Option (List ℕ)) (r' : Reading) (f f' : ℕ) → ReadsOn now now' f f' r r'
+      → IsTrue r'.ended → TakesAll before now'
+  takes_whole now' r' f f' reads ended = by before refl where
+    by : (b : Option (List ℕ)) → before ≡ b → TakesAll b now'
+    by None e = tt
+    by (Some input) e =
+        let t = u.taken input e in
+        let k = leaves t.1 reads.got now now' t.3 reads.leaves in
+        k.1 ∙ ap Some (reads.met t.1 k.0 t.3 k.1 t.5 ended)
+
 -- a count that rose since a later moment rose since an earlier one
 pub Rose-since : (a b c : ℕ) → a ≤ b → Rose b c → Rose a c
 Rose-since a b c le (inl lt) = inl (omega arith)
@@ -370,71 +390,64 @@ module _ (size limit : ℕ) (before now put0 put : Option (List ℕ)) (r : Readi
     (cursors : List Cursor) (u : IsUnderWay size limit before now put0 put r calls cursors)
     (Made More : Calls → Type 0) (more : (its : Calls) → Made its → More (calls ++ its)) (now' put' : Option (List ℕ))
     (r' : Reading) (f f' : ℕ) (cursors' : List Cursor) (reads : ReadsOn now now' f f' r r') where
-  taken_by : Made [] → cursors' ≡ cursors → Appends put put' [] → TakesPart r r' now now' IsPartOfRequest
-      → (all : Calls) × More all × WritesForTaken before now' put0 put' (AnswersTaken size all cursors')
-  taken_by made same appends part = (
+  -- nothing was asked in the turn
+  quiet : (end : EndStatus) → Made [] → cursors' ≡ cursors → Serves end size before now' put0 put' calls cursors
+      → (all : Calls) × More all × Serves end size before now' put0 put' all cursors'
+  quiet end made same s = (
     calls ++ [],
     more [] made,
-    subst (λ (l : Calls). WritesForTaken before now' put0 put' (AnswersTaken size l cursors')) (sym (append-nil calls))
-        (subst (λ (c : List Cursor). WritesForTaken before now' put0 put' (AnswersTaken size calls c)) (sym same)
-        (answered_taken size limit before now put0 put r calls cursors u now' put' r' f f' reads part appends)),
+    subst (λ (l : Calls). Serves end size before now' put0 put' l cursors') (sym (append-nil calls))
+        (subst (λ (c : List Cursor). Serves end size before now' put0 put' calls c) (sym same) s),
   )
 
   -- a turn with which the session ends
   pub serves-turn : (end : EndStatus) → Turns size Made (TakesRequest r r' now now') (TakesNone r now) cursors
       cursors' put put' (Some end)
-      → (all : Calls) × More all × Serves end size before put0 put' all cursors'
-  serves-turn Done t = (
-    calls ++ [],
-    more [] t.1,
-    subst (λ (l : Calls). Serves Done size before put0 put' l cursors') (sym (append-nil calls))
-        (subst (λ (c : List Cursor). Serves Done size before put0 put' calls c) (sym t.2)
-        (serves-done size limit before now put0 put r calls cursors u put' t.0 t.3)),
-  )
-  serves-turn SourceFault t = (
-    calls ++ [],
-    more [] t.0,
-    subst (λ (l : Calls). Serves SourceFault size before put0 put' l cursors') (sym (append-nil calls))
-        (subst (λ (c : List Cursor). Serves SourceFault size before put0 put' calls c) (sym t.1)
-        (serves-source_fault size limit before now put0 put r calls cursors u put' t.2)),
-  )
-  serves-turn InputTooLong t = (
-    calls ++ [],
-    more [] t.0,
-    subst (λ (l : Calls). Serves InputTooLong size before put0 put' l cursors') (sym (append-nil calls))
-        (subst (λ (c : List Cursor). Serves InputTooLong size before put0 put' calls c) (sym t.1)
-        (serves-too_long size limit before now put0 put r calls cursors u put' t.2)),
-  )
-  serves-turn SinkFault t = let a = t.0 in (
+      → (IsInputFault end → TakesPart r r' now now' IsPartOfRequest)
+      → (all : Calls) × More all × Serves end size before now' put0 put' all cursors'
+  serves-turn Done t part = quiet Done t.1 t.2 (record {
+    script = script-done size limit before now put0 put r calls cursors u put' t.0 t.3;
+    taken = λ is. absurd is;
+  })
+  serves-turn SourceFault t part = quiet SourceFault t.0 t.1 (record {
+    script = script-source_fault size limit before now put0 put r calls cursors u put' t.2;
+    taken = λ is.
+        answered_taken size limit before now put0 put r calls cursors u now' put' r' f f' reads (part is) t.2;
+  })
+  serves-turn InputTooLong t part = quiet InputTooLong t.0 t.1 (record {
+    script = script-too_long size limit before now put0 put r calls cursors u put' t.2;
+    taken = λ is.
+        answered_taken size limit before now put0 put r calls cursors u now' put' r' f f' reads (part is) t.2;
+  })
+  serves-turn SinkFault t part = let a = t.0 in (
     calls ++ a.did.calls,
     more a.did.calls a.did.made,
-    serves-sink_fault size limit before now put0 put r calls cursors u now' put' r' f f' a.request a.did.calls
-        a.did.lines cursors' reads a.taken a.did.is t.1,
+    record {
+      script = script_told size limit before now put0 put r calls cursors u SinkFault put' (calls ++ a.did.calls)
+          cursors' (stops-part size limit before now put0 put r calls cursors u now' put' r' f f' a.request a.did.calls
+          a.did.lines cursors' reads a.taken a.did.is t.1);
+      taken = λ is. absurd is;
+    },
   )
-  serves-turn NoMemory t = let a = t.0 in (
+  serves-turn NoMemory t part = let a = t.0 in (
     calls ++ a.did.calls,
     more a.did.calls a.did.made,
-    serves-no_memory size limit before now put0 put r calls cursors u now' put' r' f f' a.request a.did.calls
-        a.did.lines cursors' reads a.taken a.did.is t.1,
+    record {
+      script = script_told size limit before now put0 put r calls cursors u NoMemory put' (calls ++ a.did.calls)
+          cursors' (stops-part size limit before now put0 put r calls cursors u now' put' r' f f' a.request a.did.calls
+          a.did.lines cursors' reads a.taken a.did.is t.1);
+      taken = λ is. absurd is;
+    },
   )
-  serves-turn Worn t = let b = t.0 in (
+  serves-turn Worn t part = let b = t.0 in (
     calls ++ b.worn.calls,
     more b.worn.calls b.worn.made,
-    serves-worn size limit before now put0 put r calls cursors u now' put' r' f f' b.request b.worn.calls b.worn.whole
-        b.worn.lines b.worn.after cursors' reads b.taken b.worn.begins b.worn.is t.1,
+    record {
+      script = script-worn size limit before now put0 put r calls cursors u now' put' r' f f' b.request b.worn.calls
+          b.worn.whole b.worn.lines b.worn.after cursors' reads b.taken b.worn.begins b.worn.is t.1;
+      taken = λ is. absurd is;
+    },
   )
-
-  -- a turn at which the source fails, or its bytes are too many
-  pub taken-turn : (end : EndStatus) → IsInputFault end
-      → Turns size Made (TakesRequest r r' now now') (TakesNone r now) cursors cursors' put put' (Some end)
-      → TakesPart r r' now now' IsPartOfRequest
-      → (all : Calls) × More all × WritesForTaken before now' put0 put' (AnswersTaken size all cursors')
-  taken-turn SourceFault is t part = taken_by t.0 t.1 t.2 part
-  taken-turn InputTooLong is t part = taken_by t.0 t.1 t.2 part
-  taken-turn Done is t part = absurd is
-  taken-turn SinkFault is t part = absurd is
-  taken-turn NoMemory is t part = absurd is
-  taken-turn Worn is t part = absurd is
 
   -- a turn after which it goes on
   pub under_way-turn : Turns size Made (TakesRequest r r' now now') (TakesNone r now) cursors cursors' put put' None

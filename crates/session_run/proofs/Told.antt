@@ -1,178 +1,99 @@
--- A transcript as the replies of a dialogue.
+-- What a session served is true: its dialogue's calls are the first of its calls in the run.
 use Rattle.std.proofs.Common.{◌≡◌, ◌⊎◌, ◌++◌, ◌∙◌, ap, append-nil, append_assoc, inl, inr, List, [], ◌∷◌, refl, subst, sym, ℕ}
 use Rattle.io_edge.specs.Lines.{TextLine}
 use Rattle.shell_lang.specs.Reply.{text_of}
 use Rattle.store_machine.specs.Runs.{calls_of}
-use Rattle.store_machine.specs.declared.machine.Change.{Change}
+use Rattle.store_machine.specs.declared.machine.History.{History}
 use Rattle.session_run.specs.Answer.{Lines, RequestAnswer}
 use Rattle.session_run.specs.Cursors.{Calls, Cursor, unpins}
-use Rattle.session_run.specs.Dialogue.{AreExchanged, Exchange, replies_of, requests_of}
-use Rattle.session_run.specs.Requests.{Request, BeginWith, BeginWithAll}
+use Rattle.session_run.specs.Dialogue.{AreExchanged, Exchange}
+use Rattle.session_run.specs.Requests.{Request, BeginWith}
+use Rattle.session_run.specs.Transcript.{InAnswer, InClosing, IsDialogue, IsPrefixOf, IsTranscript, IsTranscriptPrefix, Stops, WornAt}
 use Rattle.session_run.specs.Served.{IsWholePrefix}
-use Rattle.session_run.specs.Transcript.{AreAnswered, IsPrefixOf, IsTranscript, IsTranscriptPrefix, IsWornPrefix, Stops}
-use Rattle.session_run.specs.Truths.{CursorsAreTrue, DialoguesAreTrue, IsInRun, IsTrueBeginning, IsTruePart, IsTrueTranscript, SearchesAreTrue, ServicesAreTrue}
+use Rattle.session_run.specs.Truths.{AreTrue, DialoguesAreTrue, IsInRun, IsTrueBeginning, IsTrueTranscript, ServicesAreTrue}
 use Rattle.session_run.specs.declared.settings.EndStatus.TheVariants.{Done, SourceFault, SinkFault, NoMemory, InputTooLong, Worn}
-use Rattle.session_run.proofs.Scripts.{answers_more, begin_more}
+use Rattle.session_run.proofs.Scripts.{begin_more, exchanged_more, replies_more}
 
--- the exchanges of requests that were answered
-record Spoken (size : ℕ) (cursors : List Cursor) (requests : List Request) (calls : Calls) (text : List ℕ)
-    (cursors' : List Cursor) : Type 0 where
-  exchanges : List Exchange
-  exchanged : AreExchanged size cursors exchanges calls cursors'
-  requests_are : requests_of exchanges ≡ requests
-  text_is : text ≡ replies_of exchanges
-
-spoken : (size : ℕ) (cursors : List Cursor) (requests : List Request) (calls : Calls) (text : List ℕ)
-    (cursors' : List Cursor)
-    → AreAnswered size cursors requests calls text cursors' → Spoken size cursors requests calls text cursors'
-spoken size cursors [] calls text cursors' a =
-    record { exchanges = []; exchanged = (a.0, a.2); requests_are = refl; text_is = a.1 }
-spoken size cursors (r ∷ rs) calls text cursors' a =
-    let rest = spoken size a.4 rs a.1 a.3 cursors' a.8 in
-    let x : Exchange = record { request = r; lines = a.2 } in
-    record {
-      exchanges = x ∷ rest.exchanges;
-      exchanged = (a.0, a.1, a.4, a.5, a.6, rest.exchanged);
-      requests_are = ap (λ (l : List Request). r ∷ l) rest.requests_are;
-      text_is = a.7 ∙ ap (λ (l : List ℕ). text_of a.2 ++ l) rest.text_is;
-    }
-
--- what a session that stopped early told, with the calls of its dialogue
-record Telling (size : ℕ) (lines : List TextLine) (calls : Calls) (text : List ℕ) : Type 0 where
-  exchanges : List Exchange
-  left : List TextLine
-  begin : BeginWithAll lines (requests_of exchanges) left
-  said : IsPrefixOf text (replies_of exchanges)
-  own : Calls
-  left_open : List Cursor
-  exchanged : AreExchanged size [] exchanges own left_open
-  rest : Calls
-  made : calls ≡ own ++ rest
-
--- requests that were answered by the first calls
-telling : (size : ℕ) (lines : List TextLine) (calls : Calls) (requests : List Request) (left : List TextLine)
-    (own rest : Calls) (text said : List ℕ) (cursors : List Cursor) → calls ≡ own ++ rest
-    → BeginWithAll lines requests left → AreAnswered size [] requests own said cursors → IsPrefixOf text said
-    → Telling size lines calls text
-telling size lines calls requests left own rest text said cursors all begin a part =
-    let k = spoken size [] requests own said cursors a in
-    record {
-      exchanges = k.exchanges;
-      left = left;
-      begin = subst (λ (l : List Request). BeginWithAll lines l left) (sym k.requests_are) begin;
-      said = (part.0, part.1 ∙ k.text_is);
-      own = own;
-      left_open = cursors;
-      exchanged = k.exchanged;
-      rest = rest;
-      made = all;
-    }
-
-tells : (size : ℕ) (lines : List TextLine) (calls own : Calls) (cursors : List Cursor) (text : List ℕ)
-    → calls ≡ own ++ unpins cursors → Stops size lines own text cursors → Telling size lines calls text
-tells size lines calls own cursors text all stops = by stops.last where
-  by : ((own ≡ stops.own) × (text ≡ stops.replies) × (cursors ≡ stops.cursors_open))
-      ⊎ ((request : Request) × (more : List TextLine) × BeginWith stops.left request more
-      × (its : Calls) × (said : Lines) × (part : List ℕ)
-      × RequestAnswer size stops.cursors_open request its said cursors
-      × (own ≡ stops.own ++ its) × IsPrefixOf part (text_of said) × (text ≡ stops.replies ++ part))
-      → Telling size lines calls text
-  by (inl e) = telling size lines calls stops.requests stops.left stops.own (unpins cursors) text stops.replies
-      stops.cursors_open (all ∙ ap (λ (l : Calls). l ++ unpins cursors) e.0) stops.begin stops.answered
-      ([], append-nil text ∙ e.1)
-  by (inr e) =
-      let part : (stops.replies ++ e.5) ++ e.8.0 ≡ stops.replies ++ text_of e.4 =
-      append_assoc stops.replies e.5 e.8.0 ∙ ap (λ (l : List ℕ). stops.replies ++ l) e.8.1 in
-      telling size lines calls (stops.requests ++ e.0 ∷ []) e.1 (stops.own ++ e.3) (unpins cursors) text
-      (stops.replies ++ text_of e.4) cursors (all ∙ ap (λ (l : Calls). l ++ unpins cursors) e.7)
-      (begin_more lines stops.left e.1 stops.requests e.0 stops.begin e.2)
-      (answers_more size [] stops.cursors_open cursors stops.requests e.0 stops.own e.3 stops.replies e.4 stops.answered
-      e.6)
-      (e.8.0, ap (λ (l : List ℕ). l ++ e.8.0) e.9 ∙ part)
-
-module _ (law : DialoguesAreTrue) (size : ℕ) (lines : List TextLine) (h : List Change) (calls : Calls)
+module _ (law : DialoguesAreTrue) (size : ℕ) (lines : List TextLine) (h : History) (calls : Calls)
     (r : IsInRun calls h) where
   -- the law of a dialogue whose calls are the first ones
-  both : (exchanges : List Exchange) (own rest : Calls) (cursors : List Cursor) → calls ≡ own ++ rest
-      → AreExchanged size [] exchanges own cursors → SearchesAreTrue h exchanges × CursorsAreTrue h exchanges
-  both exchanges own rest cursors e a =
+  true_by : (exchanges : List Exchange) (own rest : Calls) (cursors : List Cursor) → calls ≡ own ++ rest
+      → AreExchanged size [] exchanges own cursors → AreTrue h size exchanges
+  true_by exchanges own rest cursors e a =
       let made : calls_of r.own r.steps ≡ own ++ (rest ++ r.more) =
       r.made ∙ (ap (λ (l : Calls). l ++ r.more) e ∙ append_assoc own rest r.more) in
-      subst (λ (g : List Change). SearchesAreTrue g exchanges × CursorsAreTrue g exchanges) (sym r.is)
+      subst (λ (g : History). AreTrue g size exchanges) (sym r.is)
       (law r.before r.after r.steps r.own size exchanges own (rest ++ r.more) cursors r.sound r.run r.calm made a)
 
   whole_true : (text : List ℕ) → IsTranscript size lines calls text → IsTrueTranscript h size lines calls text
-  whole_true text (requests, own, cursors, begin, a, all) =
-      let k = spoken size [] requests own text cursors a in
-      let truths = both k.exchanges own (unpins cursors) cursors all k.exchanged in
-      record {
-        exchanges = k.exchanges;
-        begin = subst (λ (l : List Request). BeginWithAll lines l []) (sym k.requests_are) begin;
-        said = k.text_is;
-        own = own;
-        left_open = cursors;
-        exchanged = k.exchanged;
-        made = (unpins cursors, sym all);
-        searches = truths.0;
-        cursors = truths.1;
-      }
+  whole_true text (own, cursors, d, all) = record {
+    own = own;
+    left_open = cursors;
+    dialogue = d;
+    made = (unpins cursors, sym all);
+    are_true = true_by d.exchanges own (unpins cursors) cursors all d.exchanged;
+  }
 
-  beginning_true : (text : List ℕ) → IsTranscriptPrefix size lines calls text → IsTrueBeginning h size lines calls text
-  beginning_true text (own, cursors, stops, all) =
-      let k = tells size lines calls own cursors text all stops in
-      let truths = both k.exchanges k.own k.rest k.left_open k.made k.exchanged in
-      record {
-        exchanges = k.exchanges;
-        left = k.left;
-        begin = k.begin;
-        said = k.said;
-        own = k.own;
-        left_open = k.left_open;
-        exchanged = k.exchanged;
-        made = (k.rest, sym k.made);
-        searches = truths.0;
-        cursors = truths.1;
-      }
+  -- requests that were answered whole, by the first calls
+  begun : (left : List TextLine) (own rest : Calls) (cursors : List Cursor) (text replies : List ℕ)
+      → calls ≡ own ++ rest → IsDialogue size lines left own replies cursors → IsPrefixOf text replies
+      → IsTrueBeginning h size lines calls text
+  begun left own rest cursors text replies all d part = record {
+    left = left;
+    own = own;
+    replies = replies;
+    left_open = cursors;
+    dialogue = d;
+    said = part;
+    made = (rest, sym all);
+    are_true = true_by d.exchanges own rest cursors all d.exchanged;
+  }
 
-  -- the same of requests that were answered whole
   whole_beginning_true : (text : List ℕ) → IsWholePrefix size lines calls text
       → IsTrueBeginning h size lines calls text
-  whole_beginning_true text (requests, left, own, cursors, begin, a, all) =
-      let k = spoken size [] requests own text cursors a in
-      let truths = both k.exchanges own (unpins cursors) cursors all k.exchanged in
-      record {
-        exchanges = k.exchanges;
-        left = left;
-        begin = subst (λ (l : List Request). BeginWithAll lines l left) (sym k.requests_are) begin;
-        said = ([], append-nil text ∙ k.text_is);
-        own = own;
-        left_open = cursors;
-        exchanged = k.exchanged;
-        made = (unpins cursors, sym all);
-        searches = truths.0;
-        cursors = truths.1;
-      }
+  whole_beginning_true text (left, own, cursors, d, all) =
+      begun left own (unpins cursors) cursors text text all d ([], append-nil text)
 
-  part_true : (text : List ℕ) → IsWornPrefix size lines calls text → IsTruePart h size lines calls text
-  part_true text (whole, among, (own, cursors, stops, all)) =
-      let k = tells size lines whole own cursors text all stops in
-      record {
-        exchanges = k.exchanges;
-        left = k.left;
-        begin = k.begin;
-        said = k.said;
-        own = k.own;
-        left_open = k.left_open;
-        exchanged = k.exchanged;
-        whole = whole;
-        made = (k.rest, sym k.made);
-        among = among;
-        truths = λ front back first between e a inside. both front first inside.0 between (sym inside.1) a;
-      }
+  -- a part of a reply may be the last
+  stopped : (own rest : Calls) (cursors : List Cursor) (text : List ℕ) → calls ≡ own ++ rest
+      → Stops size lines own text cursors → IsTrueBeginning h size lines calls text
+  stopped own rest cursors text all stops = by stops.last where
+    d : IsDialogue size lines stops.left stops.own stops.replies stops.cursors_open
+    d = stops.answered
+
+    by : ((own ≡ stops.own) × (text ≡ stops.replies) × (cursors ≡ stops.cursors_open))
+        ⊎ ((request : Request) × (more : List TextLine) × BeginWith stops.left request more
+        × (its : Calls) × (said : Lines) × (part : List ℕ)
+        × RequestAnswer size stops.cursors_open request its said cursors
+        × (own ≡ stops.own ++ its) × IsPrefixOf part (text_of said) × (text ≡ stops.replies ++ part))
+        → IsTrueBeginning h size lines calls text
+    by (inl e) = begun stops.left stops.own rest stops.cursors_open text stops.replies
+        (all ∙ ap (λ (l : Calls). l ++ rest) e.0) d ([], append-nil text ∙ e.1)
+    by (inr e) =
+        let x : Exchange = record { request = e.0; lines = e.4 } in
+        let part : (stops.replies ++ e.5) ++ e.8.0 ≡ stops.replies ++ text_of e.4 =
+        append_assoc stops.replies e.5 e.8.0 ∙ ap (λ (l : List ℕ). stops.replies ++ l) e.8.1 in
+        begun e.1 (stops.own ++ e.3) rest cursors text (stops.replies ++ text_of e.4)
+        (all ∙ ap (λ (l : Calls). l ++ rest) e.7)
+        (record {
+          exchanges = d.exchanges ++ x ∷ [];
+          begin = begin_more lines stops.left e.1 d.exchanges x d.begin e.2;
+          exchanged = exchanged_more size [] stops.cursors_open cursors d.exchanges x stops.own e.3 d.exchanged e.6;
+          said = ap (λ (l : List ℕ). l ++ text_of e.4) d.said ∙ sym (replies_more d.exchanges x);
+        })
+        (e.8.0, ap (λ (l : List ℕ). l ++ e.8.0) e.9 ∙ part)
+
+  beginning_true : (text : List ℕ) → IsTranscriptPrefix size lines calls text → IsTrueBeginning h size lines calls text
+  beginning_true text (own, cursors, stops, all) = stopped own (unpins cursors) cursors text all stops
+
+  worn_true : (text : List ℕ) → WornAt size lines calls text → IsTrueBeginning h size lines calls text
+  worn_true text (InAnswer left more own its part cursors after request said d next answer first made) =
+      begun left own part cursors text text made d ([], append-nil text)
+  worn_true text (InClosing own part cursors stops first made) = stopped own part cursors text made stops
 
 pub services-are-true : DialoguesAreTrue → ServicesAreTrue
 services-are-true law Done size lines calls text h r is = whole_true law size lines h calls r text is
-services-are-true law Worn size lines calls text h r is = part_true law size lines h calls r text is
+services-are-true law Worn size lines calls text h r is = worn_true law size lines h calls r text is
 services-are-true law SourceFault size lines calls text h r is = whole_beginning_true law size lines h calls r text is
 services-are-true law SinkFault size lines calls text h r is = beginning_true law size lines h calls r text is
 services-are-true law NoMemory size lines calls text h r is = beginning_true law size lines h calls r text is

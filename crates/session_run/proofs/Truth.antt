@@ -1,31 +1,35 @@
 -- Dialogues over a run: what their searches and cursors listed is the history's answer.
-use Rattle.std.proofs.Common.{◌≡◌, ◌++◌, ◌≤◌, ◌∙◌, ap, append-nil, append_assoc, Bool, cond, Contains, false, inl, inr, length, List, [], ◌∷◌, map, refl, subst, sym, true, ℕ}
+use Rattle.std.proofs.Common.{◌≡◌, ◌++◌, ◌+◌, ◌*◌, ◌≤◌, ◌∙◌, ap, append-nil, append_assoc, arith, Bool, cond, Contains, drop, nat_le, take, inl, inr, length, List, [], ◌∷◌, refl, subst, sym, ℕ}
 use Rattle.shell_lang.specs.Command as command
-use Rattle.shell_lang.specs.Command.{Command}
 use Rattle.shell_lang.specs.Reply as line
-use Rattle.shell_lang.specs.Reply.{text_of}
 use Rattle.smarts_parse.specs.Pattern.{PatternTerm}
+use Rattle.store_machine.specs.Answers.{AreFound, AreMatched}
+use Rattle.store_machine.specs.History.{snapshot}
 use Rattle.store_machine.specs.Laws.{IsSound}
 use Rattle.store_machine.specs.Runs.{IsCalm, IsRun, calls_of}
-use Rattle.store_machine.specs.Searches.{At, End, IsSearch, Place, fetched, past}
-use Rattle.store_machine.specs.declared.machine.Change.{Change}
+use Rattle.store_machine.specs.Searches.{ArePieces, At, End, Fetched, IsSearch, Place, fetched, past}
+use Rattle.store_machine.specs.Structures.{IsNeedOf, IsScreened}
+use Rattle.store_machine.specs.declared.machine.History.{History}
 use Rattle.store_machine.specs.declared.machine.Event.{Event}
 use Rattle.store_machine.specs.declared.machine.Event.TheVariants as events
+use Rattle.store_machine.specs.declared.machine.Found.{Found}
 use Rattle.store_machine.specs.declared.machine.Reply.{Reply}
 use Rattle.store_machine.specs.declared.machine.Reply.TheVariants as replies
 use Rattle.store_machine.specs.declared.machine.State.{State}
 use Rattle.store_machine.specs.declared.machine.Step.{Step}
-use Rattle.session_run.specs.Answer.{Advances, IsCutShort, Lines, Lists, Opens, page_end}
+use Rattle.session_run.specs.Answer.{Advances, Lines, Opens, Turns, page_end}
 use Rattle.session_run.specs.Cursors.{Calls, Cursor, IsNoName}
-use Rattle.session_run.specs.Dialogue.{AreExchanged, AreListed, Exchange, IsCommand, IsShown, StaysOpen, hits_in}
+use Rattle.session_run.specs.Dialogue.{AreExchanged, AreListed, AreTurned, Exchange, GivePage, IsCommand, IsShown, StaysOpen, hits_in}
 use Rattle.session_run.specs.Requests.{Request}
 use Rattle.session_run.specs.Texts.{IsPatternOf}
-use Rattle.session_run.specs.Truths.{AreAllHits, CursorsAreTrue, DialoguesAreTrue, IsTrueList, IsUpToDate, SearchesAreHits, SearchesAreTrue}
-use Rattle.session_run.proofs.Followed.{Follows, OneReading, follow_all, follow_new, one_command, places}
-use Rattle.session_run.proofs.Acts.{Closed, Kind, Moved, Opened, Other, Searched, first_or_rest, kind, one_in}
-use Rattle.session_run.proofs.Parting.{Laws, pin_new, slot_free, whole_pages}
-use Rattle.session_run.proofs.Passing.{IsOpen, advances_same, fetches_keep, hits_listed, open_advances}
+use Rattle.session_run.specs.Truths.{AreAllHits, AreTrue, CursorsAreTrue, DialoguesAreTrue, IsPageOf, IsTrueList, IsTruePage, IsUpToDate, PagesAreTrue, SearchesAreHits, SearchesAreTrue}
+use Rattle.session_run.proofs.Followed.{Follows, OneReading, follow_all, follow_new, one_command, places, turn_all}
+use Rattle.session_run.proofs.Acts.{Closed, Kind, Moved, Opened, Other, Searched, kind}
+use Rattle.session_run.proofs.Parting.{Laws, last_piece, pieces_so_far, whole_pages}
+use Rattle.session_run.proofs.Passing.{IsOpen, advances_same, fault_or_more, fetches_keep, fetches_search, hits_listed, no_hit, one_in, open_advances, page_more, page_of}
 use Rattle.session_run.proofs.Pinned.{AreFree, dialogue_pins, next_calls, pin_first}
+use Rattle.session_run.proofs.Endings.{SameEnd, advance_end, fault_or_end, no_page_said, says_more, search_end}
+use Rattle.session_run.proofs.Orders.{close_or_next, close_or_search, close_or_start, next_or_search, next_or_start, one_next, one_opened, one_search, one_start, search_or_next, search_or_start, start_or_next, start_or_search}
 
 -- A search
 cut_calls : (before pages after : Calls) (pin unpin : Event × Reply)
@@ -43,170 +47,32 @@ searches-are-hits laws s t steps own size pattern before its after lines sound r
       whole_pages laws own s t steps before found.pages
           (unpin ∷ after) found.slot found.version found.tried pattern found.searched.want found.hits
           sound run calm (made ∙ cut_calls before found.pages after pin unpin)
-          (fetches_keep found.slot size found.slot found.searched.want found.pages found.searched.fetches)
+          (fetches_keep found.slot size found.slot found.searched.want (At 0) found.place found.pages
+          found.searched.fetches)
           (subst (λ (p : Place). IsSearch found.searched.want (At 0) (fetched found.slot found.pages) p) ended
-          found.searched.search)
+          (fetches_search found.slot size found.searched.want (At 0) found.place found.pages found.searched.fetches))
           found.searched.need found.searched.matched found.searched.count,
-      pin_new laws own s t steps before
-          ((found.pages ++ unpin ∷ []) ++ after) found.slot found.version sound run calm made,
+      laws.pins s t steps own found.slot found.version before ((found.pages ++ unpin ∷ []) ++ after) sound run calm made,
     )
-
--- The end among lines
-hit_or_end : (id version tried hits : ℕ) → line.Hit id ≡ line.End version tried hits → ⊥
-hit_or_end id version tried hits e = cc
-
-behind_hits : (hits : List ℕ) (said : line.Reply) (version tried count : ℕ)
-    → Contains (map line.Hit hits ++ said ∷ []) (line.End version tried count) → said ≡ line.End version tried count
-behind_hits [] said version tried count k = one_in said (line.End version tried count) k
-behind_hits (h ∷ hs) said version tried count k =
-    elim (first_or_rest (line.Hit h) (map line.Hit hs ++ said ∷ []) (line.End version tried count) k) [
-      | inl e ↦ absurd (hit_or_end h version tried count e)
-      | inr m ↦ behind_hits hs said version tried count m
-    ]
-
-fault_or_end : (version tried hits : ℕ) → line.MemoryFault ≡ line.End version tried hits → ⊥
-fault_or_end version tried hits e = cc
-
-more_or_end : (version tried hits : ℕ) → line.More ≡ line.End version tried hits → ⊥
-more_or_end version tried hits e = cc
-
--- the numbers of an end
-record SameEnd (version tried hits version' tried' hits' : ℕ) : Type 0 where
-  version_is : version ≡ version'
-  tried_is : tried ≡ tried'
-  hits_is : hits ≡ hits'
-
-same_end : (version tried hits version' tried' hits' : ℕ) → line.End version tried hits ≡ line.End version' tried' hits'
-    → SameEnd version tried hits version' tried' hits'
-same_end version tried hits version' tried' hits' e = record { version_is = a; tried_is = b; hits_is = c } where
-  a : version ≡ version'
-  a = cc
-
-  b : tried ≡ tried'
-  b = cc
-
-  c : hits ≡ hits'
-  c = cc
-
-cut_end : (hits : List ℕ) (lines : Lines) (version tried count : ℕ) → IsCutShort hits lines
-    → Contains lines (line.End version tried count) → ⊥
-cut_end hits lines version tried count c k =
-    fault_or_end version tried count
-    (behind_hits c.0 line.MemoryFault version tried count
-    (subst (λ (l : Lines). Contains l (line.End version tried count)) c.3 k))
-
--- a search whose lines have an end
-record IsEndOf (place : Place) (version tried : ℕ) (hits : List ℕ) (lines : Lines)
-    (version' tried' count : ℕ) : Type 0 where
-  place_is : place ≡ End
-  numbers : SameEnd version tried (length hits) version' tried' count
-  listed : hits_in lines ≡ hits
-
-search_end : (place : Place) (version tried : ℕ) (hits : List ℕ) (lines : Lines) (version' tried' count : ℕ)
-    → Lists place version tried hits lines
-    → Contains lines (line.End version' tried' count) → IsEndOf place version tried hits lines version' tried' count
-search_end End version tried hits lines version' tried' count (inl e) k = record {
-  place_is = refl;
-  numbers = same_end version tried (length hits) version' tried' count
-      (behind_hits hits (line.End version tried (length hits)) version' tried' count
-      (subst (λ (l : Lines). Contains l (line.End version' tried' count)) e k));
-  listed = ap hits_in e ∙ hits_listed hits (line.End version tried (length hits)) refl;
-}
-search_end End version tried hits lines version' tried' count (inr c) k =
-    absurd (cut_end hits lines version' tried' count c k)
-search_end (At from) version tried hits lines version' tried' count c k =
-    absurd (cut_end hits lines version' tried' count c k)
-
--- a cursor whose lines have an end
-advance_end : (size : ℕ) (place : Place) (c : Cursor) (calls : Calls) (lines : Lines) (c' : Cursor)
-    (version tried count : ℕ) → c.place ≡ place → Advances size place c calls lines c'
-    → Contains lines (line.End version tried count)
-    → (c'.place ≡ End) × SameEnd c'.version c'.tried c'.hits version tried count
-advance_end size End c calls lines c' version tried count at a k =
-    let e : line.End c.version c.tried c.hits ≡ line.End version tried count =
-    one_in (line.End c.version c.tried c.hits) (line.End version tried count)
-    (subst (λ (l : Lines). Contains l (line.End version tried count)) a.0.1 k) in (
-      ap (λ (x : Cursor). x.place) a.1 ∙ at,
-      subst (λ (x : Cursor). SameEnd x.version x.tried x.hits version tried count) (sym a.1)
-          (same_end c.version c.tried c.hits version tried count e),
-    )
-advance_end size (At from) c calls lines c' version tried count at (inl t) k =
-    by t.last refl (behind_hits t.hits (page_end t.last c') version tried count
-    (subst (λ (l : Lines). Contains l (line.End version tried count)) t.said k))
-  where
-    by : (last : Bool) → t.last ≡ last → page_end last c' ≡ line.End version tried count
-        → (c'.place ≡ End) × SameEnd c'.version c'.tried c'.hits version tried count
-    by true q e = (
-      ap (λ (x : Cursor). x.place) t.moved ∙ ap (λ (b : Bool). cond b End (At (past from t.records))) q,
-      same_end c'.version c'.tried c'.hits version tried count e,
-    )
-    by false q e = absurd (more_or_end version tried count e)
-advance_end size (At from) c calls lines c' version tried count at (inr a) k =
-    absurd (fault_or_end version tried count
-    (one_in line.MemoryFault (line.End version tried count)
-    (subst (λ (l : Lines). Contains l (line.End version tried count)) a.1 k)))
 
 -- the cursor of a name after a reply with an end
-record Ended (calls : Calls) (pattern : PatternTerm) (opened : ℕ) (hits : List ℕ)
+record Ended (size : ℕ) (calls : Calls) (pattern : PatternTerm) (opened : ℕ) (hits : List ℕ)
     (version tried count : ℕ) : Type 0 where
   c : Cursor
-  open_since : IsOpen calls c hits
+  turned : ℕ
+  open_since : IsOpen size turned calls c hits
   place_is : c.place ≡ End
   numbers : SameEnd c.version c.tried c.hits version tried count
   pattern_is : c.pattern ≡ pattern
   opened_at : c.version ≡ opened
-
-search_or_next : (text name : List ℕ) → command.Search text ≡ command.Next name → ⊥
-search_or_next text name e = cc
-
-start_or_next : (text other name : List ℕ) → command.Start other text ≡ command.Next name → ⊥
-start_or_next text other name e = cc
-
-close_or_next : (other name : List ℕ) → command.Close other ≡ command.Next name → ⊥
-close_or_next other name e = cc
-
-search_or_start : (text other name : List ℕ) → command.Search text ≡ command.Start name other → ⊥
-search_or_start text other name e = cc
-
-next_or_start : (other name text : List ℕ) → command.Next other ≡ command.Start name text → ⊥
-next_or_start other name text e = cc
-
-close_or_start : (other name text : List ℕ) → command.Close other ≡ command.Start name text → ⊥
-close_or_start other name text e = cc
-
-start_or_search : (name other text : List ℕ) → command.Start name other ≡ command.Search text → ⊥
-start_or_search name other text e = cc
-
-next_or_search : (name text : List ℕ) → command.Next name ≡ command.Search text → ⊥
-next_or_search name text e = cc
-
-close_or_search : (name text : List ℕ) → command.Close name ≡ command.Search text → ⊥
-close_or_search name text e = cc
-
-one_search : (a b : List ℕ) → command.Search a ≡ command.Search b → a ≡ b
-one_search a b e = cc
-
-one_next : (a b : List ℕ) → command.Next a ≡ command.Next b → a ≡ b
-one_next a b e = cc
-
-one_start : (a b c d : List ℕ) → command.Start a b ≡ command.Start c d → (a ≡ c) × (b ≡ d)
-one_start a b c d e = (x, y) where
-  x : a ≡ c
-  x = cc
-
-  y : b ≡ d
-  y = cc
-
-one_opened : (a b : ℕ) → line.Opened a ≡ line.Opened b → a ≡ b
-one_opened a b e = cc
 
 module _ (reading : OneReading) (size : ℕ) (name : List ℕ) where
   ends : (calls its : Calls) (cursors cursors' : List Cursor) (request : Request) (lines : Lines)
       (pattern : PatternTerm) (opened : ℕ) (hits : List ℕ) (version tried count : ℕ)
       → Kind size cursors request its lines cursors' → IsCommand request (command.Next name)
       → Contains lines (line.End version tried count)
-      → Follows calls cursors name pattern opened hits
-      → Ended (calls ++ its) pattern opened (hits ++ hits_in lines) version tried count
+      → Follows size calls cursors name pattern opened hits
+      → Ended size (calls ++ its) pattern opened (hits ++ hits_in lines) version tried count
   ends calls its cursors cursors' request lines pattern opened hits version tried count (Other pass plain same) is k f =
       absurd (plain.ends version tried count k)
   ends calls its cursors cursors' request lines pattern opened hits version tried count
@@ -227,9 +93,11 @@ module _ (reading : OneReading) (size : ℕ) (name : List ℕ) where
             subst (λ (x : Cursor). Advances size x.place x its lines d') (sym s.1) advances in
             let end = advance_end size f.c.place f.c its lines d' version tried count refl own k in
             let same = advances_same size f.c.place f.c its lines d' own in
+            let next = open_advances size f.turned f.c.place calls its lines f.c d' hits refl own f.open_since in
             record {
               c = d';
-              open_since = open_advances size f.c.place calls its lines f.c d' hits refl own f.open_since;
+              turned = next.0;
+              open_since = next.2;
               place_is = end.0;
               numbers = end.1;
               pattern_is = same.pattern ∙ f.pattern_is;
@@ -273,7 +141,7 @@ listed_parts name (x ∷ xs) y hits (inl k) is =
     )
 listed_parts name (x ∷ xs) y hits (inr k) is = let r = listed_parts name xs y hits k.1 is in (r.0, inr (k.0, r.1), r.2)
 
-same_hits : (h : List Change) (version version' tried tried' : ℕ) (pattern pattern' : PatternTerm) (hits hits' : List ℕ)
+same_hits : (h : History) (version version' tried tried' : ℕ) (pattern pattern' : PatternTerm) (hits hits' : List ℕ)
     → version ≡ version' → tried ≡ tried' → pattern ≡ pattern' → hits ≡ hits'
     → AreAllHits h version pattern tried hits → AreAllHits h version' pattern' tried' hits'
 same_hits h version version' tried tried' pattern pattern' hits hits' a b c d all =
@@ -287,7 +155,7 @@ module _ (laws : Laws) (reading : OneReading) (s t : State) (steps : List Step) 
     (sound : IsSound s) (run : IsRun s steps t) (calm : IsCalm steps) (made : calls_of own steps ≡ calls ++ more)
     (said : AreExchanged size [] exchanges calls cursors) where
   free : AreFree (calls_of own steps)
-  free before pages later slot v v' e keeps = slot_free laws own s t steps before pages later slot v v' run calm e keeps
+  free before pages later slot v v' e keeps = laws.slots s t steps own slot v v' before pages later run calm e keeps
 
   -- an exchange of the dialogue, with the calls before it
   record Spot (before after : List Exchange) (x : Exchange) : Type 0 where
@@ -370,7 +238,7 @@ module _ (laws : Laws) (reading : OneReading) (s t : State) (steps : List Step) 
   -- the calls of a whole listing
   listed : (calls' later : Calls) (pattern : PatternTerm) (opened : ℕ) (hits : List ℕ) (version tried count : ℕ)
       → calls_of own steps ≡ calls' ++ later
-      → (e : Ended calls' pattern opened hits version tried count) → AreAllHits t.history version pattern tried hits
+      → (e : Ended size calls' pattern opened hits version tried count) → AreAllHits t.history version pattern tried hits
   listed calls' later pattern opened hits version tried count w e =
       let o = e.open_since in
       same_hits t.history e.c.version version e.c.tried tried e.c.pattern pattern hits hits e.numbers.version_is
@@ -388,7 +256,7 @@ module _ (laws : Laws) (reading : OneReading) (s t : State) (steps : List Step) 
       → StaysOpen name between
       → IsCommand y.request (command.Next name) → Contains y.lines (line.End version tried count)
       → AreListed name (between ++ y ∷ []) hits
-      → Follows first here name pattern opened [] → AreAllHits t.history version pattern tried hits × (version ≡ opened)
+      → Follows size first here name pattern opened [] → AreAllHits t.history version pattern tried hits × (version ≡ opened)
       × (count ≡ length hits)
   last_page between after y name hits pattern opened version tried count first rest here w a kept is k list f =
       let p = exchanged_parts size here cursors between (y ∷ after) rest a in
@@ -398,7 +266,7 @@ module _ (laws : Laws) (reading : OneReading) (s t : State) (steps : List Step) 
       let g = follow_all reading (calls_of own steps) free size name pattern opened between first p.0
       (p.1 ++ more) here p.2 [] parts.0 n.0 p.4 kept parts.1 f in
       let m = next_calls (calls_of own steps) (first ++ p.0) p.1 b.0 b.1 more n.1 b.4 in
-      let e : Ended ((first ++ p.0) ++ b.0) pattern opened (parts.0 ++ hits_in y.lines) version tried count =
+      let e : Ended size ((first ++ p.0) ++ b.0) pattern opened (parts.0 ++ hits_in y.lines) version tried count =
       ends reading size name (first ++ p.0) b.0 p.2 b.2 y.request y.lines pattern opened parts.0 version tried count
       (kind size p.2 y.request b.0 y.lines b.2 b.3) is k g in (
         subst (λ (l : List ℕ). AreAllHits t.history version pattern tried l) (sym parts.2)
@@ -407,6 +275,27 @@ module _ (laws : Laws) (reading : OneReading) (s t : State) (steps : List Step) 
         sym e.numbers.version_is ∙ e.opened_at,
         sym e.numbers.hits_is ∙ (e.open_since.count ∙ ap (λ (l : List ℕ). length l) (sym parts.2)),
       )
+
+  -- the cursor that an exchange opened
+  begin : (before after : List Exchange) (x : Exchange) (name text name' text' : List ℕ) (version : ℕ)
+      (a : Spot before after x) (p : PatternTerm) → IsCommand x.request (command.Start name' text')
+      → IsCommand x.request (command.Start name text) → IsNoName a.here name'
+      → (o : Opens name' p a.here a.its x.lines a.then) → Contains x.lines (line.Opened version)
+      → (f : Follows size (a.first ++ a.its) a.then name p version []) × (f.turned ≡ 0) × (f.c.place ≡ At 0)
+  begin before after x name text name' text' version a p was start new o k =
+      let same = one_start name' text' name text
+      (one_command reading x.request (command.Start name' text') (command.Start name text) was start) in
+      let at0 : o.version ≡ version =
+      one_opened o.version version
+      (one_in (line.Opened o.version) (line.Opened version)
+      (subst (λ (l : Lines). Contains l (line.Opened version)) o.said k)) in
+      let pins = (dialogue_pins (calls_of own steps) free size before [] a.first
+      (a.its ++ (a.rest ++ more)) [] a.here a.calls_are a.to tt).0 in
+      let new_name : IsNoName a.here name = subst (λ (l : List ℕ). IsNoName a.here l) same.0 new in
+      let opens : (q : Opens name p a.here a.its x.lines a.then) × (q.version ≡ o.version) =
+      subst (λ (l : List ℕ). (q : Opens l p a.here a.its x.lines a.then) × (q.version ≡ o.version)) same.0 (o, refl) in
+      follow_new reading (calls_of own steps) free size name p version a.first a.its
+      (a.rest ++ more) a.here a.then x.lines a.calls_are pins new_name opens.0 (opens.1 ∙ at0)
 
   opened : (before between after : List Exchange) (x y : Exchange) (name text hits : List ℕ)
       (version0 version tried count : ℕ) (a : Spot before (between ++ y ∷ after) x)
@@ -438,18 +327,11 @@ module _ (laws : Laws) (reading : OneReading) (s t : State) (steps : List Step) 
       one_opened o.version version0
       (one_in (line.Opened o.version) (line.Opened version0)
       (subst (λ (l : Lines). Contains l (line.Opened version0)) o.said k)) in
-      let pins = (dialogue_pins (calls_of own steps) free size before [] a.first
-      (a.its ++ (a.rest ++ more)) [] a.here a.calls_are a.to tt).0 in
-      let new_name : IsNoName a.here name = subst (λ (l : List ℕ). IsNoName a.here l) same.0 new in
-      let opens : (q : Opens name p a.here a.its x.lines a.then) × (q.version ≡ o.version) =
-      subst (λ (l : List ℕ). (q : Opens l p a.here a.its x.lines a.then) × (q.version ≡ o.version)) same.0 (o, refl) in
-      let f : Follows (a.first ++ a.its) a.then name p version0 [] =
-      follow_new reading (calls_of own steps) free size name p version0 a.first a.its
-      (a.rest ++ more) a.here a.then x.lines a.calls_are pins new_name opens.0 (opens.1 ∙ at0) in
+      let f = (begin before (between ++ y ∷ after) x name text name' text' version0 a p was start new o k).0 in
       let r = last_page between after y name hits p version0 version tried count
       (a.first ++ a.its) a.rest a.then a.behind a.from kept next end list f in
       let fresh : IsUpToDate t.history a.first o.version =
-      pin_new laws own s t steps a.first (a.rest ++ more) o.slot o.version sound run calm
+      laws.pins s t steps own o.slot o.version a.first (a.rest ++ more) sound run calm
       (pin_first (calls_of own steps) a.first a.its (a.rest ++ more) [] o.slot o.version a.calls_are o.made) in (
         record {
           pattern = p;
@@ -467,9 +349,145 @@ module _ (laws : Laws) (reading : OneReading) (s t : State) (steps : List Step) 
       let a = spot before (between ++ y ∷ after) x e in
       opened before between after x y name text hits version0 version tried count a a.did start k kept next end list
 
-  pub both_true : SearchesAreTrue t.history exchanges × CursorsAreTrue t.history exchanges
-  both_true = (searches_true, cursors_true)
+  -- a page of the cursor of a name
+  abbrev TruePage : PatternTerm → ℕ → ℕ → Lines → Type 0
+  TruePage pattern at_version k lines = (want : List Bool) × IsNeedOf pattern want
+      × ((all : List Found) → AreFound (IsScreened want) (snapshot t.history at_version) all
+      → IsPageOf pattern size (drop (k * size) all) lines)
+
+  page_true : (calls' its later : Calls) (c c' : Cursor) (lines : Lines) (hits : List ℕ) (from k at_version : ℕ)
+      (pattern : PatternTerm) → calls_of own steps ≡ (calls' ++ its) ++ later → c.place ≡ At from
+      → c.pattern ≡ pattern → c.version ≡ at_version
+      → Turns size from c its lines c' → IsOpen size k calls' c hits → TruePage pattern at_version k lines
+  page_true calls' its later c c' lines hits from k at_version pattern w at p v turn o = (
+    c.want,
+    subst (λ (q : PatternTerm). IsNeedOf q c.want) p o.need,
+    λ all found.
+        let m = page_more size k calls' c hits turn.hits from turn.records turn.last at turn.matched o in
+        let own_is : calls_of own steps ≡ (m.0.before ++ (events.Pin, replies.Pinned c.slot c.version) ∷ m.0.pages)
+        ++ later =
+        w ∙ (ap (λ (l : Calls). (calls' ++ l) ++ later) turn.made ∙ ap (λ (l : Calls). l ++ later) m.0.own) in
+        let pieces = pieces_so_far laws own s t steps m.0.before m.0.pages later c.slot c.version size c.want
+        (cond turn.last End (At (past from turn.records))) all sound run calm own_is m.0.keeps m.0.search m.0.sized
+        (subst (λ (n : ℕ). AreFound (IsScreened c.want) (snapshot t.history n) all) (sym v) found) in
+        let last = last_piece size all (fetched c.slot o.pages) (page_of c size from turn.records turn.last)
+        (subst (λ (fs : List Fetched). ArePieces size all fs) m.1 pieces) in
+        let here = subst (λ (n : ℕ). (turn.records ≡ take size (drop (n * size) all))
+        × (turn.last ≡ nat_le (length (drop (n * size) all)) size)) o.turned_is last in
+        let listed : hits_in lines ≡ turn.hits =
+        ap hits_in turn.said ∙ hits_listed turn.hits (page_end turn.last c') (no_hit turn.last c') in
+        record {
+          hits = subst (λ (l : List ℕ). AreMatched pattern (take size (drop (k * size) all)) l) (sym listed)
+              (subst (λ (rs : List Found). AreMatched pattern rs turn.hits) here.0
+              (subst (λ (q : PatternTerm). AreMatched q turn.records turn.hits) p turn.matched));
+          more = says_more c' turn.last turn.hits lines (length (drop (k * size) all)) size turn.said here.1;
+        },
+  )
+
+  -- the page of a cursor that was followed to here
+  followed_page : (calls' its later : Calls) (cursors' cursors'' : List Cursor) (y : Exchange) (name : List ℕ)
+      (pattern : PatternTerm) (at_version k : ℕ) (hits : List ℕ) → calls_of own steps ≡ (calls' ++ its) ++ later
+      → Kind size cursors' y.request its y.lines cursors'' → IsCommand y.request (command.Next name)
+      → GivePage y.lines → (f : Follows size calls' cursors' name pattern at_version hits) → f.turned ≡ k
+      → (from : ℕ) → f.c.place ≡ At from → TruePage pattern at_version k y.lines
+  followed_page calls' its later cursors' cursors'' y name pattern at_version k hits w (Other pass plain same) is gives f
+      turns from at = absurd (no_page_said y.lines gives plain.turns plain.ends)
+  followed_page calls' its later cursors' cursors'' y name pattern at_version k hits w (Searched other p was reads found same)
+      is gives f turns from at =
+      absurd (search_or_next other name
+      (one_command reading y.request (command.Search other) (command.Next name) was is))
+  followed_page calls' its later cursors' cursors'' y name pattern at_version k hits w (Opened other text p was reads new o)
+      is gives f turns from at =
+      absurd (start_or_next text other name
+      (one_command reading y.request (command.Start other text) (command.Next name) was is))
+  followed_page calls' its later cursors' cursors'' y name pattern at_version k hits w
+      (Closed other front back d was place made said now) is gives f turns from at =
+      absurd (close_or_next other name
+      (one_command reading y.request (command.Close other) (command.Next name) was is))
+  followed_page calls' its later cursors' cursors'' y name pattern at_version k hits w
+      (Moved other front back d d' was place advances now) is gives f turns from at =
+      elim (places name f.c.slot f.front f.back front back f.c d f.left f.right (sym f.among ∙ place.place)) [
+        | inl e ↦
+            let here : Advances size (At from) f.c its y.lines d' =
+            subst (λ (q : Place). Advances size q f.c its y.lines d') at
+            (subst (λ (x : Cursor). Advances size x.place x its y.lines d') (sym e.1) advances) in
+            elim here [
+              | inl turn ↦ subst (λ (n : ℕ). TruePage pattern at_version n y.lines) turns
+                  (page_true calls' its later f.c d' y.lines hits from f.turned at_version pattern w at f.pattern_is
+                  f.version_is turn f.open_since)
+              | inr lost ↦ absurd (no_page_said y.lines gives
+                  (λ m. fault_or_more (one_in line.MemoryFault line.More
+                  (subst (λ (l : Lines). Contains l line.More) lost.1 m)))
+                  (λ version tried count m. fault_or_end version tried count
+                  (one_in line.MemoryFault (line.End version tried count)
+                  (subst (λ (l : Lines). Contains l (line.End version tried count)) lost.1 m))))
+            ]
+        | inr e ↦ absurd (e.name_apart
+            (place.named ∙ one_next other name
+            (one_command reading y.request (command.Next other) (command.Next name) was is)))
+      ]
+
+  -- a page in what follows the opening
+  later_page : (between after : List Exchange) (y : Exchange) (name : List ℕ) (pattern : PatternTerm) (at_version k : ℕ)
+      (first rest : Calls) (here : List Cursor)
+      → calls_of own steps ≡ first ++ (rest ++ more) → AreExchanged size here (between ++ y ∷ after) rest cursors
+      → StaysOpen name between → AreTurned name between k
+      → IsCommand y.request (command.Next name) → GivePage y.lines
+      → (f : Follows size first here name pattern at_version []) → f.turned ≡ 0 → f.c.place ≡ At 0
+      → TruePage pattern at_version k y.lines
+  later_page between after y name pattern at_version k first rest here w a kept turned is gives f none at =
+      let p = exchanged_parts size here cursors between (y ∷ after) rest a in
+      let b = p.5 in
+      let n = next_calls (calls_of own steps) first rest p.0 p.1 more w p.3 in
+      let g = turn_all reading (calls_of own steps) free size name pattern at_version between first p.0
+      (p.1 ++ more) here p.2 0 k n.0 p.4 kept turned ([], f, none, 0, at) in
+      let m = next_calls (calls_of own steps) (first ++ p.0) p.1 b.0 b.1 more n.1 b.4 in
+      let zero_more : 0 + k ≡ k = omega arith in
+      followed_page (first ++ p.0) b.0 (b.1 ++ more) p.2 b.2 y name pattern at_version k g.0 m.1
+      (kind size p.2 y.request b.0 y.lines b.2 b.3) is gives g.1 (g.2 ∙ zero_more) g.3 g.4
+
+  paged : (before between after : List Exchange) (x y : Exchange) (name text : List ℕ) (version k : ℕ)
+      (a : Spot before (between ++ y ∷ after) x)
+      → Kind size a.here x.request a.its x.lines a.then
+      → IsCommand x.request (command.Start name text) → Contains x.lines (line.Opened version) → StaysOpen name between
+      → AreTurned name between k → IsCommand y.request (command.Next name) → GivePage y.lines
+      → IsTruePage t.history text version size k y.lines
+  paged before between after x y name text version k a (Other pass plain same) start o kept turned next gives =
+      absurd (plain.opens version o)
+  paged before between after x y name text version k a (Searched other p was reads found same) start o kept turned
+      next gives =
+      absurd (search_or_start other text name
+      (one_command reading x.request (command.Search other) (command.Start name text) was start))
+  paged before between after x y name text version k a (Moved other front back d d' was at advances now) start o kept
+      turned next gives =
+      absurd (next_or_start other name text
+      (one_command reading x.request (command.Next other) (command.Start name text) was start))
+  paged before between after x y name text version k a (Closed other front back d was at made said now) start o kept
+      turned next gives =
+      absurd (close_or_start other name text
+      (one_command reading x.request (command.Close other) (command.Start name text) was start))
+  paged before between after x y name text version k a (Opened name' text' p was reads new opens) start o kept turned
+      next gives =
+      let b = begin before (between ++ y ∷ after) x name text name' text' version a p was start new opens o in
+      let r = later_page between after y name p version k (a.first ++ a.its) a.rest a.then a.behind a.from kept turned
+      next gives b.0 b.1 b.2 in
+      record {
+        pattern = p;
+        is = subst (λ (l : List ℕ). IsPatternOf l p) (one_start name' text' name text
+            (one_command reading x.request (command.Start name' text') (command.Start name text) was start)).1 reads;
+        want = r.0;
+        need = r.1;
+        page = r.2;
+      }
+
+  pages_true : PagesAreTrue t.history size exchanges
+  pages_true before between after x y name text version k e start o kept turned next gives =
+      let a = spot before (between ++ y ∷ after) x e in
+      paged before between after x y name text version k a a.did start o kept turned next gives
+
+  pub all_true : AreTrue t.history size exchanges
+  all_true = record { searches = searches_true; cursors = cursors_true; pages = pages_true }
 
 pub dialogues-are-true : Laws → OneReading → DialoguesAreTrue
 dialogues-are-true laws reading s t steps own size exchanges calls more cursors sound run calm made said =
-    both_true laws reading s t steps own size exchanges calls more cursors sound run calm made said
+    all_true laws reading s t steps own size exchanges calls more cursors sound run calm made said

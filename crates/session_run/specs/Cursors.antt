@@ -1,17 +1,26 @@
 -- For callers: the calls of a session, and the cursors that are open in it.
-use Rattle.std.specs.Prelude.{◌≡◌, ◌≢◌, ℕ, ◌+◌, Bool, List, [], ◌∷◌, ◌++◌, length, map, not, filter, All}
+use Rattle.std.specs.Prelude.{◌≡◌, ◌≢◌, ◌⊎◌, ℕ, Bool, if◌then◌else◌, List, [], ◌∷◌, ◌++◌, length, map, All}
 use Rattle.smarts_parse.specs.Pattern.{PatternTerm}
+use Rattle.store_core.specs.Calls as core
 use Rattle.store_machine.specs.Answers.{AreMatched}
-use Rattle.store_machine.specs.Searches.{Place, At, End, IsSearch, fetched, records_of}
+use Rattle.store_machine.specs.Searches.{Place, At, End, fetched, past, records_of}
 use Rattle.store_machine.specs.Structures.{IsNeedOf}
 use Rattle.store_machine.specs.declared.machine.Event.{Event}
 use Rattle.store_machine.specs.declared.machine.Event.TheVariants.{Fetch, Unpin}
+use Rattle.store_machine.specs.declared.machine.Found.{Found}
 use Rattle.store_machine.specs.declared.machine.Reply.{Reply}
-use Rattle.store_machine.specs.declared.machine.Reply.TheVariants.{Unpinned}
+use Rattle.store_machine.specs.declared.machine.Reply.TheVariants.{NoMemory, Page, Unpinned}
+use Rattle.store_machine.specs.declared.machine.State.{State}
+use Rattle.store_machine.specs.declared.machine.Step.{Step}
 
 -- calls of the service with their replies, in order
 abbrev pub Calls : Type 0
 Calls = List (Event × Reply)
+
+-- from one value of a service to a later one its caller's own calls are these
+pub record Makes {S : Type 0} (at : S → State → Type 0) (owns : S → ℕ → Bool)
+    (stretch : S → S → State → List Step → State → Type 0) (old new : S) (calls : Calls) : Type 0 where
+  pub made : (s : State) → at old s → core.Calls stretch (owns old) old new s calls
 
 -- An open cursor: its name, its pattern and what that needs, its pin, where its search stands, and how many identifiers
 -- its pages tried and listed
@@ -33,14 +42,14 @@ IsNoName cursors name = All (λ c. c.name ≢ name) cursors
 abbrev pub IsAmong : List Cursor → List Cursor → Cursor → List Cursor → Type 0
 IsAmong cursors before c after = cursors ≡ before ++ c ∷ after
 
--- a call for one page of a pin
-abbrev pub IsFetch : ℕ → ℕ → List Bool → Event → Type 0
-IsFetch slot size want (Fetch pin asked from limit) = (pin ≡ slot) × (limit ≡ size) × (asked ≡ want)
-IsFetch slot size want _ = ⊥
-
-abbrev pub AreFetches : ℕ → ℕ → List Bool → Calls → Type 0
-AreFetches slot size want [] = Unit {0}
-AreFetches slot size want (c ∷ cs) = IsFetch slot size want c.0 × AreFetches slot size want cs
+-- Fetches of one pin by pages of a size, from one place of a search to another: each from where the one before it
+-- ended. One that found no memory is the last, and the search stands where it was
+abbrev pub AreFetches : ℕ → ℕ → List Bool → Place → Calls → Place → Type 0
+AreFetches slot size want place [] place' = place' ≡ place
+AreFetches slot size want place (c ∷ cs) place' = (from : ℕ) × (place ≡ At from) × (c.0 ≡ Fetch slot want from size)
+    × (((c.1 ≡ NoMemory) × (cs ≡ []) × (place' ≡ place))
+    ⊎ ((records : List Found) × (last : Bool) × (c.1 ≡ Page records last)
+    × AreFetches slot size want (if last then End else At (past from records)) cs place'))
 
 -- These calls are a search for a pattern by pages of a size, from the beginning to a place. So many identifiers were
 -- tried, and these are the hits.
@@ -48,8 +57,7 @@ pub record IsSearched (pattern : PatternTerm) (slot size : ℕ) (place : Place) 
     (hits : List ℕ) : Type 0 where
   pub want : List Bool
   pub need : IsNeedOf pattern want
-  pub fetches : AreFetches slot size want pages
-  pub search : IsSearch want (At 0) (fetched slot pages) place
+  pub fetches : AreFetches slot size want (At 0) pages place
   pub count : tried ≡ length (records_of (fetched slot pages))
   pub matched : AreMatched pattern (records_of (fetched slot pages)) hits
 

@@ -1,13 +1,10 @@
 -- For callers: a session as a dialogue, each request with the lines of its reply, and the versions that replies tell.
-use Rattle.std.specs.Prelude.{◌≡◌, ◌⊎◌, ℕ, Ok, Some, List, [], ◌∷◌, ◌++◌, map}
+use Rattle.std.specs.Prelude.{◌≡◌, ◌⊎◌, ◌+◌, ℕ, Contains, Ok, List, [], ◌∷◌, ◌++◌, map}
 use Rattle.io_edge.specs.Lines.{Whole}
 use Rattle.shell_lang.specs.Command as command
 use Rattle.shell_lang.specs.Command.{Command, IsLine}
 use Rattle.shell_lang.specs.Reply as line
 use Rattle.shell_lang.specs.Reply.{text_of}
-use Rattle.store_machine.specs.History.{made_at}
-use Rattle.store_machine.specs.declared.machine.Reply.{Reply}
-use Rattle.store_machine.specs.declared.machine.Reply.TheVariants as replies
 use Rattle.session_run.specs.Answer.{Lines, RequestAnswer}
 use Rattle.session_run.specs.Cursors.{Calls, Cursor}
 use Rattle.session_run.specs.Requests.{Request}
@@ -51,23 +48,24 @@ AreListed name (x ∷ xs) hits =
     × AreListed name xs more)
     ⊎ (¬ IsCommand x.request (command.Next name) × AreListed name xs hits)
 
+-- so many replies to `next` with the name gave a page and `more`; any other found no memory
+abbrev pub AreTurned : List ℕ → List Exchange → ℕ → Type 0
+AreTurned name [] k = k ≡ 0
+AreTurned name (x ∷ xs) k =
+    (IsCommand x.request (command.Next name) × Contains x.lines line.More × (j : ℕ) × (k ≡ j + 1)
+    × AreTurned name xs j)
+    ⊎ ((IsCommand x.request (command.Next name) × (x.lines ≡ line.MemoryFault ∷ []) × AreTurned name xs k)
+    ⊎ (¬ IsCommand x.request (command.Next name) × AreTurned name xs k))
+
+-- the lines end with `more`, or with the end of a search
+abbrev pub GivePage : Lines → Type 0
+GivePage lines = Contains lines line.More
+    ⊎ ((version tried hits : ℕ) × Contains lines (line.End version tried hits))
+
 -- no request closes the cursor of the name
 abbrev pub StaysOpen : List ℕ → List Exchange → Type 0
 StaysOpen name [] = Unit {0}
 StaysOpen name (x ∷ xs) = ¬ IsCommand x.request (command.Close name) × StaysOpen name xs
-
--- the reply tells this version
-abbrev pub TellsVersion : Reply → ℕ → Type 0
-TellsVersion (replies.Committed version) v = v ≡ version
-TellsVersion (replies.Pinned slot version) v = v ≡ version
-TellsVersion (replies.Looked (Some status)) v = v ≡ made_at status
-TellsVersion (replies.Counted version live withdrawn kept pins) v = v ≡ version
-TellsVersion _ v = ⊥
-
--- one of these calls was told this version
-abbrev pub IsTold : Calls → ℕ → Type 0
-IsTold [] v = ⊥
-IsTold (c ∷ cs) v = TellsVersion c.1 v ⊎ IsTold cs v
 
 -- the line shows this version
 abbrev pub ShowsVersion : line.Reply → ℕ → Type 0

@@ -1,22 +1,14 @@
 -- For private clauses alone: the calls that a part of an answer makes, and what it leaves.
-use Rattle.std.specs.Prelude.{◌≡◌, ◌⊎◌, ◌↔◌, ℕ, Bool, List, [], ◌∷◌, ◌++◌, Result, Ok, Err}
+use Rattle.std.specs.Prelude.{◌≡◌, ◌⊎◌, ◌↔◌, ℕ, List, [], ◌∷◌, ◌++◌, Result, Ok, Err}
 use Rattle.shell_lang.specs.Reply as line
 use Rattle.shell_lang.specs.Reply.{text_of, reply_of}
 use Rattle.shell_lang.specs.declared.reply.Reply as written
-use Rattle.store_core.specs.Calls as core
-use Rattle.store_machine.specs.declared.machine.State.{State}
-use Rattle.store_machine.specs.declared.machine.Step.{Step}
 use Rattle.session_run.specs.Answer.{Lines}
 use Rattle.session_run.specs.Cursors.{Calls, Cursor}
 use Rattle.session_run.specs.Transcript.{IsPrefixOf}
 use Rattle.session_run.specs.declared.stop.Stop.{Stop}
 use Rattle.session_run.specs.declared.stop.Stop.TheVariants as stops
 use Rattle.session_run.specs.declared.stop.Worn.{Worn}
-
--- from one value of a service to a later one its caller's own calls are these
-pub record Makes {S : Type 0} (at : S → State → Type 0) (owns : S → ℕ → Bool)
-    (stretch : S → S → State → List Step → State → Type 0) (old new : S) (calls : Calls) : Type 0 where
-  pub made : (s : State) → at old s → core.Calls stretch (owns old) old new s calls
 
 -- calls were made and this is left, so that these lines are due
 pub record Did {X : Type 0} (Made : Calls → Type 0) (Is : Calls → Lines → X → Type 0) (after : X) : Type 0 where

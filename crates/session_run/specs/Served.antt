@@ -1,9 +1,10 @@
 -- For callers: what a session wrote for a script, where the source tells its bytes and the sink what was put.
-use Rattle.std.specs.Prelude.{◌≡◌, ℕ, List, [], ◌++◌, length, Option, Some, IfSome}
-use Rattle.io_edge.specs.Lines.{TextLine, whole_lines}
+use Rattle.std.specs.Prelude.{◌≡◌, ◌≤◌, ℕ, List, [], ◌++◌, length, Option, Some, IfSome}
+use Rattle.io_edge.specs.Lines.{TextLine, lines_of, whole_lines}
 use Rattle.session_run.specs.Cursors.{Calls, Cursor, unpins}
-use Rattle.session_run.specs.Requests.{Request, AreAllWhole, BeginWithAll}
-use Rattle.session_run.specs.Transcript.{AreAnswered, IsTranscript, IsTranscriptPrefix, IsWornPrefix}
+use Rattle.session_run.specs.Dialogue.{AreExchanged, Exchange, replies_of, requests_of}
+use Rattle.session_run.specs.Requests.{AreAllWhole}
+use Rattle.session_run.specs.Transcript.{IsDialogue, IsTranscript, IsTranscriptPrefix, WornAt}
 use Rattle.session_run.specs.declared.settings.EndStatus.{EndStatus}
 use Rattle.session_run.specs.declared.settings.EndStatus.TheVariants.{Done, InputTooLong, SourceFault, Worn}
 
@@ -22,12 +23,20 @@ abbrev pub TakesExactly : Option (List ℕ) → Option (List ℕ) → ℕ → Ty
 TakesExactly before after n =
     IfSome before (λ old. (got rest : List ℕ) × (old ≡ got ++ rest) × (after ≡ Some rest) × (length got ≡ n))
 
+-- no more bytes than these
+abbrev pub TakesAtMost : Option (List ℕ) → Option (List ℕ) → ℕ → Type 0
+TakesAtMost before after n =
+    IfSome before (λ old. (got rest : List ℕ) × (old ≡ got ++ rest) × (after ≡ Some rest) × (length got ≤ n))
+
+-- all bytes
+abbrev pub TakesAll : Option (List ℕ) → Option (List ℕ) → Type 0
+TakesAll before after = IfSome before (λ old. after ≡ Some [])
+
 -- Some first requests of a script were answered whole, and nothing of the next one was called or written. The pins that
 -- are still held are given back
 abbrev pub IsWholePrefix : ℕ → List TextLine → Calls → List ℕ → Type 0
-IsWholePrefix size lines calls text =
-    (requests : List Request) × (left : List TextLine) × (own : Calls) × (cursors : List Cursor)
-    × BeginWithAll lines requests left × AreAnswered size [] requests own text cursors × (calls ≡ own ++ unpins cursors)
+IsWholePrefix size lines calls text = (left : List TextLine) × (own : Calls) × (cursors : List Cursor)
+    × IsDialogue size lines left own text cursors × (calls ≡ own ++ unpins cursors)
 
 -- the source failed, or its bytes are too many
 abbrev pub IsInputFault : EndStatus → Type 0
@@ -39,15 +48,22 @@ IsInputFault _ = ⊥
 -- pins that are still held are given back. A line counts once its LF was taken
 abbrev pub IsAllOfTaken : ℕ → Calls → List ℕ → List ℕ → Type 0
 IsAllOfTaken size calls got text =
-    (requests : List Request) × (own : Calls) × (cursors : List Cursor)
-    × AreAllWhole (whole_lines got) requests × AreAnswered size [] requests own text cursors
-    × (calls ≡ own ++ unpins cursors)
+    (exchanges : List Exchange) × (own : Calls) × (cursors : List Cursor)
+    × AreAllWhole (whole_lines got) (requests_of exchanges) × AreExchanged size [] exchanges own cursors
+    × (text ≡ replies_of exchanges) × (calls ≡ own ++ unpins cursors)
 
 -- What was served of a script, by how the session ended: all of it, or a beginning, whose requests were answered whole
 -- where the source failed or its bytes are too many
 abbrev pub IsServed : EndStatus → ℕ → List TextLine → Calls → List ℕ → Type 0
 IsServed Done size lines calls text = IsTranscript size lines calls text
-IsServed Worn size lines calls text = IsWornPrefix size lines calls text
+IsServed Worn size lines calls text = WornAt size lines calls text
 IsServed SourceFault size lines calls text = IsWholePrefix size lines calls text
 IsServed InputTooLong size lines calls text = IsWholePrefix size lines calls text
 IsServed _ size lines calls text = IsTranscriptPrefix size lines calls text
+
+-- A source's bytes were served by these calls. Where the source failed, or its bytes are too many, exactly the requests
+-- that are whole in what was taken were answered
+pub record IsServedBy (end : EndStatus) (size : ℕ) (before after put put' : Option (List ℕ)) (calls : Calls)
+    : Type 0 where
+  pub script : IfSome before (λ bytes. Writes put put' (IsServed end size (lines_of bytes) calls))
+  pub taken : IsInputFault end → WritesForTaken before after put put' (IsAllOfTaken size calls)

@@ -1,41 +1,41 @@
 -- For callers: what a session writes for a script, and the calls that it makes of its service, request by request.
 -- Other callers' steps do not occur.
-use Rattle.std.specs.Prelude.{◌≡◌, ◌⊎◌, ℕ, List, [], ◌∷◌, ◌++◌}
+use Rattle.std.specs.Prelude.{◌≡◌, ◌⊎◌, ℕ, List, [], ◌++◌}
 use Rattle.io_edge.specs.Lines.{TextLine}
 use Rattle.shell_lang.specs.Reply.{text_of}
 use Rattle.session_run.specs.Answer.{Lines, RequestAnswer}
 use Rattle.session_run.specs.Cursors.{Calls, Cursor, unpins}
+use Rattle.session_run.specs.Dialogue.{AreExchanged, Exchange, replies_of, requests_of}
 use Rattle.session_run.specs.Requests.{Request, BeginWith, BeginWithAll}
 
 abbrev pub IsPrefixOf : {X : Type 0} → List X → List X → Type 0
 IsPrefixOf front whole = (rest : List _) × (front ++ rest ≡ whole)
 
--- the requests are answered one after another by these calls and this text, and these cursors are then open
-abbrev pub AreAnswered : ℕ → List Cursor → List Request → Calls → List ℕ → List Cursor → Type 0
-AreAnswered size cursors [] calls text cursors' = (calls ≡ []) × (text ≡ []) × (cursors' ≡ cursors)
-AreAnswered size cursors (request ∷ requests) calls text cursors' =
-    (own more : Calls) × (lines : Lines) × (rest : List ℕ) × (between : List Cursor)
-    × RequestAnswer size cursors request own lines between × (calls ≡ own ++ more) × (text ≡ text_of lines ++ rest)
-    × AreAnswered size between requests more rest cursors'
+-- The first requests of a script were answered one after another, by these calls and this text; these lines are left,
+-- and these cursors are then open.
+pub record IsDialogue (size : ℕ) (lines left : List TextLine) (calls : Calls) (text : List ℕ)
+    (cursors : List Cursor) : Type 0 where
+  pub exchanges : List Exchange
+  pub begin : BeginWithAll lines (requests_of exchanges) left
+  pub exchanged : AreExchanged size [] exchanges calls cursors
+  pub said : text ≡ replies_of exchanges
 
 -- the text is the replies to the requests that all the lines are; at the end the pins of the open cursors are given
 -- back
 abbrev pub IsTranscript : ℕ → List TextLine → Calls → List ℕ → Type 0
 IsTranscript size lines calls text =
-    (requests : List Request) × (own : Calls) × (cursors : List Cursor)
-    × BeginWithAll lines requests [] × AreAnswered size [] requests own text cursors × (calls ≡ own ++ unpins cursors)
+    (own : Calls) × (cursors : List Cursor) × IsDialogue size lines [] own text cursors
+    × (calls ≡ own ++ unpins cursors)
 
 -- Some first requests of a script were answered, and then there may be the calls of the next one and a prefix of its
 -- reply.
 pub record Stops (size : ℕ) (lines : List TextLine) (calls : Calls) (text : List ℕ)
     (cursors : List Cursor) : Type 0 where
-  pub requests : List Request
   pub left : List TextLine
-  pub begin : BeginWithAll lines requests left
   pub own : Calls
   pub replies : List ℕ
   pub cursors_open : List Cursor
-  pub answered : AreAnswered size [] requests own replies cursors_open
+  pub answered : IsDialogue size lines left own replies cursors_open
   pub last : ((calls ≡ own) × (text ≡ replies) × (cursors ≡ cursors_open))
       ⊎ ((request : Request) × (more : List TextLine) × BeginWith left request more
       × (its : Calls) × (said : Lines) × (part : List ℕ) × RequestAnswer size cursors_open request its said cursors
@@ -46,6 +46,13 @@ abbrev pub IsTranscriptPrefix : ℕ → List TextLine → Calls → List ℕ →
 IsTranscriptPrefix size lines calls text =
     (own : Calls) × (cursors : List Cursor) × Stops size lines own text cursors × (calls ≡ own ++ unpins cursors)
 
--- a session whose service is worn: from the first call that it does not answer on, there are no calls
-abbrev pub IsWornPrefix : ℕ → List TextLine → Calls → List ℕ → Type 0
-IsWornPrefix size lines calls text = (whole : Calls) × IsPrefixOf calls whole × IsTranscriptPrefix size lines whole text
+-- The service was found worn. In the answer to a request: the first of its calls were made, nothing of its reply was
+-- put, and no pin was given back. Or while the pins were given back: the first of them were. From the call that was not
+-- answered on nothing was called or put.
+pub data WornAt (size : ℕ) (lines : List TextLine) (calls : Calls) (text : List ℕ) : Type 0 where
+  InAnswer : (left more : List TextLine) (own its part : Calls) (cursors after : List Cursor) (request : Request)
+      (said : Lines) (answered : IsDialogue size lines left own text cursors) (next : BeginWith left request more)
+      (answer : RequestAnswer size cursors request its said after) (first : IsPrefixOf part its)
+      (made : calls ≡ own ++ part) → WornAt size lines calls text
+  InClosing : (own part : Calls) (cursors : List Cursor) (stops : Stops size lines own text cursors)
+      (first : IsPrefixOf part (unpins cursors)) (made : calls ≡ own ++ part) → WornAt size lines calls text

@@ -1,32 +1,33 @@
 -- For callers: the laws of what a session lists. Its searches and cursors list the hits that the history has, whatever
 -- others did meanwhile.
-use Rattle.std.specs.Prelude.{◌≡◌, ◌≤◌, ℕ, Bool, Contains, List, [], ◌∷◌, ◌++◌, length}
+use Rattle.std.specs.Prelude.{◌≡◌, ◌≤◌, ◌<◌, ◌↔◌, ◌*◌, ℕ, Bool, Contains, List, [], ◌∷◌, ◌++◌, drop, length, take}
 use Rattle.io_edge.specs.Lines.{TextLine}
 use Rattle.shell_lang.specs.Command as command
 use Rattle.shell_lang.specs.Reply as line
 use Rattle.smarts_parse.specs.Pattern.{PatternTerm}
-use Rattle.store_machine.specs.Answers.{AreHits, AreTried}
-use Rattle.store_machine.specs.History.{head}
+use Rattle.store_machine.specs.Answers.{AreFound, AreHits, AreMatched, AreTried}
+use Rattle.store_machine.specs.History.{head, snapshot}
 use Rattle.store_machine.specs.Laws.{IsSound}
 use Rattle.store_machine.specs.Runs.{IsCalm, IsRun, calls_of}
 use Rattle.store_machine.specs.Searches.{End}
-use Rattle.store_machine.specs.Structures.{IsNeedOf}
-use Rattle.store_machine.specs.declared.machine.Change.{Change}
+use Rattle.store_machine.specs.Structures.{IsNeedOf, IsScreened}
+use Rattle.store_machine.specs.declared.machine.History.{History}
+use Rattle.store_machine.specs.declared.machine.Found.{Found}
 use Rattle.store_machine.specs.declared.machine.State.{State}
 use Rattle.store_machine.specs.declared.machine.Step.{Step}
+use Rattle.store_machine.specs.Told.{IsTold}
 use Rattle.session_run.specs.Answer.{Lines, Searches}
 use Rattle.session_run.specs.Cursors.{Calls, Cursor}
-use Rattle.session_run.specs.Dialogue.{AreExchanged, AreListed, Exchange, IsCommand, IsShown, IsTold, StaysOpen, hits_in, replies_of, requests_of}
-use Rattle.session_run.specs.Requests.{BeginWithAll}
+use Rattle.session_run.specs.Dialogue.{AreExchanged, AreListed, AreTurned, Exchange, GivePage, IsCommand, IsShown, StaysOpen, hits_in}
 use Rattle.session_run.specs.Served.{IsServed}
 use Rattle.session_run.specs.Texts.{IsPatternOf}
-use Rattle.session_run.specs.Transcript.{IsPrefixOf}
+use Rattle.session_run.specs.Transcript.{IsDialogue, IsPrefixOf}
 use Rattle.session_run.specs.declared.settings.EndStatus.{EndStatus}
-use Rattle.session_run.specs.declared.settings.EndStatus.TheVariants.{Done, Worn}
+use Rattle.session_run.specs.declared.settings.EndStatus.TheVariants.{Done}
 
 -- These are the hits of the pattern at a version of the history, each once, ascending; and so many records have in
 -- their print what the pattern needs
-pub record AreAllHits (h : List Change) (version : ℕ) (pattern : PatternTerm) (tried : ℕ) (hits : List ℕ) : Type 0 where
+pub record AreAllHits (h : History) (version : ℕ) (pattern : PatternTerm) (tried : ℕ) (hits : List ℕ) : Type 0 where
   pub are : AreHits h version pattern hits
   pub want : List Bool
   pub need : IsNeedOf pattern want
@@ -35,7 +36,7 @@ pub record AreAllHits (h : List Change) (version : ℕ) (pattern : PatternTerm) 
   pub count : tried ≡ length screened
 
 -- a version that the history has, and that is no older than any that these calls were told
-abbrev pub IsUpToDate : List Change → Calls → ℕ → Type 0
+abbrev pub IsUpToDate : History → Calls → ℕ → Type 0
 IsUpToDate h before version = (version ≤ head h) × ((v : ℕ) → IsTold before v → v ≤ version)
 
 -- A search that came to its end listed the hits of the history, at a version no older than any that its caller was told
@@ -49,14 +50,14 @@ SearchesAreHits =
     → AreAllHits t.history listed.version pattern listed.tried listed.hits × IsUpToDate t.history before listed.version
 
 -- what was listed for the text of a pattern, with the numbers of its end
-pub record IsTrueList (h : List Change) (text : List ℕ) (version tried count : ℕ) (hits : List ℕ) : Type 0 where
+pub record IsTrueList (h : History) (text : List ℕ) (version tried count : ℕ) (hits : List ℕ) : Type 0 where
   pub pattern : PatternTerm
   pub is : IsPatternOf text pattern
   pub all : AreAllHits h version pattern tried hits
   pub length_is : count ≡ length hits
 
 -- each search that came to its end listed the hits, at a version no older than any that a line before it shows
-abbrev pub SearchesAreTrue : List Change → List Exchange → Type 0
+abbrev pub SearchesAreTrue : History → List Exchange → Type 0
 SearchesAreTrue h exchanges =
     (before after : List Exchange) (x : Exchange) (text : List ℕ) (version tried count : ℕ)
     → exchanges ≡ before ++ x ∷ after
@@ -65,7 +66,7 @@ SearchesAreTrue h exchanges =
 
 -- Each cursor that was opened, and whose pages came to their end before it was closed, listed the hits at the version
 -- of its opening; and that is no older than any version that a line before the opening shows
-abbrev pub CursorsAreTrue : List Change → List Exchange → Type 0
+abbrev pub CursorsAreTrue : History → List Exchange → Type 0
 CursorsAreTrue h exchanges =
     (before between after : List Exchange) (x y : Exchange) (name text hits : List ℕ) (opened version tried count : ℕ)
     → exchanges ≡ before ++ x ∷ (between ++ y ∷ after)
@@ -75,69 +76,75 @@ CursorsAreTrue h exchanges =
     → AreListed name (between ++ y ∷ []) hits
     → IsTrueList h text version tried count hits × (version ≡ opened) × ((v : ℕ) → IsShown before v → v ≤ version)
 
+-- the lines list the hits among the first of these records, as many as a page has, and say `more` exactly where some
+-- are behind them
+pub record IsPageOf (pattern : PatternTerm) (size : ℕ) (records : List Found) (lines : Lines) : Type 0 where
+  pub hits : AreMatched pattern (take size records) (hits_in lines)
+  pub more : Contains lines line.More ↔ (size < length records)
+
+-- the page with this number, from 0, of what is tried for the pattern of a text at a version of the history
+pub record IsTruePage (h : History) (text : List ℕ) (version size k : ℕ) (lines : Lines) : Type 0 where
+  pub pattern : PatternTerm
+  pub is : IsPatternOf text pattern
+  pub want : List Bool
+  pub need : IsNeedOf pattern want
+  pub page : (tried : List Found) → AreFound (IsScreened want) (snapshot h version) tried
+      → IsPageOf pattern size (drop (k * size) tried) lines
+
+-- Each reply to `next` that gave a page of a cursor listed the hits among its piece of what is tried at the version of
+-- the cursor's opening, whether the cursor came to its end or not
+abbrev pub PagesAreTrue : History → ℕ → List Exchange → Type 0
+PagesAreTrue h size exchanges =
+    (before between after : List Exchange) (x y : Exchange) (name text : List ℕ) (version k : ℕ)
+    → exchanges ≡ before ++ x ∷ (between ++ y ∷ after)
+    → IsCommand x.request (command.Start name text) → Contains x.lines (line.Opened version)
+    → StaysOpen name between → AreTurned name between k
+    → IsCommand y.request (command.Next name) → GivePage y.lines
+    → IsTruePage h text version size k y.lines
+
+-- every search and every cursor of the dialogue, by pages of a size, listed the hits of the history
+pub record AreTrue (h : History) (size : ℕ) (exchanges : List Exchange) : Type 0 where
+  pub searches : SearchesAreTrue h exchanges
+  pub cursors : CursorsAreTrue h exchanges
+  pub pages : PagesAreTrue h size exchanges
+
 -- a dialogue over a part of a run that begins at a sound state
 abbrev pub DialoguesAreTrue : Type 0
 DialoguesAreTrue =
     (s t : State) (steps : List Step) (own : ℕ → Bool) (size : ℕ) (exchanges : List Exchange) (calls more : Calls)
     (cursors : List Cursor)
     → IsSound s → IsRun s steps t → IsCalm steps → calls_of own steps ≡ calls ++ more
-    → AreExchanged size [] exchanges calls cursors
-    → SearchesAreTrue t.history exchanges × CursorsAreTrue t.history exchanges
+    → AreExchanged size [] exchanges calls cursors → AreTrue t.history size exchanges
 
--- A transcript in which every search and every cursor that came to its end listed the hits of the history: the text is
--- the replies of a dialogue over all the lines, and the calls of the dialogue are the first of these
-pub record IsTrueTranscript (h : List Change) (size : ℕ) (lines : List TextLine) (calls : Calls) (text : List ℕ)
+-- A transcript that is true by a history: the text is the replies of a true dialogue over all the lines, and the calls
+-- of the dialogue are the first of these
+pub record IsTrueTranscript (h : History) (size : ℕ) (lines : List TextLine) (calls : Calls) (text : List ℕ)
     : Type 0 where
-  pub exchanges : List Exchange
-  pub begin : BeginWithAll lines (requests_of exchanges) []
-  pub said : text ≡ replies_of exchanges
   pub own : Calls
   pub left_open : List Cursor
-  pub exchanged : AreExchanged size [] exchanges own left_open
+  pub dialogue : IsDialogue size lines [] own text left_open
   pub made : IsPrefixOf own calls
-  pub searches : SearchesAreTrue h exchanges
-  pub cursors : CursorsAreTrue h exchanges
+  pub are_true : AreTrue h size dialogue.exchanges
 
 -- The same of a session that stopped early: the text is a beginning of the replies of a dialogue over the first lines
-pub record IsTrueBeginning (h : List Change) (size : ℕ) (lines : List TextLine) (calls : Calls) (text : List ℕ)
+pub record IsTrueBeginning (h : History) (size : ℕ) (lines : List TextLine) (calls : Calls) (text : List ℕ)
     : Type 0 where
-  pub exchanges : List Exchange
   pub left : List TextLine
-  pub begin : BeginWithAll lines (requests_of exchanges) left
-  pub said : IsPrefixOf text (replies_of exchanges)
   pub own : Calls
+  pub replies : List ℕ
   pub left_open : List Cursor
-  pub exchanged : AreExchanged size [] exchanges own left_open
+  pub dialogue : IsDialogue size lines left own replies left_open
+  pub said : IsPrefixOf text replies
   pub made : IsPrefixOf own calls
-  pub searches : SearchesAreTrue h exchanges
-  pub cursors : CursorsAreTrue h exchanges
-
--- The same of a session whose service was worn, by the calls that were made: the exchanges from the first on whose
--- calls are among these listed the hits of the history
-pub record IsTruePart (h : List Change) (size : ℕ) (lines : List TextLine) (calls : Calls) (text : List ℕ)
-    : Type 0 where
-  pub exchanges : List Exchange
-  pub left : List TextLine
-  pub begin : BeginWithAll lines (requests_of exchanges) left
-  pub said : IsPrefixOf text (replies_of exchanges)
-  pub own : Calls
-  pub left_open : List Cursor
-  pub exchanged : AreExchanged size [] exchanges own left_open
-  pub whole : Calls
-  pub made : IsPrefixOf own whole
-  pub among : IsPrefixOf calls whole
-  pub truths : (front back : List Exchange) (first : Calls) (between : List Cursor) → exchanges ≡ front ++ back
-      → AreExchanged size [] front first between → IsPrefixOf first calls
-      → SearchesAreTrue h front × CursorsAreTrue h front
+  pub are_true : AreTrue h size dialogue.exchanges
 
 -- what is true of what was served of a script, by how the session ended
-abbrev pub IsTrueService : EndStatus → List Change → ℕ → List TextLine → Calls → List ℕ → Type 0
+abbrev pub IsTrueService : EndStatus → History → ℕ → List TextLine → Calls → List ℕ → Type 0
 IsTrueService Done h size lines calls text = IsTrueTranscript h size lines calls text
-IsTrueService Worn h size lines calls text = IsTruePart h size lines calls text
 IsTrueService _ h size lines calls text = IsTrueBeginning h size lines calls text
 
 -- a run from a sound state in which these are the caller's own calls, perhaps with others behind them
-pub record IsInRun (calls : Calls) (h : List Change) : Type 0 where
+pub record IsInRun (calls : Calls) (h : History) : Type 0 where
   pub before : State
   pub after : State
   pub steps : List Step
@@ -152,5 +159,5 @@ pub record IsInRun (calls : Calls) (h : List Change) : Type 0 where
 -- what a session served over such a run is true by the history at the run's end
 abbrev pub ServicesAreTrue : Type 0
 ServicesAreTrue =
-    (end : EndStatus) (size : ℕ) (lines : List TextLine) (calls : Calls) (text : List ℕ) (h : List Change)
+    (end : EndStatus) (size : ℕ) (lines : List TextLine) (calls : Calls) (text : List ℕ) (h : History)
     → IsInRun calls h → IsServed end size lines calls text → IsTrueService end h size lines calls text

@@ -136,7 +136,13 @@ Adds name (Err faults.Pins) items items' result = (items' ≡ items) × GivesLin
 Adds name (Err faults.NoMemory) items items' result = (items' ≡ items) × GivesLine line.MemoryFault result
 Adds name (Err faults.Worn) items items' result = (items' ≡ items) × GivesNone result
 
--- pages from the beginning on, by these calls. All their hits were written, or some
+-- all of these calls were answered by pages
+abbrev pub ArePages : Calls → Type 0
+ArePages [] = Unit {0}
+ArePages (c ∷ cs) = (records : List Found) × (last : Bool) × (c.1 ≡ replies.Page records last) × ArePages cs
+
+-- pages from the beginning on, by these calls. All their hits were written, or some, and then the last fetch may have
+-- found no memory
 pub record Listing (Made : Calls → Type 0) (begun now : SearchTerm) (tried count : ℕ) (out : List ℕ) (whole : Bool)
     (out' : List ℕ) : Type 0 where
   pub pages : Calls
@@ -147,6 +153,7 @@ pub record Listing (Made : Calls → Type 0) (begun now : SearchTerm) (tried cou
   pub moved : now ≡ record begun { place = now.place }
   pub length_is : count ≡ length hits
   pub written : AreWritten whole hits out out'
+  pub answered : whole ≡ true → ArePages pages
 
 -- a search was listed to its end, or was cut short
 abbrev pub Listed : (Calls → Type 0) → Walk → Walk → List ℕ → List ℕ → Result Bool Worn → Type 0

@@ -8,7 +8,8 @@ ghost use Rattle.store_machine.specs.declared.machine.Event.TheVariants as event
 ghost use Rattle.store_machine.specs.History.{IsId};
 ghost use Rattle.session_run.specs.Answer.{Asks, Commits, FindsNoMemory, IsPruneLine, TextAnswer};
 ghost use Rattle.session_run.specs.Changes.{IsTextRefusal, change_by};
-ghost use Rattle.session_run.specs.Made.{Makes, OneLine};
+ghost use Rattle.session_run.specs.Cursors.{Makes};
+ghost use Rattle.session_run.specs.Made.{OneLine};
 
 use crate::stop::Worn;
 use crate::texts::text_is_sound;

@@ -3,8 +3,7 @@ ghost use Rattle.session_run.specs.Truths.{DialoguesAreTrue, SearchesAreHits, Se
 
 use shell_lang::one_reading;
 use store_machine::{
-    calls_give_pages, needs_screen, pins_stay, runs_grow, runs_stay_sound, snapshots_stay,
-    states_stay,
+    calls_give_pages, needs_screen, replies_tell, runs_grow, snapshots_stay,
 };
 
 /// A search that came to its end listed exactly the hits of its pattern in the history, at a version no older than any
@@ -13,10 +12,8 @@ pub fn searches_are_hits()
     ensures { SearchesAreHits }
 {
     snapshots_stay();
-    states_stay();
-    runs_stay_sound();
     runs_grow();
-    pins_stay();
+    replies_tell();
     calls_give_pages();
     needs_screen();
 }
@@ -26,10 +23,8 @@ pub fn dialogues_are_true()
     ensures { DialoguesAreTrue }
 {
     snapshots_stay();
-    states_stay();
-    runs_stay_sound();
     runs_grow();
-    pins_stay();
+    replies_tell();
     calls_give_pages();
     needs_screen();
     one_reading();

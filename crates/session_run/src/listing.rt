@@ -7,7 +7,7 @@ ghost use Rattle.smarts_parse.specs.Pattern.{pattern_of};
 ghost use Rattle.store_core.specs.Calls.{NotRaised, SameHeld};
 ghost use Rattle.store_machine.specs.Searches.{At};
 ghost use Rattle.store_machine.specs.Structures.{IsNeedOf};
-ghost use Rattle.session_run.specs.Made.{Makes};
+ghost use Rattle.session_run.specs.Cursors.{Makes};
 ghost use Rattle.session_run.specs.Walks.{ArePartlyWritten, Counts, Listed, Pages};
 
 use crate::stop::Worn;

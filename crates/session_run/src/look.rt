@@ -3,7 +3,8 @@ ghost use Rattle.std.specs.Prelude.{◌⊎◌, OnErr};
 ghost use Rattle.store_core.specs.Calls.{NotRaised, SameHeld};
 ghost use Rattle.store_machine.specs.declared.machine.Event.TheVariants as event;
 ghost use Rattle.session_run.specs.Answer.{Asks, FindsNoMemory, IsLookLine, IsStatsLine};
-ghost use Rattle.session_run.specs.Made.{Makes, OneLine};
+ghost use Rattle.session_run.specs.Cursors.{Makes};
+ghost use Rattle.session_run.specs.Made.{OneLine};
 
 use crate::stop::Worn;
 use shell_lang::{Refusal, Reply};

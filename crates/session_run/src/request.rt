@@ -1,5 +1,5 @@
 //! Reading the next request of a source: a line, and the lines of its molfile where it takes one.
-ghost use Rattle.std.specs.Prelude.{◌≡◌, ◌≢◌, ◌<◌, ◌≤◌, ◌++◌, [], ◌∷◌, Err, IfOk, List, OnErr, OnOk};
+ghost use Rattle.std.specs.Prelude.{◌≡◌, ◌≢◌, ◌<◌, ◌≤◌, ◌++◌, [], ◌∷◌, Err, IfOk, IsTrue, List, Ok, OnErr, OnOk};
 ghost use Rattle.io_edge.specs.Faults.{Rose};
 ghost use Rattle.io_edge.specs.Lines.{TextLine, done_bytes};
 ghost use Rattle.session_run.specs.Requests.{HasNoLast, IsPartOfRequest};
@@ -50,6 +50,7 @@ pub fn next_request<I: Source>(
     ensures reads { ReadsOn (I.left source.old) (I.left source.new) (I.faults source.old)
         (I.faults source.new) lines.old lines.new }
     ensures progress { IfOk result (λ read. read ≢ next.End → done_bytes lines.old < done_bytes lines.new) }
+    ensures ended { result ≡ Ok next.End → IsTrue lines.new.ended }
     ensures source_fault { result ≡ Err LineFault.Source → Rose (I.faults source.old) (I.faults source.new) }
     ensures too_long { result ≡ Err LineFault.TooLong → lines.new.taken ≡ lines.new.limit }
 {

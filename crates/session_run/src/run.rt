@@ -1,15 +1,14 @@
 //! A session over any service.
-ghost use Rattle.std.specs.Prelude.{◌≡◌, ◌≢◌, ◌≤◌, ◌<◌, [], IfSome, None, Some};
+ghost use Rattle.std.specs.Prelude.{◌≡◌, ◌≢◌, ◌≤◌, ◌<◌, [], IfSome, IsTrue, None, Some};
 ghost use Rattle.io_edge.specs.Faults.{Rose};
-ghost use Rattle.io_edge.specs.Lines.{done_bytes, lines_of};
+ghost use Rattle.io_edge.specs.Lines.{done_bytes};
 ghost use Rattle.store_core.specs.Calls.{NotRaised, SameHeld};
-ghost use Rattle.session_run.specs.Cursors.{Calls};
-ghost use Rattle.session_run.specs.Made.{Makes};
+ghost use Rattle.session_run.specs.Cursors.{Calls, Makes};
 ghost use Rattle.session_run.specs.Opened.{opened};
 ghost use Rattle.session_run.specs.Requests.{IsPartOfRequest, Request};
 ghost use Rattle.session_run.specs.Responds.{IsFit, IsReady, KeepsPins};
-ghost use Rattle.session_run.specs.Served.{IsAllOfTaken, IsInputFault, IsServed, TakesExactly, Writes, WritesForTaken};
-ghost use Rattle.session_run.specs.Serving.{AnswersTaken, IsFresh, KeepsOn, Serves};
+ghost use Rattle.session_run.specs.Served.{IsInputFault, IsServedBy, TakesAll, TakesAtMost, TakesExactly};
+ghost use Rattle.session_run.specs.Serving.{IsFresh, KeepsOn, Serves};
 ghost use Rattle.session_run.specs.Turn.{IsNext, Puts, ReadsOn, Replies, TakesNone, TakesPart, TakesRequest, Turns};
 ghost use Rattle.session_run.specs.Walks.{cursors_of};
 
@@ -23,8 +22,8 @@ use std::alloc::Global;
 use std::thread::Threads;
 use store_core::Service;
 
-/// Answers the requests of a source into a sink, each before more is read. At the end the pins of the cursors that are
-/// still open are given back, unless the service is worn.
+/// Answers the requests of a source into a sink, each before more is read, and takes no more bytes than `input_limit`.
+/// At the end the pins of the cursors that are still open are given back, unless the service is worn.
 pub fn session<R: Threads + Sync, S: Service, I: Source, O: Sink, M: Meter>(
     rt: &R,
     alloc: Global,
@@ -39,16 +38,14 @@ pub fn session<R: Threads + Sync, S: Service, I: Source, O: Sink, M: Meter>(
     requires some { 1 ≤ settings.now.page }
     requires few { settings.now.page ≤ 256 }
     ensures serves { (calls : Calls) × Makes S.at S.owns S.stretch service.old service.new calls
-        × IfSome (I.left source.old) (λ bytes. Writes (O.written sink.old) (O.written sink.new)
-        (IsServed result settings.now.page (lines_of bytes) calls)) }
-    ensures input_fault { IsInputFault result → (calls : Calls)
-        × Makes S.at S.owns S.stretch service.old service.new calls
-        × WritesForTaken (I.left source.old) (I.left source.new) (O.written sink.old) (O.written sink.new)
-        (IsAllOfTaken settings.now.page calls) }
+        × IsServedBy result settings.now.page (I.left source.old) (I.left source.new)
+        (O.written sink.old) (O.written sink.new) calls }
     ensures pins { result ≢ EndStatus.Worn → SameHeld (S.holds service.old) (S.holds service.new) }
     ensures worn { result ≡ EndStatus.Worn → S.worn service.new }
     ensures source_fault { result ≡ EndStatus.SourceFault → Rose (I.faults source.old) (I.faults source.new) }
     ensures sink_fault { result ≡ EndStatus.SinkFault → Rose (O.faults sink.old) (O.faults sink.new) }
+    ensures done { result ≡ EndStatus.Done → TakesAll (I.left source.old) (I.left source.new) }
+    ensures within { TakesAtMost (I.left source.old) (I.left source.new) settings.now.input_limit }
     ensures too_long { result ≡ EndStatus.InputTooLong
         → TakesExactly (I.left source.old) (I.left source.new) settings.now.input_limit }
     ensures bounds { NotRaised (S.bounds service.old) (S.bounds service.new) }
@@ -76,16 +73,14 @@ fn serve_to_end<R: Threads + Sync, S: Service, I: Source, O: Sink, M: Meter>(
     requires none { opened responder.old.cursors ≡ [] }
     requires fresh { IsFresh lines.old }
     ensures serves { (calls : Calls) × Makes S.at S.owns S.stretch service.old service.new calls
-        × IfSome (I.left source.old) (λ bytes. Writes (O.written sink.old) (O.written sink.new)
-        (IsServed result responder.old.cursors.size (lines_of bytes) calls)) }
-    ensures input_fault { IsInputFault result → (calls : Calls)
-        × Makes S.at S.owns S.stretch service.old service.new calls
-        × WritesForTaken (I.left source.old) (I.left source.new) (O.written sink.old) (O.written sink.new)
-        (IsAllOfTaken responder.old.cursors.size calls) }
+        × IsServedBy result responder.old.cursors.size (I.left source.old) (I.left source.new)
+        (O.written sink.old) (O.written sink.new) calls }
     ensures pins { result ≢ EndStatus.Worn → SameHeld (S.holds service.old) (S.holds service.new) }
     ensures worn { result ≡ EndStatus.Worn → S.worn service.new }
     ensures source_fault { result ≡ EndStatus.SourceFault → Rose (I.faults source.old) (I.faults source.new) }
     ensures sink_fault { result ≡ EndStatus.SinkFault → Rose (O.faults sink.old) (O.faults sink.new) }
+    ensures done { result ≡ EndStatus.Done → TakesAll (I.left source.old) (I.left source.new) }
+    ensures within { TakesAtMost (I.left source.old) (I.left source.new) lines.old.limit }
     ensures too_long { result ≡ EndStatus.InputTooLong
         → TakesExactly (I.left source.old) (I.left source.new) lines.old.limit }
     ensures bounds { NotRaised (S.bounds service.old) (S.bounds service.new) }
@@ -114,18 +109,16 @@ fn serve<R: Threads + Sync, S: Service, I: Source, O: Sink, M: Meter>(
     requires none { opened responder.old.cursors ≡ [] }
     requires fresh { IsFresh lines.old }
     ensures serves { (calls : Calls) × Makes S.at S.owns S.stretch service.old service.new calls
-        × Serves result responder.old.cursors.size (I.left source.old) (O.written sink.old) (O.written sink.new)
-        calls (cursors_of (opened responder.new.cursors)) }
-    ensures input_fault { IsInputFault result → (calls : Calls)
-        × Makes S.at S.owns S.stretch service.old service.new calls
-        × WritesForTaken (I.left source.old) (I.left source.new) (O.written sink.old) (O.written sink.new)
-        (AnswersTaken responder.old.cursors.size calls (cursors_of (opened responder.new.cursors))) }
+        × Serves result responder.old.cursors.size (I.left source.old) (I.left source.new)
+        (O.written sink.old) (O.written sink.new) calls (cursors_of (opened responder.new.cursors)) }
     ensures fit { IsFit responder.new.settings responder.new.cursors.size (opened responder.new.cursors) }
     ensures pins { result ≢ EndStatus.Worn
         → KeepsPins (S.holds service.old) [] (S.holds service.new) (cursors_of (opened responder.new.cursors)) }
     ensures worn { result ≡ EndStatus.Worn → S.worn service.new }
     ensures source_fault { result ≡ EndStatus.SourceFault → Rose (I.faults source.old) (I.faults source.new) }
     ensures sink_fault { result ≡ EndStatus.SinkFault → Rose (O.faults sink.old) (O.faults sink.new) }
+    ensures done { result ≡ EndStatus.Done → TakesAll (I.left source.old) (I.left source.new) }
+    ensures within { TakesAtMost (I.left source.old) (I.left source.new) lines.old.limit }
     ensures too_long { result ≡ EndStatus.InputTooLong
         → TakesExactly (I.left source.old) (I.left source.new) lines.old.limit }
     ensures bounds { NotRaised (S.bounds service.old) (S.bounds service.new) }
@@ -158,6 +151,7 @@ fn turn<R: Threads + Sync, S: Service, I: Source, O: Sink, M: Meter>(
     ensures reads { ReadsOn (I.left source.old) (I.left source.new) (I.faults source.old) (I.faults source.new)
         lines.old lines.new }
     ensures progress { result ≡ None → done_bytes lines.old < done_bytes lines.new }
+    ensures ended { result ≡ Some EndStatus.Done → IsTrue lines.new.ended }
     ensures keeps { KeepsOn S.holds S.worn S.bounds service.old service.new responder.old responder.new result }
     ensures source_fault { result ≡ Some EndStatus.SourceFault → Rose (I.faults source.old) (I.faults source.new) }
     ensures sink_fault { result ≡ Some EndStatus.SinkFault → Rose (O.faults sink.old) (O.faults sink.new) }

@@ -9,7 +9,8 @@ ghost use Rattle.store_core.specs.Calls.{NotRaised, SameHeld};
 ghost use Rattle.store_machine.specs.Searches.{At};
 ghost use Rattle.store_machine.specs.Structures.{IsNeedOf};
 ghost use Rattle.session_run.specs.Answer.{SearchAnswer};
-ghost use Rattle.session_run.specs.Made.{Answered, Makes, Tells};
+ghost use Rattle.session_run.specs.Cursors.{Makes};
+ghost use Rattle.session_run.specs.Made.{Answered, Tells};
 ghost use Rattle.session_run.specs.Searched.{Begins, IsLastLine, IsPatternRefusal, IsPinOf, PinAnswer, SaysEnd, alone};
 
 use crate::listing::Walk;

@@ -9,9 +9,9 @@ use Rattle.std.specs.List.{sum_by}
 use Rattle.std.specs.List.Sorted.{IsStrictlySortedBy}
 use Rattle.std.specs.Map.{keys_of, values_of}
 use Rattle.std.specs.Ordering.{eq_by_cmp}
-use Rattle.store_machine.specs.History.{IsAllowed, IsHistory, IsValid, Snapshot, after_change, head, id_of, refusal, snapshot, unless_live}
+use Rattle.store_machine.specs.History.{IsAllowed, IsHistory, IsValid, Snapshot, after_change, grown, head, id_of, refusal, snapshot, unless_live}
 use Rattle.store_machine.specs.Laws.{CommitsChange, KeptIsRead, RunsStaySound, SnapshotsStay, StatesStay}
-use Rattle.store_machine.specs.Machine.{Gives, committed, is_live, now}
+use Rattle.store_machine.specs.Machine.{Gives, MayAdd, committed, is_live, now}
 use Rattle.store_machine.specs.Made.{IsKept}
 use Rattle.store_machine.specs.declared.machine.Change.{Change as Told}
 use Rattle.store_machine.specs.declared.machine.Change.TheVariants as told
@@ -24,12 +24,12 @@ use Rattle.store_machine.specs.declared.machine.Status.TheVariants.{Live, Withdr
 use Rattle.store_core.specs.Chains.{IsEntryOf, chain_of, latest, seen, status_in, status_of}
 use Rattle.store_core.specs.Records.{IsRecord, Shared}
 use Rattle.store_core.specs.Replies.{Counts, IsLeft, IsShared, IsSoundChange, MayCount, change_of, refusal_by}
-use Rattle.store_core.specs.Stored.{AreAscending, IsChain, StandsFor, StoreTerm}
+use Rattle.store_core.specs.Stored.{AreAscending, IsChain, Served, StandsFor, StoreTerm, alone, served}
 use Rattle.store_core.specs.declared.chain.Kept.{Kept}
 use Rattle.store_core.specs.declared.words.Change.{Change}
 use Rattle.store_core.specs.declared.words.Change.TheVariants.{Register, Revise, Withdraw}
 use Rattle.store_core.proofs.Counts.{count-get, count-insert, one_if, one_in}
-use Rattle.store_core.proofs.Members.{contains-here, contains-last, contains-there}
+use Rattle.store_machine.proofs.Members.{contains-here, contains-last, contains-there}
 use Rattle.store_core.proofs.OneCall.{serves}
 use Rattle.store_core.proofs.Rows.{sound-after}
 use Rattle.store_core.proofs.Sees.{head-used, seen-at}
@@ -136,19 +136,19 @@ ascending-pushed (x ∷ xs) k up late = (
 )
 
 -- what a chain held it holds after the commit
-module _ (snapshots : SnapshotsStay) (s : State) (c : Told) where
+module _ (snapshots : SnapshotsStay) (s : Served) (c : Told) where
   then-state : (q : ℕ) (k : Kept) → k.version ≤ head s.history
       → get (snapshot s.history k.version) q ≡ Some (status_of k)
-      → get (snapshot (s.history ++ c ∷ []) k.version) q ≡ Some (status_of k)
+      → get (snapshot (grown s.history (c ∷ [])) k.version) q ≡ Some (status_of k)
   then-state q k le e = ap (λ m. get m q) (snapshots s.history (c ∷ []) k.version le) ∙ e
 
-  later-head : head (s.history ++ c ∷ []) ≡ head s.history + 1
-  later-head = length-append s.history (c ∷ [])
+  later-head : head (grown s.history (c ∷ [])) ≡ head s.history + 1
+  later-head = omega (arith, length-append s.history.commits (c ∷ []))
 
-  kept-still : (q version : ℕ) → IsKept s q version → IsKept (committed s c) q version
+  kept-still : (q version : ℕ) → IsKept (alone s) q version → IsKept (committed (alone s) c) q version
   kept-still q version k = Contains-append_left s.kept _ _ k
 
-  old-chain : (q : ℕ) (ks : List Kept) → id_of c ≢ q → IsChain s q ks → IsChain (committed s c) q ks
+  old-chain : (q : ℕ) (ks : List Kept) → id_of c ≢ q → IsChain s q ks → IsChain (served (committed (alone s) c)) q ks
   old-chain q ks other h = record {
     ascending = h.ascending;
     late = λ k d. omega (arith, h.late k d, later-head);
@@ -164,29 +164,29 @@ module _ (snapshots : SnapshotsStay) (s : State) (c : Told) where
 
   module _ (change : CommitsChange) (ks : List Kept) (k : Kept) (at : k.version ≡ head s.history + 1)
       (is : status_of k ≡ made_by (head s.history + 1) c) (entry : IsEntryOf (id_of c) k.entry) where
-    new-state : get (snapshot (s.history ++ c ∷ []) k.version) (id_of c) ≡ Some (status_of k)
+    new-state : get (snapshot (grown s.history (c ∷ [])) k.version) (id_of c) ≡ Some (status_of k)
     new-state =
-        ap (λ v. get (snapshot (s.history ++ c ∷ []) v) (id_of c)) at
-        ∙ (ap (λ m. get m (id_of c)) (change s.history c ∙ inserts (head s.history + 1) c (now s))
-        ∙ (get-insert nat_cmp_total (now s) (id_of c) (made_by (head s.history + 1) c) (id_of c)
+        ap (λ v. get (snapshot (grown s.history (c ∷ [])) v) (id_of c)) at
+        ∙ (ap (λ m. get m (id_of c)) (change s.history c ∙ inserts (head s.history + 1) c (now (alone s)))
+        ∙ (get-insert nat_cmp_total (now (alone s)) (id_of c) (made_by (head s.history + 1) c) (id_of c)
         ∙ (cond-true (eq_by_cmp nat_cmp (id_of c) (id_of c)) (Some (made_by (head s.history + 1) c))
-        (get (now s) (id_of c)) (tied (id_of c)) ∙ ap (λ x. Some x) (sym is))))
+        (get (now (alone s)) (id_of c)) (tied (id_of c)) ∙ ap (λ x. Some x) (sym is))))
 
-    kept-new : IsKept (committed s c) (id_of c) k.version
-    kept-new = subst (IsKept (committed s c) (id_of c)) (sym at)
+    kept-new : IsKept (committed (alone s) c) (id_of c) k.version
+    kept-new = subst (IsKept (committed (alone s) c) (id_of c)) (sym at)
         (Contains-push s.kept (record { id = id_of c; version = head s.history + 1 }))
 
     each : (P : Kept → Type 0) → ((l : Kept) → Contains ks l → P l) → P k → (l : Kept) → Contains (ks ++ k ∷ []) l → P l
     each P old new l d = elim (contains-last k l ks d) [ inl e ↦ old l e | inr e ↦ subst P e new ]
 
-    new-chain : IsChain s (id_of c) ks → IsChain (committed s c) (id_of c) (ks ++ k ∷ [])
+    new-chain : IsChain s (id_of c) ks → IsChain (served (committed (alone s) c)) (id_of c) (ks ++ k ∷ [])
     new-chain h = record {
       ascending = ascending-pushed ks k h.ascending (λ l d. omega (arith, h.late l d, at));
-      late = each (λ l. l.version ≤ head (s.history ++ c ∷ [])) (λ l d. omega (arith, h.late l d, later-head))
+      late = each (λ l. l.version ≤ head (grown s.history (c ∷ []))) (λ l d. omega (arith, h.late l d, later-head))
           (omega (arith, at, later-head));
-      only = each (λ l. IsKept (committed s c) (id_of c) l.version)
+      only = each (λ l. IsKept (committed (alone s) c) (id_of c) l.version)
           (λ l d. kept-still (id_of c) l.version (h.only l d)) kept-new;
-      states = each (λ l. get (snapshot (s.history ++ c ∷ []) l.version) (id_of c) ≡ Some (status_of l))
+      states = each (λ l. get (snapshot (grown s.history (c ∷ [])) l.version) (id_of c) ≡ Some (status_of l))
           (λ l d. then-state (id_of c) l (h.late l d) (h.states l d)) new-state;
       records = each (λ l. IsEntryOf (id_of c) l.entry) h.records entry;
       all = λ version d. elim (contains-last (record { id = id_of c; version = head s.history + 1 })
@@ -221,47 +221,46 @@ pub record Laws : Type 0 where
   pub snapshots : SnapshotsStay
   pub states : StatesStay
 
-pub commit-gives : Laws → (store new : StoreTerm) (s : State) (c : Change) (k : Kept) → StandsFor store s
-    → Committing store new c k → IsAllowed (now s) (change_of c)
-    → Gives s 0 (event.Commit (change_of c)) (reply.Committed new.version) (committed s (change_of c))
-commit-gives laws store new s c k h m allowed = (
-  serves s h.serves,
-  (
-    (
-      valid-change laws.states s c h.sound.history m.sound allowed,
-      allowed,
-      omega
-          (arith, m.room, h.version, h.limit),
-    ),
-    omega (arith, m.version, h.version),
-    refl,
-  ),
+pub may-add : Laws → (store new : StoreTerm) (s : Served) (c : Change) (k : Kept) → StandsFor store s
+    → Committing store new c k → IsAllowed (now (alone s)) (change_of c) → MayAdd (alone s) (change_of c)
+may-add laws store new s c k h m allowed = (
+  valid-change laws.states (alone s) c h.sound.history m.sound allowed,
+  allowed,
+  omega (arith, m.room, h.version, h.limit, h.sound.history.version),
 )
 
-pub commit-stands : Laws → (store new : StoreTerm) (s : State) (c : Change) (k : Kept) → StandsFor store s
-    → Committing store new c k → IsAllowed (now s) (change_of c)
-    → StandsFor new (committed s (change_of c))
+commit-gives : Laws → (store new : StoreTerm) (s : Served) (c : Change) (k : Kept) → StandsFor store s
+    → Committing store new c k → IsAllowed (now (alone s)) (change_of c)
+    → Gives (alone s) 0 (event.Commit (change_of c)) (reply.Committed new.version) (committed (alone s) (change_of c))
+commit-gives laws store new s c k h m allowed = (
+  serves (alone s) refl,
+  (may-add laws store new s c k h m allowed, omega (arith, m.version, h.version), refl),
+)
+
+pub commit-stands : Laws → (store new : StoreTerm) (s : Served) (c : Change) (k : Kept) → StandsFor store s
+    → Committing store new c k → IsAllowed (now (alone s)) (change_of c)
+    → StandsFor new (served (committed (alone s) (change_of c)))
 commit-stands laws store new s c k h m allowed =
     let told = change_of c in
-    let t : State = committed s told in
+    let t : State = committed (alone s) told in
     let at : k.version ≡ head s.history + 1 = omega (arith, m.at, h.version) in
     let is : status_of k ≡ made_by (head s.history + 1) told = left-status k.version c k.entry m.left
     ∙ ap (λ v. made_by v told) at in
-    let state : now t ≡ insert (now s) (id_of told) (made_by (head s.history + 1) told) =
-    ap (λ v. snapshot (s.history ++ told ∷ []) v) (length-append s.history (told ∷ []))
-    ∙ (laws.commits s.history told ∙ inserts (head s.history + 1) told (now s)) in
+    let later : head (grown s.history (told ∷ [])) ≡ head s.history + 1 =
+    omega (arith, length-append s.history.commits (told ∷ [])) in
+    let state : now t ≡ insert (now (alone s)) (id_of told) (made_by (head s.history + 1) told) =
+    ap (λ v. snapshot (grown s.history (told ∷ [])) v) later
+    ∙ (laws.commits s.history told ∙ inserts (head s.history + 1) told (now (alone s))) in
     let live = ap (λ (n : Snapshot). count_by (λ e. is_live e.1) (entries n)) state in
     let gone = ap (λ (n : Snapshot). count_by (λ e. not (is_live e.1)) (entries n)) state in
-    let counted = counts-after (head s.history + 1) c (get (now s) (id_of told)) store.live store.withdrawn new.live
-    new.withdrawn _ _ _ _ (sym (refusal-is (now s) c) ∙ allowed) m.counts h.live h.withdrawn
-    (count-insert is_live (now s) (id_of told) (made_by (head s.history + 1) told))
-    (count-insert (λ x. not (is_live x)) (now s) (id_of told) (made_by (head s.history + 1) told)) in
+    let counted = counts-after (head s.history + 1) c (get (now (alone s)) (id_of told)) store.live store.withdrawn new.live
+    new.withdrawn _ _ _ _ (sym (refusal-is (now (alone s)) c) ∙ allowed) m.counts h.live h.withdrawn
+    (count-insert is_live (now (alone s)) (id_of told) (made_by (head s.history + 1) told))
+    (count-insert (λ x. not (is_live x)) (now (alone s)) (id_of told) (made_by (head s.history + 1) told)) in
     record {
-      sound = sound-after laws.sound s t 0 (event.Commit told) (reply.Committed new.version)
+      sound = sound-after laws.sound (alone s) t 0 (event.Commit told) (reply.Committed new.version)
           (commit-gives laws store new s c k h m allowed) h.sound;
-      serves = h.serves;
-      doubt = refl;
-      version = omega (arith, m.version, h.version, length-append s.history (told ∷ []));
+      version = omega (arith, m.version, h.version, later);
       limit = m.limit ∙ h.limit;
       most = omega (arith, m.limit, h.most);
       within = omega (arith, m.version, m.room, h.limit, h.most);
@@ -280,14 +279,14 @@ commit-stands laws store new s c k h m allowed =
       ids = let few = counts-few c store.live store.withdrawn new.live new.withdrawn store.version m.counts h.ids
           in omega (arith, few, m.version);
       ordered = m.ordered;
-      chains = λ q. elim (q == id_of told) as (λ b. (q == id_of told) ≡ b → IsChain t q (chain_of new.chains q)) [
+      chains = λ q. elim (q == id_of told) as (λ b. (q == id_of told) ≡ b → IsChain (served t) q (chain_of new.chains q)) [
         | true ↦ λ e.
-            subst (IsChain t q) (sym (m.chains q ∙ cond-true (q == id_of told) _ _ e))
-            (subst (λ i. IsChain t i (chain_of store.chains (id_of told) ++ k ∷ [])) (sym (eqb-true q (id_of told) e))
+            subst (IsChain (served t) q) (sym (m.chains q ∙ cond-true (q == id_of told) _ _ e))
+            (subst (λ i. IsChain (served t) i (chain_of store.chains (id_of told) ++ k ∷ [])) (sym (eqb-true q (id_of told) e))
             (new-chain laws.snapshots s told laws.commits (chain_of store.chains (id_of told)) k at is
             (left-entry c k.entry m.left m.sound) (h.chains (id_of told))))
         | false ↦ λ e.
-            subst (IsChain t q) (sym (m.chains q ∙ cond-false (q == id_of told) _ _ e))
+            subst (IsChain (served t) q) (sym (m.chains q ∙ cond-false (q == id_of told) _ _ e))
             (old-chain laws.snapshots s told q (chain_of store.chains q)
             (λ same. true≢false (sym (eq-eqb q (id_of told) (sym same)) ∙ e)) (h.chains q))
       ] refl;
@@ -295,7 +294,7 @@ commit-stands laws store new s c k h m allowed =
 
 -- why a change is refused, as the store finds it
 pub now-is : KeptIsRead → StatesStay → (store : StoreTerm) (s : State) (c : Change) (o : Option Kept)
-    → StandsFor store s → o ≡ latest store.version (chain_of store.chains (id_of (change_of c)))
+    → StandsFor store (served s) → o ≡ latest store.version (chain_of store.chains (id_of (change_of c)))
     → refusal (now s) (change_of c) ≡ refusal_by (option_map status_of o) c
 now-is read stay store s c o h e =
     refusal-is (now s) c
@@ -314,7 +313,7 @@ counts-one (Withdraw id) (Some (Live v format text)) live allowed le = omega (ar
 counts-one (Withdraw id) (Some (Withdrawn v)) live allowed le = absurd (no-some allowed)
 
 pub may-count : KeptIsRead → StatesStay → (store : StoreTerm) (s : State) (c : Change) (o : Option Kept)
-    → StandsFor store s → o ≡ latest store.version (chain_of store.chains (id_of (change_of c)))
+    → StandsFor store (served s) → o ≡ latest store.version (chain_of store.chains (id_of (change_of c)))
     → refusal_by (option_map status_of o) c ≡ None → MayCount c store.live
 may-count read stay store s c o h e allowed =
     let counted = count-get is_live (now s) (id_of (change_of c)) in
@@ -328,8 +327,8 @@ head-at store other id key o e f h = h ∙ (ap (λ i. latest store.version (chai
     ∙ ap (λ (x : StoreTerm). latest x.version (chain_of x.chains id)) (sym e))
 
 pub done-stands : KeptIsRead → Laws → (store new : StoreTerm) (s : State) (c : Change) (k : Kept) (o : Option Kept)
-    → StandsFor store s → o ≡ latest store.version (chain_of store.chains (id_of (change_of c)))
+    → StandsFor store (served s) → o ≡ latest store.version (chain_of store.chains (id_of (change_of c)))
     → refusal_by (option_map status_of o) c ≡ None → Committing store new c k
-    → StandsFor new (committed s (change_of c))
-done-stands read laws store new s c k o h e allowed m = commit-stands laws store new s c k h m
+    → StandsFor new (served (committed s (change_of c)))
+done-stands read laws store new s c k o h e allowed m = commit-stands laws store new (served s) c k h m
     (now-is read laws.states store s c o h e ∙ allowed)

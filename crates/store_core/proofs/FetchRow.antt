@@ -23,11 +23,11 @@ use Rattle.store_core.specs.Chains.{chain_of, latest, status_in, status_of}
 use Rattle.store_core.specs.Picks.{ArePicked, entry_in, live_at}
 use Rattle.store_core.specs.Records.{Shared, found_of, founds}
 use Rattle.store_core.specs.Replies.{fetch_calls}
-use Rattle.store_core.specs.Stored.{StandsFor, StoreTerm, Stretches, pin_of}
+use Rattle.store_core.specs.Stored.{IsAt, StoreTerm, Stretches, pin_of}
 use Rattle.store_core.specs.declared.words.CallFault.{CallFault}
 use Rattle.store_core.specs.declared.words.CallFault.TheVariants as call
 use Rattle.store_core.proofs.Listed.{Rise, rises}
-use Rattle.store_core.proofs.Members.{contains-here, contains-split, contains-there}
+use Rattle.store_machine.proofs.Members.{contains-here, contains-split, contains-there}
 use Rattle.store_core.proofs.OneCall.{one-call, serves}
 use Rattle.store_core.proofs.Picked.{AreOwn, of-state, own-entry, own-from, pick, picked-between, picked-from, picked-in, picked-increases}
 use Rattle.store_core.proofs.PruneRow.{of-kept}
@@ -68,16 +68,16 @@ lives version (Some q) n format text e = record
     { shared = q; is = refl; same-format = ap (format_in format) e; same-text = ap text_in e }
 
 module _ (read : KeptIsRead) (stay : StatesStay) (one : OneStructure) (store : StoreTerm) (s : State)
-    (h : StandsFor store s) (pin : Pin) (held : Contains store.pins pin) (want : List Bool) where
+    (h : IsAt store s) (pin : Pin) (held : Contains store.pins pin) (want : List Bool) where
   used : Contains (in_use s) pin.version
   used = Contains-append_left (map (λ (p : Held). p.version) s.pins) (head s.history ∷ []) pin.version
-      (pinned-version pin s.pins (subst (λ l. Contains l pin) (sym h.pins) held))
+      (pinned-version pin s.pins (subst (λ l. Contains l pin) (sym h.stands.pins) held))
 
   up : Rise store.chains
-  up = rises store.chains h.ordered
+  up = rises store.chains h.stands.ordered
 
   own : AreOwn store.chains
-  own = own-from store.chains up (λ id k c. (h.chains id).records k c)
+  own = own-from store.chains up (λ id k c. (h.stands.chains id).records k c)
 
   is-live : (all : List Found) (r : Found) → ArePicked pin.version want store.chains all → Contains all r
       → IsLive (snapshot s.history pin.version) r × IsScreened want r.format r.text
@@ -86,7 +86,7 @@ module _ (read : KeptIsRead) (stay : StatesStay) (one : OneStructure) (store : S
       let o = of-state pin.version (chain_of store.chains r.id) k.shared k.live in (
         (
           o.k.version,
-          seen-at read stay store s pin.version r.id h used
+          seen-at read stay store s pin.version r.id h.stands used
               ∙ (ap (option_map status_of) o.latest-is
               ∙ (ap (λ e. Some (status_in o.k.version e)) o.entry
               ∙ ap (λ (x : Found). Some (Live o.k.version x.format x.text)) k.is)),
@@ -99,10 +99,10 @@ module _ (read : KeptIsRead) (stay : StatesStay) (one : OneStructure) (store : S
   is-picked all r p live asked =
       let ks = chain_of store.chains r.id in
       let found = of-kept (Live live.0 r.format r.text) (latest pin.version ks)
-      (sym (seen-at read stay store s pin.version r.id h used) ∙ live.1) in
+      (sym (seen-at read stay store s pin.version r.id h.stands used) ∙ live.1) in
       let l = lives found.0.version found.0.entry live.0 r.format r.text found.2 in
       let there : live_at pin.version ks ≡ Some l.shared = ap entry_in found.1 ∙ l.is in
-      let id : (arc_value l.shared).id ≡ r.id = (own-entry r.id pin.version ks l.shared (h.chains r.id).records there).1
+      let id : (arc_value l.shared).id ≡ r.id = (own-entry r.id pin.version ks l.shared (h.stands.chains r.id).records there).1
       in
       let same : found_of (arc_value l.shared) ≡ r = λ i. record
       { id = id i; format = l.same-format i; text = l.same-text i } in
@@ -128,7 +128,7 @@ module _ (read : KeptIsRead) (stay : StatesStay) (one : OneStructure) (store : S
         → ((all : List Found) → ArePicked pin.version want (Between from store.chains) all
         → (founds filled ≡ take limit all) × (last ≡ nat_le (length all) limit)) → Answered records result
     fetch-page records filled result last same ok answer =
-        let owner = held-in pin s.pins h.sound.slots (subst (λ l. Contains l pin) (sym h.pins) held) in
+        let owner = held-in pin s.pins h.sound.slots (subst (λ l. Contains l pin) (sym h.stands.pins) held) in
         let all = pick one pin.version want store.chains own in
         let is = answer (from_on from all.0) (picked-between pin.version want from store.chains all.0 own all.1) in
         let call : Answered filled (Ok last) =
@@ -148,7 +148,7 @@ module _ (read : KeptIsRead) (stay : StatesStay) (one : OneStructure) (store : S
     pub fetch-none : (records : List Shared) (result : Result Bool CallFault) → result ≡ Err call.NoMemory
         → Answered records result
     fetch-none records result err =
-        let owner = held-in pin s.pins h.sound.slots (subst (λ l. Contains l pin) (sym h.pins) held) in
+        let owner = held-in pin s.pins h.sound.slots (subst (λ l. Contains l pin) (sym h.stands.pins) held) in
         let none : Answered records (Err call.NoMemory) = one-call store store s s owner.0
         (event.Fetch pin.slot want from limit) reply.NoMemory refl h
         (serves s h.serves, (pin.version, owner.1, refl)) h in

@@ -1,24 +1,25 @@
 -- A store without commits.
-use Rattle.std.proofs.Common.{◌≡◌, ◌≤◌, ◌∙◌, ap, arith, Bool, Contains, count_by, length, List, [], ◌∷◌, nat_cmp, None, refl, Some, subst, suc, sym, take, zero, ℕ}
+use Rattle.std.proofs.Common.{◌≡◌, ◌-◌, ◌≤◌, ◌∙◌, ap, arith, Bool, Contains, count_by, length, List, [], ◌∷◌, nat_cmp, None, refl, Some, subst, suc, sym, take, zero, ℕ}
 use Rattle.std.specs.FinMap.{empty as none, entries, get, get-empty, len-empty, len-entries}
 use Rattle.std.specs.List.Sorted.{IsStrictlySortedBy}
 use Rattle.std.specs.Map.{keys_of}
 use Rattle.snap_registry.specs.declared.Pin.{Pin}
-use Rattle.store_machine.specs.History.{Snapshot, after_changes, snapshot}
+use Rattle.store_machine.specs.History.{Snapshot, after_changes, begun, snapshot}
 use Rattle.store_machine.specs.Laws.{IsSound}
 use Rattle.store_machine.specs.declared.machine.Change.{Change}
 use Rattle.store_machine.specs.declared.machine.Status.{Status}
-use Rattle.store_core.specs.Stored.{IsChain, StandsFor, empty}
+use Rattle.store_core.specs.Stored.{IsAt, IsChain, empty, served}
 use Rattle.store_core.specs.declared.chain.Kept.{Kept}
+use Rattle.store_core.proofs.OneCall.{at-alone}
 
-none-taken : (v : ℕ) → snapshot [] v ≡ none
-none-taken v = ap (λ cs. after_changes 0 cs none) (nothing v)
+none-taken : (v : ℕ) → snapshot begun v ≡ none
+none-taken v = ap (λ cs. after_changes 0 cs none) (nothing (v - 0))
   where
     nothing : (v : ℕ) → take {A = Change} v [] ≡ []
     nothing zero = refl
     nothing (suc n) = refl
 
-no-state : (v id : ℕ) (status : Status) → get (snapshot [] v) id ≡ Some status → ⊥
+no-state : (v id : ℕ) (status : Status) → get (snapshot begun v) id ≡ Some status → ⊥
 no-state v id status e = never status (sym (ap (λ m. get m id) (none-taken v) ∙ get-empty nat_cmp id) ∙ e)
   where
     never : (status : Status) → None ≡ Some status → ⊥
@@ -29,7 +30,7 @@ none-in x c = omega (arith, c.1)
 
 empty-sound : (commits : ℕ) → IsSound (empty commits)
 empty-sound commits = record {
-  history = tt;
+  history = record { base = refl; version = refl; allowed = tt };
   doubt = tt;
   slots = tt;
   pins = λ v c. absurd (none-in v c);
@@ -41,7 +42,7 @@ none-counted : (p : Status → Bool) (es : List (ℕ × Status)) → length es �
 none-counted p [] e = refl
 none-counted p (x ∷ xs) e = absurd (omega (arith, e))
 
-empty-chain : (commits id : ℕ) → IsChain (empty commits) id []
+empty-chain : (commits id : ℕ) → IsChain (served (empty commits)) id []
 empty-chain commits id = record {
   ascending = tt;
   late = λ k c. absurd (none-in k c);
@@ -55,15 +56,13 @@ abbrev no-chains : List (ℕ × List Kept)
 no-chains = []
 
 stands : (commits : ℕ) → commits ≤ 16777215 → IsStrictlySortedBy nat_cmp (keys_of no-chains)
-    → StandsFor (record { chains = []; pins = []; version = 0; limit = commits; kept = 0; live = 0; withdrawn = 0 })
+    → IsAt (record { chains = []; pins = []; version = 0; limit = commits; kept = 0; live = 0; withdrawn = 0 })
     (empty commits)
 stands commits few ordered =
     let start : Snapshot = none in
     let size : length (entries start) ≡ 0 = sym (len-entries start) ∙ len-empty nat_cmp Status in
-    record {
+    at-alone _ (served (empty commits)) (record {
       sound = empty-sound commits;
-      serves = refl;
-      doubt = refl;
       version = refl;
       limit = refl;
       most = few;
@@ -77,11 +76,11 @@ stands commits few ordered =
       ids = omega arith;
       ordered = ordered;
       chains = λ id. empty-chain commits id;
-    }
+    })
 
 pub fresh-stands : (commits : ℕ) (chains : List (ℕ × List Kept)) (pins : List Pin) → commits ≤ 16777215 → chains ≡ []
     → pins ≡ [] → IsStrictlySortedBy nat_cmp (keys_of chains)
-    → StandsFor (record {
+    → IsAt (record {
       chains = chains;
       pins = pins;
       version = 0;
@@ -91,7 +90,7 @@ pub fresh-stands : (commits : ℕ) (chains : List (ℕ × List Kept)) (pins : Li
       withdrawn = 0;
     }) (empty commits)
 fresh-stands commits chains pins few e f ordered =
-    subst (λ l. StandsFor (record {
+    subst (λ l. IsAt (record {
       chains = l;
       pins = pins;
       version = 0;
@@ -100,7 +99,7 @@ fresh-stands commits chains pins few e f ordered =
       live = 0;
       withdrawn = 0;
     }) (empty commits)) (sym e)
-    (subst (λ l. StandsFor (record {
+    (subst (λ l. IsAt (record {
       chains = [];
       pins = l;
       version = 0;

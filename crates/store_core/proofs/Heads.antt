@@ -11,7 +11,7 @@ use Rattle.std.specs.Map.{keys_of, lookup, set_value, values_of}
 use Rattle.std.specs.Ordering.{nat_cmp}
 use Rattle.store_core.specs.Chains.{IsEntryOf, but_last, chain_of, latest, or_else, states_in}
 use Rattle.store_core.specs.declared.chain.Kept.{Kept}
-use Rattle.store_core.proofs.Members.{contains-here, contains-there}
+use Rattle.store_machine.proofs.Members.{contains-here, contains-there}
 
 none-some : {X : Type 0} {x : X} → None ≡ Some x → ⊥
 none-some e = cc

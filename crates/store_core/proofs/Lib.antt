@@ -7,8 +7,8 @@ mod Fresh
 mod Heads
 mod Latest
 mod Listed
-mod Members
 mod OneCall
+mod Owners
 mod Picked
 mod PruneRow
 mod Prunes

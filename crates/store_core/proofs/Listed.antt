@@ -15,7 +15,7 @@ use Rattle.store_core.specs.Chains.{chain_of, states_in}
 use Rattle.store_core.specs.Stored.{AreAscending}
 use Rattle.store_core.specs.declared.chain.Kept.{Kept}
 use Rattle.store_core.proofs.Heads.{total}
-use Rattle.store_core.proofs.Members.{contains-here, contains-split, contains-there}
+use Rattle.store_machine.proofs.Members.{contains-here, contains-split, contains-there}
 
 abbrev pub entry_of : ℕ → Kept → Entry
 entry_of id k = record { id = id; version = k.version }

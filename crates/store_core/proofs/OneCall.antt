@@ -1,13 +1,14 @@
--- One call of a store is one step of its run.
-use Rattle.std.proofs.Common.{◌≡◌, ◌&&◌, ap, arith, cond, [], ◌∷◌, refl, true, ℕ}
-use Rattle.store_machine.specs.Machine.{Gives, Serves}
+-- One call of a store is one step of its run; and the part of a state that is in memory.
+use Rattle.std.proofs.Common.{◌≡◌, ◌&&◌, ap, arith, cond, [], ◌∷◌, MatchOption, refl, true, ℕ}
+use Rattle.store_machine.specs.Laws.{IsSound}
+use Rattle.store_machine.specs.Machine.{Gives, MayAdd, Serves}
 use Rattle.store_machine.specs.Runs.{is_call}
 use Rattle.store_machine.specs.declared.machine.Event.{Event}
 use Rattle.store_machine.specs.declared.machine.Reply.{Reply}
 use Rattle.store_machine.specs.declared.machine.State.{State}
 use Rattle.store_machine.specs.declared.machine.Step.{Step}
 use Rattle.store_core.specs.Calls.{Calls}
-use Rattle.store_core.specs.Stored.{StandsFor, StoreTerm, Stretches}
+use Rattle.store_core.specs.Stored.{IsAt, Served, StandsFor, StoreTerm, Stretches, alone, served}
 
 -- of whichever owner
 abbrev pub step_of : ℕ → Event → Reply → State → State → Step
@@ -23,7 +24,7 @@ step_of owner e r s t = record {
 }
 
 pub one-call : (old new : StoreTerm) (s t : State) (owner : ℕ) (e : Event) (r : Reply) → is_call e ≡ true
-    → StandsFor old s → Gives s owner e r t → StandsFor new t
+    → IsAt old s → Gives s owner e r t → IsAt new t
     → Calls Stretches (λ _. true) old new s ((e, r) ∷ [])
 one-call old new s t owner e r call stands gives after = record {
   steps = step_of owner e r s t ∷ [];
@@ -35,3 +36,27 @@ one-call old new s t owner e r call stands gives after = record {
 -- no count of faults fell
 pub serves : (s : State) → s.serves ≡ true → Serves s s
 serves s e = (e, (omega arith, omega arith))
+
+-- a sound state is so alone, and with a doubt that may be added
+pub alone-sound : (s : State) → IsSound s → s.serves ≡ true → IsSound (alone (served s))
+alone-sound s h serves = record {
+  history = h.history;
+  doubt = tt;
+  slots = h.slots;
+  pins = h.pins;
+  kept = λ _. h.kept serves;
+  made = λ _. h.made serves;
+}
+
+pub whole-sound : (s : State) → MatchOption s.doubt (Unit {0}) (MayAdd s) → IsSound (alone (served s)) → IsSound s
+whole-sound s doubt h = record {
+  history = h.history;
+  doubt = doubt;
+  slots = h.slots;
+  pins = h.pins;
+  kept = λ _. h.kept refl;
+  made = λ _. h.made refl;
+}
+
+pub at-alone : (store : StoreTerm) (s : Served) → StandsFor store s → IsAt store (alone s)
+at-alone store s h = record { sound = h.sound; serves = refl; stands = h }

@@ -15,7 +15,7 @@ use Rattle.store_core.specs.declared.chain.Kept.{Kept}
 use Rattle.store_core.proofs.Bits.{decide-record}
 use Rattle.store_core.proofs.Heads.{latest-within}
 use Rattle.store_core.proofs.Listed.{Above, Rise, chain-above, chain-first, chain-rest}
-use Rattle.store_core.proofs.Members.{contains-here, contains-split, contains-there}
+use Rattle.store_machine.proofs.Members.{contains-here, contains-split, contains-there}
 use Rattle.store_core.proofs.Screened.{OneStructure}
 use Rattle.store_core.proofs.Walks.{Between, same-shared}
 

@@ -8,7 +8,7 @@ use Rattle.std.specs.Map.{values_of}
 use Rattle.snap_registry.specs.declared.Pin.{Pin}
 use Rattle.store_machine.specs.History.{head, made_at}
 use Rattle.store_machine.specs.Kept.{IsNeeded, in_use}
-use Rattle.store_machine.specs.Laws.{KeptIsRead, RunsStaySound, StatesStay}
+use Rattle.store_machine.specs.Laws.{IsSound, KeptIsRead, RunsStaySound, StatesStay}
 use Rattle.store_machine.specs.Machine.{AreNeeded, Gives}
 use Rattle.store_machine.specs.declared.machine.Entry.{Entry}
 use Rattle.store_machine.specs.declared.machine.Event.TheVariants as event
@@ -18,12 +18,12 @@ use Rattle.store_machine.specs.declared.machine.State.{State}
 use Rattle.store_machine.specs.declared.machine.Status.{Status}
 use Rattle.store_core.specs.Calls.{Calls}
 use Rattle.store_core.specs.Chains.{chain_of, is_between, latest, needed, status_of}
-use Rattle.store_core.specs.Stored.{AreAscending, IsChain, StandsFor, StoreTerm, Stretches, pin_of}
+use Rattle.store_core.specs.Stored.{AreAscending, IsAt, IsChain, StoreTerm, Stretches, pin_of, served}
 use Rattle.store_core.specs.declared.chain.Kept.{Kept}
 use Rattle.store_core.proofs.Heads.{total}
 use Rattle.store_core.proofs.Listed.{Rise, entry_of, length-listed, listed, listed-distinct, listed-has, listed-in, rises}
-use Rattle.store_core.proofs.Members.{contains-split}
-use Rattle.store_core.proofs.OneCall.{one-call, serves}
+use Rattle.store_machine.proofs.Members.{contains-split}
+use Rattle.store_core.proofs.OneCall.{alone-sound, one-call, serves}
 use Rattle.store_core.proofs.Prunes.{chain-pruned, keys-pruned, needed-ascends, needed-old, needed-read, pruned, read-needed}
 use Rattle.store_core.proofs.Rows.{sound-after}
 use Rattle.store_core.proofs.Sees.{made-of, seen-at}
@@ -74,17 +74,17 @@ of-kept status None e = absurd (none-some e)
 of-kept status (Some k) e = (k, refl, same-status (status_of k) status e)
 
 module _ (read : KeptIsRead) (stay : StatesStay) (sound : RunsStaySound) (store : StoreTerm) (s : State)
-    (h : StandsFor store s) (live : List ℕ) (is : live ≡ versions store.pins) where
+    (h : IsAt store s) (live : List ℕ) (is : live ≡ versions store.pins) where
   used-live : (at : ℕ) → Contains live at ⊎ (head s.history ≡ at) → Contains (in_use s) at
   used-live at (inl u) = Contains-append_left (map (λ (p : Held). p.version) s.pins) (head s.history ∷ []) at
-      (subst (λ l. Contains l at) (is ∙ (ap versions (sym h.pins) ∙ same-versions s.pins)) u)
+      (subst (λ l. Contains l at) (is ∙ (ap versions (sym h.stands.pins) ∙ same-versions s.pins)) u)
   used-live at (inr e) = subst (Contains (in_use s)) e
       (Contains-push (map (λ (p : Held). p.version) s.pins) (head s.history))
 
   live-used : (at : ℕ) → Contains (in_use s) at → Contains live at ⊎ (head s.history ≡ at)
   live-used at c =
       elim (Contains-append_cases (map (λ (p : Held). p.version) s.pins) (head s.history ∷ []) at c) [
-        | inl u ↦ inl (subst (λ l. Contains l at) (sym (is ∙ (ap versions (sym h.pins) ∙ same-versions s.pins))) u)
+        | inl u ↦ inl (subst (λ l. Contains l at) (sym (is ∙ (ap versions (sym h.stands.pins) ∙ same-versions s.pins))) u)
         | inr d ↦ inr (elim (contains-split (head s.history) at [] d)
             [ inl e ↦ e | inr f ↦ absurd (omega (arith, f.1)) ])
       ]
@@ -94,14 +94,14 @@ module _ (read : KeptIsRead) (stay : StatesStay) (sound : RunsStaySound) (store 
 
   up-now : Rise (pruned live store.chains)
   up-now = rises (pruned live store.chains) (subst (IsStrictlySortedBy nat_cmp)
-      (sym (keys-pruned live store.chains)) h.ordered)
+      (sym (keys-pruned live store.chains)) h.stands.ordered)
 
   is-needed : (entry : Entry) → Contains (listed (pruned live store.chains)) entry → IsNeeded s.history (in_use s) entry
   is-needed entry c =
       let there = listed-has (pruned live store.chains) entry.id entry.version up-now c in
       let k = there.0 in
       let ks = chain_of store.chains entry.id in
-      let chain = h.chains entry.id in
+      let chain = h.stands.chains entry.id in
       let r = needed-read live (head s.history) ks k chain.ascending chain.late
       (subst (λ l. Contains l k) (chain-now entry.id) there.1) in
       let used = used-live r.at r.used in
@@ -109,7 +109,7 @@ module _ (read : KeptIsRead) (stay : StatesStay) (sound : RunsStaySound) (store 
         at = r.at;
         used = used;
         status = status_of k;
-        state = seen-at read stay store s r.at entry.id h used
+        state = seen-at read stay store s r.at entry.id h.stands used
             ∙ ap (option_map status_of) r.reads;
         made = made-of k ∙ there.2;
       }
@@ -117,8 +117,8 @@ module _ (read : KeptIsRead) (stay : StatesStay) (sound : RunsStaySound) (store 
   needed-is : (entry : Entry) → IsNeeded s.history (in_use s) entry → Contains (listed (pruned live store.chains)) entry
   needed-is entry n =
       let ks = chain_of store.chains entry.id in
-      let chain = h.chains entry.id in
-      let found = of-kept n.status (latest n.at ks) (sym (seen-at read stay store s n.at entry.id h n.used) ∙ n.state)
+      let chain = h.stands.chains entry.id in
+      let found = of-kept n.status (latest n.at ks) (sym (seen-at read stay store s n.at entry.id h.stands n.used) ∙ n.state)
       in
       let k = found.0 in
       let stays : Contains (needed live ks) k = read-needed live (head s.history) ks k chain.late
@@ -133,16 +133,16 @@ module _ (read : KeptIsRead) (stay : StatesStay) (sound : RunsStaySound) (store 
     exactly = λ entry. (is-needed entry, needed-is entry);
     distinct = listed-distinct (pruned live store.chains) up-now
         (λ id. subst AreAscending (sym (chain-now id))
-        (needed-ascends live (chain_of store.chains id) (h.chains id).ascending));
+        (needed-ascends live (chain_of store.chains id) (h.stands.chains id).ascending));
   }
 
-  chain-left : (id : ℕ) → IsChain (record s { kept = listed (pruned live store.chains) }) id
+  chain-left : (id : ℕ) → IsChain (served (record s { kept = listed (pruned live store.chains) })) id
       (chain_of (pruned live store.chains) id)
   chain-left id =
       let old : (k : Kept) → Contains (chain_of (pruned live store.chains) id) k
       → Contains (chain_of store.chains id) k = λ k c. needed-old live (chain_of store.chains id) k
       (subst (λ l. Contains l k) (chain-now id) c) in
-      let chain = h.chains id in
+      let chain = h.stands.chains id in
       record {
         ascending = subst AreAscending (sym (chain-now id))
             (needed-ascends live (chain_of store.chains id) chain.ascending);
@@ -162,39 +162,44 @@ module _ (read : KeptIsRead) (stay : StatesStay) (sound : RunsStaySound) (store 
       (
         are-needed,
         omega
-            (arith, count, length-listed (pruned live store.chains), total-fewer live store.chains, h.sum, h.kept),
+            (arith, count, length-listed (pruned live store.chains), total-fewer live store.chains, h.stands.sum, h.stands.kept),
         refl,
       ),
     )
 
-    pub prune-stands : StandsFor (record store { chains = pruned live store.chains; kept = left })
+    pub prune-stands : IsAt (record store { chains = pruned live store.chains; kept = left })
         (record s { kept = listed (pruned live store.chains) })
-    prune-stands = record {
-      sound = sound-after sound s (record s { kept = listed (pruned live store.chains) }) 0 event.Prune
-          (reply.Pruned (store.kept - left)) prune-gives h.sound;
-      serves = h.serves;
-      doubt = h.doubt;
-      version = h.version;
-      limit = h.limit;
-      most = h.most;
-      within = h.within;
-      pins = h.pins;
-      kept = count ∙ sym (length-listed (pruned live store.chains));
-      few = omega (arith, count, total-fewer live store.chains, h.sum, h.few);
-      sum = sym count;
-      live = h.live;
-      withdrawn = h.withdrawn;
-      ids = h.ids;
-      ordered = subst (IsStrictlySortedBy nat_cmp) (sym (keys-pruned live store.chains)) h.ordered;
-      chains = chain-left;
-    }
+    prune-stands =
+        let t : State = record s { kept = listed (pruned live store.chains) } in
+        let kept : IsSound t = sound-after sound s t 0 event.Prune (reply.Pruned (store.kept - left)) prune-gives
+        h.sound in
+        record {
+          sound = kept;
+          serves = h.serves;
+          stands = record {
+            sound = alone-sound t kept h.serves;
+            version = h.stands.version;
+            limit = h.stands.limit;
+            most = h.stands.most;
+            within = h.stands.within;
+            pins = h.stands.pins;
+            kept = count ∙ sym (length-listed (pruned live store.chains));
+            few = omega (arith, count, total-fewer live store.chains, h.stands.sum, h.stands.few);
+            sum = sym count;
+            live = h.stands.live;
+            withdrawn = h.stands.withdrawn;
+            ids = h.stands.ids;
+            ordered = subst (IsStrictlySortedBy nat_cmp) (sym (keys-pruned live store.chains)) h.stands.ordered;
+            chains = chain-left;
+          };
+        }
 
   -- the chains that are left, and how many states they have
   module _ (chains : List (ℕ × List Kept)) (left : ℕ) (same : chains ≡ pruned live store.chains)
       (count : left ≡ total chains) where
-    pub store-left : StandsFor (record store { chains = chains; kept = left })
+    pub store-left : IsAt (record store { chains = chains; kept = left })
         (record s { kept = listed (pruned live store.chains) })
-    store-left = subst (λ es. StandsFor (record store { chains = es; kept = left })
+    store-left = subst (λ es. IsAt (record store { chains = es; kept = left })
         (record s { kept = listed (pruned live store.chains) })) (sym same) (prune-stands left (count ∙ ap total same))
 
     pub prune-call : Calls Stretches (λ _. true) store (record store { chains = chains; kept = left }) s

@@ -7,7 +7,7 @@ use Rattle.std.specs.Map.{keys_of, lookup}
 use Rattle.store_core.specs.Chains.{chain_of, is_between, latest, needed, or_else, states_in}
 use Rattle.store_core.specs.Stored.{AreAscending}
 use Rattle.store_core.specs.declared.chain.Kept.{Kept}
-use Rattle.store_core.proofs.Members.{contains-here, contains-split, contains-there}
+use Rattle.store_machine.proofs.Members.{contains-here, contains-split, contains-there}
 use Rattle.store_core.proofs.Sees.{latest-is}
 
 abbrev pub pruned : List ℕ → List (ℕ × List Kept) → List (ℕ × List Kept)

@@ -17,13 +17,13 @@ use Rattle.store_machine.specs.declared.machine.Status.{Status}
 use Rattle.store_core.specs.Calls.{Calls}
 use Rattle.store_core.specs.Chains.{chain_of, latest, seen, status_of}
 use Rattle.store_core.specs.Replies.{look_calls, looked, pin_reply}
-use Rattle.store_core.specs.Stored.{IsChain, StandsFor, StoreTerm, Stretches, pin_of}
+use Rattle.store_core.specs.Stored.{IsAt, IsChain, Served, StandsFor, StoreTerm, Stretches, alone, pin_of, served}
 use Rattle.store_core.specs.declared.words.CallFault.{CallFault}
 use Rattle.store_core.specs.declared.words.CallFault.TheVariants as call
 use Rattle.store_core.specs.declared.words.Look.{Look}
 use Rattle.store_core.specs.declared.chain.Kept.{Kept}
-use Rattle.store_core.proofs.Members.{contains-here, contains-split, contains-there}
-use Rattle.store_core.proofs.OneCall.{one-call, serves, step_of}
+use Rattle.store_machine.proofs.Members.{contains-here, contains-split, contains-there}
+use Rattle.store_core.proofs.OneCall.{alone-sound, one-call, serves, step_of}
 use Rattle.store_core.proofs.Sees.{head-used, seen-at}
 
 -- a step keeps a sound state sound
@@ -31,7 +31,7 @@ pub sound-after : RunsStaySound → (s t : State) (owner : ℕ) (e : Event) (r :
     → IsSound t
 sound-after law s t owner e r gives sound = law s t (step_of owner e r s t ∷ []) (refl, gives, refl) sound
 
-chain-of : (s : State) (pins : List Held) (id : ℕ) (ks : List Kept) → IsChain s id ks
+chain-of : (s : Served) (pins : List Held) (id : ℕ) (ks : List Kept) → IsChain s id ks
     → IsChain (record s { pins = pins }) id ks
 chain-of s pins id ks h = record {
   ascending = h.ascending;
@@ -42,13 +42,11 @@ chain-of s pins id ks h = record {
   all = h.all;
 }
 
-pub other-pins : (store : StoreTerm) (s : State) (pins : List Held) (held : List Pin) → StandsFor store s
-    → IsSound (record s { pins = pins }) → map pin_of pins ≡ held
+pub pins-stand : (store : StoreTerm) (s : Served) (pins : List Held) (held : List Pin) → StandsFor store s
+    → IsSound (alone (record s { pins = pins })) → map pin_of pins ≡ held
     → StandsFor (record store { pins = held }) (record s { pins = pins })
-other-pins store s pins held h sound e = record {
+pins-stand store s pins held h sound e = record {
   sound = sound;
-  serves = h.serves;
-  doubt = h.doubt;
   version = h.version;
   limit = h.limit;
   most = h.most;
@@ -64,6 +62,16 @@ other-pins store s pins held h sound e = record {
   chains = λ id. chain-of s pins id _ (h.chains id);
 }
 
+pub other-pins : (store : StoreTerm) (s : State) (pins : List Held) (held : List Pin) → IsAt store s
+    → IsSound (record s { pins = pins }) → map pin_of pins ≡ held
+    → IsAt (record store { pins = held }) (record s { pins = pins })
+other-pins store s pins held h sound e = record {
+  sound = sound;
+  serves = h.serves;
+  stands = pins-stand store (served s) pins held h.stands
+      (alone-sound (record s { pins = pins }) sound h.serves) e;
+}
+
 -- a slot that no pin of a registry has
 free-slot : (slot : ℕ) (ps : List Held) → IsFree slot (map pin_of ps) → pin_in slot ps ≡ None
 free-slot slot [] free = refl
@@ -76,17 +84,17 @@ free-slot slot (p ∷ ps) free =
 -- what a Pin leaves
 pub record Outcome (store : StoreTerm) (s : State) (pins : List Pin) (e : Event) (r : Reply) : Type 0 where
   pub after : State
-  pub stands : StandsFor (record store { pins = pins }) after
+  pub stands : IsAt (record store { pins = pins }) after
   pub gives : Gives s 0 e r after
 
-pin-taken : RunsStaySound → (store : StoreTerm) (s : State) (p : Pin) (pins : List Pin) → StandsFor store s
+pin-taken : RunsStaySound → (store : StoreTerm) (s : State) (p : Pin) (pins : List Pin) → IsAt store s
     → p.version ≡ store.version → pins ≡ store.pins ++ p ∷ [] → length store.pins < 64 → p.slot < 64
     → IsFree p.slot store.pins
     → Outcome store s pins event.Pin (reply.Pinned p.slot p.version)
 pin-taken law store s p pins h v e few below free =
     let t : State = pinned s p.slot 0 in
-    let at : p.version ≡ head s.history = v ∙ h.version in
-    let count : length s.pins < 64 = omega (arith, few, ap (λ l. length l) h.pins, length-map s.pins pin_of) in
+    let at : p.version ≡ head s.history = v ∙ h.stands.version in
+    let count : length s.pins < 64 = omega (arith, few, ap (λ l. length l) h.stands.pins, length-map s.pins pin_of) in
     let gives : Gives s 0 event.Pin (reply.Pinned p.slot p.version)
     t = (
       serves s h.serves,
@@ -94,14 +102,14 @@ pin-taken law store s p pins h v e few below free =
         count,
         below,
         free-slot p.slot s.pins
-            (subst (IsFree p.slot) (sym h.pins) free),
+            (subst (IsFree p.slot) (sym h.stands.pins) free),
         at,
         refl,
       ),
     ) in
     let new : map pin_of t.pins ≡ pins =
     map-append pin_of s.pins (record { slot = p.slot; owner = 0; version = head s.history } ∷ [])
-    ∙ (ap (λ l. l ++ record { slot = p.slot; version = head s.history } ∷ []) h.pins
+    ∙ (ap (λ l. l ++ record { slot = p.slot; version = head s.history } ∷ []) h.stands.pins
     ∙ (ap (λ n. store.pins ++ record { slot = p.slot; version = n } ∷ []) (sym at) ∙ sym e)) in
     record {
       after = t;
@@ -110,15 +118,15 @@ pin-taken law store s p pins h v e few below free =
       gives = gives;
     }
 
-pub pin-outcome : RunsStaySound → (store : StoreTerm) (s : State) (r : Option Pin) (pins : List Pin) → StandsFor store s
+pub pin-outcome : RunsStaySound → (store : StoreTerm) (s : State) (r : Option Pin) (pins : List Pin) → IsAt store s
     → MatchOption r (pins ≡ store.pins) (λ p. (p.version ≡ store.version) × (pins ≡ store.pins ++ p ∷ []))
     → MatchOption r (length store.pins ≡ 64) (λ _. length store.pins < 64)
     → MatchOption r (Unit {0}) (λ p. (p.slot < 64) × IsFree p.slot store.pins)
     → Outcome store s pins event.Pin (pin_reply r)
 pin-outcome law store s None pins h same full free = record {
   after = s;
-  stands = subst (λ l. StandsFor (record store { pins = l }) s) (sym same) h;
-  gives = (serves s h.serves, (omega (arith, full, ap (λ l. length l) h.pins, length-map s.pins pin_of), refl));
+  stands = subst (λ l. IsAt (record store { pins = l }) s) (sym same) h;
+  gives = (serves s h.serves, (omega (arith, full, ap (λ l. length l) h.stands.pins, length-map s.pins pin_of), refl));
 }
 pin-outcome law store s (Some p) pins h new few free = pin-taken law store s p pins h new.0 new.1 few free.0 free.1
 
@@ -162,18 +170,18 @@ others-mapped slot (p ∷ ps) =
 pub record Given (store : StoreTerm) (s : State) (pin : Pin) (pins : List Pin) : Type 0 where
   pub owner : ℕ
   pub after : State
-  pub stands : StandsFor (record store { pins = pins }) after
+  pub stands : IsAt (record store { pins = pins }) after
   pub gives : Gives s owner (event.Unpin pin.slot) reply.Unpinned after
 
-pub unpin-given : RunsStaySound → (store : StoreTerm) (s : State) (pin : Pin) (pins : List Pin) → StandsFor store s
+pub unpin-given : RunsStaySound → (store : StoreTerm) (s : State) (pin : Pin) (pins : List Pin) → IsAt store s
     → Contains store.pins pin → pins ≡ filter (is_other pin.slot) store.pins → Given store s pin pins
 unpin-given law store s pin pins h c e =
     let t : State = unpinned s pin.slot in
-    let held = held-in pin s.pins h.sound.slots (subst (λ l. Contains l pin) (sym h.pins) c) in
+    let held = held-in pin s.pins h.sound.slots (subst (λ l. Contains l pin) (sym h.stands.pins) c) in
     let gives : Gives s held.0 (event.Unpin pin.slot) reply.Unpinned
     t = (serves s h.serves, (pin.version, held.1, refl)) in
     let new : map pin_of t.pins ≡ pins = others-mapped pin.slot s.pins
-    ∙ (ap (λ l. filter (is_other pin.slot) l) h.pins ∙ sym e) in
+    ∙ (ap (λ l. filter (is_other pin.slot) l) h.stands.pins ∙ sym e) in
     record {
       owner = held.0;
       after = t;
@@ -183,17 +191,17 @@ unpin-given law store s pin pins h c e =
     }
 
 -- Stats
-pub stats-gives : (store : StoreTerm) (s : State) (pins : ℕ) → StandsFor store s → pins ≡ length store.pins
+pub stats-gives : (store : StoreTerm) (s : State) (pins : ℕ) → IsAt store s → pins ≡ length store.pins
     → Gives s 0 event.Stats (reply.Counted store.version store.live store.withdrawn store.kept pins) s
 stats-gives store s pins h e = (
   serves s h.serves,
   (
-    h.version,
-    h.live,
-    h.withdrawn,
-    h.kept,
+    h.stands.version,
+    h.stands.live,
+    h.stands.withdrawn,
+    h.stands.kept,
     e
-        ∙ (ap (λ l. length l) (sym h.pins) ∙ length-map s.pins pin_of),
+        ∙ (ap (λ l. length l) (sym h.stands.pins) ∙ length-map s.pins pin_of),
     refl,
   ),
 )
@@ -245,26 +253,26 @@ others-held pin slot version ps = (go ps, λ h. back ps h.0 h.1)
 
 -- Look
 pub look-gives : KeptIsRead → StatesStay → (store : StoreTerm) (s : State) (id : ℕ) (status : Option Status)
-    → StandsFor store s → status ≡ seen store.version (chain_of store.chains id)
+    → IsAt store s → status ≡ seen store.version (chain_of store.chains id)
     → Gives s 0 (event.Look id) (reply.Looked status) s
 look-gives read stay store s id status h e = (
   serves s h.serves,
   (
     e
-        ∙ (ap (λ v. seen v (chain_of store.chains id)) h.version
-        ∙ sym (seen-at read stay store s (head s.history) id h (head-used s))),
+        ∙ (ap (λ v. seen v (chain_of store.chains id)) h.stands.version
+        ∙ sym (seen-at read stay store s (head s.history) id h.stands (head-used s))),
     refl,
   ),
 )
 
 look-ok : KeptIsRead → StatesStay → (store : StoreTerm) (s : State) (id : ℕ) (status : Option Status)
-    → StandsFor store s → status ≡ seen store.version (chain_of store.chains id)
+    → IsAt store s → status ≡ seen store.version (chain_of store.chains id)
     → Calls Stretches (λ _. true) store store s ((event.Look id, reply.Looked status) ∷ [])
 look-ok read stay store s id status h e = one-call store store s s 0 (event.Look id) (reply.Looked status) refl h
     (look-gives read stay store s id status h e) h
 
 pub look-call : KeptIsRead → StatesStay → (store : StoreTerm) (s : State) (id : ℕ) (k : Kept)
-    (r : Result Look CallFault) → StandsFor store s → Some k ≡ latest store.version (chain_of store.chains id)
+    (r : Result Look CallFault) → IsAt store s → Some k ≡ latest store.version (chain_of store.chains id)
     → IfOk r (λ l. looked l ≡ Some (status_of k)) → IfErr r (λ e. e ≡ call.NoMemory)
     → Calls Stretches (λ _. true) store store s (look_calls id r)
 look-call read stay store s id k (Ok l) h at ok err = look-ok read stay store s id (looked l) h (ok
@@ -280,7 +288,7 @@ look-call read stay store s id k (Err call.Worn) h at ok err = absurd (other-fau
     other-fault : call.Worn ≡ call.NoMemory → ⊥
     other-fault e = true≢false (ap is-worn e)
 
-pub look-none : KeptIsRead → StatesStay → (store : StoreTerm) (s : State) (id : ℕ) → StandsFor store s
+pub look-none : KeptIsRead → StatesStay → (store : StoreTerm) (s : State) (id : ℕ) → IsAt store s
     → None ≡ latest store.version (chain_of store.chains id)
     → Calls Stretches (λ _. true) store store s ((event.Look id, reply.Looked None) ∷ [])
 look-none read stay store s id h at = look-ok read stay store s id None h (ap (option_map status_of) at)

@@ -13,9 +13,9 @@ use Rattle.store_machine.specs.declared.machine.Status.{Status}
 use Rattle.store_machine.specs.declared.machine.Status.TheVariants.{Withdrawn}
 use Rattle.store_core.specs.Chains.{chain_of, latest, or_else, seen, status_in, status_of}
 use Rattle.store_core.specs.Records.{Shared}
-use Rattle.store_core.specs.Stored.{AreAscending, IsChain, StandsFor, StoreTerm}
+use Rattle.store_core.specs.Stored.{AreAscending, IsChain, Served, StandsFor, StoreTerm, alone, served}
 use Rattle.store_core.specs.declared.chain.Kept.{Kept}
-use Rattle.store_core.proofs.Members.{contains-here, contains-split, contains-there}
+use Rattle.store_machine.proofs.Members.{contains-here, contains-split, contains-there}
 
 pub latest-none : (v : ℕ) (ks : List Kept) → ((k : Kept) → Contains ks k → v < k.version) → latest v ks ≡ None
 latest-none v [] late = refl
@@ -63,10 +63,11 @@ same-state : (a b : Status) → Some a ≡ Some b → a ≡ b
 unfolding state_in
 same-state a b e = ap state_in e
 
-read-chain : (s : State) (v id : ℕ) (ks : List Kept) (o : Option Status) → get (snapshot s.history v) id ≡ o
+read-chain : (s : Served) (v id : ℕ) (ks : List Kept) (o : Option Status) → get (snapshot s.history v) id ≡ o
     → StatesStay → IsHistory s.history → IsChain s id ks
-    → MatchOption o ((version : ℕ) → IsKept s id version → v < version) (λ status. IsKept s id (made_at status)
-    × (made_at status ≤ v) × ((version : ℕ) → IsKept s id version → version ≤ v → version ≤ made_at status))
+    → MatchOption o ((version : ℕ) → IsKept (alone s) id version → v < version)
+    (λ status. IsKept (alone s) id (made_at status)
+    × (made_at status ≤ v) × ((version : ℕ) → IsKept (alone s) id version → version ≤ v → version ≤ made_at status))
     → o ≡ seen v ks
 read-chain s v id ks None e stay good chain reads = ap (option_map status_of)
     (sym (latest-none v ks (λ k c. reads k.version (chain.only k c))))
@@ -80,11 +81,11 @@ read-chain s v id ks (Some status) e stay good chain reads =
     (λ l c le. let below = reads.2 l.version (chain.only l c) le in omega (arith, below, there.2)) in
     ap (λ x. Some x) is ∙ ap (option_map status_of) (sym top)
 
-pub seen-at : KeptIsRead → StatesStay → (store : StoreTerm) (s : State) (v id : ℕ) → StandsFor store s
+pub seen-at : KeptIsRead → StatesStay → (store : StoreTerm) (s : State) (v id : ℕ) → StandsFor store (served s)
     → Contains (in_use s) v → get (snapshot s.history v) id ≡ seen v (chain_of store.chains id)
 seen-at read stay store s v id stands used =
-    read-chain s v id (chain_of store.chains id) (get (snapshot s.history v) id) refl stay stands.sound.history
-    (stands.chains id) (read s v id stands.sound stands.serves used)
+    read-chain (served s) v id (chain_of store.chains id) (get (snapshot s.history v) id) refl stay
+    stands.sound.history (stands.chains id) (read (alone (served s)) v id stands.sound refl used)
 
 -- the head is in use
 pub head-used : (s : State) → Contains (in_use s) (head s.history)

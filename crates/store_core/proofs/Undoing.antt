@@ -4,9 +4,8 @@ use Rattle.std.proofs.lemmas.Bool.{cond-false, cond-true}
 use Rattle.std.proofs.lemmas.List.{take_at}
 use Rattle.std.specs.List.Sorted.{IsStrictlySortedBy}
 use Rattle.std.specs.Map.{keys_of}
-use Rattle.store_machine.specs.declared.machine.State.{State}
 use Rattle.store_core.specs.Chains.{but_last, chain_of}
-use Rattle.store_core.specs.Stored.{IsChain, StandsFor, StoreTerm}
+use Rattle.store_core.specs.Stored.{IsChain, Served, StandsFor, StoreTerm}
 use Rattle.store_core.specs.Undone.{Follows}
 use Rattle.store_core.specs.declared.chain.Kept.{Kept}
 use Rattle.store_core.specs.declared.undo.Undo.{Undo}
@@ -59,11 +58,9 @@ module _ (before after new : StoreTerm) (undo : Undo) (f : Follows before undo a
     pub back-version : new.version ≡ before.version
     back-version = omega (arith, b.version, f.version)
 
-    pub stands-again : (s : State) → StandsFor before s → StandsFor new s
+    pub stands-again : (s : Served) → StandsFor before s → StandsFor new s
     stands-again s h = record {
       sound = h.sound;
-      serves = h.serves;
-      doubt = h.doubt;
       version = back-version ∙ h.version;
       limit = b.limit ∙ (f.limit ∙ h.limit);
       most = omega (arith, b.limit, f.limit, h.most);
@@ -80,19 +77,17 @@ module _ (before after new : StoreTerm) (undo : Undo) (f : Follows before undo a
     }
 
 -- the limit is another
-pub relimited : (store : StoreTerm) (s : State) (commits : ℕ) → commits ≤ 16777215 → StandsFor store s
+pub relimited : (store : StoreTerm) (s : Served) (commits : ℕ) → commits ≤ 16777215 → StandsFor store s
     → StandsFor (record store { limit = commits }) (record s { limit = commits })
 relimited store s commits few h = record {
   sound = record {
     history = h.sound.history;
-    doubt = h.sound.doubt;
+    doubt = tt;
     slots = h.sound.slots;
     pins = h.sound.pins;
     kept = h.sound.kept;
     made = h.sound.made;
   };
-  serves = h.serves;
-  doubt = h.doubt;
   version = h.version;
   limit = refl;
   most = few;

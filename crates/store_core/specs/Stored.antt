@@ -1,18 +1,21 @@
 -- What a store in memory stands for, and its stretches: those of its callers' steps alone.
 use Rattle.std.specs.Prelude.{◌≡◌, ◌+◌, ◌<◌, ◌≤◌, ◌++◌, Contains, count_by, List, [], ◌∷◌, length, map, None, not, refl, Some, true, ℕ}
-use Rattle.std.proofs.Common.{subst}
 use Rattle.std.specs.FinMap.{entries, get}
 use Rattle.std.specs.List.{sum_by}
 use Rattle.std.specs.List.Sorted.{IsStrictlySortedBy}
 use Rattle.std.specs.Map.{keys_of, values_of}
 use Rattle.std.specs.Ordering.{nat_cmp}
 use Rattle.snap_registry.specs.declared.Pin.{Pin}
-use Rattle.store_machine.specs.History.{head, snapshot}
+use Rattle.store_machine.proofs.Joins.{calms-join, runs-join}
+use Rattle.store_machine.specs.History.{begun, head, snapshot}
 use Rattle.store_machine.specs.Laws.{IsSound}
 use Rattle.store_machine.specs.Machine.{is_live, now}
 use Rattle.store_machine.specs.Made.{IsKept}
+use Rattle.store_machine.specs.Owners.{SameButOwners}
 use Rattle.store_machine.specs.Runs.{IsCalm, IsRun}
+use Rattle.store_machine.specs.declared.machine.Entry.{Entry}
 use Rattle.store_machine.specs.declared.machine.Held.{Held}
+use Rattle.store_machine.specs.declared.machine.History.{History}
 use Rattle.store_machine.specs.declared.machine.State.{State}
 use Rattle.store_machine.specs.declared.machine.Step.{Step}
 use Rattle.store_core.specs.Chains.{IsEntryOf, chain_of, status_of}
@@ -27,28 +30,49 @@ pub record StoreTerm : Type 0 where
   pub live : ℕ
   pub withdrawn : ℕ
 
+-- the part of a state that a store in memory knows: nothing of disks
+pub record Served : Type 0 where
+  pub history : History
+  pub limit : ℕ
+  pub pins : List Held
+  pub kept : List Entry
+
+abbrev pub served : State → Served
+served s = record { history = s.history; limit = s.limit; pins = s.pins; kept = s.kept }
+
+-- it alone as a state: with no doubt and no fault
+abbrev pub alone : Served → State
+alone s = record {
+  history = s.history;
+  limit = s.limit;
+  pins = s.pins;
+  kept = s.kept;
+  doubt = None;
+  faults = record
+      { a = 0; b = 0 };
+  serves = true;
+}
+
 -- states in the order of their versions
 abbrev pub AreAscending : List Kept → Type 0
 AreAscending [] = Unit {0}
 AreAscending (k ∷ ks) = ((l : Kept) → Contains ks l → k.version < l.version) × AreAscending ks
 
 -- a chain holds exactly the kept entries of its identifier, each with the state that its commit made
-pub record IsChain (s : State) (id : ℕ) (ks : List Kept) : Type 0 where
+pub record IsChain (s : Served) (id : ℕ) (ks : List Kept) : Type 0 where
   pub ascending : AreAscending ks
   pub late : (k : Kept) → Contains ks k → k.version ≤ head s.history
-  pub only : (k : Kept) → Contains ks k → IsKept s id k.version
+  pub only : (k : Kept) → Contains ks k → IsKept (alone s) id k.version
   pub states : (k : Kept) → Contains ks k → get (snapshot s.history k.version) id ≡ Some (status_of k)
   pub records : (k : Kept) → Contains ks k → IsEntryOf id k.entry
-  pub all : (version : ℕ) → IsKept s id version → (k : Kept) × Contains ks k × (k.version ≡ version)
+  pub all : (version : ℕ) → IsKept (alone s) id version → (k : Kept) × Contains ks k × (k.version ≡ version)
 
 abbrev pub pin_of : Held → Pin
 pin_of p = record { slot = p.slot; version = p.version }
 
--- the store stands for a state; whose the pins are is free
-pub record StandsFor (store : StoreTerm) (s : State) : Type 0 where
-  pub sound : IsSound s
-  pub serves : s.serves ≡ true
-  pub doubt : s.doubt ≡ None
+-- the store stands for this part of a state; whose the pins are is free
+pub record StandsFor (store : StoreTerm) (s : Served) : Type 0 where
+  pub sound : IsSound (alone s)
   pub version : store.version ≡ head s.history
   pub limit : store.limit ≡ s.limit
   pub most : store.limit ≤ 16777215
@@ -57,19 +81,30 @@ pub record StandsFor (store : StoreTerm) (s : State) : Type 0 where
   pub kept : store.kept ≡ length s.kept
   pub few : store.kept ≤ store.version
   pub sum : sum_by (λ ks. length ks) (values_of store.chains) ≡ store.kept
-  pub live : store.live ≡ count_by (λ e. is_live e.1) (entries (now s))
-  pub withdrawn : store.withdrawn ≡ count_by (λ e. not (is_live e.1)) (entries (now s))
+  pub live : store.live ≡ count_by (λ e. is_live e.1) (entries (now (alone s)))
+  pub withdrawn : store.withdrawn ≡ count_by (λ e. not (is_live e.1)) (entries (now (alone s)))
   pub ids : store.live + store.withdrawn ≤ store.version
   pub ordered : IsStrictlySortedBy nat_cmp (keys_of store.chains)
   pub chains : (id : ℕ) → IsChain s id (chain_of store.chains id)
 
 abbrev pub IsStore : StoreTerm → Type 0
-IsStore store = (s : State) × StandsFor store s
+IsStore store = (s : Served) × StandsFor store s
+
+-- the store is at a state, which serves
+pub record IsAt (store : StoreTerm) (s : State) : Type 0 where
+  pub sound : IsSound s
+  pub serves : s.serves ≡ true
+  pub stands : StandsFor store (served s)
+
+-- it is so too at a state with other owners
+abbrev pub AsksNoOwner : Type 0
+AsksNoOwner = (store : StoreTerm) (s t : State) → SameButOwners s t
+    → (StandsFor store (served s) → StandsFor store (served t)) × (IsAt store s → IsAt store t)
 
 -- nothing was committed, and nothing is held
 abbrev pub empty : ℕ → State
 empty commits = record {
-  history = [];
+  history = begun;
   limit = commits;
   pins = [];
   kept = [];
@@ -83,33 +118,25 @@ abbrev pub HoldsPin : StoreTerm → ℕ → ℕ → Type 0
 HoldsPin store slot version = Contains store.pins (record { slot = slot; version = version })
 
 pub record Stretches (old new : StoreTerm) (s : State) (steps : List Step) (t : State) : Type 0 where
-  pub begins : StandsFor old s
-  pub ends : StandsFor new t
+  pub begins : IsAt old s
+  pub ends : IsAt new t
   pub run : IsRun s steps t
   pub calm : IsCalm steps
 
-pub stays : (a : StoreTerm) (s : State) → StandsFor a s → Stretches a a s [] s
+pub stays : (a : StoreTerm) (s : State) → IsAt a s → Stretches a a s [] s
 stays a s at = record { begins = at; ends = at; run = refl; calm = tt }
-
-run-joins : (xs ys : List Step) (s t u : State) → IsRun s xs t → IsRun t ys u → IsRun s (xs ++ ys) u
-run-joins [] ys s t u e r = subst (λ k. IsRun k ys u) e r
-run-joins (x ∷ xs) ys s t u r q = (r.0, r.1, run-joins xs ys x.after t u r.2 q)
-
-calm-joins : (xs ys : List Step) → IsCalm xs → IsCalm ys → IsCalm (xs ++ ys)
-calm-joins [] ys a b = b
-calm-joins (x ∷ xs) ys a b = (a.0, calm-joins xs ys a.1 b)
 
 pub joins : (a b c : StoreTerm) (s t u : State) (xs ys : List Step) → Stretches a b s xs t → Stretches b c t ys u
     → Stretches a c s (xs ++ ys) u
 joins a b c s t u xs ys r q = record {
   begins = r.begins;
   ends = q.ends;
-  run = run-joins xs ys s t u r.run q.run;
-  calm = calm-joins xs ys r.calm q.calm;
+  run = runs-join xs ys s t u r.run q.run;
+  calm = calms-join xs ys r.calm q.calm;
 }
 
 pub lands : (a b : StoreTerm) (s t : State) (xs : List Step) → Stretches a b s xs t
-    → StandsFor b t × IsRun s xs t × IsCalm xs
+    → IsAt b t × IsRun s xs t × IsCalm xs
 lands a b s t xs r = (r.ends, r.run, r.calm)
 
 pub same : (a b : StoreTerm) (s t : State) (xs : List Step) (n : ℕ) → Stretches a b s xs t → true ≡ true

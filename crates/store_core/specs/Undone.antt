@@ -19,7 +19,7 @@ abbrev pub IsWhy : State → Change → CommitFault → Type 0
 IsWhy s c commit.Known = refusal (now s) c ≡ Some reply.Known
 IsWhy s c commit.Absent = refusal (now s) c ≡ Some reply.Absent
 IsWhy s c commit.Withdrawn = refusal (now s) c ≡ Some reply.Withdrawn
-IsWhy s c commit.Full = IsAllowed (now s) c × (s.limit ≤ length s.history)
+IsWhy s c commit.Full = IsAllowed (now s) c × (s.limit ≤ length s.history.commits)
 IsWhy s c (commit.DiskFault doubt) = ⊥
 IsWhy s c commit.Worn = ⊥
 IsWhy s c commit.NoMemory = Unit {0}

@@ -15,6 +15,7 @@ mod undo;
 mod walk;
 mod words;
 
+pub use laws::stores_ask_no_owner;
 pub use page::Page;
 pub use record::{Record, Recorder};
 pub use service::Service;

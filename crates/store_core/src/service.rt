@@ -79,7 +79,6 @@ pub trait Service {
         ensures in_range { All (λ (r : Shared). IsId (arc_value r).id) page.new.records }
         ensures err { OnErr result (page.new.records ≡ []) }
         ensures room { page.new.room ≡ page.old.room }
-        ensures steps { steps.new ≡ steps.old }
         ensures worn { WornAs (worn self.old) (worn self.new) (is_worn result) }
         ensures held { SameHeld (holds self.old) (holds self.new) }
         ensures bounds { NotRaised (bounds self.old) (bounds self.new) };

@@ -2,22 +2,25 @@
 //!
 //! It keeps no history. A commit and a look read one chain; a fetch walks the chains from its identifier on and stops
 //! at its page's end; a prune walks each chain once.
-ghost use Rattle.std.specs.Prelude.{◌≡◌, ◌≤◌, ◌+◌, ◌++◌, ◌∷◌, [], ◌==◌, false, IfErr, IfOk, IfSome, OnErr, OnOk, if◌then◌else◌, length, None, option_copied, ℕ};
+ghost use Rattle.std.specs.Prelude.{◌≡◌, ◌≤◌, ◌+◌, ◌++◌, ◌∷◌, [], ◌==◌, All, false, IfErr, IfOk, IfSome, OnErr, OnOk, if◌then◌else◌, length, None, option_copied, true, ℕ};
+ghost use Rattle.std.specs.Arc.{arc_value};
+ghost use Rattle.store_machine.specs.History.{IsId};
 ghost use Rattle.store_machine.specs.Machine.{MayAdd, committed};
 ghost use Rattle.store_machine.specs.declared.machine.State.{State};
-ghost use Rattle.store_core.specs.Calls.{is_worn_out};
+ghost use Rattle.store_core.specs.Calls.{Calls, NotRaised, SameHeld, WornAs, is_worn, is_worn_out};
 ghost use Rattle.store_core.specs.Chains.{IsEntryOf, but_last, chain_of, latest};
-ghost use Rattle.store_core.specs.Replies.{change_of};
+ghost use Rattle.store_core.specs.Records.{Shared};
+ghost use Rattle.store_core.specs.Replies.{change_of, fetch_calls};
 ghost use Rattle.store_core.specs.Undone.{Follows, IsWhy};
 ghost use Rattle.std.specs.List.{sum_by};
 ghost use Rattle.std.specs.Map.{values_of};
 ghost use Rattle.std.specs.BTreeMap.{IsOrdered, get};
 ghost use Rattle.std.specs.Ordering.{nat_cmp};
-ghost use Rattle.store_core.specs.Stored.{StandsFor, StoreTerm, empty};
+ghost use Rattle.store_core.specs.Stored.{HoldsPin, IsAt, Served, StandsFor, StoreTerm, Stretches, empty, served};
 
 use crate::chain::{Chain, Kept};
 use crate::laws::laws;
-use crate::page::Page;
+use crate::page::{MOST_RECORDS, Page};
 use crate::service::Service;
 use crate::steps::Steps;
 use crate::undo::Undo;
@@ -78,7 +81,7 @@ impl Store {
     pub fn fresh(alloc: Global, commits: u32) -> Store
         requires some { 1 ≤ commits }
         requires few { commits ≤ MOST_COMMITS }
-        ensures { StandsFor result (empty commits) }
+        ensures { IsAt result (empty commits) }
     {
         Store {
             alloc,
@@ -101,11 +104,12 @@ impl Store {
 
     /// Commits a change, as a service does, and tells how to take it back.
     pub fn advance(&mut self, change: &Change) -> Result<Undo, CommitFault>
-        ensures committed { OnOk result ((s : State) → StandsFor self.old s
-            → MayAdd s (change_of change.now) × StandsFor self.new (committed s (change_of change.now))) }
+        ensures committed { OnOk result ((s : State) → StandsFor self.old (served s)
+            → MayAdd s (change_of change.now)
+            × StandsFor self.new (served (committed s (change_of change.now)))) }
         ensures follows { IfOk result (λ undo. Follows self.old undo self.new) }
         ensures few { OnOk result (self.new.version ≤ MOST_COMMITS) }
-        ensures why { IfErr result (λ fault. (s : State) → StandsFor self.old s
+        ensures why { IfErr result (λ fault. (s : State) → StandsFor self.old (served s)
             → IsWhy s (change_of change.now) fault) }
         ensures not_worn { is_worn_out result ≡ false }
         ensures err { OnErr result (self.new ≡ self.old) }
@@ -137,7 +141,7 @@ impl Store {
     /// Takes the last change back. The store is then as before it.
     pub fn take_back(&mut self, undo: Undo)
         requires { (before : StoreTerm) × Follows before undo self.old }
-        ensures stands { (before : StoreTerm) (s : State) → Follows before undo self.old
+        ensures stands { (before : StoreTerm) (s : Served) → Follows before undo self.old
             → StandsFor before s → StandsFor self.new s }
         ensures pins { (before : StoreTerm) → Follows before undo self.old
             → self.new.pins ≡ before.pins }
@@ -154,7 +158,7 @@ impl Store {
     /// Takes so many commits in all from now on. Those that were made stay.
     pub fn limit_to(&mut self, commits: u32)
         requires { commits ≤ MOST_COMMITS }
-        ensures stands { (s : State) → StandsFor self.old s
+        ensures stands { (s : Served) → StandsFor self.old s
             → StandsFor self.new (record s { limit = commits }) }
         ensures version { self.new.version ≡ self.old.version }
     {
@@ -178,7 +182,7 @@ impl Service for Store {
     ghost use Rattle.store_core.specs.Stored.{Stretches, joins, lands, same, stays};
     ghost use Rattle.store_core.specs.Stored.{HoldsPin};
 
-    ghost at = { StandsFor };
+    ghost at = { IsAt };
 
     ghost owns = { λ _ _. true };
 
@@ -207,8 +211,24 @@ impl Service for Store {
         from: u32,
         limit: u32,
         page: &mut Page,
-        _: &mut Steps<L>,
-    ) -> Result<bool, CallFault> {
+        steps: &mut Steps<L>,
+    ) -> Result<bool, CallFault>
+        requires held { HoldsPin self.old pin.now.slot pin.now.version }
+        requires some { 1 ≤ limit }
+        requires few { limit ≤ MOST_RECORDS }
+        requires room { limit ≤ page.old.room }
+        ensures call { (s : State) → IsAt self.old s
+            → Calls Stretches (λ _. true) self.old self.new s
+            (fetch_calls pin.now.slot want.now from limit page.new.records result) }
+        ensures few { length page.new.records ≤ limit }
+        ensures in_range { All (λ (r : Shared). IsId (arc_value r).id) page.new.records }
+        ensures err { OnErr result (page.new.records ≡ []) }
+        ensures room { page.new.room ≡ page.old.room }
+        ensures steps { steps.new ≡ steps.old }
+        ensures worn { WornAs ⊥ ⊥ (is_worn result) }
+        ensures held { SameHeld (HoldsPin self.old) (HoldsPin self.new) }
+        ensures bounds { NotRaised (None, None) (None, None) }
+    {
         laws();
         one_structure();
         page.clear();

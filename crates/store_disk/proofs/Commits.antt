@@ -2,19 +2,19 @@
 use Rattle.std.proofs.Common.{◌≡◌, ◌++◌, ◌≤◌, ap, arith, Err, false, inl, inr, IsErrAnd, length-append, List, [], ◌∷◌, None, Ok, Option, option_map, refl, Result, Some, subst, sym, true, ℕ}
 use Rattle.std.proofs.lemmas.List.{map-append}
 use Rattle.disk_edge.specs.Disk as disk
-use Rattle.disk_edge.specs.Disk.{IfTold, Keeps}
+use Rattle.disk_edge.specs.Disk.{DiskModel, IfTold, Keeps}
 use Rattle.disk_edge.specs.Moments.{AtEachMoment}
 use Rattle.journal_core.specs.Standing.{Standing}
 use Rattle.store_core.specs.Calls.{Calls}
 use Rattle.store_core.specs.Replies.{change_of, commit_calls}
 use Rattle.store_core.specs.Stored as memory
-use Rattle.store_core.specs.Stored.{StoreTerm as Memory}
+use Rattle.store_core.specs.Stored.{StoreTerm as Memory, served}
 use Rattle.store_core.specs.Undone.{IsWhy}
 use Rattle.store_core.specs.declared.words.Change.{Change as Asked}
 use Rattle.store_core.specs.declared.words.CommitFault.{CommitFault}
 use Rattle.store_core.specs.declared.words.CommitFault.TheVariants as fault
 use Rattle.store_machine.specs.Laws.{RunsStaySound}
-use Rattle.store_machine.specs.Machine.{CommitGives, EndsDoubt, Gives, MayAdd, Serves, SomeRose, Rose, committed}
+use Rattle.store_machine.specs.Machine.{CommitGives, EndsDoubt, Gives, IsDiskFault, MayAdd, Serves, SomeRose, Rose, committed}
 use Rattle.store_machine.specs.declared.machine.Change.{Change}
 use Rattle.store_machine.specs.declared.machine.Event.TheVariants as event
 use Rattle.store_machine.specs.declared.machine.Faults.{Faults}
@@ -26,57 +26,58 @@ use Rattle.store_disk.specs.Payloads.{payload, payloads}
 use Rattle.store_disk.specs.Puts.{EndsOlder, OnFault, PutGives, ShowsOne}
 use Rattle.store_disk.specs.Stored.{Stretches, times}
 use Rattle.store_disk.proofs.Bounds.{rose}
-use Rattle.store_disk.proofs.Lifts.{calm, one-call, shows-one, sound-after, step_of, still-call, with-faults}
+use Rattle.store_disk.proofs.Lifts.{one-call, shows-one, sound-after, step_of, still-call}
 use Rattle.store_disk.proofs.Steps.{all}
 
-module _ {D : Type 0} (content : D → Option (List ℕ)) (images : D → List ℕ → Type 0) (clock : D → ℕ)
-    (between : D → ℕ → ℕ → List ℕ → Type 0) (faults : D → ℕ)
-    (only-now : (d : D) (c : List ℕ) → between d (clock d) (clock d) c → images d c) where
+module _ {D : Type 0} (model : DiskModel D)
+    (only-now : (d : D) (c : List ℕ)
+    → model.images_between d (model.clock d) (model.clock d) c → model.images d c) where
   abbrev Gone : StoreTerm D → StoreTerm D → State → Asked → Result ℕ CommitFault → Type 0
-  Gone store new s c r = Calls (Stretches content images clock between faults) all store new s (commit_calls c r)
+  Gone store new s c r = Calls (Stretches model) all store new s (commit_calls c r)
 
   -- nothing was done
-  stays : (store : StoreTerm D) (s : State) → StandsFor content images faults store s → Serves s s
+  stays : (store : StoreTerm D) (s : State) → StandsFor model store s → Serves s s
   stays store s h = (h.memory.serves, (omega arith, omega arith))
 
-  refused : (store : StoreTerm D) (s : State) (c : Asked) (f : CommitFault) → StandsFor content images faults store s
-      → IsWhy (calm s) (change_of c) f → Gone store store s c (Err f)
-  refused store s c fault.Known h why = still-call content images clock between faults only-now store store s s 0
-      (event.Commit (change_of c)) reply.Known refl h (stays store s h, (why, refl)) h refl refl
-  refused store s c fault.Absent h why = still-call content images clock between faults only-now store store s s 0
-      (event.Commit (change_of c)) reply.Absent refl h (stays store s h, (why, refl)) h refl refl
-  refused store s c fault.Withdrawn h why = still-call content images clock between faults only-now store store s s 0
-      (event.Commit (change_of c)) reply.Withdrawn refl h (stays store s h, (why, refl)) h refl refl
-  refused store s c fault.Full h why = still-call content images clock between faults only-now store store s s 0
-      (event.Commit (change_of c)) reply.Full refl h (stays store s h, (why.0, why.1, refl)) h refl refl
-  refused store s c (fault.DiskFault doubt) h why = absurd why
-  refused store s c fault.Worn h why = absurd why
-  refused store s c fault.NoMemory h why = still-call content images clock between faults only-now store store s s 0
-      (event.Commit (change_of c)) reply.NoMemory refl h (stays store s h, inl refl) h refl refl
+  refused : RunsStaySound → (store : StoreTerm D) (s : State) (c : Asked) (f : CommitFault) → StandsFor model store s
+      → IsWhy s (change_of c) f → Gone store store s c (Err f)
+  refused law store s c fault.Known h why = still-call model only-now law store store s s 0
+      (event.Commit (change_of c)) reply.Known refl (λ f. f) h (stays store s h, (why, refl)) h refl refl
+  refused law store s c fault.Absent h why = still-call model only-now law store store s s 0
+      (event.Commit (change_of c)) reply.Absent refl (λ f. f) h (stays store s h, (why, refl)) h refl refl
+  refused law store s c fault.Withdrawn h why = still-call model only-now law store store s s 0
+      (event.Commit (change_of c)) reply.Withdrawn refl (λ f. f) h (stays store s h, (why, refl)) h refl refl
+  refused law store s c fault.Full h why = still-call model only-now law store store s s 0
+      (event.Commit (change_of c)) reply.Full refl (λ f. f) h (stays store s h, (why.0, why.1, refl)) h refl refl
+  refused law store s c (fault.DiskFault doubt) h why = absurd why
+  refused law store s c fault.Worn h why = absurd why
+  refused law store s c fault.NoMemory h why = still-call model only-now law store store s s 0
+      (event.Commit (change_of c)) reply.NoMemory refl (λ f. f) h (stays store s h, inl refl) h refl refl
 
   -- by the result of a `?`
-  pub refused-result : (store new : StoreTerm D) (s : State) (c : Asked) (f : CommitFault) (r : Result ℕ CommitFault)
-      → IsErrAnd r (λ e. e ≡ f) → new ≡ store → StandsFor content images faults store s
-      → IsWhy (calm s) (change_of c) f → Gone store new s c r
-  refused-result store new s c f (Ok x) is same h why = absurd is
-  refused-result store new s c f (Err e) is same h why =
+  pub refused-result : RunsStaySound → (store new : StoreTerm D) (s : State) (c : Asked) (f : CommitFault)
+      (r : Result ℕ CommitFault)
+      → IsErrAnd r (λ e. e ≡ f) → new ≡ store → StandsFor model store s
+      → IsWhy s (change_of c) f → Gone store new s c r
+  refused-result law store new s c f (Ok x) is same h why = absurd is
+  refused-result law store new s c f (Err e) is same h why =
       subst (λ (x : StoreTerm D). Gone store x s c (Err e)) (sym same)
-      (refused store s c e h (subst (IsWhy (calm s) (change_of c)) (sym is) why))
+      (refused law store s c e h (subst (IsWhy s (change_of c)) (sym is) why))
 
-  module _ (law : RunsStaySound) (store : StoreTerm D) (s : State) (h : StandsFor content images faults store s)
+  module _ (law : RunsStaySound) (store : StoreTerm D) (s : State) (h : StandsFor model store s)
       (c : Asked) (m : Memory) (journal : Standing D)
-      (le : faults store.journal.disk ≤ faults journal.disk) (may : MayAdd s (change_of c))
-      (past : Keeps clock between store.journal.disk journal.disk)
-      (untold : content store.journal.disk ≡ None → content journal.disk ≡ None)
+      (le : model.faults store.journal.disk ≤ model.faults journal.disk) (may : MayAdd s (change_of c))
+      (past : Keeps model store.journal.disk journal.disk)
+      (untold : model.content store.journal.disk ≡ None → model.content journal.disk ≡ None)
       (p : List ℕ) (written : p ≡ payload (change_of c))
-      (given : IfTold (content journal.disk) (λ _. AtEachMoment clock between store.journal.disk journal.disk
+      (given : IfTold (model.content journal.disk) (λ _. AtEachMoment model store.journal.disk journal.disk
       (ShowsOne (payloads s.history) (option_map payload s.doubt) p))) where
-    moments : IfTold (content journal.disk) (λ _. AtEachMoment clock between store.journal.disk journal.disk
+    moments : IfTold (model.content journal.disk) (λ _. AtEachMoment model store.journal.disk journal.disk
         (ShowsOne (payloads s.history) (option_map payload s.doubt) (payload (change_of c))))
-    moments = subst (λ q. IfTold (content journal.disk) (λ _. AtEachMoment clock between store.journal.disk journal.disk
+    moments = subst (λ q. IfTold (model.content journal.disk) (λ _. AtEachMoment model store.journal.disk journal.disk
         (ShowsOne (payloads s.history) (option_map payload s.doubt) q))) written given
 
-    serves : (t : State) → t.faults ≡ record { a = faults journal.disk; b = faults store.b } → Serves s t
+    serves : (t : State) → t.faults ≡ record { a = model.faults journal.disk; b = model.faults store.b } → Serves s t
     serves t e = (
       h.memory.serves,
       (
@@ -85,72 +86,89 @@ module _ {D : Type 0} (content : D → Option (List ℕ)) (images : D → List �
       ),
     )
 
-    pub done : memory.StandsFor m (committed (calm s) (change_of c))
-        → Has content images journal (payloads s.history ++ p ∷ []) None
+    -- the disk counted a fault, and so does the state
+    a-rose : disk.Rose (model.faults store.journal.disk) (model.faults journal.disk)
+        → Rose s.faults.a (model.faults journal.disk)
+    a-rose r = subst (λ n. Rose n (model.faults journal.disk)) (sym (ap (λ (f : Faults). f.a) h.counts))
+        (rose (model.faults store.journal.disk) (model.faults journal.disk) r)
+
+    -- the step of this commit, with its row
+    step : (t : State) (r : Reply) → t.faults ≡ record { a = model.faults journal.disk; b = model.faults store.b }
+        → Gives s 0 (event.Commit (change_of c)) r t → memory.StandsFor m (served t) → t.serves ≡ true
+        → Has model journal (payloads t.history) (option_map payload t.doubt)
+        → (IsDiskFault r → disk.Rose (model.faults store.journal.disk) (model.faults journal.disk))
+        → Calls (Stretches model) all store (record { memory = m; journal = journal; b = store.b }) s
+        ((event.Commit (change_of c), r) ∷ [])
+    step t r counts gives stands serving has fault =
+        let new : StoreTerm D = record { memory = m; journal = journal; b = store.b } in
+        one-call model store new s t 0 (event.Commit (change_of c)) r refl h gives
+        (record {
+          memory = record {
+            sound = sound-after law s t 0 (event.Commit (change_of c)) r gives h.memory.sound;
+            serves = serving;
+            stands = stands;
+          };
+          journal = has;
+          counts = counts;
+        })
+        refl past untold
+        (record {
+          fault = λ f. subst (λ (n : Faults). Rose s.faults.a n.a) (sym counts) (a-rose (fault f));
+          quiet = inl tt;
+        })
+        (λ other. absurd (other tt))
+        (λ l is image b. shows-one law store.memory s h.memory (step_of 0 (event.Commit (change_of c)) r s t
+        (times model store) (times model new)) (change_of c) image refl refl may (moments l is image b))
+
+    pub done : memory.StandsFor m (served (committed s (change_of c)))
+        → Has model journal (payloads s.history ++ p ∷ []) None
         → Gone store (record { memory = m; journal = journal; b = store.b }) s c (Ok m.version)
     done ends has =
         let told = change_of c in
-        let f : Faults = record { a = faults journal.disk; b = faults store.b } in
+        let f : Faults = record { a = model.faults journal.disk; b = model.faults store.b } in
         let t : State = record (committed s told) { faults = f } in
-        let gives : Gives s 0 (event.Commit told) (reply.Committed m.version) t =
-        (serves t refl, (may, omega (arith, ends.version, length-append s.history (told ∷ [])), refl)) in
-        one-call content images clock between faults store (record { memory = m; journal = journal; b = store.b }) s t 0
-        (event.Commit told) (reply.Committed m.version) refl h gives
-        (record {
-          sound = sound-after law s t 0 (event.Commit told) (reply.Committed m.version) gives h.sound;
-          memory = with-faults m (committed (calm s) told) f ends;
-          journal = subst (λ ps. Has content images journal ps None) (sym (map-append payload s.history (told ∷ [])))
-              (subst (λ q. Has content images journal (payloads s.history ++ q ∷ []) None) written has);
-          counts = refl;
-        })
-        refl past untold
-        (λ l is image b. shows-one (step_of 0 (event.Commit told) (reply.Committed m.version) s t (times clock store)
-        (times clock (record { memory = m; journal = journal; b = store.b }))) told image refl (moments l is image b))
+        step t (reply.Committed m.version) refl
+        (serves t refl, (may, omega (arith, ends.version, length-append s.history.commits (told ∷ [])), refl))
+        ends h.memory.serves
+        (subst (λ ps. Has model journal ps None) (sym (map-append payload s.history.commits (told ∷ [])))
+        (subst (λ q. Has model journal (payloads s.history ++ q ∷ []) None) written has))
+        (λ f. absurd f)
 
-    module _ (ends : memory.StandsFor m (calm s)) where
+    module _ (ends : memory.StandsFor m (served s)) where
       -- after a fault the state is as before, with this doubt
       abbrev then : Option Change → State
-      then doubt = record s { doubt = doubt; faults = record { a = faults journal.disk; b = faults store.b } }
+      then doubt = record s {
+        doubt = doubt;
+        faults = record { a = model.faults journal.disk; b = model.faults store.b };
+      }
 
       with-doubt : (doubt : Option Change) (r : Reply) → CommitGives s (change_of c) r (then doubt)
-          → Has content images journal (payloads s.history) (option_map payload doubt)
-          → Calls (Stretches content images clock between faults) all store
+          → Has model journal (payloads s.history) (option_map payload doubt)
+          → (IsDiskFault r → disk.Rose (model.faults store.journal.disk) (model.faults journal.disk))
+          → Calls (Stretches model) all store
           (record { memory = m; journal = journal; b = store.b }) s ((event.Commit (change_of c), r) ∷ [])
-      with-doubt doubt r row has =
-          let t : State = then doubt in
-          let gives : Gives s 0 (event.Commit (change_of c)) r t = (serves t refl, row) in
-          one-call content images clock between faults store
-          (record { memory = m; journal = journal; b = store.b }) s t 0 (event.Commit (change_of c)) r refl h gives
-          (record {
-            sound = sound-after law s t 0 (event.Commit (change_of c)) r gives h.sound;
-            memory = with-faults m (calm s) (record { a = faults journal.disk; b = faults store.b }) ends;
-            journal = has;
-            counts = refl;
-          })
-          refl past untold
-          (λ l is image b. shows-one (step_of 0 (event.Commit (change_of c)) r s t (times clock store)
-          (times clock (record { memory = m; journal = journal; b = store.b }))) (change_of c) image refl
-          (moments l is image b))
+      with-doubt doubt r row has fault =
+          step (then doubt) r refl (serves (then doubt) refl, row) ends h.memory.serves has fault
 
       older : (r : Reply)
           → ((doubt : Option Change) → EndsDoubt s (then doubt) → CommitGives s (change_of c) r (then doubt))
-          → EndsOlder (Has content images journal) (payloads s.history) (option_map payload s.doubt)
-          → Calls (Stretches content images clock between faults) all store
+          → EndsOlder (Has model journal) (payloads s.history) (option_map payload s.doubt)
+          → (IsDiskFault r → disk.Rose (model.faults store.journal.disk) (model.faults journal.disk))
+          → Calls (Stretches model) all store
           (record { memory = m; journal = journal; b = store.b }) s ((event.Commit (change_of c), r) ∷ [])
-      older r row e = elim e [
-        | inl has ↦ with-doubt s.doubt r (row s.doubt (inl refl)) has
-        | inr has ↦ with-doubt None r (row None (inr refl)) has
+      older r row e fault = elim e [
+        | inl has ↦ with-doubt s.doubt r (row s.doubt (inl refl)) has fault
+        | inr has ↦ with-doubt None r (row None (inr refl)) has fault
       ]
 
-      some-rose : disk.Rose (faults store.journal.disk) (faults journal.disk) → (doubt : Option Change)
+      some-rose : disk.Rose (model.faults store.journal.disk) (model.faults journal.disk) → (doubt : Option Change)
           → SomeRose s.faults (then doubt).faults
-      some-rose r doubt = inl (subst (λ n. Rose n (faults journal.disk)) (sym (ap (λ (f : Faults). f.a) h.counts))
-          (rose (faults store.journal.disk) (faults journal.disk) r))
+      some-rose r doubt = inl (a-rose r)
 
       by-fault : (f : CommitFault)
-          → PutGives (Err f) (Has content images journal) (payloads s.history) (option_map payload s.doubt)
+          → PutGives (Err f) (Has model journal) (payloads s.history) (option_map payload s.doubt)
           (payload (change_of c))
-          → OnFault (Err f) (disk.Rose (faults store.journal.disk) (faults journal.disk))
+          → OnFault (Err f) (disk.Rose (model.faults store.journal.disk) (model.faults journal.disk))
           → Gone store (record { memory = m; journal = journal; b = store.b }) s c (Err f)
       by-fault fault.Known has r = absurd has
       by-fault fault.Absent has r = absurd has
@@ -158,15 +176,16 @@ module _ {D : Type 0} (content : D → Option (List ℕ)) (images : D → List �
       by-fault fault.Full has r = absurd has
       by-fault (fault.DiskFault true) has r =
           with-doubt (Some (change_of c)) (reply.DiskFault true) (may, some-rose r (Some (change_of c)), refl) has
+          (λ f. r)
       by-fault (fault.DiskFault false) has r =
-          older (reply.DiskFault false) (λ doubt e. (may, some-rose r doubt, e)) has
+          older (reply.DiskFault false) (λ doubt e. (may, some-rose r doubt, e)) has (λ f. r)
       by-fault fault.Worn has r = absurd has
-      by-fault fault.NoMemory has r = older reply.NoMemory (λ doubt e. e) has
+      by-fault fault.NoMemory has r = older reply.NoMemory (λ doubt e. e) has (λ f. absurd f)
 
       pub faulted : (f : CommitFault)
-          → PutGives (Err f) (Has content images journal) (payloads s.history) (option_map payload s.doubt) p
-          → OnFault (Err f) (disk.Rose (faults store.journal.disk) (faults journal.disk))
+          → PutGives (Err f) (Has model journal) (payloads s.history) (option_map payload s.doubt) p
+          → OnFault (Err f) (disk.Rose (model.faults store.journal.disk) (model.faults journal.disk))
           → Gone store (record { memory = m; journal = journal; b = store.b }) s c (Err f)
       faulted f has r = by-fault f
-          (subst (λ q. PutGives (Err f) (Has content images journal) (payloads s.history)
+          (subst (λ q. PutGives (Err f) (Has model journal) (payloads s.history)
           (option_map payload s.doubt) q) written has) r

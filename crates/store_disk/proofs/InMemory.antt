@@ -1,33 +1,31 @@
 -- Failures that are set change nothing of what a store on disks in memory stands for. Where none is set and nothing was
 -- committed, it stands for the state with which the machine begins.
-use Rattle.std.proofs.Common.{◌≡◌, ◌≤◌, ◌∙◌, ap, arith, Bool, Err, false, length, List, [], ◌∷◌, None, Ok, OnOk, Option, option_map, refl, Result, Some, subst, true, ℕ}
+use Rattle.std.proofs.Common.{◌≡◌, ◌≤◌, ◌∙◌, ap, arith, Bool, Err, false, length, List, [], ◌∷◌, map, None, Ok, OnOk, Option, option_map, refl, Result, Some, subst, true, ℕ}
 use Rattle.std.proofs.lemmas.Bool.{true≢false}
 use Rattle.std.proofs.lemmas.List.{append-nil}
 use Rattle.std.specs.Result.{is_err}
 use Rattle.disk_edge.specs.Disk.{Bounded}
 use Rattle.disk_edge.specs.Failures.{bound_of}
-use Rattle.disk_edge.specs.Medium.{Images, Medium, replay}
+use Rattle.disk_edge.specs.Medium.{Medium, model}
 use Rattle.disk_edge.specs.MediumLaws.{within}
 use Rattle.disk_edge.specs.declared.failures.Failures.{Failures}
 use Rattle.journal_core.specs.RecordLaws.{one_list, text_opens}
-use Rattle.journal_core.specs.Records.{Opens, text}
+use Rattle.journal_core.specs.Records.{Opens, header, text}
 use Rattle.journal_core.specs.Standing.{Standing}
 use Rattle.store_core.specs.Stored.{empty}
-use Rattle.store_disk.specs.Loads.{IsOpened, OpensTo}
+use Rattle.store_machine.specs.History.{begun, head, of_commits}
+use Rattle.store_machine.specs.Openings.{IsOpened}
 use Rattle.store_machine.specs.declared.machine.Change.{Change}
 use Rattle.store_machine.specs.declared.machine.Entry.{Entry}
 use Rattle.store_machine.specs.declared.machine.Faults.{Faults}
 use Rattle.store_machine.specs.declared.machine.Held.{Held}
+use Rattle.store_machine.specs.declared.machine.History.{History}
 use Rattle.store_machine.specs.declared.machine.State.{State}
 use Rattle.store_disk.specs.InMemory.{StandsInMemory}
+use Rattle.store_disk.specs.Loads.{OpensTo}
 use Rattle.store_disk.specs.OnDisk.{Has, StoreTerm}
 use Rattle.store_disk.specs.Payloads.{payload, payloads}
-
-abbrev told : Medium → Option (List ℕ)
-told d = Some (replay d.first d.calls)
-
-abbrev left : Medium → List ℕ → Type 0
-left d = Images d.first d.calls
+use Rattle.store_disk.proofs.OneWay.{plain}
 
 abbrev pub set-once : Medium → Option ℕ → Medium
 set-once d call = record d { failures = record d.failures { once = call } }
@@ -36,8 +34,8 @@ abbrev pub set-passes : Medium → Option ℕ → Medium
 set-passes d calls = record d { failures = record d.failures { passes = calls } }
 
 has-still : (journal : Standing Medium) (f : Failures) (ps : List (List ℕ)) (doubt : Option (List ℕ))
-    → Has told left journal ps doubt
-    → Has told left (record journal { disk = record journal.disk { failures = f } }) ps doubt
+    → Has model journal ps doubt
+    → Has model (record journal { disk = record journal.disk { failures = f } }) ps doubt
 has-still journal f ps None h =
     (h.0, λ l is. let r = h.1 l is in record { told = r.told; is_told = r.is_told; place = r.place; each = r.each })
 has-still journal f ps (Some p) h = (
@@ -55,7 +53,6 @@ has-still journal f ps (Some p) h = (
 pub once-set : (store : StoreTerm Medium) (call : Option ℕ) (s : State) → StandsInMemory store s
     → StandsInMemory (record store { journal = record store.journal { disk = set-once store.journal.disk call } }) s
 once-set store call s h = record {
-  sound = h.sound;
   memory = h.memory;
   journal = has-still store.journal (record store.journal.disk.failures { once = call }) (payloads s.history)
       (option_map payload s.doubt) h.journal;
@@ -65,23 +62,24 @@ once-set store call s h = record {
 pub passes-set : (store : StoreTerm Medium) (calls : Option ℕ) (s : State) → StandsInMemory store s
     → StandsInMemory (record store { journal = record store.journal { disk = set-passes store.journal.disk calls } }) s
 passes-set store calls s h = record {
-  sound = h.sound;
   memory = h.memory;
   journal = has-still store.journal (record store.journal.disk.failures { passes = calls }) (payloads s.history)
       (option_map payload s.doubt) h.journal;
   counts = h.counts;
 }
 
--- no payloads are those of no history
-pub no-history : (h : List Change) → payloads h ≡ [] → h ≡ []
-no-history [] e = refl
-no-history (c ∷ h) e = cc e
+-- no payloads are those of no commits
+no-commits : (cs : List Change) → map payload cs ≡ [] → cs ≡ []
+no-commits [] e = refl
+no-commits (c ∷ cs) e = cc e
 
 -- where nothing was written nothing was committed
-pub none-yet : (h : List Change) → OpensTo h (text []) → h ≡ []
+pub none-yet : (h : History) → OpensTo h (text header []) → h ≡ begun
 none-yet h o =
-    let opens : Opens [] (text []) = subst (Opens []) (append-nil (text [])) (text_opens [] [] tt) in
-    no-history h (one_list (payloads h) [] (text []) o.opens opens)
+    let opens : Opens header [] (text header []) =
+    subst (Opens header []) (append-nil (text header [])) (text_opens header [] [] tt) in
+    plain h o.history
+    ∙ ap of_commits (no-commits h.commits (one_list header (payloads h) [] (text header []) o.opens opens))
 
 pub at-ok : {T E P : Type 0} (r : Result T E) → is_err r ≡ false → OnOk r P → P
 at-ok (Ok x) e p = p
@@ -100,9 +98,9 @@ none-of : {A : Type 0} (xs : List A) → length xs ≤ 0 → xs ≡ []
 none-of [] few = refl
 none-of (x ∷ xs) few = absurd (omega (arith, few))
 
-first-state : (commits limit : ℕ) (h : List Change) (pins : List Held) (kept : List Entry) (doubt : Option Change)
+first-state : (commits limit : ℕ) (h : History) (pins : List Held) (kept : List Entry) (doubt : Option Change)
     (faults : Faults) (serves : Bool)
-    → h ≡ [] → limit ≡ commits → pins ≡ [] → kept ≡ [] → doubt ≡ None → faults ≡ record { a = 0; b = 0 }
+    → h ≡ begun → limit ≡ commits → pins ≡ [] → kept ≡ [] → doubt ≡ None → faults ≡ record { a = 0; b = 0 }
     → serves ≡ true
     → record {
       history = h;
@@ -117,11 +115,11 @@ first-state commits limit h pins kept doubt faults serves e1 e2 e3 e4 e5 e6 e7 =
 
 -- a store that was just opened, without commits and failures, stands for the state with which the machine begins
 pub stands-empty : (store : StoreTerm Medium) (commits : ℕ) (s : State) → StandsInMemory store s → IsOpened commits s
-    → s.history ≡ [] → bound_of store.journal.disk.failures ≡ Some 0 → bound_of store.b.failures ≡ Some 0
+    → s.history ≡ begun → bound_of store.journal.disk.failures ≡ Some 0 → bound_of store.b.failures ≡ Some 0
     → StandsInMemory store (empty commits)
 stands-empty store commits s stands opened none a b =
     let none_kept : s.kept ≡ [] = none-of s.kept
-    (omega (arith, stands.memory.kept, stands.memory.few, stands.memory.version, ap (λ h. length h) none)) in
+    (omega (arith, stands.memory.stands.kept, stands.memory.stands.few, stands.memory.stands.version, ap head none)) in
     let zero : s.faults ≡ record { a = 0; b = 0 } = stands.counts
     ∙ rw (no-fault store.journal.disk a, no-fault store.b b) refl in
     let is : s ≡ empty commits = first-state commits s.limit s.history s.pins s.kept s.doubt s.faults s.serves none

@@ -1,74 +1,35 @@
--- A call of the store in memory as one of the store on a disk: the doubt and the counts of faults stay.
-use Rattle.std.proofs.Common.{◌≡◌, ◌&&◌, ◌++◌, ◌∙◌, ap, arith, cond, inl, inr, length, List, [], ◌∷◌, None, Option, option_map, refl, Some, subst, sym, true, ℕ}
+-- A call of the store in memory as one of the store on a disk: the counts of faults stay.
+use Rattle.std.proofs.Common.{◌≡◌, ◌&&◌, ◌+◌, ◌++◌, ◌∙◌, ap, arith, cond, inl, inr, length-append, List, [], ◌∷◌, MatchOption, None, Option, option_map, refl, Some, subst, sym, true, ℕ}
 use Rattle.std.proofs.lemmas.List.{map-append}
-use Rattle.disk_edge.specs.Disk.{IfTold, Keeps}
+use Rattle.disk_edge.specs.Disk.{DiskModel, IfTold, Keeps}
 use Rattle.disk_edge.specs.Moments.{AtEachMoment}
-use Rattle.journal_core.specs.Records.{Opens}
+use Rattle.journal_core.specs.Records.{Opens, header}
 use Rattle.journal_core.specs.Standing.{Standing}
 use Rattle.store_core.specs.Calls.{Calls}
 use Rattle.store_core.specs.Stored as memory
-use Rattle.store_core.specs.Stored.{IsStore, StoreTerm as Memory}
+use Rattle.store_core.specs.Stored.{IsStore, StoreTerm as Memory, alone, served}
 use Rattle.store_machine.specs.Laws.{IsSound, RunsStaySound}
-use Rattle.store_machine.specs.Machine.{Gives}
+use Rattle.store_machine.specs.History.{IsHistory, grown, head}
+use Rattle.store_machine.specs.Machine.{Gives, IsDiskFault, MayAdd, Recovers, committed}
 use Rattle.store_machine.specs.Runs.{is_call}
 use Rattle.store_machine.specs.declared.machine.Change.{Change}
 use Rattle.store_machine.specs.declared.machine.Event.{Event}
-use Rattle.store_machine.specs.declared.machine.Event.TheVariants.{Commit}
-use Rattle.store_machine.specs.declared.machine.Faults.{Faults}
+use Rattle.store_machine.specs.declared.machine.Event.TheVariants.{Commit, Crash, Fetch, Look, Open, Pin, Prune, Stats, Unpin}
 use Rattle.store_machine.specs.declared.machine.Reply.{Reply}
+use Rattle.store_machine.specs.declared.machine.Reply.TheVariants.{Committed, DiskFault}
 use Rattle.store_machine.specs.declared.machine.State.{State}
 use Rattle.store_machine.specs.declared.machine.Step.{Step}
 use Rattle.store_machine.specs.declared.machine.Times.{Times}
+use Rattle.store_disk.specs.Loads.{OpensAfter, OpensTo}
 use Rattle.store_disk.specs.OnDisk.{Has, StandsFor, StoreTerm}
 use Rattle.store_disk.specs.Payloads.{payload, payloads}
 use Rattle.store_disk.specs.Puts.{ShowsDoubt, ShowsOne}
-use Rattle.store_disk.specs.Stored.{Shows, Stretches, keeps-itself, times}
+use Rattle.store_disk.specs.Stored.{IsCaused, IsCommit, Shows, Stretches, keeps-itself, times}
 use Rattle.store_disk.proofs.Steps.{all, one}
 
--- the state without its doubt, and one with the doubt and the counts of another
-abbrev pub calm : State → State
-calm s = record s { doubt = None }
-
+-- the state with the counts of faults of another
 abbrev pub back : State → State → State
-back s t = record t { doubt = s.doubt; faults = s.faults }
-
--- counts of faults say nothing of what is in memory
-pub with-faults : (m : Memory) (t : State) (f : Faults) → memory.StandsFor m t
-    → memory.StandsFor m (record t { doubt = None; faults = f })
-with-faults m t f h = record {
-  sound = record {
-    history = h.sound.history;
-    doubt = tt;
-    slots = h.sound.slots;
-    pins = h.sound.pins;
-    kept = h.sound.kept;
-    made = h.sound.made;
-  };
-  serves = h.serves;
-  doubt = refl;
-  version = h.version;
-  limit = h.limit;
-  most = h.most;
-  within = h.within;
-  pins = h.pins;
-  kept = h.kept;
-  few = h.few;
-  sum = h.sum;
-  live = h.live;
-  withdrawn = h.withdrawn;
-  ids = h.ids;
-  ordered = h.ordered;
-  chains = λ id.
-      let k = h.chains id in
-      record {
-        ascending = k.ascending;
-        late = k.late;
-        only = k.only;
-        states = k.states;
-        records = k.records;
-        all = k.all;
-      };
-}
+back s t = record t { faults = s.faults }
 
 -- of whichever owner
 abbrev pub step_of : ℕ → Event → Reply → State → State → Times → Times → Step
@@ -82,74 +43,120 @@ sound-after law s t owner e r gives sound =
 
 -- a step as it is lifted
 abbrev pub Lifts : State → Event → Reply → Type 0
-Lifts s e r = (owner : ℕ) (t : State) → Gives (calm s) owner e r t → Gives s owner e r (back s t) ×
-    (t.history ≡ s.history)
+Lifts s e r = (owner : ℕ) (t : State) → Gives s owner e r t → Gives s owner e r (back s t)
+    × (t.history ≡ s.history) × (t.doubt ≡ s.doubt)
 
 -- a call that is lifted leaves a store of the same version
 pub still : (old new : Memory) (e : Event) (r : Reply) → ((s : State) → Lifts s e r)
-    → ((s : State) → memory.StandsFor old s → Calls memory.Stretches all old new s ((e, r) ∷ [])) → IsStore old
+    → ((s : State) → memory.IsAt old s → Calls memory.Stretches all old new s ((e, r) ∷ [])) → IsStore old
     → IsStore new × (new.version ≡ old.version)
 still old new e r lifts c was =
-    let s = was.0 in
-    let h = with-faults old s s.faults was.1 in
-    let x = one old new (calm s) e r (c (calm s) h) in
-    ((x.after, x.ends), x.ends.version ∙ (ap (λ g. length g) (lifts s x.owner x.after x.gives).1 ∙ sym was.1.version))
+    let s : State = alone was.0 in
+    let h : memory.IsAt old s = record { sound = was.1.sound; serves = refl; stands = was.1 } in
+    let x = one old new s e r (c s h) in (
+      (served x.after, x.ends.stands),
+      x.ends.stands.version ∙ (ap head (lifts s x.owner x.after x.gives).1 ∙ sym was.1.version),
+    )
 
--- what the images of now show
-shows-doubt : (x : Step) (d : Option Change) (image : List ℕ) → x.before.doubt ≡ d
-    → ShowsDoubt (payloads x.before.history) (option_map payload d) image → Shows x image
-shows-doubt x d image is (inl opens) = (x.before.history, opens, inl (inl refl))
-shows-doubt x None image is (inr more) = absurd (none more.1)
-  where
-    none : {p : List ℕ} → None ≡ Some p → ⊥
-    none e = cc e
-shows-doubt x (Some c) image is (inr more) = (
-  x.before.history ++ c ∷ [],
-  subst (λ ps. Opens ps image) (sym (map-append payload x.before.history (c ∷ [])))
-      (subst (λ p. Opens (payloads x.before.history ++ p ∷ []) image) (sym (same (payload c) more.0 more.1)) more.2),
-  inl (inr (c, is, refl)),
-)
-  where
-    same : (p q : List ℕ) → Some p ≡ Some q → p ≡ q
-    same p q e = cc e
+-- a commit that may be added makes a history
+history-after : RunsStaySound → (s : State) (c : Change) → IsSound s → s.serves ≡ true → MayAdd s c
+    → IsHistory (grown s.history (c ∷ []))
+history-after law s c sound serves may =
+    let v = head s.history + 1 in
+    (sound-after law s (committed s c) 0 (Commit c) (Committed v)
+    ((serves, (omega arith, omega arith)), (may, refl, refl)) sound).history
 
-pub shows-one : (x : Step) (c : Change) (image : List ℕ) → x.event ≡ Commit c
-    → ShowsOne (payloads x.before.history) (option_map payload x.before.doubt) (payload c) image → Shows x image
-shows-one x c image is (inl older) = shows-doubt x x.before.doubt image refl older
-shows-one x c image is (inr opens) = (
-  x.before.history ++ c ∷ [],
-  subst (λ ps. Opens ps image)
-      (sym (map-append payload x.before.history (c ∷ []))) opens,
-  inr (c, is, refl),
-)
+-- what the bytes of a disk open to: the history, and this with a commit that may be added
+module _ (law : RunsStaySound) (m : Memory) (s : State) (h : memory.IsAt m s) where
+  pub opens-to : (bytes : List ℕ) → Opens header (payloads s.history) bytes → OpensTo s.history bytes
+  opens-to bytes o = record {
+    history = h.sound.history;
+    few = omega (arith, h.stands.version, h.stands.within);
+    opens = o;
+  }
 
-module _ {D : Type 0} (content : D → Option (List ℕ)) (images : D → List ℕ → Type 0) (clock : D → ℕ)
-    (between : D → ℕ → ℕ → List ℕ → Type 0) (faults : D → ℕ) where
+  pub opens-with : (c : Change) (bytes : List ℕ) → MayAdd s c → Opens header (payloads s.history ++ payload c ∷ []) bytes
+      → OpensTo (grown s.history (c ∷ [])) bytes
+  opens-with c bytes may o = record {
+    history = history-after law s c h.sound h.serves may;
+    few = omega (arith, may.2, h.stands.limit, h.stands.most, length-append s.history.commits (c ∷ []));
+    opens = subst (λ ps. Opens header ps bytes) (sym (map-append payload s.history.commits (c ∷ []))) o;
+  }
+
+  -- what the images of now show
+  pub shows-doubt : (d : Option Change) (image : List ℕ) → s.doubt ≡ d
+      → ShowsDoubt (payloads s.history) (option_map payload d) image → OpensAfter s image
+  shows-doubt d image is (inl opens) = (s.history, inl refl, opens-to image opens)
+  shows-doubt None image is (inr more) = absurd (none more.1)
+    where
+      none : {p : List ℕ} → None ≡ Some p → ⊥
+      none e = cc e
+  shows-doubt (Some c) image is (inr more) = (
+    grown s.history (c ∷ []),
+    inr (c, is, refl),
+    opens-with c image (subst (λ d. MatchOption d (Unit {0}) (MayAdd s)) is h.sound.doubt)
+        (subst (λ p. Opens header (payloads s.history ++ p ∷ []) image) (sym (same (payload c) more.0 more.1)) more.2),
+  )
+    where
+      same : (p q : List ℕ) → Some p ≡ Some q → p ≡ q
+      same p q e = cc e
+
+  pub shows-after : (x : Step) (image : List ℕ) → x.before ≡ s → OpensAfter s image → Shows x image
+  shows-after x image is o = (o.0, o.2, inl (subst (λ t. Recovers t o.0) (sym is) o.1))
+
+  pub shows-one : (x : Step) (c : Change) (image : List ℕ) → x.before ≡ s → x.event ≡ Commit c → MayAdd s c
+      → ShowsOne (payloads s.history) (option_map payload s.doubt) (payload c) image → Shows x image
+  shows-one x c image at is may (inl older) = shows-after x image at (shows-doubt s.doubt image refl older)
+  shows-one x c image at is may (inr opens) = (
+    grown s.history (c ∷ []),
+    opens-with c image may opens,
+    inr (c, is, subst (λ t. MayAdd t c) (sym at) may, ap (λ (t : State). grown t.history (c ∷ [])) (sym at)),
+  )
+
+-- only a commit is answered that a disk failed
+pub no-fault : (s t : State) (owner : ℕ) (e : Event) (r : Reply) → ¬ IsCommit e → is_call e ≡ true
+    → Gives s owner e r t → IsDiskFault r → ⊥
+no-fault s t owner (Commit c) (DiskFault doubt) other call g f = other tt
+no-fault s t owner Pin (DiskFault doubt) other call g f = g.1
+no-fault s t owner (Fetch slot want from limit) (DiskFault doubt) other call g f = g.1
+no-fault s t owner (Unpin slot) (DiskFault doubt) other call g f = g.1
+no-fault s t owner Prune (DiskFault doubt) other call g f = g.1
+no-fault s t owner (Look id) (DiskFault doubt) other call g f = g.1
+no-fault s t owner Stats (DiskFault doubt) other call g f = g.1
+no-fault s t owner Crash (DiskFault doubt) other call g f = g
+no-fault s t owner Open (DiskFault doubt) other call g f = g
+no-fault s t owner e _ other call g f = absurd f
+
+module _ {D : Type 0} (model : DiskModel D) where
   -- what the disk has, each image shows
   has-shows : (journal : Standing D) (ps : List (List ℕ)) (doubt : Option (List ℕ)) (l : List ℕ)
-      → content journal.disk ≡ Some l → Has content images journal ps doubt
-      → (image : List ℕ) → images journal.disk image → ShowsDoubt ps doubt image
+      → model.content journal.disk ≡ Some l → Has model journal ps doubt
+      → (image : List ℕ) → model.images journal.disk image → ShowsDoubt ps doubt image
   has-shows journal ps None l is h image i = inl ((h.1 l is).each image i)
   has-shows journal ps (Some p) l is h image i =
       elim ((h.1 l is).each image i) [ inl before ↦ inl before | inr after ↦ inr (p, refl, after) ]
 
   pub one-call : (old new : StoreTerm D) (s t : State) (owner : ℕ) (e : Event) (r : Reply) → is_call e ≡ true
-      → StandsFor content images faults old s → Gives s owner e r t → StandsFor content images faults new t
-      → new.b ≡ old.b → Keeps clock between old.journal.disk new.journal.disk
-      → (content old.journal.disk ≡ None → content new.journal.disk ≡ None)
-      → IfTold (content new.journal.disk) (λ _. AtEachMoment clock between old.journal.disk new.journal.disk
-      (Shows (step_of owner e r s t (times clock old) (times clock new))))
-      → Calls (Stretches content images clock between faults) all old new s ((e, r) ∷ [])
-  one-call old new s t owner e r call stands gives after other past untold moments = record {
-    steps = step_of owner e r s t (times clock old) (times clock new) ∷ [];
+      → StandsFor model old s → Gives s owner e r t → StandsFor model new t
+      → new.b ≡ old.b → Keeps model old.journal.disk new.journal.disk
+      → (model.content old.journal.disk ≡ None → model.content new.journal.disk ≡ None)
+      → IsCaused (step_of owner e r s t (times model old) (times model new))
+      → (¬ IsCommit e → new.journal ≡ old.journal)
+      → IfTold (model.content new.journal.disk) (λ _. AtEachMoment model old.journal.disk new.journal.disk
+      (Shows (step_of owner e r s t (times model old) (times model new))))
+      → Calls (Stretches model) all old new s ((e, r) ∷ [])
+  one-call old new s t owner e r call stands gives after other past untold cause same moments = record {
+    steps = step_of owner e r s t (times model old) (times model new) ∷ [];
     after = t;
     stands = record {
       begins = stands;
       ends = after;
       run = (refl, gives, refl);
       calm = (call, tt);
-      clocked = (refl, past.later, refl);
+      clocked = (refl, past.later, omega (arith, ap model.clock other), refl);
       moments = λ l is. ((omega arith, moments l is), tt);
+      causes = (cause, tt);
+      untouched = λ none. same none.0;
       past = past;
       untold = untold;
       other = other;
@@ -157,36 +164,56 @@ module _ {D : Type 0} (content : D → Option (List ℕ)) (images : D → List �
     own = ap (λ b. cond (b && true) ((e, r) ∷ []) []) call;
   }
 
-  module _ (only-now : (d : D) (c : List ℕ) → between d (clock d) (clock d) c → images d c) where
+  module _ (only-now : (d : D) (c : List ℕ)
+      → model.images_between d (model.clock d) (model.clock d) c → model.images d c) where
     -- a call that does not touch the disks
-    pub still-call : (old new : StoreTerm D) (s t : State) (owner : ℕ) (e : Event) (r : Reply) → is_call e ≡ true
-        → StandsFor content images faults old s → Gives s owner e r t → StandsFor content images faults new t
+    pub still-call : RunsStaySound → (old new : StoreTerm D) (s t : State) (owner : ℕ) (e : Event) (r : Reply)
+        → is_call e ≡ true → (IsDiskFault r → ⊥)
+        → StandsFor model old s → Gives s owner e r t → StandsFor model new t
         → new.b ≡ old.b → new.journal ≡ old.journal
-        → Calls (Stretches content images clock between faults) all old new s ((e, r) ∷ [])
-    still-call old new s t owner e r call stands gives after other same =
-        let x : Step = step_of owner e r s t (times clock old) (times clock new) in
+        → Calls (Stretches model) all old new s ((e, r) ∷ [])
+    still-call law old new s t owner e r call sure stands gives after other same =
+        let x : Step = step_of owner e r s t (times model old) (times model new) in
         let disk : new.journal.disk ≡ old.journal.disk = ap (λ (j : Standing D). j.disk) same in
         one-call old new s t owner e r call stands gives after other
-        (subst (λ d. Keeps clock between old.journal.disk d) (sym disk) (keeps-itself clock between old.journal.disk))
-        (λ is. ap content disk ∙ is)
-        (λ l is. subst (λ d. AtEachMoment clock between old.journal.disk d (Shows x)) (sym disk)
-        (λ image b. shows-doubt x s.doubt image refl
+        (subst (λ d. Keeps model old.journal.disk d) (sym disk) (keeps-itself model old.journal.disk))
+        (λ is. ap model.content disk ∙ is)
+        (record {
+          fault = λ f. absurd (sure f);
+          quiet = inr (λ i. record { a = model.clock (disk i); b = model.clock (other i) });
+        })
+        (λ none. same)
+        (λ l is. subst (λ d. AtEachMoment model old.journal.disk d (Shows x)) (sym disk)
+        (λ image b. shows-after law old.memory s stands.memory x image refl
+        (shows-doubt law old.memory s stands.memory s.doubt image refl
         (has-shows old.journal (payloads s.history) (option_map payload s.doubt) l
-        (sym (ap content disk) ∙ is) stands.journal image (only-now old.journal.disk image b))))
+        (sym (ap model.content disk) ∙ is) stands.journal image (only-now old.journal.disk image b)))))
 
     pub lifted : RunsStaySound → (store : StoreTerm D) (m : Memory) (s : State) (e : Event) (r : Reply)
-        → is_call e ≡ true → StandsFor content images faults store s → Lifts s e r
-        → Calls memory.Stretches all store.memory m (calm s) ((e, r) ∷ [])
-        → Calls (Stretches content images clock between faults) all store (record store { memory = m }) s ((e, r) ∷ [])
-    lifted law store m s e r call h lifts c =
-        let x = one store.memory m (calm s) e r c in
+        → is_call e ≡ true → ¬ IsCommit e → StandsFor model store s → Lifts s e r
+        → Calls memory.Stretches all store.memory m s ((e, r) ∷ [])
+        → Calls (Stretches model) all store (record store { memory = m }) s ((e, r) ∷ [])
+    lifted law store m s e r call other h lifts c =
+        let x = one store.memory m s e r c in
         let l = lifts x.owner x.after x.gives in
-        still-call store (record store { memory = m }) s (back s x.after) x.owner e r call h l.0
+        let t : State = back s x.after in
+        still-call law store (record store { memory = m }) s t x.owner e r call
+        (no-fault s t x.owner e r other call l.0) h l.0
         (record {
-          sound = sound-after law s (back s x.after) x.owner e r l.0 h.sound;
-          memory = with-faults m x.after s.faults x.ends;
-          journal = subst (λ g. Has content images store.journal (payloads g) (option_map payload s.doubt))
-              (sym l.1) h.journal;
+          memory = record {
+            sound = sound-after law s t x.owner e r l.0 h.memory.sound;
+            serves = x.ends.serves;
+            stands = x.ends.stands;
+          };
+          journal = subst (λ d. Has model store.journal (payloads x.after.history) (option_map payload d)) (sym l.2)
+              (subst (λ g. Has model store.journal (payloads g) (option_map payload s.doubt)) (sym l.1) h.journal);
           counts = h.counts;
         })
         refl refl
+
+  -- each image of now is one that a crash may recover
+  pub standing-opens : RunsStaySound → (store : StoreTerm D) (s : State) → StandsFor model store s
+      → IfTold (model.content store.journal.disk) (λ _. (image : List ℕ)
+      → model.images store.journal.disk image → OpensAfter s image)
+  standing-opens law store s h l is image i = shows-doubt law store.memory s h.memory s.doubt image refl
+      (has-shows store.journal (payloads s.history) (option_map payload s.doubt) l is h.journal image i)

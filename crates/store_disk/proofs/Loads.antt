@@ -1,32 +1,33 @@
 -- A loading: what is read, made again, and opened.
-use Rattle.std.proofs.Common.{◌≡◌, ◌∙◌, ap, arith, Err, false, length, List, [], None, Ok, Option, refl, Result, subst, sym, true, ℕ}
+use Rattle.std.proofs.Common.{◌≡◌, ◌∙◌, ap, arith, Err, false, length, List, [], MatchOption, None, Ok, Option, refl, Result, subst, sym, true, ℕ}
 use Rattle.std.proofs.lemmas.List.{length-map}
 use Rattle.std.specs.List.{AllByRecursion}
 use Rattle.commit_log.specs.Change.{Change as Logged}
 use Rattle.commit_log.specs.Log.{IsLog, IsLogged, end_of, payloads as log_payloads}
-use Rattle.disk_edge.specs.Disk.{IfTold}
+use Rattle.disk_edge.specs.Disk.{DiskModel, IfTold}
 use Rattle.journal_core.specs.Answers.{OnDamaged}
 use Rattle.journal_core.specs.Journal.{Reads, Rests}
-use Rattle.journal_core.specs.Records.{Opens}
+use Rattle.journal_core.specs.Records.{Opens, header}
 use Rattle.journal_core.specs.Standing.{Standing}
 use Rattle.journal_core.specs.declared.faults.LoadFault.{LoadFault}
 use Rattle.journal_core.specs.declared.faults.LoadFault.TheVariants as fault
 use Rattle.store_core.specs.Calls.{Calls, NeedsNone, is_worn}
 use Rattle.store_core.specs.Replies.{prune_calls}
 use Rattle.store_core.specs.Stored as memory
-use Rattle.store_core.specs.Stored.{StoreTerm as Memory}
+use Rattle.store_core.specs.Stored.{StoreTerm as Memory, served}
 use Rattle.store_core.specs.declared.words.CallFault.{CallFault}
 use Rattle.store_core.specs.declared.words.CallFault.TheVariants as call
-use Rattle.store_machine.specs.Machine.{AreNeeded}
+use Rattle.store_machine.specs.History.{head}
+use Rattle.store_machine.specs.Machine.{AreNeeded, MayAdd}
+use Rattle.store_machine.specs.Openings.{IsOpened}
 use Rattle.store_machine.specs.declared.machine.Entry.{Entry}
 use Rattle.store_machine.specs.declared.machine.Event.TheVariants as event
 use Rattle.store_machine.specs.declared.machine.Reply.TheVariants as reply
 use Rattle.store_machine.specs.declared.machine.State.{State}
 use Rattle.store_disk.specs.OnDisk.{IsReady, StandsFor}
-use Rattle.store_disk.specs.Loads.{IsOpened, OpensTo}
+use Rattle.store_disk.specs.Loads.{OpensTo}
 use Rattle.store_disk.specs.Payloads.{payloads, told}
 use Rattle.store_disk.specs.Replays.{IsLoaded, IsReplayed}
-use Rattle.store_disk.proofs.Lifts.{with-faults}
 use Rattle.store_disk.proofs.Logged.{end-near}
 use Rattle.store_disk.proofs.Payloads.{same-payloads}
 use Rattle.store_disk.proofs.Steps.{all, one}
@@ -38,11 +39,11 @@ still-needed s t kept is n =
 
 -- what a prune leaves of a store that has no pins, with its limit
 pub opened-after : (old new : Memory) (s : State) (commits : ℕ) (r : Result ℕ CallFault) → NeedsNone r
-    → (is_worn r ≡ true → ⊥) → s.pins ≡ [] → Calls memory.Stretches all old new s (prune_calls r)
-    → (t : State) × memory.StandsFor new t × (t.history ≡ s.history) × IsOpened commits (record t { limit = commits })
-opened-after old new s commits (Err call.Worn) none worn pins c = absurd (worn refl)
-opened-after old new s commits (Err call.NoMemory) none worn pins c = absurd none
-opened-after old new s commits (Ok n) none worn pins c =
+    → (is_worn r ≡ true → ⊥) → s.pins ≡ [] → s.doubt ≡ None → Calls memory.Stretches all old new s (prune_calls r)
+    → (t : State) × memory.IsAt new t × (t.history ≡ s.history) × IsOpened commits (record t { limit = commits })
+opened-after old new s commits (Err call.Worn) none worn pins doubt c = absurd (worn refl)
+opened-after old new s commits (Err call.NoMemory) none worn pins doubt c = absurd none
+opened-after old new s commits (Ok n) none worn pins doubt c =
     let x = one old new s event.Prune (reply.Pruned n) c in
     let t : State = x.after in
     let needed : AreNeeded t t.kept = still-needed s t t.kept x.gives.1.2 x.gives.1.0 in (
@@ -50,75 +51,85 @@ opened-after old new s commits (Ok n) none worn pins c =
       x.ends,
       ap (λ (y : State). y.history) x.gives.1.2,
       record {
+        serves = x.ends.serves;
         limit = refl;
         pins = ap (λ (y : State). y.pins) x.gives.1.2 ∙ pins;
-        doubt = x.ends.doubt;
+        doubt = ap (λ (y : State). y.doubt) x.gives.1.2 ∙ doubt;
         kept = record { exactly = needed.exactly; distinct = needed.distinct };
       },
     )
 
-module _ {D : Type 0} (content : D → Option (List ℕ)) (images : D → List ℕ → Type 0) where
+-- what is in memory is at each state of that part that serves and has nothing in doubt
+pub at-rest : (memory : Memory) (s : State) → memory.StandsFor memory (served s) → s.doubt ≡ None → s.serves ≡ true
+    → memory.IsAt memory s
+at-rest memory s h doubt serves = record {
+  sound = record {
+    history = h.sound.history;
+    doubt = subst (λ d. MatchOption d (Unit {0}) (MayAdd s)) (sym doubt) tt;
+    slots = h.sound.slots;
+    pins = h.sound.pins;
+    kept = λ _. h.sound.kept refl;
+    made = λ _. h.sound.made refl;
+  };
+  serves = serves;
+  stands = h;
+}
+
+module _ {D : Type 0} (model : DiskModel D) where
   same-history : (memory : Memory) (commits : ℕ) (cs : List Logged) (r : IsReplayed memory commits cs)
       → log_payloads cs ≡ payloads r.state.history
   same-history memory commits cs r = sym (ap payloads r.history ∙ same-payloads cs)
 
   pub loaded : (memory : Memory) (commits : ℕ) (cs : List Logged) (old new : Standing D) → IsReplayed memory commits cs
-      → (Reads content images old [] → IfTold (content old.disk) (IsLog cs))
-      → (Reads content images old [] → Rests content images new (log_payloads cs))
-      → IsLoaded content images memory commits old new
+      → (Reads model old header [] → IfTold (model.content old.disk) (IsLog header [] cs))
+      → (Reads model old header [] → Rests model new header (log_payloads cs))
+      → IsLoaded model memory commits old new
   loaded memory commits cs old new r log rests = record {
     state = r.state;
-    stands = r.stands;
+    at = r.at;
     opened = r.opened;
     opens = λ reads l is. record {
-      history = r.stands.sound.history;
-      few = omega (arith, r.stands.version, r.stands.within);
-      opens = subst (λ ps. Opens ps l) (same-history memory commits cs r) (log reads l is).opens;
+      history = r.at.sound.history;
+      few = omega (arith, r.at.stands.version, r.at.stands.within);
+      opens = subst (λ ps. Opens header ps l) (same-history memory commits cs r) (log reads l is).opens;
     };
-    rests = λ reads. subst (Rests content images new) (same-history memory commits cs r) (rests reads);
+    rests = λ reads. subst (Rests model new) (same-history memory commits cs r) (rests reads);
   }
 
   pub is-ready : (memory : Memory) (commits : ℕ) (cs : List Logged) (new : Standing D) → IsReplayed memory commits cs
       → new.ready ≡ true → new.place ≡ end_of 8 cs → AllByRecursion IsLogged cs → IsReady memory new
   is-ready memory commits cs new r ready place logged = record {
-    stands = (r.state, r.stands);
+    stands = (served r.state, r.at.stands);
     ready = ready;
-    few = r.stands.within;
+    few = r.at.stands.within;
     place = omega (
       arith,
       end-near 8 cs logged,
       place,
-      r.stands.version,
-      ap (λ l. length l) r.history,
+      r.at.stands.version,
+      ap head r.history,
       length-map cs told,
     );
   }
 
-  pub opened-store : (faults : D → ℕ) (memory : Memory) (commits : ℕ) (a b : D) (old new : Standing D)
-      → IsLoaded content images memory commits old new → content old.disk ≡ content a
-      → content new.disk ≡ content old.disk
-      → IfTold (content a) (λ _. Reads content images old []) → new.doubt ≡ false
-      → (s : State) × StandsFor content images faults (record { memory = memory; journal = new; b = b }) s
-      × IsOpened commits s × IfTold (content a) (OpensTo s.history)
-  opened-store faults memory commits a b old new x first second reads flag =
+  pub opened-store : (memory : Memory) (commits : ℕ) (a b : D) (old new : Standing D)
+      → IsLoaded model memory commits old new → model.content old.disk ≡ model.content a
+      → model.content new.disk ≡ model.content old.disk
+      → IfTold (model.content a) (λ _. Reads model old header []) → new.doubt ≡ false
+      → (s : State) × StandsFor model (record { memory = memory; journal = new; b = b }) s
+      × IsOpened commits s × IfTold (model.content a) (OpensTo s.history)
+  opened-store memory commits a b old new x first second reads flag =
       let t : State = x.state in
-      let s : State = record t { doubt = None; faults = record { a = faults new.disk; b = faults b } } in
-      let sound = x.stands.sound in (
+      let s : State = record t { doubt = None; faults = record { a = model.faults new.disk; b = model.faults b } } in
+      (
         s,
         record {
-          sound = record {
-            history = sound.history;
-            doubt = tt;
-            slots = sound.slots;
-            pins = sound.pins;
-            kept = sound.kept;
-            made = sound.made;
-          };
-          memory = with-faults memory t (record { a = faults new.disk; b = faults b }) x.stands;
+          memory = at-rest memory s x.at.stands refl x.opened.serves;
           journal = (flag, λ l is. x.rests (reads l (sym (second ∙ first) ∙ is)));
           counts = refl;
         },
         record {
+          serves = x.opened.serves;
           limit = x.opened.limit;
           pins = x.opened.pins;
           doubt = refl;

@@ -6,7 +6,7 @@ use Rattle.commit_log.specs.Change.{Change as Logged, change_of, written}
 use Rattle.commit_log.specs.Log.{IsLog, IsLogged, Takes, changes_of, end_of, payloads, placed}
 use Rattle.commit_log.specs.declared.change.Commit.{Commit}
 use Rattle.journal_core.specs.RecordLaws.{length-prefix_push, prefix_nil}
-use Rattle.journal_core.specs.Records.{prefix}
+use Rattle.journal_core.specs.Records.{header, prefix}
 use Rattle.journal_core.specs.declared.format.TheConstants.{LONGEST_PAYLOAD}
 use Rattle.store_disk.specs.Loads.{Disallows}
 use Rattle.store_disk.specs.Replays.{Stops}
@@ -18,15 +18,16 @@ end-near at [] all = omega arith
 end-near at (c ∷ cs) all = omega (arith, end-near (at + 5 + length (written c)) cs all.1, all.0.1)
 
 -- a place is the length of what stands before it
-end-is : (ps : List (List ℕ)) (cs : List Logged) → end_of (length (prefix ps)) cs ≡ length (prefix (ps ++ payloads cs))
-end-is ps [] = ap (λ (l : List (List ℕ)). length (prefix l)) (sym (append-nil ps))
+end-is : (ps : List (List ℕ)) (cs : List Logged)
+    → end_of (length (prefix header ps)) cs ≡ length (prefix header (ps ++ payloads cs))
+end-is ps [] = ap (λ (l : List (List ℕ)). length (prefix header l)) (sym (append-nil ps))
 end-is ps (c ∷ cs) =
-    ap (λ n. end_of n cs) (sym (length-prefix_push ps (written c)))
-    ∙ (end-is (ps ++ written c ∷ []) cs ∙ ap (λ (l : List (List ℕ)). length (prefix l))
+    ap (λ n. end_of n cs) (sym (length-prefix_push header ps (written c)))
+    ∙ (end-is (ps ++ written c ∷ []) cs ∙ ap (λ (l : List (List ℕ)). length (prefix header l))
     (append_assoc ps (written c ∷ []) (payloads cs)))
 
-pub end-from-start : (cs : List Logged) → end_of 8 cs ≡ length (prefix (payloads cs))
-end-from-start cs = ap (λ n. end_of n cs) (sym (ap (λ (l : List ℕ). length l) prefix_nil)) ∙ end-is [] cs
+pub end-from-start : (cs : List Logged) → end_of 8 cs ≡ length (prefix header (payloads cs))
+end-from-start cs = ap (λ n. end_of n cs) (sym (ap (λ (l : List ℕ). length l) (prefix_nil header))) ∙ end-is [] cs
 
 abbrev with-place : Commit → ℕ × Logged
 with-place c = (c.at, change_of c.wire)
@@ -50,12 +51,12 @@ place-of at (b ∷ before) c more e =
 
 -- a log that stops is damaged there
 pub disallowed : (log : List Commit) (at end : ℕ) (bytes : List ℕ) → Takes 8 log end → Stops log at
-    → IsLog (changes_of log) bytes → Disallows at bytes
+    → IsLog header [] (changes_of log) bytes → Disallows at bytes
 disallowed log at end bytes takes stops is = record {
   before = changes_of stops.before;
   change = change_of stops.commit.wire;
   more = changes_of stops.more;
-  log = subst (λ cs. IsLog cs bytes)
+  log = subst (λ cs. IsLog header [] cs bytes)
       (ap changes_of stops.is
       ∙ map-append (λ (c : Commit). change_of c.wire) stops.before (stops.commit ∷ stops.more)) is;
   place = stops.place

@@ -21,7 +21,8 @@ use Rattle.store_core.specs.declared.words.Change.TheVariants as asked
 use Rattle.store_machine.specs.History.{IsValid}
 use Rattle.store_machine.specs.Structures.{IsText}
 use Rattle.store_machine.specs.declared.machine.Change.{Change}
-use Rattle.store_disk.specs.Payloads.{logged_change, logged_format, payload, payloads, stored_format, told}
+use Rattle.store_machine.specs.declared.machine.Change.TheVariants.{Register, Revise, Withdraw}
+use Rattle.store_disk.specs.Payloads.{history_of, logged_change, logged_format, payload, payloads, stored_format, told}
 
 -- a text that has a structure is short
 text-short : (format : Format) (text : List ℕ) (m : Molecule) → HasMolecule format text m → length text ≤ 262144
@@ -47,6 +48,19 @@ payload-short (asked.Revise r) sound =
     )
 payload-short (asked.Withdraw id) sound = omega arith
 
+pub valid-short : (c : Change) → IsValid c → IsShort (payload c)
+valid-short (Register id format text) v = omega (
+  arith,
+  text-length 1 id (logged_format format) text,
+  text-short format text v.1.0 v.1.1,
+)
+valid-short (Revise id format text) v = omega (
+  arith,
+  text-length 2 id (logged_format format) text,
+  text-short format text v.1.0 v.1.1,
+)
+valid-short (Withdraw id) v = omega arith
+
 pub payload-some : (c : Change) → 1 ≤ length (payload c)
 payload-some c = go (logged_change c)
   where
@@ -70,7 +84,7 @@ told-logged (registered id format text) = ap (λ f. registered id f text) (same-
 told-logged (revised id format text) = ap (λ f. revised id f text) (same-format format)
 told-logged (withdrawn id) = refl
 
-pub same-payloads : (cs : List Logged) → payloads (map told cs) ≡ log_payloads cs
+pub same-payloads : (cs : List Logged) → payloads (history_of cs) ≡ log_payloads cs
 same-payloads [] = refl
 same-payloads (c ∷ cs) = λ i. written (told-logged c i) ∷ same-payloads cs i
 

@@ -10,45 +10,47 @@ use Rattle.commit_log.specs.declared.change.Commit.{Commit}
 use Rattle.journal_core.specs.Answers.{OnDamaged}
 use Rattle.journal_core.specs.declared.faults.LoadFault.{LoadFault}
 use Rattle.journal_core.specs.declared.faults.LoadFault.TheVariants as fault
-use Rattle.store_core.specs.Stored.{StandsFor, StoreTerm as Memory, empty}
-use Rattle.store_machine.specs.History.{IsHistory}
+use Rattle.store_core.specs.Stored.{IsAt, Served, StandsFor, StoreTerm as Memory, alone, empty, served}
+use Rattle.store_machine.specs.History.{IsHistory, grown, head, of_commits}
 use Rattle.store_machine.specs.Machine.{MayAdd, committed}
 use Rattle.store_machine.specs.declared.machine.State.{State}
 use Rattle.store_disk.specs.Loads.{MayFollow}
-use Rattle.store_disk.specs.Payloads.{told}
+use Rattle.store_disk.specs.Payloads.{history_of, told}
 use Rattle.store_disk.specs.Replays.{Stops}
 
--- the store stands for a state of this history, with the greatest limit and nothing pinned
+-- the store stands for a part of this history, with the greatest limit and nothing pinned
 pub record Made (memory : Memory) (changes : List Logged) : Type 0 where
-  pub state : State
-  pub stands : StandsFor memory state
-  pub history : state.history ≡ map told changes
-  pub limit : state.limit ≡ 16777215
-  pub pins : state.pins ≡ []
+  pub part : Served
+  pub stands : StandsFor memory part
+  pub history : part.history ≡ history_of changes
+  pub limit : part.limit ≡ 16777215
+  pub pins : part.pins ≡ []
 
-pub made-none : (memory : Memory) → StandsFor memory (empty 16777215) → Made memory []
-made-none memory h = record { state = empty 16777215; stands = h; history = refl; limit = refl; pins = refl }
+pub made-none : (memory : Memory) → IsAt memory (empty 16777215) → Made memory []
+made-none memory h =
+    record { part = served (empty 16777215); stands = h.stands; history = refl; limit = refl; pins = refl }
 
 pub made-more : (memory new : Memory) (changes : List Logged) (c : Logged) → (m : Made memory changes)
-    → MayAdd m.state (told c) × StandsFor new (committed m.state (told c)) → Made new (changes ++ c ∷ [])
+    → MayAdd (alone m.part) (told c) × StandsFor new (served (committed (alone m.part) (told c)))
+    → Made new (changes ++ c ∷ [])
 made-more memory new changes c m next = record {
-  state = committed m.state (told c);
+  part = served (committed (alone m.part) (told c));
   stands = next.1;
-  history = ap (λ h. h ++ told c ∷ []) m.history ∙ sym (map-append told changes (c ∷ []));
+  history = ap (λ h. grown h (told c ∷ [])) m.history ∙ ap of_commits (sym (map-append told changes (c ∷ [])));
   limit = m.limit;
   pins = m.pins;
 }
 
 -- where it stops
 may-add : (memory : Memory) (changes : List Logged) (m : Made memory changes) (c : Logged)
-    → MayFollow (map told changes) (told c) → MayAdd m.state (told c)
+    → MayFollow (history_of changes) (told c) → MayAdd (alone m.part) (told c)
 may-add memory changes m c may =
     let f = subst (λ h. MayFollow h (told c)) (sym m.history) may in
     (f.0, f.1, omega (arith, f.2, m.limit))
 
 pub stops : (log before : List Commit) (c : Commit) (more : List Commit) (memory : Memory) (at : ℕ)
     → log ≡ before ++ c ∷ more → at ≡ c.at → (m : Made memory (changes_of before))
-    → ((s : State) → StandsFor memory s → ¬ MayAdd s (told (change_of c.wire))) → Stops log at
+    → ((s : State) → StandsFor memory (served s) → ¬ MayAdd s (told (change_of c.wire))) → Stops log at
 stops log before c more memory at is place m never = record {
   before = before;
   commit = c;
@@ -60,10 +62,10 @@ stops log before c more memory at is place m never = record {
     arith,
     m.stands.version,
     m.stands.within,
-    ap (λ l. length l) m.history,
+    ap head m.history,
     length-map (changes_of before) told,
   );
-  refused = λ may. never m.state m.stands (may-add memory (changes_of before) m (change_of c.wire) may);
+  refused = λ may. never (alone m.part) m.stands (may-add memory (changes_of before) m (change_of c.wire) may);
 }
 
 -- the commit at an index
@@ -90,7 +92,8 @@ logged-at log i c less is all =
 
 pub made-next : (log : List Commit) (i : ℕ) (c : Commit) → i < length log → c ≡ get_or log i c → (memory new : Memory)
     → (m : Made memory (changes_of (take i log)))
-    → MayAdd m.state (told (change_of c.wire)) × StandsFor new (committed m.state (told (change_of c.wire)))
+    → MayAdd (alone m.part) (told (change_of c.wire))
+    × StandsFor new (served (committed (alone m.part) (told (change_of c.wire))))
     → Made new (changes_of (take (i + 1) log))
 made-next log i c less is memory new m next =
     subst (Made new) (sym (ap changes_of (next-is log i c less is) ∙ map-append (λ (x : Commit). change_of x.wire)
@@ -100,13 +103,13 @@ pub at-add : {X : Type 0} (log : List Commit) (i : ℕ) (c : Commit) → i < len
     → (memory : Memory) → Made memory (changes_of (take i log)) → (f : LoadFault) (r : Result X LoadFault)
     → IsErrAnd r (λ e. e ≡ f)
     → OnDamaged {T = Unit {0}} (Err f) (λ at. (at ≡ c.at)
-    × ((s : State) → StandsFor memory s → ¬ MayAdd s (told (change_of c.wire)))) → OnDamaged r (Stops log)
+    × ((s : State) → StandsFor memory (served s) → ¬ MayAdd s (told (change_of c.wire)))) → OnDamaged r (Stops log)
 at-add {X} log i c less is memory m f (Ok x) same damaged = tt
 at-add {X} log i c less is memory m f (Err e) same damaged =
     subst (λ g. OnDamaged {T = X} (Err g) (Stops log)) (sym same) (go f damaged)
   where
     go : (f : LoadFault) → OnDamaged {T = Unit {0}} (Err f) (λ at. (at ≡ c.at)
-        × ((s : State) → StandsFor memory s → ¬ MayAdd s (told (change_of c.wire)))) → OnDamaged {T = X} (Err f)
+        × ((s : State) → StandsFor memory (served s) → ¬ MayAdd s (told (change_of c.wire)))) → OnDamaged {T = X} (Err f)
         (Stops log)
     go fault.Disk d = tt
     go fault.NotAStore d = tt

@@ -1,5 +1,6 @@
 -- The rows of all calls but commit, lifted: none of them speaks of the doubt.
-use Rattle.std.proofs.Common.{◌≡◌, ap, arith, Bool, Err, List, None, Ok, Option, refl, Result, Some, true, ℕ}
+use Rattle.std.proofs.Common.{◌≡◌, ◌∙◌, ap, arith, Bool, Err, List, None, Ok, Option, refl, Result, Some, true, ℕ}
+use Rattle.disk_edge.specs.Disk.{DiskModel}
 use Rattle.journal_core.specs.Standing.{Standing}
 use Rattle.snap_registry.specs.declared.Pin.{Pin}
 use Rattle.store_core.specs.Calls.{Calls, NeedsNone, is_worn}
@@ -21,46 +22,51 @@ use Rattle.store_machine.specs.declared.machine.Reply.TheVariants as reply
 use Rattle.store_machine.specs.declared.machine.State.{State}
 use Rattle.store_machine.specs.declared.machine.Status.{Status}
 use Rattle.store_disk.specs.OnDisk.{IsReady, StandsFor, StoreTerm}
-use Rattle.store_disk.specs.Stored.{Stretches}
-use Rattle.store_disk.proofs.Lifts.{Lifts, back, calm, lifted, still}
+use Rattle.store_disk.specs.Stored.{IsCommit, Stretches}
+use Rattle.store_disk.proofs.Lifts.{Lifts, back, lifted, still}
 use Rattle.store_disk.proofs.Steps.{all}
 
-serves : (s t : State) → Serves (calm s) t → Serves s (back s t)
+serves : (s t : State) → Serves s t → Serves s (back s t)
 serves s t g = (g.0, (omega arith, omega arith))
 
+-- the history and the doubt stay
+same-kept : {u : State} (s t : State) → t ≡ u → u.history ≡ s.history → u.doubt ≡ s.doubt
+    → (t.history ≡ s.history) × (t.doubt ≡ s.doubt)
+same-kept s t e h d = (ap (λ (x : State). x.history) e ∙ h, ap (λ (x : State). x.doubt) e ∙ d)
+
 lift-pin : (s : State) (o : Option Pin) → Lifts s event.Pin (pin_reply o)
-lift-pin s None owner t g = ((serves s t g.0, (g.1.0, ap (back s) g.1.1)), ap (λ (x : State). x.history) g.1.1)
+lift-pin s None owner t g = ((serves s t g.0, (g.1.0, ap (back s) g.1.1)), same-kept s t g.1.1 refl refl)
 lift-pin s (Some p) owner t g =
-    ((serves s t g.0, (g.1.0, g.1.1, g.1.2, g.1.3, ap (back s) g.1.4)), ap (λ (x : State). x.history) g.1.4)
+    ((serves s t g.0, (g.1.0, g.1.1, g.1.2, g.1.3, ap (back s) g.1.4)), same-kept s t g.1.4 refl refl)
 
 lift-page : (s : State) (slot : ℕ) (want : List Bool) (from limit : ℕ) (records : List Shared) (last : Bool)
     → Lifts s (event.Fetch slot want from limit) (reply.Page (founds records) last)
 lift-page s slot want from limit records last owner t g =
-    ((serves s t g.0, (g.1.0, g.1.1, g.1.2, ap (back s) g.1.3)), ap (λ (x : State). x.history) g.1.3)
+    ((serves s t g.0, (g.1.0, g.1.1, g.1.2, ap (back s) g.1.3)), same-kept s t g.1.3 refl refl)
 
 lift-no-page : (s : State) (slot : ℕ) (want : List Bool) (from limit : ℕ)
     → Lifts s (event.Fetch slot want from limit) reply.NoMemory
 lift-no-page s slot want from limit owner t g =
-    ((serves s t g.0, (g.1.0, g.1.1, ap (back s) g.1.2)), ap (λ (x : State). x.history) g.1.2)
+    ((serves s t g.0, (g.1.0, g.1.1, ap (back s) g.1.2)), same-kept s t g.1.2 refl refl)
 
 lift-unpin : (s : State) (slot : ℕ) → Lifts s (event.Unpin slot) reply.Unpinned
-lift-unpin s slot owner t g = ((serves s t g.0, (g.1.0, g.1.1, ap (back s) g.1.2)), ap (λ (x : State). x.history) g.1.2)
+lift-unpin s slot owner t g = ((serves s t g.0, (g.1.0, g.1.1, ap (back s) g.1.2)), same-kept s t g.1.2 refl refl)
 
 lift-prune : (s : State) (dropped : ℕ) → Lifts s event.Prune (reply.Pruned dropped)
 lift-prune s dropped owner t g = (
   (serves s t g.0, (record { exactly = g.1.0.exactly; distinct = g.1.0.distinct }, g.1.1, ap (back s) g.1.2)),
-  ap (λ (x : State). x.history) g.1.2,
+  same-kept s t g.1.2 refl refl,
 )
 
 lift-look : (s : State) (id : ℕ) (status : Option Status) → Lifts s (event.Look id) (reply.Looked status)
-lift-look s id status owner t g = ((serves s t g.0, (g.1.0, ap (back s) g.1.1)), ap (λ (x : State). x.history) g.1.1)
+lift-look s id status owner t g = ((serves s t g.0, (g.1.0, ap (back s) g.1.1)), same-kept s t g.1.1 refl refl)
 
 lift-no-look : (s : State) (id : ℕ) → Lifts s (event.Look id) reply.NoMemory
-lift-no-look s id owner t g = ((serves s t g.0, ap (back s) g.1), ap (λ (x : State). x.history) g.1)
+lift-no-look s id owner t g = ((serves s t g.0, ap (back s) g.1), same-kept s t g.1 refl refl)
 
 lift-stats : (s : State) (n : Stats) → Lifts s event.Stats (reply.Counted n.version n.live n.withdrawn n.kept n.pins)
 lift-stats s n owner t g =
-    ((serves s t g.0, (g.1.0, g.1.1, g.1.2, g.1.3, g.1.4, ap (back s) g.1.5)), ap (λ (x : State). x.history) g.1.5)
+    ((serves s t g.0, (g.1.0, g.1.1, g.1.2, g.1.3, g.1.4, ap (back s) g.1.5)), same-kept s t g.1.5 refl refl)
 
 -- each reply of a call is lifted
 abbrev pub AllLift : {X : Type 0} → Event → (X → Reply) → Result X CallFault → Type 0
@@ -114,7 +120,7 @@ stats-lifts r worn none = all-lift event.Stats (λ n. reply.Counted n.version n.
 -- such a call leaves a store that is ready
 pub still-ready : {X D : Type 0} (e : Event) (of : X → Reply) (r : Result X CallFault) → AllLift e of r
     → (old new : Memory) (journal : Standing D)
-    → ((s : State) → memory.StandsFor old s → Calls memory.Stretches all old new s (calls e of r))
+    → ((s : State) → memory.IsAt old s → Calls memory.Stretches all old new s (calls e of r))
     → IsReady old journal → IsReady new journal
 still-ready e of (Ok x) lifts old new journal c was =
     let n = still old new e (of x) lifts c was.stands in
@@ -125,15 +131,15 @@ still-ready e of (Err call.NoMemory) lifts old new journal c was =
     record { stands = n.0; ready = was.ready; few = omega (arith, n.1, was.few); place = omega (arith, n.1, was.place) }
 
 -- and is one of the store on the disk
-pub lifted-call : {X D : Type 0} (content : D → Option (List ℕ)) (images : D → List ℕ → Type 0) (clock : D → ℕ)
-    (between : D → ℕ → ℕ → List ℕ → Type 0) (faults : D → ℕ)
-    → ((d : D) (c : List ℕ) → between d (clock d) (clock d) c → images d c) → RunsStaySound
-    → (store : StoreTerm D) (m : Memory) (s : State) → StandsFor content images faults store s
-    → (e : Event) (of : X → Reply) → is_call e ≡ true → (r : Result X CallFault) → AllLift e of r
-    → Calls memory.Stretches all store.memory m (calm s) (calls e of r)
-    → Calls (Stretches content images clock between faults) all store (record store { memory = m }) s (calls e of r)
-lifted-call content images clock between faults only-now law store m s h e of is (Ok x) lifts c =
-    lifted content images clock between faults only-now law store m s e (of x) is h (lifts s) c
-lifted-call content images clock between faults only-now law store m s h e of is (Err call.Worn) lifts c = absurd lifts
-lifted-call content images clock between faults only-now law store m s h e of is (Err call.NoMemory) lifts c =
-    lifted content images clock between faults only-now law store m s e reply.NoMemory is h (lifts s) c
+pub lifted-call : {X D : Type 0} (model : DiskModel D)
+    → ((d : D) (c : List ℕ) → model.images_between d (model.clock d) (model.clock d) c → model.images d c)
+    → RunsStaySound
+    → (store : StoreTerm D) (m : Memory) (s : State) → StandsFor model store s
+    → (e : Event) (of : X → Reply) → is_call e ≡ true → ¬ IsCommit e → (r : Result X CallFault) → AllLift e of r
+    → Calls memory.Stretches all store.memory m s (calls e of r)
+    → Calls (Stretches model) all store (record store { memory = m }) s (calls e of r)
+lifted-call model only-now law store m s h e of is other (Ok x) lifts c =
+    lifted model only-now law store m s e (of x) is other h (lifts s) c
+lifted-call model only-now law store m s h e of is other (Err call.Worn) lifts c = absurd lifts
+lifted-call model only-now law store m s h e of is other (Err call.NoMemory) lifts c =
+    lifted model only-now law store m s e reply.NoMemory is other h (lifts s) c

@@ -1,7 +1,7 @@
 -- One call of the store in memory is one step.
 use Rattle.std.proofs.Common.{◌≡◌, ◌&&◌, ◌∙◌, ap, Bool, cond, List, [], ◌∷◌, subst, sym, true, ℕ}
 use Rattle.store_core.specs.Calls.{Calls}
-use Rattle.store_core.specs.Stored.{StandsFor, StoreTerm, Stretches}
+use Rattle.store_core.specs.Stored.{IsAt, StoreTerm, Stretches}
 use Rattle.store_machine.specs.Machine.{Gives}
 use Rattle.store_machine.specs.Runs.{IsCalm, IsRun, calls_of, is_call}
 use Rattle.store_machine.specs.declared.machine.Event.{Event}
@@ -55,7 +55,7 @@ pub record One (new : StoreTerm) (s : State) (e : Event) (r : Reply) : Type 0 wh
   pub owner : ℕ
   pub after : State
   pub gives : Gives s owner e r after
-  pub ends : StandsFor new after
+  pub ends : IsAt new after
 
 pub one : (old new : StoreTerm) (s : State) (e : Event) (r : Reply) → Calls Stretches all old new s ((e, r) ∷ [])
     → One new s e r

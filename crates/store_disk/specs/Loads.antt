@@ -1,48 +1,46 @@
 -- What the bytes of a disk open to as a store, and where they are damaged. For callers.
-use Rattle.std.specs.Prelude.{◌≡◌, ◌⊎◌, ◌++◌, ◌<◌, ◌≤◌, Err, List, [], ◌∷◌, length, map, None, Ok, Result, ℕ}
+use Rattle.std.specs.Prelude.{◌≡◌, ◌⊎◌, ◌++◌, ◌<◌, ◌≤◌, Err, List, [], ◌∷◌, length, None, Ok, Result, ℕ}
 use Rattle.commit_log.specs.Change.{Change as Logged}
 use Rattle.commit_log.specs.Log.{DamagesLog, IsLog, payloads as log_payloads}
-use Rattle.journal_core.specs.Records.{Opens, prefix}
+use Rattle.journal_core.specs.Records.{Opens, header, prefix}
 use Rattle.journal_core.specs.declared.faults.LoadFault.{LoadFault}
 use Rattle.store_machine.specs.History.{IsAllowed, IsHistory, IsValid, head, snapshot}
-use Rattle.store_machine.specs.Machine.{AreNeeded}
+use Rattle.store_machine.specs.Machine.{Recovers}
 use Rattle.store_machine.specs.declared.machine.Change.{Change}
+use Rattle.store_machine.specs.declared.machine.History.{History}
 use Rattle.store_machine.specs.declared.machine.State.{State}
 use Rattle.store_disk.specs.OnDisk.{StoreTerm}
-use Rattle.store_disk.specs.Payloads.{payloads, told}
+use Rattle.store_disk.specs.Payloads.{history_of, payloads, told}
 use Rattle.store_disk.specs.declared.disks.Disks.{Disks}
 
 -- the bytes open to a history, which is no longer than a store may have
-pub record OpensTo (h : List Change) (bytes : List ℕ) : Type 0 where
+pub record OpensTo (h : History) (bytes : List ℕ) : Type 0 where
   pub history : IsHistory h
-  pub few : length h ≤ 16777215
-  pub opens : Opens (payloads h) bytes
+  pub few : length h.commits ≤ 16777215
+  pub opens : Opens header (payloads h) bytes
 
 -- the change may come after a history
-abbrev pub MayFollow : List Change → Change → Type 0
-MayFollow h c = IsValid c × IsAllowed (snapshot h (head h)) c × (length h < 16777215)
+abbrev pub MayFollow : History → Change → Type 0
+MayFollow h c = IsValid c × IsAllowed (snapshot h (head h)) c × (length h.commits < 16777215)
 
 -- The bytes are a log, and the commit at a place is the first that may not follow those before it.
 pub record Disallows (at : ℕ) (bytes : List ℕ) : Type 0 where
   pub before : List Logged
   pub change : Logged
   pub more : List Logged
-  pub log : IsLog (before ++ change ∷ more) bytes
-  pub place : at ≡ length (prefix (log_payloads before))
-  pub history : IsHistory (map told before)
+  pub log : IsLog header [] (before ++ change ∷ more) bytes
+  pub place : at ≡ length (prefix header (log_payloads before))
+  pub history : IsHistory (history_of before)
   pub few : length before ≤ 16777215
-  pub refused : ¬ MayFollow (map told before) (told change)
+  pub refused : ¬ MayFollow (history_of before) (told change)
 
 -- The store is damaged at a place: the log is, or else a commit is not allowed or has a text without a structure.
 abbrev pub Damages : ℕ → List ℕ → Type 0
-Damages at bytes = DamagesLog at bytes ⊎ Disallows at bytes
+Damages at bytes = DamagesLog header [] at bytes ⊎ Disallows at bytes
 
--- A state as an opening leaves it: nothing is pinned or in doubt, and exactly what the head reads is kept.
-pub record IsOpened (commits : ℕ) (s : State) : Type 0 where
-  pub limit : s.limit ≡ commits
-  pub pins : s.pins ≡ []
-  pub doubt : s.doubt ≡ None
-  pub kept : AreNeeded s s.kept
+-- the bytes open to what a crash may recover of a state: its history, or this and the commit in doubt
+abbrev pub OpensAfter : State → List ℕ → Type 0
+OpensAfter s bytes = (h : History) × Recovers s h × OpensTo h bytes
 
 -- the disks that a loading leaves, in the store or beside the fault
 abbrev pub a_after : {D : Type 0} → Result (StoreTerm D) (LoadFault × Disks D) → D

@@ -1,13 +1,11 @@
 -- What the disk of a store has, at each state of the machine. For callers.
 use Rattle.std.specs.Prelude.{◌≡◌, ◌+◌, ◌*◌, ◌≤◌, false, true, List, None, Option, option_map, Some, ℕ}
-use Rattle.disk_edge.specs.Disk.{IfTold}
+use Rattle.disk_edge.specs.Disk.{DiskModel, IfTold}
 use Rattle.journal_core.specs.Journal.{Doubts, Rests}
 use Rattle.journal_core.specs.Standing.{Standing}
 use Rattle.journal_core.specs.declared.format.TheConstants.{LONGEST_PAYLOAD}
-use Rattle.store_core.specs.Stored.{StoreTerm as Memory}
-use Rattle.store_core.specs.Stored as memory
-use Rattle.store_core.specs.Stored.{IsStore}
-use Rattle.store_machine.specs.Laws.{IsSound}
+use Rattle.journal_core.specs.Records.{header}
+use Rattle.store_core.specs.Stored.{IsAt, IsStore, StoreTerm as Memory}
 use Rattle.store_machine.specs.declared.machine.State.{State}
 use Rattle.store_disk.specs.Payloads.{payload, payloads}
 
@@ -19,21 +17,18 @@ pub record StoreTerm (D : Type 0) : Type 0 where
 
 -- The journal has these payloads, where its disk tells its content: each image opens to them. Where one more is in
 -- doubt, each image opens to them or to them and this one, and some image with it.
-abbrev pub Has : {D : Type 0} → (D → Option (List ℕ)) → (D → List ℕ → Type 0) → Standing D → List (List ℕ)
-    → Option (List ℕ) → Type 0
-Has content images journal payloads None =
-    (journal.doubt ≡ false) × IfTold (content journal.disk) (λ _. Rests content images journal payloads)
-Has content images journal payloads (Some p) =
-    (journal.doubt ≡ true) × IfTold (content journal.disk) (λ _. Doubts content images journal payloads p)
+abbrev pub Has : {D : Type 0} → DiskModel D → Standing D → List (List ℕ) → Option (List ℕ) → Type 0
+Has model journal payloads None =
+    (journal.doubt ≡ false) × IfTold (model.content journal.disk) (λ _. Rests model journal header payloads)
+Has model journal payloads (Some p) =
+    (journal.doubt ≡ true) × IfTold (model.content journal.disk) (λ _. Doubts model journal header payloads p)
 
--- The store stands for a state: what is in memory stands for it but for the doubt, which is the journal's; the journal
--- has the history; the counts of faults are those of the disks. Whose the pins are is free.
-pub record StandsFor {D : Type 0} (content : D → Option (List ℕ)) (images : D → List ℕ → Type 0) (faults : D → ℕ)
-    (store : StoreTerm D) (s : State) : Type 0 where
-  pub sound : IsSound s
-  pub memory : memory.StandsFor store.memory (record s { doubt = None })
-  pub journal : Has content images store.journal (payloads s.history) (option_map payload s.doubt)
-  pub counts : s.faults ≡ record { a = faults store.journal.disk; b = faults store.b }
+-- The store stands for a state: what is in memory is at it; the journal has the history, and the commit in doubt; the
+-- counts of faults are those of the disks. Whose the pins are is free.
+pub record StandsFor {D : Type 0} (model : DiskModel D) (store : StoreTerm D) (s : State) : Type 0 where
+  pub memory : IsAt store.memory s
+  pub journal : Has model store.journal (payloads s.history) (option_map payload s.doubt)
+  pub counts : s.faults ≡ record { a = model.faults store.journal.disk; b = model.faults store.b }
 
 -- The journal may be appended to, at a place far below the end of places. For private clauses alone.
 pub record IsReady {D : Type 0} (memory : Memory) (journal : Standing D) : Type 0 where

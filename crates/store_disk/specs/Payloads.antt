@@ -5,8 +5,10 @@ use Rattle.commit_log.specs.declared.change.Format.{Format as LoggedFormat}
 use Rattle.commit_log.specs.declared.change.Format.TheVariants as logged
 use Rattle.mol_finish.specs.declared.fault.Format.{Format}
 use Rattle.mol_finish.specs.declared.fault.Format.TheVariants.{Smiles, Molfile}
+use Rattle.store_machine.specs.History.{of_commits}
 use Rattle.store_machine.specs.declared.machine.Change.{Change}
 use Rattle.store_machine.specs.declared.machine.Change.TheVariants.{Register, Revise, Withdraw}
+use Rattle.store_machine.specs.declared.machine.History.{History}
 
 abbrev pub logged_format : Format → LoggedFormat
 logged_format Smiles = logged.Smiles
@@ -28,8 +30,13 @@ told (registered id format text) = Register id (stored_format format) text
 told (revised id format text) = Revise id (stored_format format) text
 told (withdrawn id) = Withdraw id
 
+-- the history that a log's changes are
+abbrev pub history_of : List Logged → History
+history_of changes = of_commits (map told changes)
+
 abbrev pub payload : Change → List ℕ
 payload c = written (logged_change c)
 
-abbrev pub payloads : List Change → List (List ℕ)
-payloads h = map payload h
+-- those of a history's commits
+abbrev pub payloads : History → List (List ℕ)
+payloads h = map payload h.commits

@@ -1,6 +1,6 @@
 -- What a payload that is put into a journal leaves there. For private clauses alone.
 use Rattle.std.specs.Prelude.{◌≡◌, ◌⊎◌, ◌++◌, Err, false, List, [], ◌∷◌, None, Ok, Option, Result, Some, true, ℕ}
-use Rattle.journal_core.specs.Records.{Opens}
+use Rattle.journal_core.specs.Records.{Opens, header}
 use Rattle.store_core.specs.declared.words.CommitFault.{CommitFault}
 use Rattle.store_core.specs.declared.words.CommitFault.TheVariants.{DiskFault, NoMemory}
 
@@ -24,8 +24,8 @@ OnFault (Err _) P = Unit {0}
 
 -- an image opens to the payloads, or to these and the one in doubt
 abbrev pub ShowsDoubt : List (List ℕ) → Option (List ℕ) → List ℕ → Type 0
-ShowsDoubt ps doubt image = Opens ps image ⊎ ((p : List ℕ) × (doubt ≡ Some p) × Opens (ps ++ p ∷ []) image)
+ShowsDoubt ps doubt image = Opens header ps image ⊎ ((p : List ℕ) × (doubt ≡ Some p) × Opens header (ps ++ p ∷ []) image)
 
 -- or to these and the new one
 abbrev pub ShowsOne : List (List ℕ) → Option (List ℕ) → List ℕ → List ℕ → Type 0
-ShowsOne ps doubt payload image = ShowsDoubt ps doubt image ⊎ Opens (ps ++ payload ∷ []) image
+ShowsOne ps doubt payload image = ShowsDoubt ps doubt image ⊎ Opens header (ps ++ payload ∷ []) image

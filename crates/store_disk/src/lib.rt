@@ -16,5 +16,7 @@ mod store;
 mod tests;
 
 pub use disks::Disks;
-pub use laws::a_store_opens_one_way;
+pub use laws::{
+    a_standing_store_opens, a_store_opens_one_way, stores_ask_no_owner, what_was_written_opens,
+};
 pub use store::Store;

@@ -1,7 +1,7 @@
 //! A payload is put into the journal, and an older doubt is ended first.
 
 ghost use Rattle.std.specs.Prelude.{◌≡◌, ◌<◌, ◌≤◌, ◌+◌, ◌^◌, ◌++◌, [], ◌∷◌, List, None, OnErr, OnOk, Option, false, length, true, ℕ};
-ghost use Rattle.disk_edge.specs.Disk.{Counts, IfTold, Keeps, OnFailed, Rose};
+ghost use Rattle.disk_edge.specs.Disk.{IfTold, Keeps, OnFailed, Counted, Faulted};
 ghost use Rattle.disk_edge.specs.Moments.{AtEachMoment};
 ghost use Rattle.journal_core.specs.Records.{IsShort};
 ghost use Rattle.store_core.specs.Calls.{is_worn_out};
@@ -20,18 +20,18 @@ pub(crate) fn put<D: Disk>(journal: &mut Journal<D>, payload: &[u8]) -> Result<(
     requires room { journal.old.place < 2 ^ 62 }
 
     ensures gives { (ps : List (List ℕ)) (doubt : Option (List ℕ))
-        → Has D.content D.images journal.old ps doubt
-        → PutGives result (Has D.content D.images journal.new) ps doubt payload.now }
+        → Has D.model journal.old ps doubt
+        → PutGives result (Has D.model journal.new) ps doubt payload.now }
     ensures moments { (ps : List (List ℕ)) (doubt : Option (List ℕ))
-        → Has D.content D.images journal.old ps doubt
-        → IfTold (D.content journal.new.disk) (λ _. AtEachMoment D.clock D.images_between
+        → Has D.model journal.old ps doubt
+        → IfTold (D.model.content journal.new.disk) (λ _. AtEachMoment D.model
         journal.old.disk journal.new.disk (ShowsOne ps doubt payload.now)) }
-    ensures past { Keeps D.clock D.images_between journal.old.disk journal.new.disk }
-    ensures untold { D.content journal.old.disk ≡ None → D.content journal.new.disk ≡ None }
+    ensures past { Keeps D.model journal.old.disk journal.new.disk }
+    ensures untold { D.model.content journal.old.disk ≡ None
+        → D.model.content journal.new.disk ≡ None }
     ensures not_worn { is_worn_out result ≡ false }
-    ensures cause { OnFault result (Rose (D.faults journal.old.disk) (D.faults journal.new.disk)) }
-    ensures count { Counts (D.faults journal.old.disk) (D.faults journal.new.disk)
-        (D.bound journal.old.disk) (D.bound journal.new.disk) }
+    ensures cause { OnFault result (Faulted D.model journal.old.disk journal.new.disk) }
+    ensures count { Counted D.model journal.old.disk journal.new.disk }
     ensures ready { journal.new.ready ≡ true }
     ensures moved { OnOk result (journal.new.place ≡ journal.old.place + 5 + length payload.now) }
     ensures stays { OnErr result (journal.new.place ≡ journal.old.place) }
@@ -54,21 +54,19 @@ fn settle<D: Disk>(journal: &mut Journal<D>) -> Result<(), DiskFail>
     requires ready { journal.old.ready ≡ true }
 
     ensures ok { OnOk result ((ps : List (List ℕ)) (doubt : Option (List ℕ))
-        → Has D.content D.images journal.old ps doubt
-        → Has D.content D.images journal.new ps None) }
+        → Has D.model journal.old ps doubt → Has D.model journal.new ps None) }
     ensures err { OnErr result ((ps : List (List ℕ)) (doubt : Option (List ℕ))
-        → Has D.content D.images journal.old ps doubt
-        → Has D.content D.images journal.new ps doubt) }
+        → Has D.model journal.old ps doubt → Has D.model journal.new ps doubt) }
     ensures moments { (ps : List (List ℕ)) (doubt : Option (List ℕ))
-        → Has D.content D.images journal.old ps doubt
-        → IfTold (D.content journal.new.disk) (λ _. AtEachMoment D.clock D.images_between
+        → Has D.model journal.old ps doubt
+        → IfTold (D.model.content journal.new.disk) (λ _. AtEachMoment D.model
         journal.old.disk journal.new.disk (ShowsDoubt ps doubt)) }
-    ensures past { Keeps D.clock D.images_between journal.old.disk journal.new.disk }
-    ensures untold { D.content journal.old.disk ≡ None → D.content journal.new.disk ≡ None }
+    ensures past { Keeps D.model journal.old.disk journal.new.disk }
+    ensures untold { D.model.content journal.old.disk ≡ None
+        → D.model.content journal.new.disk ≡ None }
     ensures settled { OnOk result (journal.new.doubt ≡ false) }
-    ensures cause { OnFailed result (Rose (D.faults journal.old.disk) (D.faults journal.new.disk)) }
-    ensures count { Counts (D.faults journal.old.disk) (D.faults journal.new.disk)
-        (D.bound journal.old.disk) (D.bound journal.new.disk) }
+    ensures cause { OnFailed result (Faulted D.model journal.old.disk journal.new.disk) }
+    ensures count { Counted D.model journal.old.disk journal.new.disk }
     ensures ready { journal.new.ready ≡ true }
     ensures place { journal.new.place ≡ journal.old.place }
 {

@@ -1,14 +1,14 @@
 //! The commits of a log are made again in memory, one after the other.
 
-ghost use Rattle.std.specs.Prelude.{◌≡◌, ◌≤◌, [], IfOk, IsErrOf, OnOk};
+ghost use Rattle.std.specs.Prelude.{◌≡◌, ◌≤◌, [], IfOk, IsErrOf, None, OnOk};
 ghost use Rattle.std.specs.List.{AllByRecursion};
 ghost use Rattle.commit_log.specs.Change as logged;
 ghost use Rattle.commit_log.specs.Log.{IsLogged, changes_of};
 ghost use Rattle.journal_core.specs.Answers.{OnDamaged};
-ghost use Rattle.store_core.specs.Stored.{StandsFor};
+ghost use Rattle.store_core.specs.Stored.{IsAt, StandsFor, served};
 ghost use Rattle.store_machine.specs.Machine.{MayAdd, committed};
+ghost use Rattle.store_machine.specs.Openings.{IsOpened};
 ghost use Rattle.store_machine.specs.declared.machine.State.{State};
-ghost use Rattle.store_disk.specs.Loads.{IsOpened};
 ghost use Rattle.store_disk.specs.Payloads.{told};
 ghost use Rattle.store_disk.specs.Replays.{IsReplayed, Stops};
 
@@ -41,10 +41,10 @@ pub(crate) fn replay(alloc: Global, log: &[Commit], commits: u32) -> Result<Memo
 // One commit more.
 fn add(recorder: &mut Recorder, memory: &mut Memory, commit: &Commit) -> Result<(), LoadFault>
     requires { IsLogged (logged.change_of commit.now.wire) }
-    ensures ok { OnOk result ((s : State) → StandsFor memory.old s
+    ensures ok { OnOk result ((s : State) → StandsFor memory.old (served s)
         → MayAdd s (told (logged.change_of commit.now.wire))
-        × StandsFor memory.new (committed s (told (logged.change_of commit.now.wire)))) }
-    ensures damaged { OnDamaged result (λ at. (at ≡ commit.now.at) × ((s : State) → StandsFor memory.old s
+        × StandsFor memory.new (served (committed s (told (logged.change_of commit.now.wire))))) }
+    ensures damaged { OnDamaged result (λ at. (at ≡ commit.now.at) × ((s : State) → StandsFor memory.old (served s)
         → ¬ MayAdd s (told (logged.change_of commit.now.wire)))) }
     ensures no_disk { ¬ IsErrOf result LoadFault.Disk }
     ensures no_other { ¬ IsErrOf result LoadFault.NotAStore }
@@ -68,7 +68,7 @@ fn add(recorder: &mut Recorder, memory: &mut Memory, commit: &Commit) -> Result<
 // Drops what the head does not read, and takes so many commits in all from now on.
 fn opened(memory: Memory, commits: u32) -> Memory
     requires { commits ≤ MOST_COMMITS }
-    ensures { (s : State) → StandsFor memory s → s.pins ≡ [] → (t : State) × StandsFor result t
+    ensures { (s : State) → IsAt memory s → s.pins ≡ [] → s.doubt ≡ None → (t : State) × IsAt result t
         × (t.history ≡ s.history) × IsOpened commits t }
 {
     laws();

@@ -1,17 +1,25 @@
 //! A store on a disk. A commit is first kept in memory, then put into the journal, and taken back from memory where the
-//! journal does not take it. No other call touches the disk.
+//! journal does not take it. No other call touches the disk (`Stretches`, fields `causes` and `untouched`).
 
-ghost use Rattle.std.specs.Prelude.{◌≡◌, ◌≤◌, [], false, IfErr, IfOk, IsErrOf, Some, ℕ};
-ghost use Rattle.disk_edge.specs.Disk.{IfTold, Rose};
+ghost use Rattle.std.specs.Prelude.{◌≡◌, ◌≤◌, [], All, false, IfErr, IfOk, IsErrOf, length, OnErr, Some, true, ℕ};
+ghost use Rattle.disk_edge.specs.Disk.{IfTold, Rose, Faulted};
 ghost use Rattle.disk_edge.specs.Failures.{bound_of};
 ghost use Rattle.journal_core.specs.Answers.{OnDamaged};
 ghost use Rattle.journal_core.specs.Journal.{Reads};
 ghost use Rattle.journal_core.specs.Looks.{Looks, Narrows};
-ghost use Rattle.journal_core.specs.Records.{IsNoJournal};
-ghost use Rattle.store_core.specs.Stored.{empty};
+ghost use Rattle.journal_core.specs.Records.{IsNoJournal, header};
+ghost use Rattle.store_core.specs.Calls.{Calls, NotRaised, SameHeld, WornAs, is_worn};
+ghost use Rattle.store_core.specs.Records.{Shared};
+ghost use Rattle.store_core.specs.Replies.{fetch_calls};
+ghost use Rattle.store_core.specs.Stored.{HoldsPin, empty};
+ghost use Rattle.store_core.specs.declared.page.TheConstants.{MOST_RECORDS};
+ghost use Rattle.store_machine.specs.History.{IsId, begun, head};
+ghost use Rattle.store_machine.specs.Openings.{IsOpened};
 ghost use Rattle.store_machine.specs.declared.machine.State.{State};
 ghost use Rattle.store_disk.specs.OnDisk.{IsReady, StandsFor};
-ghost use Rattle.store_disk.specs.Loads.{Damages, IsOpened, OpensTo, a_after, b_after};
+ghost use Rattle.store_disk.specs.Stored.{Stretches};
+ghost use Rattle.std.specs.Arc.{arc_value};
+ghost use Rattle.store_disk.specs.Loads.{Damages, OpensTo, a_after, b_after};
 ghost use Rattle.store_disk.specs.Replays.{IsLoaded};
 ghost use Rattle.store_disk.specs.InMemory.{StandsInMemory};
 
@@ -69,18 +77,17 @@ impl<D: Disk> Store<D> {
         requires some { 1 ≤ commits }
         requires few { commits ≤ MOST_COMMITS }
 
-        ensures opened { IfOk result (λ store. (s : State) × StandsFor D.content D.images D.faults store s
-            × IsOpened commits s × IfTold (D.content disks.a) (OpensTo s.history)) }
+        ensures opened { IfOk result (λ store. (s : State) × StandsFor D.model store s
+            × IsOpened commits s × IfTold (D.model.content disks.a) (OpensTo s.history)) }
         ensures not_a_store { IfErr result (λ e. e.0 ≡ LoadFault.NotAStore
-            → IfTold (D.content disks.a) IsNoJournal) }
+            → IfTold (D.model.content disks.a) IsNoJournal) }
         ensures damaged { IfErr result (λ e. (at : ℕ) → e.0 ≡ LoadFault.Damaged at
-            → IfTold (D.content disks.a) (Damages at)) }
+            → IfTold (D.model.content disks.a) (Damages at)) }
         ensures cause { IfErr result (λ e. e.0 ≡ LoadFault.Disk
-            → Rose (D.faults disks.a) (D.faults e.1.a)) }
+            → Rose (D.model.faults disks.a) (D.model.faults e.1.a)) }
 
         // What a read gives stays, and each image during the call was one before.
-        ensures narrows { Narrows D.content D.images D.clock D.images_between D.faults D.bound
-            disks.a (a_after result) }
+        ensures narrows { Narrows D.model disks.a (a_after result) }
         ensures other { b_after result ≡ disks.b }
     {
         let Disks { a, b } = disks;
@@ -105,6 +112,13 @@ impl<D: Disk> Store<D> {
         }
     }
 
+    /// The number of commits: the version that the store is at.
+    pub fn version(&self) -> u32
+        ensures { (s : State) → StandsFor D.model self.now s → result ≡ head s.history }
+    {
+        self.memory.version()
+    }
+
     /// The disks. Takes no memory.
     pub fn into_disks(self) -> Disks<D>
         ensures a { result.a ≡ self.journal.disk }
@@ -124,7 +138,7 @@ impl Store<MemDisk> {
         requires some { 1 ≤ commits }
         requires few { commits ≤ MOST_COMMITS }
         ensures opened { IfOk result (λ store. (s : State) × StandsInMemory store s × IsOpened commits s
-            × (s.history ≡ [])) }
+            × (s.history ≡ begun)) }
         ensures empty { IfOk result (λ store. StandsInMemory store (empty commits)) }
         ensures no_failures { IfOk result (λ store. (bound_of store.journal.disk.failures ≡ Some 0)
             × (bound_of store.b.failures ≡ Some 0)) }
@@ -170,22 +184,19 @@ impl Store<MemDisk> {
 }
 
 impl<D: Disk> Service for Store<D> {
-    ghost use Rattle.std.specs.Prelude.{true};
-    ghost use Rattle.store_core.specs.Stored.{HoldsPin};
-    ghost use Rattle.store_disk.specs.OnDisk.{StandsFor};
-    ghost use Rattle.store_disk.specs.Stored.{Stretches, joins, lands, same, stays};
+    ghost use Rattle.store_disk.specs.Stored.{joins, lands, same, stays};
 
-    ghost at = { StandsFor D.content D.images D.faults };
+    ghost at = { StandsFor D.model };
 
     ghost owns = { λ _ _. true };
 
-    ghost stretch = { Stretches D.content D.images D.clock D.images_between D.faults };
+    ghost stretch = { Stretches D.model };
 
     ghost worn = { λ _. ⊥ };
 
     ghost holds = { λ store. HoldsPin store.memory };
 
-    ghost bounds = { λ store. (D.bound store.journal.disk, D.bound store.b) };
+    ghost bounds = { λ store. (D.model.bound store.journal.disk, D.model.bound store.b) };
 
     fn commit(&mut self, change: Change) -> Result<u32, CommitFault> {
         laws();
@@ -213,7 +224,25 @@ impl<D: Disk> Service for Store<D> {
         limit: u32,
         page: &mut Page,
         steps: &mut Steps<L>,
-    ) -> Result<bool, CallFault> {
+    ) -> Result<bool, CallFault>
+        requires held { HoldsPin self.old.memory pin.now.slot pin.now.version }
+        requires some { 1 ≤ limit }
+        requires few { limit ≤ MOST_RECORDS }
+        requires room { limit ≤ page.old.room }
+        ensures call { (s : State) → StandsFor D.model self.old s
+            → Calls (Stretches D.model) (λ _. true) self.old self.new s
+            (fetch_calls pin.now.slot want.now from limit page.new.records result) }
+        ensures few { length page.new.records ≤ limit }
+        ensures in_range { All (λ (r : Shared). IsId (arc_value r).id) page.new.records }
+        ensures err { OnErr result (page.new.records ≡ []) }
+        ensures room { page.new.room ≡ page.old.room }
+        ensures steps { steps.new ≡ steps.old }
+        ensures worn { WornAs ⊥ ⊥ (is_worn result) }
+        ensures held { SameHeld (HoldsPin self.old.memory) (HoldsPin self.new.memory) }
+        ensures bounds { NotRaised
+            (D.model.bound self.old.journal.disk, D.model.bound self.old.b)
+            (D.model.bound self.new.journal.disk, D.model.bound self.new.b) }
+    {
         laws();
         self.memory.fetch(pin, want, from, limit, page, steps)
     }
@@ -238,13 +267,13 @@ impl<D: Disk> Service for Store<D> {
         self.memory.stats()
     }
 
-    ghost stays = { stays D.content D.images D.clock D.images_between D.faults };
+    ghost stays = { stays D.model };
 
-    ghost joins = { joins D.content D.images D.clock D.images_between D.faults };
+    ghost joins = { joins D.model };
 
-    ghost lands = { lands D.content D.images D.clock D.images_between D.faults };
+    ghost lands = { lands D.model };
 
-    ghost same = { same D.content D.images D.clock D.images_between D.faults };
+    ghost same = { same D.model };
 }
 
 // The store in memory of a journal's commits, which are read to their end.
@@ -258,18 +287,17 @@ fn memory_of<D: Disk>(
     requires start { journal.old.place ≡ 8 }
     requires settled { journal.old.doubt ≡ false }
 
-    ensures loaded { IfOk result (λ memory. IsLoaded D.content D.images memory commits
+    ensures loaded { IfOk result (λ memory. IsLoaded D.model memory commits
         journal.old journal.new) }
     ensures ready { IfOk result (λ memory. IsReady memory journal.new) }
-    ensures damaged { OnDamaged result (λ at. Reads D.content D.images journal.old []
-        → IfTold (D.content journal.old.disk) (Damages at)) }
+    ensures damaged { OnDamaged result (λ at. Reads D.model journal.old header []
+        → IfTold (D.model.content journal.old.disk) (Damages at)) }
     ensures cause { IsErrOf result LoadFault.Disk
-        → Rose (D.faults journal.old.disk) (D.faults journal.new.disk) }
+        → Faulted D.model journal.old.disk journal.new.disk }
     ensures no_other { ¬ IsErrOf result LoadFault.NotAStore }
 
     ensures settled { journal.new.doubt ≡ false }
-    ensures looks { Looks D.content D.images D.clock D.images_between D.faults D.bound
-        journal.old.disk journal.new.disk }
+    ensures looks { Looks D.model journal.old.disk journal.new.disk }
 {
     let log = read_all(alloc, journal)?;
     replay(alloc, &log, commits)

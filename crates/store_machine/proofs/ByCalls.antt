@@ -1,9 +1,9 @@
 -- From an owner's calls to the steps of the run, and from the history at the Pin to that at the end.
-use Rattle.std.proofs.Common.{◌≡◌, ◌&&◌, ◌++◌, ◌≤◌, ◌∙◌, ap, arith, Bool, cond, false, le_of_eq, length, length-append, List, [], ◌∷◌, refl, subst, sym, true, ℕ}
+use Rattle.std.proofs.Common.{◌≡◌, ◌&&◌, ◌++◌, ◌≤◌, ◌∙◌, ap, arith, Bool, cond, false, le_of_eq, List, [], ◌∷◌, refl, subst, sym, true, ℕ}
 use Rattle.std.proofs.lemmas.Bool.{true≢false}
 use Rattle.store_machine.specs.Answers.{AreFound}
 use Rattle.store_machine.specs.ByCalls.{CallsGivePages, Pages}
-use Rattle.store_machine.specs.History.{Snapshot, head, snapshot}
+use Rattle.store_machine.specs.History.{Snapshot, grown, head, snapshot}
 use Rattle.store_machine.specs.Laws.{IsSound, Searching}
 use Rattle.store_machine.specs.Runs.{IsCalm, IsRun, calls_of, is_call, is_own}
 use Rattle.store_machine.specs.Searches.{At, End, IsSearch, KeepsPin, Place, fetched, records_of}
@@ -12,13 +12,14 @@ use Rattle.store_machine.specs.declared.machine.Change.{Change}
 use Rattle.store_machine.specs.declared.machine.Event.{Event}
 use Rattle.store_machine.specs.declared.machine.Event.TheVariants.{Pin}
 use Rattle.store_machine.specs.declared.machine.Found.{Found}
+use Rattle.store_machine.specs.declared.machine.History.{History}
 use Rattle.store_machine.specs.declared.machine.Reply.{Reply}
 use Rattle.store_machine.specs.declared.machine.Reply.TheVariants.{Pinned}
 use Rattle.store_machine.specs.declared.machine.State.{State}
 use Rattle.store_machine.specs.declared.machine.Step.{Step}
 use Rattle.store_machine.proofs.Finds.{OneStructure, found-hits, found-tried}
 use Rattle.store_machine.proofs.Growing.{runs-grow}
-use Rattle.store_machine.proofs.PagesRead.{snapshots-stay}
+use Rattle.store_machine.proofs.PagesRead.{grown-le, snapshots-stay}
 use Rattle.store_machine.proofs.Paging.{all-found, from-start, pages-are-a-prefix, pages-are-pieces}
 use Rattle.store_machine.proofs.Sound.{runs-stay-sound}
 
@@ -109,22 +110,23 @@ run-parts : (s s' : State) (front : List Step) (x : Step) (back : List Step) →
 run-parts s s' [] x back run = (run.0, (refl, run.1, run.2))
 run-parts s s' (f ∷ fs) x back run = let rest = run-parts f.after s' fs x back run.2 in ((run.0, run.1, rest.0), rest.1)
 
-calm-behind : (front : List Step) (x : Step) (back : List Step) → IsCalm (front ++ x ∷ back) → IsCalm back
-calm-behind [] x back calm = calm.1
-calm-behind (f ∷ fs) x back calm = calm-behind fs x back calm.1
+calm-parts : (front later : List Step) → IsCalm (front ++ later) → IsCalm front × IsCalm later
+calm-parts [] later calm = (tt, calm)
+calm-parts (f ∷ fs) later calm = let rest = calm-parts fs later calm.1 in ((calm.0, rest.0), rest.1)
 
-longer : (h h' more : List Change) → h' ≡ h ++ more → head h ≤ head h'
-longer h h' more e = omega (arith, ap length e, length-append h more)
+longer : (h h' : History) (more : List Change) → h' ≡ grown h more → head h ≤ head h'
+longer h h' more e = grown-le h h' more e (head h) (le_of_eq refl)
 
 -- the pages of a search, at the states of its Pin and at the run's end
 pages-at : OneStructure → (s s' : State) (slot version from : ℕ) (want : List Bool) (place : Place)
     → (pin : Step) (back : List Step) (own : ℕ → Bool)
     → IsSound pin.before → head s.history ≤ head pin.before.history → from ≤ 1 → IsRun pin.before (pin ∷ back) s'
+    → IsCalm (pin ∷ back)
     → Searching own pin back slot version want (At from) place → Pages s s' slot version want place (calls_of own back)
-pages-at one s s' slot version from want place pin back own sound early le run c =
+pages-at one s s' slot version from want place pin back own sound early le run calm c =
     let pages = fetched slot (calls_of own back) in
     let prefix = pages-are-a-prefix own pin back slot version want (At from) place c in
-    let more = runs-grow pin.before s' (pin ∷ back) run in
+    let more = runs-grow pin.before s' (pin ∷ back) run calm in
     let old : version ≤ head pin.before.history = le_of_eq prefix.0 in
     let stays : snapshot pin.before.history version ≡ snapshot s'.history version = sym
     (ap (λ h. snapshot h version) more.1 ∙ snapshots-stay pin.before.history more.0 version old) in
@@ -153,11 +155,12 @@ pub calls-give-pages : OneStructure → CallsGivePages
 calls-give-pages one s s' steps own slot version from want place pages sound run calm le c =
     let p = parted own steps c.before Pin (Pinned slot version) pages c.own in
     let parts = run-parts s s' p.front p.step p.back (subst (λ l. IsRun s l s') p.is run) in
-    let early = runs-grow s p.step.before p.front parts.0 in
+    let quiet = calm-parts p.front (p.step ∷ p.back) (subst IsCalm p.is calm) in
+    let early = runs-grow s p.step.before p.front parts.0 quiet.0 in
     let searching : Searching own p.step p.back slot version want (At from) place = record {
       after = s';
       run = parts.1;
-      calm = calm-behind p.front p.step p.back (subst IsCalm p.is calm);
+      calm = quiet.1.1;
       takes = record { by = p.by; event = p.event; reply = p.reply };
       keeps = subst (KeepsPin slot) (sym p.rest) c.keeps;
       search = subst (λ l. IsSearch want (At from) (fetched slot l) place) (sym p.rest) c.search;
@@ -165,4 +168,4 @@ calls-give-pages one s s' steps own slot version from want place pages sound run
     subst (λ l. Pages s s' slot version want place l) p.rest
     (pages-at one s s' slot version from want place p.step p.back own
     (runs-stay-sound s p.step.before p.front parts.0 sound)
-    (longer s.history p.step.before.history early.0 early.1) le parts.1 searching)
+    (longer s.history p.step.before.history early.0 early.1) le parts.1 quiet.1 searching)

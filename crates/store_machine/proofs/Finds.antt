@@ -11,6 +11,7 @@ use Rattle.store_machine.specs.History.{IsHistory, Snapshot, snapshot}
 use Rattle.store_machine.specs.Structures.{IsMatched, IsScreened, Screens}
 use Rattle.store_machine.specs.declared.machine.Change.{Change}
 use Rattle.store_machine.specs.declared.machine.Found.{Found}
+use Rattle.store_machine.specs.declared.machine.History.{History}
 use Rattle.store_machine.specs.declared.machine.Status.TheVariants.{Live}
 use Rattle.store_machine.proofs.Ascending.{Ascends}
 use Rattle.store_machine.proofs.Made.{state-text, state-valid}
@@ -105,7 +106,7 @@ answers-are-one want states xs ys f g =
     (λ r c. let o = g.only r c in f.all r o.0 o.1)
 
 -- in a history identifiers are at least 1
-pub found-from-one : (want : List Bool) (h : List Change) (v : ℕ) (rs : List Found) → IsHistory h
+pub found-from-one : (want : List Bool) (h : History) (v : ℕ) (rs : List Found) → IsHistory h
     → AreFound (IsScreened want) (snapshot h v) rs → Ascends 1 rs
 found-from-one want h v rs good f = increasing-Ascends 1 rs
     (any rs (λ r c. let live = (f.only r c).0 in (state-valid h v r.id (Live live.0 r.format r.text) good live.1).0))
@@ -138,7 +139,7 @@ id-of (q ∷ qs) r c =
       | inr d ↦ contains-there q.id r.id (ids qs) (id-of qs r d)
     ]
 
-pub found-tried : (want : List Bool) (h : List Change) (v : ℕ) (rs : List Found)
+pub found-tried : (want : List Bool) (h : History) (v : ℕ) (rs : List Found)
     → AreFound (IsScreened want) (snapshot h v) rs → AreTried h v want (ids rs)
 found-tried want h v rs f = record {
   ascending = f.ascending;
@@ -219,13 +220,13 @@ OneStructure = (format : Format) (text : List ℕ) (m n : Molecule)
     → HasMolecule format text m → HasMolecule format text n → m ≡ n
 
 -- the structure of a text that was committed is within the limits
-within-limits : OneStructure → (h : List Change) (v id version : ℕ) (format : Format) (text : List ℕ) (m : Molecule)
+within-limits : OneStructure → (h : History) (v id version : ℕ) (format : Format) (text : List ℕ) (m : Molecule)
     → IsHistory h → get (snapshot h v) id ≡ Some (Live version format text) → HasMolecule format text m → IsMolecule m
 within-limits one h v id version format text m good e has =
     let t = state-text h v id (Live version format text) good e in
     subst IsMolecule (one format text t.0 m t.1 has) t.2
 
-pub found-hits : OneStructure → (pattern : PatternTerm) (want : List Bool) (h : List Change) (v : ℕ)
+pub found-hits : OneStructure → (pattern : PatternTerm) (want : List Bool) (h : History) (v : ℕ)
     → (rs : List Found) (hits : List ℕ) → IsHistory h → Screens pattern want
     → AreFound (IsScreened want) (snapshot h v) rs → AreMatched pattern rs hits → AreHits h v pattern hits
 found-hits one pattern want h v rs hits good screens f m = record {

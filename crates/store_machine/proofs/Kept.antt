@@ -1,9 +1,9 @@
 -- Each row of the table keeps that what is needed is kept, and that no pin is of a version to come.
-use Rattle.std.proofs.Common.{refl, ◌≡◌, ◌+◌, ◌++◌, ◌≤◌, ◌⊎◌, ◌∙◌, ap, arith, Bool, Contains, filter, inl, inr, le_of_eq, length-append, List, [], ◌∷◌, map, Some, subst, sym, ℕ}
+use Rattle.std.proofs.Common.{refl, ◌≡◌, ◌+◌, ◌++◌, ◌≤◌, ◌⊎◌, ◌∙◌, ap, arith, Bool, Contains, filter, inl, inr, le_of_eq, List, [], ◌∷◌, map, Some, subst, sym, ℕ}
 use Rattle.std.specs.FinMap.{get}
 use Rattle.std.proofs.lemmas.List.{map-append}
 use Rattle.std.proofs.lemmas.List.Elements.{Contains-append_left, Contains-append_right, Contains-push}
-use Rattle.store_machine.specs.History.{head, id_of, made_at, snapshot}
+use Rattle.store_machine.specs.History.{grown, head, id_of, made_at, snapshot}
 use Rattle.store_machine.specs.Machine.{committed}
 use Rattle.store_machine.specs.declared.machine.Status.{Status}
 use Rattle.store_machine.specs.Kept.{KeepsNeeded, PinsThePast, in_use}
@@ -13,7 +13,7 @@ use Rattle.store_machine.specs.declared.machine.Held.{Held}
 use Rattle.store_machine.specs.declared.machine.State.{State}
 use Rattle.store_machine.proofs.Members.{contains-filtered, contains-here, contains-last}
 use Rattle.store_machine.proofs.PagesRead.{snapshots-stay}
-use Rattle.store_machine.proofs.Pushed.{changed, snapshot-pushed}
+use Rattle.store_machine.proofs.Pushed.{changed, head-grown, snapshot-pushed}
 
 abbrev versions : List Held → List ℕ
 versions ps = map (λ p. p.version) ps
@@ -28,8 +28,8 @@ same-entry : (entry : Entry) (id version : ℕ) → id ≡ entry.id → version 
 same-entry entry id version e f = λ i. record { id = e i; version = f i }
 
 commit-needed : (s : State) (c : Change) (version : ℕ) → version ≡ head s.history + 1 → PinsThePast s → KeepsNeeded s
-    → (entry : Entry) (at : ℕ) (status : Status) → Contains (versions s.pins) at ⊎ (head (s.history ++ c ∷ []) ≡ at)
-    → get (snapshot (s.history ++ c ∷ []) at) entry.id ≡ Some status → made_at status ≡ entry.version
+    → (entry : Entry) (at : ℕ) (status : Status) → Contains (versions s.pins) at ⊎ (head (grown s.history (c ∷ [])) ≡ at)
+    → get (snapshot (grown s.history (c ∷ [])) at) entry.id ≡ Some status → made_at status ≡ entry.version
     → Contains (s.kept ++ record { id = id_of c; version = version } ∷ []) entry
 commit-needed s c version e past keeps entry at status (inl used) state made =
     let before : get (snapshot s.history at) entry.id ≡ Some status = ap (λ m. get m entry.id)
@@ -37,10 +37,10 @@ commit-needed s c version e past keeps entry at status (inl used) state made =
     Contains-append_left s.kept _ entry (pinned-kept s at entry status keeps
     (Contains-append_left (versions s.pins) (head s.history ∷ []) at used) before made)
 commit-needed s c version e past keeps entry at status (inr here) state made =
-    let is : at ≡ version = omega (arith, length-append s.history (c ∷ []), here) in
+    let is : at ≡ version = omega (arith, e, head-grown s.history (c ∷ []), here) in
     let after = snapshot-pushed s.history c version e in
     elim (changed version c (snapshot s.history (head s.history)) entry.id status (ap (λ m. get m entry.id) (sym after)
-    ∙ (ap (λ k. get (snapshot (s.history ++ c ∷ []) k) entry.id) (sym is) ∙ state))) [
+    ∙ (ap (λ k. get (snapshot (grown s.history (c ∷ [])) k) entry.id) (sym is) ∙ state))) [
       | inl new ↦ Contains-append_right s.kept _ entry
           (contains-here _ entry [] (same-entry entry (id_of c) version new.0 (new.1 ∙ made)))
       | inr old ↦ Contains-append_left s.kept _ entry
@@ -51,10 +51,10 @@ commit-needed s c version e past keeps entry at status (inr here) state made =
 pub commit-kept : (s : State) (c : Change) → PinsThePast s → KeepsNeeded s → KeepsNeeded (committed s c)
 commit-kept s c past keeps entry n =
     commit-needed s c (head s.history + 1) refl past keeps entry n.at n.status
-    (contains-last (head (s.history ++ c ∷ [])) n.at (versions s.pins) n.used) n.state n.made
+    (contains-last (head (grown s.history (c ∷ []))) n.at (versions s.pins) n.used) n.state n.made
 
 pub commit-past : (s : State) (c : Change) → PinsThePast s → PinsThePast (committed s c)
-commit-past s c past v held = omega (arith, past v held, length-append s.history (c ∷ []))
+commit-past s c past v held = omega (arith, past v held, head-grown s.history (c ∷ []))
 
 -- other pins, all of versions in use before
 pub pins-kept : (s : State) (ps : List Held) → ((v : ℕ) → Contains (versions ps) v → Contains (in_use s) v)

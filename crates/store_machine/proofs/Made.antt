@@ -1,17 +1,18 @@
 -- The entries that a history has made: those of the states of its snapshots, and each is no later than the state that
 -- follows it.
-use Rattle.std.proofs.Common.{ap, ◌≡◌, ◌+◌, ◌++◌, ◌<◌, ◌≤◌, ◌⊎◌, ◌∙◌, arith, cond, false, inl, inr, length, List, [], ◌∷◌, nat_cmp, None, Option, refl, Some, subst, suc, sym, take, true, zero, ℕ}
+use Rattle.std.proofs.Common.{ap, ◌≡◌, ◌+◌, ◌++◌, ◌-◌, ◌<◌, ◌≤◌, ◌⊎◌, ◌∙◌, arith, cond, false, inl, inr, length, List, [], ◌∷◌, nat_cmp, None, Option, refl, Some, subst, suc, sym, take, true, zero, ℕ}
 use Rattle.std.specs.Cmp.{nat_cmp_total}
-use Rattle.std.specs.FinMap.{empty, get, get-empty, get-insert, insert}
+use Rattle.std.specs.FinMap.{from_entries, get, get-empty, get-insert, insert}
 use Rattle.std.specs.Ordering.{eq_by_cmp}
 use Rattle.std.proofs.lemmas.Bool.{cond-true}
-use Rattle.store_machine.specs.History.{AreAllowed, IsHistory, IsId, IsValid, Snapshot, after_change, after_changes, id_of, made_at, snapshot}
+use Rattle.store_machine.specs.History.{AreAllowed, IsHistory, IsId, IsValid, Snapshot, after_change, after_changes, base_states, id_of, made_at, snapshot}
 use Rattle.store_machine.specs.declared.machine.Status.{Status}
 use Rattle.store_machine.specs.declared.machine.Status.TheVariants.{Live, Withdrawn}
 use Rattle.store_machine.specs.Made.{IsMade}
 use Rattle.store_machine.specs.Laws.{StatesStay}
 use Rattle.store_machine.specs.Structures.{IsText}
 use Rattle.store_machine.specs.declared.machine.Change.{Change}
+use Rattle.store_machine.specs.declared.machine.History.{History}
 use Rattle.store_machine.specs.declared.machine.Change.TheVariants.{Register, Revise, Withdraw}
 use Rattle.store_machine.proofs.Pushed.{changed}
 
@@ -117,23 +118,28 @@ pub made-pushed : (after : ℕ) (cs : List Change) (c : Change) (version : ℕ) 
 made-pushed after [] c version e = inl (refl, omega (arith, e))
 made-pushed after (x ∷ xs) c version e = inr (made-pushed (after + 1) xs c version (omega (arith, e)))
 
+base-none : (h : History) → IsHistory h → (id : ℕ) → get (base_states h) id ≡ None
+base-none h good id = ap (λ base. get (from_entries {R = nat_cmp} base) id) good.base ∙ get-empty nat_cmp id
+
 -- the state of a snapshot was made, at or before its version
-pub snapshot-made : (h : List Change) (v id : ℕ) (status : Status) → get (snapshot h v) id ≡ Some status
-    → IsMade 0 h id (made_at status) × (made_at status ≤ v)
-snapshot-made h v id status e =
-    elim (state-made 0 (take v h) empty id status e) [
-      | inl m ↦ let p = taken-made v 0 h id (made_at status) m in (p.0, omega (arith, p.1))
-      | inr none ↦ absurd (never (sym (get-empty nat_cmp id) ∙ none))
+pub snapshot-made : (h : History) (v id : ℕ) (status : Status) → IsHistory h → get (snapshot h v) id ≡ Some status
+    → IsMade h.version h.commits id (made_at status) × (made_at status ≤ v)
+snapshot-made h v id status good e =
+    elim (state-made h.version (take (v - h.version) h.commits) (base_states h) id status e) [
+      | inl m ↦
+          let p = taken-made (v - h.version) h.version h.commits id (made_at status) m in
+          (p.0, omega (arith, p.1, good.version))
+      | inr there ↦ absurd (never (sym (base-none h good id) ∙ there))
     ]
   where
     never : None ≡ Some status → ⊥
     never q = cc
 
 -- what was made at or before a version is no later than the state there
-pub made-before : (h : List Change) (v id version : ℕ) → IsMade 0 h id version → version ≤ v
+pub made-before : (h : History) (v id version : ℕ) → IsMade h.version h.commits id version → version ≤ v
     → Since version (get (snapshot h v) id)
-made-before h v id version m le = made-since 0 (take v h) empty id version
-    (made-taken v 0 h id version m (omega (arith, le)))
+made-before h v id version m le = made-since h.version (take (v - h.version) h.commits) (base_states h) id version
+    (made-taken (v - h.version) h.version h.commits id version m (omega (arith, le)))
 
 earlier : (n m after : ℕ) (cs : List Change) (states : Snapshot) (id : ℕ) (status : Status) → n ≤ m
     → made_at status ≤ after + n
@@ -151,10 +157,12 @@ earlier (suc n) (suc m) after (c ∷ cs) states id status le made e =
     earlier n m (after + 1) cs (after_change (after + 1) c states) id status (omega (arith, le)) (omega (arith, made)) e
 
 -- a state is that of the snapshot at which it was made
-pub state-then : (h : List Change) (v id : ℕ) (status : Status) → get (snapshot h v) id ≡ Some status
+pub state-then : (h : History) (v id : ℕ) (status : Status) → IsHistory h → get (snapshot h v) id ≡ Some status
     → get (snapshot h (made_at status)) id ≡ Some status
-state-then h v id status e = earlier (made_at status) v 0 h empty id status (snapshot-made h v id status e).1
-    (omega arith) e
+state-then h v id status good e =
+    let le = (snapshot-made h v id status good e).1 in
+    earlier (made_at status - h.version) (v - h.version) h.version h.commits (base_states h) id status
+    (omega (arith, le)) (omega arith) e
 
 valid-id : (c : Change) → IsValid c → IsId (id_of c)
 valid-id (Register id format text) valid = valid.0
@@ -169,9 +177,10 @@ made-valid after (c ∷ cs) states id version all (inr later) = made-valid (afte
     (after_change (after + 1) c states) id version all.2 later
 
 -- an identifier that has a state is in range
-pub state-valid : (h : List Change) (v id : ℕ) (status : Status) → IsHistory h → get (snapshot h v) id ≡ Some status
+pub state-valid : (h : History) (v id : ℕ) (status : Status) → IsHistory h → get (snapshot h v) id ≡ Some status
     → IsId id
-state-valid h v id status good e = made-valid 0 h empty id (made_at status) good (snapshot-made h v id status e).0
+state-valid h v id status good e = made-valid h.version h.commits (base_states h) id (made_at status) good.allowed
+    (snapshot-made h v id status good e).0
 
 -- what is live has a text
 abbrev HasText : Status → Type 0
@@ -206,19 +215,20 @@ texts-after (suc n) after (c ∷ cs) states allowed all =
     (changed-text (after + 1) c states allowed.0 all)
 
 -- a state that is live in a history has a text with a structure
-pub state-text : (h : List Change) (v id : ℕ) (status : Status)
+pub state-text : (h : History) (v id : ℕ) (status : Status)
     → IsHistory h → get (snapshot h v) id ≡ Some status → HasText status
-state-text h v id status good e = texts-after v 0 h empty good none id status e
+state-text h v id status good e =
+    texts-after (v - h.version) h.version h.commits (base_states h) good.allowed none id status e
   where
-    none : HaveTexts empty
-    none id status e = let none : None ≡ Some status = sym (get-empty nat_cmp id) ∙ e in cc
+    none : HaveTexts (base_states h)
+    none id status e = let none : None ≡ Some status = sym (base-none h good id) ∙ e in cc
 
 pub states-stay : StatesStay
 states-stay h v id status good e =
-    let made = snapshot-made h v id status e in (
+    let made = snapshot-made h v id status good e in (
       state-valid h v id status good e,
-      let late = made-after 0 h id (made_at status) made.0
+      let late = made-after h.version h.commits id (made_at status) made.0
           in omega (arith, late),
       made.1,
-      state-then h v id status e,
+      state-then h v id status good e,
     )

@@ -1,25 +1,27 @@
 -- Along a run the pin is held, and every page of its fetches is read from the snapshot that it was taken at.
-use Rattle.std.proofs.Common.{◌≡◌, ◌&&◌, ◌++◌, ◌==◌, ◌≤◌, ◌∙◌, ap, ap₂, arith, Bool, cond, eqb-true, false, length, length-append, List, [], ◌∷◌, None, refl, Some, subst, sym, true, ℕ}
+use Rattle.std.proofs.Common.{◌≡◌, ◌&&◌, ◌++◌, ◌-◌, ◌==◌, ◌≤◌, ◌∙◌, ap, ap₂, arith, Bool, cond, eqb-true, false, length, length-append, List, [], ◌∷◌, None, refl, Some, subst, sym, true, ℕ}
 use Rattle.std.proofs.lemmas.List.{take-append-le}
-use Rattle.std.specs.FinMap.{empty}
 use Rattle.std.specs.List.{AllByRecursion, cons_option}
-use Rattle.store_machine.specs.History.{Snapshot, after_changes, head, snapshot}
+use Rattle.store_machine.specs.History.{Snapshot, after_changes, base_states, grown, head, snapshot}
 use Rattle.store_machine.specs.Laws.{PinsStay, SnapshotsStay}
 use Rattle.store_machine.specs.Machine.{Gives, Holds, IsPage}
 use Rattle.store_machine.specs.Runs.{IsCalm, IsRun, IsStep, calls_of, is_call, is_own}
 use Rattle.store_machine.specs.Searches.{Fetched, KeepsPin, fetched, page_in, unpins}
+use Rattle.store_machine.specs.Told.{made}
 use Rattle.store_machine.specs.declared.machine.Change.{Change}
 use Rattle.store_machine.specs.declared.machine.Event.{Event}
 use Rattle.store_machine.specs.declared.machine.Event.TheVariants.{Fetch}
+use Rattle.store_machine.specs.declared.machine.History.{History}
 use Rattle.store_machine.specs.declared.machine.Reply.{Reply}
 use Rattle.store_machine.specs.declared.machine.Reply.TheVariants.{Page}
 use Rattle.store_machine.specs.declared.machine.State.{State}
 use Rattle.store_machine.specs.declared.machine.Step.{Step}
-use Rattle.store_machine.proofs.Growing.{grows}
+use Rattle.store_machine.proofs.Growing.{adds}
 use Rattle.store_machine.proofs.Pins.{holds-step, one-version}
 
 pub snapshots-stay : SnapshotsStay
-snapshots-stay h more v le = ap (λ cs. after_changes 0 cs empty) (take-append-le v h more le)
+snapshots-stay h more v le = ap (λ cs. after_changes h.version cs (base_states h))
+    (take-append-le (v - h.version) h.commits more (omega (arith, le)))
 
 -- the page is what is found in the states from its identifier on, up to its limit
 abbrev pub IsRead : Snapshot → Fetched → Type 0
@@ -91,8 +93,8 @@ own-read : (b : Bool) (states : Snapshot) (slot : ℕ) (e : Event) (r : Reply) (
 own-read true states slot e r calls rest all = all refl
 own-read false states slot e r calls rest all = rest
 
-grown-le : (h h' more : List Change) → h' ≡ h ++ more → (v : ℕ) → v ≤ length h → v ≤ length h'
-grown-le h h' more e v le = omega (arith, ap length e, length-append h more)
+pub grown-le : (h h' : History) (more : List Change) → h' ≡ grown h more → (v : ℕ) → v ≤ head h → v ≤ head h'
+grown-le h h' more e v le = omega (arith, le, ap head e, length-append h.commits more)
 
 pub pages-read : (states : Snapshot) (s s' : State) (steps : List Step) (mine : ℕ → Bool) (slot owner version : ℕ)
     → IsRun s steps s' → IsCalm steps → mine owner ≡ true → Holds s slot owner version → version ≤ head s.history
@@ -101,16 +103,17 @@ pub pages-read : (states : Snapshot) (s s' : State) (steps : List Step) (mine : 
 pages-read states s s' [] mine slot owner version run calm m h le is keeps = tt
 pages-read states s s' (x ∷ xs) mine slot owner version run calm m h le is keeps =
     let calls = calls_of mine xs in
-    let more = grows x.before x.owner x.event x.reply x.after run.1 in
+    let more = made x.event x.reply in
+    let grew = adds x.before x.owner x.event x.reply x.after run.1 calm.0 in
     let past : version ≤ head x.before.history = subst (λ (b : State). version ≤ head b.history) (sym run.0) le in
     let there : snapshot x.before.history version ≡ states = ap (λ (b : State). snapshot b.history version) run.0 ∙ is
     in
-    let next : snapshot x.after.history version ≡ states = ap (λ h. snapshot h version) more.1
-    ∙ (snapshots-stay x.before.history more.0 version past ∙ there) in
+    let next : snapshot x.after.history version ≡ states = ap (λ h. snapshot h version) grew
+    ∙ (snapshots-stay x.before.history more version past ∙ there) in
     let rest : AreRead states (fetched slot calls) =
     pages-read states x.after s' xs mine slot owner version run.2 calm.1 m
     (held-after x s mine slot owner version calls m calm.0 run.0 run.1 h keeps)
-    (grown-le x.before.history x.after.history more.0 more.1 version past) next
+    (grown-le x.before.history x.after.history more grew version past) next
     (keeps-later (is_own mine x) slot x.event x.reply calls keeps) in
     own-read (is_own mine x) states slot x.event x.reply calls rest
     (λ _. subst (λ m. AreRead m (cons_option (page_in slot x.event x.reply) (fetched slot calls))) there

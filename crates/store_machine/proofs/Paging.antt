@@ -13,6 +13,7 @@ use Rattle.store_machine.specs.declared.machine.Change.{Change}
 use Rattle.store_machine.specs.declared.machine.Event.{Event}
 use Rattle.store_machine.specs.declared.machine.Event.TheVariants.{Pin}
 use Rattle.store_machine.specs.declared.machine.Found.{Found}
+use Rattle.store_machine.specs.declared.machine.History.{History}
 use Rattle.store_machine.specs.declared.machine.Held.{Held}
 use Rattle.store_machine.specs.declared.machine.Reply.{Reply}
 use Rattle.store_machine.specs.declared.machine.Reply.TheVariants.{Pinned}
@@ -142,7 +143,7 @@ pages-are-a-prefix own pin steps slot version want place place' c =
     )
 
 -- from identifier 0 or 1 on stands everything
-pub from-start : (h : List Change) (version from : ℕ) (want : List Bool) (all : List Found) → IsHistory h → from ≤ 1
+pub from-start : (h : History) (version from : ℕ) (want : List Bool) (all : List Found) → IsHistory h → from ≤ 1
     → AreFound (IsScreened want) (snapshot h version) all
     → from_on from all ≡ all
 from-start h version from want all good le found = from_on-all from all

@@ -1,14 +1,15 @@
 -- One commit more: the snapshot that it makes, and that the history stays allowed.
-use Rattle.std.proofs.Common.{◌≡◌, ◌+◌, ◌++◌, ◌⊎◌, ◌∙◌, ap, arith, cond, Equal, false, Greater, inl, inr, is_eq, le_of_eq, length, length-append, Less, List, [], ◌∷◌, nat_cmp, None, Option, Ordering, refl, Some, subst, sym, true, ℕ}
+use Rattle.std.proofs.Common.{◌≡◌, ◌+◌, ◌++◌, ◌-◌, ◌⊎◌, ◌∙◌, ap, arith, cond, Equal, false, Greater, inl, inr, is_eq, le_of_eq, length, length-append, Less, List, [], ◌∷◌, nat_cmp, None, Option, Ordering, refl, Some, subst, sym, true, ℕ}
 use Rattle.std.proofs.Math.Seq.{take_all}
 use Rattle.std.specs.Cmp.{nat_cmp_total}
-use Rattle.std.specs.FinMap.{empty, get, get-insert, insert, nat_cmp-IsAntisymmetric}
+use Rattle.std.specs.FinMap.{get, get-insert, insert, nat_cmp-IsAntisymmetric}
 use Rattle.std.specs.Ordering.{eq_by_cmp}
-use Rattle.store_machine.specs.History.{AreAllowed, IsAllowed, IsHistory, IsValid, Snapshot, after_change, after_changes, head, id_of, made_at, snapshot}
+use Rattle.store_machine.specs.History.{AreAllowed, IsAllowed, IsHistory, IsValid, Snapshot, after_change, after_changes, base_states, grown, head, id_of, made_at, snapshot}
 use Rattle.store_machine.specs.declared.machine.Status.{Status}
 use Rattle.store_machine.specs.declared.machine.Status.TheVariants.{Live, Withdrawn}
 use Rattle.store_machine.specs.Laws.{CommitsChange}
 use Rattle.store_machine.specs.declared.machine.Change.{Change}
+use Rattle.store_machine.specs.declared.machine.History.{History}
 use Rattle.store_machine.specs.declared.machine.Change.TheVariants.{Register, Revise, Withdraw}
 
 after_changes-pushed : (version : ℕ) (cs : List Change) (c : Change) (states : Snapshot)
@@ -20,16 +21,21 @@ after_changes-pushed version (x ∷ xs) c states =
     ∙ ap (λ v. after_change v c (after_changes (version + 1) xs (after_change (version + 1) x states)))
     (omega arith)
 
-pub snapshot-head : (h : List Change) → snapshot h (head h) ≡ after_changes 0 h empty
-snapshot-head h = ap (λ cs. after_changes 0 cs empty) (take_all (length h) h (le_of_eq refl))
+pub snapshot-head : (h : History) → snapshot h (head h) ≡ after_changes h.version h.commits (base_states h)
+snapshot-head h = ap (λ cs. after_changes h.version cs (base_states h))
+    (take_all (head h - h.version) h.commits (omega arith))
 
-pub snapshot-pushed : (h : List Change) (c : Change) (v : ℕ) → v ≡ head h + 1
-    → snapshot (h ++ c ∷ []) v ≡ after_change v c (snapshot h (head h))
+pub head-grown : (h : History) (more : List Change) → head (grown h more) ≡ head h + length more
+head-grown h more = omega (arith, length-append h.commits more)
+
+pub snapshot-pushed : (h : History) (c : Change) (v : ℕ) → v ≡ head h + 1
+    → snapshot (grown h (c ∷ [])) v ≡ after_change v c (snapshot h (head h))
 snapshot-pushed h c v e =
-    let long : v ≡ length (h ++ c ∷ []) = omega (arith, length-append h (c ∷ [])) in
-    let at : 0 + length h + 1 ≡ v = omega arith in
-    ap (λ k. snapshot (h ++ c ∷ []) k) long ∙ (snapshot-head (h ++ c ∷ []) ∙ (after_changes-pushed 0 h c empty
-    ∙ (ap (λ k. after_change k c (after_changes 0 h empty)) at ∙ ap (after_change v c) (sym (snapshot-head h)))))
+    let long : v ≡ head (grown h (c ∷ [])) = omega (arith, e, length-append h.commits (c ∷ [])) in
+    let all : Snapshot = after_changes h.version h.commits (base_states h) in
+    ap (λ k. snapshot (grown h (c ∷ [])) k) long ∙ (snapshot-head (grown h (c ∷ []))
+    ∙ (after_changes-pushed h.version h.commits c (base_states h)
+    ∙ (ap (λ k. after_change k c all) (sym e) ∙ ap (after_change v c) (sym (snapshot-head h)))))
 
 AreAllowed-pushed : (version : ℕ) (cs : List Change) (c : Change) (states : Snapshot)
     → AreAllowed version cs states → IsValid c → IsAllowed (after_changes version cs states) c
@@ -42,10 +48,14 @@ AreAllowed-pushed version (x ∷ xs) c states all valid allowed = (
       (after_change (version + 1) x states) all.2 valid allowed,
 )
 
-pub IsHistory-pushed : (h : List Change) (c : Change) → IsHistory h → IsValid c → IsAllowed (snapshot h (head h)) c
-    → IsHistory (h ++ c ∷ [])
-IsHistory-pushed h c all valid allowed = AreAllowed-pushed 0 h c empty all valid
-    (subst (λ states. IsAllowed states c) (snapshot-head h) allowed)
+pub IsHistory-pushed : (h : History) (c : Change) → IsHistory h → IsValid c → IsAllowed (snapshot h (head h)) c
+    → IsHistory (grown h (c ∷ []))
+IsHistory-pushed h c good valid allowed = record {
+  base = good.base;
+  version = good.version;
+  allowed = AreAllowed-pushed h.version h.commits c (base_states h) good.allowed valid
+      (subst (λ states. IsAllowed states c) (snapshot-head h) allowed);
+}
 
 -- a state after a change is the changed one, or was there before
 abbrev pub IsNewOrOld : ℕ → Change → Snapshot → ℕ → Status → Type 0

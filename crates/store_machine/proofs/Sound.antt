@@ -1,16 +1,17 @@
 -- Every state of a run is sound.
 use Rattle.std.proofs.Common.{◌≡◌, ◌+◌, ◌++◌, ◌<◌, ◌==◌, arith, Bool, Contains, false, filter, inl, inr, List, [], ◌∷◌, map, MatchOption, None, not, refl, Some, subst, sym, true, ℕ}
 use Rattle.std.proofs.lemmas.Bool.{cond_both, true≢false}
-use Rattle.store_machine.specs.History.{IsAllowed, IsHistory, IsValid, head, id_of}
+use Rattle.store_machine.specs.History.{IsHistory, head, id_of}
 use Rattle.store_machine.specs.Kept.{IsNeeded, in_use}
 use Rattle.store_machine.specs.Laws.{IsSound, RunsStaySound}
-use Rattle.store_machine.specs.Machine.{AreNeeded, Becomes, CommitGives, CrashGives, DoubtAfter, EndsDoubt, Gives, MayAdd, OpenGives, PinGives, PruneGives, Recovers, SlotsApart, UnpinGives, committed, now, pin_in, pinned, unpinned}
+use Rattle.store_machine.specs.Machine.{AreNeeded, Becomes, CommitGives, CrashGives, DoubtAfter, EndsDoubt, Gives, MayAdd, OpenGives, PinGives, PruneGives, Recovers, SlotsApart, UnpinGives, committed, pin_in, pinned, unpinned}
 use Rattle.store_machine.specs.Made.{IsMade, KeepsMade}
 use Rattle.store_machine.specs.declared.machine.Change.{Change}
 use Rattle.store_machine.specs.declared.machine.Entry.{Entry}
 use Rattle.store_machine.specs.declared.machine.Event.{Event}
 use Rattle.store_machine.specs.declared.machine.Event.TheVariants.{Commit, Crash, Fetch, Look, Open, Pin, Prune, Stats, Unpin}
 use Rattle.store_machine.specs.declared.machine.Held.{Held}
+use Rattle.store_machine.specs.declared.machine.History.{History}
 use Rattle.store_machine.specs.declared.machine.Reply.{Reply}
 use Rattle.store_machine.specs.declared.machine.Reply.TheVariants.{Absent, Committed, Crashed, DiskFault, Full, Known, NoMemory, NoPin, Opened, Pinned, Pruned, Unpinned, Withdrawn}
 use Rattle.store_machine.specs.declared.machine.State.{State}
@@ -37,14 +38,15 @@ slots-pushed p (q ∷ qs) h less free =
 commit-made : (s : State) (c : Change) → KeepsMade s → KeepsMade (committed s c)
 commit-made s c made entry k =
     elim (contains-last (record { id = id_of c; version = head s.history + 1 }) entry s.kept k) [
-      | inl old ↦ made-appended 0 s.history (c ∷ []) entry.id entry.version (made entry old)
-      | inr new ↦ subst (λ (x : Entry). IsMade 0 (s.history ++ c ∷ []) x.id x.version) new
-          (made-pushed 0 s.history c (head s.history + 1) (omega arith))
+      | inl old ↦ made-appended s.history.version s.history.commits (c ∷ []) entry.id entry.version (made entry old)
+      | inr new ↦ subst (λ (x : Entry). IsMade s.history.version (s.history.commits ++ c ∷ []) x.id x.version) new
+          (made-pushed s.history.version s.history.commits c (head s.history + 1) (omega arith))
     ]
 
-needed-made : (h : List Change) (versions : List ℕ) (entry : Entry) → IsNeeded h versions entry
-    → IsMade 0 h entry.id entry.version
-needed-made h versions entry n = subst (IsMade 0 h entry.id) n.made (snapshot-made h n.at entry.id n.status n.state).0
+needed-made : (h : History) (versions : List ℕ) (entry : Entry) → IsHistory h → IsNeeded h versions entry
+    → IsMade h.version h.commits entry.id entry.version
+needed-made h versions entry good n = subst (IsMade h.version h.commits entry.id) n.made
+    (snapshot-made h n.at entry.id n.status good n.state).0
 
 -- nothing of a sound state turns on the counts of faults
 becomes-sound : (s s' : State) → Becomes s s' → IsSound s → IsSound s'
@@ -54,10 +56,10 @@ becomes-sound s s' b h = subst IsSound (sym b)
 undoubted : (s : State) → IsSound s → IsSound (record s { doubt = None })
 undoubted s h = record { history = h.history; doubt = tt; slots = h.slots; pins = h.pins; kept = h.kept; made = h.made }
 
-doubted : (s : State) (c : Change) → IsValid c → IsAllowed (now s) c → IsSound s → IsSound (record s { doubt = Some c })
-doubted s c valid allowed h = record {
+doubted : (s : State) (c : Change) → MayAdd s c → IsSound s → IsSound (record s { doubt = Some c })
+doubted s c may h = record {
   history = h.history;
-  doubt = (valid, allowed);
+  doubt = may;
   slots = h.slots;
   pins = h.pins;
   kept = h.kept;
@@ -70,7 +72,7 @@ doubt-sound s s' (inr b) h = becomes-sound (record s { doubt = None }) s' b (und
 
 after-sound : (s : State) (c : Change) (doubt : Bool) (s' : State) → MayAdd s c → DoubtAfter s c doubt s' → IsSound s
     → IsSound s'
-after-sound s c true s' may b h = becomes-sound (record s { doubt = Some c }) s' b (doubted s c may.0 may.1 h)
+after-sound s c true s' may b h = becomes-sound (record s { doubt = Some c }) s' b (doubted s c may h)
 after-sound s c false s' may b h = doubt-sound s s' b h
 
 committed-sound : (s : State) (c : Change) → MayAdd s c → IsSound s → IsSound (committed s c)
@@ -129,7 +131,7 @@ kept-sound s kept serves needed h = record {
   slots = h.slots;
   pins = h.pins;
   kept = λ _ entry n. (needed.exactly entry).1 n;
-  made = λ _ entry k. needed-made s.history (in_use s) entry ((needed.exactly entry).0 k);
+  made = λ _ entry k. needed-made s.history (in_use s) entry h.history ((needed.exactly entry).0 k);
 }
 
 prune-sound : (s : State) (r : Reply) (s' : State) → PruneGives s r s' → IsSound s → IsSound s'
@@ -140,12 +142,11 @@ prune-sound s _ s' g h = absurd g
 not-served : {X : Type 0} → false ≡ true → X
 not-served e = absurd (true≢false (sym e))
 
-recovered-history : (s : State) (h : List Change) → Recovers s h → IsSound s → IsHistory h
+recovered-history : (s : State) (h : History) → Recovers s h → IsSound s → IsHistory h
 recovered-history s h (inl e) sound = subst IsHistory (sym e) sound.history
 recovered-history s h (inr d) sound =
-    let both : IsValid d.0 × IsAllowed (now s) d.0 = subst
-    (λ o. MatchOption o (Unit {0}) (λ c. IsValid c × IsAllowed (now s) c)) d.1 sound.doubt in
-    subst IsHistory (sym d.2) (IsHistory-pushed s.history d.0 sound.history both.0 both.1)
+    let may : MayAdd s d.0 = subst (λ o. MatchOption o (Unit {0}) (MayAdd s)) d.1 sound.doubt in
+    subst IsHistory (sym d.2) (IsHistory-pushed s.history d.0 sound.history may.0 may.1)
 
 crash-sound : (s : State) (r : Reply) (s' : State) → CrashGives s r s' → IsSound s → IsSound s'
 crash-sound s Crashed s' g h = subst IsSound (sym g.1) (record {

@@ -7,8 +7,8 @@ use Rattle.mol_finish.specs.declared.fault.Format.{Format}
 use Rattle.smarts_parse.specs.Pattern.{PatternTerm}
 use Rattle.store_machine.specs.History.{Snapshot, snapshot}
 use Rattle.store_machine.specs.Structures.{IsMatched, IsScreened}
-use Rattle.store_machine.specs.declared.machine.Change.{Change}
 use Rattle.store_machine.specs.declared.machine.Found.{Found}
+use Rattle.store_machine.specs.declared.machine.History.{History}
 use Rattle.store_machine.specs.declared.machine.Status.TheVariants.{Live}
 
 abbrev pub ids : List Found → List ℕ
@@ -28,7 +28,7 @@ pub record AreFound (Asked : Format → List ℕ → Type 0) (states : Snapshot)
   pub all : (r : Found) → IsLive states r → Asked r.format r.text → Contains records r
 
 -- the identifier is live at the version, with a text of which this holds
-pub record IsAnswer (Asked : Format → List ℕ → Type 0) (h : List Change) (v id : ℕ) : Type 0 where
+pub record IsAnswer (Asked : Format → List ℕ → Type 0) (h : History) (v id : ℕ) : Type 0 where
   pub version : ℕ
   pub format : Format
   pub text : List ℕ
@@ -36,17 +36,17 @@ pub record IsAnswer (Asked : Format → List ℕ → Type 0) (h : List Change) (
   pub asked : Asked format text
 
 -- the identifiers that are answers at the version, each once, ascending
-pub record AreAnswers (Asked : Format → List ℕ → Type 0) (h : List Change) (v : ℕ) (ids : List ℕ) : Type 0 where
+pub record AreAnswers (Asked : Format → List ℕ → Type 0) (h : History) (v : ℕ) (ids : List ℕ) : Type 0 where
   pub ascending : IsStrictlyIncreasing ids
   pub only : (id : ℕ) → Contains ids id → IsAnswer Asked h v id
   pub all : (id : ℕ) → IsAnswer Asked h v id → Contains ids id
 
 -- the hits of a pattern at a version. They know no print
-abbrev pub AreHits : List Change → ℕ → PatternTerm → List ℕ → Type 0
+abbrev pub AreHits : History → ℕ → PatternTerm → List ℕ → Type 0
 AreHits h v pattern ids = AreAnswers (IsMatched pattern) h v ids
 
 -- those whose print contains what is wanted
-abbrev pub AreTried : List Change → ℕ → List Bool → List ℕ → Type 0
+abbrev pub AreTried : History → ℕ → List Bool → List ℕ → Type 0
 AreTried h v want ids = AreAnswers (IsScreened want) h v ids
 
 -- of these records the identifiers of those that the pattern matches, in order

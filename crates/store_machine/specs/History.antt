@@ -1,11 +1,12 @@
--- What was committed, what each identifier is at each version, and which change is allowed. Version k is the state
--- after the k-th commit.
-use Rattle.std.specs.Prelude.{◌≡◌, ◌+◌, ◌≤◌, List, [], ◌∷◌, None, Option, Some, length, take, ℕ}
-use Rattle.std.specs.FinMap.{FinMap, empty, get, insert}
+-- What was committed, what each identifier is at each version, and which change is allowed. A history is a base, at a
+-- version, and the commits after it, each of which makes the next version.
+use Rattle.std.specs.Prelude.{◌≡◌, ◌+◌, ◌++◌, ◌-◌, ◌≤◌, List, [], ◌∷◌, None, Option, Some, drop, length, take, ℕ}
+use Rattle.std.specs.FinMap.{FinMap, entries, from_entries, get, insert}
 use Rattle.std.specs.Ordering.{nat_cmp}
 use Rattle.store_machine.specs.Structures.{IsText}
 use Rattle.store_machine.specs.declared.machine.Change.{Change}
 use Rattle.store_machine.specs.declared.machine.Change.TheVariants.{Register, Revise, Withdraw}
+use Rattle.store_machine.specs.declared.machine.History.{History}
 use Rattle.store_machine.specs.declared.machine.Reply.{Reply}
 use Rattle.store_machine.specs.declared.machine.Reply.TheVariants as reply
 use Rattle.store_machine.specs.declared.machine.Status.{Status}
@@ -32,11 +33,30 @@ abbrev pub after_changes : ℕ → List Change → Snapshot → Snapshot
 after_changes version [] states = states
 after_changes version (c ∷ cs) states = after_changes (version + 1) cs (after_change (version + 1) c states)
 
-abbrev pub snapshot : List Change → ℕ → Snapshot
-snapshot h v = after_changes 0 (take v h) empty
+abbrev pub base_states : History → Snapshot
+base_states h = from_entries h.base
 
-abbrev pub head : List Change → ℕ
-head h = length h
+-- the states at a version; below the base's it is the base
+abbrev pub snapshot : History → ℕ → Snapshot
+snapshot h v = after_changes h.version (take (v - h.version) h.commits) (base_states h)
+
+abbrev pub head : History → ℕ
+head h = h.version + length h.commits
+
+-- a history without a base, and one in which nothing was committed
+abbrev pub of_commits : List Change → History
+of_commits commits = record { base = []; version = 0; commits = commits }
+
+abbrev pub begun : History
+begun = of_commits []
+
+-- with more commits behind it
+abbrev pub grown : History → List Change → History
+grown h more = record h { commits = h.commits ++ more }
+
+-- with its base moved to a version
+abbrev pub rebase : History → ℕ → History
+rebase h d = record { base = entries (snapshot h d); version = d; commits = drop (d - h.version) h.commits }
 
 -- why a change is refused, if it is: a register needs an identifier without a state, every other change a live one
 abbrev pub unless_none : Option Status → Option Reply
@@ -77,5 +97,8 @@ AreAllowed version [] states = Unit {0}
 AreAllowed version (c ∷ cs) states = IsValid c × IsAllowed states c
     × AreAllowed (version + 1) cs (after_change (version + 1) c states)
 
-abbrev pub IsHistory : List Change → Type 0
-IsHistory h = AreAllowed 0 h empty
+-- until a later format there is no base
+pub record IsHistory (h : History) : Type 0 where
+  pub base : h.base ≡ []
+  pub version : h.version ≡ 0
+  pub allowed : AreAllowed h.version h.commits (base_states h)

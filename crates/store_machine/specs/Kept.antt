@@ -3,12 +3,12 @@ use Rattle.std.specs.Prelude.{◌≡◌, ◌++◌, ◌∷◌, ◌≤◌, Contain
 use Rattle.std.specs.FinMap.{get}
 use Rattle.store_machine.specs.History.{head, made_at, snapshot}
 use Rattle.store_machine.specs.declared.machine.Status.{Status}
-use Rattle.store_machine.specs.declared.machine.Change.{Change}
 use Rattle.store_machine.specs.declared.machine.Entry.{Entry}
+use Rattle.store_machine.specs.declared.machine.History.{History}
 use Rattle.store_machine.specs.declared.machine.State.{State}
 
 -- at some version of these, the identifier's state is the one that was made at the entry's version
-pub record IsNeeded (h : List Change) (versions : List ℕ) (entry : Entry) : Type 0 where
+pub record IsNeeded (h : History) (versions : List ℕ) (entry : Entry) : Type 0 where
   pub at : ℕ
   pub used : Contains versions at
   pub status : Status

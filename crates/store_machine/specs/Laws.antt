@@ -4,16 +4,17 @@ use Rattle.std.specs.FinMap.{get}
 use Rattle.std.specs.Prelude.{Contains, ◌≡◌, ◌+◌, ◌++◌, ◌≤◌, Bool, List, [], ◌∷◌, MatchOption, Some, true, ℕ}
 use Rattle.smarts_parse.specs.Pattern.{PatternTerm}
 use Rattle.store_machine.specs.Answers.{AreFound, AreHits, AreMatched, AreTried, ids}
-use Rattle.store_machine.specs.History.{IsAllowed, IsHistory, IsId, IsValid, Snapshot, after_change, head, made_at, snapshot}
+use Rattle.store_machine.specs.History.{IsHistory, IsId, Snapshot, after_change, grown, head, made_at, snapshot}
 use Rattle.store_machine.specs.Kept.{KeepsNeeded, PinsThePast, in_use}
 use Rattle.store_machine.specs.Made.{KeepsMade, ReadsKept}
-use Rattle.store_machine.specs.Machine.{Holds, SlotsApart, now}
+use Rattle.store_machine.specs.Machine.{Holds, MayAdd, SlotsApart}
 use Rattle.store_machine.specs.Runs.{IsCalm, IsRun, calls_of}
 use Rattle.store_machine.specs.Searches.{ArePieces, At, End, IsSearch, KeepsPin, Place, ahead, fetched, records_of}
 use Rattle.store_machine.specs.Structures.{IsNeedOf, IsScreened, Screens}
 use Rattle.store_machine.specs.declared.machine.Change.{Change}
 use Rattle.store_machine.specs.declared.machine.Event.TheVariants.{Pin}
 use Rattle.store_machine.specs.declared.machine.Found.{Found}
+use Rattle.store_machine.specs.declared.machine.History.{History}
 use Rattle.store_machine.specs.declared.machine.Reply.TheVariants.{Pinned}
 use Rattle.store_machine.specs.declared.machine.State.{State}
 use Rattle.store_machine.specs.declared.machine.Status.{Status}
@@ -21,16 +22,16 @@ use Rattle.store_machine.specs.declared.machine.Step.{Step}
 
 -- later commits change no snapshot
 abbrev pub SnapshotsStay : Type 0
-SnapshotsStay = (h more : List Change) (v : ℕ) → v ≤ head h → snapshot (h ++ more) v ≡ snapshot h v
+SnapshotsStay = (h : History) (more : List Change) (v : ℕ) → v ≤ head h → snapshot (grown h more) v ≡ snapshot h v
 
 -- a commit at the head makes its own change
 abbrev pub CommitsChange : Type 0
-CommitsChange = (h : List Change) (c : Change) → snapshot (h ++ c ∷ []) (head h + 1)
+CommitsChange = (h : History) (c : Change) → snapshot (grown h (c ∷ [])) (head h + 1)
     ≡ after_change (head h + 1) c (snapshot h (head h))
 
 -- a state was the same at the version that made it, and is of an identifier in range
 abbrev pub StatesStay : Type 0
-StatesStay = (h : List Change) (v id : ℕ) (status : Status) → IsHistory h → get (snapshot h v) id ≡ Some status
+StatesStay = (h : History) (v id : ℕ) (status : Status) → IsHistory h → get (snapshot h v) id ≡ Some status
     → IsId id × (1 ≤ made_at status) × (made_at status ≤ v) × (get (snapshot h (made_at status)) id ≡ Some status)
 
 -- what is found is one list
@@ -41,7 +42,7 @@ AnswersAreOne = (want : List Bool) (states : Snapshot) (xs ys : List Found) → 
 -- a state as it is in every run that begins so
 pub record IsSound (s : State) : Type 0 where
   pub history : IsHistory s.history
-  pub doubt : MatchOption s.doubt (Unit {0}) (λ c. IsValid c × IsAllowed (now s) c)
+  pub doubt : MatchOption s.doubt (Unit {0}) (MayAdd s)
   pub slots : SlotsApart s.pins
   pub pins : PinsThePast s
   pub kept : s.serves ≡ true → KeepsNeeded s
@@ -50,10 +51,10 @@ pub record IsSound (s : State) : Type 0 where
 abbrev pub RunsStaySound : Type 0
 RunsStaySound = (s s' : State) (steps : List Step) → IsRun s steps s' → IsSound s → IsSound s'
 
--- the history at a run's end is that at its begin with more behind it
+-- the history at the end of a run without a crash is that at its begin with more behind it
 abbrev pub RunsGrow : Type 0
-RunsGrow = (s s' : State) (steps : List Step) → IsRun s steps s' → (more : List Change)
-    × (s'.history ≡ s.history ++ more)
+RunsGrow = (s s' : State) (steps : List Step) → IsRun s steps s' → IsCalm steps → (more : List Change)
+    × (s'.history ≡ grown s.history more)
 
 -- at each version in use, the latest kept entry is the state
 abbrev pub KeptIsRead : Type 0

@@ -5,6 +5,10 @@ pub mod Kept
 pub mod Laws
 pub mod Machine
 pub mod Made
+pub mod Openings
+pub mod Owners
+pub mod Rebases
 pub mod Runs
 pub mod Searches
 pub mod Structures
+pub mod Told

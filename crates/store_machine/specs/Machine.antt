@@ -3,7 +3,7 @@
 use Rattle.std.specs.Prelude.{◌≡◌, ◌+◌, ◌++◌, ◌<◌, ◌≤◌, ◌==◌, ◌^◌, ◌⊎◌, ◌↔◌, AllPairs, Bool, Contains, List, [], ◌∷◌, count_by, false, filter, if◌then◌else◌, length, nat_le, None, not, Option, Some, take, true, ℕ, ◌≢◌}
 use Rattle.std.specs.FinMap.{entries, get}
 use Rattle.store_machine.specs.Answers.{AreFound, from_on}
-use Rattle.store_machine.specs.History.{IsAllowed, IsValid, Snapshot, head, id_of, refusal, snapshot}
+use Rattle.store_machine.specs.History.{IsAllowed, IsValid, Snapshot, grown, head, id_of, refusal, snapshot}
 use Rattle.store_machine.specs.Kept.{IsNeeded, in_use}
 use Rattle.store_machine.specs.Structures.{IsScreened}
 use Rattle.store_machine.specs.declared.machine.Change.{Change}
@@ -13,6 +13,7 @@ use Rattle.store_machine.specs.declared.machine.Event.TheVariants.{Commit, Crash
 use Rattle.store_machine.specs.declared.machine.Faults.{Faults}
 use Rattle.store_machine.specs.declared.machine.Found.{Found}
 use Rattle.store_machine.specs.declared.machine.Held.{Held}
+use Rattle.store_machine.specs.declared.machine.History.{History}
 use Rattle.store_machine.specs.declared.machine.Reply.{Reply}
 use Rattle.store_machine.specs.declared.machine.Reply.TheVariants.{Absent, Committed, Counted, Crashed, DiskFault, Full, Known, Looked, NoMemory, NoPin, Opened, Page, Pinned, Pruned, Unpinned, Withdrawn}
 use Rattle.store_machine.specs.declared.machine.State.{State}
@@ -40,13 +41,22 @@ Becomes s s' = s' ≡ record s { faults = s'.faults }
 abbrev pub EndsDoubt : State → State → Type 0
 EndsDoubt s s' = Becomes s s' ⊎ Becomes (record s { doubt = None }) s'
 
+-- the answer is that a disk failed, and that none did
+abbrev pub IsDiskFault : Reply → Type 0
+IsDiskFault (DiskFault doubt) = Unit {0}
+IsDiskFault _ = ⊥
+
+abbrev pub IsSure : Reply → Type 0
+IsSure (DiskFault doubt) = ⊥
+IsSure _ = Unit {0}
+
 -- Commit. It is allowed, and the history has fewer commits than the limit
 abbrev pub MayAdd : State → Change → Type 0
-MayAdd s c = IsValid c × IsAllowed (now s) c × (length s.history < s.limit)
+MayAdd s c = IsValid c × IsAllowed (now s) c × (length s.history.commits < s.limit)
 
 abbrev pub committed : State → Change → State
 committed s c = record s {
-  history = s.history ++ c ∷ [];
+  history = grown s.history (c ∷ []);
   kept = s.kept
       ++ record { id = id_of c; version = head s.history + 1 } ∷ [];
   doubt = None;
@@ -60,7 +70,7 @@ abbrev pub CommitGives : State → Change → Reply → State → Type 0
 CommitGives s c Known s' = (refusal (now s) c ≡ Some Known) × Becomes s s'
 CommitGives s c Absent s' = (refusal (now s) c ≡ Some Absent) × Becomes s s'
 CommitGives s c Withdrawn s' = (refusal (now s) c ≡ Some Withdrawn) × Becomes s s'
-CommitGives s c Full s' = IsAllowed (now s) c × (s.limit ≤ length s.history) × Becomes s s'
+CommitGives s c Full s' = IsAllowed (now s) c × (s.limit ≤ length s.history.commits) × Becomes s s'
 CommitGives s c (DiskFault doubt) s' = MayAdd s c × SomeRose s.faults s'.faults × DoubtAfter s c doubt s'
 CommitGives s c NoMemory s' = EndsDoubt s s'
 CommitGives s c (Committed version) s' = MayAdd s c × (version ≡ head s.history + 1) × Becomes (committed s c) s'
@@ -143,25 +153,27 @@ StatsGives s (Counted version live withdrawn kept pins) s' =
 StatsGives s _ s' = ⊥
 
 -- Crash: the history, or this and the commit in doubt
-abbrev pub Recovers : State → List Change → Type 0
-Recovers s h = (h ≡ s.history) ⊎ ((c : Change) × (s.doubt ≡ Some c) × (h ≡ s.history ++ c ∷ []))
+abbrev pub Recovers : State → History → Type 0
+Recovers s h = (h ≡ s.history) ⊎ ((c : Change) × (s.doubt ≡ Some c) × (h ≡ grown s.history (c ∷ [])))
+
+abbrev pub crashed : State → History → State
+crashed s h = record s {
+  history = h;
+  pins = [];
+  doubt = None;
+  faults = record
+      { a = 0; b = 0 };
+  serves = false;
+}
 
 abbrev pub CrashGives : State → Reply → State → Type 0
-CrashGives s Crashed s' =
-    Recovers s s'.history × (s' ≡ record s {
-      history = s'.history;
-      pins = [];
-      doubt = None;
-      faults = record
-          { a = 0; b = 0 };
-      serves = false;
-    })
+CrashGives s Crashed s' = Recovers s s'.history × (s' ≡ crashed s s'.history)
 CrashGives s _ s' = ⊥
 
 -- Open
 abbrev pub OpenGives : State → Reply → State → Type 0
 OpenGives s (Opened commits) s' =
-    (s.pins ≡ []) × (s.doubt ≡ None) × AreNeeded s s'.kept × (commits ≡ length s.history)
+    (s.pins ≡ []) × (s.doubt ≡ None) × AreNeeded s s'.kept × (commits ≡ length s.history.commits)
     × NoneFell s.faults s'.faults × Becomes (record s { kept = s'.kept; serves = true }) s'
 OpenGives s _ s' = ⊥
 

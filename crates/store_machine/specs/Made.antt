@@ -12,7 +12,7 @@ IsMade after [] id version = ⊥
 IsMade after (c ∷ cs) id version = ((id_of c ≡ id) × (after + 1 ≡ version)) ⊎ IsMade (after + 1) cs id version
 
 abbrev pub KeepsMade : State → Type 0
-KeepsMade s = (entry : Entry) → Contains s.kept entry → IsMade 0 s.history entry.id entry.version
+KeepsMade s = (entry : Entry) → Contains s.kept entry → IsMade s.history.version s.history.commits entry.id entry.version
 
 abbrev pub IsKept : State → ℕ → ℕ → Type 0
 IsKept s id version = Contains s.kept (record { id = id; version = version })

@@ -1,5 +1,5 @@
 -- A run is a list of steps, each from where the one before it ended.
-use Rattle.std.specs.Prelude.{Bool, ◌≡◌, ◌&&◌, List, [], ◌∷◌, false, if◌then◌else◌, true, ℕ}
+use Rattle.std.specs.Prelude.{Bool, ◌≡◌, ◌&&◌, ◌++◌, List, [], ◌∷◌, false, if◌then◌else◌, true, ℕ}
 use Rattle.store_machine.specs.Machine.{Gives}
 use Rattle.store_machine.specs.declared.machine.Event.{Event}
 use Rattle.store_machine.specs.declared.machine.Event.TheVariants.{Crash, Open}
@@ -32,3 +32,10 @@ is_own own x = is_call x.event && own x.owner
 abbrev pub calls_of : (ℕ → Bool) → List Step → List (Event × Reply)
 calls_of own [] = []
 calls_of own (x ∷ xs) = if is_own own x then (x.event, x.reply) ∷ calls_of own xs else calls_of own xs
+
+-- a run goes on from where another ended
+abbrev pub RunsJoin : Type 0
+RunsJoin = (xs ys : List Step) (s t u : State) → IsRun s xs t → IsRun t ys u → IsRun s (xs ++ ys) u
+
+abbrev pub CalmsJoin : Type 0
+CalmsJoin = (xs ys : List Step) → IsCalm xs → IsCalm ys → IsCalm (xs ++ ys)

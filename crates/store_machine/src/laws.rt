@@ -1,6 +1,11 @@
 //! The laws of runs, each on a function that does nothing but cite others.
 ghost use Rattle.store_machine.specs.ByCalls.{CallsGivePages};
 ghost use Rattle.store_machine.specs.Laws.{AnswersAreOne, CommitsChange, KeptIsRead, NeedsScreen, PagesAreAPrefix, PagesArePieces, PagesAreTheAnswer, PinsStay, RunsGrow, RunsStaySound, SnapshotsStay, StatesStay};
+ghost use Rattle.store_machine.specs.Openings.{CrashOpens};
+ghost use Rattle.store_machine.specs.Owners.{OwnersAreFree, SoundnessAsksNoOwner};
+ghost use Rattle.store_machine.specs.Rebases.{BasesReadBack, LaterRebasesStand, RebasesGrow, RebasesKeepAllowed, RebasesKeepHeads, RebasesKeepSnapshots};
+ghost use Rattle.store_machine.specs.Runs.{CalmsJoin, RunsJoin};
+ghost use Rattle.store_machine.specs.Told.{PinsAreNew, RunsAdd, SlotsWereFree, ToldIsThere};
 
 /// Later commits change no snapshot.
 pub fn snapshots_stay()
@@ -27,9 +32,48 @@ pub fn runs_stay_sound()
     ensures { RunsStaySound }
 {}
 
-/// The history at a run's end is that at its begin with more behind it.
+/// The history at the end of a run without a crash is that at its begin with more behind it.
 pub fn runs_grow()
     ensures { RunsGrow }
+{}
+
+/// What the calls of a run without a crash tell: the commits that they acknowledge are those that the history grew by,
+/// no version is told that is not there yet, and a pin's slot was free and its version is no older than what its caller
+/// was told before.
+pub fn replies_tell()
+    ensures commits { RunsAdd }
+    ensures versions { ToldIsThere }
+    ensures slots { SlotsWereFree }
+    ensures pins { PinsAreNew }
+{}
+
+/// A run goes on from where another ended; neither has a crash where neither part has one.
+pub fn runs_join()
+    ensures runs { RunsJoin }
+    ensures calm { CalmsJoin }
+{}
+
+/// What a crash may recover can be opened: a crash and an opening are a run to each such state.
+pub fn crash_opens()
+    ensures { CrashOpens }
+{}
+
+/// Whose an event is matters to pins alone: but for a fetch and an unpin it may be anybody's, and leaves the same but
+/// for the owner of a new pin. A state stays sound where the owners of its pins are changed.
+pub fn owners_are_free()
+    ensures steps { OwnersAreFree }
+    ensures sound { SoundnessAsksNoOwner }
+{}
+
+/// A base moved to a later version keeps the snapshots from there on, the head, and that each commit is allowed. It may
+/// be moved before or after more commits, and of two moves the later says all. A base is read to its snapshot.
+pub fn rebases_keep()
+    ensures snapshots { RebasesKeepSnapshots }
+    ensures heads { RebasesKeepHeads }
+    ensures allowed { RebasesKeepAllowed }
+    ensures grown { RebasesGrow }
+    ensures twice { LaterRebasesStand }
+    ensures read { BasesReadBack }
 {}
 
 /// At each version in use a store reads the snapshot from what is kept.

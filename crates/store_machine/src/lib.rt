@@ -9,10 +9,11 @@ mod laws;
 mod machine;
 
 pub use laws::{
-    answers_are_one, calls_give_pages, commits_change, kept_is_read, needs_screen,
-    pages_are_a_prefix, pages_are_pieces, pages_are_the_answer, pins_stay, runs_grow,
-    runs_stay_sound, snapshots_stay, states_stay,
+    answers_are_one, calls_give_pages, commits_change, crash_opens, kept_is_read, needs_screen,
+    owners_are_free, pages_are_a_prefix, pages_are_pieces, pages_are_the_answer, pins_stay,
+    rebases_keep, replies_tell, runs_grow, runs_join, runs_stay_sound, snapshots_stay, states_stay,
 };
 pub use machine::{
-    Change, Entry, Event, Faults, Found, Held, LAST_IDENTIFIER, Reply, State, Status, Step, Times,
+    Change, Entry, Event, Faults, Found, Held, History, LAST_IDENTIFIER, Reply, State, Status,
+    Step, Times,
 };

@@ -34,6 +34,14 @@ pub enum Status {
     },
 }
 
+/// What was committed: the commits after a base, and what each identifier was at the base's version. Identifiers stand
+/// in the base once, ascending. Until a later format a base is empty and its version is 0.
+pub struct History {
+    pub base: LinkedList<(u32, Status)>,
+    pub version: u32,
+    pub commits: LinkedList<Change>,
+}
+
 /// A live record, as a page gives it.
 pub struct Found {
     pub id: u32,
@@ -62,7 +70,7 @@ pub struct Faults {
 
 /// A state of the machine. Between a Crash and the next Open nothing is served.
 pub struct State {
-    pub history: LinkedList<Change>,
+    pub history: History,
     pub limit: u32,
     pub pins: LinkedList<Held>,
     pub kept: LinkedList<Entry>,

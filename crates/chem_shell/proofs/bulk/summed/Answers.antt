@@ -10,5 +10,6 @@ returns-in-Done g c =
     let none : c.new-sink.result.bytes ≡ [] = search rules in
     let sum : IfOk c.summary.result (λ text. text.items
     ≡ summary_of c.args.plan.now.seed c.args.plan.now.count c.run_script.new.sink.bytes) = search rules in
-    summed_of c.args.plan.now c.new-source.result.left c.new-sink.result.bytes c.run_script.new.sink.bytes
-    c.summary.result is none c.in-Done.ensures.serves sum
+    let served = c.in-Done.ensures.serves in
+    summed_of c.args.plan.now c.new-source.result.left c.new-sink.result.bytes c.run_script.new.sink.bytes _
+    c.summary.result is none served.0 served.1 served.2 sum

@@ -1,14 +1,30 @@
-use Rattle.std.proofs.Common.{◌∙◌}
-use Rattle.chem_shell.proofs.Loaded.{runs_on}
+use Rattle.std.proofs.Common.{◌∙◌, rules, subst, sym}
+use Rattle.chem_shell.specs.OnDisk.{RunsOn}
+use Rattle.chem_shell.proofs.Loaded.{in_run, on_disk}
+use Rattle.chem_shell.proofs.Transcripts.{script_of, served_true}
 use Rattle.chem_shell.proofs.disk.serve_loaded.Goals as goal
 
 pub returns-clause-runs : goal.returns-clause-runs
 returns-clause-runs g c = λ a s stands opened opens read.
-    let d = g.D.Disk in
-    runs_on d.content d.images d.clock d.images_between d.faults g.met.D.Disk.parts g.met.D.Disk.whole
-    g.met.D.Disk.only_now d.bound c.services_are_true.ensures g.S.Source.left g.K.Sink.written c.args.plan.now a s _ _
-    stands opened opens read _ c.session-ended.result _ _ c.into_disks.ensures.a c.session-ended.ensures.worn
-    c.end_status-end.ensures c.session-ended.ensures.serves c.session-ended.ensures.input_fault
+    let d = g.D.Disk.model in
+    let serves = c.session-ended.ensures.serves in
+    let made = serves.1.made s stands in
+    subst (λ x. RunsOn d g.S.Source.left g.K.Sink.written c.args.plan.now a x c.args.store.b _ _)
+    (sym c.into_disks.ensures.a)
+    (record {
+      calls = serves.0;
+      on = on_disk c.replies_tell.ensures.commits d c.a_standing_store_opens.ensures c.args.plan.now.commits a s
+          c.args.store c.session-ended.new.service stands opened opens read serves.0 made;
+      script = script_of g.S.Source.left g.K.Sink.written c.session-ended.result c.args.plan.now.page serves.0
+          made.after.history _ _ c.session-ended.ensures.worn c.end_status-end.ensures
+          (served_true c.services_are_true.ensures c.session-ended.result c.args.plan.now.page _ _ _ _ serves.0
+          made.after.history (in_run d s c.args.store c.session-ended.new.service serves.0 made) serves.2)
+          c.session-ended.ensures.done c.session-ended.ensures.within;
+    })
+
+pub returns-clause-ends : goal.returns-clause-ends
+returns-clause-ends g c =
+    record { source_fault = search rules; sink_fault = search rules; input_too_long = search rules }
 
 pub returns-clause-other : goal.returns-clause-other
 returns-clause-other g c = λ s stands.

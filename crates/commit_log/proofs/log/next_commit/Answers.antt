@@ -16,25 +16,26 @@ at_record : (o : Option (ℕ × Vec ℕ Global)) (r : ℕ × Vec ℕ Global) (P 
 at_record o r P is p = subst (λ (x : Option (ℕ × Vec ℕ Global)). OnRecord (Ok x) P) is p
 
 pub returns-in-Ok-None-decode-clause-damaged : goal.returns-in-Ok-None-decode-clause-damaged
-returns-in-Ok-None-decode-clause-damaged g c ps q =
+returns-in-Ok-None-decode-clause-damaged g c front ps q =
     let found = c.in-Ok-Some.ensures in
     let payload = c.in-Ok-Some.record.1.items in
-    let d = g.D.Disk in
+    let d = g.D.Disk.model in
     let facts : (c.in-Ok-Some.record.0 ≡ c.args.journal.now.place) × IsShort payload
     × (c.next.new.self.place ≡ c.in-Ok-Some.record.0 + 5 + length payload) × (c.next.new.self.ready ≡ false) =
     at_record c.in-Ok-Some.field-0 c.in-Ok-Some.record (λ at p. (at ≡ c.args.journal.now.place) × IsShort p
     × (c.next.new.self.place ≡ at + 5 + length p) × (c.next.new.self.ready ≡ false)) c.in-Ok-Some.field-0-is
     found.record in
-    let new = at_record c.in-Ok-Some.field-0 c.in-Ok-Some.record (λ at p. (qs : List (List ℕ))
-    → Reads d.content d.images c.args.journal.now qs → Reads d.content d.images c.next.new.self (qs ++ p ∷ []))
-    c.in-Ok-Some.field-0-is found.reads ps q in (
+    let new = at_record c.in-Ok-Some.field-0 c.in-Ok-Some.record (λ at p. (f : List ℕ) (qs : List (List ℕ))
+    → Reads d c.args.journal.now f qs → Reads d c.next.new.self f (qs ++ p ∷ []))
+    c.in-Ok-Some.field-0-is found.reads front ps q in (
       facts.0 ∙ q.place,
       λ l told.
           let same = same_list new.told l (sym new.is_told ∙ found.looks.narrows.same ∙ told) in
           inr (record {
             payload = payload;
             rest = new.tail;
-            is = sym same ∙ new.is ∙ prefix_push ps payload new.tail;
+            is = sym same ∙ new.is ∙ prefix_push front ps payload new.tail;
+            fit = q.fit;
             short = facts.1;
             none = subst IsNoChange c.deref.ensures.value
                 (subst (λ (o : Option Wire). IfNone o (IsNoChange c.deref.result.now)) c.in-Ok-None-decode.field-0-is

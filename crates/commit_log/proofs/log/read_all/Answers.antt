@@ -1,4 +1,4 @@
-use Rattle.std.proofs.Common.{Vec, ◌≡◌, ◌+◌, ℕ, List, [], ◌∷◌, ◌++◌, length, Option, Err, sym, ◌∙◌, ap, subst}
+use Rattle.std.proofs.Common.{Vec, ◌≡◌, ◌+◌, ℕ, List, [], ◌∷◌, ◌++◌, length, Option, Err, sym, ◌∙◌, ap, subst, append_assoc}
 use Rattle.std.specs.declared.alloc.Global.{Global}
 use Rattle.journal_core.specs.Answers.{OnDamaged}
 use Rattle.journal_core.specs.Journal.{Reads}
@@ -20,7 +20,7 @@ on_damaged T U NoMemory P Q f p = tt
 
 pub loop-commit-preserved : goal.loop-commit-preserved
 loop-commit-preserved g c =
-    let d = g.D.Disk in
+    let d = g.D.Disk.model in
     let was = c.loop-commit.invariant in
     let commits = c.loop-commit.commits.items in
     let commit = c.in-Ok-Some.commit in
@@ -40,16 +40,18 @@ loop-commit-preserved g c =
       takes = subst (λ (l : List Commit). Takes c.args.journal.now.place l new.place) (sym items)
           (subst (λ (n : ℕ). Takes c.args.journal.now.place (commits ++ commit ∷ []) n) (sym place)
           (takes_more c.args.journal.now.place c.loop-commit.journal.place commits commit was.takes found.0 found.1));
-      reads = λ q. subst (λ (ps : List (List ℕ)). Reads d.content d.images new ps) same
-          (reads (payloads (changes_of commits)) (was.reads q));
-      looks = looks_twice d.content d.images d.clock d.images_between d.faults d.bound g.met.D.Disk.parts
+      reads = λ front before q. subst (λ (ps : List (List ℕ)). Reads d new front ps)
+          (append_assoc before (payloads (changes_of commits)) (written (change_of commit.wire) ∷ [])
+          ∙ ap (λ (ps : List (List ℕ)). before ++ ps) same)
+          (reads front (before ++ payloads (changes_of commits)) (was.reads front before q));
+      looks = looks_twice d g.met.D.Disk.parts
           c.args.journal.now.disk c.loop-commit.journal.disk new.disk was.looks c.in-Ok-Some.ensures.looks;
     }
 
 pub returns-in_err-push-in-Ok-Some-clause-looks : goal.returns-in_err-push-in-Ok-Some-clause-looks
 returns-in_err-push-in-Ok-Some-clause-looks g c =
-    let d = g.D.Disk in
-    looks_twice d.content d.images d.clock d.images_between d.faults d.bound g.met.D.Disk.parts
+    let d = g.D.Disk.model in
+    looks_twice d g.met.D.Disk.parts
     c.args.journal.now.disk c.loop-commit.journal.disk c.next_commit.new.journal.disk c.loop-commit.invariant.looks
     c.in-Ok-Some.ensures.looks
 
@@ -57,8 +59,8 @@ pub returns-in-Err-clause-damaged : goal.returns-in-Err-clause-damaged
 returns-in-Err-clause-damaged g c =
     let was = c.loop-commit.invariant in
     let changes = changes_of c.loop-commit.commits.items in
-    on_damaged (Option Commit) (Vec Commit Global) c.in-Err.fault _ _ (λ at h q l told.
-    let damage = h (payloads changes) (was.reads q) in
+    on_damaged (Option Commit) (Vec Commit Global) c.in-Err.fault _ _ (λ at h front before q l told.
+    let damage = h front (before ++ payloads changes) (was.reads front before q) in
     record {
       changes = changes;
       logged = was.takes.logged;

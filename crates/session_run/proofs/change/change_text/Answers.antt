@@ -1,6 +1,6 @@
 use Rattle.std.proofs.Common.{◌∙◌}
 use Rattle.std.specs.Arc.{arc_value}
-use Rattle.session_run.specs.Made.{Makes}
+use Rattle.session_run.specs.Cursors.{Makes}
 use Rattle.session_run.proofs.Joined.{makes_none}
 use Rattle.session_run.proofs.Lines.{change_same, text_committed, text_refused, text_same}
 use Rattle.session_run.proofs.change.change_text.Goals as goal

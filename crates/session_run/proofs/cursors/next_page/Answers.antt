@@ -1,6 +1,6 @@
 use Rattle.std.proofs.Common.{ap, refl}
 use Rattle.par_search.specs.Searches.{SearchTerm}
-use Rattle.session_run.specs.Made.{Makes}
+use Rattle.session_run.specs.Cursors.{Makes}
 use Rattle.session_run.specs.Opened.{named}
 use Rattle.session_run.specs.Walks.{cursor_of}
 use Rattle.session_run.proofs.Listed.{page_kept}

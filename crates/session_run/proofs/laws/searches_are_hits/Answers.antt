@@ -4,10 +4,9 @@ use Rattle.session_run.proofs.laws.searches_are_hits.Goals as goal
 pub returns : goal.returns
 returns c = searches-are-hits (record {
   snapshots = c.snapshots_stay.ensures;
-  states = c.states_stay.ensures;
-  sound = c.runs_stay_sound.ensures;
   grow = c.runs_grow.ensures;
-  pins = c.pins_stay.ensures;
+  slots = c.replies_tell.ensures.slots;
+  pins = c.replies_tell.ensures.pins;
   pages = c.calls_give_pages.ensures;
   needs = c.needs_screen.ensures;
 })

@@ -2,7 +2,7 @@ use Rattle.std.proofs.Common.{◌≡◌, ◌∙◌, arith, Fits, length, Ok, ref
 use Rattle.std.specs.Prelude.{is_ok}
 use Rattle.smarts_parse.specs.Pattern.{pattern_of}
 use Rattle.store_core.specs.Records.{founds}
-use Rattle.session_run.specs.Made.{Makes}
+use Rattle.session_run.specs.Cursors.{Makes}
 use Rattle.session_run.proofs.Pages.{err_is, founds-length, matched_few, page_failed, page_shown, worn_by, written}
 use Rattle.session_run.proofs.listing.list_page.Goals as goal
 

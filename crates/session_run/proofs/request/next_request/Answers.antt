@@ -1,4 +1,4 @@
-use Rattle.std.proofs.Common.{◌≡◌, ◌∙◌, ◌++◌, ◌∷◌, [], ap, inl, inr, refl, sym}
+use Rattle.std.proofs.Common.{◌≡◌, ◌∙◌, ◌++◌, ◌∷◌, [], ap, inl, inr, Ok, refl, sym}
 use Rattle.std.proofs.lemmas.Result.{err_from_is_err_and}
 use Rattle.io_edge.specs.Lines.{TextLine, TooLong, Whole, lines_left}
 use Rattle.shell_lang.specs.Command.{IsLine, StartsMolfile, molfile_command}
@@ -121,3 +121,6 @@ returns-in_ok-molfile-in-Some-clause-takes g c =
           t.2,
       (c.next_line.new.self.text, refl, starts, is, t.1),
     )
+
+pub returns-in-End-clause-ended : goal.returns-in-End-clause-ended
+returns-in-End-clause-ended g c = λ e. (c.in_ok-next_line.ensures.end (ap Ok c.in-End.is)).ended

@@ -1,15 +1,14 @@
 use Rattle.std.proofs.Common.{◌≡◌, ◌∙◌, [], ap, arith, List, None, refl, Some, subst, sym, ℕ}
-use Rattle.session_run.specs.Cursors.{Cursor}
+use Rattle.session_run.specs.Cursors.{Cursor, Makes}
 use Rattle.session_run.specs.Opened.{opened}
 use Rattle.session_run.specs.Responds.{KeepsPins}
-use Rattle.session_run.specs.Made.{Makes}
 use Rattle.session_run.specs.Turn.{TakesNone, TakesRequest, Turns}
 use Rattle.session_run.specs.Walks.{cursors_of}
 use Rattle.session_run.specs.declared.settings.EndStatus.{EndStatus}
 use Rattle.session_run.proofs.Held.{not_raised-more, not_raised-same, same_held, same_others}
 use Rattle.session_run.proofs.Joined.{makes_more, makes_none}
 use Rattle.session_run.proofs.Keeping.{goes_on, keeps_pins-more}
-use Rattle.session_run.proofs.Scripts.{Rose-since, serves-turn, taken-turn, takes_all, under_way-start, under_way-turn}
+use Rattle.session_run.proofs.Scripts.{Rose-since, serves-turn, takes_all, takes_whole, takes_within, under_way-start, under_way-turn}
 use Rattle.session_run.proofs.run.serve.Goals as goal
 
 pub loop-end-init : goal.loop-end-init
@@ -101,31 +100,7 @@ returns-in-Some-clause-serves g c =
     (TakesNone c.loop-end.lines (g.I.Source.left c.loop-end.source))
     (cursors_of (opened c.loop-end.responder.cursors)) (cursors_of (opened c.turn.new.responder.cursors))
     (g.O.Sink.written c.loop-end.sink) (g.O.Sink.written c.turn.new.sink) (Some c.in-Some.end))
-    c.loop-end.invariant.size c.in-Some.ensures.turns)
-
-pub returns-in-Some-clause-input_fault : goal.returns-in-Some-clause-input_fault
-returns-in-Some-clause-input_fault g c = λ is.
-    let u = c.loop-end.invariant.under_way in
-    let first = c.args.service.now in
-    let middle = c.loop-end.service in
-    let last = c.turn.new.service in
-    taken-turn c.args.responder.now.cursors.size c.args.lines.now.limit
-    (g.I.Source.left c.args.source.now) (g.I.Source.left c.loop-end.source)
-    (g.O.Sink.written c.args.sink.now) (g.O.Sink.written c.loop-end.sink) c.loop-end.lines u.0
-    (cursors_of (opened c.loop-end.responder.cursors)) u.2
-    (Makes g.S.Service.at g.S.Service.owns g.S.Service.stretch middle last)
-    (Makes g.S.Service.at g.S.Service.owns g.S.Service.stretch first last)
-    (λ its m. makes_more g.S.Service.at g.S.Service.owns g.S.Service.stretch g.met.S.Service.joins
-    g.met.S.Service.lands g.met.S.Service.same first middle last u.0 its u.1 m)
-    (g.I.Source.left c.turn.new.source) (g.O.Sink.written c.turn.new.sink) c.turn.new.lines _ _
-    (cursors_of (opened c.turn.new.responder.cursors)) c.in-Some.ensures.reads c.in-Some.end is
-    (subst (λ (n : ℕ). Turns n (Makes g.S.Service.at g.S.Service.owns g.S.Service.stretch middle last)
-    (TakesRequest c.loop-end.lines c.turn.new.lines (g.I.Source.left c.loop-end.source)
-    (g.I.Source.left c.turn.new.source))
-    (TakesNone c.loop-end.lines (g.I.Source.left c.loop-end.source))
-    (cursors_of (opened c.loop-end.responder.cursors)) (cursors_of (opened c.turn.new.responder.cursors))
-    (g.O.Sink.written c.loop-end.sink) (g.O.Sink.written c.turn.new.sink) (Some c.in-Some.end))
-    c.loop-end.invariant.size c.in-Some.ensures.turns) (c.in-Some.ensures.part is)
+    c.loop-end.invariant.size c.in-Some.ensures.turns) c.in-Some.ensures.part
 
 pub returns-in-Some-clause-fit : goal.returns-in-Some-clause-fit
 returns-in-Some-clause-fit g c = c.in-Some.ensures.keeps.fit
@@ -160,6 +135,24 @@ returns-in-Some-clause-too_long g c = λ e.
     (g.O.Sink.written c.args.sink.now) (g.O.Sink.written c.loop-end.sink) c.loop-end.lines u.0
     (cursors_of (opened c.loop-end.responder.cursors)) u.2 (g.I.Source.left c.turn.new.source) c.turn.new.lines _ _
     c.in-Some.ensures.reads (c.in-Some.ensures.too_long (ap Some e))
+
+pub returns-in-Some-clause-done : goal.returns-in-Some-clause-done
+returns-in-Some-clause-done g c = λ e.
+    let u = c.loop-end.invariant.under_way in
+    takes_whole c.args.responder.now.cursors.size c.args.lines.now.limit
+    (g.I.Source.left c.args.source.now) (g.I.Source.left c.loop-end.source)
+    (g.O.Sink.written c.args.sink.now) (g.O.Sink.written c.loop-end.sink) c.loop-end.lines u.0
+    (cursors_of (opened c.loop-end.responder.cursors)) u.2 (g.I.Source.left c.turn.new.source) c.turn.new.lines _ _
+    c.in-Some.ensures.reads (c.in-Some.ensures.ended (ap Some e))
+
+pub returns-in-Some-clause-within : goal.returns-in-Some-clause-within
+returns-in-Some-clause-within g c =
+    let u = c.loop-end.invariant.under_way in
+    takes_within c.args.responder.now.cursors.size c.args.lines.now.limit
+    (g.I.Source.left c.args.source.now) (g.I.Source.left c.loop-end.source)
+    (g.O.Sink.written c.args.sink.now) (g.O.Sink.written c.loop-end.sink) c.loop-end.lines u.0
+    (cursors_of (opened c.loop-end.responder.cursors)) u.2 (g.I.Source.left c.turn.new.source) c.turn.new.lines _ _
+    c.in-Some.ensures.reads
 
 pub returns-in-Some-clause-bounds : goal.returns-in-Some-clause-bounds
 returns-in-Some-clause-bounds g c =

@@ -1,8 +1,7 @@
 use Rattle.std.proofs.Common.{◌≡◌, ◌-◌, ◌≤◌, []}
 use Rattle.io_edge.specs.Lines.{done_bytes}
 use Rattle.store_core.specs.Calls.{NotRaised}
-use Rattle.session_run.specs.Cursors.{Calls}
-use Rattle.session_run.specs.Made.{Makes}
+use Rattle.session_run.specs.Cursors.{Calls, Makes}
 use Rattle.session_run.specs.Opened.{opened}
 use Rattle.session_run.specs.Responds.{IsFit, KeepsPins}
 use Rattle.session_run.specs.Walks.{cursors_of}

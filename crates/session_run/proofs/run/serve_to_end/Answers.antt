@@ -4,7 +4,7 @@ use Rattle.session_run.specs.Opened.{opened}
 use Rattle.session_run.specs.Serving.{Serves}
 use Rattle.session_run.specs.Walks.{cursors_of}
 use Rattle.session_run.specs.declared.settings.EndStatus.{EndStatus}
-use Rattle.session_run.proofs.Closing.{served-closed, served-closing, served-worn, taken-closed}
+use Rattle.session_run.proofs.Closing.{served-closed, served-closing, served-worn}
 use Rattle.session_run.proofs.Held.{not_raised-more, same_others-more}
 use Rattle.session_run.proofs.Joined.{makes_more}
 use Rattle.session_run.proofs.Keeping.{held-all}
@@ -23,13 +23,14 @@ returns-in-Worn-clause-serves g c =
     let u = c.serve-end.ensures.serves in
     let size = c.args.responder.now.cursors.size in
     let input = g.I.Source.left c.args.source.now in
+    let after = g.I.Source.left c.serve-end.new.source in
     let put = g.O.Sink.written c.args.sink.now in
     let put' = g.O.Sink.written c.serve-end.new.sink in
     let cursors = cursors_of (opened c.serve-end.new.responder.cursors) in (
       u.0,
       u.1,
-      served-worn size input put put' u.0 cursors
-          (subst (λ (e : EndStatus). Serves e size input put put' u.0 cursors) c.in-Worn.is u.2),
+      served-worn size input after put put' u.0 cursors
+          (subst (λ (e : EndStatus). Serves e size input after put put' u.0 cursors) c.in-Worn.is u.2),
     )
 
 pub returns-in-Worn-clause-worn : goal.returns-in-Worn-clause-worn
@@ -44,21 +45,8 @@ returns-in-Ok-clause-serves g c =
           g.met.S.Service.same c.args.service.now c.serve-end.new.service c.close_all.new.service u.0 (unpins cursors)
           u.1 c.in-Ok.ensures.ok,
       served-closed c.serve-end.result c.args.responder.now.cursors.size (g.I.Source.left c.args.source.now)
-          (g.O.Sink.written c.args.sink.now) (g.O.Sink.written c.serve-end.new.sink) u.0 cursors c.in_default.not-Worn
+          (g.I.Source.left c.serve-end.new.source) (g.O.Sink.written c.args.sink.now) (g.O.Sink.written c.serve-end.new.sink) u.0 cursors c.in_default.not-Worn
           u.2,
-    )
-
-pub returns-in-Ok-clause-input_fault : goal.returns-in-Ok-clause-input_fault
-returns-in-Ok-clause-input_fault g c = λ is.
-    let u = c.serve-end.ensures.input_fault is in
-    let cursors = cursors_of (opened c.serve-end.new.responder.cursors) in (
-      u.0 ++ unpins cursors,
-      makes_more g.S.Service.at g.S.Service.owns g.S.Service.stretch g.met.S.Service.joins g.met.S.Service.lands
-          g.met.S.Service.same c.args.service.now c.serve-end.new.service c.close_all.new.service u.0 (unpins cursors)
-          u.1 c.in-Ok.ensures.ok,
-      taken-closed c.args.responder.now.cursors.size (g.I.Source.left c.args.source.now)
-          (g.I.Source.left c.serve-end.new.source) (g.O.Sink.written c.args.sink.now)
-          (g.O.Sink.written c.serve-end.new.sink) u.0 cursors u.2,
     )
 
 pub returns-in-Ok-clause-pins : goal.returns-in-Ok-clause-pins
@@ -87,7 +75,7 @@ returns-in-Err-clause-serves g c =
       makes_more g.S.Service.at g.S.Service.owns g.S.Service.stretch g.met.S.Service.joins g.met.S.Service.lands
           g.met.S.Service.same c.args.service.now c.serve-end.new.service c.close_all.new.service u.0 p.0 u.1 p.1,
       served-closing c.serve-end.result c.args.responder.now.cursors.size (g.I.Source.left c.args.source.now)
-          (g.O.Sink.written c.args.sink.now) (g.O.Sink.written c.serve-end.new.sink) u.0 p.0 cursors
+          (g.I.Source.left c.serve-end.new.source) (g.O.Sink.written c.args.sink.now) (g.O.Sink.written c.serve-end.new.sink) u.0 p.0 cursors
           c.in_default.not-Worn p.2 u.2,
     )
 

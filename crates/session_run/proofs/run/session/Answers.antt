@@ -1,7 +1,7 @@
-use Rattle.std.proofs.Common.{[], ap, IfSome, List, subst, ℕ}
-use Rattle.io_edge.specs.Lines.{Reading, lines_of}
-use Rattle.session_run.specs.Served.{IsAllOfTaken, IsServed, TakesExactly, Writes, WritesForTaken}
-use Rattle.session_run.proofs.Closing.{served-none}
+use Rattle.std.proofs.Common.{[], ap, subst, ℕ}
+use Rattle.io_edge.specs.Lines.{Reading}
+use Rattle.session_run.specs.Served.{IsServedBy, TakesAtMost, TakesExactly}
+use Rattle.session_run.proofs.Closing.{served-none, takes_nothing}
 use Rattle.session_run.proofs.Joined.{makes_none}
 use Rattle.session_run.proofs.Keeping.{fit_new}
 use Rattle.session_run.proofs.Scripts.{fresh}
@@ -36,20 +36,23 @@ returns-clause-serves g c =
     let u = c.serve_to_end.ensures.serves in (
       u.0,
       u.1,
-      subst (λ (n : ℕ). IfSome (g.I.Source.left c.args.source.now) (λ (bytes : List ℕ).
-          Writes (g.O.Sink.written c.args.sink.now) (g.O.Sink.written c.serve_to_end.new.sink)
-          (IsServed c.serve_to_end.result n (lines_of bytes) u.0))) c.in-Ok-new.ensures.size u.2,
+      subst (λ (n : ℕ). IsServedBy c.serve_to_end.result n (g.I.Source.left c.args.source.now)
+          (g.I.Source.left c.serve_to_end.new.source) (g.O.Sink.written c.args.sink.now)
+          (g.O.Sink.written c.serve_to_end.new.sink) u.0) c.in-Ok-new.ensures.size u.2,
     )
 
-pub returns-clause-input_fault : goal.returns-clause-input_fault
-returns-clause-input_fault g c = λ is.
-    let u = c.serve_to_end.ensures.input_fault is in (
-      u.0,
-      u.1,
-      subst (λ (n : ℕ). WritesForTaken (g.I.Source.left c.args.source.now)
-          (g.I.Source.left c.serve_to_end.new.source) (g.O.Sink.written c.args.sink.now)
-          (g.O.Sink.written c.serve_to_end.new.sink) (IsAllOfTaken n u.0)) c.in-Ok-new.ensures.size u.2,
-    )
+pub returns-in_default-clause-within : goal.returns-in_default-clause-within
+returns-in_default-clause-within g c =
+    takes_nothing (g.I.Source.left c.args.source.now) c.args.settings.now.input_limit
+
+pub returns-in_default-new-clause-within : goal.returns-in_default-new-clause-within
+returns-in_default-new-clause-within g c =
+    takes_nothing (g.I.Source.left c.args.source.now) c.args.settings.now.input_limit
+
+pub returns-clause-within : goal.returns-clause-within
+returns-clause-within g c =
+    subst (λ (n : ℕ). TakesAtMost (g.I.Source.left c.args.source.now) (g.I.Source.left c.serve_to_end.new.source) n)
+    (ap (λ (r : Reading). r.limit) c.in-Ok.ensures) c.serve_to_end.ensures.within
 
 pub returns-clause-too_long : goal.returns-clause-too_long
 returns-clause-too_long g c = λ e.

@@ -1,6 +1,6 @@
-use Rattle.std.proofs.Common.{ap, Err, refl}
+use Rattle.std.proofs.Common.{ap, Err, Ok, refl}
 use Rattle.std.proofs.KnownBytes.{Appends-nil}
-use Rattle.session_run.specs.Made.{Makes}
+use Rattle.session_run.specs.Cursors.{Makes}
 use Rattle.session_run.specs.Opened.{opened}
 use Rattle.session_run.specs.Requests.{IsPartOfRequest}
 use Rattle.session_run.specs.Turn.{TakesNone, TakesPart, TakesRequest}
@@ -111,6 +111,16 @@ returns-in_default-clause-source_fault g c = λ e.
 
 pub returns-in_default-clause-too_long : goal.returns-in_default-clause-too_long
 returns-in_default-clause-too_long g c = λ e.
+    let t = takes_request c.in-Ok.next c.args.lines.now c.next_request.new.lines (g.I.Source.left c.args.source.now)
+    (g.I.Source.left c.next_request.new.source) c.next_request.new.text.items c.in_default.not-End
+    c.in-Ok.ensures.takes in
+    absurd (rw e at (c.answer_and_put.ensures.replies t.0 (rw c.text.ensures t.2)))
+
+pub returns-in-End-clause-ended : goal.returns-in-End-clause-ended
+returns-in-End-clause-ended g c = λ e. c.in-Ok.ensures.ended (ap Ok c.in-End.is)
+
+pub returns-in_default-clause-ended : goal.returns-in_default-clause-ended
+returns-in_default-clause-ended g c = λ e.
     let t = takes_request c.in-Ok.next c.args.lines.now c.next_request.new.lines (g.I.Source.left c.args.source.now)
     (g.I.Source.left c.next_request.new.source) c.next_request.new.text.items c.in_default.not-End
     c.in-Ok.ensures.takes in

@@ -2,7 +2,7 @@ use Rattle.std.proofs.Common.{[], ◌∷◌, refl, rules, subst, sym, ℕ}
 use Rattle.shell_lang.specs.Reply.{reply_of}
 use Rattle.store_machine.specs.declared.machine.Event.TheVariants as events
 use Rattle.store_machine.specs.declared.machine.Reply.TheVariants as replies
-use Rattle.session_run.specs.Made.{Makes}
+use Rattle.session_run.specs.Cursors.{Makes}
 use Rattle.session_run.proofs.Ending.{close_worn, end_on, ended_all, ended_worn, given_back, pin_kept}
 use Rattle.session_run.proofs.Held.{not_raised-more}
 use Rattle.session_run.proofs.Joined.{makes_more}

@@ -9,7 +9,7 @@ use Rattle.store_machine.specs.Structures.{IsNeedOf}
 use Rattle.store_machine.specs.declared.machine.Event.TheVariants as events
 use Rattle.store_machine.specs.declared.machine.Reply.TheVariants as replies
 use Rattle.session_run.specs.Answer.{SearchAnswer}
-use Rattle.session_run.specs.Made.{Makes}
+use Rattle.session_run.specs.Cursors.{Makes}
 use Rattle.session_run.specs.Searched.{alone}
 use Rattle.session_run.specs.Texts.{IsPatternOf}
 use Rattle.session_run.proofs.Ending.{tells_on}

@@ -1,17 +1,18 @@
 use Rattle.std.proofs.Common.{sym}
+use Rattle.journal_core.specs.Records.{header}
 use Rattle.store_disk.proofs.Puts.{on-fault, settle-shows, unsettled}
 use Rattle.store_disk.proofs.put.settle.Goals as goal
 
 pub returns-then-doubt-clause-err : goal.returns-then-doubt-clause-err
 returns-then-doubt-clause-err g c =
-    let d = g.D.Disk in
+    let d = g.D.Disk.model in
     on-fault c.settle.result
-    (λ stays flag. unsettled d.content d.images c.args.journal.now c.settle.new.self c.settle.ensures.untold
-    (sym c.if-doubt.ensures) flag stays)
+    (λ stays flag. unsettled d c.args.journal.now c.settle.new.self c.settle.ensures.untold
+    (sym c.if-doubt.ensures) flag (stays header))
     c.settle.ensures.failed c.settle.ensures.no_memory c.settle.ensures.in_doubt
 
 pub returns-then-doubt-clause-moments : goal.returns-then-doubt-clause-moments
 returns-then-doubt-clause-moments g c =
-    let d = g.D.Disk in
-    settle-shows d.content d.images d.clock d.images_between c.args.journal.now c.settle.new.self
-    c.settle.ensures.untold (sym c.if-doubt.ensures) c.settle.ensures.moments
+    let d = g.D.Disk.model in
+    settle-shows d c.args.journal.now c.settle.new.self
+    c.settle.ensures.untold (sym c.if-doubt.ensures) (c.settle.ensures.moments header)

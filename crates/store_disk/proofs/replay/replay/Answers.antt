@@ -1,3 +1,4 @@
+use Rattle.store_core.specs.Stored.{alone}
 use Rattle.store_disk.proofs.Replayed.{at-add, logged-at, made-next}
 use Rattle.store_disk.proofs.replay.replay.Goals as goal
 
@@ -15,4 +16,4 @@ pub loop-commit-preserved : goal.loop-commit-preserved
 loop-commit-preserved c =
     made-next c.args.log.now c.loop-commit.commit-index c.commit-item.result c.loop-commit-test.true c.commit-item.is
     c.loop-commit.memory c.add.new.memory c.loop-commit.invariant
-    (c.in_ok-add.ensures.ok c.loop-commit.invariant.state c.loop-commit.invariant.stands)
+    (c.in_ok-add.ensures.ok (alone c.loop-commit.invariant.part) c.loop-commit.invariant.stands)

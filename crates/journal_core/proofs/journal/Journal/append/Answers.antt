@@ -13,10 +13,9 @@ use Rattle.journal_core.proofs.journal.Journal.append.Goals as goal
 
 -- the record was not written, or not synced
 pub returns-in-Err-Failed-clause-sure : goal.returns-in-Err-Failed-clause-sure
-returns-in-Err-Failed-clause-sure g c ps q =
-    let r = subst (λ (j : Standing g.row.D.Denot). Rests g.D.Disk.content g.D.Disk.images j ps) (sym c.self.view_is)
-    q in
-    let d = g.D.Disk in
+returns-in-Err-Failed-clause-sure g c front ps q =
+    let r = subst (λ (j : Standing g.row.D.Denot). Rests g.D.Disk.model j front ps) (sym c.self.view_is) q in
+    let d = g.D.Disk.model in
     let old = c.self.inside.disk in
     let mid = c.put.new.disk in
     let place = c.self.inside.place in
@@ -31,53 +30,50 @@ returns-in-Err-Failed-clause-sure g c ps q =
       told = told.0;
       is_told = told.1;
       place = r.place;
-      each = λ image i. let t = tears.from image i in behind ps payload place r.place (length c.deref.result.now) t.0
-          image (r.each t.0 t.1) t.2;
+      each = λ image i. let t = tears.from image i in
+          behind front ps payload place r.place (length c.deref.result.now) t.0 image (r.each t.0 t.1) t.2;
     }
 
 pub returns-in-Err-Failed-clause-no_image : goal.returns-in-Err-Failed-clause-no_image
-returns-in-Err-Failed-clause-no_image g c ps q image i o =
-    never_both ps c.args.payload.now image ((returns-in-Err-Failed-clause-sure g c ps q).each image i) o
+returns-in-Err-Failed-clause-no_image g c front ps q image i o =
+    never_both front ps c.args.payload.now image ((returns-in-Err-Failed-clause-sure g c front ps q).each image i) o
 
 pub returns-in-Err-Failed-clause-moments : goal.returns-in-Err-Failed-clause-moments
-returns-in-Err-Failed-clause-moments g c ps q =
-    let r = subst (λ (j : Standing g.row.D.Denot). Rests g.D.Disk.content g.D.Disk.images j ps) (sym c.self.view_is)
-    q in
-    let d = g.D.Disk in
+returns-in-Err-Failed-clause-moments g c front ps q =
+    let r = subst (λ (j : Standing g.row.D.Denot). Rests g.D.Disk.model j front ps) (sym c.self.view_is) q in
+    let d = g.D.Disk.model in
     let old = c.self.inside.disk in
     let mid = c.put.new.disk in
     let place = c.self.inside.place in
     let payload = c.args.payload.now in
-    at_view d.clock d.images_between (BeforeOrAfter ps payload) _ _ mid c.self.view_is (λ image m. let t =
+    at_view d (BeforeOrAfter front ps payload) _ _ mid c.self.view_is (λ image m. let t =
     c.put.ensures.moments image m in
-    inl ((behind ps payload place r.place (length c.deref.result.now) t.0 image (r.each t.0 t.1) t.2)))
+    inl ((behind front ps payload place r.place (length c.deref.result.now) t.0 image (r.each t.0 t.1) t.2)))
 
 pub returns-in-Err-NoMemory-clause-moments : goal.returns-in-Err-NoMemory-clause-moments
-returns-in-Err-NoMemory-clause-moments g c ps q =
-    let r = subst (λ (j : Standing g.row.D.Denot). Rests g.D.Disk.content g.D.Disk.images j ps) (sym c.self.view_is)
-    q in
-    let d = g.D.Disk in
+returns-in-Err-NoMemory-clause-moments g c front ps q =
+    let r = subst (λ (j : Standing g.row.D.Denot). Rests g.D.Disk.model j front ps) (sym c.self.view_is) q in
+    let d = g.D.Disk.model in
     let old = c.self.inside.disk in
     let mid = c.put.new.disk in
     let place = c.self.inside.place in
     let payload = c.args.payload.now in
-    at_view d.clock d.images_between (BeforeOrAfter ps payload) _ _ mid c.self.view_is (λ image m. let t =
+    at_view d (BeforeOrAfter front ps payload) _ _ mid c.self.view_is (λ image m. let t =
     c.put.ensures.moments image m in
-    inl ((behind ps payload place r.place (length c.deref.result.now) t.0 image (r.each t.0 t.1) t.2)))
+    inl ((behind front ps payload place r.place (length c.deref.result.now) t.0 image (r.each t.0 t.1) t.2)))
 
 -- the gate was not written, or not synced
 pub returns-in-Err-Failed-put-clause-doubt : goal.returns-in-Err-Failed-put-clause-doubt
-returns-in-Err-Failed-put-clause-doubt g c ps q =
-    let r = subst (λ (j : Standing g.row.D.Denot). Rests g.D.Disk.content g.D.Disk.images j ps) (sym c.self.view_is)
-    q in
-    let d = g.D.Disk in
+returns-in-Err-Failed-put-clause-doubt g c front ps q =
+    let r = subst (λ (j : Standing g.row.D.Denot). Rests g.D.Disk.model j front ps) (sym c.self.view_is) q in
+    let d = g.D.Disk.model in
     let old = c.self.inside.disk in
     let mid = c.put.new.disk in
     let place = c.self.inside.place in
     let payload = c.args.payload.now in
     let new = c.put-2.new.disk in
-    let stage = stage_done ps payload place r.place c.requires.few c.deref.result.now (d.content old) (d.content mid)
-    (d.images old) (d.images mid) r.told
+    let stage = stage_done front ps payload place r.place c.requires.few c.deref.result.now (d.content old)
+    (d.content mid) (d.images old) (d.images mid) r.told
     (c.deref.ensures.value ∙ c.in-Ok.ensures) r.is_told (g.met.D.Disk.content_is_image old r.told r.is_told) r.each
     c.in-Ok-put.ensures.content c.in-Ok-put.ensures.synced in
     let tears = at_failed c.in-Err-Failed-put.field-0 (Tears place 1 (d.images mid) (d.images new))
@@ -90,16 +86,16 @@ returns-in-Err-Failed-put-clause-doubt g c ps q =
       is_told = told.1;
       place = r.place;
       each = λ image i. let t = tears.from image i in
-          before_or_after ps payload image (stage_torn ps payload place r.place (d.content mid) (d.images mid) stage t.0
-          image t.1 t.2);
-      staged = λ image i. let t = tears.from image i in stage_torn ps payload place r.place (d.content mid)
+          before_or_after front ps payload image
+          (stage_torn front ps payload place r.place (d.content mid) (d.images mid) stage t.0 image t.1 t.2);
+      staged = λ image i. let t = tears.from image i in stage_torn front ps payload place r.place (d.content mid)
           (d.images mid) stage t.0 image t.1 t.2;
-      some = stage_open ps payload place r.place (d.content mid) (d.images mid) (d.images new) stage tears;
+      some = stage_open front ps payload place r.place (d.content mid) (d.images mid) (d.images new) stage tears;
     }
 
 pub invariant_of-self-in-Err-Failed-put : goal.invariant_of-self-in-Err-Failed-put
 invariant_of-self-in-Err-Failed-put g c =
-    let d = g.D.Disk in
+    let d = g.D.Disk.model in
     let old = c.self.inside.disk in
     let mid = c.put.new.disk in
     let new = c.put-2.new.disk in
@@ -118,41 +114,39 @@ invariant_of-self-in-Err-Failed-put g c =
     }
 
 pub returns-in-Err-Failed-put-clause-moments : goal.returns-in-Err-Failed-put-clause-moments
-returns-in-Err-Failed-put-clause-moments g c ps q =
-    let r = subst (λ (j : Standing g.row.D.Denot). Rests g.D.Disk.content g.D.Disk.images j ps) (sym c.self.view_is)
-    q in
-    let d = g.D.Disk in
+returns-in-Err-Failed-put-clause-moments g c front ps q =
+    let r = subst (λ (j : Standing g.row.D.Denot). Rests g.D.Disk.model j front ps) (sym c.self.view_is) q in
+    let d = g.D.Disk.model in
     let old = c.self.inside.disk in
     let mid = c.put.new.disk in
     let place = c.self.inside.place in
     let payload = c.args.payload.now in
     let new = c.put-2.new.disk in
-    let stage = stage_done ps payload place r.place c.requires.few c.deref.result.now (d.content old) (d.content mid)
-    (d.images old) (d.images mid) r.told
+    let stage = stage_done front ps payload place r.place c.requires.few c.deref.result.now (d.content old)
+    (d.content mid) (d.images old) (d.images mid) r.told
     (c.deref.ensures.value ∙ c.in-Ok.ensures) r.is_told (g.met.D.Disk.content_is_image old r.told r.is_told) r.each
     c.in-Ok-put.ensures.content c.in-Ok-put.ensures.synced in
-    at_view d.clock d.images_between (BeforeOrAfter ps payload) _ _ new c.self.view_is (
-    two_calls d.clock d.images_between old mid new (BeforeOrAfter ps payload) (g.met.D.Disk.parts new)
+    at_view d (BeforeOrAfter front ps payload) _ _ new c.self.view_is (
+    two_calls d old mid new (BeforeOrAfter front ps payload) (g.met.D.Disk.parts new)
     c.put.ensures.past.later c.put-2.ensures.past
     (λ image m. let t = c.put.ensures.moments image m in
-    inl ((behind ps payload place r.place (length c.deref.result.now) t.0 image (r.each t.0 t.1) t.2)))
+    inl ((behind front ps payload place r.place (length c.deref.result.now) t.0 image (r.each t.0 t.1) t.2)))
     (λ image m. let t = c.put-2.ensures.moments image m in
-    before_or_after ps payload image (stage_torn ps payload place r.place (d.content mid) (d.images mid) stage t.0
-    image t.1 t.2)))
+    before_or_after front ps payload image
+    (stage_torn front ps payload place r.place (d.content mid) (d.images mid) stage t.0 image t.1 t.2)))
 
 -- no memory for the write of the gate
 pub returns-in-Err-NoMemory-put-clause-no_memory : goal.returns-in-Err-NoMemory-put-clause-no_memory
-returns-in-Err-NoMemory-put-clause-no_memory g c ps q =
-    let r = subst (λ (j : Standing g.row.D.Denot). Rests g.D.Disk.content g.D.Disk.images j ps) (sym c.self.view_is)
-    q in
-    let d = g.D.Disk in
+returns-in-Err-NoMemory-put-clause-no_memory g c front ps q =
+    let r = subst (λ (j : Standing g.row.D.Denot). Rests g.D.Disk.model j front ps) (sym c.self.view_is) q in
+    let d = g.D.Disk.model in
     let old = c.self.inside.disk in
     let mid = c.put.new.disk in
     let place = c.self.inside.place in
     let payload = c.args.payload.now in
     let new = c.put-2.new.disk in
-    let stage = stage_done ps payload place r.place c.requires.few c.deref.result.now (d.content old) (d.content mid)
-    (d.images old) (d.images mid) r.told
+    let stage = stage_done front ps payload place r.place c.requires.few c.deref.result.now (d.content old)
+    (d.content mid) (d.images old) (d.images mid) r.told
     (c.deref.ensures.value ∙ c.in-Ok.ensures) r.is_told (g.met.D.Disk.content_is_image old r.told r.is_told) r.each
     c.in-Ok-put.ensures.content c.in-Ok-put.ensures.synced in
     let same = at_no_memory c.in-Err-NoMemory-put.field-0 (Same (d.images mid) (d.images new))
@@ -163,45 +157,43 @@ returns-in-Err-NoMemory-put-clause-no_memory g c ps q =
       told = stage.bytes;
       is_told = content ∙ stage.told;
       place = r.place;
-      each = λ image i. subst (Opens ps) (sym (stage.exactly.only image (same.no_more image i))) stage.opens;
+      each = λ image i. subst (Opens front ps) (sym (stage.exactly.only image (same.no_more image i))) stage.opens;
     }
 
 pub returns-in-Err-NoMemory-put-clause-moments : goal.returns-in-Err-NoMemory-put-clause-moments
-returns-in-Err-NoMemory-put-clause-moments g c ps q =
-    let r = subst (λ (j : Standing g.row.D.Denot). Rests g.D.Disk.content g.D.Disk.images j ps) (sym c.self.view_is)
-    q in
-    let d = g.D.Disk in
+returns-in-Err-NoMemory-put-clause-moments g c front ps q =
+    let r = subst (λ (j : Standing g.row.D.Denot). Rests g.D.Disk.model j front ps) (sym c.self.view_is) q in
+    let d = g.D.Disk.model in
     let old = c.self.inside.disk in
     let mid = c.put.new.disk in
     let place = c.self.inside.place in
     let payload = c.args.payload.now in
     let new = c.put-2.new.disk in
-    let stage = stage_done ps payload place r.place c.requires.few c.deref.result.now (d.content old) (d.content mid)
-    (d.images old) (d.images mid) r.told
+    let stage = stage_done front ps payload place r.place c.requires.few c.deref.result.now (d.content old)
+    (d.content mid) (d.images old) (d.images mid) r.told
     (c.deref.ensures.value ∙ c.in-Ok.ensures) r.is_told (g.met.D.Disk.content_is_image old r.told r.is_told) r.each
     c.in-Ok-put.ensures.content c.in-Ok-put.ensures.synced in
-    at_view d.clock d.images_between (BeforeOrAfter ps payload) _ _ new c.self.view_is (
-    two_calls d.clock d.images_between old mid new (BeforeOrAfter ps payload) (g.met.D.Disk.parts new)
+    at_view d (BeforeOrAfter front ps payload) _ _ new c.self.view_is (
+    two_calls d old mid new (BeforeOrAfter front ps payload) (g.met.D.Disk.parts new)
     c.put.ensures.past.later c.put-2.ensures.past
     (λ image m. let t = c.put.ensures.moments image m in
-    inl ((behind ps payload place r.place (length c.deref.result.now) t.0 image (r.each t.0 t.1) t.2)))
+    inl ((behind front ps payload place r.place (length c.deref.result.now) t.0 image (r.each t.0 t.1) t.2)))
     (λ image m. let t = c.put-2.ensures.moments image m in
-    before_or_after ps payload image (stage_torn ps payload place r.place (d.content mid) (d.images mid) stage t.0
-    image t.1 t.2)))
+    before_or_after front ps payload image
+    (stage_torn front ps payload place r.place (d.content mid) (d.images mid) stage t.0 image t.1 t.2)))
 
 -- all is on the disk
 pub returns-clause-ok : goal.returns-clause-ok
-returns-clause-ok g c ps q =
-    let r = subst (λ (j : Standing g.row.D.Denot). Rests g.D.Disk.content g.D.Disk.images j ps) (sym c.self.view_is)
-    q in
-    let d = g.D.Disk in
+returns-clause-ok g c front ps q =
+    let r = subst (λ (j : Standing g.row.D.Denot). Rests g.D.Disk.model j front ps) (sym c.self.view_is) q in
+    let d = g.D.Disk.model in
     let old = c.self.inside.disk in
     let mid = c.put.new.disk in
     let place = c.self.inside.place in
     let payload = c.args.payload.now in
     let new = c.put-2.new.disk in
-    let stage = stage_done ps payload place r.place c.requires.few c.deref.result.now (d.content old) (d.content mid)
-    (d.images old) (d.images mid) r.told
+    let stage = stage_done front ps payload place r.place c.requires.few c.deref.result.now (d.content old)
+    (d.content mid) (d.images old) (d.images mid) r.told
     (c.deref.ensures.value ∙ c.in-Ok.ensures) r.is_told (g.met.D.Disk.content_is_image old r.told r.is_told) r.each
     c.in-Ok-put.ensures.content c.in-Ok-put.ensures.synced in
     let told = becomes_told (d.content mid) (d.content new) _ stage.bytes stage.told c.in-Ok-put-2.ensures.content in
@@ -209,38 +201,37 @@ returns-clause-ok g c ps q =
     record {
       told = _;
       is_told = told;
-      place = omega (arith, r.place, length-prefix_push ps payload);
-      each = λ image i. subst (Opens (ps ++ payload ∷ [])) (sym (only.only image i))
-          (written_open ps payload place r.place stage.bytes stage.staged);
+      place = omega (arith, r.place, length-prefix_push front ps payload);
+      each = λ image i. subst (Opens front (ps ++ payload ∷ [])) (sym (only.only image i))
+          (written_open front ps payload place r.place stage.bytes stage.staged);
     }
 
 pub returns-clause-moments : goal.returns-clause-moments
-returns-clause-moments g c ps q =
-    let r = subst (λ (j : Standing g.row.D.Denot). Rests g.D.Disk.content g.D.Disk.images j ps) (sym c.self.view_is)
-    q in
-    let d = g.D.Disk in
+returns-clause-moments g c front ps q =
+    let r = subst (λ (j : Standing g.row.D.Denot). Rests g.D.Disk.model j front ps) (sym c.self.view_is) q in
+    let d = g.D.Disk.model in
     let old = c.self.inside.disk in
     let mid = c.put.new.disk in
     let place = c.self.inside.place in
     let payload = c.args.payload.now in
     let new = c.put-2.new.disk in
-    let stage = stage_done ps payload place r.place c.requires.few c.deref.result.now (d.content old) (d.content mid)
-    (d.images old) (d.images mid) r.told
+    let stage = stage_done front ps payload place r.place c.requires.few c.deref.result.now (d.content old)
+    (d.content mid) (d.images old) (d.images mid) r.told
     (c.deref.ensures.value ∙ c.in-Ok.ensures) r.is_told (g.met.D.Disk.content_is_image old r.told r.is_told) r.each
     c.in-Ok-put.ensures.content c.in-Ok-put.ensures.synced in
-    at_view d.clock d.images_between (BeforeOrAfter ps payload) _ _ new c.self.view_is (
-    two_calls d.clock d.images_between old mid new (BeforeOrAfter ps payload) (g.met.D.Disk.parts new)
+    at_view d (BeforeOrAfter front ps payload) _ _ new c.self.view_is (
+    two_calls d old mid new (BeforeOrAfter front ps payload) (g.met.D.Disk.parts new)
     c.put.ensures.past.later c.put-2.ensures.past
     (λ image m. let t = c.put.ensures.moments image m in
-    inl ((behind ps payload place r.place (length c.deref.result.now) t.0 image (r.each t.0 t.1) t.2)))
+    inl ((behind front ps payload place r.place (length c.deref.result.now) t.0 image (r.each t.0 t.1) t.2)))
     (λ image m. let t = c.put-2.ensures.moments image m in
-    before_or_after ps payload image (stage_torn ps payload place r.place (d.content mid) (d.images mid) stage t.0
-    image t.1 t.2)))
+    before_or_after front ps payload image
+    (stage_torn front ps payload place r.place (d.content mid) (d.images mid) stage t.0 image t.1 t.2)))
 
 -- a disk that tells nothing goes on so
 pub returns-in-Err-Failed-clause-untold : goal.returns-in-Err-Failed-clause-untold
 returns-in-Err-Failed-clause-untold g c is =
-    let d = g.D.Disk in
+    let d = g.D.Disk.model in
     let content = at_failed c.in-Err-Failed.field-0 (TearsContent (c.self.inside.place + 1) (length c.deref.result.now)
     (d.content c.self.inside.disk) (d.content c.put.new.disk)) c.in-Err-Failed.field-0-is
     c.in-Err-Failed.ensures.failed_content in
@@ -250,14 +241,14 @@ returns-in-Err-Failed-clause-untold g c is =
 
 pub returns-in-Err-NoMemory-clause-untold : goal.returns-in-Err-NoMemory-clause-untold
 returns-in-Err-NoMemory-clause-untold g c is =
-    let d = g.D.Disk in
+    let d = g.D.Disk.model in
     at_no_memory c.in-Err-NoMemory.field-0 (d.content c.put.new.disk ≡ d.content c.self.inside.disk)
     c.in-Err-NoMemory.field-0-is c.in-Err-NoMemory.ensures.no_memory_content
     ∙ (ap (λ (j : Standing g.row.D.Denot). d.content j.disk) c.self.view_is ∙ is)
 
 pub returns-in-Err-Failed-put-clause-untold : goal.returns-in-Err-Failed-put-clause-untold
 returns-in-Err-Failed-put-clause-untold g c is =
-    let d = g.D.Disk in
+    let d = g.D.Disk.model in
     let content = at_failed c.in-Err-Failed-put.field-0 (TearsContent c.self.inside.place 1 (d.content c.put.new.disk)
     (d.content c.put-2.new.disk)) c.in-Err-Failed-put.field-0-is c.in-Err-Failed-put.ensures.failed_content in
     tears_untold c.self.inside.place 1 (d.content c.put.new.disk) (d.content c.put-2.new.disk) content
@@ -266,7 +257,7 @@ returns-in-Err-Failed-put-clause-untold g c is =
 
 pub returns-in-Err-NoMemory-put-clause-untold : goal.returns-in-Err-NoMemory-put-clause-untold
 returns-in-Err-NoMemory-put-clause-untold g c is =
-    let d = g.D.Disk in
+    let d = g.D.Disk.model in
     at_no_memory c.in-Err-NoMemory-put.field-0 (d.content c.put-2.new.disk ≡ d.content c.put.new.disk)
     c.in-Err-NoMemory-put.field-0-is c.in-Err-NoMemory-put.ensures.no_memory_content
     ∙ becomes_untold (d.content c.self.inside.disk) (d.content c.put.new.disk) _ c.in-Ok-put.ensures.content
@@ -274,7 +265,7 @@ returns-in-Err-NoMemory-put-clause-untold g c is =
 
 pub returns-clause-untold : goal.returns-clause-untold
 returns-clause-untold g c is =
-    let d = g.D.Disk in
+    let d = g.D.Disk.model in
     becomes_untold (d.content c.put.new.disk) (d.content c.put-2.new.disk) _ c.in-Ok-put-2.ensures.content
     (becomes_untold (d.content c.self.inside.disk) (d.content c.put.new.disk) _ c.in-Ok-put.ensures.content
     (ap (λ (j : Standing g.row.D.Denot). d.content j.disk) c.self.view_is ∙ is))

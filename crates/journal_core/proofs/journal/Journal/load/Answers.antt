@@ -1,5 +1,6 @@
 use Rattle.std.proofs.Common.{◌≡◌, ℕ, List, ◌++◌, length, take, drop, Option, Some, sym, ◌∙◌, ap, subst}
 use Rattle.journal_core.specs.Found.{IsMeasured}
+use Rattle.journal_core.specs.Records.{header}
 use Rattle.journal_core.specs.RecordLaws.{prefix_nil}
 use Rattle.journal_core.proofs.journal.Journal.load.Goals as goal
 
@@ -32,8 +33,8 @@ returns-in-Ok-Some-clause-ok g c l told =
       tail = measured.1.0;
       is_told = is_told;
       exactly = c.in-Ok-Some.ensures.synced l is_told;
-      is = measured.1.1 ∙ ap (λ (t : List ℕ). t ++ measured.1.0) (sym prefix_nil);
-      place = sym (ap length prefix_nil);
+      is = measured.1.1 ∙ ap (λ (t : List ℕ). t ++ measured.1.0) (sym (prefix_nil header));
+      place = sym (ap length (prefix_nil header));
       fit = tt;
     }
 

@@ -12,9 +12,9 @@ use Rattle.journal_core.proofs.Viewed.{at_view}
 use Rattle.journal_core.proofs.journal.Journal.settle.Goals as goal
 
 pub returns-in-Ok-clause-ok : goal.returns-in-Ok-clause-ok
-returns-in-Ok-clause-ok g c ps p q =
-    let d = g.D.Disk in
-    let r = subst (λ (j : Standing g.row.D.Denot). Doubts d.content d.images j ps p) (sym c.self.view_is) q in
+returns-in-Ok-clause-ok g c front ps p q =
+    let d = g.D.Disk.model in
+    let r = subst (λ (j : Standing g.row.D.Denot). Doubts d j front ps p) (sym c.self.view_is) q in
     let old = c.self.inside.disk in
     let new = c.put.new.disk in
     let place = c.self.inside.place in
@@ -25,26 +25,27 @@ returns-in-Ok-clause-ok g c ps p q =
       told = _;
       is_told = told;
       place = r.place;
-      each = λ image i. subst (Opens ps) (sym (only.only image i)) (written_closed ps p place r.place r.told staged);
+      each = λ image i. subst (Opens front ps) (sym (only.only image i))
+          (written_closed front ps p place r.place r.told staged);
     }
 
 pub returns-in-Ok-clause-gone : goal.returns-in-Ok-clause-gone
-returns-in-Ok-clause-gone g c ps p q image i o =
-    never_both ps p image ((returns-in-Ok-clause-ok g c ps p q).each image i) o
+returns-in-Ok-clause-gone g c front ps p q image i o =
+    never_both front ps p image ((returns-in-Ok-clause-ok g c front ps p q).each image i) o
 
 pub returns-in-Ok-clause-moments : goal.returns-in-Ok-clause-moments
-returns-in-Ok-clause-moments g c ps p q =
-    let d = g.D.Disk in
-    let r = subst (λ (j : Standing g.row.D.Denot). Doubts d.content d.images j ps p) (sym c.self.view_is) q in
-    at_view d.clock d.images_between (BeforeOrAfter ps p) _ _ c.put.new.disk c.self.view_is (λ image m. let t =
+returns-in-Ok-clause-moments g c front ps p q =
+    let d = g.D.Disk.model in
+    let r = subst (λ (j : Standing g.row.D.Denot). Doubts d j front ps p) (sym c.self.view_is) q in
+    at_view d (BeforeOrAfter front ps p) _ _ c.put.new.disk c.self.view_is (λ image m. let t =
     c.put.ensures.moments image m in
-    before_or_after ps p image (gate ps p c.self.inside.place r.place t.0 image (r.staged t.0 t.1) t.2))
+    before_or_after front ps p image (gate front ps p c.self.inside.place r.place t.0 image (r.staged t.0 t.1) t.2))
 
 -- the doubt stays, and so does an image that has the payload
 pub returns-in-Err-Failed-clause-failed : goal.returns-in-Err-Failed-clause-failed
-returns-in-Err-Failed-clause-failed g c ps p q =
-    let d = g.D.Disk in
-    let r = subst (λ (j : Standing g.row.D.Denot). Doubts d.content d.images j ps p) (sym c.self.view_is) q in
+returns-in-Err-Failed-clause-failed g c front ps p q =
+    let d = g.D.Disk.model in
+    let r = subst (λ (j : Standing g.row.D.Denot). Doubts d j front ps p) (sym c.self.view_is) q in
     let old = c.self.inside.disk in
     let new = c.put.new.disk in
     let place = c.self.inside.place in
@@ -58,37 +59,37 @@ returns-in-Err-Failed-clause-failed g c ps p q =
       is_told = told.1;
       place = r.place;
       each = λ image i. let t = tears.from image i in
-          before_or_after ps p image (gate ps p place r.place t.0 image (r.staged t.0 t.1) t.2);
+          before_or_after front ps p image (gate front ps p place r.place t.0 image (r.staged t.0 t.1) t.2);
       some = (r.some.0, tears.all r.some.0 r.some.0 r.some.1 (torn_same place 1 r.some.0), r.some.2);
-      staged = λ image i. let t = tears.from image i in gate ps p place r.place t.0 image (r.staged t.0 t.1) t.2;
+      staged = λ image i. let t = tears.from image i in gate front ps p place r.place t.0 image (r.staged t.0 t.1) t.2;
     }
 
 pub returns-in-Err-Failed-clause-moments : goal.returns-in-Err-Failed-clause-moments
-returns-in-Err-Failed-clause-moments g c ps p q =
-    let d = g.D.Disk in
-    let r = subst (λ (j : Standing g.row.D.Denot). Doubts d.content d.images j ps p) (sym c.self.view_is) q in
-    at_view d.clock d.images_between (BeforeOrAfter ps p) _ _ c.put.new.disk c.self.view_is (λ image m. let t =
+returns-in-Err-Failed-clause-moments g c front ps p q =
+    let d = g.D.Disk.model in
+    let r = subst (λ (j : Standing g.row.D.Denot). Doubts d j front ps p) (sym c.self.view_is) q in
+    at_view d (BeforeOrAfter front ps p) _ _ c.put.new.disk c.self.view_is (λ image m. let t =
     c.put.ensures.moments image m in
-    before_or_after ps p image (gate ps p c.self.inside.place r.place t.0 image (r.staged t.0 t.1) t.2))
+    before_or_after front ps p image (gate front ps p c.self.inside.place r.place t.0 image (r.staged t.0 t.1) t.2))
 
 pub returns-in-Err-NoMemory-clause-moments : goal.returns-in-Err-NoMemory-clause-moments
-returns-in-Err-NoMemory-clause-moments g c ps p q =
-    let d = g.D.Disk in
-    let r = subst (λ (j : Standing g.row.D.Denot). Doubts d.content d.images j ps p) (sym c.self.view_is) q in
-    at_view d.clock d.images_between (BeforeOrAfter ps p) _ _ c.put.new.disk c.self.view_is (λ image m. let t =
+returns-in-Err-NoMemory-clause-moments g c front ps p q =
+    let d = g.D.Disk.model in
+    let r = subst (λ (j : Standing g.row.D.Denot). Doubts d j front ps p) (sym c.self.view_is) q in
+    at_view d (BeforeOrAfter front ps p) _ _ c.put.new.disk c.self.view_is (λ image m. let t =
     c.put.ensures.moments image m in
-    before_or_after ps p image (gate ps p c.self.inside.place r.place t.0 image (r.staged t.0 t.1) t.2))
+    before_or_after front ps p image (gate front ps p c.self.inside.place r.place t.0 image (r.staged t.0 t.1) t.2))
 
 -- a disk that tells nothing goes on so
 pub returns-in-Ok-clause-untold : goal.returns-in-Ok-clause-untold
 returns-in-Ok-clause-untold g c is =
-    let d = g.D.Disk in
+    let d = g.D.Disk.model in
     becomes_untold (d.content c.self.inside.disk) (d.content c.put.new.disk) _ c.in-Ok.ensures.content
     (ap (λ (j : Standing g.row.D.Denot). d.content j.disk) c.self.view_is ∙ is)
 
 pub returns-in-Err-Failed-clause-untold : goal.returns-in-Err-Failed-clause-untold
 returns-in-Err-Failed-clause-untold g c is =
-    let d = g.D.Disk in
+    let d = g.D.Disk.model in
     let content = at_failed c.in-Err-Failed.field-0 (TearsContent c.self.inside.place 1 (d.content c.self.inside.disk)
     (d.content c.put.new.disk)) c.in-Err-Failed.field-0-is c.in-Err-Failed.ensures.failed_content in
     tears_untold c.self.inside.place 1 (d.content c.self.inside.disk) (d.content c.put.new.disk) content
@@ -96,7 +97,7 @@ returns-in-Err-Failed-clause-untold g c is =
 
 pub returns-in-Err-NoMemory-clause-untold : goal.returns-in-Err-NoMemory-clause-untold
 returns-in-Err-NoMemory-clause-untold g c is =
-    let d = g.D.Disk in
+    let d = g.D.Disk.model in
     at_no_memory c.in-Err-NoMemory.field-0 (d.content c.put.new.disk ≡ d.content c.self.inside.disk)
     c.in-Err-NoMemory.field-0-is c.in-Err-NoMemory.ensures.no_memory_content
     ∙ (ap (λ (j : Standing g.row.D.Denot). d.content j.disk) c.self.view_is ∙ is)

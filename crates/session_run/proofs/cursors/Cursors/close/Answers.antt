@@ -1,5 +1,6 @@
 use Rattle.std.proofs.Common.{[], ap, inl, List, refl, subst, sym, ℕ}
-use Rattle.session_run.specs.Made.{AreHeld, Makes, SameOthers}
+use Rattle.session_run.specs.Cursors.{Makes}
+use Rattle.session_run.specs.Made.{AreHeld, SameOthers}
 use Rattle.session_run.specs.Opened.{opened}
 use Rattle.session_run.specs.Walks.{AreSized, cursors_of}
 use Rattle.session_run.specs.declared.cursors.Cursor as rust

@@ -1,6 +1,5 @@
 use Rattle.std.proofs.Common.{[], ◌++◌, ap, arith, length, List, refl}
-use Rattle.session_run.specs.Cursors.{unpins}
-use Rattle.session_run.specs.Made.{Makes}
+use Rattle.session_run.specs.Cursors.{Makes, unpins}
 use Rattle.session_run.specs.Opened.{opened}
 use Rattle.session_run.specs.Walks.{cursors_of}
 use Rattle.session_run.specs.declared.cursors.Cursor as rust

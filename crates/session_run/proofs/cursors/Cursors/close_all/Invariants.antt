@@ -1,7 +1,7 @@
 use Rattle.std.proofs.Common.{◌≡◌, ◌++◌, length}
 use Rattle.store_core.specs.Calls.{NotRaised}
-use Rattle.session_run.specs.Cursors.{Calls, unpins}
-use Rattle.session_run.specs.Made.{AreHeld, Makes, SameOthers}
+use Rattle.session_run.specs.Cursors.{Calls, Makes, unpins}
+use Rattle.session_run.specs.Made.{AreHeld, SameOthers}
 use Rattle.session_run.specs.Opened.{opened}
 use Rattle.session_run.specs.Walks.{cursors_of}
 use Rattle.session_run.proofs.cursors.Cursors.close_all.Given as goal

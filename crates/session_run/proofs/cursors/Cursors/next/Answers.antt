@@ -2,8 +2,8 @@ use Rattle.std.proofs.Common.{◌≡◌, ◌∙◌, ap, List, map, subst, sym}
 use Rattle.shell_lang.specs.Reply as line
 use Rattle.shell_lang.specs.declared.reply.Refusal.TheVariants as refusals
 use Rattle.session_run.specs.Answer.{NextAnswer}
-use Rattle.session_run.specs.Cursors.{Cursor}
-use Rattle.session_run.specs.Made.{AreHeld, Answered, Makes, SameOthers}
+use Rattle.session_run.specs.Cursors.{Cursor, Makes}
+use Rattle.session_run.specs.Made.{AreHeld, Answered, SameOthers}
 use Rattle.session_run.specs.Opened.{named, opened}
 use Rattle.session_run.specs.Walks.{AreSized, cursors_of}
 use Rattle.session_run.specs.declared.cursors.Cursor as rust

@@ -1,8 +1,8 @@
 use Rattle.std.proofs.Common.{[], ap, inl, inr, List, refl, subst, sym, ◌∙◌, ℕ}
 use Rattle.shell_lang.specs.Reply.{reply_of}
 use Rattle.smarts_parse.specs.Pattern.{pattern_of}
-use Rattle.session_run.specs.Cursors.{IsNoName}
-use Rattle.session_run.specs.Made.{AreHeld, Makes, SameOthers}
+use Rattle.session_run.specs.Cursors.{IsNoName, Makes}
+use Rattle.session_run.specs.Made.{AreHeld, SameOthers}
 use Rattle.session_run.specs.Opened.{opened}
 use Rattle.session_run.specs.Walks.{AreSized, cursors_of}
 use Rattle.session_run.specs.declared.cursors.Cursor as rust

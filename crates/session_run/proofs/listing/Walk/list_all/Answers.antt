@@ -1,7 +1,6 @@
 use Rattle.std.proofs.Common.{◌≡◌, ◌+◌, ap, false, List, Ok, refl, rules, subst, sym, true, ℕ}
 use Rattle.par_search.specs.Searches.{SearchTerm}
-use Rattle.session_run.specs.Cursors.{Calls}
-use Rattle.session_run.specs.Made.{Makes}
+use Rattle.session_run.specs.Cursors.{Calls, Makes}
 use Rattle.session_run.specs.Walks.{Listing}
 use Rattle.session_run.proofs.Held.{not_raised-more, not_raised-same, same_held, same_held-more}
 use Rattle.session_run.proofs.Joined.{makes_more, makes_none}

@@ -1,6 +1,6 @@
 use Rattle.std.proofs.Common.{true}
 use Rattle.store_core.specs.Calls.{NotRaised, SameHeld}
-use Rattle.session_run.specs.Made.{Makes}
+use Rattle.session_run.specs.Cursors.{Makes}
 use Rattle.session_run.specs.Walks.{Listing}
 use Rattle.session_run.proofs.listing.Walk.list_all.Given as goal
 

@@ -1,6 +1,6 @@
 use Rattle.std.proofs.Common.{◌≡◌, ◌++◌}
 use Rattle.std.proofs.lemmas.Result.{err_from_is_err_and}
-use Rattle.session_run.specs.Made.{Makes}
+use Rattle.session_run.specs.Cursors.{Makes}
 use Rattle.session_run.proofs.Joined.{makes_none}
 use Rattle.session_run.proofs.Pages.{lost_exit}
 use Rattle.session_run.proofs.listing.Walk.page.Goals as goal

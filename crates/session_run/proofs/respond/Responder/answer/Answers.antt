@@ -2,7 +2,7 @@ use Rattle.std.proofs.Common.{[], inl, refl}
 use Rattle.shell_lang.specs.Reply as line
 use Rattle.shell_lang.specs.declared.reply.Refusal.TheVariants as refusals
 use Rattle.session_run.specs.Answer.{RequestAnswer}
-use Rattle.session_run.specs.Made.{Makes}
+use Rattle.session_run.specs.Cursors.{Makes}
 use Rattle.session_run.specs.Opened.{opened}
 use Rattle.session_run.specs.Responds.{LineIsAnswered, MolfileIsAnswered}
 use Rattle.session_run.specs.Walks.{cursors_of}

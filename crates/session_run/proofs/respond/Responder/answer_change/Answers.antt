@@ -3,7 +3,7 @@ use Rattle.mol_finish.specs.declared.fault.Format.TheVariants.{Smiles}
 use Rattle.shell_lang.specs.Reply as line
 use Rattle.session_run.specs.Answer.{Answers, TextAnswer}
 use Rattle.session_run.specs.Changes.{change_by}
-use Rattle.session_run.specs.Made.{Makes}
+use Rattle.session_run.specs.Cursors.{Makes}
 use Rattle.session_run.specs.Opened.{opened}
 use Rattle.session_run.specs.Responds.{text_command}
 use Rattle.session_run.specs.Walks.{cursors_of}

@@ -3,7 +3,7 @@ use Rattle.shell_lang.specs.CommandView.{reading_of}
 use Rattle.shell_lang.specs.Reply as line
 use Rattle.shell_lang.specs.declared.reply.Refusal.TheVariants as refusals
 use Rattle.session_run.specs.Answer.{Answers}
-use Rattle.session_run.specs.Made.{Makes}
+use Rattle.session_run.specs.Cursors.{Makes}
 use Rattle.session_run.specs.Opened.{opened}
 use Rattle.session_run.specs.Responds.{LineIsAnswered}
 use Rattle.session_run.specs.Walks.{cursors_of}

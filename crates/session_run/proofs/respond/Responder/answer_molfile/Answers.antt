@@ -4,7 +4,7 @@ use Rattle.shell_lang.specs.Reply as line
 use Rattle.shell_lang.specs.Reply.{reply_of}
 use Rattle.shell_lang.specs.declared.reply.Refusal.TheVariants as refusals
 use Rattle.session_run.specs.Answer.{MolfileAnswer}
-use Rattle.session_run.specs.Made.{Makes}
+use Rattle.session_run.specs.Cursors.{Makes}
 use Rattle.session_run.specs.Opened.{opened}
 use Rattle.session_run.specs.Responds.{MolfileIsAnswered}
 use Rattle.session_run.specs.Searched.{alone}

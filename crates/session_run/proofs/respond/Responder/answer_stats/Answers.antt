@@ -3,7 +3,7 @@ use Rattle.shell_lang.specs.Command as asked
 use Rattle.store_machine.specs.declared.machine.Event.TheVariants as events
 use Rattle.shell_lang.specs.Reply as line
 use Rattle.session_run.specs.Answer.{Answers, Asks, FindsNoMemory, IsStatsLine}
-use Rattle.session_run.specs.Made.{Makes}
+use Rattle.session_run.specs.Cursors.{Makes}
 use Rattle.session_run.specs.Opened.{opened}
 use Rattle.session_run.specs.Walks.{cursors_of}
 use Rattle.session_run.proofs.Keeping.{keeps_all, said_worn}

@@ -5,7 +5,7 @@ use Rattle.shell_lang.specs.Reply as line
 use Rattle.shell_lang.specs.declared.reply.Refusal.TheVariants as refusals
 use Rattle.session_run.specs.Answer.{MolfileAnswer, TextAnswer}
 use Rattle.session_run.specs.Changes.{change_by}
-use Rattle.session_run.specs.Made.{Makes}
+use Rattle.session_run.specs.Cursors.{Makes}
 use Rattle.session_run.specs.Searched.{alone}
 use Rattle.session_run.proofs.Joined.{makes_none}
 use Rattle.session_run.proofs.Lines.{line_answered, molfile_answer, said_answered}

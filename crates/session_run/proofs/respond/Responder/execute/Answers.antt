@@ -1,5 +1,5 @@
 use Rattle.std.proofs.Common.{[], append-nil, Ok, refl, sym}
-use Rattle.session_run.specs.Made.{Makes}
+use Rattle.session_run.specs.Cursors.{Makes}
 use Rattle.session_run.specs.Walks.{cursors_of}
 use Rattle.session_run.proofs.Held.{not_raised-same, same_held}
 use Rattle.session_run.proofs.Joined.{makes_none}

@@ -1,7 +1,7 @@
 use Rattle.std.proofs.Common.{◌+◌, ◌≤◌, option_copied, refl, subst, sym}
 use Rattle.store_machine.specs.Machine.{committed}
 use Rattle.store_core.specs.Replies.{change_of}
-use Rattle.store_core.specs.Stored.{StoreTerm}
+use Rattle.store_core.specs.Stored.{StoreTerm, alone, served}
 use Rattle.store_core.proofs.Advances.{adds, not-worn, refused-not-worn, why-full, why-refused, why-result}
 use Rattle.store_core.proofs.Commits.{KeepsOneMore, done-stands, head-at, may-count}
 use Rattle.store_core.proofs.store.Store.advance.Goals as goal
@@ -43,20 +43,20 @@ returns-in_err-keep-clause-why c = why-result c.args.self.now c.args.change.now 
 
 pub counted-live-requires-clause-some : goal.counted-live-requires-clause-some
 counted-live-requires-clause-some c =
-    may-count c.laws.ensures.read c.laws.ensures.states _ c.self.invariant.0 c.args.change.now
+    may-count c.laws.ensures.read c.laws.ensures.states _ (alone c.self.invariant.0) c.args.change.now
     (option_copied c.head.result) c.self.invariant.1
     (head-at c.args.self.now _ _ c.id-id.result (option_copied c.head.result) c.self.view_is c.id-id.ensures.id
     c.head.ensures.latest) c.in_ok-check.ensures
 
 pub invariant_of-self-2 : goal.invariant_of-self-2
 invariant_of-self-2 c = (
-  committed c.self.invariant.0 (change_of c.args.change.now),
+  served (committed (alone c.self.invariant.0) (change_of c.args.change.now)),
   done-stands c.laws.ensures.read (record {
     commits = c.laws.ensures.commits;
     sound = c.laws.ensures.sound;
     snapshots = c.laws.ensures.snapshots;
     states = c.laws.ensures.states;
-  }) _ _ c.self.invariant.0 c.args.change.now
+  }) _ _ (alone c.self.invariant.0) c.args.change.now
       (record { version = c.self.inside.version + 1; entry = c.in_ok-entry.field-0 })
       (option_copied c.head.result) c.self.invariant.1
       (head-at c.args.self.now _ _ c.id-id.result (option_copied c.head.result) c.self.view_is c.id-id.ensures.id

@@ -1,11 +1,11 @@
 use Rattle.std.proofs.Common.{sym}
-use Rattle.store_machine.specs.declared.machine.State.{State}
+use Rattle.store_core.specs.Stored.{Served}
 use Rattle.store_core.proofs.Undoing.{relimited}
 use Rattle.store_core.proofs.store.Store.limit_to.Goals as goal
 
 pub invariant_of-self : goal.invariant_of-self
 invariant_of-self c =
-    let s : State = c.self.invariant.0 in
+    let s : Served = c.self.invariant.0 in
     (record s { limit = c.args.commits }, relimited _ s c.args.commits c.requires c.self.invariant.1)
 
 pub returns-clause-stands : goal.returns-clause-stands

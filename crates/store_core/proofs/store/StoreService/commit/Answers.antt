@@ -10,7 +10,7 @@ use Rattle.store_core.proofs.store.StoreService.commit.Goals as goal
 pub returns-in_err-advance-clause-call : goal.returns-in_err-advance-clause-call
 returns-in_err-advance-clause-call c =
     λ s h. refused-result c.args.self.now c.advance.new.self s c.args.change _ c.from_residual.result
-    c.from_residual.ensures.1 c.in_err-advance.ensures.err h (c.in_err-advance.ensures.why s h)
+    c.from_residual.ensures.1 c.in_err-advance.ensures.err h (c.in_err-advance.ensures.why s h.stands)
 
 pub returns-in_err-advance-clause-worn : goal.returns-in_err-advance-clause-worn
 returns-in_err-advance-clause-worn c = worn-result _ c.from_residual.result c.from_residual.ensures.1
@@ -20,4 +20,4 @@ pub returns-clause-call : goal.returns-clause-call
 returns-clause-call c =
     λ s h. subst (λ (n : ℕ). Calls Stretches (λ _. true) c.args.self.now c.advance.new.self s
     ((Commit (change_of c.args.change), Committed n) ∷ [])) (sym (ap (λ (x : StoreTerm). x.version) c.self.view_is))
-    (committed-row c.args.self.now c.advance.new.self s c.args.change h (c.in_ok-advance.ensures.committed s h))
+    (committed-row c.args.self.now c.advance.new.self s c.args.change h (c.in_ok-advance.ensures.committed s h.stands))

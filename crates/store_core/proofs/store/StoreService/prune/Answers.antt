@@ -1,6 +1,8 @@
 use Rattle.std.proofs.Common.{◌≡◌, ap, arith, rules, sym}
 use Rattle.std.proofs.lemmas.Map.Made.{map_same_pairs}
 use Rattle.store_core.specs.Chains.{needed}
+use Rattle.store_core.specs.Stored.{alone}
+use Rattle.store_core.proofs.OneCall.{at-alone}
 use Rattle.store_core.proofs.Heads.{total}
 use Rattle.store_core.proofs.Prunes.{pruned}
 use Rattle.store_core.proofs.PruneRow.{prune-call, store-left, total-fewer}
@@ -30,11 +32,10 @@ invariant_of-self c =
     let left : c.retain.new.self.entries ≡ pruned live es = map_same_pairs _ (needed live) _
     (λ k v b w f' t. search rules) es c.retain.new.self.entries c.retain.ensures.filtered in
     let law = c.laws.ensures in
-    let h = c.self.invariant.1 in (
-      _,
-      store-left law.read law.states law.sound _ c.self.invariant.0 h live c.live-live.ensures.versions
-          c.retain.new.self.entries c.count-kept.result left c.count-kept.ensures,
-    )
+    let h = at-alone _ c.self.invariant.0 c.self.invariant.1 in
+    let at = store-left law.read law.states law.sound _ (alone c.self.invariant.0) h live
+    c.live-live.ensures.versions c.retain.new.self.entries c.count-kept.result left c.count-kept.ensures in
+    (_, at.stands)
 
 pub returns-clause-call : goal.returns-clause-call
 returns-clause-call c =

@@ -1,8 +1,8 @@
 use Rattle.std.proofs.Common.{Contains, refl, subst, sym}
 use Rattle.store_machine.specs.declared.machine.Event.TheVariants.{Unpin}
 use Rattle.store_machine.specs.declared.machine.Reply.TheVariants.{Unpinned}
-use Rattle.store_core.specs.Stored.{StoreTerm}
-use Rattle.store_core.proofs.OneCall.{one-call}
+use Rattle.store_core.specs.Stored.{StoreTerm, alone, served}
+use Rattle.store_core.proofs.OneCall.{at-alone, one-call}
 use Rattle.store_core.proofs.Rows.{others-held, unpin-given}
 use Rattle.store_core.proofs.store.StoreService.unpin.Goals as goal
 
@@ -12,9 +12,10 @@ held c = subst (λ (x : StoreTerm). Contains x.pins c.args.pin) (sym c.self.view
 pub invariant_of-self : goal.invariant_of-self
 unfolding held
 invariant_of-self c =
-    let g = unpin-given c.laws.ensures.sound _ c.self.invariant.0 c.args.pin c.unpin.new.self c.self.invariant.1
-    (held c) c.unpin.ensures in
-    (g.after, g.stands)
+    let s = alone c.self.invariant.0 in
+    let g = unpin-given c.laws.ensures.sound _ s c.args.pin c.unpin.new.self
+    (at-alone _ c.self.invariant.0 c.self.invariant.1) (held c) c.unpin.ensures in
+    (served g.after, g.stands.stands)
 
 pub returns-clause-call : goal.returns-clause-call
 returns-clause-call c =

@@ -4,20 +4,20 @@ use Rattle.store_disk.proofs.store.Store.load.Goals as goal
 
 pub returns-in-Ok-memory_of-clause-opened : goal.returns-in-Ok-memory_of-clause-opened
 returns-in-Ok-memory_of-clause-opened g c =
-    let d = g.D.Disk in
-    opened-store d.content d.images d.faults c.in-Ok-memory_of.memory c.args.commits c.args.disks.a c.args.disks.b
+    let d = g.D.Disk.model in
+    opened-store d c.in-Ok-memory_of.memory c.args.commits c.args.disks.a c.args.disks.b
     c.in-Ok.journal c.memory_of.new.journal c.in-Ok-memory_of.ensures.loaded c.in-Ok.ensures.narrows.same
     c.memory_of.ensures.looks.narrows.same c.in-Ok.ensures.ok c.memory_of.ensures.settled
 
 pub returns-in-Ok-memory_of-clause-narrows : goal.returns-in-Ok-memory_of-clause-narrows
 returns-in-Ok-memory_of-clause-narrows g c =
-    let d = g.D.Disk in
-    narrows_twice d.content d.images d.clock d.images_between d.faults d.bound g.met.D.Disk.parts c.args.disks.a
+    let d = g.D.Disk.model in
+    narrows_twice d g.met.D.Disk.parts c.args.disks.a
     c.in-Ok.journal.disk c.memory_of.new.journal.disk c.in-Ok.ensures.narrows c.memory_of.ensures.looks.narrows
 
 pub returns-in-Err-memory_of-clause-narrows : goal.returns-in-Err-memory_of-clause-narrows
 returns-in-Err-memory_of-clause-narrows g c =
-    let d = g.D.Disk in
+    let d = g.D.Disk.model in
     rw c.into_disk.ensures
-    (narrows_twice d.content d.images d.clock d.images_between d.faults d.bound g.met.D.Disk.parts c.args.disks.a
+    (narrows_twice d g.met.D.Disk.parts c.args.disks.a
     c.in-Ok.journal.disk c.memory_of.new.journal.disk c.in-Ok.ensures.narrows c.memory_of.ensures.looks.narrows)

@@ -2,7 +2,6 @@ use Rattle.std.proofs.Common.{refl, sym}
 use Rattle.store_core.specs.Records.{founds}
 use Rattle.store_machine.specs.declared.machine.Event.TheVariants.{Fetch}
 use Rattle.store_machine.specs.declared.machine.Reply.TheVariants.{Page}
-use Rattle.store_disk.proofs.Lifts.{calm}
 use Rattle.store_disk.proofs.Rows.{fetch-lifts, lifted-call, still-ready}
 use Rattle.store_disk.proofs.store.StoreService.fetch.Goals as goal
 
@@ -16,13 +15,13 @@ invariant_of-self g c =
 
 pub returns-clause-call : goal.returns-clause-call
 returns-clause-call g c =
-    let d = g.D.Disk in
+    let d = g.D.Disk.model in
     rw (sym c.self.view_is)
-    (λ s h. lifted-call d.content d.images d.clock d.images_between d.faults g.met.D.Disk.only_now c.laws.ensures _
+    (λ s h. lifted-call d g.met.D.Disk.only_now c.laws.ensures _
     c.fetch.new.self s h (Fetch c.args.pin.now.slot c.args.want.now c.args.from c.args.limit)
-    (λ last. Page (founds c.fetch.new.page.records) last) refl c.fetch.result
+    (λ last. Page (founds c.fetch.new.page.records) last) refl (λ no. no) c.fetch.result
     (fetch-lifts c.args.pin.now.slot c.args.want.now c.args.from c.args.limit c.fetch.new.page.records c.fetch.result
-    c.fetch.ensures.worn.1) (c.fetch.ensures.call (calm s) h.memory))
+    c.fetch.ensures.worn.1) (c.fetch.ensures.call s h.memory))
 
 pub returns-clause-held : goal.returns-clause-held
 returns-clause-held g c = rw (sym c.self.view_is) c.fetch.ensures.held

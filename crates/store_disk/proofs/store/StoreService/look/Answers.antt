@@ -2,7 +2,6 @@ use Rattle.std.proofs.Common.{refl, sym}
 use Rattle.store_core.specs.Replies.{looked}
 use Rattle.store_machine.specs.declared.machine.Event.TheVariants.{Look}
 use Rattle.store_machine.specs.declared.machine.Reply.TheVariants.{Looked}
-use Rattle.store_disk.proofs.Lifts.{calm}
 use Rattle.store_disk.proofs.Rows.{look-lifts, lifted-call, still-ready}
 use Rattle.store_disk.proofs.store.StoreService.look.Goals as goal
 
@@ -14,11 +13,11 @@ invariant_of-self g c =
 
 pub returns-clause-call : goal.returns-clause-call
 returns-clause-call g c =
-    let d = g.D.Disk in
+    let d = g.D.Disk.model in
     rw (sym c.self.view_is)
-    (λ s h. lifted-call d.content d.images d.clock d.images_between d.faults g.met.D.Disk.only_now c.laws.ensures _
-    c.look.new.self s h (Look c.args.id) (λ l. Looked (looked l)) refl c.look.result
-    (look-lifts c.args.id c.look.result c.look.ensures.worn.1) (c.look.ensures.call (calm s) h.memory))
+    (λ s h. lifted-call d g.met.D.Disk.only_now c.laws.ensures _
+    c.look.new.self s h (Look c.args.id) (λ l. Looked (looked l)) refl (λ no. no) c.look.result
+    (look-lifts c.args.id c.look.result c.look.ensures.worn.1) (c.look.ensures.call s h.memory))
 
 pub returns-clause-held : goal.returns-clause-held
 returns-clause-held g c = rw (sym c.self.view_is) c.look.ensures.held

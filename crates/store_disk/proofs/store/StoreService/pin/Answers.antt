@@ -1,7 +1,6 @@
 use Rattle.std.proofs.Common.{refl, sym}
 use Rattle.store_core.specs.Replies.{pin_reply}
 use Rattle.store_machine.specs.declared.machine.Event.TheVariants.{Pin}
-use Rattle.store_disk.proofs.Lifts.{calm}
 use Rattle.store_disk.proofs.Rows.{pin-lifts, lifted-call, still-ready}
 use Rattle.store_disk.proofs.store.StoreService.pin.Goals as goal
 
@@ -13,11 +12,11 @@ invariant_of-self g c =
 
 pub returns-clause-call : goal.returns-clause-call
 returns-clause-call g c =
-    let d = g.D.Disk in
+    let d = g.D.Disk.model in
     rw (sym c.self.view_is)
-    (λ s h. lifted-call d.content d.images d.clock d.images_between d.faults g.met.D.Disk.only_now c.laws.ensures _
-    c.pin.new.self s h Pin pin_reply refl c.pin.result
-    (pin-lifts c.pin.result c.pin.ensures.worn.1 c.pin.ensures.memory) (c.pin.ensures.call (calm s) h.memory))
+    (λ s h. lifted-call d g.met.D.Disk.only_now c.laws.ensures _
+    c.pin.new.self s h Pin pin_reply refl (λ no. no) c.pin.result
+    (pin-lifts c.pin.result c.pin.ensures.worn.1 c.pin.ensures.memory) (c.pin.ensures.call s h.memory))
 
 pub returns-clause-held : goal.returns-clause-held
 returns-clause-held g c = rw (sym c.self.view_is) c.pin.ensures.held

@@ -1,7 +1,6 @@
 use Rattle.std.proofs.Common.{refl, sym}
 use Rattle.store_machine.specs.declared.machine.Event.TheVariants.{Stats}
 use Rattle.store_machine.specs.declared.machine.Reply.TheVariants.{Counted}
-use Rattle.store_disk.proofs.Lifts.{calm}
 use Rattle.store_disk.proofs.Rows.{stats-lifts, lifted-call, still-ready}
 use Rattle.store_disk.proofs.store.StoreService.stats.Goals as goal
 
@@ -13,11 +12,11 @@ invariant_of-self g c =
 
 pub returns-clause-call : goal.returns-clause-call
 returns-clause-call g c =
-    let d = g.D.Disk in
+    let d = g.D.Disk.model in
     rw (sym c.self.view_is)
-    (λ s h. lifted-call d.content d.images d.clock d.images_between d.faults g.met.D.Disk.only_now c.laws.ensures _
-    c.stats.new.self s h Stats (λ n. Counted n.version n.live n.withdrawn n.kept n.pins) refl c.stats.result
-    (stats-lifts c.stats.result c.stats.ensures.worn.1 c.stats.ensures.memory) (c.stats.ensures.call (calm s) h.memory))
+    (λ s h. lifted-call d g.met.D.Disk.only_now c.laws.ensures _
+    c.stats.new.self s h Stats (λ n. Counted n.version n.live n.withdrawn n.kept n.pins) refl (λ no. no) c.stats.result
+    (stats-lifts c.stats.result c.stats.ensures.worn.1 c.stats.ensures.memory) (c.stats.ensures.call s h.memory))
 
 pub returns-clause-held : goal.returns-clause-held
 returns-clause-held g c = rw (sym c.self.view_is) c.stats.ensures.held

@@ -1,7 +1,6 @@
 use Rattle.std.proofs.Common.{refl, sym}
 use Rattle.store_machine.specs.declared.machine.Event.TheVariants.{Unpin}
 use Rattle.store_machine.specs.declared.machine.Reply.TheVariants.{Unpinned}
-use Rattle.store_disk.proofs.Lifts.{calm}
 use Rattle.store_disk.proofs.Rows.{unpin-lifts, lifted-call, still-ready}
 use Rattle.store_disk.proofs.store.StoreService.unpin.Goals as goal
 
@@ -13,12 +12,12 @@ invariant_of-self g c =
 
 pub returns-clause-call : goal.returns-clause-call
 returns-clause-call g c =
-    let d = g.D.Disk in
+    let d = g.D.Disk.model in
     rw (sym c.self.view_is)
-    (λ s h. lifted-call d.content d.images d.clock d.images_between d.faults g.met.D.Disk.only_now c.laws.ensures _
-    c.unpin.new.self s h (Unpin c.args.pin.slot) (λ _. Unpinned) refl c.unpin.result
+    (λ s h. lifted-call d g.met.D.Disk.only_now c.laws.ensures _
+    c.unpin.new.self s h (Unpin c.args.pin.slot) (λ _. Unpinned) refl (λ no. no) c.unpin.result
     (unpin-lifts c.args.pin.slot c.unpin.result c.unpin.ensures.worn.1 c.unpin.ensures.memory)
-    (c.unpin.ensures.call (calm s) h.memory))
+    (c.unpin.ensures.call s h.memory))
 
 pub returns-clause-held : goal.returns-clause-held
 returns-clause-held g c = rw (sym c.self.view_is) c.unpin.ensures.held

@@ -1,0 +1,37 @@
+-- What an opening leaves, and that a crash and an opening lead there.
+use Rattle.std.specs.Prelude.{◌≡◌, List, [], ◌∷◌, length, None, true, ℕ}
+use Rattle.store_machine.specs.Machine.{AreNeeded, Recovers, crashed}
+use Rattle.store_machine.specs.Runs.{IsRun}
+use Rattle.store_machine.specs.declared.machine.Event.TheVariants.{Crash, Open}
+use Rattle.store_machine.specs.declared.machine.Reply.TheVariants.{Crashed, Opened}
+use Rattle.store_machine.specs.declared.machine.State.{State}
+use Rattle.store_machine.specs.declared.machine.Step.{Step}
+use Rattle.store_machine.specs.declared.machine.Times.{Times}
+
+-- A state as an opening leaves it: it serves, nothing is pinned or in doubt, and exactly what the head reads is kept.
+pub record IsOpened (commits : ℕ) (s : State) : Type 0 where
+  pub serves : s.serves ≡ true
+  pub limit : s.limit ≡ commits
+  pub pins : s.pins ≡ []
+  pub doubt : s.doubt ≡ None
+  pub kept : AreNeeded s s.kept
+
+-- a crash at a time, and an opening from one time to another, which leaves the second state
+abbrev pub reopening : State → State → Times → Times → Times → List Step
+reopening s t at begin end =
+    record
+    { owner = 0; event = Crash; reply = Crashed; before = s; after = crashed s t.history; begin = at; end = at }
+    ∷ record {
+      owner = 0;
+      event = Open;
+      reply = Opened (length t.history.commits);
+      before = crashed s t.history;
+      after = t;
+      begin = begin;
+      end = end;
+    } ∷ []
+
+-- what a crash may recover can be opened
+abbrev pub CrashOpens : Type 0
+CrashOpens = (s t : State) (at begin end : Times) → Recovers s t.history → IsOpened s.limit t
+    → IsRun s (reopening s t at begin end) t

@@ -1,0 +1,64 @@
+-- What the replies of a run tell: versions, and the commits that it made.
+use Rattle.std.specs.Prelude.{◌≡◌, ◌⊎◌, ◌++◌, ◌≤◌, Bool, List, [], ◌∷◌, Some, ℕ}
+use Rattle.store_machine.specs.History.{grown, head, made_at}
+use Rattle.store_machine.specs.Laws.{IsSound}
+use Rattle.store_machine.specs.Runs.{IsCalm, IsRun, calls_of}
+use Rattle.store_machine.specs.Searches.{KeepsPin}
+use Rattle.store_machine.specs.declared.machine.Change.{Change}
+use Rattle.store_machine.specs.declared.machine.Event.{Event}
+use Rattle.store_machine.specs.declared.machine.Event.TheVariants.{Commit, Pin}
+use Rattle.store_machine.specs.declared.machine.Reply.{Reply}
+use Rattle.store_machine.specs.declared.machine.Reply.TheVariants.{Committed, Counted, Looked, Pinned}
+use Rattle.store_machine.specs.declared.machine.State.{State}
+use Rattle.store_machine.specs.declared.machine.Step.{Step}
+
+-- the reply tells this version
+abbrev pub TellsVersion : Reply → ℕ → Type 0
+TellsVersion (Committed version) v = v ≡ version
+TellsVersion (Pinned slot version) v = v ≡ version
+TellsVersion (Looked (Some status)) v = v ≡ made_at status
+TellsVersion (Counted version live withdrawn kept pins) v = v ≡ version
+TellsVersion _ v = ⊥
+
+-- one of these calls was told this version
+abbrev pub IsTold : List (Event × Reply) → ℕ → Type 0
+IsTold [] v = ⊥
+IsTold (c ∷ cs) v = TellsVersion c.1 v ⊎ IsTold cs v
+
+-- the commit that is acknowledged by the answer to a call
+abbrev pub made_by : Change → Reply → List Change
+made_by c (Committed version) = c ∷ []
+made_by c _ = []
+
+abbrev pub made : Event → Reply → List Change
+made (Commit c) reply = made_by c reply
+made _ reply = []
+
+-- the commits that steps acknowledged, in order
+abbrev pub acknowledged : List Step → List Change
+acknowledged [] = []
+acknowledged (x ∷ xs) = made x.event x.reply ++ acknowledged xs
+
+-- without a crash, a run adds to the history what it acknowledged
+abbrev pub RunsAdd : Type 0
+RunsAdd = (s s' : State) (steps : List Step) → IsRun s steps s' → IsCalm steps
+    → s'.history ≡ grown s.history (acknowledged steps)
+
+-- no reply tells a version that is not there yet
+abbrev pub ToldIsThere : Type 0
+ToldIsThere = (s s' : State) (steps : List Step) (own : ℕ → Bool) (v : ℕ) → IsSound s → IsRun s steps s'
+    → IsCalm steps → IsTold (calls_of own steps) v → v ≤ head s'.history
+
+-- a caller's pin was given back before its slot is taken again
+abbrev pub SlotsWereFree : Type 0
+SlotsWereFree = (s s' : State) (steps : List Step) (own : ℕ → Bool) (slot v v' : ℕ)
+    (before pages later : List (Event × Reply)) → IsRun s steps s' → IsCalm steps
+    → calls_of own steps ≡ before ++ (Pin, Pinned slot v) ∷ (pages ++ (Pin, Pinned slot v') ∷ later)
+    → ¬ KeepsPin slot pages
+
+-- a pin is of no version to come, and of none before one that its caller was told
+abbrev pub PinsAreNew : Type 0
+PinsAreNew = (s s' : State) (steps : List Step) (own : ℕ → Bool) (slot version : ℕ)
+    (before later : List (Event × Reply)) → IsSound s → IsRun s steps s' → IsCalm steps
+    → calls_of own steps ≡ before ++ (Pin, Pinned slot version) ∷ later
+    → (version ≤ head s'.history) × ((v : ℕ) → IsTold before v → v ≤ version)
