@@ -1,4 +1,4 @@
-use Rattle.std.proofs.Common.{Vec, ◌≡◌, ◌+◌, ℕ, List, [], ◌∷◌, ◌++◌, length, Option, Err, sym, ◌∙◌, ap, subst, append_assoc}
+use Rattle.std.proofs.Common.{Vec, ◌≡◌, ◌+◌, ℕ, List, [], ◌∷◌, ◌++◌, length, Option, Result, Ok, Err, OnErr, sym, ◌∙◌, ap, subst, append_assoc}
 use Rattle.std.specs.declared.alloc.Global.{Global}
 use Rattle.journal_core.specs.Answers.{OnDamaged}
 use Rattle.journal_core.specs.Journal.{Reads}
@@ -17,6 +17,10 @@ on_damaged T U Disk P Q f p = tt
 on_damaged T U NotAStore P Q f p = tt
 on_damaged T U (Damaged at) P Q f p = f at p
 on_damaged T U NoMemory P Q f p = tt
+
+on_err : {T E : Type 0} (result : Result T E) (P : Type 0) → P → OnErr result P
+on_err (Ok _) P p = tt
+on_err (Err _) P p = p
 
 pub loop-commit-preserved : goal.loop-commit-preserved
 loop-commit-preserved g c =
@@ -67,3 +71,38 @@ returns-in-Err-clause-damaged g c =
       place = damage.0;
       damage = damage.1 l (was.looks.narrows.same ∙ told);
     }) c.in-Err.ensures.damaged
+
+pub returns-in-Ok-None-clause-log : goal.returns-in-Ok-None-clause-log
+returns-in-Ok-None-clause-log g c front before q l told =
+    let d = g.D.Disk.model in
+    let was = c.loop-commit.invariant in
+    let end = rw c.in-Ok-None.field-0-is at c.in-Ok-None.ensures.end in
+    let rests = end.2 front (before ++ payloads (changes_of c.loop-commit.commits.items)) (was.reads front before q) in
+    let new = c.next_commit.new.journal.disk in
+    record {
+      opens = rests.each l (g.met.D.Disk.content_is_image new l
+          (c.in-Ok-None.ensures.looks.narrows.same ∙ was.looks.narrows.same ∙ told));
+      logged = was.takes.logged;
+    }
+
+-- the journal stands behind the commits that were taken, and the one that found no room
+pub returns-in_err-push-in-Ok-Some-clause-stands : goal.returns-in_err-push-in-Ok-Some-clause-stands
+returns-in_err-push-in-Ok-Some-clause-stands g c =
+    on_err c.from_residual.result _ (λ front before q.
+    let taken = payloads (changes_of c.loop-commit.commits.items) in
+    let commit = c.in-Ok-Some.commit in
+    let reads = rw c.in-Ok-Some.field-0-is at c.in-Ok-Some.ensures.reads in (
+      taken ++ written (change_of commit.wire) ∷ [],
+      subst (λ (ps : List (List ℕ)). Reads g.D.Disk.model c.next_commit.new.journal front ps)
+          (append_assoc before taken (written (change_of commit.wire) ∷ []))
+          (reads front (before ++ taken) (c.loop-commit.invariant.reads front before q)),
+    ))
+
+pub returns-in-Err-clause-stands : goal.returns-in-Err-clause-stands
+returns-in-Err-clause-stands g c front before q =
+    let taken = payloads (changes_of c.loop-commit.commits.items) in
+    let more = c.in-Err.ensures.stands front (before ++ taken) (c.loop-commit.invariant.reads front before q) in (
+      taken ++ more.0,
+      subst (λ (ps : List (List ℕ)). Reads g.D.Disk.model c.next_commit.new.journal front ps)
+          (append_assoc before taken more.0) more.1,
+    )
