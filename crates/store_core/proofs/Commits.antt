@@ -21,6 +21,7 @@ use Rattle.store_machine.specs.declared.machine.Reply.TheVariants as reply
 use Rattle.store_machine.specs.declared.machine.State.{State}
 use Rattle.store_machine.specs.declared.machine.Status.{Status}
 use Rattle.store_machine.specs.declared.machine.Status.TheVariants.{Live, Withdrawn}
+use Rattle.store_machine.specs.declared.machine.TheConstants.{LAST_IDENTIFIER}
 use Rattle.store_core.specs.Chains.{IsEntryOf, chain_of, latest, seen, status_in, status_of}
 use Rattle.store_core.specs.Records.{IsRecord, Shared}
 use Rattle.store_core.specs.Replies.{Counts, IsLeft, IsShared, IsSoundChange, MayCount, change_of, refusal_by}
@@ -109,12 +110,12 @@ counts-after version (Withdraw id) (Some (Live v format text)) live withdrawn li
 counts-after version (Withdraw id) (Some (Withdrawn v)) live withdrawn live' withdrawn' a a' b b' allowed counts e f g
     h = absurd (no-some allowed)
 
--- they stay as few as the commits
-counts-few : (c : Change) (live withdrawn live' withdrawn' version : ℕ) → Counts c live withdrawn live' withdrawn'
-    → live + withdrawn ≤ version → live' + withdrawn' ≤ version + 1
-counts-few (Register r) live withdrawn live' withdrawn' version counts le = omega (arith, counts.0, counts.1, le)
-counts-few (Revise r) live withdrawn live' withdrawn' version counts le = omega (arith, counts.0, counts.1, le)
-counts-few (Withdraw id) live withdrawn live' withdrawn' version counts le = omega (arith, counts.0, counts.1, le)
+-- with each commit there is at most one more
+counts-few : (c : Change) (live withdrawn live' withdrawn' most : ℕ) → Counts c live withdrawn live' withdrawn'
+    → live + withdrawn ≤ most → live' + withdrawn' ≤ most + 1
+counts-few (Register r) live withdrawn live' withdrawn' most counts le = omega (arith, counts.0, counts.1, le)
+counts-few (Revise r) live withdrawn live' withdrawn' most counts le = omega (arith, counts.0, counts.1, le)
+counts-few (Withdraw id) live withdrawn live' withdrawn' most counts le = omega (arith, counts.0, counts.1, le)
 
 -- a change is refused by what its identifier is
 pub refusal-is : (states : Snapshot) (c : Change) → refusal states (change_of c)
@@ -276,7 +277,7 @@ commit-stands laws store new s c k h m allowed =
       sum = omega (arith, m.sum, h.sum, m.kept);
       live = counted.0 ∙ sym live;
       withdrawn = counted.1 ∙ sym gone;
-      ids = let few = counts-few c store.live store.withdrawn new.live new.withdrawn store.version m.counts h.ids
+      ids = let few = counts-few c store.live store.withdrawn new.live new.withdrawn (LAST_IDENTIFIER + store.version) m.counts h.ids
           in omega (arith, few, m.version);
       ordered = m.ordered;
       chains = λ q. elim (q == id_of told) as (λ b. (q == id_of told) ≡ b → IsChain (served t) q (chain_of new.chains q)) [

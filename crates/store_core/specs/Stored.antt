@@ -18,6 +18,7 @@ use Rattle.store_machine.specs.declared.machine.Held.{Held}
 use Rattle.store_machine.specs.declared.machine.History.{History}
 use Rattle.store_machine.specs.declared.machine.State.{State}
 use Rattle.store_machine.specs.declared.machine.Step.{Step}
+use Rattle.store_machine.specs.declared.machine.TheConstants.{LAST_IDENTIFIER}
 use Rattle.store_core.specs.Chains.{IsEntryOf, chain_of, status_of}
 use Rattle.store_core.specs.declared.chain.Kept.{Kept}
 
@@ -79,11 +80,11 @@ pub record StandsFor (store : StoreTerm) (s : Served) : Type 0 where
   pub within : store.version ≤ 16777215
   pub pins : map pin_of s.pins ≡ store.pins
   pub kept : store.kept ≡ length s.kept
-  pub few : store.kept ≤ store.version
+  pub few : store.kept ≤ LAST_IDENTIFIER + store.version
   pub sum : sum_by (λ ks. length ks) (values_of store.chains) ≡ store.kept
   pub live : store.live ≡ count_by (λ e. is_live e.1) (entries (now (alone s)))
   pub withdrawn : store.withdrawn ≡ count_by (λ e. not (is_live e.1)) (entries (now (alone s)))
-  pub ids : store.live + store.withdrawn ≤ store.version
+  pub ids : store.live + store.withdrawn ≤ LAST_IDENTIFIER + store.version
   pub ordered : IsStrictlySortedBy nat_cmp (keys_of store.chains)
   pub chains : (id : ℕ) → IsChain s id (chain_of store.chains id)
 

@@ -1,5 +1,5 @@
 //! Walks over the chains, in the order of identifiers.
-ghost use Rattle.std.specs.Prelude.{◌≡◌, ◌<◌, ◌≤◌, All, IfOk, IfSome, List, [], MatchOption, Some, length, nat_le, take};
+ghost use Rattle.std.specs.Prelude.{◌≡◌, ◌<◌, ◌≤◌, ◌^◌, All, IfOk, IfSome, List, [], MatchOption, Some, length, nat_le, take};
 ghost use Rattle.std.specs.Arc.{arc_value};
 ghost use Rattle.std.specs.BTreeMap.{values};
 ghost use Rattle.std.specs.BTreeMap.Range.{entries_between};
@@ -21,7 +21,7 @@ use std::sync::Arc;
 
 /// How many states all chains keep.
 pub fn count(chains: &BTreeMap<u32, Chain>) -> u32
-    requires { sum_by (λ ks. length ks) (values chains.now) < 16777216 }
+    requires { sum_by (λ ks. length ks) (values chains.now) < 2 ^ 30 }
     ensures { result ≡ sum_by (λ ks. length ks) (values chains.now) }
 {
     let mut kept = 0;

@@ -1,5 +1,5 @@
 //! What is asked of a service, and what it answers.
-ghost use Rattle.std.specs.Prelude.{◌≡◌, ◌+◌, ◌<◌, IfOk, MatchResult, None, option_copied, option_map};
+ghost use Rattle.std.specs.Prelude.{◌≡◌, ◌+◌, ◌<◌, ◌^◌, IfOk, MatchResult, None, option_copied, option_map};
 ghost use Rattle.store_machine.specs.History.{id_of};
 ghost use Rattle.store_core.specs.Chains.{status_of};
 ghost use Rattle.store_core.specs.Replies.{Counts, IsLeft, IsRefusal, IsSoundChange, MayCount, change_of, refusal_by};
@@ -57,7 +57,7 @@ impl Change {
 
 // Live and withdrawn identifiers after a change.
 pub(crate) fn counted(change: &Change, live: u32, withdrawn: u32) -> (u32, u32)
-    requires few { live + withdrawn < 16777216 }
+    requires few { live + withdrawn < 2 ^ 30 }
     requires some { MayCount change.now live }
     ensures { Counts change.now live withdrawn result.0 result.1 }
 {
