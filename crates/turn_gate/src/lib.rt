@@ -7,6 +7,8 @@ mod gate;
 mod known;
 mod rule;
 mod stands;
+#[cfg(test)]
+mod tests;
 mod turn;
 mod wait;
 
