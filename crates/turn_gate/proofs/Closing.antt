@@ -55,8 +55,7 @@ module _ {V E O : Type 0} (stands : O → V → List E → Type 0) (number : E �
       was.others
       (λ n lt. every n (omega (arith, all, lt))) kept.named in
       let seen : c.history ≡ v.seen = was.seen_is ∙
-      (ap (λ (l : List E). v.seen ++ l) none_left ∙ append-nil v.seen) in
-      (
+      (ap (λ (l : List E). v.seen ++ l) none_left ∙ append-nil v.seen) in (
         home.0,
         home.1,
         subst (λ (h : List E). stands o home.0 h) seen

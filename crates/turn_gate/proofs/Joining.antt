@@ -1,5 +1,5 @@
 -- A join of passes keeps the rule.
-use Rattle.std.proofs.Common.{◌≡◌, ◌≢◌, ℕ, ◌+◌, ◌<◌, ◌≤◌, ◌==◌, Bool, true, false, List, [], ◌∷◌, ◌++◌, length, set, refl, ap, sym, ◌∙◌, subst, inl, inr, ⊎_elim, arith, if◌then◌else◌, leb}
+use Rattle.std.proofs.Common.{◌≡◌, ◌≢◌, ℕ, ◌≤◌, ◌==◌, Bool, true, false, List, [], ◌++◌, length, set, refl, ap, sym, ◌∙◌, subst, inl, inr, ⊎_elim, arith, if◌then◌else◌, leb}
 use Rattle.std.proofs.lemmas.Bool.{false≢true}
 use Rattle.std.proofs.lemmas.Bool.Decides.{nat_tests}
 use mathlib.Core.Logic.{dite}
@@ -7,12 +7,12 @@ use mathlib.Core.Option.{some}
 use native.Mathlib.Decide.{ℕ_discrete}
 use lib.ListN.{get_elem?}
 use Rattle.atomic_table.specs.Table.{Joins}
-use Rattle.atomic_table.proofs.Lists.{set_here, set_else}
+use Rattle.atomic_table.proofs.Lists.{set_else}
 use Rattle.turn_gate.specs.declared.known.Known.{Known}
 use Rattle.turn_gate.specs.Numbers.{has, own, times, longer}
 use Rattle.turn_gate.specs.Rules.{At, Course, Knows, OneHistory}
 use Rattle.turn_gate.specs.Steps.{joined, spent}
-use Rattle.turn_gate.proofs.Lists.{refits, either_number, has_left, has_right, of_both, of_none, of_tail, suffix, at_length, longer_than, times_append, times_none, all_append, whole_of}
+use Rattle.turn_gate.proofs.Lists.{refits, either_number, has_left, has_right, of_both, of_none, of_tail, suffix, longer_than, times_append, times_none, all_append, whole_of}
 use Rattle.turn_gate.proofs.Seats.{at_own, at_other, at_is}
 
 -- a seat, where what one had goes to another
@@ -149,8 +149,7 @@ module _ {V E O : Type 0} (stands : O → V → List E → Type 0) (number : E �
             let idle : (u : Known V E O) → u.stage ≡ 0 → u.stage ≡ c.stage → v.stage ≡ c.stage =
             λ u z e. absurd (omega (arith, busy, z, e)) in
             let moved_is = one_of s.views id other v w (λ u. u.stage) c.stage c.who apart' at there (λ e. e)
-            (idle w out') h.1 in
-            (
+            (idle w out') h.1 in (
               h.0,
               subst (λ (j : ℕ). At (set l other spent) j (λ u. u.stage) c.stage)
                   (miss c.who (λ e. let z = at_is s.views other w (λ u. u.stage) c.stage there

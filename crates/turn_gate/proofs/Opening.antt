@@ -1,12 +1,12 @@
 -- The table at the start meets the rule, and its first pass may pick the origin.
-use Rattle.std.proofs.Common.{◌≡◌, ℕ, zero, suc, ◌+◌, ◌<◌, ◌==◌, List, [], ◌∷◌, map, set, get_or, refl, ap, sym, ◌∙◌, subst, inl, inr, ⊎_elim, arith, Option, Some}
+use Rattle.std.proofs.Common.{◌≡◌, ℕ, zero, suc, ◌<◌, ◌==◌, List, [], ◌∷◌, map, set, get_or, refl, ap, sym, subst, inl, inr, ⊎_elim, arith, Option, Some}
 use mathlib.Core.Option.{some, some-injective, some-ne-none}
 use lib.ListN.{get_elem?}
 use Rattle.atomic_table.specs.Table.{Step, keeps, Allows, opening}
 use Rattle.turn_gate.specs.declared.known.Known.{Known}
 use Rattle.turn_gate.specs.Numbers.{times}
 use Rattle.turn_gate.specs.Rules.{At, Course, Knows, OneHistory}
-use Rattle.turn_gate.specs.Steps.{Sat, sat, Picks, opened, placed}
+use Rattle.turn_gate.specs.Steps.{Sat, Picks, opened, placed}
 use Rattle.turn_gate.proofs.Lists.{refits, same_by}
 use Rattle.turn_gate.proofs.Seats.{at_still}
 

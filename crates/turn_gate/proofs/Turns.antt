@@ -4,7 +4,7 @@ use Rattle.atomic_table.specs.Table.{Step, rest}
 use Rattle.turn_gate.specs.declared.known.Known.{Known}
 use Rattle.turn_gate.specs.declared.gate.Gate.{Gate}
 use Rattle.turn_gate.specs.declared.gate.Pass.{Pass}
-use Rattle.turn_gate.specs.Steps.{Sat, sat, Picks, Looks, Adds, at_stage, having_seen, opened, placed}
+use Rattle.turn_gate.specs.Steps.{Sat, sat, Picks, Looks, Adds, at_stage, having_seen, opened}
 use Rattle.turn_gate.specs.Passes.{IsOf, InTurn, Begins, Sees, AllTaken, Added, known, sat_of}
 
 abbrev option_or : {V : Type 0} → V → Option V → V

@@ -29,7 +29,7 @@ abbrev pub PartsKnow : {E : Type 0} → (E → ℕ) → List E → List ℕ → 
 PartsKnow number history ns [] = Unit {0}
 PartsKnow {E} number history ns (p ∷ ps) =
     ((rest : List E) × (history ≡ p.1 ++ rest) × (own number p.0 rest ≡ [])
-        × ((n : ℕ) → has p.0 n ≡ true → has ns n ≡ true))
+    × ((n : ℕ) → has p.0 n ≡ true → has ns n ≡ true))
     × PartsKnow number history ns ps
 
 -- what the seat k, with the view v, knows of the course of its gate, which was given `first` and has so many turns

@@ -111,7 +111,10 @@ fn a_gate_with_two_turns_gives_two(rt: HostRuntime) {
     assert!(rt; make_mark(&rt, &gate, &mut pass, Duration::ZERO).is_ok());
     assert!(rt; make_mark(&rt, &gate, &mut other, Duration::ZERO).is_ok());
     assert_eq!(rt; make_mark(&rt, &gate, &mut pass, Duration::ZERO), Err(Worn));
-    assert_eq!(rt; make_mark(&rt, &gate, &mut other, Duration::ZERO), Err(Worn));
+    assert_eq!(rt;
+        make_mark(&rt, &gate, &mut other, Duration::ZERO),
+        Err(Worn)
+    );
     gate.join(&mut pass, other);
     assert_eq!(rt; gate.close(pass).marks, 2);
 }

@@ -7,11 +7,10 @@ ghost use Rattle.turn_gate.specs.Steps.{sat, at_stage};
 use crate::gate::{Gate, HOLDER, Pass};
 use crate::rule::Take;
 use crate::stands::Stands;
-use std::hint;
 use std::sync::Wait;
 use std::sync::atomic::Ordering;
-use std::thread;
 use std::time::Duration;
+use std::{hint, thread};
 
 // How many tries are made one after another, and how many until the first sleep.
 const SPINS: u32 = 64;
