@@ -101,6 +101,7 @@ module _ {V E O : Type 0} (number : E → ℕ) (g : Gate V E O) (p o q : Pass V 
       let origin : (known q).origin ≡ now.origin ∷ [] = ap (λ (k : Sat V E O). k.0.origin) now.is in
       let one = both_are now.origin (known p).origin (known o).origin of.placed of'.placed now.one in
       record {
+        first = ap (λ (k : Sat V E O). k.0.first) now.is;
         origin = origin ∙ one.0;
         origin_other = origin ∙ one.1;
         numbers = ap (λ (k : Sat V E O). k.0.numbers) now.is;

@@ -104,8 +104,9 @@ module _ {V E O : Type 0} (stands : O → V → List E → Type 0) (tells : V �
     pub sees : sat_of q ≡ sat (having_seen ((known p).seen ++ names.event ∷ []) 0 (known p)) []
 
 -- The pass has seen what both had, and has the numbers of both. What one had not seen is none of its own.
--- As root it knows that no event names a number that was not given
+-- Both histories begin at one origin. As root the pass knows that no event names a number that was not given
 pub record Merged {V E O : Type 0} (number : E → ℕ) (p o q : Pass V E O) : Type 0 where
+  pub first : (known q).first ≡ (known p).first
   pub origin : (known q).origin ≡ (known p).origin
   pub origin_other : (known q).origin ≡ (known o).origin
   pub numbers : (known q).numbers ≡ (known p).numbers ++ (known o).numbers
