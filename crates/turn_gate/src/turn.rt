@@ -1,0 +1,85 @@
+//! A turn: one pass has the value of its gate, and ends the turn with one event.
+ghost use Rattle.std.specs.Prelude.{◌≡◌, [], IfOk};
+
+use crate::gate::{Gate, Pass, Taken};
+use crate::stands::Stands;
+use std::sync::Wait;
+
+/// A turn of a pass on the value. It must be ended: no other pass has a turn before.
+pub struct Turn<'g, V: Stands> {
+    pub(crate) pass: &'g mut Pass<V>,
+    pub(crate) gate: &'g Gate<V>,
+    pub(crate) value: V,
+    pub(crate) count: u64,
+}
+
+/// All turns of the gate were taken.
+#[derive(Clone, Copy, Debug, PartialEq, Eq)]
+pub struct Worn;
+
+impl<V: Stands> Pass<V> {
+    ghost use Rattle.std.specs.Borrow.{sem, RestsIfErr};
+    ghost use Rattle.turn_gate.specs.Passes.{IsOf, InTurn, Sees, AllTaken, turns_of};
+    ghost use Rattle.turn_gate.specs.contracts.gate.Pass.{the_row as pass_row};
+
+    /// Waits for a turn, in which the pass sees the whole history.
+    ///
+    /// Returns `Worn` exactly where all turns of the gate were taken. The pass has then seen the whole history too.
+    pub fn turn<'g, R: Wait>(&'g mut self, rt: &R, gate: &'g Gate<V>) -> Result<Turn<'g, V>, Worn>
+        requires of { IsOf gate.now self.old }
+
+        ensures same_reference { IfOk result
+            (λ turn. turn.pass.ghost_name ≡ self.entry.ghost_name) }
+        ensures gate { IfOk result (λ turn. turn.gate.now ≡ gate.now) }
+        ensures on { IfOk result (λ turn. InTurn gate.now turn.pass.now turn.count) }
+        ensures sees { IfOk result
+            (λ turn. Sees V.stands V.number self.old turn.value turn.pass.now) }
+
+        ensures* worn { sem 𝓛 (RestsIfErr (pass_row V.row V.Event.row V.Origin.row) self.entry
+            (λ turn. turn.pass.ghost_name) result
+            (λ n. IsOf gate.now n × AllTaken V.stands V.number (turns_of gate.now) self.old n)) }
+    {
+        let Taken { value, count } = gate.begin(rt, self)?;
+        Ok(Turn {
+            pass: self,
+            gate,
+            value,
+            count,
+        })
+    }
+}
+
+impl<'g, V: Stands> Turn<'g, V> {
+    ghost use Rattle.std.specs.Borrow.{sem, Lends};
+    ghost use Rattle.turn_gate.specs.Passes.{IsOf, InTurn, Names, Added};
+    ghost use mir.Syntax.{named};
+    ghost use Rattle.turn_gate.specs.contracts.turn.Turn.{the_row};
+    ghost use Rattle.turn_gate.specs.Turns.{with_value};
+
+    /// The value of the gate.
+    pub fn value(&mut self) -> &mut V
+        ensures* writes_back { sem 𝓛 (Lends
+            (the_row (record { mir = named 1; lft = [] }) V.row V.Event.row V.Origin.row V.Stands) V.row
+            self.entry result (with_value self.old)) }
+        ensures value { result.now ≡ self.old.value }
+    {
+        &mut self.value
+    }
+
+    /// Ends the turn with one event, of which the value tells, and for which it stands now.
+    pub fn end(self)
+        requires on { InTurn self.gate.now self.pass.now self.count }
+        requires names { Names V.stands V.tells V.number self.pass.now self.value }
+        ensures of { IsOf self.entry.gate.now self.exit.0.now }
+        ensures added { Added V.stands V.tells V.number
+            self.entry.pass.now self.entry.value self.exit.0.now }
+    {
+        let Turn {
+            pass,
+            gate,
+            value,
+            count,
+        } = self;
+        gate.finish(pass, Taken { value, count });
+    }
+}
