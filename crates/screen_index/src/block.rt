@@ -46,7 +46,8 @@ impl Block {
     }
 
     pub fn len(&self) -> usize
-        ensures { result ≡ length self.now }
+        ensures len { result ≡ length self.now }
+        ensures few { result ≤ ROOM }
     {
         self.entries.len()
     }

@@ -90,9 +90,8 @@ impl ScreenIndex {
         ensures ascending { Ascend 0 self.now.entries }
     {
         for place in block_of(&self.blocks, from)..self.blocks.len() {
-            let found = self.blocks[place].next(want, from);
-            if found.is_some() {
-                return found;
+            if let Some(found) = self.blocks[place].next(want, from) {
+                return Some(found);
             }
         }
         None
@@ -165,9 +164,11 @@ fn take_out(blocks: &mut Vec<Block>, place: (u32, u32))
 
 // Moves the pairs of the next block into this one, where both together fill half a block at most.
 fn join_next(blocks: &mut Vec<Block>, index: usize)
-    requires { AreBlocks blocks.old.items }
+    requires blocks { AreBlocks blocks.old.items }
+    requires within { index < vec_len blocks.old }
     ensures entries { joined blocks.new.items ≡ joined blocks.old.items }
     ensures blocks { AreBlocks blocks.new.items }
+    ensures within { index < vec_len blocks.new }
     ensures len { vec_len blocks.new ≤ vec_len blocks.old }
     ensures capacity { vec_capacity blocks.new ≡ vec_capacity blocks.old }
 {
