@@ -1,0 +1,8 @@
+-- What contracts see of the entries of one identifier.
+use Rattle.std.specs.Prelude.{List, ℕ}
+use Rattle.record_versions.specs.declared.chain.Entry.{Entry}
+
+-- the entries, oldest first, and for how many there is memory
+pub record Row (V : Type 0) : Type 0 where
+  pub entries : List (Entry V)
+  pub room : ℕ

@@ -1,0 +1,143 @@
+//! The entries of one identifier, oldest first. They lie in a ring, so that the oldest leave without moving the others.
+ghost use Rattle.std.specs.Prelude.{◌≡◌, ◌≢◌, ◌+◌, ◌++◌, ◌<◌, ◌≤◌, [], ◌∷◌, All, Contains, MatchOption, None, OnOk, Some, filter, length, option_copied, slice_index_or, ℕ};
+ghost use Rattle.std.specs.List.{AllPairs, AllWithin};
+ghost use Rattle.record_versions.specs.declared.chain.Entry.{Entry};
+ghost use Rattle.record_versions.specs.Entries.{IsLatest, IsLeastUnread, IsReadBefore, is_other};
+
+use std::alloc::{AllocError, Global};
+use std::collections::VecDeque;
+use std::marker::Model;
+
+/// A value with the version that made it.
+#[derive(Drop)]
+pub struct Entry<V> {
+    pub version: u32,
+    pub value: V,
+}
+
+/// Contracts see the entries, and for how many there is room.
+#[derive(Drop)]
+pub struct Chain<V> {
+    entries: VecDeque<Entry<V>>,
+}
+
+impl<V> Model for Chain<V> {
+    ghost use Rattle.std.specs.Prelude.{◌<◌};
+    ghost use Rattle.std.specs.List.{AllPairs};
+    ghost use Rattle.record_versions.specs.Rows.{Row};
+    ghost use Rattle.std.specs.VecDeque.{deque_capacity};
+
+    ghost Value = { Row V };
+
+    ghost view = { λ c. record { entries = c.entries.items; room = deque_capacity c.entries } };
+
+    ghost invariant = { λ c. AllPairs (λ k l. k.version < l.version) c.entries.items };
+}
+
+impl<V: Drop> Chain<V> {
+    /// Without entries.
+    pub fn new(alloc: Global) -> Chain<V>
+        ensures { result.entries ≡ [] }
+    {
+        Chain {
+            entries: VecDeque::new(alloc),
+        }
+    }
+
+    /// Takes room for one entry more.
+    pub fn reserve(&mut self) -> Result<(), AllocError>
+        ensures entries { self.new.entries ≡ self.old.entries }
+        ensures grows { self.old.room ≤ self.new.room }
+        ensures room { OnOk result (length self.new.entries < self.new.room) }
+    {
+        self.entries.reserve(1)
+    }
+
+    /// One entry more, later than the others.
+    pub fn add(&mut self, version: u32, value: V)
+        requires room { length self.old.entries < self.old.room }
+        requires later { All (λ k. k.version < version) self.old.entries }
+        ensures { self.new.entries ≡ self.old.entries ++ record { version = version; value = value } ∷ [] }
+    {
+        self.entries.push_back_reserved(Entry { version, value });
+    }
+
+    /// The latest entry that is not after a version.
+    pub fn latest(&self, version: u32) -> Option<&Entry<V>>
+        ensures latest { IsLatest version self.now.entries (option_copied result) }
+        ensures ascending { AllPairs (λ k l. k.version < l.version) self.now.entries }
+    {
+        let place = up_to(&self.entries, version);
+        self.entries.get(place.checked_sub(1)?)
+    }
+
+    /// Takes the entry of a version out, where there is one.
+    pub fn take(&mut self, version: u32) -> Option<V>
+        ensures entries { self.new.entries ≡ filter (is_other version) self.old.entries }
+        ensures room { self.new.room ≡ self.old.room }
+        ensures value { MatchOption result (All (λ k. k.version ≢ version) self.old.entries)
+            (λ v. Contains self.old.entries (record { version = version; value = v })) }
+        ensures fewer { MatchOption result (self.new.entries ≡ self.old.entries)
+            (λ _. length self.new.entries + 1 ≡ length self.old.entries) }
+    {
+        let place = up_to(&self.entries, version).checked_sub(1)?;
+        if self.entries[place].version != version {
+            return None;
+        }
+        let Entry { version: _, value } = self.entries.remove(place)?;
+        Some(value)
+    }
+
+    /// The least version from `from` on whose entry is the latest at none of some versions.
+    pub fn unread_from(&self, from: u32, live: &[u32]) -> Option<u32>
+        ensures { IsLeastUnread live.now from self.now.entries result }
+    {
+        for place in before(&self.entries, from)..self.entries.len() {
+            let version = self.entries[place].version;
+            if !is_read(version, version_at(&self.entries, place + 1), live) {
+                return Some(version);
+            }
+        }
+        None
+    }
+}
+
+// How many entries are not after a version.
+fn up_to<V>(entries: &VecDeque<Entry<V>>, version: u32) -> usize
+    requires { AllPairs (λ k l. k.version < l.version) entries.now.items }
+    ensures within { result ≤ length entries.now.items }
+    ensures before { AllWithin (λ k. k.version ≤ version) entries.now.items 0 result }
+    ensures behind { AllWithin (λ k. version < k.version) entries.now.items result (length entries.now.items) }
+{
+    entries.partition_point(|entry| entry.version <= version)
+}
+
+// How many entries are before a version.
+fn before<V>(entries: &VecDeque<Entry<V>>, version: u32) -> usize
+    requires { AllPairs (λ k l. k.version < l.version) entries.now.items }
+    ensures within { result ≤ length entries.now.items }
+    ensures before { AllWithin (λ k. k.version < version) entries.now.items 0 result }
+    ensures behind { AllWithin (λ k. version ≤ k.version) entries.now.items result (length entries.now.items) }
+{
+    match version.checked_sub(1) {
+        Some(last) => up_to(entries, last),
+        None => 0,
+    }
+}
+
+// The version of the entry at a place, where there is one.
+fn version_at<V>(entries: &VecDeque<Entry<V>>, place: usize) -> Option<u32>
+    ensures { MatchOption result (length entries.now.items ≤ place)
+        (λ v. (place < length entries.now.items)
+        × ((d : Entry V) → v ≡ (slice_index_or entries.now.items place d).version)) }
+{
+    Some(entries.get(place)?.version)
+}
+
+// Whether one of these versions is from `from` on and before the next entry's, where one follows.
+fn is_read(from: u32, next: Option<u32>, live: &[u32]) -> bool
+    ensures { IsReadBefore from next live.now result }
+{
+    live.iter()
+        .any(|version| from <= *version && next.is_none_or(|next| *version < next))
+}

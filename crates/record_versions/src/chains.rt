@@ -1,0 +1,143 @@
+//! The entries of all identifiers, and which of them nobody reads any more.
+ghost use Rattle.std.specs.Prelude.{◌≡◌, ◌==◌, ◌≢◌, ◌+◌, ◌++◌, ◌<◌, ◌≤◌, ℕ, [], ◌∷◌, All, Contains, MatchOption, None, OnOk, Some, filter, if◌then◌else◌, length};
+ghost use Rattle.std.specs.List.{AllPairs};
+ghost use Rattle.record_versions.specs.Entries.{IsLatest, IsLeastDead, IsReserved, chain_of, entries, is_other};
+
+use crate::chain::Chain;
+use crate::steps::Steps;
+use std::alloc::{AllocError, Global};
+use std::collections::BTreeMap;
+use std::marker::Model;
+use std::sync::ledger::Ledger;
+
+/// A list of entries, each an identifier, a version and a value; no identifier has a version twice. Contracts see the
+/// entries by their identifiers, each identifier's in the order of their versions.
+#[derive(Drop)]
+pub struct Chains<V> {
+    alloc: Global,
+    chains: BTreeMap<u32, Chain<V>>,
+    kept: u32,
+}
+
+impl<V> Model for Chains<V> {
+    ghost use Rattle.std.specs.Prelude.{◌≡◌, List, length, ℕ};
+    ghost use Rattle.record_versions.specs.Rows.{Row};
+    ghost use Rattle.record_versions.specs.Entries.{entries};
+
+    ghost Value = { List (ℕ × Row V) };
+
+    ghost view = { λ c. c.chains.entries };
+
+    ghost invariant = { λ c. length (entries c.chains.entries) ≡ c.kept };
+}
+
+impl<V: Drop> Chains<V> {
+    /// Without entries. It takes no memory.
+    pub fn new(alloc: Global) -> Chains<V>
+        ensures { result ≡ [] }
+    {
+        Chains {
+            alloc,
+            chains: BTreeMap::new(alloc),
+            kept: 0,
+        }
+    }
+
+    /// Takes the memory of one entry more of an identifier. What was reserved for others stays reserved.
+    pub fn reserve(&mut self, id: u32) -> Result<(), AllocError>
+        ensures ok { OnOk result (IsReserved id self.new) }
+        ensures entries { entries self.new ≡ entries self.old }
+        ensures chains { (q : ℕ) → chain_of self.new q ≡ chain_of self.old q }
+        ensures others { (q : ℕ) → IsReserved q self.old → IsReserved q self.new }
+    {
+        if let Some(chain) = self.chains.get_mut(&id) {
+            return chain.reserve();
+        }
+        let mut chain = Chain::new(self.alloc);
+        chain.reserve()?;
+        match self.chains.insert(id, chain) {
+            Ok(_) => Ok(()),
+            Err(_) => Err(AllocError),
+        }
+    }
+
+    /// One entry more, whose version exceeds the identifier's others. It takes no memory.
+    pub fn add(&mut self, id: u32, version: u32, value: V)
+        requires reserved { IsReserved id self.old }
+        requires later { All (λ k. k.version < version) (chain_of self.old id) }
+        requires few { length (entries self.old) < u32.MAX }
+        ensures chains { (q : ℕ) → chain_of self.new q ≡ (if q == id
+            then chain_of self.old id ++ record { version = version; value = value } ∷ []
+            else chain_of self.old q) }
+        ensures one_more { length (entries self.new) ≡ length (entries self.old) + 1 }
+        ensures others { (q : ℕ) → q ≢ id → IsReserved q self.old → IsReserved q self.new }
+    {
+        if let Some(chain) = self.chains.get_mut(&id) {
+            chain.add(version, value);
+            self.kept += 1;
+        }
+    }
+
+    /// The version and the value of an identifier's latest entry that is not after `version`. `None` exactly where no
+    /// entry of the identifier is at or before `version`. It takes one step, and no memory.
+    pub fn at<L: Ledger>(&self, id: u32, version: u32, steps: &mut Steps<L>) -> Option<(u32, &V)>
+        ensures latest { MatchOption result (IsLatest version (chain_of self.now id) None)
+            (λ r. IsLatest version (chain_of self.now id) (Some (record { version = r.0; value = r.1.now }))) }
+        ensures ascending { AllPairs (λ k l. k.version < l.version) (chain_of self.now id) }
+        ensures steps { steps.new ≡ steps.old + 1 }
+    {
+        steps.raise();
+        let entry = self.chains.get(&id)?.latest(version)?;
+        Some((entry.version, &entry.value))
+    }
+
+    /// The identifier and the version of the least entry that is not the latest of its identifier at any version of
+    /// `live`. `None` exactly where there is none. It takes no memory.
+    pub fn dead(&self, live: &[u32]) -> Option<(u32, u32)>
+        ensures { IsLeastDead live.now (0, 0) self.now result }
+    {
+        self.dead_from((0, 0), live)
+    }
+
+    /// The same from a place on: an identifier and a version. Taking one dead entry out leaves each other one as dead
+    /// or alive as it was, so a prune goes on from the last one taken.
+    pub fn dead_from(&self, from: (u32, u32), live: &[u32]) -> Option<(u32, u32)>
+        ensures { IsLeastDead live.now from self.now result }
+    {
+        for (id, chain) in self.chains.range(from.0..) {
+            if let Some(version) = chain.unread_from(first_version(*id, from), live) {
+                return Some((*id, version));
+            }
+        }
+        None
+    }
+
+    /// Takes an entry out and gives its value. `None` exactly where the entry is not there. It takes no memory.
+    pub fn take(&mut self, id: u32, version: u32) -> Option<V>
+        ensures value { MatchOption result (All (λ k. k.version ≢ version) (chain_of self.old id))
+            (λ v. Contains (chain_of self.old id) (record { version = version; value = v })) }
+        ensures chains { (q : ℕ) → chain_of self.new q
+            ≡ (if q == id then filter (is_other version) (chain_of self.old id) else chain_of self.old q) }
+        ensures fewer { MatchOption result (length (entries self.new) ≡ length (entries self.old))
+            (λ _. length (entries self.new) + 1 ≡ length (entries self.old)) }
+        ensures reserved { (q : ℕ) → IsReserved q self.old → IsReserved q self.new }
+    {
+        let value = self.chains.get_mut(&id)?.take(version)?;
+        self.kept -= 1;
+        Some(value)
+    }
+
+    /// How many entries there are. It takes no memory.
+    pub fn kept(&self) -> u32
+        ensures { result ≡ length (entries self.now) }
+    {
+        self.kept
+    }
+}
+
+// From which version on a chain is looked at.
+fn first_version(id: u32, from: (u32, u32)) -> u32
+    ensures { result ≡ (if id == from.0 then from.1 else 0) }
+{
+    if id == from.0 { from.1 } else { 0 }
+}

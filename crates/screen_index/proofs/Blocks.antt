@@ -1,0 +1,267 @@
+-- The pairs of blocks, as one block changes.
+use Rattle.std.proofs.Common.{◌≡◌, ◌≢◌, ◌+◌, ◌-◌, ◌<◌, ◌≤◌, ◌++◌, ◌∙◌, All, add-one, ap, ap₂, append_assoc, arith, Bool, cond, Contains, drop, false, filter, get_or, inl, inr, length, List, [], ◌∷◌, min, refl, set, subst, suc, sym, take, true, zero, ℕ}
+use Rattle.std.proofs.lemmas.Bool.{cases_lt, false_from_ne_true, true≢false}
+use Rattle.std.proofs.lemmas.List.Concat.{flat_map-append}
+use Rattle.std.proofs.lemmas.List.{append-nil, drop-set-lt, drop_all, get_or-drop, get_or-take, get_or_append_left, get_or_default, length-append, length-drop, length-take, length-take-le, take-set, take_all, take_more}
+use Rattle.std.proofs.lemmas.List.Elements.{All-append, All-cons, All-contains, All-drop, All-nil, All-set, All-take, All-tail, Contains-append_cases, Contains-append_left, Contains-append_right, filter-append}
+use Rattle.std.specs.List.{AllWithin, insert, remove}
+use Rattle.std.specs.List.Sorted.{IsPartitionedBy}
+use Rattle.screen_index.specs.declared.entry.Screened.{Screened}
+use Rattle.screen_index.specs.Pairs.{AreBlocks, Ascend, HasPlace, Lacks, ends_before, is_other, joined, put_in, rank_of}
+use Rattle.screen_index.proofs.Places.{all-before, all-stay, apart, ascend-left, ascend-right, before-all, not-before, pairs, put-before, put-behind, put-some}
+
+-- what is before a block, and what is behind it
+abbrev pub Before : List (List Screened) → ℕ → List Screened
+Before bs i = joined (take i bs)
+
+abbrev pub Behind : List (List Screened) → ℕ → List Screened
+Behind bs i = joined (drop (suc i) bs)
+
+pub joined-at : (bs : List (List Screened)) (i : ℕ) (d : List Screened) → i < length bs
+    → joined bs ≡ Before bs i ++ (get_or bs i d ++ Behind bs i)
+joined-at [] i d less = absurd (omega (arith, less))
+joined-at (b ∷ bs) zero d less = refl
+joined-at (b ∷ bs) (suc i) d less =
+    ap (λ l. b ++ l) (joined-at bs i d (omega (arith, less)))
+    ∙ sym (append_assoc b (Before bs i) (get_or bs i d ++ Behind bs i))
+
+pub joined-set : (bs : List (List Screened)) (i : ℕ) (n : List Screened) → i < length bs
+    → joined (set bs i n) ≡ Before bs i ++ (n ++ Behind bs i)
+joined-set [] i n less = absurd (omega (arith, less))
+joined-set (b ∷ bs) zero n less = refl
+joined-set (b ∷ bs) (suc i) n less =
+    ap (λ l. b ++ l) (joined-set bs i n (omega (arith, less))) ∙ sym (append_assoc b (Before bs i) (n ++ Behind bs i))
+
+pub joined-split : (bs : List (List Screened)) (i : ℕ) (l u : List Screened) → i < length bs
+    → joined (insert (set bs i l) (suc i) u) ≡ Before bs i ++ ((l ++ u) ++ Behind bs i)
+joined-split [] i l u less = absurd (omega (arith, less))
+joined-split (b ∷ bs) zero l u less = sym (append_assoc l u (joined bs))
+joined-split (b ∷ bs) (suc i) l u less =
+    ap (λ x. b ++ x) (joined-split bs i l u (omega (arith, less)))
+    ∙ sym (append_assoc b (Before bs i) ((l ++ u) ++ Behind bs i))
+
+pub joined-removed : (bs : List (List Screened)) (i : ℕ) → joined (remove bs i) ≡ Before bs i ++ Behind bs i
+joined-removed bs i = flat_map-append (λ b. b) (take i bs) (drop (suc i) bs)
+
+-- a pair of a block is a pair of all
+in-joined : (bs : List (List Screened)) (i : ℕ) (d : List Screened) (x : Screened) → i < length bs
+    → Contains (get_or bs i d) x → Contains (joined bs) x
+in-joined [] i d x less c = absurd (omega (arith, less))
+in-joined (b ∷ bs) zero d x less c = Contains-append_left b (joined bs) x c
+in-joined (b ∷ bs) (suc i) d x less c = Contains-append_right b (joined bs) x (in-joined bs i d x (omega (arith, less)) c)
+
+-- a pair of one block is below a pair of a later one
+pub across : (bs : List (List Screened)) (i j : ℕ) (d : List Screened) (x y : Screened) → Ascend 0 (joined bs) → i < j
+    → j < length bs → Contains (get_or bs i d) x → Contains (get_or bs j d) y → rank_of x < rank_of y
+across [] i j d x y up less within a b = absurd (omega (arith, within))
+across (b ∷ bs) i zero d x y up less within c e = absurd (omega (arith, less))
+across (b ∷ bs) zero (suc j) d x y up less within c e =
+    let there = in-joined bs j d y (omega (arith, within)) e in
+    let h = apart 0 b (joined bs) c.0 x up c.1 there.0 y there.1 in
+    omega (arith, h, ap rank_of c.2, ap rank_of there.2)
+across (b ∷ bs) (suc i) (suc j) d x y up less within c e =
+    across bs i j d x y (ascend-right 0 b (joined bs) up) (omega (arith, less)) (omega (arith, within)) c e
+
+pub block-ascends : (bs : List (List Screened)) (i : ℕ) (d : List Screened) → Ascend 0 (joined bs) → i < length bs
+    → Ascend 0 (get_or bs i d)
+block-ascends [] i d up less = absurd (omega (arith, less))
+block-ascends (b ∷ bs) zero d up less = ascend-left 0 b (joined bs) up
+block-ascends (b ∷ bs) (suc i) d up less = block-ascends bs i d (ascend-right 0 b (joined bs) up) (omega (arith, less))
+
+first-of : (xs : List Screened) → 0 < length xs → (x : Screened) × Contains xs x
+first-of [] some = absurd (omega (arith, some))
+first-of (x ∷ xs) some = (x, (0, omega arith, refl))
+
+-- the blocks that end before a place stand first
+pub blocks-parted : (r : ℕ) (bs : List (List Screened)) → AreBlocks bs → IsPartitionedBy (ends_before r) bs
+blocks-parted r bs (up, some) i j d le less t =
+    elim (cases_lt i j) [
+      | inl lt ↦
+          let y = first-of (get_or bs j d) (some j d less) in
+          let last = all-before r 0 (get_or bs j d) (block-ascends bs j d up less) t in
+          before-all r (get_or bs i d) (λ k e within.
+            let h = across bs i j d (get_or (get_or bs i d) k e) y.0 up lt less
+            (k, within, get_or_default (get_or bs i d) k (get_or (get_or bs i d) k e) e within) y.1 in
+            let l = All-contains (λ x. rank_of x < r) (get_or bs j d) y.0 last y.1 in
+            omega (arith, h, l))
+      | inr ge ↦
+          let same : i ≡ j = omega (arith, le, ge) in
+          ap (λ n. ends_before r (get_or bs n d)) same ∙ t
+    ]
+
+-- what holds of the pairs of each block
+all-joined : (P : Screened → Type 0) (bs : List (List Screened))
+    → ((k : ℕ) (d : List Screened) → k < length bs → All P (get_or bs k d)) → All P (joined bs)
+all-joined P [] all = All-nil P
+all-joined P (b ∷ bs) all =
+    All-append P b (joined bs) (all 0 b (omega arith)) (all-joined P bs (λ k d less. all (suc k) d (omega (arith, less))))
+
+-- the pairs before the blocks that do not end before a place
+pub before-place : (r n : ℕ) (bs : List (List Screened)) → AreBlocks bs → n ≤ length bs
+    → AllWithin (λ b. ends_before r b ≡ true) bs 0 n → All (λ x. rank_of x < r) (Before bs n)
+before-place r n bs (up, some) fits ends =
+    all-joined (λ x. rank_of x < r) (take n bs) (λ k d less.
+      let size = length-take-le n bs fits in
+      let within : k < n = omega (arith, less, size) in
+      subst (All (λ x. rank_of x < r)) (sym (get_or-take n bs k d within))
+      (all-before r 0 (get_or bs k d) (block-ascends bs k d up (omega (arith, within, fits)))
+      (ends k d (omega arith) within)))
+
+pub behind-place : (r n : ℕ) (bs : List (List Screened)) → AreBlocks bs
+    → AllWithin (λ b. ends_before r b ≡ false) bs n (length bs) → All (λ x. r < rank_of x) (Behind bs n)
+behind-place r n bs (up, some) ends =
+    all-joined (λ x. r < rank_of x) (drop (suc n) bs) (λ k d less.
+      let size = length-drop (suc n) bs in
+      let within : suc n + k < length bs = omega (arith, less, size) in
+      let last = not-before r (get_or bs n d) (ends n d (omega arith) (omega (arith, within))) in
+      subst (All (λ x. r < rank_of x)) (sym (get_or-drop (suc n) bs k d)) (λ i e inside.
+        let b = get_or bs (suc n + k) d in
+        let h = across bs n (suc n + k) d last.0 (get_or b i e) up (omega arith) within last.1
+        (i, inside, get_or_default b i (get_or b i e) e inside) in
+        let l = last.2 in
+        omega (arith, h, l)))
+
+all-left : (P : Screened → Type 0) (xs ys : List Screened) → All P (xs ++ ys) → All P xs
+all-left P xs ys all k d less =
+    subst P (get_or_append_left xs ys d k less) (all k d (omega (arith, less, length-append xs ys)))
+
+-- a block for a pair: what is before it, and what is behind
+pub record IsPlace (r : ℕ) (bs : List (List Screened)) (i : ℕ) : Type 0 where
+  pub less : i < length bs
+  pub before : All (λ x. rank_of x < r) (Before bs i)
+  pub behind : All (λ x. r < rank_of x) (Behind bs i)
+
+-- the block that does not end before the place, or else the last one
+pub place-of : (r n i : ℕ) (bs : List (List Screened)) → n ≤ length bs → 0 < length bs → i ≡ min n (length bs - 1)
+    → All (λ x. rank_of x < r) (Before bs n) → All (λ x. r < rank_of x) (joined (drop (n + 1) bs)) → IsPlace r bs i
+place-of r n i bs fits some is before behind =
+    elim (cases_lt n (length bs)) [
+      | inl lt ↦
+          let same : n ≡ i = omega (arith, is, lt) in record {
+            less = omega (arith, same, lt);
+            before = subst (λ m. All (λ x. rank_of x < r) (Before bs m)) same before;
+            behind = subst (λ m. All (λ x. r < rank_of x) (Behind bs m)) same
+                (subst (λ m. All (λ x. r < rank_of x) (joined (drop m bs))) (add-one n) behind);
+          }
+      | inr ge ↦
+          let less : i < length bs = omega (arith, is, some) in
+          let all : All (λ x. rank_of x < r) (joined bs) = subst (λ l. All (λ x. rank_of x < r) (joined l))
+          (take_all n bs ge) before in record {
+            less = less;
+            before = all-left (λ x. rank_of x < r) (Before bs i) (get_or bs i [] ++ Behind bs i)
+                (subst (All (λ x. rank_of x < r)) (joined-at bs i [] less) all);
+            behind = subst (λ l. All (λ x. r < rank_of x) (joined l)) (sym (drop_all (suc i) bs (omega (arith, is, ge))))
+                (All-nil (λ x. r < rank_of x));
+          }
+    ]
+
+-- a pair that goes into a block goes into all
+pub put-one : (x : Screened) (bs : List (List Screened)) (i : ℕ) (b n : List Screened) → IsPlace (rank_of x) bs i
+    → b ≡ get_or bs i b → n ≡ put_in x b → Before bs i ++ (n ++ Behind bs i) ≡ put_in x (joined bs)
+put-one x bs i b n at is new =
+    ap (λ l. Before bs i ++ (l ++ Behind bs i)) new
+    ∙ sym (ap (put_in x) (joined-at bs i b at.less
+    ∙ ap (λ l. Before bs i ++ (l ++ Behind bs i)) (sym is))
+    ∙ (put-behind x (Before bs i) (b ++ Behind bs i) at.before
+    ∙ ap (λ l. Before bs i ++ l) (put-before x b (Behind bs i) at.behind)))
+
+pub lacks-block : (r : ℕ) (bs : List (List Screened)) (i : ℕ) (b : List Screened) → i < length bs → b ≡ get_or bs i b
+    → Lacks r (joined bs) → Lacks r b
+lacks-block r bs i b less is lacks k d within =
+    All-contains (λ x. rank_of x ≢ r) (joined bs) (get_or b k d) lacks
+    (in-joined bs i b (get_or b k d) less
+    (subst (λ l. Contains l (get_or b k d)) is (k, within, get_or_default b k (get_or b k d) d within)))
+
+pub ascends-here : (bs : List (List Screened)) (i : ℕ) (b : List Screened) → Ascend 0 (joined bs) → i < length bs
+    → b ≡ get_or bs i b → Ascend 0 b
+ascends-here bs i b up less is = subst (Ascend 0) (sym is) (block-ascends bs i b up less)
+
+-- blocks after one is written, split or removed
+pub blocks-set : (bs : List (List Screened)) (i : ℕ) (n : List Screened) → All (λ b. 0 < length b) bs → 0 < length n
+    → All (λ b. 0 < length b) (set bs i n)
+blocks-set bs i n all some = All-set (λ (b : List Screened). 0 < length b) bs i n some all
+
+pub blocks-split : (bs : List (List Screened)) (i j : ℕ) (l u : List Screened) → All (λ b. 0 < length b) bs
+    → 0 < length l → 0 < length u → All (λ b. 0 < length b) (insert (set bs i l) j u)
+blocks-split bs i j l u all lower upper =
+    let P : List Screened → Type 0 = λ b. 0 < length b in
+    let more = blocks-set bs i l all lower in
+    All-append P (take j (set bs i l)) (u ∷ drop j (set bs i l)) (All-take P j (set bs i l) more)
+    (All-cons P u (drop j (set bs i l)) upper (All-drop P j (set bs i l) more))
+
+pub blocks-removed : (bs : List (List Screened)) (i : ℕ) → All (λ b. 0 < length b) bs → All (λ b. 0 < length b) (remove bs i)
+blocks-removed bs i all =
+    let P : List Screened → Type 0 = λ b. 0 < length b in
+    All-append P (take i bs) (drop (suc i) bs) (All-take P i bs all) (All-drop P (suc i) bs all)
+
+-- the block that has the pair of a place
+pub block-has : (r n : ℕ) (bs : List (List Screened)) → n ≤ length bs → All (λ x. rank_of x < r) (Before bs n)
+    → HasPlace r (joined bs) → n < length bs
+block-has r n bs fits before (x, member, is) =
+    elim (cases_lt n (length bs)) [
+      | inl lt ↦ lt
+      | inr ge ↦
+          let all : All (λ y. rank_of y < r) (joined bs) = subst (λ l. All (λ y. rank_of y < r) (joined l))
+          (take_all n bs ge) before in
+          let h = All-contains (λ y. rank_of y < r) (joined bs) x all member in
+          absurd (omega (arith, h, is))
+    ]
+
+pub pair-there : (r : ℕ) (bs : List (List Screened)) (i : ℕ) (b : List Screened) → IsPlace r bs i → b ≡ get_or bs i b
+    → HasPlace r (joined bs) → HasPlace r b
+pair-there r bs i b at same (x, member, is) =
+    elim (Contains-append_cases (Before bs i) (get_or bs i b ++ Behind bs i) x
+    (subst (λ l. Contains l x) (joined-at bs i b at.less) member)) [
+      | inl first ↦
+          let h = All-contains (λ y. rank_of y < r) (Before bs i) x at.before first in absurd (omega (arith, h, is))
+      | inr rest ↦ elim (Contains-append_cases (get_or bs i b) (Behind bs i) x rest) [
+        | inl here ↦ (x, subst (λ l. Contains l x) (sym same) here, is)
+        | inr last ↦
+            let h = All-contains (λ y. r < rank_of y) (Behind bs i) x at.behind last in absurd (omega (arith, h, is))
+      ]
+    ]
+
+pub take-one : (r : ℕ) (bs : List (List Screened)) (i : ℕ) (b n : List Screened) → IsPlace r bs i → b ≡ get_or bs i b
+    → n ≡ filter (is_other r) b → Before bs i ++ (n ++ Behind bs i) ≡ filter (is_other r) (joined bs)
+take-one r bs i b n at is new =
+    ap (λ l. Before bs i ++ (l ++ Behind bs i)) new
+    ∙ sym (ap (filter (is_other r)) (joined-at bs i b at.less ∙ ap (λ l. Before bs i ++ (l ++ Behind bs i)) (sym is))
+    ∙ (filter-append (is_other r) (Before bs i) (b ++ Behind bs i)
+    ∙ ap₂ (λ k l. k ++ l)
+    (all-stay r (Before bs i) (λ k d less e. let h = at.before k d less in absurd (omega (arith, h, e))))
+    (filter-append (is_other r) b (Behind bs i)
+    ∙ ap (λ l. filter (is_other r) b ++ l)
+    (all-stay r (Behind bs i) (λ k d less e. let h = at.behind k d less in absurd (omega (arith, h, e)))))))
+
+-- a block that was emptied goes
+pub removed-is : (bs : List (List Screened)) (i : ℕ) (n : List Screened) → remove (set bs i n) i ≡ remove bs i
+removed-is bs i n = ap₂ (λ k l. k ++ l) (take-set bs i n) (drop-set-lt (suc i) bs i n (omega arith))
+
+pub joined-emptied : (bs : List (List Screened)) (i : ℕ) (n : List Screened) → n ≡ []
+    → joined (remove (set bs i n) i) ≡ Before bs i ++ (n ++ Behind bs i)
+joined-emptied bs i n none =
+    ap joined (removed-is bs i n)
+    ∙ (joined-removed bs i ∙ ap (λ l. Before bs i ++ (l ++ Behind bs i)) (sym none))
+
+-- two blocks become one
+pub joined-merged : (bs : List (List Screened)) (i : ℕ) (d : List Screened) → suc i < length bs
+    → joined (set (remove bs (suc i)) i (get_or bs i d ++ get_or bs (suc i) d)) ≡ joined bs
+joined-merged [] i d less = absurd (omega (arith, less))
+joined-merged (b ∷ []) i d less = absurd (omega (arith, less))
+joined-merged (b ∷ e ∷ bs) zero d less = append_assoc b e (joined bs)
+joined-merged (b ∷ e ∷ bs) (suc i) d less = ap (λ l. b ++ l) (joined-merged (e ∷ bs) i d (omega (arith, less)))
+
+pub kept-below : (bs : List (List Screened)) (i : ℕ) (d : List Screened) → suc i < length bs
+    → get_or (remove bs (suc i)) i d ≡ get_or bs i d
+kept-below bs i d less =
+    get_or_append_left (take (suc i) bs) (drop (suc (suc i)) bs) d i
+    (omega (arith, less, length-take-le (suc i) bs (omega (arith, less))))
+    ∙ get_or-take (suc i) bs i d (omega arith)
+
+-- the pairs of one block more
+pub joined-more : (bs : List (List Screened)) (i : ℕ) (d : List Screened) → i < length bs
+    → joined (take (i + 1) bs) ≡ joined (take i bs) ++ get_or bs i d
+joined-more bs i d less =
+    ap joined (take_more bs i d less)
+    ∙ (flat_map-append (λ b. b) (take i bs) (get_or bs i d ∷ [])
+    ∙ ap (λ l. joined (take i bs) ++ l) (append-nil (get_or bs i d)))

@@ -1,0 +1,4 @@
+pub mod Blocks
+pub mod Nexts
+pub mod Places
+pub mod Unions

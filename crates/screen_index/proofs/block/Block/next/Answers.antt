@@ -1,0 +1,19 @@
+use Rattle.std.proofs.Common.{◌≡◌, ◌<◌, ◌≤◌, ◌∙◌, ap, arith, get_or, length, Some, subst, sym}
+use Rattle.screen_index.specs.Pairs.{Holds, IsNext, rank, rank_of}
+use Rattle.screen_index.proofs.Nexts.{first-is}
+use Rattle.screen_index.proofs.block.Block.next.Goals as goal
+
+pub returns-then-holds : goal.returns-then-holds
+returns-then-holds c =
+    let r = rank c.args.from.0 c.args.from.1 in
+    let now = c.args.self.now in
+    let want = c.args.want.now in
+    let place = c.loop-place.place in
+    let x = c.index-entry.result.now in
+    let less : place < length now = omega (arith, c.self.inside.entries.ok.0, ap (λ l. length l) c.self.view_is) in
+    let is : x ≡ get_or now place x = c.index-entry.ensures ∙ ap (λ l. get_or l place x) c.self.view_is in
+    let late : r ≤ rank_of (get_or now place x) = c.count_before-place.ensures.behind place x (omega arith) less in
+    let holds : Holds x.print want = c.holds-in-loop-place.ensures.value.0 c.if-holds.true in
+    subst (λ y. IsNext want r now (Some (y.id, y.version))) (sym is)
+    (first-is want r place now x c.requires less c.loop-place.invariant
+    (late, subst (λ y. Holds y.print want) is holds))

@@ -1,0 +1,70 @@
+-- For callers: pairs of an identifier and a version in ascending order, each with its print.
+use Rattle.std.specs.Prelude.{◌≡◌, ◌≢◌, ◌==◌, ◌+◌, ◌*◌, ◌<◌, ◌≤◌, All, Bool, Contains, length, List, [], ◌∷◌, None, Option, Some, if◌then◌else◌, nat_lt, not, true, ℕ}
+use Rattle.std.specs.List.{flat_map}
+use Rattle.chem_core.specs.Bits.{HasBit}
+use Rattle.screen_index.specs.declared.entry.Screened.{Screened}
+
+-- the order of places, by identifier and then by version, as that of numbers
+abbrev pub rank : ℕ → ℕ → ℕ
+rank id version = id * 4294967296 + version
+
+abbrev pub rank_of : Screened → ℕ
+rank_of x = rank x.id x.version
+
+-- strictly, from a rank on
+abbrev pub Ascend : ℕ → List Screened → Type 0
+Ascend r [] = Unit {0}
+Ascend r (x ∷ xs) = (r ≤ rank_of x) × Ascend (rank_of x + 1) xs
+
+-- no pair stands at a place, or some pair does
+abbrev pub Lacks : ℕ → List Screened → Type 0
+Lacks r xs = All (λ x. rank_of x ≢ r) xs
+
+abbrev pub HasPlace : ℕ → List Screened → Type 0
+HasPlace r xs = (x : Screened) × Contains xs x × (rank_of x ≡ r)
+
+-- a pair put in before the first that comes after it
+abbrev pub put_in : Screened → List Screened → List Screened
+put_in x [] = x ∷ []
+put_in x (y ∷ ys) = if nat_lt (rank_of x) (rank_of y) then x ∷ y ∷ ys else y ∷ put_in x ys
+
+-- it stands at another place
+abbrev pub is_other : ℕ → Screened → Bool
+is_other r x = not (rank_of x == r)
+
+-- a print has each bit of another
+abbrev pub Holds : List Bool → List Bool → Type 0
+Holds print need = (bit : ℕ) → HasBit need bit → HasBit print bit
+
+-- it stands at or after a place, and its print holds what is wanted
+abbrev pub IsWanted : List Bool → ℕ → Screened → Type 0
+IsWanted want from x = (from ≤ rank_of x) × Holds x.print want
+
+-- the least pair that is wanted; none where no pair is
+abbrev pub IsNext : List Bool → ℕ → List Screened → Option (ℕ × ℕ) → Type 0
+IsNext want from xs None = All (λ x. ¬ IsWanted want from x) xs
+IsNext want from xs (Some p) = (x : Screened) × Contains xs x × (x.id ≡ p.0) × (x.version ≡ p.1) × IsWanted want from x
+    × ((y : Screened) → Contains xs y → IsWanted want from y → rank_of x ≤ rank_of y)
+
+-- a print that holds the print of each
+abbrev pub AreCovered : List Bool → List Screened → Type 0
+AreCovered print xs = All (λ x. Holds print x.print) xs
+
+-- whether the last pair is before a place
+abbrev pub ends_before : ℕ → List Screened → Bool
+ends_before r [] = true
+ends_before r (x ∷ []) = nat_lt (rank_of x) r
+ends_before r (x ∷ y ∷ ys) = ends_before r (y ∷ ys)
+
+-- what contracts see of an index: its pairs, and the print that memory was taken for
+pub record IndexTerm : Type 0 where
+  pub entries : List Screened
+  pub reserved : Option (List Bool)
+
+-- the pairs of blocks, one block after another
+abbrev pub joined : List (List Screened) → List Screened
+joined blocks = flat_map (λ b. b) blocks
+
+-- blocks with pairs, all of them in ascending order
+abbrev pub AreBlocks : List (List Screened) → Type 0
+AreBlocks blocks = Ascend 0 (joined blocks) × All (λ b. 0 < length b) blocks

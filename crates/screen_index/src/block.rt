@@ -1,0 +1,194 @@
+//! A run of pairs in ascending order, with a union of their prints.
+ghost use Rattle.std.specs.Prelude.{◌≡◌, ◌≢◌, ◌+◌, ◌++◌, ◌<◌, ◌≤◌, [], ◌∷◌, All, Contains, IfOk, filter, length, vec_capacity};
+ghost use Rattle.std.specs.List.{AllWithin};
+ghost use Rattle.screen_index.specs.declared.entry.Screened.{Screened};
+ghost use Rattle.screen_index.specs.Pairs.{Ascend, HasPlace, IsNext, Lacks, ends_before, is_other, put_in, rank, rank_of};
+
+use crate::entry::Screened;
+use crate::union::{union_of, unite};
+use chem_core::Print;
+use std::alloc::{AllocError, Global};
+use std::marker::Model;
+
+/// For how many pairs a block has room.
+pub const ROOM: usize = 256;
+
+/// Contracts see the pairs. The union holds the print of each of them, and maybe bits of others that were there.
+#[derive(Drop)]
+pub struct Block {
+    entries: Vec<Screened>,
+    union: Print,
+}
+
+impl Model for Block {
+    ghost use Rattle.std.specs.Prelude.{◌≤◌, List, length};
+    ghost use Rattle.std.specs.Vec.{vec_capacity};
+    ghost use Rattle.screen_index.specs.declared.entry.Screened.{Screened};
+    ghost use Rattle.screen_index.specs.Pairs.{AreCovered};
+
+    ghost Value = { List Screened };
+
+    ghost view = { λ b. b.entries.items };
+
+    ghost invariant = { λ b. (256 ≤ vec_capacity b.entries) × (length b.entries.items ≤ 256)
+        × AreCovered b.union b.entries.items };
+}
+
+impl Block {
+    /// Without pairs.
+    pub fn new(alloc: Global) -> Result<Block, AllocError>
+        ensures { IfOk result (λ b. b ≡ []) }
+    {
+        Ok(Block {
+            entries: Vec::with_capacity(alloc, ROOM)?,
+            union: Print::empty(),
+        })
+    }
+
+    pub fn len(&self) -> usize
+        ensures len { result ≡ length self.now }
+        ensures few { result ≤ ROOM }
+    {
+        self.entries.len()
+    }
+
+    /// Whether the last pair is before a place.
+    pub fn ends_before(&self, place: (u32, u32)) -> bool
+        ensures { result ≡ ends_before (rank place.0 place.1) self.now }
+    {
+        let len = self.entries.len();
+        len == 0 || self.entries[len - 1].is_before(place)
+    }
+
+    // How many pairs are before a place.
+    fn count_before(&self, place: (u32, u32)) -> usize
+        requires { Ascend 0 self.now }
+        ensures within { result ≤ length self.now }
+        ensures before { AllWithin (λ x. rank_of x < rank place.0 place.1) self.now 0 result }
+        ensures behind { AllWithin (λ x. rank place.0 place.1 ≤ rank_of x) self.now result (length self.now) }
+    {
+        self.entries
+            .as_slice()
+            .partition_point(|entry| entry.is_before(place))
+    }
+
+    /// Puts a pair in at its place.
+    pub fn insert(&mut self, entry: Screened)
+        requires room { length self.old < ROOM }
+        requires ascending { Ascend 0 self.old }
+        requires absent { Lacks (rank_of entry) self.old }
+        ensures { self.new ≡ put_in entry self.old }
+    {
+        let place = self.count_before((entry.id, entry.version));
+        unite(&mut self.union, &entry.print);
+        let Ok(()) = self.entries.insert(place, entry) else {
+            unreachable!()
+        };
+    }
+
+    /// Puts a pair into a full block, whose pairs from some index on move to a block without pairs. New pairs behind the
+    /// others, or before them, leave full blocks behind.
+    pub fn insert_split(&mut self, entry: Screened, upper: &mut Block)
+        requires full { ROOM ≤ length self.old }
+        requires ascending { Ascend 0 self.old }
+        requires absent { Lacks (rank_of entry) self.old }
+        requires empty { upper.old ≡ [] }
+        ensures whole { self.new ++ upper.new ≡ put_in entry self.old }
+        ensures some { 0 < length self.new }
+        ensures upper_some { 0 < length upper.new }
+    {
+        let place = (entry.id, entry.version);
+        self.split(split_point(self.count_before(place), self.len()), upper);
+        if upper.count_before(place) == 0 {
+            self.insert(entry);
+        } else {
+            upper.insert(entry);
+        }
+    }
+
+    /// Takes the pair of a place out.
+    pub fn remove(&mut self, place: (u32, u32))
+        requires ascending { Ascend 0 self.old }
+        requires there { HasPlace (rank place.0 place.1) self.old }
+        ensures { self.new ≡ filter (is_other (rank place.0 place.1)) self.old }
+    {
+        let index = self.count_before(place);
+        let _entry = self.entries.remove(index);
+    }
+
+    /// The least pair from a place on whose print holds what is wanted.
+    pub fn next(&self, want: &Print, from: (u32, u32)) -> Option<(u32, u32)>
+        requires { Ascend 0 self.now }
+        ensures { IsNext want.now (rank from.0 from.1) self.now result }
+    {
+        if !self.union.holds(want) {
+            return None;
+        }
+        for place in self.count_before(from)..self.entries.len() {
+            let entry = &self.entries[place];
+            if entry.print.holds(want) {
+                return Some((entry.id, entry.version));
+            }
+        }
+        None
+    }
+
+    // Moves the pairs from an index on into a block without pairs.
+    fn split(&mut self, index: usize, upper: &mut Block)
+        requires within { index ≤ length self.old }
+        requires empty { upper.old ≡ [] }
+        ensures whole { self.new ++ upper.new ≡ self.old }
+        ensures lower { length self.new ≡ index }
+        ensures room { length self.old ≤ ROOM }
+    {
+        move_tail(&mut self.entries, index, &mut upper.entries);
+        self.union = union_of(self.entries.as_slice());
+        upper.union = union_of(upper.entries.as_slice());
+    }
+
+    /// Moves all pairs of the next block to the end of this one.
+    pub fn append(&mut self, next: &mut Block)
+        requires { length self.old + length next.old ≤ ROOM }
+        ensures moved { self.new ≡ self.old ++ next.old }
+        ensures empty { next.new ≡ [] }
+    {
+        unite(&mut self.union, &next.union);
+        let Ok(()) = self.entries.append(&mut next.entries) else {
+            unreachable!()
+        };
+    }
+}
+
+// Moves the elements from an index on to the end of an empty vector with room for them.
+fn move_tail(entries: &mut Vec<Screened>, index: usize, upper: &mut Vec<Screened>)
+    requires within { index ≤ length entries.old.items }
+    requires room { length entries.old.items ≤ index + vec_capacity upper.old }
+    requires empty { upper.old.items ≡ [] }
+    ensures whole { entries.new.items ++ upper.new.items ≡ entries.old.items }
+    ensures lower { length entries.new.items ≡ index }
+    ensures capacity { vec_capacity entries.new ≡ vec_capacity entries.old }
+    ensures upper_capacity { vec_capacity upper.new ≡ vec_capacity upper.old }
+{
+    while entries.len() > index {
+        if let Some(entry) = entries.pop() {
+            upper.push_reserved(entry);
+        }
+    }
+    upper.as_mut_slice().reverse();
+}
+
+// At which index a full block is split for a pair that has `before` of its `len` pairs before it.
+fn split_point(before: usize, len: usize) -> usize
+    requires { ROOM ≤ len }
+    ensures some { 0 < result }
+    ensures within { result < len }
+    ensures few { result < ROOM }
+{
+    if before == 0 {
+        1
+    } else if before == len {
+        ROOM - 1
+    } else {
+        ROOM / 2
+    }
+}

@@ -1,0 +1,181 @@
+//! The blocks of an index, and where a pair goes among them.
+ghost use Rattle.std.specs.Prelude.{◌≡◌, ◌+◌, ◌<◌, ◌≤◌, [], All, Contains, IfSome, None, OnErr, OnOk, Some, drop, filter, length, take, vec_capacity, vec_len};
+ghost use Rattle.screen_index.specs.declared.entry.Screened.{Screened};
+ghost use Rattle.screen_index.specs.Pairs.{AreBlocks, Ascend, HasPlace, IsNext, Lacks, is_other, joined, put_in, rank, rank_of};
+
+use crate::block::{Block, ROOM};
+use crate::entry::Screened;
+use chem_core::Print;
+use std::alloc::{AllocError, Global};
+use std::marker::Model;
+
+/// A map from identifiers and versions to prints. Contracts see its pairs in ascending order, and the print for which
+/// memory was taken.
+#[derive(Drop)]
+pub struct ScreenIndex {
+    alloc: Global,
+    blocks: Vec<Block>,
+    spare: Option<Block>,
+    print: Option<Print>,
+}
+
+impl Model for ScreenIndex {
+    ghost use Rattle.std.specs.Prelude.{◌≡◌, ◌<◌, [], IfSome, Some, vec_capacity, vec_len};
+    ghost use Rattle.screen_index.specs.Pairs.{AreBlocks, IndexTerm, joined};
+
+    ghost Value = { IndexTerm };
+
+    ghost view = { λ s. record { entries = joined s.blocks.items; reserved = s.print } };
+
+    ghost invariant = { λ s. AreBlocks s.blocks.items × IfSome s.spare (λ b. b ≡ [])
+        × IfSome s.print (λ _. (s.spare ≡ Some []) × (vec_len s.blocks < vec_capacity s.blocks)) };
+}
+
+impl ScreenIndex {
+    /// Without pairs. It takes no memory.
+    pub fn new(alloc: Global) -> ScreenIndex
+        ensures entries { result.entries ≡ [] }
+        ensures reserved { result.reserved ≡ None }
+    {
+        ScreenIndex {
+            alloc,
+            blocks: Vec::new(alloc),
+            spare: None,
+            print: None,
+        }
+    }
+
+    /// Takes the memory for one pair more, with this print.
+    pub fn reserve(&mut self, print: &Print) -> Result<(), AllocError>
+        ensures entries { self.new.entries ≡ self.old.entries }
+        ensures ok { OnOk result (self.new.reserved ≡ Some print.now) }
+        ensures err { OnErr result (self.new.reserved ≡ self.old.reserved) }
+    {
+        let print = print.clone()?;
+        self.blocks.reserve(1)?;
+        if self.spare.is_none() {
+            self.spare = Some(Block::new(self.alloc)?);
+        }
+        self.print = Some(print);
+        Ok(())
+    }
+
+    /// Puts in a pair that is new. It takes no memory.
+    pub fn add(&mut self, id: u32, version: u32, print: &Print)
+        requires reserved { self.old.reserved ≡ Some print.now }
+        requires absent { Lacks (rank id version) self.old.entries }
+        ensures entries { self.new.entries
+            ≡ put_in (record { id = id; version = version; print = print.now }) self.old.entries }
+        ensures reserved { self.new.reserved ≡ None }
+    {
+        let (Some(print), Some(spare)) = (self.print.take(), self.spare.take()) else {
+            return;
+        };
+        self.spare = put(&mut self.blocks, spare, Screened { id, version, print });
+    }
+
+    /// Takes out a pair that is there with this print. It takes no memory.
+    pub fn drop_entry(&mut self, id: u32, version: u32, print: &Print)
+        requires { Contains self.old.entries (record { id = id; version = version; print = print.now }) }
+        ensures entries { self.new.entries ≡ filter (is_other (rank id version)) self.old.entries }
+        ensures reserved { self.new.reserved ≡ self.old.reserved }
+    {
+        take_out(&mut self.blocks, (id, version));
+    }
+
+    /// The least pair from a place on whose print holds what is wanted. `None` exactly where there is none. It takes no
+    /// memory.
+    pub fn next(&self, want: &Print, from: (u32, u32)) -> Option<(u32, u32)>
+        ensures next { IsNext want.now (rank from.0 from.1) self.now.entries result }
+        ensures ascending { Ascend 0 self.now.entries }
+    {
+        for place in block_of(&self.blocks, from)..self.blocks.len() {
+            if let Some(found) = self.blocks[place].next(want, from) {
+                return Some(found);
+            }
+        }
+        None
+    }
+}
+
+// How many blocks end before a place.
+fn block_of(blocks: &Vec<Block>, place: (u32, u32)) -> usize
+    requires { AreBlocks blocks.now.items }
+    ensures within { result ≤ length blocks.now.items }
+    ensures before { All (λ x. rank_of x < rank place.0 place.1) (joined (take result blocks.now.items)) }
+    ensures behind { All (λ x. rank place.0 place.1 < rank_of x) (joined (drop (result + 1) blocks.now.items)) }
+{
+    blocks
+        .as_slice()
+        .partition_point(|block| block.ends_before(place))
+}
+
+// Puts a pair in, and gives the spare block back where it was not needed.
+fn put(blocks: &mut Vec<Block>, mut spare: Block, entry: Screened) -> Option<Block>
+    requires blocks { AreBlocks blocks.old.items }
+    requires room { vec_len blocks.old < vec_capacity blocks.old }
+    requires empty { spare ≡ [] }
+    requires absent { Lacks (rank_of entry) (joined blocks.old.items) }
+    ensures entries { joined blocks.new.items ≡ put_in entry (joined blocks.old.items) }
+    ensures blocks { AreBlocks blocks.new.items }
+    ensures spare { IfSome result (λ b. b ≡ []) }
+{
+    let len = blocks.len();
+    if len == 0 {
+        spare.insert(entry);
+        blocks.push_reserved(spare);
+        return None;
+    }
+    let place = block_of(blocks, (entry.id, entry.version)).min(len - 1);
+    let block = &mut blocks[place];
+    if block.len() < ROOM {
+        block.insert(entry);
+        return Some(spare);
+    }
+    block.insert_split(entry, &mut spare);
+    let Ok(()) = blocks.insert(place + 1, spare) else {
+        unreachable!()
+    };
+    None
+}
+
+// Takes the pair of a place out. A block that has few pairs left goes into the one before it or behind it.
+fn take_out(blocks: &mut Vec<Block>, place: (u32, u32))
+    requires blocks { AreBlocks blocks.old.items }
+    requires there { HasPlace (rank place.0 place.1) (joined blocks.old.items) }
+    ensures entries { joined blocks.new.items
+        ≡ filter (is_other (rank place.0 place.1)) (joined blocks.old.items) }
+    ensures blocks { AreBlocks blocks.new.items }
+    ensures len { vec_len blocks.new ≤ vec_len blocks.old }
+    ensures capacity { vec_capacity blocks.new ≡ vec_capacity blocks.old }
+{
+    let index = block_of(blocks, place);
+    let block = &mut blocks[index];
+    block.remove(place);
+    if block.len() == 0 {
+        let _empty = blocks.remove(index);
+        return;
+    }
+    join_next(blocks, index);
+    if index > 0 {
+        join_next(blocks, index - 1);
+    }
+}
+
+// Moves the pairs of the next block into this one, where both together fill half a block at most.
+fn join_next(blocks: &mut Vec<Block>, index: usize)
+    requires blocks { AreBlocks blocks.old.items }
+    requires within { index < vec_len blocks.old }
+    ensures entries { joined blocks.new.items ≡ joined blocks.old.items }
+    ensures blocks { AreBlocks blocks.new.items }
+    ensures within { index < vec_len blocks.new }
+    ensures len { vec_len blocks.new ≤ vec_len blocks.old }
+    ensures capacity { vec_capacity blocks.new ≡ vec_capacity blocks.old }
+{
+    if blocks.len() <= index + 1 || ROOM / 2 < blocks[index].len() + blocks[index + 1].len() {
+        return;
+    }
+    let mut next = blocks.remove(index + 1);
+    let block = &mut blocks[index];
+    block.append(&mut next);
+}

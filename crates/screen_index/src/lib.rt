@@ -1,0 +1,14 @@
+//! An index of prints by identifier and version: from a place on, the next pair whose print holds what a pattern
+//! needs. All but `reserve` take no memory.
+//!
+//! The pairs stand in ascending order in blocks of at most 256, each with a union of its prints. A block whose union
+//! lacks a bit is passed over; to put a pair in, or to take one out, moves no more than one block.
+#![tactic(auto)]
+
+mod block;
+mod entry;
+mod index;
+mod union;
+
+pub use index::ScreenIndex;
+
