@@ -8,7 +8,7 @@ use Rattle.line_walk.proofs.Unique.{tails}
 use Rattle.smarts_words.specs.Words.{smarts_words, BeginsAtom}
 use Rattle.smarts_words.proofs.Apart.{smarts_apart}
 use Rattle.smarts_parse.specs.Whole.{Tree, Nodes, Item, plain, group, item_text}
-use Rattle.smarts_parse.specs.Survey.{Read, IsItemOf, IsItemRead}
+use Rattle.smarts_parse.specs.Draft.{Read, IsItemOf, IsItemRead}
 
 -- what a tree is spelled as begins as an atom
 pub tree_begins : (tree : Tree) (rest : List ℕ) → walk.IsTree smarts_words tree

@@ -12,7 +12,7 @@ use Rattle.smarts_words.specs.Words.{smarts_words, BeginsAtom}
 use Rattle.smarts_words.proofs.Apart.{smarts_apart}
 use Rattle.smarts_parse.specs.Whole.{Nodes, Item, plain, group, tree_of, item_text, others_text, MayMeet, AreItems, nodes_from, items_depth}
 use Rattle.smarts_parse.specs.Reading.{is_group}
-use Rattle.smarts_parse.specs.Survey.{Read, StopsAfter, IsItemOf, IsItemRead, AreItemsRead}
+use Rattle.smarts_parse.specs.Draft.{Read, StopsAfter, IsItemOf, IsItemRead, AreItemsRead}
 use Rattle.smarts_parse.proofs.ItemRead.{tree_begins}
 
 -- items, each followed by a dot

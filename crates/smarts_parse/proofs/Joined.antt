@@ -2,7 +2,7 @@
 use Rattle.std.proofs.Common.{◌≡◌, ℕ, max, List, [], ◌∷◌, ◌++◌, arith}
 use Rattle.smarts_parse.specs.Whole.{Parts, none, part, AreParts, parts_depth}
 use Rattle.smarts_parse.specs.Reading.{DoPartsPair}
-use Rattle.smarts_parse.proofs.Parts.{join}
+use Rattle.smarts_parse.specs.Draft.{join}
 
 pub are-join : (xs ys : List (List ℕ)) (p q : Parts) → AreParts xs p → AreParts ys q → AreParts (xs ++ ys) (join p q)
 are-join [] ys none q h k = k

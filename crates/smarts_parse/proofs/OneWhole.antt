@@ -6,7 +6,7 @@ use Rattle.smarts_words.specs.Words.{smarts_words}
 use Rattle.smarts_words.proofs.Apart.{smarts_apart}
 use Rattle.smarts_parse.specs.Whole.{Tree, Item, plain, group, item_text, others_text, AreItems, Parts, none, part, part_texts, tree_atoms, AreParts, Whole, nodes_from, IsWholeOf}
 use Rattle.line_walk.specs.Places.{atoms_by}
-use Rattle.smarts_parse.specs.Survey.{IsItemOf}
+use Rattle.smarts_parse.specs.Draft.{IsItemOf}
 use Rattle.smarts_parse.proofs.ItemRead.{not_open, group_text}
 use Rattle.smarts_parse.proofs.ItemsRead.{stops_after, first_tree}
 

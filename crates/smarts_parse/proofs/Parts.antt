@@ -1,5 +1,5 @@
 -- Recursive parts one after another.
-use Rattle.std.proofs.Common.{◌≡◌, ℕ, ◌+◌, ◌≤◌, max, Bool, true, false, ◌||◌, List, [], ◌∷◌, ◌++◌, length, drop, refl, sym, ◌∙◌, ap, subst, arith, append_assoc, length-append}
+use Rattle.std.proofs.Common.{◌≡◌, ℕ, ◌+◌, Bool, true, false, ◌||◌, List, [], ◌∷◌, ◌++◌, length, drop, refl, sym, ◌∙◌, ap, subst, arith, append_assoc, length-append}
 use Rattle.std.proofs.lemmas.List.Folds.{list_any-append}
 use Rattle.std.specs.List.{list_any}
 use Rattle.smarts_words.specs.declared.word.Step.TheVariants as steps
@@ -8,18 +8,12 @@ use Rattle.smarts_words.specs.declared.word.AtomWord.{AtomWord}
 use Rattle.smarts_words.specs.declared.word.AtomWord.TheVariants as words
 use Rattle.smarts_words.specs.Bracket.{AtomValue}
 use Rattle.smarts_parse.specs.declared.pattern.AtomPrim.{AtomPrim}
-use Rattle.smarts_parse.specs.declared.pattern.AtomPrim.TheVariants as atoms
 use Rattle.smarts_parse.specs.Pattern.{GraphTerm}
-use Rattle.smarts_parse.specs.Whole.{Parts, none, part, tree_atoms, AreParts, parts_atoms, count_of, nesting_of}
+use Rattle.smarts_parse.specs.Whole.{Parts, none, part, tree_atoms, AreParts, parts_atoms, count_of}
 use Rattle.smarts_parse.specs.Meaning.{atom_prim, atom_steps, numbers_from, ArePartTerms}
 use Rattle.smarts_parse.specs.Reading.{is_stereo, DoPartsPair}
-use Rattle.smarts_parse.specs.Steps.{part_count, parts_in}
-use Rattle.smarts_parse.specs.Build.{AreBuildable}
-
--- parts and then others
-abbrev pub join : Parts → Parts → Parts
-join none q = q
-join (part tree inner others) q = part tree inner (join others q)
+use Rattle.smarts_parse.specs.Steps.{part_count}
+use Rattle.smarts_parse.specs.Draft.{join}
 
 pub record Split (xs ys : List (List ℕ)) (p : Parts) : Type 0 where
   pub mine : Parts
@@ -44,10 +38,6 @@ split (x ∷ xs) ys (part tree inner others) h =
 pub count-join : (p q : Parts) → count_of (join p q) ≡ count_of p + count_of q
 count-join none q = omega arith
 count-join (part tree inner others) q = let e = count-join others q in omega arith
-
-nesting-join : (p q : Parts) → nesting_of (join p q) ≡ max (nesting_of p) (nesting_of q)
-nesting-join none q = omega arith
-nesting-join (part tree inner others) q = let e = nesting-join others q in omega arith
 
 pub atoms-join : (p q : Parts) → parts_atoms (join p q) ≡ parts_atoms p ++ parts_atoms q
 atoms-join none q = refl
@@ -113,45 +103,6 @@ none_in xs ys h =
     let t : AtomValue → Bool = λ a. list_any is_stereo a.steps in
     or_false (list_any t xs) (list_any t ys) (sym (list_any-append t xs ys) ∙ h)
 
--- what can be built together can be built one after the other
-pub mine_buildable : (xs ys : List (List ℕ)) (p : Parts) (levels n : ℕ) (s : Split xs ys p)
-    → AreBuildable (xs ++ ys) p levels n → AreBuildable xs s.mine levels n
-mine_buildable xs ys p levels n s h =
-    let f = subst (λ (w : Parts). AreBuildable (xs ++ ys) w levels n) s.is h in
-    let a = count-join s.mine s.others in
-    let b = nesting-join s.mine s.others in
-    let c = atoms-join s.mine s.others in
-    let d = ap (λ w. length w) c ∙ length-append (parts_atoms s.mine) (parts_atoms s.others) in
-    let g = f.nesting in let i = f.few_parts in let j = f.few_atoms in
-    record {
-      of_texts = s.mine_of;
-      pair = (pair-join s.mine s.others f.pair).0;
-      plain = (none_in (parts_atoms s.mine) (parts_atoms s.others)
-          (ap (λ w. list_any (λ a. list_any is_stereo a.steps) w) (sym c) ∙ f.plain)).0;
-      nesting = omega arith;
-      few_parts = omega arith;
-      few_atoms = omega arith;
-    }
-
-pub others_buildable : (xs ys : List (List ℕ)) (p : Parts) (levels n : ℕ) (s : Split xs ys p)
-    → AreBuildable (xs ++ ys) p levels n → AreBuildable ys s.others levels (n + count_of s.mine)
-others_buildable xs ys p levels n s h =
-    let f = subst (λ (w : Parts). AreBuildable (xs ++ ys) w levels n) s.is h in
-    let a = count-join s.mine s.others in
-    let b = nesting-join s.mine s.others in
-    let c = atoms-join s.mine s.others in
-    let d = ap (λ w. length w) c ∙ length-append (parts_atoms s.mine) (parts_atoms s.others) in
-    let g = f.nesting in let i = f.few_parts in let j = f.few_atoms in
-    record {
-      of_texts = s.others_of;
-      pair = (pair-join s.mine s.others f.pair).1;
-      plain = (none_in (parts_atoms s.mine) (parts_atoms s.others)
-          (ap (λ w. list_any (λ a. list_any is_stereo a.steps) w) (sym c) ∙ f.plain)).1;
-      nesting = omega arith;
-      few_parts = omega arith;
-      few_atoms = omega arith;
-    }
-
 nil_steps : (ns : List ℕ) → atom_steps ns [] ≡ []
 nil_steps [] = refl
 nil_steps (n ∷ ns) = refl
@@ -168,23 +119,6 @@ pub steps_plain : (ns : List ℕ) (s : Step AtomWord) (ss : List (Step AtomWord)
 steps_plain ns (steps.Prim words.Part) ss h = absurd (omega arith)
 steps_plain [] s ss h = refl
 steps_plain (n ∷ ns) s ss h = refl
-
--- an atom takes the first numbers
-first_step : (ns ms : List ℕ) (s : Step AtomWord) (ss : List (Step AtomWord))
-    → ((ns : List ℕ) → parts_in ss ≤ length ns → atom_steps (ns ++ ms) ss ≡ atom_steps ns ss)
-    → parts_in (s ∷ ss) ≤ length ns
-    → atom_steps (ns ++ ms) (s ∷ ss) ≡ atom_steps ns (s ∷ ss)
-first_step [] ms (steps.Prim words.Part) ss more h = absurd (omega arith)
-first_step (n ∷ ns) ms (steps.Prim words.Part) ss more h =
-    ap (λ w. steps.Prim (atoms.Rec n) ∷ w) (more ns (omega arith))
-first_step ns ms s ss more h =
-    steps_plain (ns ++ ms) s ss refl ∙ ap (λ w. plain_step s ∷ w) (more ns (omega arith))
-    ∙ sym (steps_plain ns s ss refl)
-
-pub steps_first : (ns ms : List ℕ) (ss : List (Step AtomWord)) → parts_in ss ≤ length ns
-    → atom_steps (ns ++ ms) ss ≡ atom_steps ns ss
-steps_first ns ms [] h = nil_steps (ns ++ ms) ∙ sym (nil_steps ns)
-steps_first ns ms (s ∷ ss) h = first_step ns ms s ss (λ ns k. steps_first ns ms ss k) h
 
 pub drop_first : (ns ms : List ℕ) → drop (length ns) (ns ++ ms) ≡ ms
 drop_first [] ms = refl

@@ -93,16 +93,17 @@ parts_hold p m k a g sound get =
     let last = holds_last p.recs m k a in
     let names = (sound.parts k g get).names in
     let same : (j b : ℕ) → j < k → PartsHold p.recs m k j b ↔ PartsHold p.recs m all j b = λ j b l.
-        let mine = holds_at p.recs m k j b l in
-        let whole = holds_at p.recs m all j b (omega arith) in
-        (λ h. whole.1 (mine.0 h), λ h. mine.1 (whole.0 h)) in
+    let mine = holds_at p.recs m k j b l in
+    let whole = holds_at p.recs m all j b (omega arith) in
+    (λ h. whole.1 (mine.0 h), λ h. mine.1 (whole.0 h)) in
     let back : (j b : ℕ) → j < k → PartsHold p.recs m all j b ↔ PartsHold p.recs m k j b =
     λ j b l. let one = same j b l in (one.1, one.0) in (
       λ h.
           let w = last.1 (up.0 h) in
           let is : w.0 ≡ g = same_Some w.0 g (sym w.1 ∙ get) in
           let F : GraphTerm → Type 0 = λ x. IsEmbedding (PartsHold p.recs m k) x m w.2 in
-          (w.2, embedding_alike (PartsHold p.recs m k) (PartsHold p.recs m all) k m same g w.2 names (subst F is w.3), w.4),
+          let here = subst F is w.3 in
+          (w.2, embedding_alike (PartsHold p.recs m k) (PartsHold p.recs m all) k m same g w.2 names here, w.4),
       λ h. up.1 (last.0 (
         g,
         get,

@@ -1,21 +1,21 @@
 -- Recursive parts that are left to read.
-use Rattle.std.proofs.Common.{◌≡◌, inl, inr, ℕ, ◌+◌, ◌≤◌, max, Bool, true, false, ◌||◌, List, [], ◌∷◌, ◌++◌, length, map, refl, sym, ◌∙◌, ap, subst, arith}
-use Rattle.std.proofs.lemmas.List.{length-append, map-append}
-use Rattle.std.proofs.lemmas.List.Folds.{list_any-append}
+use Rattle.std.proofs.Common.{◌≡◌, ℕ, ◌+◌, ◌≤◌, max, Bool, List, [], ◌∷◌, ◌++◌, length, map, reverse, refl, sym, ◌∙◌, ap, subst, arith}
+use Rattle.std.proofs.lemmas.List.{length-append, map-append, reverse-append}
 use Rattle.std.specs.List.{list_any}
 use Rattle.line_walk.specs.Tree as walk
 use Rattle.line_walk.specs.Places.{placed_nodes, atoms_by}
+use Rattle.line_walk.specs.Walk.{Holds}
 use Rattle.smarts_words.specs.Bracket.{AtomValue}
 use Rattle.smarts_words.specs.Words.{smarts_words}
-use Rattle.smarts_parse.specs.declared.survey.Survey.{Survey}
-use Rattle.smarts_parse.specs.Whole.{Tree, Item, item_text, others_text, AreItems, Parts, none, part, part_texts, tree_atoms, AreParts, Whole, IsWholeOf, nodes_from, items_depth, all_atoms, parts_atoms, count_of, nesting_of, parts_depth, whole_depth}
-use Rattle.smarts_parse.specs.Reading.{is_group, is_stereo, is_ring_set, DoPartsPair, DoRingsPair}
-use Rattle.smarts_parse.specs.Survey.{IsSurveyOf, IsTaken, Left, at_level}
-use Rattle.smarts_parse.proofs.ItemsRead.{or_false}
+use Rattle.smarts_parse.specs.declared.draft.Sizes.{Sizes}
+use Rattle.smarts_parse.specs.declared.draft.Draft.{Draft}
+use Rattle.smarts_parse.specs.Whole.{Tree, Item, item_text, others_text, AreItems, Parts, none, part, part_texts, tree_atoms, AreParts, Whole, IsWholeOf, nodes_of, nodes_from, items_depth, all_atoms, parts_atoms, count_of, nesting_of, parts_depth, whole_depth}
+use Rattle.smarts_parse.specs.Reading.{is_group}
+use Rattle.smarts_parse.specs.Draft.{Read, join, Close, AreRead, IsDraftOf, IsTaken, Left, at_level}
 use Rattle.smarts_parse.proofs.OneWhole.{same_tree, same_items, same_list}
 use Rattle.smarts_parse.proofs.Weights.{weight, weight-append, text_weight, items_weight}
-use Rattle.smarts_parse.proofs.Parts.{join, split, count-join, atoms-join, pair-join}
-use Rattle.smarts_parse.proofs.Joined.{are-join, depth-join, pair_both}
+use Rattle.smarts_parse.proofs.Parts.{split, count-join, atoms-join}
+use Rattle.smarts_parse.proofs.Joined.{are-join, depth-join}
 
 abbrev pub texts_of : List Left → List (List ℕ)
 texts_of left = map (λ x. x.text) left
@@ -30,31 +30,27 @@ abbrev pub top_level : List Left → ℕ
 top_level [] = 0
 top_level (x ∷ xs) = max x.level (top_level xs)
 
-abbrev pub HasStereo : AtomValue → Bool
-HasStereo a = list_any is_stereo a.steps
-
-abbrev pub HasRingSet : AtomValue → Bool
-HasRingSet a = list_any is_ring_set a.steps
-
--- the survey of what was read, and of recursive parts that are left
-pub record IsSoFar (whole : Whole) (s : Survey) (left : List Left) (p : Parts) : Type 0 where
-  pub stereo : list_any HasStereo (all_atoms whole) ≡ (s.stereo || list_any HasStereo (parts_atoms p))
-  pub ring_set : list_any HasRingSet (all_atoms whole) ≡ (s.ring_set || list_any HasRingSet (parts_atoms p))
-  pub pair : s.rings ≡ false → DoPartsPair p → DoRingsPair whole
-  pub inner : DoRingsPair whole → DoPartsPair p
-  pub apart : s.rings ≡ true → ¬ DoRingsPair whole
-  pub grouped : s.grouped ≡ list_any is_group (whole.first ∷ whole.others)
+-- what was read, and of the recursive parts that are left
+pub record IsSoFar (whole : Whole) (top : Read) (g : Bool) (s : Sizes) (left : List Left) (p : Parts)
+    (trees : List Tree) : Type 0 where
+  pub top_is : Holds smarts_words (nodes_of whole) top
+  pub closing : Close p trees whole.parts
+  pub grouped : g ≡ list_any is_group (whole.first ∷ whole.others)
   pub atoms : length (all_atoms whole) ≡ s.atoms + length (parts_atoms p)
   pub parts : count_of whole.parts ≡ s.parts + count_of p
   pub nesting : nesting_of whole.parts ≡ max s.nesting (nesting_at left p)
   pub depth : whole_depth whole ≡ max s.depth (parts_depth p)
 
 -- what is left, with what was read, is the whole text
-pub record Worklist (text : List ℕ) (s : Survey) (left : List Left) : Type 0 where
-  pub found : (p : Parts) → AreParts (texts_of left) p → (whole : Whole) × IsWholeOf text whole × IsSoFar whole s left p
-  pub only : (whole : Whole) → IsWholeOf text whole → (p : Parts) × AreParts (texts_of left) p
-  pub fits : s.atoms + s.parts + weight (texts_of left) ≤ length text
-  pub level : top_level left ≤ s.parts + 1
+pub record Worklist (text : List ℕ) (top : Read) (g : Bool) (s : Sizes) (parts : List Read) (left : List Left) : Type 0
+  where
+    pub trees : List Tree
+    pub read : AreRead trees (reverse parts)
+    pub found : (p : Parts) → AreParts (texts_of left) p
+        → (whole : Whole) × IsWholeOf text whole × IsSoFar whole top g s left p trees
+    pub only : (whole : Whole) → IsWholeOf text whole → (p : Parts) × AreParts (texts_of left) p
+    pub fits : s.atoms + s.parts + weight (texts_of left) ≤ length text
+    pub level : top_level left ≤ s.parts + 1
 
 texts-level : (k : ℕ) (ts : List (List ℕ)) → texts_of (at_level k ts) ≡ ts
 texts-level k [] = refl
@@ -83,45 +79,34 @@ nesting-join (x ∷ xs) ys none q h = absurd h
 nesting-join (x ∷ xs) ys (part tree inner others) q h = let e = nesting-join xs ys others q h.2 in omega arith
 
 -- nothing was taken in before
-abbrev pub blank : Bool → Survey
-blank g = record {
-  stereo = false;
-  ring_set = false;
-  rings = false;
-  grouped = g;
-  atoms = 0;
-  parts = 0;
-  nesting = 0;
-  depth = 0;
-}
+abbrev pub blank : Sizes
+blank = record { atoms = 0; parts = 0; nesting = 0; depth = 0 }
 
 module _ (text : List ℕ) (first : Item) (others : List Item) (are : AreItems first others)
     (spelled : text ≡ item_text first ++ others_text others)
-    (g : Bool) (grouped : g ≡ list_any is_group (first ∷ others)) (s : Survey) (deep : ℕ)
-    (deep_is : deep ≡ items_depth (first ∷ others))
-    (taken : IsTaken (blank g) s (nodes_from 0 (first ∷ others)) deep 0) where
+    (g : Bool) (grouped : g ≡ list_any is_group (first ∷ others)) (s : Sizes) (top : Read)
+    (deep_is : top.depth ≡ items_depth (first ∷ others))
+    (holds : Holds smarts_words (nodes_from 0 (first ∷ others)) top)
+    (taken : IsTaken blank s (length top.atoms.items) top.depth 0) where
   abbrev tops : List AtomValue
   tops = atoms_by smarts_words (nodes_from 0 (first ∷ others))
 
   abbrev with_parts : Parts → Whole
   with_parts p = record { first = first; others = others; parts = p }
 
-  start_so_far : (p : Parts) → AreParts (part_texts tops) p → IsSoFar (with_parts p) s (at_level 1 (part_texts tops)) p
+  start_so_far : (p : Parts) → AreParts (part_texts tops) p
+      → IsSoFar (with_parts p) top g s (at_level 1 (part_texts tops)) p []
   start_so_far p h =
       let a = taken.atoms in
       let c = taken.parts in
       let d = taken.depth in
       let n = taken.nesting in
+      let k = ap length holds.atoms in
       let l = level_nesting 0 (part_texts tops) p h in
       record {
-        stereo = list_any-append HasStereo tops (parts_atoms p)
-            ∙ ap (λ v. v || list_any HasStereo (parts_atoms p)) (sym taken.stereo);
-        ring_set = list_any-append HasRingSet tops (parts_atoms p)
-            ∙ ap (λ v. v || list_any HasRingSet (parts_atoms p)) (sym taken.ring_set);
-        pair = λ e k. ((taken.pair e).1, k);
-        inner = λ k. k.1;
-        apart = λ e k. elim (taken.apart e) [ inl f ↦ absurd (cc) | inr f ↦ f k.0 ];
-        grouped = taken.grouped ∙ grouped;
+        top_is = holds;
+        closing = refl;
+        grouped = grouped;
         atoms = omega (arith, length-append tops (parts_atoms p));
         parts = omega arith;
         nesting = omega arith;
@@ -134,78 +119,59 @@ module _ (text : List ℕ) (first : Item) (others : List Item) (are : AreItems f
       let P : List Item → Type 0 = λ l. AreParts (part_texts (atoms_by smarts_words (nodes_from 0 l))) whole.parts in
       (whole.parts, subst P (sym (same_list first whole.first others whole.others e.0 e.1)) is.parts)
 
-  pub start : Worklist text s (at_level 1 (part_texts tops))
+  pub start : Worklist text top g s [] (at_level 1 (part_texts tops))
   start =
       let e = texts-level 1 (part_texts tops) in
       let P : Parts → List (List ℕ) → Type 0 = λ p v. AreParts v p in
       record {
+        trees = [];
+        read = tt;
         found = λ p h. let k = subst (P p) e h
             in (with_parts p, record { items = are; spelled = spelled; parts = k }, start_so_far p k);
         only = λ whole is. let o = start_only whole is in (o.0, subst (P o.0) (sym e) o.1);
         fits = let w = items_weight 0 first others are in let a = taken.atoms in let c = taken.parts
-            in let k = ap weight e in let l = ap length spelled in omega arith;
+            in let k = ap weight e in let l = ap length spelled in let m = ap length holds.atoms in omega arith;
         level = let c = taken.parts in let l = top-level 1 (part_texts tops) in omega arith;
       }
 
 -- nothing is left
-pub all_read : (text : List ℕ) (s : Survey) → Worklist text s []
-    → (whole : Whole) × IsWholeOf text whole × IsSurveyOf whole s
-all_read text s w =
+pub all_read : (text : List ℕ) (d : Draft) → Worklist text d.top d.grouped d.sizes d.parts.items []
+    → (whole : Whole) × IsWholeOf text whole × IsDraftOf whole d
+all_read text d w =
     let f = w.found none tt in
     let i = f.2 in
     let a = i.atoms in
     let c = i.parts in
     let n = i.nesting in
-    let d = i.depth in (
+    let e = i.depth in (
       f.0,
       f.1,
       record {
-        stereo = sym (i.stereo ∙ or_false s.stereo);
-        ring_set = sym (i.ring_set ∙ or_false s.ring_set);
-        pair = λ e. i.pair e tt;
-        apart = i.apart;
+        top = i.top_is;
+        trees = w.trees;
+        closing = i.closing;
+        parts = w.read;
         grouped = i.grouped;
         atoms = omega arith;
-        parts = omega arith;
+        count = omega arith;
         nesting = omega arith;
         depth = omega arith;
       },
     )
 
 -- one of them is read
-or_moved : (b q t r : Bool) → (b || (q || (t || (r || false)))) ≡ ((b || t) || (q || r))
-or_moved true q t r = refl
-or_moved false true true r = refl
-or_moved false true false r = refl
-or_moved false false true r = refl
-or_moved false false false true = refl
-or_moved false false false false = refl
-
-any_moved : (P : AtomValue → Bool) (b : Bool) (q r : Parts) (tree : Tree)
-    → (b || list_any P (parts_atoms (join q (part tree r none))))
-    ≡ ((b || list_any P (tree_atoms tree)) || list_any P (parts_atoms (join q r)))
-any_moved P b q r tree =
-    let one = parts_atoms (part tree r none) in
-    let e : list_any P (parts_atoms (join q (part tree r none)))
-    ≡ (list_any P (parts_atoms q) || (list_any P (tree_atoms tree) || (list_any P (parts_atoms r) || false))) =
-    ap (list_any P) (atoms-join q (part tree r none)) ∙ list_any-append P (parts_atoms q) one
-    ∙ ap (λ v. list_any P (parts_atoms q) || v) (list_any-append P (tree_atoms tree) (parts_atoms r ++ [])
-    ∙ ap (λ v. list_any P (tree_atoms tree) || v) (list_any-append P (parts_atoms r) [])) in
-    let f : list_any P (parts_atoms (join q r)) ≡ (list_any P (parts_atoms q) || list_any P (parts_atoms r)) = ap
-    (list_any P) (atoms-join q r) ∙ list_any-append P (parts_atoms q) (parts_atoms r) in
-    ap (λ v. b || v) e ∙ or_moved b (list_any P (parts_atoms q)) (list_any P (tree_atoms tree))
-    (list_any P (parts_atoms r)) ∙ ap (λ v. (b || list_any P (tree_atoms tree)) || v) (sym f)
-
-module _ (text : List ℕ) (s t : Survey) (init : List Left) (x : Left) (tree : Tree) (deep : ℕ)
-    (is : walk.IsTreeOf smarts_words x.text tree) (deep_is : deep ≡ walk.depth_of tree.tail)
-    (taken : IsTaken s t (placed_nodes tree) deep x.level) (w : Worklist text s (init ++ x ∷ [])) where
+module _ (text : List ℕ) (top : Read) (g : Bool) (s t : Sizes) (parts : List Read) (init : List Left) (x : Left)
+    (tree : Tree) (reader : Read) (is : walk.IsTreeOf smarts_words x.text tree)
+    (deep_is : reader.depth ≡ walk.depth_of tree.tail) (holds : Holds smarts_words (placed_nodes tree) reader)
+    (taken : IsTaken s t (length reader.atoms.items) reader.depth x.level)
+    (w : Worklist text top g s parts (init ++ x ∷ [])) where
   abbrev inner_texts : List (List ℕ)
   inner_texts = part_texts (tree_atoms tree)
 
   abbrev new_left : List Left
   new_left = init ++ at_level (x.level + 1) inner_texts
 
-  abbrev counted : Survey
+  abbrev counted : Sizes
   counted = record t { parts = t.parts + 1 }
 
   old_texts : texts_of (init ++ x ∷ []) ≡ texts_of init ++ x.text ∷ []
@@ -222,7 +188,8 @@ module _ (text : List ℕ) (s t : Survey) (init : List Left) (x : Left) (tree : 
       subst P (sym old_texts) (are-join (texts_of init) (x.text ∷ []) q (part tree r none) h (is, k, tt))
 
   moved : (whole : Whole) (q r : Parts) → AreParts (texts_of init) q → AreParts inner_texts r
-      → IsSoFar whole s (init ++ x ∷ []) (join q (part tree r none)) → IsSoFar whole counted new_left (join q r)
+      → IsSoFar whole top g s (init ++ x ∷ []) (join q (part tree r none)) w.trees
+      → IsSoFar whole top g counted new_left (join q r) (tree ∷ w.trees)
   moved whole q r h k i =
       let one = part tree r none in
       let a = i.atoms in
@@ -233,6 +200,7 @@ module _ (text : List ℕ) (s t : Survey) (init : List Left) (x : Left) (tree : 
       let n' = taken.nesting in
       let d = i.depth in
       let d' = taken.depth in
+      let count = ap length holds.atoms in
       let old_nesting = nesting-join init (x ∷ []) q one h in
       let new_nesting = nesting-join init (at_level (x.level + 1) inner_texts) q r h in
       let levels = level_nesting x.level inner_texts r k in
@@ -241,15 +209,9 @@ module _ (text : List ℕ) (s t : Survey) (init : List Left) (x : Left) (tree : 
       let old_depth = depth-join q one in
       let new_depth = depth-join q r in
       record {
-        stereo = i.stereo ∙ any_moved HasStereo s.stereo q r tree
-            ∙ ap (λ v. v || list_any HasStereo (parts_atoms (join q r))) (sym taken.stereo);
-        ring_set = i.ring_set ∙ any_moved HasRingSet s.ring_set q r tree
-            ∙ ap (λ v. v || list_any HasRingSet (parts_atoms (join q r))) (sym taken.ring_set);
-        pair = λ e j. let v = pair-join q r j in let y = taken.pair e
-            in i.pair y.0 (pair_both q one v.0 (y.1, v.1, tt));
-        inner = λ j. let v = pair-join q one (i.inner j) in pair_both q r v.0 v.1.1;
-        apart = λ e j. elim (taken.apart e) [ inl f ↦ i.apart f j | inr f ↦ f (pair-join q one (i.inner j)).1.0 ];
-        grouped = taken.grouped ∙ i.grouped;
+        top_is = i.top_is;
+        closing = (q, r, refl, k, i.closing);
+        grouped = i.grouped;
         atoms = omega (
           arith,
           length-append (parts_atoms q) (parts_atoms one),
@@ -264,12 +226,12 @@ module _ (text : List ℕ) (s t : Survey) (init : List Left) (x : Left) (tree : 
       }
 
   found_more : (p : Parts) → AreParts (texts_of new_left) p
-      → (whole : Whole) × IsWholeOf text whole × IsSoFar whole counted new_left p
+      → (whole : Whole) × IsWholeOf text whole × IsSoFar whole top g counted new_left p (tree ∷ w.trees)
   found_more p h =
       let P : List (List ℕ) → Type 0 = λ v. AreParts v p in
       let v = split (texts_of init) inner_texts p (subst P new_texts h) in
       let f = w.found (join v.mine (part tree v.others none)) (whole_part v.mine v.others v.mine_of v.others_of) in
-      let Q : Parts → Type 0 = λ y. IsSoFar f.0 counted new_left y in
+      let Q : Parts → Type 0 = λ y. IsSoFar f.0 top g counted new_left y (tree ∷ w.trees) in
       (f.0, f.1, subst Q (sym v.is) (moved f.0 v.mine v.others v.mine_of v.others_of f.2))
 
   -- what is left has recursive parts, so the text that was read has
@@ -288,7 +250,7 @@ module _ (text : List ℕ) (s t : Survey) (init : List Left) (x : Left) (tree : 
       let Q : List (List ℕ) → Type 0 = λ y. AreParts y (join v.mine r.0) in
       (join v.mine r.0, subst Q (sym new_texts) (are-join (texts_of init) inner_texts v.mine r.0 v.mine_of r.1))
 
-  pub one_more : Worklist text counted new_left
+  pub one_more : Worklist text top g counted (parts ++ reader ∷ []) new_left
   one_more =
       let f = w.fits in
       let l = w.level in
@@ -297,12 +259,22 @@ module _ (text : List ℕ) (s t : Survey) (init : List Left) (x : Left) (tree : 
       let old_weight = ap weight old_texts ∙ weight-append (texts_of init) (x.text ∷ []) in
       let new_weight = ap weight new_texts ∙ weight-append (texts_of init) inner_texts in
       let mine = text_weight x.text tree is in
+      let count = ap length holds.atoms in
+      let R : List Read → Type 0 = λ v. AreRead (tree ∷ w.trees) v in
       let old_level = top-append init (x ∷ []) in
       let new_level = top-append init (at_level (x.level + 1) inner_texts) in
       let here = top-level (x.level + 1) inner_texts in
-      record { found = found_more; only = only_more; fits = omega arith; level = omega arith }
+      record {
+        trees = tree ∷ w.trees;
+        read = subst R (sym (reverse-append parts (reader ∷ []))) (holds, w.read);
+        found = found_more;
+        only = only_more;
+        fits = omega arith;
+        level = omega arith;
+      }
 
-module _ (text : List ℕ) (s : Survey) (init : List Left) (x : Left) (w : Worklist text s (init ++ x ∷ [])) where
+module _ (text : List ℕ) (top : Read) (g : Bool) (s : Sizes) (parts : List Read) (init : List Left) (x : Left)
+    (w : Worklist text top g s parts (init ++ x ∷ [])) where
   last_texts : texts_of (init ++ x ∷ []) ≡ texts_of init ++ x.text ∷ []
   last_texts = map-append (λ y. y.text) init (x ∷ [])
 

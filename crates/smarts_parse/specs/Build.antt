@@ -1,42 +1,46 @@
--- What graphs can be built from, and what is built: for private clauses only.
-use Rattle.std.specs.Prelude.{◌≡◌, ℕ, ◌+◌, ◌≤◌, false, List, ◌++◌, length}
+-- From what a pattern is built, and how far it is: for private clauses only.
+use Rattle.std.specs.Prelude.{◌≡◌, ℕ, ◌≤◌, false, List, ◌++◌, length}
 use Rattle.std.specs.List.{list_any, AllByRecursion}
-use Rattle.line_walk.specs.Tree as walk
-use Rattle.line_walk.specs.Places.{placed_nodes}
+use Rattle.line_walk.specs.Places.{atoms_by}
+use Rattle.line_walk.specs.Walk.{IsGraphBy}
 use Rattle.smarts_words.specs.Bracket.{AtomValue}
 use Rattle.smarts_words.specs.Words.{smarts_words}
+use Rattle.smarts_parse.specs.declared.close.Closed.{Closed}
 use Rattle.smarts_parse.specs.Pattern.{GraphTerm}
-use Rattle.smarts_parse.specs.Whole.{Tree, Parts, part_texts, tree_atoms, AreParts, parts_atoms, count_of, nesting_of}
-use Rattle.smarts_parse.specs.Meaning.{ArePartTerms}
-use Rattle.smarts_parse.specs.Reading.{is_stereo, DoPair, DoPartsPair}
-use Rattle.smarts_parse.specs.Steps.{IsValue}
+use Rattle.smarts_parse.specs.Whole.{Tree, Nodes, Parts, part_texts, tree_atoms, AreParts, Whole, top_atoms, all_atoms, count_of}
+use Rattle.smarts_parse.specs.Meaning.{numbers_from, ArePartTerms}
+use Rattle.smarts_parse.specs.Reading.{is_stereo}
+use Rattle.smarts_parse.specs.Draft.{WalkGraph, Close, AreGraphs, AreClosed}
 
--- a text with its tree and its recursive parts, from which graphs can be built when so many stand already
-pub record IsBuildable (text : List ℕ) (tree : Tree) (parts : Parts) (levels n : ℕ) : Type 0 where
-  pub tree_of_text : walk.IsTreeOf smarts_words text tree
-  pub parts_of_atoms : AreParts (part_texts (tree_atoms tree)) parts
-  pub pair : DoPair (placed_nodes tree)
-  pub parts_pair : DoPartsPair parts
-  pub plain : list_any (λ a. list_any is_stereo a.steps) (tree_atoms tree ++ parts_atoms parts) ≡ false
-  pub nesting : nesting_of parts ≤ levels
-  pub few_parts : n + count_of parts ≤ 64
-  pub few_atoms : length (tree_atoms tree ++ parts_atoms parts) ≤ 256
+-- few atoms, and no configuration
+pub record AreFit (values : List AtomValue) : Type 0 where
+  pub plain : list_any (λ a. list_any is_stereo a.steps) values ≡ false
+  pub few : length values ≤ 256
 
--- the same of recursive parts alone, by their texts
-pub record AreBuildable (texts : List (List ℕ)) (parts : Parts) (levels n : ℕ) : Type 0 where
-  pub of_texts : AreParts texts parts
-  pub pair : DoPartsPair parts
-  pub plain : list_any (λ a. list_any is_stereo a.steps) (parts_atoms parts) ≡ false
-  pub nesting : nesting_of parts ≤ levels
-  pub few_parts : n + count_of parts ≤ 64
-  pub few_atoms : length (parts_atoms parts) ≤ 256
+-- what is written can be built
+pub record IsBuildable (whole : Whole) (closed : Closed) : Type 0 where
+  pub are : AreClosed whole closed
+  pub parts : AreParts (part_texts (top_atoms whole)) whole.parts
+  pub fit : AreFit (all_atoms whole)
+  pub few : count_of whole.parts ≤ 64
 
--- the same of atoms and their recursive parts
-pub record HaveBuildable (atoms : List AtomValue) (parts : Parts) (levels n : ℕ) : Type 0 where
-  pub are : AllByRecursion IsValue atoms
-  pub plain : list_any (λ a. list_any is_stereo a.steps) atoms ≡ false
-  pub build : AreBuildable (part_texts atoms) parts levels n
+-- what one graph is built from: what is written, and the numbers of the recursive parts that are open, the last of
+-- which are its own
+pub record IsReady (nodes : Nodes) (front numbers : List ℕ) (graph : WalkGraph) (open_numbers : List ℕ) : Type 0 where
+  pub is : IsGraphBy smarts_words nodes graph
+  pub numbered : open_numbers ≡ front ++ numbers
+  pub own : length numbers ≡ length (part_texts (atoms_by smarts_words nodes))
+  pub fit : AreFit (atoms_by smarts_words nodes)
+  pub few : length open_numbers ≤ 64
 
--- the graphs of recursive parts, the first of which has the number n, stand after those that stood before
-abbrev pub ArePut : ℕ → Parts → List GraphTerm → List GraphTerm → Type 0
-ArePut n parts before after = (gs : List GraphTerm) × ArePartTerms n parts gs × (after ≡ before ++ gs)
+-- Of all recursive parts these are left to build; the others are built, and those of them that are open have these
+-- numbers.
+pub record IsBuilt (all : Parts) (left : List WalkGraph) (open_numbers : List ℕ) (recs : List GraphTerm) : Type 0 where
+  pub parts : Parts
+  pub trees : List Tree
+  pub closing : Close parts trees all
+  pub graphs : AreGraphs trees left
+  pub fit : AllByRecursion (λ t. AreFit (tree_atoms t)) trees
+  pub few : count_of all ≤ 64
+  pub numbered : open_numbers ≡ numbers_from 0 parts
+  pub terms : ArePartTerms 0 parts recs

@@ -7,5 +7,5 @@ pub mod Whole
 pub mod Meaning
 pub mod Reading
 pub mod Steps
+pub mod Draft
 pub mod Build
-pub mod Survey

@@ -1,164 +1,110 @@
-//! The graphs of a text and of its recursive parts.
+//! From what is written to a pattern: its expressions, and the numbers of its recursive parts.
 
-ghost use Rattle.std.specs.Prelude.{◌≡◌, ◌≢◌, ◌+◌, ◌<◌, List, [], ◌∷◌, ◌++◌, false, length, map, All, IfOk, IfErr};
+ghost use Rattle.std.specs.Prelude.{◌≡◌, ◌≢◌, ℕ, ◌≤◌, ◌<◌, ◌∷◌, List, [], false, length, map, drop, All, IfOk, OnOk};
 ghost use Rattle.std.specs.List.{list_any, AllByRecursion};
-ghost use Rattle.line_walk.specs.Tree.{IsTreeOf};
-ghost use Rattle.line_walk.specs.Places.{placed_nodes};
-ghost use Rattle.line_walk.specs.Reading.{IsGraphOf};
-ghost use Rattle.smarts_words.specs.Words.{smarts_words};
-ghost use Rattle.smarts_parse.specs.Pattern.{term_of, bond_of, graph_of, GraphTerm};
-ghost use Rattle.smarts_parse.specs.Whole.{Tree, Parts, count_of};
-ghost use Rattle.smarts_parse.specs.Meaning.{postfix, atom_steps, atoms_steps, IsBondTerm, AreBondTerms, IsGraphTerm, numbers_from, ArePartTerms};
-ghost use Rattle.smarts_parse.specs.Reading.{is_stereo, DoPair};
+ghost use Rattle.smarts_parse.specs.Pattern.{term_of, bond_of, graph_of, pattern_of};
+ghost use Rattle.smarts_parse.specs.Whole.{Nodes, Parts, Whole, part_texts};
+ghost use Rattle.smarts_parse.specs.Meaning.{postfix, atoms_steps, IsBondTerm, AreBondTerms, IsGraphTerm, IsPatternOf};
+ghost use Rattle.smarts_parse.specs.Reading.{is_stereo};
 ghost use Rattle.smarts_parse.specs.Steps.{LeaveOne, IsValue};
-ghost use Rattle.smarts_parse.specs.Build.{IsBuildable, AreBuildable, HaveBuildable, ArePut};
-ghost use Rattle.smarts_parse.specs.declared.fault.SmartsFault.TheVariants.{NoMemory};
+ghost use Rattle.smarts_parse.specs.Draft.{WalkGraph};
+ghost use Rattle.smarts_parse.specs.Build.{IsBuildable, IsReady, IsBuilt};
 
+use crate::close::{Closed, Written};
 use crate::expr::{atom_expr, bond_expr};
-use crate::fault::SmartsFault;
-use crate::pattern::{AtomPrim, Expr, Graph, PatBond};
-use crate::smarts::Smarts;
-use bumpalo::Bump;
-use line_walk::{Link, one_tree, read_graph};
+use crate::pattern::{AtomPrim, Expr, Graph, PatBond, Pattern};
+use line_walk::Link;
 use smarts_words::{PatternAtom, PatternBond};
 use std::alloc::{AllocError, Global};
 
-/// The graph of a text. Before it, the graphs of its recursive parts are put on the list, in the order in which their
-/// parentheses close. They stand within one another at most `levels` deep.
-#[cycle(graph)]
-pub fn graph(
-    alloc: Global,
-    text: &[u8],
-    levels: u8,
-    recs: &mut Vec<Graph>,
-) -> Result<Graph, SmartsFault>
-    requires { (tree : Tree) × (parts : Parts)
-        × IsBuildable text.now tree parts levels (length recs.old.items) }
-    ensures built { IfOk result (λ g. (tree : Tree) (parts : Parts)
-        → IsBuildable text.now tree parts levels (length recs.old.items)
-        → IsGraphTerm (placed_nodes tree) (numbers_from (length recs.old.items) parts) (graph_of g)
-        × (gs : List GraphTerm) × ArePartTerms (length recs.old.items) parts gs
-        × (map graph_of recs.new.items ≡ map graph_of recs.old.items ++ gs)) }
-    ensures faults { IfErr result (λ e. e ≡ NoMemory) }
+/// The pattern of what is written. Recursive parts are numbered in the order in which their parentheses close.
+pub fn pattern(alloc: Global, closed: &Closed<'_>) -> Result<Pattern, AllocError>
+    requires { (whole : Whole) × IsBuildable whole closed.now }
+    ensures { IfOk result (λ p. (whole : Whole) → IsBuildable whole closed.now
+        → IsPatternOf whole (pattern_of p)) }
 {
-    let arena = Bump::new(alloc);
-    let read = read(alloc, &arena, text)?;
-    let atoms = atoms(alloc, &read.atoms, levels, recs)?;
-    let bonds = bonds(alloc, &read.links)?;
+    let mut recs = Vec::new(alloc);
+    let mut open = Vec::new(alloc);
+    for part in &closed.parts {
+        put_graph(alloc, part, &mut open, &mut recs)?;
+    }
+    let top = graph(alloc, &closed.top, &mut open)?;
+    Ok(Pattern { top, recs })
+}
+
+// Puts the graph of the next recursive part on the list, and its number on that of the open ones.
+fn put_graph(
+    alloc: Global,
+    part: &Written<'_>,
+    open: &mut Vec<u16>,
+    recs: &mut Vec<Graph>,
+) -> Result<(), AllocError>
+    requires { (all : Parts) × (left : List WalkGraph)
+        × IsBuilt all (part.now ∷ left) open.old.items (map graph_of recs.old.items) }
+    ensures { OnOk result ((all : Parts) (left : List WalkGraph)
+        → IsBuilt all (part.now ∷ left) open.old.items (map graph_of recs.old.items)
+        → IsBuilt all left open.new.items (map graph_of recs.new.items)) }
+{
+    let graph = graph(alloc, part, open)?;
+    open.push(recs.len() as u16)?;
+    recs.push(graph)?;
+    Ok(())
+}
+
+// The graph of what is written. Its recursive parts are those that were opened last, whose numbers it takes.
+fn graph(alloc: Global, written: &Written<'_>, open: &mut Vec<u16>) -> Result<Graph, AllocError>
+    requires { (nodes : Nodes) × (front : List ℕ) × (numbers : List ℕ)
+        × IsReady nodes front numbers written.now open.old.items }
+    ensures { IfOk result (λ g. (nodes : Nodes) (front numbers : List ℕ)
+        → IsReady nodes front numbers written.now open.old.items
+        → IsGraphTerm nodes numbers (graph_of g) × (open.new.items ≡ front)) }
+{
+    let first = open.len() - part_count(&written.atoms);
+    let atoms = atoms(alloc, &written.atoms, after(open, first))?;
+    open.truncate(first);
+    let bonds = bonds(alloc, &written.links)?;
     Ok(Graph { atoms, bonds })
 }
 
-// The expressions of atoms. The graphs of their recursive parts are put on the list.
-#[cycle(graph)]
+// How many recursive parts atoms have.
+fn part_count(atoms: &[PatternAtom]) -> usize
+    requires { length (part_texts atoms.now) ≤ 64 }
+    ensures { result ≡ length (part_texts atoms.now) }
+{
+    let mut count = 0;
+    for atom in atoms {
+        count += atom.parts().len();
+    }
+    count
+}
+
+// The expressions of atoms, whose recursive parts have these numbers from left to right.
 fn atoms(
     alloc: Global,
     atoms: &[PatternAtom],
-    levels: u8,
-    recs: &mut Vec<Graph>,
-) -> Result<Vec<Expr<AtomPrim>>, SmartsFault>
-    requires { (parts : Parts) × HaveBuildable atoms.now parts levels (length recs.old.items) }
-    ensures built { IfOk result (λ xs. (parts : Parts)
-        → HaveBuildable atoms.now parts levels (length recs.old.items)
-        → (map postfix (map term_of xs.items)
-        ≡ atoms_steps (numbers_from (length recs.old.items) parts) atoms.now)
-        × ArePut (length recs.old.items) parts (map graph_of recs.old.items)
-        (map graph_of recs.new.items)) }
-    ensures faults { IfErr result (λ e. e ≡ NoMemory) }
+    numbers: &[u16],
+) -> Result<Vec<Expr<AtomPrim>>, AllocError>
+    requires are { AllByRecursion IsValue atoms.now }
+    requires plain { list_any (λ a. list_any is_stereo a.steps) atoms.now ≡ false }
+    requires enough { length (part_texts atoms.now) ≤ length numbers.now }
+    ensures { IfOk result (λ xs. map postfix (map term_of xs.items)
+        ≡ atoms_steps numbers.now atoms.now) }
 {
     let mut exprs = Vec::new(alloc);
+    let mut left = numbers;
     for atom in atoms {
-        exprs.push(atom_graphs(alloc, atom, levels, recs)?)?;
+        exprs.push(atom_expr(alloc, atom.steps(), left)?)?;
+        left = after(left, atom.parts().len());
     }
     Ok(exprs)
 }
 
-// The expression of an atom. The graphs of its recursive parts are put on the list.
-#[cycle(graph)]
-fn atom_graphs(
-    alloc: Global,
-    atom: &PatternAtom,
-    levels: u8,
-    recs: &mut Vec<Graph>,
-) -> Result<Expr<AtomPrim>, SmartsFault>
-    requires is { IsValue atom.now }
-    requires plain { list_any is_stereo atom.now.steps ≡ false }
-    requires build { (parts : Parts)
-        × AreBuildable atom.now.parts parts levels (length recs.old.items) }
-    ensures built { IfOk result (λ x. (parts : Parts)
-        → AreBuildable atom.now.parts parts levels (length recs.old.items)
-        → (postfix (term_of x)
-        ≡ atom_steps (numbers_from (length recs.old.items) parts) atom.now.steps)
-        × ArePut (length recs.old.items) parts (map graph_of recs.old.items)
-        (map graph_of recs.new.items)) }
-    ensures faults { IfErr result (λ e. e ≡ NoMemory) }
+// The numbers after the first `count`.
+fn after(numbers: &[u16], count: usize) -> &[u16]
+    requires { count ≤ length numbers.now }
+    ensures { result.now ≡ drop count numbers.now }
 {
-    let numbers = parts_graphs(alloc, atom.parts(), levels, recs)?;
-    Ok(atom_expr(alloc, atom.steps(), &numbers)?)
-}
-
-// The numbers of recursive parts, whose graphs are put on the list.
-#[cycle(graph)]
-fn parts_graphs(
-    alloc: Global,
-    texts: &[Vec<u8>],
-    levels: u8,
-    recs: &mut Vec<Graph>,
-) -> Result<Vec<u16>, SmartsFault>
-    requires { (parts : Parts)
-        × AreBuildable (map (λ v. v.items) texts.now) parts levels (length recs.old.items) }
-    ensures built { IfOk result (λ ns. (parts : Parts)
-        → AreBuildable (map (λ v. v.items) texts.now) parts levels (length recs.old.items)
-        → (ns.items ≡ numbers_from (length recs.old.items) parts)
-        × ArePut (length recs.old.items) parts (map graph_of recs.old.items)
-        (map graph_of recs.new.items)) }
-    ensures faults { IfErr result (λ e. e ≡ NoMemory) }
-{
-    let mut numbers = Vec::new(alloc);
-    for text in texts {
-        numbers.push(part_graphs(alloc, text, levels - 1, recs)?)?;
-    }
-    Ok(numbers)
-}
-
-// The number of a recursive part, whose graph is put on the list after those of its own parts.
-#[cycle(graph)]
-fn part_graphs(
-    alloc: Global,
-    text: &[u8],
-    levels: u8,
-    recs: &mut Vec<Graph>,
-) -> Result<u16, SmartsFault>
-    requires { (tree : Tree) × (parts : Parts)
-        × IsBuildable text.now tree parts levels (length recs.old.items) }
-    ensures built { IfOk result (λ k. (tree : Tree) (parts : Parts)
-        → IsBuildable text.now tree parts levels (length recs.old.items)
-        → (k ≡ length recs.old.items + count_of parts) × (g : GraphTerm) × (gs : List GraphTerm)
-        × IsGraphTerm (placed_nodes tree) (numbers_from (length recs.old.items) parts) g
-        × ArePartTerms (length recs.old.items) parts gs
-        × (map graph_of recs.new.items ≡ map graph_of recs.old.items ++ (gs ++ g ∷ []))) }
-    ensures faults { IfErr result (λ e. e ≡ NoMemory) }
-{
-    let graph = graph(alloc, text, levels, recs)?;
-    let number = recs.len() as u16;
-    recs.push(graph)?;
-    Ok(number)
-}
-
-// The atoms and bonds of a text.
-fn read<'a>(
-    alloc: Global,
-    arena: &'a Bump,
-    text: &[u8],
-) -> Result<line_walk::Graph<'a, PatternAtom, PatternBond>, SmartsFault>
-    requires { (tree : Tree) × IsTreeOf smarts_words text.now tree × DoPair (placed_nodes tree) }
-    ensures found { IfOk result (λ g. (tree : Tree) → IsTreeOf smarts_words text.now tree
-        → IsGraphOf smarts_words tree g.atoms.items g.links.items) }
-    ensures ends { IfOk result (λ g. AllByRecursion (λ x. (x.a < x.b)
-        × (x.b < length g.atoms.items)) g.links.items) }
-    ensures faults { IfErr result (λ e. e ≡ NoMemory) }
-{
-    one_tree::<Smarts>();
-    Ok(read_graph::<Smarts>(alloc, arena, text)?)
+    &numbers[count..]
 }
 
 // The bonds of a graph.

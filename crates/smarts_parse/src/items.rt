@@ -4,7 +4,7 @@ ghost use Rattle.std.specs.Prelude.{◌≡◌, ◌⊎◌, ℕ, ◌++◌, List, I
 ghost use Rattle.line_walk.specs.Walk.{Holds, IsBetween, IsTreeRead};
 ghost use Rattle.smarts_words.specs.Words.{smarts_words};
 ghost use Rattle.smarts_parse.specs.Whole.{Tree, Nodes, Item, item_text, others_text, AreItems};
-ghost use Rattle.smarts_parse.specs.Survey.{IsItemOf, IsItemRead, AreItemsRead};
+ghost use Rattle.smarts_parse.specs.Draft.{IsItemOf, IsItemRead, AreItemsRead};
 ghost use Rattle.smarts_parse.specs.declared.fault.SmartsFault.TheVariants.{Syntax, NoMemory};
 ghost use Rattle.line_walk.specs.Tree as walk;
 

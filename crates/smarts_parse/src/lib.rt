@@ -1,11 +1,14 @@
 //! SMARTS patterns: what they are, what makes them true, and how they are read (Daylight Theory Manual, chapter
 //! SMARTS).
 //!
-//! A text is surveyed first, with its recursive parts: whether all of it is in the grammar, and what of it is refused.
-//! Then the graphs are built, those of recursive parts in the order in which their parentheses close.
+//! A text and its recursive parts are read once, to a draft: whether all of it is in the grammar. What of the draft is
+//! refused is answered in a fixed order. Then its ring numbers are paired, and the graphs are built, those of recursive
+//! parts in the order in which their parentheses close.
 #![tactic(auto)]
 
 mod build;
+mod close;
+mod draft;
 mod expr;
 mod fault;
 mod items;
@@ -13,7 +16,6 @@ mod law;
 mod pattern;
 mod read;
 mod smarts;
-mod survey;
 
 pub use fault::SmartsFault;
 pub use law::parts_hold;

@@ -4,14 +4,18 @@ ghost use Rattle.std.specs.Prelude.{◌≡◌, ◌≢◌, ◌⊎◌, ◌↔◌, 
 ghost use Rattle.smarts_parse.specs.Pattern.{pattern_of, PatternTerm};
 ghost use Rattle.smarts_parse.specs.Sound.{IsSoundPattern};
 ghost use Rattle.smarts_parse.specs.Whole.{Whole, IsWholeOf};
-ghost use Rattle.smarts_parse.specs.Reading.{HasGroup, NoLimit, IsReading, answer_of};
+ghost use Rattle.smarts_parse.specs.Reading.{is_stereo, HasGroup, NoLimit, IsReading, answer_of};
+ghost use Rattle.smarts_parse.specs.Draft.{any_atom};
+ghost use Rattle.std.specs.List.{list_any};
 ghost use Rattle.smarts_parse.specs.declared.fault.SmartsFault.{SmartsFault};
 ghost use Rattle.smarts_parse.specs.declared.fault.SmartsFault.TheVariants.{NoMemory};
 
-use crate::build::graph;
+use crate::build::pattern;
+use crate::close::close;
+use crate::draft::{Draft, any_ring_set, any_stereo, read_draft};
 use crate::fault::SmartsFault;
 use crate::pattern::Pattern;
-use crate::survey::{Survey, look_over};
+use bumpalo::Bump;
 use std::alloc::Global;
 
 /// The longest text that is looked at, in bytes.
@@ -33,25 +37,24 @@ pub fn parse(alloc: Global, text: &[u8]) -> Result<Pattern, SmartsFault>
     if has_byte(text, b'>') {
         return Err(SmartsFault::Reaction);
     }
-    let survey = look_over(alloc, text)?;
-    if has_stereo(&survey, text) {
+    let arena = Bump::new(alloc);
+    let draft = read_draft(alloc, &arena, text)?;
+    if has_stereo(&draft, text) {
         return Err(SmartsFault::Stereo);
     }
-    if survey.ring_set {
+    if any_ring_set(&draft) {
         return Err(SmartsFault::RingSet);
     }
-    if survey.rings {
-        return Err(SmartsFault::Ring);
-    }
-    if !survey.is_small() {
+    let sizes = draft.sizes;
+    let grouped = draft.grouped;
+    let closed = close(alloc, draft)?;
+    if !sizes.are_within_limits() {
         return Err(SmartsFault::Limit);
     }
-    if survey.grouped {
+    if grouped {
         return Err(SmartsFault::Grouping);
     }
-    let mut recs = Vec::new(alloc);
-    let top = graph(alloc, text, 8, &mut recs)?;
-    Ok(Pattern { top, recs })
+    Ok(pattern(alloc, &closed)?)
 }
 
 /// A law: a text has at most one tree.
@@ -68,15 +71,17 @@ pub fn one_answer()
 /// A law: a text that has a tree, no configuration and no count of a ring set, whose ring numbers pair, that is within
 /// the limits and has no parentheses round an item, is refused only for want of memory.
 pub fn is_complete()
-    ensures { (text : List ℕ) (whole : Whole) (r : Result PatternTerm SmartsFault) → NoLimit text whole
-        → ¬ HasGroup whole → IsReading text r → (r ≡ Err NoMemory) ⊎ ((p : PatternTerm) × (r ≡ Ok p)) }
+    ensures { (text : List ℕ) (whole : Whole) (r : Result PatternTerm SmartsFault)
+        → NoLimit text whole → ¬ HasGroup whole → IsReading text r
+        → (r ≡ Err NoMemory) ⊎ ((p : PatternTerm) × (r ≡ Ok p)) }
 {}
 
 // Whether a configuration stands at an atom or at a bond.
-fn has_stereo(survey: &Survey, text: &[u8]) -> bool
-    ensures { IsTrue result ↔ ((survey.now.stereo ≡ true) ⊎ Contains text.now 47 ⊎ Contains text.now 92) }
+fn has_stereo(draft: &Draft<'_>, text: &[u8]) -> bool
+    ensures { IsTrue result ↔ ((any_atom (λ a. list_any is_stereo a.steps) draft.now ≡ true)
+        ⊎ Contains text.now 47 ⊎ Contains text.now 92) }
 {
-    survey.stereo || has_byte(text, b'/') || has_byte(text, b'\\')
+    any_stereo(draft) || has_byte(text, b'/') || has_byte(text, b'\\')
 }
 
 fn has_byte(text: &[u8], byte: u8) -> bool

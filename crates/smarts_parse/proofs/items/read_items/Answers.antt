@@ -3,7 +3,7 @@ use Rattle.std.proofs.lemmas.Result.{err_from_is_err_and}
 use Rattle.line_walk.proofs.Steps.{front_is}
 use Rattle.smarts_parse.specs.declared.fault.SmartsFault.TheVariants.{NoMemory}
 use Rattle.smarts_parse.specs.Whole.{others_text, nodes_from}
-use Rattle.smarts_parse.specs.Survey.{AreItemsRead}
+use Rattle.smarts_parse.specs.Draft.{AreItemsRead}
 use Rattle.smarts_parse.proofs.Results.{if_err, or_true, or_other}
 use Rattle.smarts_parse.proofs.ItemsRead.{SoFar, so_far_none, first_item, so_far_more, so_far_all, not_dot}
 use Rattle.smarts_parse.proofs.items.read_items.Goals as goal

@@ -1,76 +1,106 @@
-use Rattle.std.proofs.Common.{inr, arith}
-use Rattle.smarts_parse.proofs.Readings.{looked, not_by, no_ring_set, no_ring, no_limit, has_group, within_only, needs, pattern, no_group, sound}
+use Rattle.std.proofs.Common.{inr, Result, Err, sym, ◌∙◌, subst, arith}
+use Rattle.std.proofs.lemmas.Result.{err_from_is_err_and}
+use Rattle.smarts_parse.specs.declared.fault.SmartsFault.{SmartsFault}
+use Rattle.smarts_parse.specs.declared.pattern.Pattern.{Pattern}
+use Rattle.smarts_parse.specs.Reading.{IsReading, answer_of}
+use Rattle.smarts_parse.proofs.Readings.{looked, not_by, has_stereo, no_stereo, has_ring_set, open_reading, no_ring, no_limit, has_group, no_group, within_only, buildable, sound}
 use Rattle.smarts_parse.proofs.read.parse.Goals as goal
 
-pub returns-then-survey-2-clause-reading : goal.returns-then-survey-2-clause-reading
-returns-then-survey-2-clause-reading c =
+pub returns-then-has_stereo-clause-reading : goal.returns-then-has_stereo-clause-reading
+returns-then-has_stereo-clause-reading c =
     let text = c.args.text.now in
-    let s = c.in_ok-survey.survey in
-    let l = looked text s (omega arith) (not_by _ _ c.if-has_byte.false c.has_byte.ensures) c.in_ok-survey.ensures.found
+    let d = c.in_ok-draft.draft in
+    let l = looked text d (omega arith) (not_by _ _ c.if-has_byte.false c.has_byte.ensures) c.in_ok-draft.ensures.found
     in
-    let marks = not_by _ _ c.if-has_stereo.false c.has_stereo.ensures in
-    (l.whole, no_ring_set text s l marks c.if-survey.false, l.survey.apart c.if-survey-2.true)
+    (l.whole, l.read, has_stereo text d l (c.has_stereo.ensures.0 c.if-has_stereo.true))
 
-pub returns-then-not-is_small-clause-reading : goal.returns-then-not-is_small-clause-reading
-returns-then-not-is_small-clause-reading c =
+pub returns-then-any_ring_set-clause-reading : goal.returns-then-any_ring_set-clause-reading
+returns-then-any_ring_set-clause-reading c =
     let text = c.args.text.now in
-    let s = c.in_ok-survey.survey in
-    let l = looked text s (omega arith) (not_by _ _ c.if-has_byte.false c.has_byte.ensures) c.in_ok-survey.ensures.found
+    let d = c.in_ok-draft.draft in
+    let l = looked text d (omega arith) (not_by _ _ c.if-has_byte.false c.has_byte.ensures) c.in_ok-draft.ensures.found
     in
     let marks = not_by _ _ c.if-has_stereo.false c.has_stereo.ensures in
+    (l.whole, no_stereo text d l marks, has_ring_set text d l (sym c.any_ring_set.ensures ∙ c.if-any_ring_set.true))
+
+pub returns-in_err-closed-clause-reading : goal.returns-in_err-closed-clause-reading
+returns-in_err-closed-clause-reading c =
+    let text = c.args.text.now in
+    let d = c.in_ok-draft.draft in
+    let l = looked text d (omega arith) (not_by _ _ c.if-has_byte.false c.has_byte.ensures) c.in_ok-draft.ensures.found
+    in
+    let marks = not_by _ _ c.if-has_stereo.false c.has_stereo.ensures in
+    let counts = sym c.any_ring_set.ensures ∙ c.if-any_ring_set.false in
+    let p = err_from_is_err_and c.from_residual-in_err-closed.result c.from_residual-in_err-closed.ensures.1 in
+    let F : Result Pattern SmartsFault → Type 0 = λ r. IsReading text (answer_of r) in
+    let G : SmartsFault → Type 0 = λ e. IsReading text (Err e) in
+    subst F (sym p.1) (subst G (sym p.2) (open_reading text d l marks counts _
+    (c.in_err-closed.ensures.fails l.whole l.draft)))
+
+pub returns-then-not-are_within_limits-clause-reading : goal.returns-then-not-are_within_limits-clause-reading
+returns-then-not-are_within_limits-clause-reading c =
+    let text = c.args.text.now in
+    let d = c.in_ok-draft.draft in
+    let l = looked text d (omega arith) (not_by _ _ c.if-has_byte.false c.has_byte.ensures) c.in_ok-draft.ensures.found
+    in
+    let marks = not_by _ _ c.if-has_stereo.false c.has_stereo.ensures in
+    let counts = sym c.any_ring_set.ensures ∙ c.if-any_ring_set.false in
     inr (
       l.whole,
-      no_ring text s l marks c.if-survey.false c.if-survey-2.false,
-      λ h. not_by _ _ c.if-not-is_small.true
-          c.is_small.ensures (within_only text s l h),
+      no_ring text d l c.in_ok-closed.closed c.in_ok-closed.ensures.found marks counts,
+      λ h. not_by _ _ c.if-not-are_within_limits.true
+          c.are_within_limits.ensures (within_only text d l h),
     )
 
-pub returns-then-survey-3-clause-reading : goal.returns-then-survey-3-clause-reading
-returns-then-survey-3-clause-reading c =
+pub returns-then-grouped-clause-reading : goal.returns-then-grouped-clause-reading
+returns-then-grouped-clause-reading c =
     let text = c.args.text.now in
-    let s = c.in_ok-survey.survey in
-    let l = looked text s (omega arith) (not_by _ _ c.if-has_byte.false c.has_byte.ensures) c.in_ok-survey.ensures.found
-    in
-    let marks = not_by _ _ c.if-has_stereo.false c.has_stereo.ensures in (
-      l.whole,
-      no_limit text s l marks c.if-survey.false c.if-survey-2.false
-          (c.is_small.ensures.0 c.if-not-is_small.false),
-      has_group text s l c.if-survey-3.true,
-    )
-
-pub graph-requires : goal.graph-requires
-graph-requires c =
-    let text = c.args.text.now in
-    let s = c.in_ok-survey.survey in
-    let l = looked text s (omega arith) (not_by _ _ c.if-has_byte.false c.has_byte.ensures) c.in_ok-survey.ensures.found
+    let d = c.in_ok-draft.draft in
+    let l = looked text d (omega arith) (not_by _ _ c.if-has_byte.false c.has_byte.ensures) c.in_ok-draft.ensures.found
     in
     let marks = not_by _ _ c.if-has_stereo.false c.has_stereo.ensures in
-    needs text s l marks c.if-survey.false c.if-survey-2.false (c.is_small.ensures.0 c.if-not-is_small.false)
-    c.if-survey-3.false c.new-recs.result.items c.new-recs.ensures.items
+    let counts = sym c.any_ring_set.ensures ∙ c.if-any_ring_set.false in
+    let within = c.are_within_limits.ensures.0 c.if-not-are_within_limits.false in (
+      l.whole,
+      no_limit text d l c.in_ok-closed.closed c.in_ok-closed.ensures.found marks counts within,
+      has_group text d l c.if-grouped.true,
+    )
+
+pub pattern-requires : goal.pattern-requires
+pattern-requires c =
+    let text = c.args.text.now in
+    let d = c.in_ok-draft.draft in
+    let l = looked text d (omega arith) (not_by _ _ c.if-has_byte.false c.has_byte.ensures) c.in_ok-draft.ensures.found
+    in
+    let marks = not_by _ _ c.if-has_stereo.false c.has_stereo.ensures in
+    let counts = sym c.any_ring_set.ensures ∙ c.if-any_ring_set.false in
+    let within = c.are_within_limits.ensures.0 c.if-not-are_within_limits.false in
+    (l.whole, buildable text d l c.in_ok-closed.closed c.in_ok-closed.ensures.found marks counts within)
 
 pub returns-clause-reading : goal.returns-clause-reading
 returns-clause-reading c =
     let text = c.args.text.now in
-    let s = c.in_ok-survey.survey in
-    let l = looked text s (omega arith) (not_by _ _ c.if-has_byte.false c.has_byte.ensures) c.in_ok-survey.ensures.found
+    let d = c.in_ok-draft.draft in
+    let l = looked text d (omega arith) (not_by _ _ c.if-has_byte.false c.has_byte.ensures) c.in_ok-draft.ensures.found
     in
     let marks = not_by _ _ c.if-has_stereo.false c.has_stereo.ensures in
-    let small = c.is_small.ensures.0 c.if-not-is_small.false in (
+    let counts = sym c.any_ring_set.ensures ∙ c.if-any_ring_set.false in
+    let within = c.are_within_limits.ensures.0 c.if-not-are_within_limits.false in
+    let ready = buildable text d l c.in_ok-closed.closed c.in_ok-closed.ensures.found marks counts within in (
       l.whole,
-      no_limit text s l marks c.if-survey.false c.if-survey-2.false small,
-      no_group text s l c.if-survey-3.false,
-      pattern text s l marks c.if-survey.false c.if-survey-2.false small c.if-survey-3.false c.new-recs.result.items
-          c.graph.new.recs.items c.in_ok-top.top c.new-recs.ensures.items c.in_ok-top.ensures.built,
+      no_limit text d l c.in_ok-closed.closed c.in_ok-closed.ensures.found marks counts within,
+      no_group text d l c.if-grouped.false,
+      c.in_ok-pattern.ensures l.whole ready,
     )
 
 pub returns-clause-sound : goal.returns-clause-sound
 returns-clause-sound c =
     let text = c.args.text.now in
-    let s = c.in_ok-survey.survey in
-    let l = looked text s (omega arith) (not_by _ _ c.if-has_byte.false c.has_byte.ensures) c.in_ok-survey.ensures.found
+    let d = c.in_ok-draft.draft in
+    let l = looked text d (omega arith) (not_by _ _ c.if-has_byte.false c.has_byte.ensures) c.in_ok-draft.ensures.found
     in
     let marks = not_by _ _ c.if-has_stereo.false c.has_stereo.ensures in
-    let small = c.is_small.ensures.0 c.if-not-is_small.false in
-    sound text s l marks c.if-survey.false c.if-survey-2.false small c.if-survey-3.false _
-    (pattern text s l marks c.if-survey.false c.if-survey-2.false small c.if-survey-3.false c.new-recs.result.items
-    c.graph.new.recs.items c.in_ok-top.top c.new-recs.ensures.items c.in_ok-top.ensures.built)
+    let counts = sym c.any_ring_set.ensures ∙ c.if-any_ring_set.false in
+    let within = c.are_within_limits.ensures.0 c.if-not-are_within_limits.false in
+    let ready = buildable text d l c.in_ok-closed.closed c.in_ok-closed.ensures.found marks counts within in
+    sound text d l within _ (c.in_ok-pattern.ensures l.whole ready)

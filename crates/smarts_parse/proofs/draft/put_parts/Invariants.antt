@@ -1,7 +1,7 @@
 use Rattle.std.proofs.Common.{◌≡◌, ◌++◌, map, take}
 use Rattle.smarts_parse.specs.Whole.{part_texts}
-use Rattle.smarts_parse.specs.Survey.{left_of, at_level}
-use Rattle.smarts_parse.proofs.survey.put_parts.Given as goal
+use Rattle.smarts_parse.specs.Draft.{left_of, at_level}
+use Rattle.smarts_parse.proofs.draft.put_parts.Given as goal
 
 abbrev pub invariant-loop-atom : goal.invariant-loop-atom
 invariant-loop-atom l = map left_of l.left.items ≡ map left_of l.initial.left.items
