@@ -25,10 +25,10 @@ pub record Laws : Type 0 where
   pub molfile : (text : List ℕ) (s : SketchTerm) → mol_reading.IsReading text (Ok s) → IsSound s
   pub molfile_few : (text : List ℕ) (s : SketchTerm) → mol_reading.IsReading text (Ok s)
       → All (λ a. a.hydrogens ≤ 9) s.atoms
-  pub filled : (s : SketchTerm) → IsSound s → IsSound (filled s)
-  pub filled_few : (s : SketchTerm) → IsSound s → All (λ a. a.hydrogens ≤ 9) s.atoms
+  pub fills : (s : SketchTerm) → IsSound s → IsSound (filled s)
+  pub fills_few : (s : SketchTerm) → IsSound s → All (λ a. a.hydrogens ≤ 9) s.atoms
       → All (λ a. a.hydrogens ≤ 15) (filled s).atoms
-  pub suppressed : (s : SketchTerm) → IsSound s → All (λ a. a.hydrogens ≤ 15) s.atoms → IsSound (suppressed s)
+  pub suppresses : (s : SketchTerm) → IsSound s → All (λ a. a.hydrogens ≤ 15) s.atoms → IsSound (suppressed s)
 
 read-sound : Laws → (format : Format) (text : List ℕ) (s : SketchTerm) → IsSketchOf format text s → IsSound s
 read-sound laws Smiles text s h = laws.smiles text s h
@@ -43,7 +43,7 @@ pub structures-molecules : Laws → (format : Format) (text : List ℕ) (m : Mol
 structures-molecules laws format text m h =
     let s = h.0 in
     let sound = read-sound laws format text s h.1 in
-    let whole = laws.suppressed (filled s) (laws.filled s sound)
-    (laws.filled_few s sound (read-few laws format text s h.1)) in
+    let whole = laws.suppresses (filled s) (laws.fills s sound)
+    (laws.fills_few s sound (read-few laws format text s h.1)) in
     let means = h.2 in
     subst IsMolecule (sym means.6) (meant-molecule (suppressed (filled s)) means.1 means.2 means.3 whole)

@@ -2,3 +2,4 @@ pub mod Answer
 pub mod AtomSound
 pub mod Enumerated
 pub mod Exclusion
+pub mod Sound

@@ -9,7 +9,7 @@ returns c =
       smiles_few = c.readings_are_sound.ensures.few_hydrogens;
       molfile = c.readings_are_sound-2.ensures.sound;
       molfile_few = c.readings_are_sound-2.ensures.few_hydrogens;
-      filled = c.sound_stays.ensures.filled;
-      filled_few = c.sound_stays.ensures.few;
-      suppressed = c.sound_stays.ensures.suppressed;
+      fills = c.sound_stays.ensures.filled;
+      fills_few = c.sound_stays.ensures.few;
+      suppresses = c.sound_stays.ensures.suppressed;
     })
