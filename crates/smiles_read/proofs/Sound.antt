@@ -13,7 +13,7 @@ use Rattle.line_walk.specs.declared.pairs.Link.{Link}
 use Rattle.line_walk.specs.declared.read.Graph.{Graph}
 use Rattle.line_walk.specs.Places.{atoms_of}
 use Rattle.line_walk.specs.Reading.{IsGraphOf}
-use Rattle.smiles_read.specs.Words.{smiles_words, Tree}
+use Rattle.smiles_words.specs.Words.{smiles_words, Tree}
 use Rattle.smiles_read.specs.Sketch.{numbered, link_of}
 use Rattle.smiles_read.specs.Reading.{IsReading}
 use Rattle.smiles_read.specs.Limits.{link_ends}
