@@ -1,10 +1,10 @@
 -- The list of all entries, as the chain of one identifier changes.
-use Rattle.std.proofs.Common.{◌≡◌, ◌+◌, ◌++◌, ◌∙◌, ap, arith, Bool, cond, Equal, false, Greater, is_eq, length, length-append, Less, List, [], ◌∷◌, map, nat_cmp, None, Option, Ordering, refl, Some, subst, sym, true, ℕ}
+use Rattle.std.proofs.Common.{◌≡◌, ◌+◌, ◌++◌, ◌∙◌, ap, arith, Bool, cond, Equal, false, Greater, is_eq, length, length-append, Less, List, [], ◌∷◌, map, nat_cmp, None, Option, Ordering, refl, Some, sym, true, ℕ}
 use Rattle.std.proofs.lemmas.List.{length-map}
-use Rattle.std.specs.BTreeMap.{insert_entry, is_at}
+use Rattle.std.specs.BTreeMap.{insert_entry}
 use Rattle.std.specs.Map.{lookup, set_value}
 use Rattle.std.specs.Ordering.{match_ordering}
-use Rattle.record_versions.specs.Entries.{chain_of, entries, entries_in, row_of}
+use Rattle.record_versions.specs.Entries.{entries, entries_in, row_of}
 use Rattle.record_versions.specs.Rows.{Row}
 use Rattle.record_versions.specs.declared.chain.Entry.{Entry}
 

@@ -1,5 +1,5 @@
 -- The entries of one identifier by their places: the latest one, those that are read, and one taken out.
-use Rattle.std.proofs.Common.{◌≡◌, ◌≢◌, ◌+◌, ◌-◌, ◌++◌, ◌<◌, ◌≤◌, ◌==◌, ◌∙◌, All, ap, arith, Bool, Bor, cond, Contains, drop, eq-eqb, false, filter, get_or, inl, inr, IfSome, IsSome, length, List, [], ◌∷◌, MatchOption, nat_le, None, not, option_copied, Option, refl, Some, subst, suc, sym, take, true, zero, ℕ}
+use Rattle.std.proofs.Common.{◌≡◌, ◌≢◌, ◌+◌, ◌-◌, ◌<◌, ◌≤◌, ◌==◌, ◌∙◌, All, ap, arith, Bor, cond, Contains, eq-eqb, false, filter, get_or, inl, inr, IfSome, IsSome, length, List, [], ◌∷◌, MatchOption, nat_le, None, not, option_copied, Option, refl, Some, subst, suc, sym, true, zero, ℕ}
 use Rattle.std.proofs.lemmas.Bool.{cases_lt, ne_eqb, true≢false}
 use Rattle.std.proofs.lemmas.List.{get_or_default}
 use Rattle.std.proofs.lemmas.List.Sorted.{IsPartitionedBy-leb}
@@ -37,16 +37,24 @@ module _ {V : Type 0} where
     λ l c le. elim (cases_lt c.0 i) [
       | inl lt ↦
           let below = up c.0 i l lt less in
-          omega (arith, below, ap (λ (k : Entry V). k.version) c.2,
-          ap (λ (k : Entry V). k.version) (get_or_default ks i l d less))
+          omega (
+            arith,
+            below,
+            ap (λ (k : Entry V). k.version) c.2,
+            ap (λ (k : Entry V). k.version) (get_or_default ks i l d less),
+          )
       | inr ge ↦ elim (cases_lt i c.0) [
         | inl gt ↦
             let after = behind c.0 l (omega (arith, gt)) c.1 in
             absurd (omega (arith, after, le, ap (λ (k : Entry V). k.version) c.2))
         | inr here ↦
             let same : c.0 ≡ i = omega (arith, ge, here) in
-            omega (arith, ap (λ (k : Entry V). k.version) c.2, ap (λ n. (get_or ks n l).version) same,
-            ap (λ (k : Entry V). k.version) (get_or_default ks i l d less))
+            omega (
+              arith,
+              ap (λ (k : Entry V). k.version) c.2,
+              ap (λ n. (get_or ks n l).version) same,
+              ap (λ (k : Entry V). k.version) (get_or_default ks i l d less),
+            )
       ]
     ],
   )
@@ -158,12 +166,22 @@ module _ {V : Type 0} where
       | inr ge ↦ elim (cases_lt i c.0) [
         | inl gt ↦
             let h = up i c.0 k gt c.1 in
-            absurd (omega (arith, h, before, ap (λ (l : Entry V). l.version) c.2,
-            ap (λ (l : Entry V). l.version) (get_or_default ks i k d less)))
+            absurd (omega (
+              arith,
+              h,
+              before,
+              ap (λ (l : Entry V). l.version) c.2,
+              ap (λ (l : Entry V). l.version) (get_or_default ks i k d less),
+            ))
         | inr here ↦
             let same : c.0 ≡ i = omega (arith, ge, here) in
-            absurd (omega (arith, before, ap (λ (l : Entry V). l.version) c.2, ap (λ n. (get_or ks n k).version) same,
-            ap (λ (l : Entry V). l.version) (get_or_default ks i k d less)))
+            absurd (omega (
+              arith,
+              before,
+              ap (λ (l : Entry V). l.version) c.2,
+              ap (λ n. (get_or ks n k).version) same,
+              ap (λ (l : Entry V). l.version) (get_or_default ks i k d less),
+            ))
       ]
     ],
   )

@@ -1,6 +1,6 @@
 -- A walk over chains in the order of identifiers, for the least dead entry.
-use Rattle.std.proofs.Common.{◌≡◌, ◌==◌, ◌+◌, ◌<◌, ◌≤◌, ◌∙◌, ap, arith, Bool, cond, Contains, false, filter, get_or, is_eq, length, List, [], ◌∷◌, inl, inr, nat_cmp, None, Option, refl, Some, subst, suc, sym, true, ℕ}
-use Rattle.std.proofs.lemmas.Bool.{cases_lt, true≢false}
+use Rattle.std.proofs.Common.{◌≡◌, ◌==◌, ◌+◌, ◌<◌, ◌≤◌, ◌∙◌, ap, arith, Bool, cond, Contains, false, filter, get_or, length, List, [], ◌∷◌, inl, inr, nat_cmp, None, Option, refl, Some, subst, suc, sym, true, ℕ}
+use Rattle.std.proofs.lemmas.Bool.{cases_lt}
 use Rattle.std.proofs.lemmas.Bool.Decides.{nat_tests}
 use Rattle.std.proofs.lemmas.List.Kept.{AllPairs-from_increasing}
 use Rattle.std.proofs.lemmas.Map.Entries.{lookup-filter-keys}
@@ -9,7 +9,7 @@ use Rattle.std.specs.BTreeMap.{is_at}
 use Rattle.std.specs.BTreeMap.Range.{entries_between, range_contains}
 use Rattle.std.specs.List.{AllPairs}
 use Rattle.std.specs.List.Sorted.{IsStrictlySortedBy}
-use Rattle.std.specs.Map.{keys_of, lookup}
+use Rattle.std.specs.Map.{keys_of}
 use Rattle.std.specs.declared.ops.Bound.TheVariants.{Included, Unbounded}
 use Rattle.record_versions.specs.Entries.{IsDead, IsLeastDead, IsLeastUnread, IsRead, IsUpTo, chain_of, entries_in, row_of}
 use Rattle.record_versions.specs.Rows.{Row}

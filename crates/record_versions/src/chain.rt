@@ -138,6 +138,5 @@ fn version_at<V>(entries: &VecDeque<Entry<V>>, place: usize) -> Option<u32>
 fn is_read(from: u32, next: Option<u32>, live: &[u32]) -> bool
     ensures { IsReadBefore from next live.now result }
 {
-    live.iter()
-        .any(|version| from <= *version && next.is_none_or(|next| *version < next))
+    live.iter().any(|version| from <= *version && next.is_none_or(|next| *version < next))
 }

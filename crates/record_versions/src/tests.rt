@@ -1,9 +1,62 @@
-//! Chains worked by hand.
+//! Chains of two identifiers, worked by hand.
+ghost use Rattle.std.specs.Prelude.{◌≡◌, ◌<◌};
 
-use crate::Chains;
+use crate::{Chains, Steps};
+use std::marker::Brand;
+use std::sync::ledger::{Blank, Ledger};
+use std::test::Fail;
+
+// What an identifier has at a version.
+fn look(chains: &Chains<char>, id: u32, version: u32) -> Option<(u32, char)> {
+    look_by::<Brand>(chains, id, version, Blank::new(1))
+}
+
+fn look_by<L: Ledger>(
+    chains: &Chains<char>,
+    id: u32,
+    version: u32,
+    blank: Blank,
+) -> Option<(u32, char)>
+    requires name { blank.name ≡ L.name }
+    requires parts { blank.parts ≡ L.parts }
+    requires one { 0 < blank.parts }
+{
+    let mut steps = Steps::<L>::open(blank);
+    let (version, value) = chains.at(id, version, &mut steps)?;
+    Some((version, *value))
+}
 
 #[test]
-fn nothing_is_kept_at_first(rt: HostRuntime) {
-    let chains: Chains<u8> = Chains::new(rt.alloc());
-    assert_eq!(rt; chains.kept(), 0);
+fn an_entry_is_read_until_the_next_and_dead_where_nobody_reads_it(
+    rt: HostRuntime,
+) -> Result<(), Fail> {
+    let mut chains = Chains::new(rt.alloc());
+    chains.reserve(7)?;
+    chains.add(7, 1, 'a');
+    chains.reserve(7)?;
+    chains.add(7, 3, 'b');
+    chains.reserve(2)?;
+    chains.add(2, 2, 'c');
+    let rows = [
+        (7, 0, None),
+        (7, 1, Some((1, 'a'))),
+        (7, 2, Some((1, 'a'))),
+        (7, 3, Some((3, 'b'))),
+        (2, 1, None),
+        (2, 9, Some((2, 'c'))),
+        (5, 9, None),
+    ];
+    for (id, version, entry) in rows {
+        assert_eq!(rt; look(&chains, id, version), entry, "{id} at {version}");
+    }
+    assert_eq!(rt; chains.dead(&[2, 3]), None);
+    assert_eq!(rt; chains.dead(&[1, 3]), None);
+    assert_eq!(rt; chains.dead(&[1]), Some((2, 2)));
+    assert_eq!(rt; chains.dead_from((2, 3), &[1]), Some((7, 3)));
+    assert_eq!(rt; chains.dead(&[3]), Some((7, 1)));
+    assert_eq!(rt; chains.take(7, 2), None);
+    assert_eq!(rt; chains.take(7, 1), Some('a'));
+    assert_eq!(rt; chains.dead(&[3]), None);
+    assert_eq!(rt; chains.kept(), 2);
+    Ok(())
 }

@@ -80,10 +80,10 @@ blocks-parted r bs (up, some) i j d le less t =
           let y = first-of (get_or bs j d) (some j d less) in
           let last = all-before r 0 (get_or bs j d) (block-ascends bs j d up less) t in
           before-all r (get_or bs i d) (λ k e within.
-            let h = across bs i j d (get_or (get_or bs i d) k e) y.0 up lt less
-            (k, within, get_or_default (get_or bs i d) k (get_or (get_or bs i d) k e) e within) y.1 in
-            let l = All-contains (λ x. rank_of x < r) (get_or bs j d) y.0 last y.1 in
-            omega (arith, h, l))
+          let h = across bs i j d (get_or (get_or bs i d) k e) y.0 up lt less
+          (k, within, get_or_default (get_or bs i d) k (get_or (get_or bs i d) k e) e within) y.1 in
+          let l = All-contains (λ x. rank_of x < r) (get_or bs j d) y.0 last y.1 in
+          omega (arith, h, l))
       | inr ge ↦
           let same : i ≡ j = omega (arith, le, ge) in
           ap (λ n. ends_before r (get_or bs n d)) same ∙ t
@@ -101,25 +101,25 @@ pub before-place : (r n : ℕ) (bs : List (List Screened)) → AreBlocks bs → 
     → AllWithin (λ b. ends_before r b ≡ true) bs 0 n → All (λ x. rank_of x < r) (Before bs n)
 before-place r n bs (up, some) fits ends =
     all-joined (λ x. rank_of x < r) (take n bs) (λ k d less.
-      let size = length-take-le n bs fits in
-      let within : k < n = omega (arith, less, size) in
-      subst (All (λ x. rank_of x < r)) (sym (get_or-take n bs k d within))
-      (all-before r 0 (get_or bs k d) (block-ascends bs k d up (omega (arith, within, fits)))
-      (ends k d (omega arith) within)))
+    let size = length-take-le n bs fits in
+    let within : k < n = omega (arith, less, size) in
+    subst (All (λ x. rank_of x < r)) (sym (get_or-take n bs k d within))
+    (all-before r 0 (get_or bs k d) (block-ascends bs k d up (omega (arith, within, fits)))
+    (ends k d (omega arith) within)))
 
 pub behind-place : (r n : ℕ) (bs : List (List Screened)) → AreBlocks bs
     → AllWithin (λ b. ends_before r b ≡ false) bs n (length bs) → All (λ x. r < rank_of x) (Behind bs n)
 behind-place r n bs (up, some) ends =
     all-joined (λ x. r < rank_of x) (drop (suc n) bs) (λ k d less.
-      let size = length-drop (suc n) bs in
-      let within : suc n + k < length bs = omega (arith, less, size) in
-      let last = not-before r (get_or bs n d) (ends n d (omega arith) (omega (arith, within))) in
-      subst (All (λ x. r < rank_of x)) (sym (get_or-drop (suc n) bs k d)) (λ i e inside.
-        let b = get_or bs (suc n + k) d in
-        let h = across bs n (suc n + k) d last.0 (get_or b i e) up (omega arith) within last.1
-        (i, inside, get_or_default b i (get_or b i e) e inside) in
-        let l = last.2 in
-        omega (arith, h, l)))
+    let size = length-drop (suc n) bs in
+    let within : suc n + k < length bs = omega (arith, less, size) in
+    let last = not-before r (get_or bs n d) (ends n d (omega arith) (omega (arith, within))) in
+    subst (All (λ x. r < rank_of x)) (sym (get_or-drop (suc n) bs k d)) (λ i e inside.
+    let b = get_or bs (suc n + k) d in
+    let h = across bs n (suc n + k) d last.0 (get_or b i e) up (omega arith) within last.1
+    (i, inside, get_or_default b i (get_or b i e) e inside) in
+    let l = last.2 in
+    omega (arith, h, l)))
 
 all-left : (P : Screened → Type 0) (xs ys : List Screened) → All P (xs ++ ys) → All P xs
 all-left P xs ys all k d less =

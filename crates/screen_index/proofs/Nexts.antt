@@ -36,8 +36,12 @@ first-is want from i xs d up less none wanted = (
           omega (arith, h, ap rank_of c.2, ap rank_of (get_or_default xs i d y less))
       | inr le ↦
           let same : c.0 ≡ i = omega (arith, ge, le) in
-          omega (arith, ap rank_of c.2, ap (λ n. rank_of (get_or xs n y)) same,
-          ap rank_of (get_or_default xs i d y less))
+          omega (
+            arith,
+            ap rank_of c.2,
+            ap (λ n. rank_of (get_or xs n y)) same,
+            ap rank_of (get_or_default xs i d y less),
+          )
     ]
   ],
 )

@@ -12,3 +12,5 @@ mod union;
 
 pub use index::ScreenIndex;
 
+#[cfg(test)]
+mod tests;

@@ -1,7 +1,6 @@
-use Rattle.std.proofs.Common.{◌≡◌, arith, nat_le, rules}
+use Rattle.std.proofs.Common.{nat_le, rules}
 use Rattle.std.proofs.lemmas.Bool.{leb-false, leb-true}
 use Rattle.std.proofs.lemmas.List.Sorted.{IsPartitionPoint-from_clause}
-use Rattle.record_versions.specs.declared.chain.Entry.{Entry}
 use Rattle.record_versions.proofs.Order.{parted}
 use Rattle.record_versions.proofs.chain.up_to.Goals as goal
 

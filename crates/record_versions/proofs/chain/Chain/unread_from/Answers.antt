@@ -2,7 +2,6 @@ use Rattle.std.proofs.Common.{◌≡◌, ◌+◌, ◌<◌, ◌≤◌, ◌∙◌,
 use Rattle.std.proofs.lemmas.List.{get_or_default}
 use Rattle.record_versions.specs.Entries.{IsLeastUnread, IsRead, IsReadBefore}
 use Rattle.record_versions.specs.Rows.{Row}
-use Rattle.record_versions.specs.declared.chain.Entry.{Entry}
 use Rattle.record_versions.proofs.Order.{Ascends, IsNextAt, all-read, first-unread, is-read, is-unread, read-more}
 use Rattle.record_versions.proofs.chain.Chain.unread_from.Goals as goal
 
@@ -20,8 +19,11 @@ returns-then-not-is_read g c =
     let is : x ≡ get_or ks place x = c.index.ensures ∙ ap (λ l. get_or l place x) same in
     let no : c.is_read.result ≡ false = search rules in
     let behind = c.before-place.ensures.behind place x (omega arith) (omega (arith, c.self.inside.entries.ok.0)) in
-    let late : c.args.from ≤ (get_or ks place x).version = omega (arith, behind,
-    ap (λ l. (get_or l place x).version) same) in
+    let late : c.args.from ≤ (get_or ks place x).version = omega (
+      arith,
+      behind,
+      ap (λ l. (get_or l place x).version) same,
+    ) in
     subst (λ y. IsLeastUnread live c.args.from ks (Some y.version)) (sym is)
     (first-unread live c.args.from place ks x less up c.loop-place.invariant late
     (is-unread live place ks x next less up (subst (λ l. IsNextAt l (place + 1) next) same c.version_at.ensures)

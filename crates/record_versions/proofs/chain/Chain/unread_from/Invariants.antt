@@ -1,4 +1,3 @@
-use Rattle.std.proofs.Common.{◌≡◌}
 use Rattle.record_versions.proofs.Order.{AreRead}
 use Rattle.record_versions.proofs.chain.Chain.unread_from.Given as goal
 

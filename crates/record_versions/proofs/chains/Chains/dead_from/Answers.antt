@@ -1,5 +1,5 @@
-use Rattle.std.proofs.Common.{◌≡◌, ◌∙◌, ◌+◌, ◌∷◌, ap, arith, None, Some, subst, sym, ℕ}
-use Rattle.record_versions.specs.Entries.{IsLeastDead, IsLeastUnread}
+use Rattle.std.proofs.Common.{◌∙◌, ◌+◌, ap, arith, None, Some, subst, sym, ℕ}
+use Rattle.record_versions.specs.Entries.{IsLeastUnread}
 use Rattle.record_versions.specs.Rows.{Row}
 use Rattle.record_versions.proofs.Walk.{Between, GoesOn, Rise, at-end, begins, between-rises, found, lower, passed-by, rises}
 use Rattle.record_versions.proofs.chains.Chains.dead_from.Goals as goal

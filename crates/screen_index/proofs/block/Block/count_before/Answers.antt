@@ -13,9 +13,9 @@ returns-clause-before c =
     c.partition_point.result c.partition_point.ensures.partitioned
     (parted r _ (subst (Ascend 0) (sym same) c.requires)) (λ a b f h. search rules) in
     λ k d low high.
-      let t : nat_lt (rank_of (get_or c.args.self.now k d)) r ≡ true =
-      ap (λ l. nat_lt (rank_of (get_or l k d)) r) (sym same) ∙ p.0 k d low high in
-      grind (arith, nat_tests, t)
+    let t : nat_lt (rank_of (get_or c.args.self.now k d)) r ≡ true =
+    ap (λ l. nat_lt (rank_of (get_or l k d)) r) (sym same) ∙ p.0 k d low high in
+    grind (arith, nat_tests, t)
 
 pub returns-clause-behind : goal.returns-clause-behind
 returns-clause-behind c =
@@ -25,7 +25,7 @@ returns-clause-behind c =
     c.partition_point.result c.partition_point.ensures.partitioned
     (parted r _ (subst (Ascend 0) (sym same) c.requires)) (λ a b f h. search rules) in
     λ k d low high.
-      let t : nat_lt (rank_of (get_or c.args.self.now k d)) r ≡ false =
-      ap (λ l. nat_lt (rank_of (get_or l k d)) r) (sym same)
-      ∙ p.1 k d low (omega (arith, high, ap (λ l. length l) same)) in
-      grind (arith, nat_tests, t)
+    let t : nat_lt (rank_of (get_or c.args.self.now k d)) r ≡ false =
+    ap (λ l. nat_lt (rank_of (get_or l k d)) r) (sym same)
+    ∙ p.1 k d low (omega (arith, high, ap (λ l. length l) same)) in
+    grind (arith, nat_tests, t)

@@ -29,9 +29,9 @@ returns-then-count_before-eq0-clause-whole c =
     let lacks = lacks-right (rank_of c.args.entry) lower upper
     (subst (Lacks (rank_of c.args.entry)) (sym c.split.ensures.whole) c.requires.absent) in
     let behind : All (λ y. rank_of c.args.entry < rank_of y) upper = λ k d less.
-      let h = c.count_before-2.ensures.behind k d (omega arith) less in
-      let ne = lacks k d less in
-      omega (arith, h, ne) in
+    let h = c.count_before-2.ensures.behind k d (omega arith) less in
+    let ne = lacks k d less in
+    omega (arith, h, ne) in
     ap (λ l. l ++ upper) c.insert.ensures
     ∙ (sym (put-before c.args.entry lower upper behind) ∙ ap (put_in c.args.entry) c.split.ensures.whole)
 
@@ -42,9 +42,9 @@ returns-else-count_before-eq0-clause-whole c =
     let up = subst (Ascend 0) (sym c.split.ensures.whole) c.requires.ascending in
     let some : 0 < length upper = omega (arith, c.count_before-2.ensures.within) in
     let before : All (λ y. rank_of y < rank_of c.args.entry) lower = λ i d less.
-      let h = apart 0 lower upper i d up less 0 d some in
-      let l = c.count_before-2.ensures.before 0 d (omega arith) (omega arith) in
-      omega (arith, h, l) in
+    let h = apart 0 lower upper i d up less 0 d some in
+    let l = c.count_before-2.ensures.before 0 d (omega arith) (omega arith) in
+    omega (arith, h, l) in
     ap (λ l. lower ++ l) c.insert-else-count_before-eq0.ensures
     ∙ (sym (put-behind c.args.entry lower upper before) ∙ ap (put_in c.args.entry) c.split.ensures.whole)
 
