@@ -1,5 +1,6 @@
 mod Marks
 mod Meaning
+mod Molecules
 mod Stages
 mod Unique
 mod UniqueMol

@@ -3,10 +3,12 @@
 
 mod answer;
 mod fault;
+mod laws;
 mod molecule;
 
 pub use answer::{one_answer, one_structure, structure, structure_in};
 pub use fault::{Format, TextFault};
+pub use laws::structures_are_molecules;
 
 #[cfg(test)]
 mod tests;

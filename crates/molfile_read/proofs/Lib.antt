@@ -6,8 +6,8 @@ mod Made
 mod NeverLimit
 mod Numbers
 mod Pairs
-mod PropertyLines
 mod Readings
+mod Sound
 mod Steps
 mod Symbols
 mod TextLines

@@ -19,7 +19,7 @@ pub enum MolfileFault {
     #[error("line {0} has a field that is not read")]
     Columns(u32),
     /// The bond of this line joins an atom to itself, or ends at no atom, or joins two atoms that have a bond.
-    #[error("line {0} joins no two atoms that it may join")]
+    #[error("line {0}: a bond's ends are out of range, equal, or bonded already")]
     Bond(u32),
     /// This line holds what only queries use.
     #[error("line {0} belongs to a query")]

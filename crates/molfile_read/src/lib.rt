@@ -9,6 +9,7 @@ mod counts;
 mod fault;
 mod field;
 mod finish;
+mod laws;
 mod lines;
 mod property;
 mod read;
@@ -16,6 +17,7 @@ mod setting;
 mod symbol;
 
 pub use fault::MolfileFault;
+pub use laws::readings_are_sound;
 pub use read::{one_reading, read_molfile, read_molfile_in};
 
 #[cfg(test)]

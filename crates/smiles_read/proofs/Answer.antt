@@ -1,16 +1,15 @@
--- From the graph of a text to the answer, and that an answer is sound.
+-- From the graph of a text to the answer.
 use Rattle.std.proofs.Common.{◌≡◌, ◌≢◌, ℕ, zero, suc, ◌+◌, ◌<◌, ◌≤◌, ◌⊎◌, inl, inr, List, [], ◌∷◌, length, map, Option, Some, Ok, Err, refl, sym, ◌∙◌, ap, subst, arith}
 use Rattle.std.proofs.lemmas.List.{length-map}
-use Rattle.std.proofs.lemmas.List.Elements.{All-from_recursion}
 use Rattle.std.proofs.lemmas.List.FromFn.{length-enumerate_from}
-use Rattle.std.specs.List.{All, AllByRecursion, enumerate_from}
+use Rattle.std.specs.List.{AllByRecursion, enumerate_from}
 use Rattle.chem_core.specs.declared.limits.TheConstants.{MOST_NEIGHBOURS}
 use Rattle.chem_core.specs.declared.sketch.SketchAtom.{SketchAtom}
 use Rattle.chem_core.specs.declared.sketch.SketchBond.{SketchBond}
 use Rattle.chem_core.specs.declared.sketch.SketchKind.{SketchKind}
 use Rattle.chem_core.specs.Sketch.{SketchTerm}
-use Rattle.chem_core.specs.Graph.{Ends, JoinsAt, degree}
-use Rattle.chem_core.specs.Sound.{IsSketchAtom, IsSound, ends_among}
+use Rattle.chem_core.specs.Graph.{JoinsAt, degree}
+use Rattle.chem_core.specs.Sound.{ends_among}
 use Rattle.line_walk.specs.declared.pairs.Link.{Link}
 use Rattle.line_walk.specs.declared.read.Graph.{Graph}
 use Rattle.line_walk.specs.declared.fault.Fault.{Fault}
@@ -25,7 +24,6 @@ use Rattle.smiles_read.specs.Sketch.{numbered, link_of, IsSketchOf}
 use Rattle.smiles_read.specs.Faults.{walk_fault}
 use Rattle.smiles_read.specs.Reading.{IsWithinLimits, IsReading}
 use Rattle.smiles_read.specs.Limits.{bond_of, link_ends, HasFewParts}
-use Rattle.smiles_read.proofs.AtomSound.{IsRead, tree_read}
 
 -- a bond of a sketch is one of a graph, and back
 pub links_back : (xs : List (Link SketchKind)) → map link_of (map bond_of xs) ≡ xs
@@ -40,11 +38,7 @@ bonds_back (x ∷ xs) = ap (λ v. x ∷ v) (bonds_back xs)
 abbrev pub sketch_of : Graph SketchAtom SketchKind → SketchTerm
 sketch_of graph = record { atoms = numbered graph.atoms.items; bonds = map bond_of graph.links.items }
 
-ends_same : (xs : List (Link SketchKind)) → map {B = ℕ × ℕ} (λ b. (b.a, b.b)) (map bond_of xs) ≡ link_ends xs
-ends_same [] = refl
-ends_same (x ∷ xs) = ap (λ v. (x.a, x.b) ∷ v) (ends_same xs)
-
-length-numbered : (xs : List SketchAtom) → length (numbered xs) ≡ length xs
+pub length-numbered : (xs : List SketchAtom) → length (numbered xs) ≡ length xs
 length-numbered xs = length-map (enumerate_from 0 xs) (λ p. record p.1 { written = p.0 }) ∙ length-enumerate_from 0 xs
 
 -- no atom has more than `MOST_NEIGHBOURS` neighbours
@@ -125,7 +119,7 @@ head_once z [] c x y free h (inr j) = absurd (cc)
 head_once z (v ∷ xs) zero x y free h j = free.0 (joins_same z v x y h (joins_head v xs x y j))
 head_once z (v ∷ xs) (suc c) x y free h j = head_once z xs c x y free.1 h j
 
-once_at : (xs : List (Link SketchKind)) → AreOnce xs → (b c x y : ℕ) → JoinsAt (link_ends xs) b x y
+pub once_at : (xs : List (Link SketchKind)) → AreOnce xs → (b c x y : ℕ) → JoinsAt (link_ends xs) b x y
     → JoinsAt (link_ends xs) c x y → b ≡ c
 once_at [] h b c x y (inl i) j = absurd (cc)
 once_at [] h b c x y (inr i) j = absurd (cc)
@@ -134,7 +128,7 @@ once_at (z ∷ xs) h zero (suc c) x y i j = absurd (head_once z xs c x y h.0 (jo
 once_at (z ∷ xs) h (suc b) zero x y i j = absurd (head_once z xs b x y h.0 (joins_head z xs x y j) i)
 once_at (z ∷ xs) h (suc b) (suc c) x y i j = ap (λ n. suc n) (once_at xs h.1 b c x y i j)
 
-all_ends : (P : ℕ × ℕ → Type 0) (xs : List (Link SketchKind)) → AllByRecursion (λ x. P (x.a, x.b)) xs
+pub all_ends : (P : ℕ × ℕ → Type 0) (xs : List (Link SketchKind)) → AllByRecursion (λ x. P (x.a, x.b)) xs
     → AllByRecursion P (link_ends xs)
 all_ends P [] h = tt
 all_ends P (x ∷ xs) h = (h.0, all_ends P xs h.1)
@@ -151,74 +145,6 @@ apart_at n m (x ∷ xs) is h =
     let u = h.0.0 in
     let v = h.0.1 in
     ((omega arith, omega arith, λ e. omega arith), apart_at n m xs is h.1)
-
--- soundness
-numbered_read : (n : ℕ) (xs : List SketchAtom) → AllByRecursion IsRead xs
-    → AllByRecursion IsRead (map (λ p. record p.1 { written = p.0 }) (enumerate_from n xs))
-numbered_read n [] h = tt
-numbered_read n (x ∷ xs) h =
-    let s = h.0.0 in (
-      (
-        record {
-          number = s.number;
-          isotope = s.isotope;
-          lowest_charge = s.lowest_charge;
-          highest_charge =
-              s.highest_charge;
-          fill = s.fill;
-          hydrogens = s.hydrogens;
-        },
-        h.0.1,
-      ),
-      numbered_read (n + 1) xs h.1,
-    )
-
-atoms_read : (text : List ℕ) (graph : Graph SketchAtom SketchKind) → walks.IsReading smiles_words text (Ok graph)
-    → AllByRecursion IsRead (numbered graph.atoms.items)
-atoms_read text graph h = numbered_read 0 graph.atoms.items (subst (λ (v : List SketchAtom). AllByRecursion IsRead v)
-    (sym h.2.0) (tree_read h.0 h.1.0))
-
-pub sketch_sound : (text : List ℕ) (graph : Graph SketchAtom SketchKind) → walks.IsReading smiles_words text (Ok graph)
-    → AllByRecursion (λ x. (x.a < x.b) × (x.b < length graph.atoms.items)) graph.links.items → HasFewParts graph
-    → AreFew (map bond_of graph.links.items) → IsSound (sketch_of graph)
-sketch_sound text graph h ends small few =
-    let links = graph.links.items in
-    let n = length graph.atoms.items in
-    let same = length-numbered graph.atoms.items in
-    let bonds = length-map {B = SketchBond} links bond_of in
-    let back = ends_same links in
-    let count = length-map {B = ℕ × ℕ} (map bond_of links) (λ (b : SketchBond). (b.a, b.b)) in
-    let la = small.atoms in
-    let lb = small.bonds in
-    let R : Ends → Type 0 = λ v. All (λ e. (e.0 < length (numbered graph.atoms.items))
-    × (e.1 < length (numbered graph.atoms.items))) v in
-    let D : Ends → Type 0 = λ v. All (λ e. e.0 ≢ e.1) v in
-    let O : Ends → Type 0 = λ v. (b c x y : ℕ) → JoinsAt v b x y → JoinsAt v c x y → b ≡ c in
-    record {
-      graph = record {
-        few_atoms = omega arith;
-        few_bonds = omega arith;
-        few_neighbours = few;
-        in_range = subst R (sym back) (All-from_recursion (λ e. (e.0 < length (numbered graph.atoms.items))
-            × (e.1 < length (numbered graph.atoms.items))) (link_ends links)
-            (all_ends (λ e. (e.0 < length (numbered graph.atoms.items)) × (e.1 < length (numbered graph.atoms.items)))
-            links
-            (all_weaker (λ x. (x.a < x.b) × (x.b < n)) (λ x. (x.a < length (numbered graph.atoms.items))
-            × (x.b < length (numbered graph.atoms.items))) (λ x k. let u = k.0 in let v = k.1 in
-            (omega arith, omega arith)) links ends)));
-        distinct = subst D (sym back) (All-from_recursion (λ e. e.0 ≢ e.1) (link_ends links)
-            (all_ends (λ e. e.0 ≢ e.1) links (all_weaker (λ x. (x.a < x.b) × (x.b < n)) (λ x. x.a ≢ x.b) (λ x k e.
-            let u = k.0 in omega arith) links ends)));
-        once = subst O (sym back) (once_at links h.2.1.once);
-      };
-      each = All-from_recursion IsSketchAtom (numbered graph.atoms.items) (all_weaker IsRead IsSketchAtom (λ a k. k.0)
-          (numbered graph.atoms.items) (atoms_read text graph h));
-    }
-
-pub sketch_hydrogens : (text : List ℕ) (graph : Graph SketchAtom SketchKind)
-    → walks.IsReading smiles_words text (Ok graph) → All (λ a. a.hydrogens ≤ 9) (numbered graph.atoms.items)
-sketch_hydrogens text graph h = All-from_recursion (λ a. a.hydrogens ≤ 9) (numbered graph.atoms.items)
-    (all_weaker IsRead (λ a. a.hydrogens ≤ 9) (λ a k. k.1) (numbered graph.atoms.items) (atoms_read text graph h))
 
 -- each bond joins two of the atoms
 pub sketch_ends_apart : (graph : Graph SketchAtom SketchKind) (n : ℕ) → n ≡ length (numbered graph.atoms.items)

@@ -4,3 +4,4 @@ pub mod Enumerated
 pub mod Exclusion
 pub mod Fronts
 pub mod Results
+pub mod Sound

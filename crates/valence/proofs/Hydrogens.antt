@@ -66,14 +66,16 @@ by_case : (b : Bool) (m n : ℕ) → m ≤ 6 → n ≤ 6 → elim b [ true ↦ m
 by_case true m n p q = omega arith
 by_case false m n p q = omega arith
 
-hydrogens_of-le : (fill : Fill) (atom : SketchAtom) (t : ℕ) → IsFill fill → atom.hydrogens ≤ 9
-    → hydrogens_of fill atom t ≤ 15
-hydrogens_of-le Given atom t valid few = omega arith
-hydrogens_of-le Organic atom t valid few = by_case atom.lower _ _ (missing_aromatic-le _ t (organic-small atom.number))
-    (missing-le _ t (organic-small atom.number))
-hydrogens_of-le (Table radicals) atom t valid few =
+hydrogens_of-le : (most : ℕ) (fill : Fill) (atom : SketchAtom) (t : ℕ) → 15 ≤ most → IsFill fill
+    → atom.hydrogens ≤ most → hydrogens_of fill atom t ≤ most
+hydrogens_of-le most Given atom t least valid few = few
+hydrogens_of-le most Organic atom t least valid few =
+    let le = by_case atom.lower _ _ (missing_aromatic-le _ t (organic-small atom.number))
+    (missing-le _ t (organic-small atom.number)) in
+    omega arith
+hydrogens_of-le most (Table radicals) atom t least valid few =
     omega (arith, missing-le _ (t + radicals) (table-small atom.number atom.charge))
-hydrogens_of-le (Fixed valence) atom t valid few = omega arith
+hydrogens_of-le most (Fixed valence) atom t least valid few = omega arith
 
 -- one more atom has its hydrogens
 pub fill-more : (sums : List ℕ) (xs ys : List SketchAtom) (i h : ℕ) (d : SketchAtom) → i < length xs
@@ -106,7 +108,8 @@ pub filled-few : (s : SketchTerm) → IsSound s → All (λ a. a.hydrogens ≤ 9
     → All (λ a. a.hydrogens ≤ 15) (filled s).atoms
 filled-few s sound few k d h =
     let within : k < length s.atoms = omega (arith, length-filled s) in
-    rw (filled-at s k d within) (hydrogens_of-le _ _ _ (sound.each k d within).fill (few k d within))
+    let le = few k d within in
+    rw (filled-at s k d within) (hydrogens_of-le 15 _ _ _ (omega arith) (sound.each k d within).fill (omega arith))
 
 -- an atom stays one when its hydrogens change
 pub with_hydrogens : (atom : SketchAtom) (n : ℕ) → IsSketchAtom atom → n ≤ 27
@@ -120,16 +123,16 @@ with_hydrogens atom n old few = record {
   hydrogens = few;
 }
 
-pub filled-sound : (s : SketchTerm) → IsSound s → All (λ a. a.hydrogens ≤ 9) s.atoms → IsSound (filled s)
-filled-sound s sound few = record {
+pub filled-sound : (s : SketchTerm) → IsSound s → IsSound (filled s)
+filled-sound s sound = record {
   graph = subst (λ n. IsSimpleGraph n (sketch_ends s)) (sym (length-filled s)) sound.graph;
   each = λ k d h.
       let within : k < length s.atoms = omega (arith, length-filled s) in
       let old = sound.each k d within in
       let atom : SketchAtom = get_or s.atoms k d in
-      let le = hydrogens_of-le atom.fill atom (bond_sum s k) old.fill (few k d within) in
+      let le = hydrogens_of-le 27 atom.fill atom (bond_sum s k) (omega arith) old.fill old.hydrogens in
       subst IsSketchAtom (sym (filled-at s k d within))
-      (with_hydrogens atom (hydrogens_of atom.fill atom (bond_sum s k)) old (omega (arith, le)));
+      (with_hydrogens atom (hydrogens_of atom.fill atom (bond_sum s k)) old le);
 }
 
 -- the atoms with the hydrogens of equal sums

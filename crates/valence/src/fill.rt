@@ -12,11 +12,11 @@ use chem_core::{Fill, MOST_ATOMS, Sketch, SketchAtom, SketchBond};
 /// at aromatic atoms 3.5), by those of molfiles (CTfile formats), or by a written valence, as each atom says. Takes no
 /// memory.
 pub fn fill_hydrogens(sketch: &mut Sketch)
-    requires sound { IsSound sketch.old }
-    requires few { All (λ a. a.hydrogens ≤ 9) sketch.old.atoms }
+    requires { IsSound sketch.old }
     ensures filled { sketch.new ≡ filled sketch.old }
     ensures sound { IsSound sketch.new }
-    ensures few { All (λ a. a.hydrogens ≤ 15) sketch.new.atoms }
+    ensures few { All (λ a. a.hydrogens ≤ 9) sketch.old.atoms
+        → All (λ a. a.hydrogens ≤ 15) sketch.new.atoms }
 {
     let sums = bond_sums(&sketch.bonds);
     fill(&mut sketch.atoms, &sums);

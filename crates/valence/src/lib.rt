@@ -8,7 +8,7 @@ mod suppression;
 mod table;
 
 pub use fill::fill_hydrogens;
-pub use laws::{order_stays, twice_is_once};
+pub use laws::{order_stays, sound_stays, twice_is_once};
 pub use suppression::suppress;
 
 #[cfg(test)]

@@ -1,11 +1,11 @@
-use Rattle.std.proofs.Common.{◌<◌, ◌≢◌, ◌≤◌, inr, List, length, sym, ap, subst, ◌∙◌}
-use Rattle.std.specs.List.{All, AllByRecursion}
+use Rattle.std.proofs.Common.{◌<◌, ◌≢◌, inr, List, length, map, sym, ap, subst, ◌∙◌}
+use Rattle.std.specs.List.{AllByRecursion}
 use Rattle.chem_core.specs.declared.sketch.SketchBond.{SketchBond}
 use Rattle.chem_core.specs.Sketch.{SketchTerm}
-use Rattle.chem_core.specs.Sound.{IsSound}
-use Rattle.smiles_read.specs.Sketch.{IsSketchOf}
+use Rattle.smiles_read.specs.Sketch.{link_of, IsSketchOf}
 use Rattle.smiles_read.specs.Reading.{IsWithinLimits}
-use Rattle.smiles_read.proofs.Answer.{AreFew, sketch_of, answered, sketch_sound, sketch_hydrogens, sketch_ends_apart}
+use Rattle.smiles_read.proofs.Answer.{AreFew, sketch_of, answered, sketch_ends_apart}
+use Rattle.smiles_read.proofs.Sound.{JoinAtoms, sound_where, graph_joins, few_hydrogens}
 use Rattle.smiles_read.proofs.read.read_smiles_in.Goals as goal
 
 pub returns-then-not-has_few_parts-clause-reading : goal.returns-then-not-has_few_parts-clause-reading
@@ -63,14 +63,9 @@ returns-clause-reading c =
 pub returns-clause-sound : goal.returns-clause-sound
 returns-clause-sound c =
     let graph = c.in_ok-graph.graph in
-    let P : SketchTerm → Type 0 = λ s. IsSound s in
-    let same = c.deref.ensures.value ∙ ap (λ (s : SketchTerm). s.bonds) (c.sketch-2.view_is ∙ c.in_ok-sketch.ensures) in
-    let few = subst AreFew same (c.in_ok-are_few_neighbours.ensures.0 c.if-not-branch.false) in
-    subst P (sym c.in_ok-sketch.ensures) (sketch_sound c.args.text.now graph c.in_ok-graph.ensures.reading
-    c.in_ok-graph.ensures.ends (c.has_few_parts.ensures.0 c.if-not-has_few_parts.false) few)
+    let P : SketchTerm → Type 0 = λ s. JoinAtoms (length s.atoms) (map link_of s.bonds) in
+    sound_where c.args.text.now _ (subst P (sym c.in_ok-sketch.ensures) (graph_joins graph c.in_ok-graph.ensures.ends))
+    (returns-clause-reading c)
 
 pub returns-clause-few_hydrogens : goal.returns-clause-few_hydrogens
-returns-clause-few_hydrogens c =
-    let graph = c.in_ok-graph.graph in
-    let P : SketchTerm → Type 0 = λ s. All (λ a. a.hydrogens ≤ 9) s.atoms in
-    subst P (sym c.in_ok-sketch.ensures) (sketch_hydrogens c.args.text.now graph c.in_ok-graph.ensures.reading)
+returns-clause-few_hydrogens c = few_hydrogens c.args.text.now _ (returns-clause-reading c)

@@ -1,0 +1,17 @@
+//! A law of readings, which callers need without reading a text.
+
+ghost use Rattle.std.specs.Prelude.{ℕ, ◌≤◌, List, All, Ok};
+ghost use Rattle.chem_core.specs.Sketch.{SketchTerm};
+ghost use Rattle.chem_core.specs.Sound.{IsSound};
+ghost use Rattle.smiles_read.specs.Reading.{IsReading};
+
+use crate::notation::Smiles;
+
+/// A law: whatever sketch a text is read as is sound, and each of its atoms has at most nine hydrogens.
+pub fn readings_are_sound()
+    ensures sound { (text : List ℕ) (s : SketchTerm) → IsReading text (Ok s) → IsSound s }
+    ensures few_hydrogens { (text : List ℕ) (s : SketchTerm) → IsReading text (Ok s)
+        → All (λ a. a.hydrogens ≤ 9) s.atoms }
+{
+    line_walk::bonds_join_atoms::<Smiles>();
+}
