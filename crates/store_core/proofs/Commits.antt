@@ -82,8 +82,8 @@ some-state (Some status) e = (status, refl)
 
 pub valid-change : StatesStay → (s : State) (c : Change) → IsHistory s.history → IsSoundChange c
     → IsAllowed (now s) (change_of c) → IsValid (change_of c)
-valid-change stay s (Register r) good sound allowed = (sound.id, ((arc_value r).mol, sound.structure, sound.molecule))
-valid-change stay s (Revise r) good sound allowed = (sound.id, ((arc_value r).mol, sound.structure, sound.molecule))
+valid-change stay s (Register r) good sound allowed = (sound.id, ((arc_value r).mol, sound.structure))
+valid-change stay s (Revise r) good sound allowed = (sound.id, ((arc_value r).mol, sound.structure))
 valid-change stay s (Withdraw id) good sound allowed = let o = some-state (get (now s) id) allowed
     in (stay s.history (head s.history) id o.0 good o.1).0
 

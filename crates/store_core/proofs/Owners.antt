@@ -5,7 +5,7 @@ use Rattle.store_machine.specs.Laws.{IsSound}
 use Rattle.store_machine.specs.Owners.{SameButOwners, SoundnessAsksNoOwner, unowned}
 use Rattle.store_machine.specs.declared.machine.Held.{Held}
 use Rattle.store_machine.specs.declared.machine.State.{State}
-use Rattle.store_core.specs.Stored.{AsksNoOwner, IsAt, Served, StandsFor, StoreTerm, alone, pin_of, served}
+use Rattle.store_core.specs.Stored.{AsksNoOwner, Served, StandsFor, StoreTerm, alone, pin_of, served}
 use Rattle.store_core.proofs.Rows.{pins-stand}
 
 pin_from : ℕ × ℕ → Pin

@@ -17,7 +17,7 @@ use Rattle.store_machine.specs.declared.machine.Reply.{Reply}
 use Rattle.store_machine.specs.declared.machine.Reply.TheVariants.{Pinned}
 use Rattle.store_machine.specs.declared.machine.State.{State}
 use Rattle.store_machine.specs.declared.machine.Step.{Step}
-use Rattle.store_machine.proofs.Finds.{OneStructure, found-hits, found-tried}
+use Rattle.store_machine.proofs.Finds.{AreMolecules, found-hits, found-tried}
 use Rattle.store_machine.proofs.Growing.{runs-grow}
 use Rattle.store_machine.proofs.PagesRead.{grown-le, snapshots-stay}
 use Rattle.store_machine.proofs.Paging.{all-found, from-start, pages-are-a-prefix, pages-are-pieces}
@@ -118,12 +118,12 @@ longer : (h h' : History) (more : List Change) → h' ≡ grown h more → head 
 longer h h' more e = grown-le h h' more e (head h) (le_of_eq refl)
 
 -- the pages of a search, at the states of its Pin and at the run's end
-pages-at : OneStructure → (s s' : State) (slot version from : ℕ) (want : List Bool) (place : Place)
+pages-at : AreMolecules → (s s' : State) (slot version from : ℕ) (want : List Bool) (place : Place)
     → (pin : Step) (back : List Step) (own : ℕ → Bool)
     → IsSound pin.before → head s.history ≤ head pin.before.history → from ≤ 1 → IsRun pin.before (pin ∷ back) s'
     → IsCalm (pin ∷ back)
     → Searching own pin back slot version want (At from) place → Pages s s' slot version want place (calls_of own back)
-pages-at one s s' slot version from want place pin back own sound early le run calm c =
+pages-at are s s' slot version from want place pin back own sound early le run calm c =
     let pages = fetched slot (calls_of own back) in
     let prefix = pages-are-a-prefix own pin back slot version want (At from) place c in
     let more = runs-grow pin.before s' (pin ∷ back) run calm in
@@ -147,12 +147,12 @@ pages-at one s s' slot version from want place pin back own sound early le run c
       found = found;
       tried = λ ended. found-tried want s'.history version (records_of pages) (found ended);
       hits = λ ended pattern hits screens matched.
-          found-hits one pattern want s'.history version (records_of pages) hits
-          (runs-stay-sound pin.before s' (pin ∷ back) run sound).history screens (found ended) matched;
+          found-hits are pattern want s'.history version (records_of pages) hits
+          screens (found ended) matched;
     }
 
-pub calls-give-pages : OneStructure → CallsGivePages
-calls-give-pages one s s' steps own slot version from want place pages sound run calm le c =
+pub calls-give-pages : AreMolecules → CallsGivePages
+calls-give-pages are s s' steps own slot version from want place pages sound run calm le c =
     let p = parted own steps c.before Pin (Pinned slot version) pages c.own in
     let parts = run-parts s s' p.front p.step p.back (subst (λ l. IsRun s l s') p.is run) in
     let quiet = calm-parts p.front (p.step ∷ p.back) (subst IsCalm p.is calm) in
@@ -166,6 +166,6 @@ calls-give-pages one s s' steps own slot version from want place pages sound run
       search = subst (λ l. IsSearch want (At from) (fetched slot l) place) (sym p.rest) c.search;
     } in
     subst (λ l. Pages s s' slot version want place l) p.rest
-    (pages-at one s s' slot version from want place p.step p.back own
+    (pages-at are s s' slot version from want place p.step p.back own
     (runs-stay-sound s p.step.before p.front parts.0 sound)
     (longer s.history p.step.before.history early.0 early.1) le parts.1 quiet.1 searching)

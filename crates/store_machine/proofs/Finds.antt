@@ -9,12 +9,11 @@ use Rattle.smarts_parse.specs.Pattern.{PatternTerm}
 use Rattle.store_machine.specs.Answers.{AreFound, AreHits, AreMatched, AreTried, ids}
 use Rattle.store_machine.specs.History.{IsHistory, Snapshot, snapshot}
 use Rattle.store_machine.specs.Structures.{IsMatched, IsScreened, Screens}
-use Rattle.store_machine.specs.declared.machine.Change.{Change}
 use Rattle.store_machine.specs.declared.machine.Found.{Found}
 use Rattle.store_machine.specs.declared.machine.History.{History}
 use Rattle.store_machine.specs.declared.machine.Status.TheVariants.{Live}
 use Rattle.store_machine.proofs.Ascending.{Ascends}
-use Rattle.store_machine.proofs.Made.{state-text, state-valid}
+use Rattle.store_machine.proofs.Made.{state-valid}
 use Rattle.store_machine.proofs.Members.{contains-here, contains-split, contains-there}
 
 -- ascending from an identifier on, and strictly increasing
@@ -214,22 +213,14 @@ matched-all pattern (q ∷ qs) hits r (inr m) c is =
       | inr d ↦ matched-all pattern qs hits r m.1 d is
     ]
 
--- a text has one structure
-abbrev pub OneStructure : Type 0
-OneStructure = (format : Format) (text : List ℕ) (m n : Molecule)
-    → HasMolecule format text m → HasMolecule format text n → m ≡ n
+-- structures of texts are molecules
+abbrev pub AreMolecules : Type 0
+AreMolecules = (format : Format) (text : List ℕ) (m : Molecule) → HasMolecule format text m → IsMolecule m
 
--- the structure of a text that was committed is within the limits
-within-limits : OneStructure → (h : History) (v id version : ℕ) (format : Format) (text : List ℕ) (m : Molecule)
-    → IsHistory h → get (snapshot h v) id ≡ Some (Live version format text) → HasMolecule format text m → IsMolecule m
-within-limits one h v id version format text m good e has =
-    let t = state-text h v id (Live version format text) good e in
-    subst IsMolecule (one format text t.0 m t.1 has) t.2
-
-pub found-hits : OneStructure → (pattern : PatternTerm) (want : List Bool) (h : History) (v : ℕ)
-    → (rs : List Found) (hits : List ℕ) → IsHistory h → Screens pattern want
+pub found-hits : AreMolecules → (pattern : PatternTerm) (want : List Bool) (h : History) (v : ℕ)
+    → (rs : List Found) (hits : List ℕ) → Screens pattern want
     → AreFound (IsScreened want) (snapshot h v) rs → AreMatched pattern rs hits → AreHits h v pattern hits
-found-hits one pattern want h v rs hits good screens f m = record {
+found-hits are pattern want h v rs hits screens f m = record {
   ascending = Rising-increasing 0 hits (Ascends-matched pattern 0 rs hits (found-ascends want (snapshot h v) rs f) m);
   only = λ id c.
       let w = matched-only pattern rs hits id m c in
@@ -244,7 +235,7 @@ found-hits one pattern want h v rs hits good screens f m = record {
       };
   all = λ id a.
       let r : Found = record { id = id; format = a.format; text = a.text } in
-      let molecule = within-limits one h v id a.version a.format a.text a.asked.0 good a.state a.asked.1 in
+      let molecule = are a.format a.text a.asked.0 a.asked.1 in
       matched-all pattern rs hits r m
       (f.all r (a.version, a.state) (a.asked.0, a.asked.1, screens a.asked.0 molecule a.asked.2)) a.asked;
 }

@@ -10,7 +10,6 @@ use Rattle.store_machine.specs.declared.machine.Status.{Status}
 use Rattle.store_machine.specs.declared.machine.Status.TheVariants.{Live, Withdrawn}
 use Rattle.store_machine.specs.Made.{IsMade}
 use Rattle.store_machine.specs.Laws.{StatesStay}
-use Rattle.store_machine.specs.Structures.{IsText}
 use Rattle.store_machine.specs.declared.machine.Change.{Change}
 use Rattle.store_machine.specs.declared.machine.History.{History}
 use Rattle.store_machine.specs.declared.machine.Change.TheVariants.{Register, Revise, Withdraw}
@@ -181,47 +180,6 @@ pub state-valid : (h : History) (v id : ℕ) (status : Status) → IsHistory h �
     → IsId id
 state-valid h v id status good e = made-valid h.version h.commits (base_states h) id (made_at status) good.allowed
     (snapshot-made h v id status good e).0
-
--- what is live has a text
-abbrev HasText : Status → Type 0
-HasText (Live version format text) = IsText format text
-HasText (Withdrawn version) = Unit {0}
-
-abbrev HaveTexts : Snapshot → Type 0
-HaveTexts states = (id : ℕ) (status : Status) → get states id ≡ Some status → HasText status
-
-inserted-text : (states : Snapshot) (key : ℕ) (new : Status)
-    → HaveTexts states → HasText new → HaveTexts (insert states key new)
-inserted-text states key new all text id status e =
-    elim (eq_by_cmp nat_cmp id key) as (λ b. cond b (Some new) (get states id) ≡ Some status → HasText status) [
-      | true ↦ λ f. let is : new ≡ status = cc in subst HasText is text
-      | false ↦ λ f. all id status f
-    ] (sym (get-insert nat_cmp_total states key new id) ∙ e)
-
-changed-text : (version : ℕ) (c : Change) (states : Snapshot)
-    → IsValid c → HaveTexts states → HaveTexts (after_change version c states)
-changed-text version (Register key format text) states valid all =
-    inserted-text states key (Live version format text) all valid.1
-changed-text version (Revise key format text) states valid all =
-    inserted-text states key (Live version format text) all valid.1
-changed-text version (Withdraw key) states valid all = inserted-text states key (Withdrawn version) all tt
-
-texts-after : (n after : ℕ) (cs : List Change) (states : Snapshot)
-    → AreAllowed after cs states → HaveTexts states → HaveTexts (after_changes after (take n cs) states)
-texts-after zero after cs states allowed all = all
-texts-after (suc n) after [] states allowed all = all
-texts-after (suc n) after (c ∷ cs) states allowed all =
-    texts-after n (after + 1) cs (after_change (after + 1) c states) allowed.2
-    (changed-text (after + 1) c states allowed.0 all)
-
--- a state that is live in a history has a text with a structure
-pub state-text : (h : History) (v id : ℕ) (status : Status)
-    → IsHistory h → get (snapshot h v) id ≡ Some status → HasText status
-state-text h v id status good e =
-    texts-after (v - h.version) h.version h.commits (base_states h) good.allowed none id status e
-  where
-    none : HaveTexts (base_states h)
-    none id status e = let none : None ≡ Some status = sym (base-none h good id) ∙ e in cc
 
 pub states-stay : StatesStay
 states-stay h v id status good e =

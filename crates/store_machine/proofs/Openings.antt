@@ -1,12 +1,11 @@
 -- A crash and an opening after it.
-use Rattle.std.proofs.Common.{◌≡◌, ◌↔◌, ap, arith, Contains, List, [], None, refl, subst, true, ℕ}
+use Rattle.std.proofs.Common.{◌≡◌, ◌↔◌, ap, arith, Contains, List, [], refl, subst, true, ℕ}
 use Rattle.store_machine.specs.Kept.{IsNeeded, in_use}
-use Rattle.store_machine.specs.Machine.{AreNeeded, Becomes, NoneFell, Recovers, crashed}
+use Rattle.store_machine.specs.Machine.{AreNeeded, Becomes, NoneFell, crashed}
 use Rattle.store_machine.specs.Openings.{CrashOpens, IsOpened}
 use Rattle.store_machine.specs.declared.machine.Entry.{Entry}
 use Rattle.store_machine.specs.declared.machine.Held.{Held}
 use Rattle.store_machine.specs.declared.machine.State.{State}
-use Rattle.store_machine.specs.declared.machine.Times.{Times}
 
 -- nothing is pinned after a crash, as in an opened state
 needed-after : (s t : State) → t.pins ≡ [] → AreNeeded t t.kept → AreNeeded (crashed s t.history) t.kept

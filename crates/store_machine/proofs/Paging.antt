@@ -9,7 +9,6 @@ use Rattle.store_machine.specs.Machine.{Gives, Holds, IsPage, pin_in}
 use Rattle.store_machine.specs.Runs.{calls_of}
 use Rattle.store_machine.specs.Searches.{ArePieces, At, End, Fetched, IsSearch, Place, ahead, fetched, past, place_after, records_of}
 use Rattle.store_machine.specs.Structures.{IsScreened}
-use Rattle.store_machine.specs.declared.machine.Change.{Change}
 use Rattle.store_machine.specs.declared.machine.Event.{Event}
 use Rattle.store_machine.specs.declared.machine.Event.TheVariants.{Pin}
 use Rattle.store_machine.specs.declared.machine.Found.{Found}
@@ -20,7 +19,7 @@ use Rattle.store_machine.specs.declared.machine.Reply.TheVariants.{Pinned}
 use Rattle.store_machine.specs.declared.machine.State.{State}
 use Rattle.store_machine.specs.declared.machine.Step.{Step}
 use Rattle.store_machine.proofs.Ascending.{Ascends, Ascends-from_on, Ascends-weaker, from_on-all, from_on-past, from_on-twice, past-le}
-use Rattle.store_machine.proofs.Finds.{OneStructure, answers-are-one, found-ascends, found-from-one, found-hits, found-tried}
+use Rattle.store_machine.proofs.Finds.{AreMolecules, answers-are-one, found-ascends, found-from-one, found-hits, found-tried}
 use Rattle.store_machine.proofs.PagesRead.{AreRead, IsRead, pages-read}
 
 -- what is ahead after a page
@@ -181,14 +180,14 @@ all-found own pin steps slot version from want good le c =
     ∙ from-start pin.before.history version from want some.0 good le some.1) in
     subst (λ rs. AreFound (IsScreened want) states rs) (sym whole) some.1
 
-pub pages-are-the-answer : OneStructure → PagesAreTheAnswer
-pages-are-the-answer one own pin steps slot version from want good le c =
+pub pages-are-the-answer : AreMolecules → PagesAreTheAnswer
+pages-are-the-answer are own pin steps slot version from want good le c =
     let found = all-found own pin steps slot version from want good le c in
     let records = records_of (fetched slot (calls_of own steps)) in (
       (along own pin steps slot version want (At from) End c).at,
       found-tried want pin.before.history version records found,
       λ pattern hits screens matched.
-          found-hits one pattern want pin.before.history version records hits good screens found matched,
+          found-hits are pattern want pin.before.history version records hits screens found matched,
     )
 
 pub pages-are-pieces : PagesArePieces

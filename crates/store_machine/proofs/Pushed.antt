@@ -1,5 +1,5 @@
 -- One commit more: the snapshot that it makes, and that the history stays allowed.
-use Rattle.std.proofs.Common.{◌≡◌, ◌+◌, ◌++◌, ◌-◌, ◌⊎◌, ◌∙◌, ap, arith, cond, Equal, false, Greater, inl, inr, is_eq, le_of_eq, length, length-append, Less, List, [], ◌∷◌, nat_cmp, None, Option, Ordering, refl, Some, subst, sym, true, ℕ}
+use Rattle.std.proofs.Common.{◌≡◌, ◌+◌, ◌++◌, ◌-◌, ◌⊎◌, ◌∙◌, ap, arith, cond, Equal, false, Greater, inl, inr, is_eq, length, length-append, Less, List, [], ◌∷◌, nat_cmp, None, Option, Ordering, refl, Some, subst, sym, true, ℕ}
 use Rattle.std.proofs.Math.Seq.{take_all}
 use Rattle.std.specs.Cmp.{nat_cmp_total}
 use Rattle.std.specs.FinMap.{get, get-insert, insert, nat_cmp-IsAntisymmetric}

@@ -1,13 +1,12 @@
 -- What stays where a history's base is moved.
-use Rattle.std.proofs.Common.{◌≡◌, ◌≤◌, ◌+◌, ◌++◌, ◌-◌, ◌∙◌, ap, arith, drop, length, length-drop, List, [], ◌∷◌, nat_cmp, refl, subst, suc, sym, take, zero, ℕ}
+use Rattle.std.proofs.Common.{◌≡◌, ◌≤◌, ◌+◌, ◌++◌, ◌-◌, ◌∙◌, ap, arith, drop, length, length-drop, List, [], ◌∷◌, refl, subst, suc, sym, take, zero, ℕ}
 use Rattle.std.proofs.lemmas.List.{drop-drop}
 use Rattle.std.specs.Cmp.{nat_cmp_total}
 use Rattle.std.specs.FinMap.{entries, from_entries, get-entries, get-from_entries, nat_cmp-IsAntisymmetric, same_map}
-use Rattle.store_machine.specs.History.{AreAllowed, Snapshot, after_change, after_changes, base_states, grown, head, rebase, snapshot}
-use Rattle.store_machine.specs.Rebases.{AreAllowedIn, BasesReadBack, LaterRebasesStand, RebasesGrow, RebasesKeepAllowed, RebasesKeepHeads, RebasesKeepSnapshots}
+use Rattle.store_machine.specs.History.{AreAllowed, Snapshot, after_change, after_changes, base_states, snapshot}
+use Rattle.store_machine.specs.Rebases.{BasesReadBack, LaterRebasesStand, RebasesGrow, RebasesKeepAllowed, RebasesKeepHeads, RebasesKeepSnapshots}
 use Rattle.store_machine.specs.declared.machine.Change.{Change}
 use Rattle.store_machine.specs.declared.machine.History.{History}
-use Rattle.store_machine.specs.declared.machine.Status.{Status}
 use Rattle.store_machine.proofs.PagesRead.{snapshots-stay}
 
 pub bases-read-back : BasesReadBack

@@ -9,9 +9,9 @@ use Rattle.path_print.specs.Prints.{IsNeed, molecule_view}
 use Rattle.smarts_parse.specs.Embedding.{Matches}
 use Rattle.smarts_parse.specs.Pattern.{PatternTerm}
 
--- the text has a structure, within the limits of one
+-- the text has a structure
 abbrev pub IsText : Format → List ℕ → Type 0
-IsText format text = (m : Molecule) × HasMolecule format text m × IsMolecule m
+IsText format text = (m : Molecule) × HasMolecule format text m
 
 -- a bit of the structure's print: that of one of its paths, in one of the two families
 abbrev pub HasPrintBit : Molecule → ℕ → Type 0

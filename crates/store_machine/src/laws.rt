@@ -100,14 +100,14 @@ pub fn pages_are_pieces()
 pub fn pages_are_the_answer()
     ensures { PagesAreTheAnswer }
 {
-    mol_finish::one_structure();
+    mol_finish::structures_are_molecules();
 }
 
 /// The same by an owner's calls in a run, and by the history at the run's end.
 pub fn calls_give_pages()
     ensures { CallsGivePages }
 {
-    mol_finish::one_structure();
+    mol_finish::structures_are_molecules();
 }
 
 /// The need of a pattern rules out no structure that it matches.
