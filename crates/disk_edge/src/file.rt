@@ -123,10 +123,7 @@ fn found<R: Files<File = File>>(rt: &R, path: &str) -> Option<File> {
 // The file of this path, which is made where nothing is there, also no link. Its folder is opened before, so that no
 // file is made where a standard stream is closed.
 fn found_or_made<R: Files<File = File>>(rt: &R, path: &str) -> Option<File> {
-    let folder = File::open(rt, folder_of(path)).ok()?;
-    if !is_apart(&folder) {
-        return None;
-    }
+    let folder = folder_at(rt, folder_of(path))?;
     let file = if fs::symlink_metadata(rt, path).is_ok() {
         found(rt, path)?
     } else {
@@ -136,7 +133,20 @@ fn found_or_made<R: Files<File = File>>(rt: &R, path: &str) -> Option<File> {
     Some(file)
 }
 
-// The folder that a path names its file in.
+// The folder of this path, open. It is looked at first, since opening a pipe may wait.
+fn folder_at<R: Files<File = File>>(rt: &R, path: &str) -> Option<File> {
+    if !fs::metadata(rt, path).ok()?.is_dir() {
+        return None;
+    }
+    let folder = File::open(rt, path).ok()?;
+    if is_apart(&folder) {
+        Some(folder)
+    } else {
+        None
+    }
+}
+
+// The path of the folder that a path names its file in.
 fn folder_of(path: &str) -> &str {
     match Path::new(path).parent() {
         Some(folder) if !folder.as_str().is_empty() => folder.as_str(),
