@@ -13,6 +13,9 @@ pub fn unite(union: &mut Print, print: &Print)
     ensures print { Holds union.new print.now }
     ensures others { Holds union.new union.old }
 {
+    if union.holds(print) {
+        return;
+    }
     for bit in 0..BITS {
         if print.has(bit) {
             union.set(bit);
