@@ -10,6 +10,7 @@ use crate::rule::Take;
 use crate::stands::Stands;
 use std::sync::Wait;
 use std::sync::atomic::Ordering;
+use std::thread::Parker;
 use std::time::Duration;
 use std::{hint, thread};
 
@@ -25,6 +26,7 @@ impl<V: Stands> Gate<V> {
         ensures same { pass.new.seat.table_id ≡ pass.old.seat.table_id }
         ensures taken { pass.new.seat.me ≡ sat (at_stage 1 pass.old.seat.me.0) [] }
     {
+        self.give_way(rt);
         let mut tries: u32 = 0;
         for _ in rt.forever() {
             if self.try_take(pass) {
@@ -34,6 +36,13 @@ impl<V: Stands> Gate<V> {
             tries = tries.saturating_add(1);
         }
         unreachable!()
+    }
+
+    // Lets those that sleep go first: one was woken when the last turn ended, and takes a moment to come back.
+    fn give_way<R: Wait>(&self, rt: &R) {
+        if self.asleep.load(Ordering::SeqCst) > 0 {
+            Parker::new().park_timeout(rt, nap(0));
+        }
     }
 
     // Takes the holder word, and says whether it did: it does not where a turn is on.
