@@ -1,8 +1,9 @@
 -- Failures that are set change nothing of what a store on disks in memory stands for. Where none is set and nothing was
 -- committed, it stands for the state with which the machine begins.
-use Rattle.std.proofs.Common.{◌≡◌, ◌≤◌, ◌∙◌, ap, arith, Bool, Err, false, length, List, [], ◌∷◌, map, None, Ok, OnOk, Option, option_map, refl, Result, Some, subst, true, ℕ}
+use Rattle.std.proofs.Common.{◌≡◌, ◌-◌, ◌∙◌, ap, arith, Bool, Err, false, List, [], ◌∷◌, map, nat_cmp, None, Ok, OnOk, Option, option_map, refl, Result, Some, subst, suc, sym, take, true, zero, ℕ}
 use Rattle.std.proofs.lemmas.Bool.{true≢false}
 use Rattle.std.proofs.lemmas.List.{append-nil}
+use Rattle.std.specs.FinMap.{empty as none, get, get-empty}
 use Rattle.std.specs.Result.{is_err}
 use Rattle.disk_edge.specs.Disk.{Bounded}
 use Rattle.disk_edge.specs.Failures.{bound_of}
@@ -13,7 +14,8 @@ use Rattle.journal_core.specs.RecordLaws.{one_list, text_opens}
 use Rattle.journal_core.specs.Records.{Opens, header, text}
 use Rattle.journal_core.specs.Standing.{Standing}
 use Rattle.store_core.specs.Stored.{empty}
-use Rattle.store_machine.specs.History.{begun, head, of_commits}
+use Rattle.store_machine.specs.History.{after_changes, begun, of_commits, snapshot}
+use Rattle.store_machine.specs.Machine.{AreNeeded}
 use Rattle.store_machine.specs.Openings.{IsOpened}
 use Rattle.store_machine.specs.declared.machine.Change.{Change}
 use Rattle.store_machine.specs.declared.machine.Entry.{Entry}
@@ -21,6 +23,7 @@ use Rattle.store_machine.specs.declared.machine.Faults.{Faults}
 use Rattle.store_machine.specs.declared.machine.Held.{Held}
 use Rattle.store_machine.specs.declared.machine.History.{History}
 use Rattle.store_machine.specs.declared.machine.State.{State}
+use Rattle.store_machine.specs.declared.machine.Status.{Status}
 use Rattle.store_disk.specs.InMemory.{StandsInMemory}
 use Rattle.store_disk.specs.Loads.{OpensTo}
 use Rattle.store_disk.specs.OnDisk.{Has, StoreTerm}
@@ -94,9 +97,27 @@ none-set old new is still =
 no-fault : (d : Medium) → bound_of d.failures ≡ Some 0 → d.failures.count ≡ 0
 no-fault d is = let few = within d 0 is in omega (arith, few)
 
-none-of : {A : Type 0} (xs : List A) → length xs ≤ 0 → xs ≡ []
-none-of [] few = refl
-none-of (x ∷ xs) few = absurd (omega (arith, few))
+-- at a history without commits no identifier has a state
+none-taken : (v : ℕ) → snapshot begun v ≡ none
+none-taken v = ap (λ cs. after_changes 0 cs none) (nothing (v - 0))
+  where
+    nothing : (v : ℕ) → take {A = Change} v [] ≡ []
+    nothing zero = refl
+    nothing (suc n) = refl
+
+no-state : (v id : ℕ) (status : Status) → get (snapshot begun v) id ≡ Some status → ⊥
+no-state v id status e = never status (sym (ap (λ m. get m id) (none-taken v) ∙ get-empty nat_cmp id) ∙ e)
+  where
+    never : (status : Status) → None ≡ Some status → ⊥
+    never status q = cc
+
+-- so nothing is needed
+none-needed : (s : State) (kept : List Entry) → s.history ≡ begun → AreNeeded s kept → kept ≡ []
+none-needed s [] is needed = refl
+none-needed s (entry ∷ kept) is needed =
+    let n = (needed.exactly entry).0 (0, omega arith, refl) in
+    absurd (no-state n.at entry.id n.status
+        (subst (λ h. get (snapshot h n.at) entry.id ≡ Some n.status) is n.state))
 
 first-state : (commits limit : ℕ) (h : History) (pins : List Held) (kept : List Entry) (doubt : Option Change)
     (faults : Faults) (serves : Bool)
@@ -118,8 +139,7 @@ pub stands-empty : (store : StoreTerm Medium) (commits : ℕ) (s : State) → St
     → s.history ≡ begun → bound_of store.journal.disk.failures ≡ Some 0 → bound_of store.b.failures ≡ Some 0
     → StandsInMemory store (empty commits)
 stands-empty store commits s stands opened none a b =
-    let none_kept : s.kept ≡ [] = none-of s.kept
-    (omega (arith, stands.memory.stands.kept, stands.memory.stands.few, stands.memory.stands.version, ap head none)) in
+    let none_kept : s.kept ≡ [] = none-needed s s.kept none opened.kept in
     let zero : s.faults ≡ record { a = 0; b = 0 } = stands.counts
     ∙ rw (no-fault store.journal.disk a, no-fault store.b b) refl in
     let is : s ≡ empty commits = first-state commits s.limit s.history s.pins s.kept s.doubt s.faults s.serves none

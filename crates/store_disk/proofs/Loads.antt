@@ -60,9 +60,9 @@ opened-after old new s commits (Ok n) none worn pins doubt c =
     )
 
 -- what is in memory is at each state of that part that serves and has nothing in doubt
-pub at-rest : (memory : Memory) (s : State) → memory.StandsFor memory (served s) → s.doubt ≡ None → s.serves ≡ true
-    → memory.IsAt memory s
-at-rest memory s h doubt serves = record {
+pub at-rest : (m : Memory) (s : State) → memory.StandsFor m (served s) → s.doubt ≡ None → s.serves ≡ true
+    → memory.IsAt m s
+at-rest m s h doubt serves = record {
   sound = record {
     history = h.sound.history;
     doubt = subst (λ d. MatchOption d (Unit {0}) (MayAdd s)) (sym doubt) tt;
@@ -93,7 +93,7 @@ module _ {D : Type 0} (model : DiskModel D) where
       few = omega (arith, r.at.stands.version, r.at.stands.within);
       opens = subst (λ ps. Opens header ps l) (same-history memory commits cs r) (log reads l is).opens;
     };
-    rests = λ reads. subst (Rests model new) (same-history memory commits cs r) (rests reads);
+    rests = λ reads. subst (Rests model new header) (same-history memory commits cs r) (rests reads);
   }
 
   pub is-ready : (memory : Memory) (commits : ℕ) (cs : List Logged) (new : Standing D) → IsReplayed memory commits cs

@@ -1,6 +1,7 @@
 -- The commits of a log, made again one after the other.
-use Rattle.std.proofs.Common.{◌≡◌, ◌+◌, ◌++◌, ◌<◌, ◌∙◌, ap, append_assoc, arith, drop, Err, get_or, IsErrAnd, length, List, [], ◌∷◌, map, Ok, refl, Result, subst, sym, take, ℕ}
+use Rattle.std.proofs.Common.{◌≡◌, ◌+◌, ◌++◌, ◌<◌, ◌≤◌, ◌∙◌, ap, append_assoc, arith, drop, Err, get_or, IsErrAnd, length, List, [], ◌∷◌, map, None, Ok, refl, Result, subst, sym, take, ℕ}
 use Rattle.std.proofs.lemmas.List.{length-map, map-append}
+use Rattle.std.proofs.Math.Seq.{take_all}
 use Rattle.std.proofs.lemmas.Grind.{take_at_read}
 use Rattle.std.proofs.lemmas.List.{take-append-drop}
 use Rattle.std.specs.List.{AllByRecursion}
@@ -13,10 +14,11 @@ use Rattle.journal_core.specs.declared.faults.LoadFault.TheVariants as fault
 use Rattle.store_core.specs.Stored.{IsAt, Served, StandsFor, StoreTerm as Memory, alone, empty, served}
 use Rattle.store_machine.specs.History.{IsHistory, grown, head, of_commits}
 use Rattle.store_machine.specs.Machine.{MayAdd, committed}
+use Rattle.store_machine.specs.Openings.{IsOpened}
 use Rattle.store_machine.specs.declared.machine.State.{State}
 use Rattle.store_disk.specs.Loads.{MayFollow}
 use Rattle.store_disk.specs.Payloads.{history_of, told}
-use Rattle.store_disk.specs.Replays.{Stops}
+use Rattle.store_disk.specs.Replays.{IsReplayed, Stops}
 
 -- the store stands for a part of this history, with the greatest limit and nothing pinned
 pub record Made (memory : Memory) (changes : List Logged) : Type 0 where
@@ -115,3 +117,20 @@ at-add {X} log i c less is memory m f (Err e) same damaged =
     go fault.NotAStore d = tt
     go (fault.Damaged at) d = stops log (take i log) c (drop (i + 1) log) memory at (split-is log i c less is) d.0 m d.1
     go fault.NoMemory d = tt
+
+-- all of a log, made and opened
+pub replayed : (memory result : Memory) (commits : ℕ) (log : List Commit) (i : ℕ) → length log ≤ i
+    → Made memory (changes_of (take i log))
+    → ((s : State) → IsAt memory s → s.pins ≡ [] → s.doubt ≡ None
+    → (t : State) × IsAt result t × (t.history ≡ s.history) × IsOpened commits t)
+    → IsReplayed result commits (changes_of log)
+replayed memory result commits log i all m opened =
+    let s : State = alone m.part in
+    let at : IsAt memory s = record { sound = m.stands.sound; serves = refl; stands = m.stands } in
+    let o = opened s at m.pins refl in
+    record {
+      state = o.0;
+      at = o.1;
+      history = o.2 ∙ m.history ∙ ap (λ l. history_of (changes_of l)) (take_all i log all);
+      opened = o.3;
+    }

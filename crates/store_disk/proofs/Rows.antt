@@ -34,39 +34,44 @@ same-kept : {u : State} (s t : State) → t ≡ u → u.history ≡ s.history �
     → (t.history ≡ s.history) × (t.doubt ≡ s.doubt)
 same-kept s t e h d = (ap (λ (x : State). x.history) e ∙ h, ap (λ (x : State). x.doubt) e ∙ d)
 
+-- one tuple of three
+three : {A B C : Type 0} → A → B × C → A × B × C
+three a k = (a, k.0, k.1)
+
 lift-pin : (s : State) (o : Option Pin) → Lifts s event.Pin (pin_reply o)
-lift-pin s None owner t g = ((serves s t g.0, (g.1.0, ap (back s) g.1.1)), same-kept s t g.1.1 refl refl)
+lift-pin s None owner t g = three (serves s t g.0, (g.1.0, ap (back s) g.1.1)) (same-kept s t g.1.1 refl refl)
 lift-pin s (Some p) owner t g =
-    ((serves s t g.0, (g.1.0, g.1.1, g.1.2, g.1.3, ap (back s) g.1.4)), same-kept s t g.1.4 refl refl)
+    three (serves s t g.0, (g.1.0, g.1.1, g.1.2, g.1.3, ap (back s) g.1.4)) (same-kept s t g.1.4 refl refl)
 
 lift-page : (s : State) (slot : ℕ) (want : List Bool) (from limit : ℕ) (records : List Shared) (last : Bool)
     → Lifts s (event.Fetch slot want from limit) (reply.Page (founds records) last)
 lift-page s slot want from limit records last owner t g =
-    ((serves s t g.0, (g.1.0, g.1.1, g.1.2, ap (back s) g.1.3)), same-kept s t g.1.3 refl refl)
+    three (serves s t g.0, (g.1.0, g.1.1, g.1.2, ap (back s) g.1.3)) (same-kept s t g.1.3 refl refl)
 
 lift-no-page : (s : State) (slot : ℕ) (want : List Bool) (from limit : ℕ)
     → Lifts s (event.Fetch slot want from limit) reply.NoMemory
 lift-no-page s slot want from limit owner t g =
-    ((serves s t g.0, (g.1.0, g.1.1, ap (back s) g.1.2)), same-kept s t g.1.2 refl refl)
+    three (serves s t g.0, (g.1.0, g.1.1, ap (back s) g.1.2)) (same-kept s t g.1.2 refl refl)
 
 lift-unpin : (s : State) (slot : ℕ) → Lifts s (event.Unpin slot) reply.Unpinned
-lift-unpin s slot owner t g = ((serves s t g.0, (g.1.0, g.1.1, ap (back s) g.1.2)), same-kept s t g.1.2 refl refl)
+lift-unpin s slot owner t g =
+    three (serves s t g.0, (g.1.0, g.1.1, ap (back s) g.1.2)) (same-kept s t g.1.2 refl refl)
 
 lift-prune : (s : State) (dropped : ℕ) → Lifts s event.Prune (reply.Pruned dropped)
-lift-prune s dropped owner t g = (
-  (serves s t g.0, (record { exactly = g.1.0.exactly; distinct = g.1.0.distinct }, g.1.1, ap (back s) g.1.2)),
-  same-kept s t g.1.2 refl refl,
-)
+lift-prune s dropped owner t g = three
+    (serves s t g.0, (record { exactly = g.1.0.exactly; distinct = g.1.0.distinct }, g.1.1, ap (back s) g.1.2))
+    (same-kept s t g.1.2 refl refl)
 
 lift-look : (s : State) (id : ℕ) (status : Option Status) → Lifts s (event.Look id) (reply.Looked status)
-lift-look s id status owner t g = ((serves s t g.0, (g.1.0, ap (back s) g.1.1)), same-kept s t g.1.1 refl refl)
+lift-look s id status owner t g =
+    three (serves s t g.0, (g.1.0, ap (back s) g.1.1)) (same-kept s t g.1.1 refl refl)
 
 lift-no-look : (s : State) (id : ℕ) → Lifts s (event.Look id) reply.NoMemory
-lift-no-look s id owner t g = ((serves s t g.0, ap (back s) g.1), same-kept s t g.1 refl refl)
+lift-no-look s id owner t g = three (serves s t g.0, ap (back s) g.1) (same-kept s t g.1 refl refl)
 
 lift-stats : (s : State) (n : Stats) → Lifts s event.Stats (reply.Counted n.version n.live n.withdrawn n.kept n.pins)
 lift-stats s n owner t g =
-    ((serves s t g.0, (g.1.0, g.1.1, g.1.2, g.1.3, g.1.4, ap (back s) g.1.5)), same-kept s t g.1.5 refl refl)
+    three (serves s t g.0, (g.1.0, g.1.1, g.1.2, g.1.3, g.1.4, ap (back s) g.1.5)) (same-kept s t g.1.5 refl refl)
 
 -- each reply of a call is lifted
 abbrev pub AllLift : {X : Type 0} → Event → (X → Reply) → Result X CallFault → Type 0

@@ -70,15 +70,15 @@ clocked-joins : (xs ys : List Step) (a b c : Times) → AreClocked a xs b → Ar
 clocked-joins [] ys a b c e r = subst (λ k. AreClocked k ys c) e r
 clocked-joins (x ∷ xs) ys a b c r q = (r.0, r.1, r.2, clocked-joins xs ys x.end b c r.3 q)
 
-all-joins : {P : Step → Type 0} (xs ys : List Step) → AllByRecursion P xs → AllByRecursion P ys
+all-joins : (P : Step → Type 0) (xs ys : List Step) → AllByRecursion P xs → AllByRecursion P ys
     → AllByRecursion P (xs ++ ys)
-all-joins [] ys a b = b
-all-joins (x ∷ xs) ys a b = (a.0, all-joins xs ys a.1 b)
+all-joins P [] ys a b = b
+all-joins P (x ∷ xs) ys a b = (a.0, all-joins P xs ys a.1 b)
 
-all-parts : {P : Step → Type 0} (xs ys : List Step) → AllByRecursion P (xs ++ ys)
+all-parts : (P : Step → Type 0) (xs ys : List Step) → AllByRecursion P (xs ++ ys)
     → AllByRecursion P xs × AllByRecursion P ys
-all-parts [] ys a = (tt, a)
-all-parts (x ∷ xs) ys a = let r = all-parts xs ys a.1 in ((a.0, r.0), r.1)
+all-parts P [] ys a = (tt, a)
+all-parts P (x ∷ xs) ys a = let r = all-parts P xs ys a.1 in ((a.0, r.0), r.1)
 
 -- what is told was told before
 pub told-before : (old new : Option (List ℕ)) → (old ≡ None → new ≡ None) → (l : List ℕ) → new ≡ Some l
@@ -140,8 +140,8 @@ module _ {D : Type 0} (model : DiskModel D) where
     moments = λ l is.
         let k = told-before (model.content b.journal.disk) (model.content c.journal.disk) q.untold l is in
         timed-joins model b.journal.disk c.journal.disk q.past xs ys (r.moments k.0 k.1) (q.moments l is);
-    causes = all-joins xs ys r.causes q.causes;
-    untouched = λ none. let parts = all-parts xs ys none in q.untouched parts.1 ∙ r.untouched parts.0;
+    causes = all-joins IsCaused xs ys r.causes q.causes;
+    untouched = λ none. let parts = all-parts (λ x. ¬ IsCommit x.event) xs ys none in q.untouched parts.1 ∙ r.untouched parts.0;
     past = keeps-twice model a.journal.disk b.journal.disk c.journal.disk r.past q.past;
     untold = λ e. q.untold (r.untold e);
     other = q.other ∙ r.other;

@@ -1,4 +1,4 @@
-use Rattle.std.proofs.Common.{ap, option_map, subst, sym}
+use Rattle.std.proofs.Common.{◌∙◌, ap, option_map, subst, sym}
 use Rattle.store_machine.specs.declared.machine.State.{State}
 use Rattle.store_disk.specs.OnDisk.{Has}
 use Rattle.store_disk.specs.Payloads.{payload, payloads}

@@ -1,5 +1,6 @@
+use Rattle.std.proofs.Common.{arith}
 use Rattle.store_core.specs.Stored.{alone}
-use Rattle.store_disk.proofs.Replayed.{at-add, logged-at, made-next}
+use Rattle.store_disk.proofs.Replayed.{at-add, logged-at, made-next, replayed}
 use Rattle.store_disk.proofs.replay.replay.Goals as goal
 
 pub add-requires : goal.add-requires
@@ -17,3 +18,8 @@ loop-commit-preserved c =
     made-next c.args.log.now c.loop-commit.commit-index c.commit-item.result c.loop-commit-test.true c.commit-item.is
     c.loop-commit.memory c.add.new.memory c.loop-commit.invariant
     (c.in_ok-add.ensures.ok (alone c.loop-commit.invariant.part) c.loop-commit.invariant.stands)
+
+pub returns-clause-ok : goal.returns-clause-ok
+returns-clause-ok c =
+    replayed c.loop-commit.memory c.opened.result c.args.commits c.args.log.now c.loop-commit.commit-index
+    (omega (arith, c.loop-commit-test.false)) c.loop-commit.invariant c.opened.ensures

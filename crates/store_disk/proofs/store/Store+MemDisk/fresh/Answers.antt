@@ -9,7 +9,7 @@ pub returns-in-Ok-clause-opened : goal.returns-in-Ok-clause-opened
 returns-in-Ok-clause-opened c =
     let o = c.in-Ok.ensures.opened in
     let made = at-ok c.create-a.result.1 (sym c.is_err.ensures.value ∙ c.if-is_err.false) c.create-a.ensures.ok in
-    let told = (made [] (ap (λ (d : Medium). Some (replay d.first d.calls)) c.new.ensures)).1 in
+    let told = (made [] (ap (λ (d : Medium). Some (replay d.first d.calls)) c.new.ensures)).1.0 in
     (o.0, o.1, o.2, none-yet o.0.history (o.3 (text header []) told))
 
 pub returns-in-Ok-clause-no_failures : goal.returns-in-Ok-clause-no_failures
