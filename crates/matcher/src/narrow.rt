@@ -29,9 +29,10 @@ pub struct Candidates {
     // for each atom its neighbours, and those by ring bonds
     near: Vec<u64>,
     ring_near: Vec<u64>,
-    // for each bond of the graph a mark, and one whether it is known to lie on a ring of the graph
-    all: Vec<bool>,
+    // for each bond of the graph whether it is known to lie on a ring of the graph
     on_ring: Vec<bool>,
+    // the same for all bonds: whether some bond is not known to
+    is_open: Vec<bool>,
     ghost words_room: { vec_len words ≡ 256 },
     ghost near_room: { vec_len near ≡ 64 },
     ghost ring_near_room: { vec_len ring_near ≡ 64 },
@@ -47,8 +48,8 @@ impl Candidates {
             words: vec![in alloc; 0; MOST_PLACES]?,
             near: vec![in alloc; 0; MOST_BITS]?,
             ring_near: vec![in alloc; 0; MOST_BITS]?,
-            all: vec![in alloc; true; MOST_PLACES]?,
             on_ring: vec![in alloc; false; MOST_PLACES]?,
+            is_open: vec![in alloc; true; MOST_PLACES]?,
         })
     }
 
@@ -62,6 +63,8 @@ impl Candidates {
         }
         note_classes(task, &mut self.words);
         mark_rings(task, &mut self.on_ring);
+        let open = !has_all(task, &self.on_ring);
+        self.is_open.fill(open);
         note_neighbours(task.mol, &mut self.near);
         note_ring_neighbours(task.mol, &mut self.ring_near);
         self.narrow(task) || self.narrow(task)
@@ -82,7 +85,7 @@ impl Candidates {
         ensures candidates { AreCandidates task.now self.new.words.items }
     {
         narrow_all(task, &self.on_ring, &self.ring_near, &mut self.words)
-            || narrow_all(task, &self.all, &self.near, &mut self.words)
+            || narrow_all(task, &self.is_open, &self.near, &mut self.words)
     }
 }
 
@@ -172,7 +175,7 @@ fn atoms_of(atoms: &[Atom], classes: u64) -> u64
     word
 }
 
-// Takes away candidates of each place. Whether one has none left.
+// Takes away candidates of each place by marked bonds, if there are some. Whether one has none left.
 fn narrow_all(task: &Task, marks: &[bool], near: &[u64], words: &mut [u64]) -> bool
     requires ready { IsReadyTask task.now }
     requires room { length words.old ≡ 256 }
@@ -183,6 +186,9 @@ fn narrow_all(task: &Task, marks: &[bool], near: &[u64], words: &mut [u64]) -> b
     ensures candidates { AreCandidates task.now words.new }
     ensures refused { IsTrue result → ¬ Completes task.now [] }
 {
+    if !has_mark(task, marks) {
+        return false;
+    }
     for place in 0..task.graph.atoms.len() {
         narrow(task, marks, near, words, place);
         if words[place] == 0 {
@@ -238,6 +244,26 @@ fn places_around(task: &Task, marks: &[bool], words: &[u64], place: usize) -> Ar
         };
     }
     around
+}
+
+// Whether some bond of the graph is marked.
+fn has_mark(task: &Task, marks: &[bool]) -> bool {
+    for index in 0..task.graph.bonds.len() {
+        if is_marked(marks, index) {
+            return true;
+        }
+    }
+    false
+}
+
+// Whether all are.
+fn has_all(task: &Task, marks: &[bool]) -> bool {
+    for index in 0..task.graph.bonds.len() {
+        if !is_marked(marks, index) {
+            return false;
+        }
+    }
+    true
 }
 
 fn is_marked(marks: &[bool], index: usize) -> bool

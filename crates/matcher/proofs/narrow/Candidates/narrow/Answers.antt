@@ -9,4 +9,4 @@ narrow_all-requires-clause-reach c = rw (c.deref.ensures.value, c.deref-2.ensure
 pub narrow_all-requires-else-narrow_all-clause-reach : goal.narrow_all-requires-else-narrow_all-clause-reach
 narrow_all-requires-else-narrow_all-clause-reach c =
     rw (c.deref-else-narrow_all.ensures.value, c.deref-else-narrow_all-2.ensures.value)
-    (near_reach c.args.task.now c.args.self.now.all.items c.args.self.now.near.items c.requires.near)
+    (near_reach c.args.task.now c.args.self.now.is_open.items c.args.self.now.near.items c.requires.near)
