@@ -1,5 +1,5 @@
 -- A ring of a graph is taken to a ring of the molecule, of as many atoms.
-use Rattle.std.proofs.Common.{◌≡◌, ◌≢◌, ◌⊎◌, ℕ, Bool, false, true, replicate, zero, suc, ◌+◌, ◌%◌, ◌<◌, ◌≤◌, List, [], ◌∷◌, length, map, max, min, slice_index, get_or, Contains, sym, ap, ◌∙◌, subst, arith, inl, inr}
+use Rattle.std.proofs.Common.{◌≡◌, ◌≢◌, ◌⊎◌, ℕ, Bool, false, replicate, zero, suc, ◌+◌, ◌%◌, ◌<◌, ◌≤◌, List, [], ◌∷◌, length, map, max, min, slice_index, get_or, Contains, sym, ap, ◌∙◌, subst, arith, inl, inr}
 use Rattle.std.proofs.Math.Nat.{mod-eq_of_lt, mod_self}
 use Rattle.std.proofs.lemmas.Bool.{cases_eq, cases_lt, false≢true}
 use Rattle.std.proofs.lemmas.List.{get_or-map, get_or-replicate, get_or_past, length-map, length-replicate}
@@ -234,8 +234,7 @@ on_ring_along task from to places w closed long few i j l joined image e x y b t
     let p : ℕ = slice_index (from ∷ places) i in
     let q : ℕ = slice_index (from ∷ places) (suc i) in
     let one : get_or ring i 0 ≡ slice_index image p = stretch_at image from places i 0 (omega arith) in
-    let other : get_or ring (suc i) 0 ≡ slice_index image q = stretch_at image from places (suc i) 0 (omega arith) in
-    (
+    let other : get_or ring (suc i) 0 ≡ slice_index image q = stretch_at image from places (suc i) 0 (omega arith) in (
       ring,
       way_ring task from to places image w closed long (omega (arith, e.one_each)) e,
       (
@@ -261,8 +260,7 @@ on_ring_between task from to places w closed long few j joined image e x y b two
     let next : next_place ring i ≡ 0 = ap (λ n. n % length ring) all ∙ mod_self (length ring) in
     let one : get_or ring i 0 ≡ slice_index image to = stretch_at image from places i 0 (omega arith)
     ∙ ap (λ p. slice_index image p) (way_last task from to places w) in
-    let other : get_or ring 0 0 ≡ slice_index image from = stretch_at image from places 0 0 (omega arith) in
-    (
+    let other : get_or ring 0 0 ≡ slice_index image from = stretch_at image from places 0 0 (omega arith) in (
       ring,
       way_ring task from to places image w closed long (omega (arith, e.one_each)) e,
       (

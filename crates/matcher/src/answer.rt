@@ -113,7 +113,13 @@ pub fn only_part(pattern: &Pattern) -> Option<usize>
 }
 
 // Whether the graph has an embedding, where recursive parts hold as the table says.
-fn exists(graph: &Graph, steps: &[EarlierBonds], order: &[Placement], mol: &Mol, memory: &mut Memory) -> bool
+fn exists(
+    graph: &Graph,
+    steps: &[EarlierBonds],
+    order: &[Placement],
+    mol: &Mol,
+    memory: &mut Memory,
+) -> bool
     requires { IsReady (graph_of graph.now) steps.now }
     ensures { IsTrue result ↔ CanComplete (HoldsIn memory.old.table) (graph_of graph.now) mol.now [] }
 {
@@ -168,7 +174,12 @@ fn seek(
 
 // Whether the graph is of components, and one of several places, of at most 64 in all, has no embedding by itself.
 // Different components could still meet.
-fn lacks_component(task: &Task, known: &mut TruthCache, stops: &mut [Placement], image: &mut [u16]) -> bool
+fn lacks_component(
+    task: &Task,
+    known: &mut TruthCache,
+    stops: &mut [Placement],
+    image: &mut [u16],
+) -> bool
     requires ready { IsReadyTask task.now }
     requires room { length task.now.graph.now.atoms.items ≤ length image.old }
     requires knows { Knows task.now known.old }

@@ -5,7 +5,7 @@ ghost use Rattle.smarts_parse.specs.Sound.{IsSoundPattern};
 ghost use Rattle.matcher.specs.Partial.{IsSearchable};
 ghost use Rattle.matcher.specs.Plan.{ArePartsPlanned, StandsAt};
 
-use crate::plan::{NONE_EARLIER, EarlierBonds, plan};
+use crate::plan::{EarlierBonds, NONE_EARLIER, plan};
 use smarts_mean::MOST_PARTS;
 use smarts_parse::{Graph, Pattern};
 use std::alloc::{AllocError, Global};

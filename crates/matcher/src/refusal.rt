@@ -95,7 +95,13 @@ fn marked(marks: &[bool]) -> usize
 }
 
 // Whether the place, which is not in front, can stand only at marked atoms or where those in front stand.
-fn stays_within(task: &Task, known: &mut TruthCache, front: &[u16], atoms: &[bool], place: usize) -> bool
+fn stays_within(
+    task: &Task,
+    known: &mut TruthCache,
+    front: &[u16],
+    atoms: &[bool],
+    place: usize,
+) -> bool
     requires ready { IsReadyTask task.now }
     requires place { place < length task.now.graph.now.atoms.items }
     requires atoms { length atoms.now ≡ length task.now.mol.now.atoms }
@@ -176,7 +182,13 @@ fn may_join(task: &Task, known: &mut TruthCache, bond: &PatBond, one: u16, two: 
 
 /// Whether a place that is not in front may stand at an atom, where the atoms in front are taken, as far as is seen
 /// from the atom alone.
-pub fn may_stand(task: &Task, known: &mut TruthCache, front: &[u16], place: usize, atom: u16) -> bool
+pub fn may_stand(
+    task: &Task,
+    known: &mut TruthCache,
+    front: &[u16],
+    place: usize,
+    atom: u16,
+) -> bool
     requires ready { IsReadyTask task.now }
     requires place { place < length task.now.graph.now.atoms.items }
     requires atom { atom < length task.now.mol.now.atoms }

@@ -1,4 +1,4 @@
-use Rattle.std.proofs.Common.{◌≡◌, ◌-◌, arith, length, slice_index_or, subst, sym}
+use Rattle.std.proofs.Common.{◌≡◌, ◌-◌, arith, slice_index_or, subst, sym}
 use Rattle.std.specs.Int.{bit_at}
 use Rattle.std.proofs.lemmas.List.{length-map}
 use Rattle.smarts_parse.specs.Pattern.{term_of}

@@ -1,6 +1,6 @@
 use Rattle.std.proofs.Common.{ap, arith, length}
 use Rattle.std.proofs.lemmas.List.{length-map}
-use Rattle.smarts_parse.specs.Pattern.{graph_of, term_of}
+use Rattle.smarts_parse.specs.Pattern.{term_of}
 use Rattle.matcher.proofs.Narrowings.{narrowed}
 use Rattle.matcher.proofs.narrow.narrow.Goals as goal
 

@@ -1,7 +1,6 @@
-use Rattle.std.proofs.Common.{arith, length, subst, sym}
+use Rattle.std.proofs.Common.{arith}
 use Rattle.std.proofs.lemmas.List.{length-map}
-use Rattle.smarts_parse.specs.Pattern.{graph_of, term_of}
-use Rattle.matcher.specs.Narrow.{AreOfClasses}
+use Rattle.smarts_parse.specs.Pattern.{term_of}
 use Rattle.matcher.proofs.Narrowings.{class_candidates, classes_more}
 use Rattle.matcher.proofs.narrow.note_classes.Goals as goal
 
@@ -21,5 +20,9 @@ pub returns : goal.returns
 returns c =
     let task = c.args.task.now in
     class_candidates task c.loop-place.words c.requires.ready
-    (λ p l. c.loop-place.invariant p (omega (arith, l, c.loop-place-test.false,
-    length-map task.graph.now.atoms.items term_of)))
+    (λ p l. c.loop-place.invariant p (omega (
+      arith,
+      l,
+      c.loop-place-test.false,
+      length-map task.graph.now.atoms.items term_of,
+    )))

@@ -1,5 +1,5 @@
 -- The bonds are looked at in turn.
-use Rattle.std.proofs.Common.{◌≡◌, ◌+◌, ◌<◌, ◌∙◌, arith, bit_or, get_or, length, subst, sym}
+use Rattle.std.proofs.Common.{◌+◌, ◌∙◌, arith, bit_or, get_or, subst, sym}
 use Rattle.std.proofs.lemmas.List.{length-map}
 use Rattle.smarts_parse.specs.Pattern.{bond_of, graph_of, term_of}
 use Rattle.matcher.specs.Narrow.{AreAround}
