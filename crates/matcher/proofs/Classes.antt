@@ -12,7 +12,7 @@ use Rattle.smarts_parse.specs.Embedding.{IsEmbedding}
 use Rattle.smarts_parse.specs.Pattern.{GraphTerm, Term, Prim, Not, And, Or}
 use Rattle.smarts_parse.specs.Truth.{AtomPrimTrue, AtomTrue}
 use Rattle.matcher.specs.Class.{class_at, class_of, Covers, MayBe, PrimMayBe}
-use Rattle.matcher.specs.declared.plan.Step.{Step}
+use Rattle.matcher.specs.declared.plan.EarlierBonds.{EarlierBonds}
 use Rattle.matcher.specs.Partial.{IsPartial, Parts}
 use Rattle.matcher.specs.Plan.{IsReady, step_at}
 use Rattle.matcher.proofs.Partials.{IsPartial-last}
@@ -67,7 +67,7 @@ stands_in parts m a classes e covers within h =
     (may_be_true parts e m a x (slice_get-get_or m.atoms a no_element within) h)
 
 -- and one that stands at the next place of a graph is of the classes of its step
-pub stands_next : (parts : Parts) (g : GraphTerm) (m : Molecule) (steps : List Step) (front : List ℕ) (atom : ℕ)
+pub stands_next : (parts : Parts) (g : GraphTerm) (m : Molecule) (steps : List EarlierBonds) (front : List ℕ) (atom : ℕ)
     → IsReady g steps → length front < length g.atoms → atom < length m.atoms
     → IsPartial parts g m (front ++ atom ∷ [])
     → bit_at (step_at steps (length front)).classes (class_of (get_or m.atoms atom no_element)) ≡ 1
@@ -79,7 +79,7 @@ stands_next parts g m steps front atom ready few within p =
     (last.1 e (slice_get-get_or g.atoms (length front) (Prim atoms.Any) few))
 
 -- the same of any place of an embedding
-pub stands_at : (parts : Parts) (g : GraphTerm) (m : Molecule) (steps : List Step) (image : List ℕ) (place atom : ℕ)
+pub stands_at : (parts : Parts) (g : GraphTerm) (m : Molecule) (steps : List EarlierBonds) (image : List ℕ) (place atom : ℕ)
     → IsReady g steps → place < length g.atoms → IsEmbedding parts g m image → slice_index image place ≡ atom
     → bit_at (step_at steps place).classes (class_of (get_or m.atoms atom no_element)) ≡ 1
 stands_at parts g m steps image place atom ready few h is =
@@ -91,7 +91,7 @@ stands_at parts g m steps image place atom ready few h is =
     (h.atoms place e (slice_get-get_or g.atoms place (Prim atoms.Any) few)))
 
 -- no embedding, where none of the molecule's atoms is of a class of some step
-pub no_atom : (parts : Parts) (g : GraphTerm) (m : Molecule) (steps : List Step) (n k present : ℕ) → IsReady g steps
+pub no_atom : (parts : Parts) (g : GraphTerm) (m : Molecule) (steps : List EarlierBonds) (n k present : ℕ) → IsReady g steps
     → n ≡ length g.atoms → k < length (take n steps) → All (λ x. bit_at present (class_of x) ≡ 1) m.atoms
     → bit_and (step_at (take n steps) k).classes present ≡ 0 → (image : List ℕ) → IsEmbedding parts g m image → ⊥
 no_atom parts g m steps n k present ready all short here none image h =
@@ -105,5 +105,5 @@ no_atom parts g m steps n k present ready all short here none image h =
     (stands_at parts g m steps image k (slice_index image k) ready (omega arith) h refl)
     (here (slice_index image k) no_element within) in
     let zero : bit_at (bit_and (step_at steps k).classes present) c ≡ 0 =
-    ap (λ (s : Step). bit_at (bit_and s.classes present) c) (sym read) ∙ ap (λ n. bit_at n c) none ∙ bit_at-zero c in
+    ap (λ (s : EarlierBonds). bit_at (bit_and s.classes present) c) (sym read) ∙ ap (λ n. bit_at n c) none ∙ bit_at-zero c in
     omega arith

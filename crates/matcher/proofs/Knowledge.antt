@@ -10,7 +10,7 @@ use Rattle.smarts_parse.specs.declared.pattern.AtomPrim.{AtomPrim}
 use Rattle.smarts_parse.specs.Pattern.{GraphTerm, Term}
 use Rattle.smarts_parse.specs.Sound.{NamesBelow}
 use Rattle.smarts_parse.specs.Truth.{AtomTrue}
-use Rattle.matcher.specs.declared.known.Known.{Known}
+use Rattle.matcher.specs.declared.known.TruthCache.{TruthCache}
 use Rattle.matcher.specs.declared.known.Truths.{Truths}
 use Rattle.matcher.specs.Known.{IsFailed, IsHeld, IsKnowledge, IsTrueIn, nothing}
 use Rattle.matcher.specs.Partial.{Parts}
@@ -33,7 +33,7 @@ true_in parts g m place atom e get = (
 )
 
 -- where nothing is known, all of it is so
-pub knows_nothing : (parts : Parts) (g : GraphTerm) (m : Molecule) (known : Known) (places atoms : ℕ)
+pub knows_nothing : (parts : Parts) (g : GraphTerm) (m : Molecule) (known : TruthCache) (places atoms : ℕ)
     → length g.atoms ≡ places → length m.atoms ≡ atoms
     → ((p a : ℕ) → p < places → a < atoms → (IsHeld known p a → ⊥) × (IsFailed known p a → ⊥))
     → IsKnowledge parts g m known
@@ -43,7 +43,7 @@ knows_nothing parts g m known places atoms few size none = record {
 }
 
 -- one thing more is known
-pub knows_more : (parts : Parts) (g : GraphTerm) (m : Molecule) (old new : Known) (place atom : ℕ) (holds : Bool)
+pub knows_more : (parts : Parts) (g : GraphTerm) (m : Molecule) (old new : TruthCache) (place atom : ℕ) (holds : Bool)
     → length g.atoms ≤ 256 → IsKnowledge parts g m old → (holds ≡ true) ↔ IsTrueIn parts g m place atom
     → ((p a : ℕ) → p < 256 → IsHeld new p a → ((p ≡ place) × (a ≡ atom) × (holds ≡ true)) ⊎ IsHeld old p a)
     → ((p a : ℕ) → p < 256 → IsFailed new p a → ((p ≡ place) × (a ≡ atom) × (holds ≡ false)) ⊎ IsFailed old p a)
@@ -62,7 +62,7 @@ knows_more parts g m old new place atom holds few before asked held failed = rec
 }
 
 -- the same where the parts that the graph names hold at the same atoms
-pub knows_still : (P Q : Parts) (n : ℕ) (g : GraphTerm) (m : Molecule) (known : Known) → All (NamesBelow n) g.atoms
+pub knows_still : (P Q : Parts) (n : ℕ) (g : GraphTerm) (m : Molecule) (known : TruthCache) → All (NamesBelow n) g.atoms
     → ((k a : ℕ) → k < n → a < length m.atoms → P k a ↔ Q k a) → IsKnowledge P g m known → IsKnowledge Q g m known
 knows_still P Q n g m known names same h = record {
   held = λ p a l r held e get. (alike p a r e get).0 (h.held p a l r held e get);
@@ -79,7 +79,7 @@ knows_still P Q n g m known names same h = record {
         (names_below (λ k. P k a ↔ Q k a) n e (named p e get) (λ k j. same k a j r))
 
 -- the same where the part is noted at an atom
-pub knows_noted : (g : GraphTerm) (m : Molecule) (known : Known) (old new : Table) (part atom : ℕ) (holds : Bool)
+pub knows_noted : (g : GraphTerm) (m : Molecule) (known : TruthCache) (old new : Table) (part atom : ℕ) (holds : Bool)
     → ((p a : ℕ) → p < 64 → a < 999 → holds_at new p a ≡ (if (p == part) && (a == atom) then holds
     else holds_at old p a)) → part < 64 → length m.atoms ≤ 999 → All (NamesBelow part) g.atoms
     → IsKnowledge (HoldsIn old) g m known → IsKnowledge (HoldsIn new) g m known

@@ -7,7 +7,7 @@ use Rattle.std.proofs.lemmas.Option.{get_or_from_slice_get, same_Some, slice_get
 use Rattle.smarts_parse.specs.declared.pattern.Graph.{Graph}
 use Rattle.smarts_parse.specs.Pattern.{GraphTerm, PatternTerm, graph_of}
 use Rattle.smarts_parse.specs.Sound.{IsSoundPattern}
-use Rattle.matcher.specs.declared.plan.Step.{Step}
+use Rattle.matcher.specs.declared.plan.EarlierBonds.{EarlierBonds}
 use Rattle.matcher.specs.Plan.{ArePartsPlanned, IsReady, StandsAt}
 use Rattle.matcher.proofs.Places.{get_map}
 
@@ -16,14 +16,14 @@ abbrev pub size : GraphTerm → ℕ
 size g = length g.atoms
 
 -- the steps of the top graph and of the first n parts stand in turn, up to an end
-pub record AreLaid (p : PatternTerm) (n end : ℕ) (steps : List Step) (begins : List ℕ) : Type 0 where
+pub record AreLaid (p : PatternTerm) (n end : ℕ) (steps : List EarlierBonds) (begins : List ℕ) : Type 0 where
   pub sum : end ≡ size p.top + sum_by size (take n p.recs)
   pub top : StandsAt p.top steps 0
   pub parts : (k : ℕ) (g : GraphTerm) → k < n → slice_get p.recs k ≡ Some g
       → (slice_index begins k + size g ≤ end) × StandsAt g steps (slice_index begins k)
 
 -- they stand there where what is written begins behind them
-pub stands_kept : (g : GraphTerm) (old new : List Step) (begin end : ℕ) → length new ≡ length old
+pub stands_kept : (g : GraphTerm) (old new : List EarlierBonds) (begin end : ℕ) → length new ≡ length old
     → take end new ≡ take end old → begin + size g ≤ end → StandsAt g old begin → StandsAt g new begin
 stands_kept g old new begin end long same behind stands =
     let front : take (begin + size g) new ≡ take (begin + size g) old = sym (take-take (begin + size g) end new behind)
@@ -34,7 +34,7 @@ stands_kept g old new begin end long same behind stands =
     record { fits = omega arith; ready = subst (IsReady g) (sym here) stands.ready }
 
 -- there is room for one part more
-pub room_more : (p : PatternTerm) (n end : ℕ) (g : GraphTerm) (steps : List Step) (begins : List ℕ) → IsSoundPattern p
+pub room_more : (p : PatternTerm) (n end : ℕ) (g : GraphTerm) (steps : List EarlierBonds) (begins : List ℕ) → IsSoundPattern p
     → slice_get p.recs n ≡ Some g → AreLaid p n end steps begins → end + size g ≤ 256
 room_more p n end g steps begins sound get laid =
     let less = sum_by_more_le size p.recs n g (slice_get_within p.recs n g get) in
@@ -44,7 +44,7 @@ room_more p n end g steps begins sound get laid =
     omega arith
 
 -- one part more
-pub laid_more : (p : PatternTerm) (n end : ℕ) (g : GraphTerm) (old new : List Step) (begins : List ℕ)
+pub laid_more : (p : PatternTerm) (n end : ℕ) (g : GraphTerm) (old new : List EarlierBonds) (begins : List ℕ)
     → slice_get p.recs n ≡ Some g → n < length begins → AreLaid p n end old begins → length new ≡ length old
     → take end new ≡ take end old → StandsAt g new end → AreLaid p (n + 1) (end + size g) new (set begins n end)
 laid_more p n end g old new begins get room laid long same stands = record {
@@ -72,14 +72,14 @@ laid_more p n end g old new begins get room laid long same stands = record {
 }
 
 -- the steps of a part stand where it begins
-pub part_stands : (items : List Graph) (steps : List Step) (begins : List ℕ) (k begin : ℕ) (graph : Graph)
+pub part_stands : (items : List Graph) (steps : List EarlierBonds) (begins : List ℕ) (k begin : ℕ) (graph : Graph)
     → ArePartsPlanned (map graph_of items) (length (map graph_of items)) steps begins → k < length items
     → graph ≡ get_or items k graph → begin ≡ slice_index begins k → StandsAt (graph_of graph) steps begin
 part_stands items steps begins k begin graph planned within is at = subst (StandsAt (graph_of graph) steps) (sym at)
     (planned k (graph_of graph) (omega (arith, length-map items graph_of)) (get_map graph_of items k graph within is))
 
 -- they stand in lists that are the same
-pub planned_alike : (recs : List GraphTerm) (n : ℕ) (steps steps' : List Step) (begins begins' : List ℕ)
+pub planned_alike : (recs : List GraphTerm) (n : ℕ) (steps steps' : List EarlierBonds) (begins begins' : List ℕ)
     → steps' ≡ steps → begins' ≡ begins → ArePartsPlanned recs n steps begins → ArePartsPlanned recs n steps' begins'
 planned_alike recs n steps steps' begins begins' e f h k g l at = subst (λ s. StandsAt g s (slice_index begins' k))
     (sym e) (subst (λ b. StandsAt g steps (slice_index b k)) (sym f) (h k g l at))

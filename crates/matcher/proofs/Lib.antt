@@ -11,7 +11,8 @@ pub mod Knowledge
 pub mod OnlyParts
 pub mod Pigeons
 pub mod Refusals
-pub mod Chains
+pub mod Ones
+pub mod Narrowings
 pub mod Classes
 pub mod Hunts
 pub mod Rings

@@ -8,7 +8,7 @@ use Rattle.smarts_parse.specs.Pattern.{BondTerm, GraphTerm, Prim, Term, bond_of,
 use Rattle.smarts_parse.specs.declared.pattern.BondPrim.{BondPrim}
 use Rattle.smarts_parse.specs.Truth.{BondTrue}
 use Rattle.smarts_parse.specs.Embedding.{BondEmbeds}
-use Rattle.matcher.specs.declared.plan.Step.{Step}
+use Rattle.matcher.specs.declared.plan.EarlierBonds.{EarlierBonds}
 use Rattle.matcher.specs.Partial.{CanComplete, IsPartial, Parts}
 use Rattle.matcher.specs.Plan.{IsReady, step_at}
 use Rattle.matcher.proofs.Joins.{among_neighbours, neighbour_joined, neighbours_rise, one_bond}
@@ -29,7 +29,7 @@ pub record IsNear (parts : Parts) (g : GraphTerm) (m : Molecule) (front : List �
 pub low_before : {x y placed : ℕ} → max x y ≡ placed → x ≢ y → min x y < placed
 low_before high apart = omega arith
 
-pub near_step : (parts : Parts) (g : GraphTerm) (m : Molecule) (bonds : List PatBond) (steps : List Step)
+pub near_step : (parts : Parts) (g : GraphTerm) (m : Molecule) (bonds : List PatBond) (steps : List EarlierBonds)
     (image : List ℕ) (placed low : ℕ) (bond : PatBond) → g.bonds ≡ map bond_of bonds → IsReady g steps
     → placed ≤ length image → placed < length g.atoms → IsPartial parts g m (take placed image)
     → (step_at steps placed).from < (step_at steps placed).to
@@ -104,7 +104,7 @@ none_near parts g m front earlier place expr pairs near h short none w =
     none at.0 at.1 (subst (λ x. CanComplete parts g m (front ++ x ∷ [])) (sym is) next.2)
 
 -- the first atom of a graph has no bond to an earlier one
-pub no_first : (g : GraphTerm) (steps : List Step) → IsReady g steps → 0 < length g.atoms
+pub no_first : (g : GraphTerm) (steps : List EarlierBonds) → IsReady g steps → 0 < length g.atoms
     → (step_at steps 0).from < (step_at steps 0).to → ⊥
 no_first g steps ready some lt =
     let d : ℕ × ℕ = (0, 0) in

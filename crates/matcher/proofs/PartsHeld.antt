@@ -195,6 +195,7 @@ searchable_part recs j g sound get =
       few = sound.few_atoms j g get;
       ends = graph.in_range;
       apart = graph.distinct;
+      once = graph.once;
       names = λ k d l. names_more j 64 (omega arith) (slice_index_or g.atoms k d) (graph.names k d l);
     }
 
@@ -261,6 +262,7 @@ searchable_top p sound =
       few = omega arith;
       ends = sound.top.in_range;
       apart = sound.top.distinct;
+      once = sound.top.once;
       names = λ k d l. names_more (length p.recs) 64 sound.few_parts (slice_index_or p.top.atoms k d)
           (sound.top.names k d l);
     }

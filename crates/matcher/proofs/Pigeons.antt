@@ -17,6 +17,10 @@ counted-marks : (xs : List Bool) → counted xs ≡ marks xs
 unfolding counted
 counted-marks xs = is_count_by counted (λ x. x) refl (λ x ys. refl) xs
 
+pub marks_cons : (x : Bool) (xs : List Bool) → marks (x ∷ xs) ≡ cond x (1 + marks xs) (marks xs)
+unfolding counted
+marks_cons x xs = sym (counted-marks (x ∷ xs)) ∙ ap (λ n. cond x (1 + n) n) (counted-marks xs)
+
 counted_set : (xs : List Bool) (i : ℕ) → get_or xs i false ≡ true → counted (set xs i false) + 1 ≡ counted xs
 unfolding counted
 counted_set [] i h = absurd (false≢true h)

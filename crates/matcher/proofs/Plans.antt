@@ -7,14 +7,14 @@ use Rattle.smarts_parse.specs.declared.pattern.PatBond.{PatBond}
 use Rattle.smarts_parse.specs.declared.pattern.AtomPrim.{AtomPrim}
 use Rattle.smarts_parse.specs.Pattern.{BondTerm, GraphTerm, Term, bond_of}
 use Rattle.smarts_parse.specs.Sound.{pattern_ends}
-use Rattle.matcher.specs.declared.plan.Step.{Step}
+use Rattle.matcher.specs.declared.plan.EarlierBonds.{EarlierBonds}
 use Rattle.matcher.specs.Class.{Covers}
 use Rattle.matcher.specs.Plan.{ArePlanned, AreCovered, IsReady, step_at}
 
-abbrev pub empty : Step
+abbrev pub empty : EarlierBonds
 empty = record { from = 0; to = 0; classes = 0 }
 
-pub planned_none : (bonds : List BondTerm) (atoms : ℕ) (steps : List Step) → atoms ≤ length steps
+pub planned_none : (bonds : List BondTerm) (atoms : ℕ) (steps : List EarlierBonds) → atoms ≤ length steps
     → ((k : ℕ) → k < atoms → (step_at steps k).to ≡ 0) → ArePlanned bonds 0 atoms steps
 planned_none bonds atoms steps room none = record {
   room = room;
@@ -25,7 +25,7 @@ planned_none bonds atoms steps room none = record {
 }
 
 -- one bond more
-pub planned_more : (bonds : List BondTerm) (n atoms : ℕ) (steps : List Step) (h : ℕ) (next : Step) (bond : BondTerm)
+pub planned_more : (bonds : List BondTerm) (n atoms : ℕ) (steps : List EarlierBonds) (h : ℕ) (next : EarlierBonds) (bond : BondTerm)
     → ArePlanned bonds n atoms steps → n < length bonds → ((d : BondTerm) → get_or bonds n d ≡ bond)
     → max bond.a bond.b ≡ h → h < atoms → ((step_at steps h).to ≡ 0 → next.from ≡ n)
     → ((step_at steps h).to ≢ 0 → next.from ≡ (step_at steps h).from) → next.to ≡ n + 1
@@ -36,8 +36,8 @@ planned_more bonds n atoms steps h next bond before short is high lt fresh again
     | inl same ↦
         let read : step_at (set steps h next) (max (get_or bonds k d).a (get_or bonds k d).b)
         ≡ next = ap (step_at (set steps h next)) same ∙ here in
-        let from = ap (λ (s : Step). s.from) read in
-        let end = ap (λ (s : Step). s.to) read in
+        let from = ap (λ (s : EarlierBonds). s.from) read in
+        let end = ap (λ (s : EarlierBonds). s.to) read in
         elim (cases_eq k n) [
           | inl last ↦ (let le = from_le in omega arith, omega arith)
           | inr early ↦
@@ -53,25 +53,25 @@ planned_more bonds n atoms steps h next bond before short is high lt fresh again
         elim (cases_eq k n) [
           | inl last ↦ absurd (apart (ap (λ (b : BondTerm). max b.a b.b) (ap (λ i. get_or bonds i d) last ∙ is d)
               ∙ high))
-          | inr early ↦ subst (λ (s : Step). (s.from ≤ k) × (k < s.to)) (sym read) (before.within k d (omega arith))
+          | inr early ↦ subst (λ (s : EarlierBonds). (s.from ≤ k) × (k < s.to)) (sym read) (before.within k d (omega arith))
         ]
   ];
   ends = λ k l. elim (cases_eq k h) [
-    | inl same ↦ let e = ap (λ (s : Step). s.to) (ap (step_at (set steps h next)) same ∙ here) in omega arith
-    | inr apart ↦ let e = ap (λ (s : Step). s.to) (other k apart) in let old = before.ends k l in omega arith
+    | inl same ↦ let e = ap (λ (s : EarlierBonds). s.to) (ap (step_at (set steps h next)) same ∙ here) in omega arith
+    | inr apart ↦ let e = ap (λ (s : EarlierBonds). s.to) (other k apart) in let old = before.ends k l in omega arith
   ];
   proper = λ k l. elim (cases_eq k h) [
     | inl same ↦
-        let e = ap (λ (s : Step). s.to) (ap (step_at (set steps h next)) same ∙ here) in
-        let f = ap (λ (s : Step). s.from) (ap (step_at (set steps h next)) same ∙ here) in
+        let e = ap (λ (s : EarlierBonds). s.to) (ap (step_at (set steps h next)) same ∙ here) in
+        let f = ap (λ (s : EarlierBonds). s.from) (ap (step_at (set steps h next)) same ∙ here) in
         let le = from_le in
         inr (omega arith)
-    | inr apart ↦ subst (λ (s : Step). (s.to ≡ 0) ⊎ (s.from < s.to)) (sym (other k apart)) (before.proper k l)
+    | inr apart ↦ subst (λ (s : EarlierBonds). (s.to ≡ 0) ⊎ (s.from < s.to)) (sym (other k apart)) (before.proper k l)
   ];
   first = λ k d l some. elim (cases_eq k h) [
     | inl same ↦
         let read : step_at (set steps h next) k ≡ next = ap (step_at (set steps h next)) same ∙ here in
-        subst (λ (s : Step). max (get_or bonds s.from d).a (get_or bonds s.from d).b ≡ k) (sym read)
+        subst (λ (s : EarlierBonds). max (get_or bonds s.from d).a (get_or bonds s.from d).b ≡ k) (sym read)
         (elim (before.proper h lt) [
           | inl none ↦ ap (λ (b : BondTerm). max b.a b.b) (ap (λ i. get_or bonds i d) (fresh none) ∙ is d) ∙ high
               ∙ sym same
@@ -81,8 +81,8 @@ planned_more bonds n atoms steps h next bond before short is high lt fresh again
         ])
     | inr apart ↦
         let read : step_at (set steps h next) k ≡ step_at steps k = other k apart in
-        subst (λ (s : Step). max (get_or bonds s.from d).a (get_or bonds s.from d).b ≡ k) (sym read)
-        (before.first k d l (subst (λ (s : Step). s.from < s.to) read some))
+        subst (λ (s : EarlierBonds). max (get_or bonds s.from d).a (get_or bonds s.from d).b ≡ k) (sym read)
+        (before.first k d l (subst (λ (s : EarlierBonds). s.from < s.to) read some))
   ];
 }
   where
@@ -100,7 +100,7 @@ planned_more bonds n atoms steps h next bond before short is high lt fresh again
     ]
 
 -- the first bond of a step that is not empty: its higher end is the atom, and its ends are apart
-pub first_bond : (bonds : List PatBond) (g : GraphTerm) (steps : List Step) (k : ℕ) (bond : PatBond)
+pub first_bond : (bonds : List PatBond) (g : GraphTerm) (steps : List EarlierBonds) (k : ℕ) (bond : PatBond)
     → g.bonds ≡ map bond_of bonds → IsReady g steps → k < length g.atoms → (step_at steps k).from < (step_at steps k).to
     → bond ≡ get_or bonds (step_at steps k).from bond → (max bond.a bond.b ≡ k) × (bond.a ≢ bond.b)
     × ((d : BondTerm) → get_or g.bonds (step_at steps k).from d ≡ bond_of bond)
@@ -122,7 +122,7 @@ first_bond bonds g steps k bond same ready lt some is =
     )
 
 -- what holds of a step's other bonds and of its first holds of all bonds of its atom
-pub all_of_step : (bonds : List PatBond) (g : GraphTerm) (steps : List Step) (h : ℕ) (P : BondTerm → Type 0)
+pub all_of_step : (bonds : List PatBond) (g : GraphTerm) (steps : List EarlierBonds) (h : ℕ) (P : BondTerm → Type 0)
     → g.bonds ≡ map bond_of bonds → IsReady g steps
     → All (λ (b : BondTerm). max b.a b.b ≡ h → P b)
     (map bond_of (take ((step_at steps h).to - ((step_at steps h).from + 1))
@@ -179,7 +179,7 @@ high_below bonds g k bond l is ends =
     omega arith
 
 -- one bond more, as it is read from memory
-pub planned_next : (bonds : List PatBond) (g : GraphTerm) (n : ℕ) (steps : List Step) (h : ℕ) (next : Step)
+pub planned_next : (bonds : List PatBond) (g : GraphTerm) (n : ℕ) (steps : List EarlierBonds) (h : ℕ) (next : EarlierBonds)
     (bond : PatBond) → g.bonds ≡ map bond_of bonds → ArePlanned g.bonds n (length g.atoms) steps → n < length bonds
     → bond ≡ get_or bonds n bond
     → h ≡ max bond.a bond.b → h < length g.atoms → ((step_at steps h).to ≡ 0 → next.from ≡ n)
@@ -192,34 +192,34 @@ planned_next bonds g n steps h next bond same before short is high lt fresh agai
     (sym high) lt fresh again to
 
 -- classes are kept where a step with the same is written
-pub covered_set : (atoms : List (Term AtomPrim)) (n : ℕ) (steps : List Step) (h : ℕ) (next : Step)
+pub covered_set : (atoms : List (Term AtomPrim)) (n : ℕ) (steps : List EarlierBonds) (h : ℕ) (next : EarlierBonds)
     → AreCovered atoms n steps → h < length steps → next.classes ≡ (step_at steps h).classes
     → AreCovered atoms n (set steps h next)
 covered_set atoms n steps h next before lt same k l d = elim (cases_eq k h) [
   | inl at ↦
       let read : (step_at (set steps h next) k).classes ≡ (step_at steps k).classes =
-      ap (λ (s : Step). s.classes) (ap (step_at (set steps h next)) at ∙ get_or-set_same steps h next empty lt) ∙ same
+      ap (λ (s : EarlierBonds). s.classes) (ap (step_at (set steps h next)) at ∙ get_or-set_same steps h next empty lt) ∙ same
       ∙ ap (λ i. (step_at steps i).classes) (sym at) in
       subst (λ (c : ℕ). Covers c (get_or atoms k d)) (sym read) (before k l d)
-  | inr apart ↦ subst (λ (s : Step). Covers s.classes (get_or atoms k d))
+  | inr apart ↦ subst (λ (s : EarlierBonds). Covers s.classes (get_or atoms k d))
       (sym (get_or-set_other steps h k next empty apart)) (before k l d)
 ]
 
 -- and those of one step more
-pub covered_more : (atoms : List (Term AtomPrim)) (n : ℕ) (steps : List Step) (next : Step) → AreCovered atoms n steps
+pub covered_more : (atoms : List (Term AtomPrim)) (n : ℕ) (steps : List EarlierBonds) (next : EarlierBonds) → AreCovered atoms n steps
     → n < length steps → ((d : Term AtomPrim) → Covers next.classes (get_or atoms n d))
     → AreCovered atoms (n + 1) (set steps n next)
 covered_more atoms n steps next before lt here k l d = elim (cases_eq k n) [
   | inl at ↦ subst (λ i. Covers (step_at (set steps n next) i).classes (get_or atoms i d)) (sym at)
-      (subst (λ (s : Step). Covers s.classes (get_or atoms n d)) (sym (get_or-set_same steps n next empty lt)) (here d))
-  | inr apart ↦ subst (λ (s : Step). Covers s.classes (get_or atoms k d))
+      (subst (λ (s : EarlierBonds). Covers s.classes (get_or atoms n d)) (sym (get_or-set_same steps n next empty lt)) (here d))
+  | inr apart ↦ subst (λ (s : EarlierBonds). Covers s.classes (get_or atoms k d))
       (sym (get_or-set_other steps n k next empty apart)) (before k (omega arith) d)
 ]
 
 -- no bond yet, of one step more
-pub none_more : (steps : List Step) (n : ℕ) (next : Step) → ((k : ℕ) → k < n → (step_at steps k).to ≡ 0)
+pub none_more : (steps : List EarlierBonds) (n : ℕ) (next : EarlierBonds) → ((k : ℕ) → k < n → (step_at steps k).to ≡ 0)
     → n < length steps → next.to ≡ 0 → (k : ℕ) → k < n + 1 → (step_at (set steps n next) k).to ≡ 0
 none_more steps n next before lt none k l = elim (cases_eq k n) [
-  | inl at ↦ ap (λ (s : Step). s.to) (ap (step_at (set steps n next)) at ∙ get_or-set_same steps n next empty lt) ∙ none
-  | inr apart ↦ ap (λ (s : Step). s.to) (get_or-set_other steps n k next empty apart) ∙ before k (omega arith)
+  | inl at ↦ ap (λ (s : EarlierBonds). s.to) (ap (step_at (set steps n next)) at ∙ get_or-set_same steps n next empty lt) ∙ none
+  | inr apart ↦ ap (λ (s : EarlierBonds). s.to) (get_or-set_other steps n k next empty apart) ∙ before k (omega arith)
 ]

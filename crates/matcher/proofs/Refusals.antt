@@ -13,7 +13,7 @@ use Rattle.smarts_parse.specs.Embedding.{BondEmbeds, IsEmbedding}
 use Rattle.smarts_parse.specs.Pattern.{BondTerm, GraphTerm}
 use Rattle.smarts_parse.specs.Truth.{AtomTrue, BondTrue}
 use Rattle.matcher.specs.Class.{class_of, is_among, is_within}
-use Rattle.matcher.specs.declared.plan.Step.{Step}
+use Rattle.matcher.specs.declared.plan.EarlierBonds.{EarlierBonds}
 use Rattle.matcher.specs.Known.{IsTrueIn}
 use Rattle.matcher.specs.Partial.{CanComplete, Parts}
 use Rattle.matcher.specs.Plan.{IsReady, step_at}
@@ -55,7 +55,7 @@ excluded parts g m front places atoms few fewer within w =
     omega arith
 
 -- a place of no classes but these stands at an atom of one of them
-among_within : (parts : Parts) (g : GraphTerm) (m : Molecule) (steps : List Step) (classes : ℕ) (image : List ℕ) (k : ℕ)
+among_within : (parts : Parts) (g : GraphTerm) (m : Molecule) (steps : List EarlierBonds) (classes : ℕ) (image : List ℕ) (k : ℕ)
     → IsReady g steps → k < length g.atoms → IsEmbedding parts g m image → is_within classes (step_at steps k) ≡ true
     → bit_at classes (class_of (get_or m.atoms (slice_index image k) no_element)) ≡ 1
 among_within parts g m steps classes image k ready few e yes' =
@@ -66,7 +66,7 @@ among_within parts g m steps classes image k ready few e yes' =
     (stands_at parts g m steps image k (slice_index image k) ready few e refl))
 
 -- more places of no classes but these than atoms of them
-pub crowded : (parts : Parts) (g : GraphTerm) (m : Molecule) (steps : List Step) (n classes : ℕ) → IsReady g steps
+pub crowded : (parts : Parts) (g : GraphTerm) (m : Molecule) (steps : List EarlierBonds) (n classes : ℕ) → IsReady g steps
     → n ≡ length g.atoms → count_by (is_among classes) m.atoms < count_by (is_within classes) (take n steps)
     → CanComplete parts g m [] → ⊥
 crowded parts g m steps n classes ready all fewer =

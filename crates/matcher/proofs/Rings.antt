@@ -1,15 +1,17 @@
 -- A ring of a graph is taken to a ring of the molecule, of as many atoms.
-use Rattle.std.proofs.Common.{◌≡◌, ◌≢◌, ◌⊎◌, ℕ, zero, suc, ◌+◌, ◌%◌, ◌<◌, ◌≤◌, List, [], ◌∷◌, length, map, max, min, slice_index, get_or, Contains, sym, ap, ◌∙◌, subst, arith, inl, inr}
+use Rattle.std.proofs.Common.{◌≡◌, ◌≢◌, ◌⊎◌, ℕ, Bool, false, replicate, zero, suc, ◌+◌, ◌%◌, ◌<◌, ◌≤◌, List, [], ◌∷◌, length, map, max, min, slice_index, get_or, Contains, sym, ap, ◌∙◌, subst, arith, inl, inr}
 use Rattle.std.proofs.Math.Nat.{mod-eq_of_lt, mod_self}
-use Rattle.std.proofs.lemmas.Bool.{cases_lt}
-use Rattle.std.proofs.lemmas.List.{get_or-map, length-map}
+use Rattle.std.proofs.lemmas.Bool.{cases_eq, cases_lt, false≢true}
+use Rattle.std.proofs.lemmas.List.{get_or-map, get_or-replicate, get_or_past, length-map, length-replicate}
+use Rattle.std.proofs.lemmas.Option.{same_Some}
 use Rattle.chem_core.specs.Graph.{Ends, IsSimpleCycle, IsSmallestRing, Joined, JoinsAt, next_place}
 use Rattle.chem_core.specs.Molecule.{ends_of}
 use Rattle.smarts_parse.specs.declared.pattern.PatBond.{PatBond}
 use Rattle.smarts_parse.specs.Embedding.{BondEmbeds}
 use Rattle.smarts_parse.specs.Pattern.{bond_of, graph_of, term_of}
+use Rattle.smarts_parse.specs.Sound.{pattern_ends}
 use Rattle.matcher.specs.declared.fit.Task.{Task}
-use Rattle.matcher.specs.Ring.{AreBound, IsWay}
+use Rattle.matcher.specs.Ring.{AreBound, AreOnRings, IsMarked, IsMarkedWay, IsOnRing, IsWay}
 use Rattle.matcher.specs.Task.{Completes, Embeds, IsReadyTask}
 use Rattle.matcher.proofs.Joins.{joined_back}
 use Rattle.matcher.proofs.Plans.{high_below}
@@ -185,3 +187,156 @@ pub high_place : (task : Task) (place high : ℕ) (b : PatBond) → IsReadyTask 
 high_place task place high b ready l is most =
     let few = high_below task.graph.now.bonds.items (graph_of task.graph.now) place b l is ready.searchable.ends in
     omega (arith, few, length-map task.graph.now.atoms.items term_of)
+
+-- a bond has two ends
+same_ends : (ends : Ends) (j p q x y : ℕ) → JoinsAt ends j p q → JoinsAt ends j x y
+    → ((x ≡ p) × (y ≡ q)) ⊎ ((x ≡ q) × (y ≡ p))
+same_ends ends j p q x y (inl a) (inl b) =
+    let is : (p, q) ≡ (x, y) = same_Some (p, q) (x, y) (sym a ∙ b) in
+    inl (sym (ap (λ (z : ℕ × ℕ). z.0) is), sym (ap (λ (z : ℕ × ℕ). z.1) is))
+same_ends ends j p q x y (inl a) (inr b) =
+    let is : (p, q) ≡ (y, x) = same_Some (p, q) (y, x) (sym a ∙ b) in
+    inr (sym (ap (λ (z : ℕ × ℕ). z.1) is), sym (ap (λ (z : ℕ × ℕ). z.0) is))
+same_ends ends j p q x y (inr a) (inl b) =
+    let is : (q, p) ≡ (x, y) = same_Some (q, p) (x, y) (sym a ∙ b) in
+    inr (sym (ap (λ (z : ℕ × ℕ). z.0) is), sym (ap (λ (z : ℕ × ℕ). z.1) is))
+same_ends ends j p q x y (inr a) (inr b) =
+    let is : (q, p) ≡ (y, x) = same_Some (q, p) (y, x) (sym a ∙ b) in
+    inl (sym (ap (λ (z : ℕ × ℕ). z.1) is), sym (ap (λ (z : ℕ × ℕ). z.0) is))
+
+-- where an embedding takes the ends of a bond, the one way round
+ends_embedded : (task : Task) (image : List ℕ) (j p q x y b : ℕ)
+    → JoinsAt (pattern_ends (graph_of task.graph.now)) j p q → JoinsAt (pattern_ends (graph_of task.graph.now)) j x y
+    → JoinsAt (ends_of task.mol.now) b (slice_index image x) (slice_index image y)
+    → JoinsAt (ends_of task.mol.now) b (slice_index image p) (slice_index image q)
+ends_embedded task image j p q x y b one two at =
+    let ends : Ends = ends_of task.mol.now in
+    elim (same_ends (pattern_ends (graph_of task.graph.now)) j p q x y one two) [
+      | inl h ↦ subst (λ u. JoinsAt ends b (slice_index image u) (slice_index image q)) h.0
+          (subst (λ v. JoinsAt ends b (slice_index image x) (slice_index image v)) h.1 at)
+      | inr h ↦ joined_back ends b (slice_index image q) (slice_index image p)
+          (subst (λ u. JoinsAt ends b (slice_index image u) (slice_index image p)) h.0
+          (subst (λ v. JoinsAt ends b (slice_index image x) (slice_index image v)) h.1 at))
+    ]
+
+-- the bonds along a way whose ends are bound lie on a ring
+on_ring_along : (task : Task) (from to : ℕ) (places : List ℕ) → IsWay task from to places → AreBound task to from
+    → 2 ≤ length places → from < length (graph_of task.graph.now).atoms → (i j : ℕ) → i < length places
+    → JoinsAt (pattern_ends (graph_of task.graph.now)) j (slice_index (from ∷ places) i)
+    (slice_index (from ∷ places) (suc i)) → IsOnRing task j
+on_ring_along task from to places w closed long few i j l joined image e x y b two at =
+    let ends : Ends = ends_of task.mol.now in
+    let ring : List ℕ = stretch image from places in
+    let size : length ring ≡ suc (length places) = length-map (from ∷ places) (λ p. slice_index image p) in
+    let plus : i + 1 ≡ suc i = omega arith in
+    let before : i + 1 < length ring = omega arith in
+    let next : next_place ring i ≡ suc i = mod-eq_of_lt before ∙ plus in
+    let p : ℕ = slice_index (from ∷ places) i in
+    let q : ℕ = slice_index (from ∷ places) (suc i) in
+    let one : get_or ring i 0 ≡ slice_index image p = stretch_at image from places i 0 (omega arith) in
+    let other : get_or ring (suc i) 0 ≡ slice_index image q = stretch_at image from places (suc i) 0 (omega arith) in (
+      ring,
+      way_ring task from to places image w closed long (omega (arith, e.one_each)) e,
+      (
+        i,
+        omega arith,
+        subst (λ k. JoinsAt ends b (get_or ring i 0) (get_or ring k 0)) (sym next)
+            (subst (λ u. JoinsAt ends b u (get_or ring (suc i) 0)) (sym one)
+            (subst (λ v. JoinsAt ends b (slice_index image p) v) (sym other)
+            (ends_embedded task image j p q x y b joined two at))),
+      ),
+    )
+
+-- and so does the bond between its ends
+on_ring_between : (task : Task) (from to : ℕ) (places : List ℕ) → IsWay task from to places → AreBound task to from
+    → 2 ≤ length places → from < length (graph_of task.graph.now).atoms → (j : ℕ)
+    → JoinsAt (pattern_ends (graph_of task.graph.now)) j to from → IsOnRing task j
+on_ring_between task from to places w closed long few j joined image e x y b two at =
+    let ends : Ends = ends_of task.mol.now in
+    let ring : List ℕ = stretch image from places in
+    let size : length ring ≡ suc (length places) = length-map (from ∷ places) (λ p. slice_index image p) in
+    let i : ℕ = length places in
+    let all : i + 1 ≡ length ring = omega arith in
+    let next : next_place ring i ≡ 0 = ap (λ n. n % length ring) all ∙ mod_self (length ring) in
+    let one : get_or ring i 0 ≡ slice_index image to = stretch_at image from places i 0 (omega arith)
+    ∙ ap (λ p. slice_index image p) (way_last task from to places w) in
+    let other : get_or ring 0 0 ≡ slice_index image from = stretch_at image from places 0 0 (omega arith) in (
+      ring,
+      way_ring task from to places image w closed long (omega (arith, e.one_each)) e,
+      (
+        i,
+        omega arith,
+        subst (λ k. JoinsAt ends b (get_or ring i 0) (get_or ring k 0)) (sym next)
+            (subst (λ u. JoinsAt ends b u (get_or ring 0 0)) (sym one)
+            (subst (λ v. JoinsAt ends b (slice_index image to) v) (sym other)
+            (ends_embedded task image j to from x y b joined two at))),
+      ),
+    )
+
+-- a ring is marked: the way and the bond between its ends
+pub ring_marked : (task : Task) (from to place : ℕ) (old new last : List Bool) → AreOnRings task old
+    → IsMarkedWay task from to 0 old new → AreBound task to from → from < length (graph_of task.graph.now).atoms
+    → JoinsAt (pattern_ends (graph_of task.graph.now)) place to from
+    → ((j : ℕ) → IsMarked last j → (j ≡ place) ⊎ IsMarked new j) → AreOnRings task last
+ring_marked task from to place old new last rings w closed few joined more j marked =
+    let long : 2 ≤ length w.places = (let l = w.long in omega arith) in
+    elim (more j marked) [
+      | inl is ↦ subst (IsOnRing task) (sym is)
+          (on_ring_between task from to w.places w.way closed long few place joined)
+      | inr before ↦ elim (w.marked j before) [
+        | inl earlier ↦ rings j earlier
+        | inr along ↦ on_ring_along task from to w.places w.way closed long few along.0 j along.1 along.2
+      ]
+    ]
+
+-- what is marked was before, but for one
+pub marked_split : (old new : List Bool) (place : ℕ)
+    → ((j : ℕ) → j ≢ place → get_or new j false ≡ get_or old j false) → (j : ℕ) → IsMarked new j
+    → (j ≡ place) ⊎ IsMarked old j
+marked_split old new place others j marked = elim (cases_eq j place) [
+  | inl here ↦ inl here
+  | inr apart ↦ inr (sym (others j apart) ∙ marked)
+]
+
+-- a way of two bonds that ends
+pub way_ends : (task : Task) (from to above : ℕ) (marks : List Bool) → from ≡ to → 2 ≤ above
+    → IsMarkedWay task from to above marks marks
+way_ends task from to above marks same long = record {
+  places = [];
+  way = same;
+  long = omega arith;
+  marked = λ j marked. inl marked;
+}
+
+-- one bond more above a way
+pub way_longer : (task : Task) (from next to above bond : ℕ) (old new last : List Bool) → next < from
+    → AreBound task from next → JoinsAt (pattern_ends (graph_of task.graph.now)) bond from next
+    → IsMarkedWay task next to (above + 1) old new
+    → ((j : ℕ) → j ≢ bond → get_or last j false ≡ get_or new j false)
+    → IsMarkedWay task from to above old last
+way_longer task from next to above bond old new last lower bound joined w others = record {
+  places = next ∷ w.places;
+  way = (lower, bound, w.way);
+  long = (let l = w.long in omega arith);
+  marked = λ j marked. elim (marked_split new last bond others j marked) [
+    | inl here ↦ inr (
+      0,
+      omega arith,
+      subst (λ k. JoinsAt (pattern_ends (graph_of task.graph.now)) k from next) (sym here) joined,
+    )
+    | inr before ↦ elim (w.marked j before) [
+      | inl earlier ↦ inl earlier
+      | inr along ↦ inr (suc along.0, (let l = along.1 in omega arith), along.2)
+    ]
+  ];
+}
+
+-- nothing is marked
+pub no_marks : (task : Task) (n : ℕ) → AreOnRings task (replicate n false)
+no_marks task n j marked = absurd (false≢true (sym (none j) ∙ marked))
+  where
+    none : (j : ℕ) → get_or (replicate n false) j false ≡ false
+    none j = elim (cases_lt j n) [
+      | inl low ↦ get_or-replicate n j false false low
+      | inr high ↦ get_or_past (replicate n false) j false (omega (arith, length-replicate n false))
+    ]

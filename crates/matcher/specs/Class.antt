@@ -5,7 +5,7 @@ use Rattle.chem_core.specs.declared.mol.Atom.{Atom}
 use Rattle.smarts_parse.specs.declared.pattern.AtomPrim.{AtomPrim}
 use Rattle.smarts_parse.specs.declared.pattern.AtomPrim.TheVariants as atoms
 use Rattle.smarts_parse.specs.Pattern.{Term, Prim, Not, And, Or}
-use Rattle.matcher.specs.declared.plan.Step.{Step}
+use Rattle.matcher.specs.declared.plan.EarlierBonds.{EarlierBonds}
 
 -- the class of an atom of that number: one for aromatic atoms and one for others, for each number modulo 32
 abbrev pub class_at : ℕ → Bool → ℕ
@@ -33,7 +33,7 @@ abbrev pub Covers : ℕ → Term AtomPrim → Type 0
 Covers classes e = (c : ℕ) → c < 64 → MayBe e c → bit_at classes c ≡ 1
 
 -- a step has no classes but these
-abbrev pub is_within : ℕ → Step → Bool
+abbrev pub is_within : ℕ → EarlierBonds → Bool
 is_within classes step = bit_or step.classes classes == classes
 
 -- the atom is of one of the classes

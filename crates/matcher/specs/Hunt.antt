@@ -5,15 +5,15 @@ use Rattle.chem_core.specs.Molecule.{ends_of}
 use Rattle.smarts_parse.specs.Pattern.{BondTerm, graph_of}
 use Rattle.smarts_parse.specs.Truth.{BondTrue}
 use Rattle.matcher.specs.declared.fit.Task.{Task}
-use Rattle.matcher.specs.declared.lay.Stop.{Stop}
+use Rattle.matcher.specs.declared.lay.Placement.{Placement}
 use Rattle.matcher.specs.Task.{Embeds}
 
 -- the stop at a place of the list; past its end one at place 0
-abbrev pub stop_at : List Stop → ℕ → Stop
+abbrev pub stop_at : List Placement → ℕ → Placement
 stop_at stops k = slice_index_or stops k (record { place = 0; bond = 0 })
 
 -- the place of the stop is one of the graph's, and not taken
-pub record IsFree (task : Task) (stops : List Stop) (k : ℕ) (taken : List ℕ) : Type 0 where
+pub record IsFree (task : Task) (stops : List Placement) (k : ℕ) (taken : List ℕ) : Type 0 where
   pub place : (stop_at stops k).place < length task.graph.now.atoms.items
   pub free : length task.mol.now.atoms ≤ slice_index taken (stop_at stops k).place
 

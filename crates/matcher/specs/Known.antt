@@ -7,7 +7,7 @@ use Rattle.smarts_parse.specs.declared.pattern.AtomPrim.{AtomPrim}
 use Rattle.smarts_parse.specs.Pattern.{GraphTerm, Term, graph_of}
 use Rattle.smarts_parse.specs.Truth.{AtomTrue}
 use Rattle.matcher.specs.declared.fit.Task.{Task}
-use Rattle.matcher.specs.declared.known.Known.{Known}
+use Rattle.matcher.specs.declared.known.TruthCache.{TruthCache}
 use Rattle.matcher.specs.declared.known.Truths.{Truths}
 use Rattle.matcher.specs.Partial.{Parts}
 
@@ -16,15 +16,15 @@ abbrev pub nothing : Truths
 nothing = record { held = 0; failed = 0 }
 
 -- the word of a place for the block of an atom
-abbrev pub word_at : Known → ℕ → ℕ → Truths
+abbrev pub word_at : TruthCache → ℕ → ℕ → Truths
 word_at known place atom = slice_index_or known.words.items (256 * (atom / 64) + place) nothing
 
 -- the expression of the place is known to be true at the atom
-abbrev pub IsHeld : Known → ℕ → ℕ → Type 0
+abbrev pub IsHeld : TruthCache → ℕ → ℕ → Type 0
 IsHeld known place atom = bit_at (word_at known place atom).held (atom % 64) ≡ 1
 
 -- it is known not to be
-abbrev pub IsFailed : Known → ℕ → ℕ → Type 0
+abbrev pub IsFailed : TruthCache → ℕ → ℕ → Type 0
 IsFailed known place atom = bit_at (word_at known place atom).failed (atom % 64) ≡ 1
 
 -- it is
@@ -32,7 +32,7 @@ abbrev pub IsTrueIn : Parts → GraphTerm → Molecule → ℕ → ℕ → Type 
 IsTrueIn parts g m place atom = (e : Term AtomPrim) → slice_get g.atoms place ≡ Some e → AtomTrue parts e m atom
 
 -- what is known is so
-pub record IsKnowledge (parts : Parts) (g : GraphTerm) (m : Molecule) (known : Known) : Type 0 where
+pub record IsKnowledge (parts : Parts) (g : GraphTerm) (m : Molecule) (known : TruthCache) : Type 0 where
   pub held : (p a : ℕ) → p < length g.atoms → a < length m.atoms → IsHeld known p a → IsTrueIn parts g m p a
   pub failed : (p a : ℕ) → p < length g.atoms → a < length m.atoms → IsFailed known p a → ¬ IsTrueIn parts g m p a
 
@@ -40,5 +40,5 @@ pub record IsKnowledge (parts : Parts) (g : GraphTerm) (m : Molecule) (known : K
 abbrev pub IsTrueAt : Task → ℕ → ℕ → Type 0
 IsTrueAt task = IsTrueIn (HoldsIn task.table.now) (graph_of task.graph.now) task.mol.now
 
-abbrev pub Knows : Task → Known → Type 0
+abbrev pub Knows : Task → TruthCache → Type 0
 Knows task = IsKnowledge (HoldsIn task.table.now) (graph_of task.graph.now) task.mol.now

@@ -2,6 +2,7 @@ pub mod Class
 pub mod Hunt
 pub mod Known
 pub mod Least
+pub mod Narrow
 pub mod Partial
 pub mod Plan
 pub mod Parts

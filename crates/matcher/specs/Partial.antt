@@ -1,5 +1,6 @@
 -- For private clauses alone: what is kept while the atoms of a graph are placed in turn.
 use Rattle.std.specs.Prelude.{◌≡◌, ◌≢◌, ℕ, ◌<◌, ◌≤◌, List, ◌++◌, length, max, slice_get, slice_index, Some, All, AllPairs}
+use Rattle.chem_core.specs.Graph.{JoinsAt}
 use Rattle.chem_core.specs.Molecule.{Molecule}
 use Rattle.smarts_parse.specs.declared.pattern.AtomPrim.{AtomPrim}
 use Rattle.smarts_parse.specs.Pattern.{Term, GraphTerm}
@@ -17,6 +18,7 @@ pub record IsSearchable (g : GraphTerm) : Type 0 where
   pub few : length g.atoms ≤ 256
   pub ends : All (λ e. (e.0 < length g.atoms) × (e.1 < length g.atoms)) (pattern_ends g)
   pub apart : All (λ e. e.0 ≢ e.1) (pattern_ends g)
+  pub once : (b c x y : ℕ) → JoinsAt (pattern_ends g) b x y → JoinsAt (pattern_ends g) c x y → b ≡ c
   pub names : All (NamesBelow 64) g.atoms
 
 -- an embedding of the graph's first atoms, and of the bonds between these

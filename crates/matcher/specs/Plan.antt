@@ -3,16 +3,16 @@ use Rattle.std.specs.Prelude.{◌≡◌, ◌⊎◌, ℕ, ◌+◌, ◌<◌, ◌�
 use Rattle.smarts_parse.specs.declared.pattern.AtomPrim.{AtomPrim}
 use Rattle.smarts_parse.specs.Pattern.{BondTerm, GraphTerm, Term}
 use Rattle.matcher.specs.Class.{Covers}
-use Rattle.matcher.specs.declared.plan.Step.{Step}
+use Rattle.matcher.specs.declared.plan.EarlierBonds.{EarlierBonds}
 use Rattle.matcher.specs.Partial.{IsSearchable}
 
 -- the step at a place; past the list's end an empty one
-abbrev pub step_at : List Step → ℕ → Step
+abbrev pub step_at : List EarlierBonds → ℕ → EarlierBonds
 step_at steps k = slice_index_or steps k (record { from = 0; to = 0; classes = 0 })
 
 -- Each of the first n bonds stands in the step of its higher end, and a step that is not empty begins with a bond whose
 -- higher end is its atom.
-pub record ArePlanned (bonds : List BondTerm) (n atoms : ℕ) (steps : List Step) : Type 0 where
+pub record ArePlanned (bonds : List BondTerm) (n atoms : ℕ) (steps : List EarlierBonds) : Type 0 where
   pub room : atoms ≤ length steps
   pub within : (k : ℕ) (d : BondTerm) → k < n → let bond = slice_index_or bonds k d
       in ((step_at steps (max bond.a bond.b)).from ≤ k) × (k < (step_at steps (max bond.a bond.b)).to)
@@ -22,22 +22,22 @@ pub record ArePlanned (bonds : List BondTerm) (n atoms : ℕ) (steps : List Step
       → let bond = slice_index_or bonds (step_at steps k).from d in max bond.a bond.b ≡ k
 
 -- each step has the classes of the atoms at which its atom may stand
-abbrev pub AreCovered : List (Term AtomPrim) → ℕ → List Step → Type 0
+abbrev pub AreCovered : List (Term AtomPrim) → ℕ → List EarlierBonds → Type 0
 AreCovered atoms n steps = (k : ℕ) → k < n → (d : Term AtomPrim)
     → Covers (step_at steps k).classes (slice_index_or atoms k d)
 
 -- a graph that can be searched for, and its steps
-pub record IsReady (g : GraphTerm) (steps : List Step) : Type 0 where
+pub record IsReady (g : GraphTerm) (steps : List EarlierBonds) : Type 0 where
   pub searchable : IsSearchable g
   pub planned : ArePlanned g.bonds (length g.bonds) (length g.atoms) steps
   pub covered : AreCovered g.atoms (length g.atoms) steps
 
 -- the steps of a graph stand among others, from a place on
-pub record StandsAt (g : GraphTerm) (steps : List Step) (begin : ℕ) : Type 0 where
+pub record StandsAt (g : GraphTerm) (steps : List EarlierBonds) (begin : ℕ) : Type 0 where
   pub fits : begin + length g.atoms ≤ length steps
   pub ready : IsReady g (take (length g.atoms) (drop begin steps))
 
 -- and those of each of the first n recursive parts, where it begins
-abbrev pub ArePartsPlanned : List GraphTerm → ℕ → List Step → List ℕ → Type 0
+abbrev pub ArePartsPlanned : List GraphTerm → ℕ → List EarlierBonds → List ℕ → Type 0
 ArePartsPlanned recs n steps begins = (k : ℕ) (g : GraphTerm) → k < n → slice_get recs k ≡ Some g
     → StandsAt g steps (slice_index begins k)

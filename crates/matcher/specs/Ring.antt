@@ -1,9 +1,15 @@
 -- For private clauses alone: ways through a graph, which each embedding takes to ways through the molecule.
-use Rattle.std.specs.Prelude.{◌≡◌, ℕ, ◌<◌, List, [], ◌∷◌, slice_index}
-use Rattle.chem_core.specs.Graph.{Joined}
+use Rattle.std.specs.Prelude.{◌≡◌, ◌⊎◌, ℕ, suc, ◌+◌, ◌<◌, ◌≤◌, Bool, true, false, List, [], ◌∷◌, length, slice_index, slice_index_or}
+use Rattle.chem_core.specs.Graph.{IsRingBond, Joined, JoinsAt}
 use Rattle.chem_core.specs.Molecule.{ends_of}
+use Rattle.smarts_parse.specs.Pattern.{graph_of}
+use Rattle.smarts_parse.specs.Sound.{pattern_ends}
 use Rattle.matcher.specs.declared.fit.Task.{Task}
 use Rattle.matcher.specs.Task.{Embeds}
+
+-- the bond at place j is marked
+abbrev pub IsMarked : List Bool → ℕ → Type 0
+IsMarked marks j = slice_index_or marks j false ≡ true
 
 -- each embedding takes the two places to atoms that a bond joins
 abbrev pub AreBound : Task → ℕ → ℕ → Type 0
@@ -14,3 +20,22 @@ AreBound task x y = (image : List ℕ) → Embeds task image
 abbrev pub IsWay : Task → ℕ → ℕ → List ℕ → Type 0
 IsWay task from to [] = from ≡ to
 IsWay task from to (next ∷ places) = (next < from) × AreBound task from next × IsWay task next to places
+
+-- each embedding takes the bond to a ring bond
+abbrev pub IsOnRing : Task → ℕ → Type 0
+IsOnRing task j = (image : List ℕ) → Embeds task image → (x y b : ℕ)
+    → JoinsAt (pattern_ends (graph_of task.graph.now)) j x y
+    → JoinsAt (ends_of task.mol.now) b (slice_index image x) (slice_index image y) → IsRingBond (ends_of task.mol.now) b
+
+-- and each bond that is marked
+abbrev pub AreOnRings : Task → List Bool → Type 0
+AreOnRings task marks = (j : ℕ) → IsMarked marks j → IsOnRing task j
+
+-- the bonds that were marked lie along a way down, which with those above it has two bonds at least
+pub record IsMarkedWay (task : Task) (from to above : ℕ) (old new : List Bool) : Type 0 where
+  pub places : List ℕ
+  pub way : IsWay task from to places
+  pub long : 2 ≤ above + length places
+  pub marked : (j : ℕ) → IsMarked new j → IsMarked old j ⊎ ((i : ℕ) × (i < length places)
+      × JoinsAt (pattern_ends (graph_of task.graph.now)) j (slice_index (from ∷ places) i)
+      (slice_index (from ∷ places) (suc i)))

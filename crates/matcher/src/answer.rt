@@ -15,10 +15,11 @@ use crate::choices::Choices;
 use crate::class::lacks_atom;
 use crate::fit::Task;
 use crate::hunt::{is_whole, may_continue};
-use crate::known::Known;
-use crate::lay::{Stop, is_rare, lay, start_at};
+use crate::known::TruthCache;
+use crate::lay::{Placement, is_rare, lay, start_at};
+use crate::narrow::Candidates;
 use crate::parts::note_parts;
-use crate::plan::{Step, is_loose};
+use crate::plan::{EarlierBonds, is_loose};
 use crate::prepare::Prepared;
 use crate::refusal::{has_bond, is_crowded};
 use crate::ring::lacks_ring;
@@ -112,7 +113,13 @@ pub fn only_part(pattern: &Pattern) -> Option<usize>
 }
 
 // Whether the graph has an embedding, where recursive parts hold as the table says.
-fn exists(graph: &Graph, steps: &[Step], order: &[Stop], mol: &Mol, memory: &mut Memory) -> bool
+fn exists(
+    graph: &Graph,
+    steps: &[EarlierBonds],
+    order: &[Placement],
+    mol: &Mol,
+    memory: &mut Memory,
+) -> bool
     requires { IsReady (graph_of graph.now) steps.now }
     ensures { IsTrue result ↔ CanComplete (HoldsIn memory.old.table) (graph_of graph.now) mol.now [] }
 {
@@ -124,7 +131,7 @@ fn exists(graph: &Graph, steps: &[Step], order: &[Stop], mol: &Mol, memory: &mut
         table: &memory.table,
         steps,
     };
-    if is_refused(&task, &mut memory.choices) {
+    if is_refused(&task, &mut memory.choices, &mut memory.candidates) {
         return false;
     }
     let known = &mut memory.choices.known;
@@ -138,9 +145,9 @@ fn exists(graph: &Graph, steps: &[Step], order: &[Stop], mol: &Mol, memory: &mut
 // left to the search for the least embedding.
 fn seek(
     task: &Task,
-    known: &mut Known,
-    order: &[Stop],
-    stops: &mut [Stop],
+    known: &mut TruthCache,
+    order: &[Placement],
+    stops: &mut [Placement],
     image: &mut [u16],
 ) -> Option<bool>
     requires ready { IsReadyTask task.now }
@@ -167,7 +174,12 @@ fn seek(
 
 // Whether the graph is of components, and one of several places, of at most 64 in all, has no embedding by itself.
 // Different components could still meet.
-fn lacks_component(task: &Task, known: &mut Known, stops: &mut [Stop], image: &mut [u16]) -> bool
+fn lacks_component(
+    task: &Task,
+    known: &mut TruthCache,
+    stops: &mut [Placement],
+    image: &mut [u16],
+) -> bool
     requires ready { IsReadyTask task.now }
     requires room { length task.now.graph.now.atoms.items ≤ length image.old }
     requires knows { Knows task.now known.old }
@@ -200,7 +212,7 @@ fn begins_component(task: &Task, place: usize) -> bool {
 }
 
 // Whether a search in that order finds that there is no embedding. If not, the image has what it found.
-fn finds_none(task: &Task, known: &mut Known, order: &[Stop], image: &mut [u16]) -> bool
+fn finds_none(task: &Task, known: &mut TruthCache, order: &[Placement], image: &mut [u16]) -> bool
     requires ready { IsReadyTask task.now }
     requires room { length task.now.graph.now.atoms.items ≤ length image.old }
     requires knows { Knows task.now known.old }
@@ -235,7 +247,7 @@ fn find(pattern: &Pattern, prepared: &Prepared, mol: &Mol, memory: &mut Memory) 
         table: &memory.table,
         steps,
     };
-    if is_refused(&task, &mut memory.choices) {
+    if is_refused(&task, &mut memory.choices, &mut memory.candidates) {
         return false;
     }
     extend(&task, &mut memory.image, &mut memory.choices, 0)
@@ -243,7 +255,7 @@ fn find(pattern: &Pattern, prepared: &Prepared, mol: &Mol, memory: &mut Memory) 
 
 // Whether it is found before any search that the graph has no embedding. Of a few places that bonds join only rare
 // bonds are asked for: the others are sooner searched for.
-fn is_refused(task: &Task, choices: &mut Choices) -> bool
+fn is_refused(task: &Task, choices: &mut Choices, candidates: &mut Candidates) -> bool
     requires ready { IsReadyTask task.now }
     requires knows { Knows task.now choices.old.known }
     ensures refused { IsTrue result → ¬ Completes task.now [] }
@@ -254,6 +266,9 @@ fn is_refused(task: &Task, choices: &mut Choices) -> bool
     }
     let is_long = task.graph.atoms.len() > FEW_PLACES;
     if is_long && is_crowded(task) {
+        return true;
+    }
+    if is_long && candidates.refuse(task) {
         return true;
     }
     for place in 0..task.graph.bonds.len() {

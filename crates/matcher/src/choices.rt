@@ -7,7 +7,7 @@ ghost use Rattle.matcher.specs.Known.{Knows};
 ghost use Rattle.matcher.specs.Task.{Completes, IsReadyTask};
 
 use crate::fit::Task;
-use crate::known::Known;
+use crate::known::TruthCache;
 use crate::planned::MOST_PLACES;
 use crate::refusal::{excludes, may_stand};
 use chem_core::MOST_ATOMS;
@@ -19,7 +19,7 @@ const NONE: u16 = u16::MAX;
 /// Memory for choices, and what is known of the graph's atoms.
 #[derive(Debug, Drop)]
 pub struct Choices {
-    pub known: Known,
+    pub known: TruthCache,
     assignment: Assignment,
     // how many searches found no place for an atom that no bond joins to an earlier one
     failures: u64,
@@ -29,7 +29,7 @@ impl Choices {
     /// Takes the memory.
     pub fn reserve(alloc: Global) -> Result<Choices, AllocError> {
         Ok(Choices {
-            known: Known::reserve(alloc)?,
+            known: TruthCache::reserve(alloc)?,
             assignment: Assignment::reserve(alloc)?,
             failures: 0,
         })
@@ -98,7 +98,7 @@ impl Assignment {
     }
 
     // Whether it is found that the graph cannot be completed after the atoms in front.
-    fn refuse(&mut self, task: &Task, known: &mut Known, front: &[u16]) -> bool
+    fn refuse(&mut self, task: &Task, known: &mut TruthCache, front: &[u16]) -> bool
         requires ready { IsReadyTask task.now }
         requires knows { Knows task.now known.old }
         ensures refused { IsTrue result → ¬ Completes task.now front.now }
@@ -121,7 +121,7 @@ impl Assignment {
     }
 
     // Whether the places and atoms that the last try reached show that the graph cannot be completed.
-    fn shows_why(&self, task: &Task, known: &mut Known, front: &[u16]) -> bool
+    fn shows_why(&self, task: &Task, known: &mut TruthCache, front: &[u16]) -> bool
         requires ready { IsReadyTask task.now }
         requires knows { Knows task.now known.old }
         ensures refused { IsTrue result → ¬ Completes task.now front.now }
@@ -142,7 +142,7 @@ impl Assignment {
     }
 
     // Gives the place an atom, if it can have one.
-    fn choose(&mut self, task: &Task, known: &mut Known, front: &[u16], place: usize) -> bool
+    fn choose(&mut self, task: &Task, known: &mut TruthCache, front: &[u16], place: usize) -> bool
         requires ready { IsReadyTask task.now }
         requires knows { Knows task.now known.old }
         requires place { place < length task.now.graph.now.atoms.items }
@@ -175,7 +175,7 @@ impl Assignment {
     fn step(
         &mut self,
         task: &Task,
-        known: &mut Known,
+        known: &mut TruthCache,
         front: &[u16],
         place: u16,
         queued: usize,

@@ -8,13 +8,13 @@ ghost use Rattle.smarts_parse.specs.Pattern.{graph_of, pattern_of, term_of};
 ghost use Rattle.matcher.specs.Class.{class_at, class_of, Covers, PrimMayBe};
 ghost use Rattle.matcher.specs.Plan.{IsReady};
 
-use crate::plan::Step;
+use crate::plan::EarlierBonds;
 use chem_core::{Atom, Mol};
 use smarts_parse::{AtomPrim, Expr, Pattern};
 
 /// Whether an atom of the pattern's top graph, of which the steps are given, may stand at no atom of the molecule, as
 /// far as classes show.
-pub fn lacks_atom(pattern: &Pattern, steps: &[Step], mol: &Mol) -> bool
+pub fn lacks_atom(pattern: &Pattern, steps: &[EarlierBonds], mol: &Mol) -> bool
     requires { IsReady (graph_of pattern.now.top) steps.now }
     ensures { IsTrue result → ¬ Matches (pattern_of pattern.now) mol.now }
 {

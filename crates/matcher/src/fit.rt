@@ -9,8 +9,8 @@ ghost use Rattle.matcher.specs.Known.{Knows};
 ghost use Rattle.matcher.specs.Task.{Completes, Embeds, FirstEmbeds, IsPlaced, IsReadyTask};
 
 use crate::class::may_be;
-use crate::known::Known;
-use crate::plan::Step;
+use crate::known::TruthCache;
+use crate::plan::EarlierBonds;
 use chem_core::Mol;
 use smarts_mean::{RecTable, bond_true};
 use smarts_parse::{BondPrim, Expr, Graph, PatBond};
@@ -21,12 +21,12 @@ pub struct Task<'a> {
     pub graph: &'a Graph,
     pub mol: &'a Mol,
     pub table: &'a RecTable,
-    pub steps: &'a [Step],
+    pub steps: &'a [EarlierBonds],
 }
 
 /// Whether the next atom may stand at that one after the atoms in front. Its first bond to an earlier atom is known to
 /// embed, and is not looked at again.
-pub fn fits(task: &Task, known: &mut Known, front: &[u16], atom: u16) -> bool
+pub fn fits(task: &Task, known: &mut TruthCache, front: &[u16], atom: u16) -> bool
     requires ready { IsReadyTask task.now }
     requires few { length front.now < length task.now.graph.now.atoms.items }
     requires in_range { atom < length task.now.mol.now.atoms }
@@ -48,7 +48,7 @@ pub fn fits(task: &Task, known: &mut Known, front: &[u16], atom: u16) -> bool
 }
 
 /// Whether the next atom may stand at that one after the atoms in front.
-pub fn begins(task: &Task, known: &mut Known, front: &[u16], atom: u16) -> bool
+pub fn begins(task: &Task, known: &mut TruthCache, front: &[u16], atom: u16) -> bool
     requires ready { IsReadyTask task.now }
     requires few { length front.now < length task.now.graph.now.atoms.items }
     requires partial { IsPlaced task.now front.now }

@@ -8,8 +8,8 @@ ghost use Rattle.matcher.specs.Known.{Knows};
 ghost use Rattle.matcher.specs.Task.{Completes, IsReadyTask};
 
 use crate::fit::{Task, are_joined_by, begins, is_of_class};
-use crate::known::Known;
-use crate::lay::{NO_BOND, Stop};
+use crate::known::TruthCache;
+use crate::lay::{NO_BOND, Placement};
 use crate::refusal::may_stand;
 use smarts_mean::bond_true;
 use smarts_parse::PatBond;
@@ -20,8 +20,8 @@ use smarts_parse::PatBond;
 #[cycle(hunt)]
 pub fn may_continue(
     task: &Task,
-    known: &mut Known,
-    stops: &[Stop],
+    known: &mut TruthCache,
+    stops: &[Placement],
     image: &mut [u16],
     placed: usize,
 ) -> bool
@@ -51,8 +51,8 @@ pub fn may_continue(
 #[cycle(hunt)]
 fn continues_anywhere(
     task: &Task,
-    known: &mut Known,
-    stops: &[Stop],
+    known: &mut TruthCache,
+    stops: &[Placement],
     image: &mut [u16],
     placed: usize,
 ) -> bool
@@ -81,8 +81,8 @@ fn continues_anywhere(
 #[cycle(hunt)]
 fn continues_near(
     task: &Task,
-    known: &mut Known,
-    stops: &[Stop],
+    known: &mut TruthCache,
+    stops: &[Placement],
     image: &mut [u16],
     placed: usize,
     from: u16,
@@ -120,8 +120,8 @@ fn continues_near(
 #[cycle(hunt)]
 fn continues_at(
     task: &Task,
-    known: &mut Known,
-    stops: &[Stop],
+    known: &mut TruthCache,
+    stops: &[Placement],
     image: &mut [u16],
     placed: usize,
     atom: u16,
@@ -152,7 +152,7 @@ fn continues_at(
 }
 
 // Whether the place of a stop may stand at that atom.
-fn may_take(task: &Task, known: &mut Known, image: &[u16], stop: Stop, atom: u16) -> bool
+fn may_take(task: &Task, known: &mut TruthCache, image: &[u16], stop: Placement, atom: u16) -> bool
     requires ready { IsReadyTask task.now }
     requires room { length task.now.graph.now.atoms.items ≤ length image.now }
     requires place { stop.place < length task.now.graph.now.atoms.items }
@@ -173,7 +173,7 @@ fn may_take(task: &Task, known: &mut Known, image: &[u16], stop: Stop, atom: u16
 }
 
 // Whether each bond of the place of a stop to one that is taken, but for the stop's own, may lie so.
-fn closes(task: &Task, image: &[u16], stop: Stop, atom: u16) -> bool
+fn closes(task: &Task, image: &[u16], stop: Placement, atom: u16) -> bool
     requires ready { IsReadyTask task.now }
     requires room { length task.now.graph.now.atoms.items ≤ length image.now }
     ensures { result ≡ false → (whole : List ℕ) → Continues task.now image.now whole
@@ -184,7 +184,7 @@ fn closes(task: &Task, image: &[u16], stop: Stop, atom: u16) -> bool
         if place == stop.bond {
             continue;
         }
-        let own = Stop {
+        let own = Placement {
             place: stop.place,
             bond: place,
         };
@@ -199,7 +199,7 @@ fn closes(task: &Task, image: &[u16], stop: Stop, atom: u16) -> bool
 }
 
 // The atom at which the other end of the stop's bond stands, if it is taken.
-fn atom_before(task: &Task, image: &[u16], stop: Stop) -> Option<u16>
+fn atom_before(task: &Task, image: &[u16], stop: Placement) -> Option<u16>
     requires { IsReadyTask task.now }
     ensures from { IfSome result (λ from. from < length task.now.mol.now.atoms) }
     ensures bond { IfSome result (λ from. stop.bond < length task.now.graph.now.bonds.items) }
@@ -221,8 +221,8 @@ fn atom_before(task: &Task, image: &[u16], stop: Stop) -> Option<u16>
     }
 }
 
-// The other end of a bond that ends at the place.
-fn other_end(bond: &PatBond, place: u16) -> Option<u16>
+/// The other end of a bond that ends at the place.
+pub fn other_end(bond: &PatBond, place: u16) -> Option<u16>
     ensures { IfSome result (λ other. ((bond.now.a ≡ place) × (bond.now.b ≡ other))
         ⊎ ((bond.now.a ≡ other) × (bond.now.b ≡ place))) }
 {
@@ -236,7 +236,7 @@ fn other_end(bond: &PatBond, place: u16) -> Option<u16>
 }
 
 /// Whether the atoms at the front of an image are an embedding.
-pub fn is_whole(task: &Task, known: &mut Known, image: &[u16]) -> bool
+pub fn is_whole(task: &Task, known: &mut TruthCache, image: &[u16]) -> bool
     requires ready { IsReadyTask task.now }
     requires room { length task.now.graph.now.atoms.items ≤ length image.now }
     requires knows { Knows task.now known.old }

@@ -53,15 +53,15 @@ impl Truths {
 
 /// What is known by places and atoms. It has room for every graph and molecule within the limits.
 #[derive(Debug, Drop)]
-pub struct Known {
+pub struct TruthCache {
     // first the words of all places for the first block of atoms, then those for the second
     words: Vec<Truths>,
 }
 
-impl Known {
+impl TruthCache {
     /// Takes the memory.
-    pub fn reserve(alloc: Global) -> Result<Known, AllocError> {
-        Ok(Known {
+    pub fn reserve(alloc: Global) -> Result<TruthCache, AllocError> {
+        Ok(TruthCache {
             words: vec![in alloc; NOTHING; MOST_BLOCKS * MOST_PLACES]?,
         })
     }
@@ -138,8 +138,8 @@ fn is_asked_always(graph: &Graph, expr: &Expr<AtomPrim>) -> bool {
     graph.atoms.len() == 1 || matches!(expr, Expr::Prim(_))
 }
 
-// Whether the word has the bit.
-fn has(word: u64, bit: u16) -> bool
+/// Whether the word has the bit.
+pub fn has(word: u64, bit: u16) -> bool
     requires { bit < 64 }
     ensures { IsTrue result ↔ bit_at word bit ≡ 1 }
 {

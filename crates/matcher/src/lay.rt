@@ -2,14 +2,14 @@
 //! which a bond joins it. Nothing is promised of it.
 ghost use Rattle.std.specs.Prelude.{◌≤◌, length, vec_len};
 
-use crate::plan::{Step, is_loose};
+use crate::plan::{EarlierBonds, is_loose};
 use crate::planned::MOST_PLACES;
 use smarts_parse::{BondPrim, Expr, Graph, PatBond};
 use std::alloc::{AllocError, Global};
 
 /// A place of a graph, and the bond of the graph, if there is one, that joins it to a place before.
 #[derive(Clone, Copy, Debug)]
-pub struct Stop {
+pub struct Placement {
     pub place: u16,
     pub bond: u16,
 }
@@ -18,7 +18,7 @@ pub struct Stop {
 pub const NO_BOND: u16 = u16::MAX;
 
 /// No stop.
-pub const NO_STOP: Stop = Stop {
+pub const NO_PLACEMENT: Placement = Placement {
     place: 0,
     bond: NO_BOND,
 };
@@ -27,7 +27,7 @@ pub const NO_STOP: Stop = Stop {
 /// the search for the least embedding serves as well.
 #[derive(Debug, Drop)]
 pub struct Order {
-    stops: Vec<Stop>,
+    stops: Vec<Placement>,
     laid: usize,
     ghost room: { laid ≤ vec_len stops },
 }
@@ -36,18 +36,18 @@ impl Order {
     /// Takes the memory.
     pub fn reserve(alloc: Global) -> Result<Order, AllocError> {
         Ok(Order {
-            stops: vec![in alloc; NO_STOP; MOST_PLACES]?,
+            stops: vec![in alloc; NO_PLACEMENT; MOST_PLACES]?,
             laid: 0,
         })
     }
 
     /// Lays the order for a graph.
-    pub fn lay(&mut self, graph: &Graph, steps: &[Step]) {
+    pub fn lay(&mut self, graph: &Graph, steps: &[EarlierBonds]) {
         self.laid = lay_rare(graph, steps, &mut self.stops);
     }
 
     /// The stops of the order.
-    pub fn stops(&self) -> &[Stop] {
+    pub fn stops(&self) -> &[Placement] {
         &self.stops[..self.laid]
     }
 }
@@ -58,8 +58,8 @@ const CARBON: u64 = 0x3000;
 const COMMON: u64 = 0x3c000;
 
 /// A search that begins at the place.
-pub fn start_at(place: u16) -> Stop {
-    Stop {
+pub fn start_at(place: u16) -> Placement {
+    Placement {
         place,
         bond: NO_BOND,
     }
@@ -67,7 +67,7 @@ pub fn start_at(place: u16) -> Stop {
 
 // Lays an order from a place where few atoms stand. How many places it has: none where there is no such place, or where
 // it is the first, or of a graph of one place, of more than 64, or of some that no bond joins.
-fn lay_rare(graph: &Graph, steps: &[Step], stops: &mut [Stop]) -> usize
+fn lay_rare(graph: &Graph, steps: &[EarlierBonds], stops: &mut [Placement]) -> usize
     ensures { result ≤ length stops.old }
 {
     let places = graph.atoms.len();
@@ -82,13 +82,13 @@ fn lay_rare(graph: &Graph, steps: &[Step], stops: &mut [Stop]) -> usize
 
 // Where a search begins: at a place where few atoms stand, or else at the first end of a bond that few bonds are,
 // which then comes next.
-fn rare_start(bonds: &[PatBond], steps: &[Step]) -> Option<Stop> {
+fn rare_start(bonds: &[PatBond], steps: &[EarlierBonds]) -> Option<Placement> {
     if let Some(place) = rare_place(steps) {
         return Some(start_at(place));
     }
     for (place, bond) in bonds.iter().enumerate() {
         if is_written(bond) {
-            return Some(Stop {
+            return Some(Placement {
                 place: bond.a,
                 bond: u16::try_from(place).ok()?,
             });
@@ -98,7 +98,7 @@ fn rare_start(bonds: &[PatBond], steps: &[Step]) -> Option<Stop> {
 }
 
 // A place where few atoms stand: no carbon, and if there is such a one, none of nitrogen and oxygen.
-fn rare_place(steps: &[Step]) -> Option<u16> {
+fn rare_place(steps: &[EarlierBonds]) -> Option<u16> {
     let mut found = None;
     for (place, step) in steps.iter().enumerate() {
         if step.classes & (CARBON | COMMON) == 0 {
@@ -127,48 +127,76 @@ fn is_written(bond: &PatBond) -> bool {
     }
 }
 
-/// Lays the places of a graph of at most 64 in an order from the start, by its bond first if it has one. How many they
-/// are.
-pub fn lay(bonds: &[PatBond], start: Stop, stops: &mut [Stop]) -> usize
+// How many placements are laid, and the places of these: a bit for each.
+#[derive(Clone, Copy)]
+struct Laid {
+    count: usize,
+    seen: u64,
+}
+
+/// Lays the places of a graph of at most 64 in an order from the start, by its bond first if it has one. Returns how
+/// many they are.
+pub fn lay(bonds: &[PatBond], start: Placement, stops: &mut [Placement]) -> usize
     ensures { result ≤ length stops.old }
 {
-    let mut count = put(stops, 0, start_at(start.place));
-    let mut seen = bit(start.place);
-    let mut after = 0;
-    if let Some(bond) = bonds.get(usize::from(start.bond)) {
-        if let Some(next) = next_place(bond, seen) {
-            seen |= bit(next);
-            let stop = Stop {
-                place: next,
-                bond: start.bond,
-            };
-            count = put(stops, count, stop);
-            after = usize::from(start.bond);
+    let first = Laid {
+        count: put(stops, 0, start_at(start.place)),
+        seen: bit(start.place),
+    };
+    let bond = usize::from(start.bond);
+    let from = if bond < bonds.len() { bond } else { 0 };
+    let mut laid = lay_forth(bonds, from, stops, first);
+    for _ in 0..32 {
+        let back = lay_back(bonds, stops, laid);
+        let forth = lay_forth(bonds, 0, stops, back);
+        if forth.count == laid.count {
+            return forth.count;
         }
+        laid = forth;
     }
-    for round in 0..64 {
-        let before = count;
-        let skipped = if round == 0 { after } else { 0 };
-        for step in skipped..bonds.len() {
-            let place = if round % 2 == 0 {
-                step
-            } else {
-                bonds.len() - 1 - step
-            };
-            if let Some(next) = next_place(&bonds[place], seen) {
-                seen |= bit(next);
-                let stop = Stop {
-                    place: next,
-                    bond: u16::try_from(place).unwrap_or(NO_BOND),
-                };
-                count = put(stops, count, stop);
-            }
-        }
-        if count == before && round > 0 {
-            return count;
-        }
+    laid.count
+}
+
+// Lays the places to which bonds lead, from a bond on.
+fn lay_forth(bonds: &[PatBond], from: usize, stops: &mut [Placement], laid: Laid) -> Laid
+    requires { laid.count ≤ length stops.old }
+    ensures { result.count ≤ length stops.old }
+{
+    let mut laid = laid;
+    for place in from..bonds.len() {
+        laid = lay_next(&bonds[place], place, stops, laid);
     }
-    count
+    laid
+}
+
+// The same from the last bond down.
+fn lay_back(bonds: &[PatBond], stops: &mut [Placement], laid: Laid) -> Laid
+    requires { laid.count ≤ length stops.old }
+    ensures { result.count ≤ length stops.old }
+{
+    let mut laid = laid;
+    for place in (0..bonds.len()).rev() {
+        laid = lay_next(&bonds[place], place, stops, laid);
+    }
+    laid
+}
+
+// Lays the place to which the bond leads, if it leads to one that is not laid.
+fn lay_next(bond: &PatBond, place: usize, stops: &mut [Placement], laid: Laid) -> Laid
+    requires { laid.count ≤ length stops.old }
+    ensures { result.count ≤ length stops.old }
+{
+    let Some(next) = next_place(bond, laid.seen) else {
+        return laid;
+    };
+    let stop = Placement {
+        place: next,
+        bond: u16::try_from(place).unwrap_or(NO_BOND),
+    };
+    Laid {
+        count: put(stops, laid.count, stop),
+        seen: laid.seen | bit(next),
+    }
 }
 
 // The end of a bond that is not seen, where the other is.
@@ -189,7 +217,7 @@ fn bit(place: u16) -> u64 {
 }
 
 // Puts a stop at the end, if there is room. The new end.
-fn put(stops: &mut [Stop], count: usize, stop: Stop) -> usize
+fn put(stops: &mut [Placement], count: usize, stop: Placement) -> usize
     requires { count ≤ length stops.old }
     ensures { result ≤ length stops.old }
 {

@@ -17,6 +17,7 @@ mod fit;
 mod hunt;
 mod known;
 mod lay;
+mod narrow;
 mod parts;
 mod plan;
 mod planned;

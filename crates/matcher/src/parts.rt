@@ -13,7 +13,7 @@ ghost use Rattle.matcher.specs.Prepared.{IsPrepared};
 
 use crate::class::may_be;
 use crate::fit::{Task, is_of_class};
-use crate::plan::Step;
+use crate::plan::EarlierBonds;
 use crate::prepare::Prepared;
 use crate::scratch::Memory;
 use crate::search::extend_at;
@@ -65,7 +65,13 @@ fn note_part(pattern: &Pattern, prepared: &Prepared, mol: &Mol, memory: &mut Mem
 }
 
 // Whether some embedding of the graph has that atom as its first.
-fn begins_at(graph: &Graph, steps: &[Step], mol: &Mol, memory: &mut Memory, atom: u16) -> bool
+fn begins_at(
+    graph: &Graph,
+    steps: &[EarlierBonds],
+    mol: &Mol,
+    memory: &mut Memory,
+    atom: u16,
+) -> bool
     requires ready { IsReady (graph_of graph.now) steps.now }
     requires some { 0 < length graph.now.atoms.items }
     requires in_range { atom < length mol.now.atoms }

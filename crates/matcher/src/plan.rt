@@ -11,7 +11,7 @@ use smarts_parse::{Graph, PatBond};
 /// Where an atom's bonds to earlier atoms stand among the bonds of a graph: none before `from`, none from `to` on.
 /// Bonds of other atoms may stand between them. It is empty where the atom has none.
 #[derive(Clone, Copy, Debug)]
-pub struct Step {
+pub struct EarlierBonds {
     pub from: usize,
     pub to: usize,
     /// The classes of the atoms at which the atom may stand.
@@ -19,22 +19,22 @@ pub struct Step {
 }
 
 /// The step of an atom that has no bond to an earlier one.
-pub const NO_STEP: Step = Step {
+pub const NONE_EARLIER: EarlierBonds = EarlierBonds {
     from: 0,
     to: 0,
     classes: 0,
 };
 
-impl Step {
+impl EarlierBonds {
     /// The step with one more bond of its atom, at a place after those before.
-    fn with(self, place: usize) -> Step
+    fn with(self, place: usize) -> EarlierBonds
         requires { place < usize.MAX }
         ensures fresh { self.to ≡ 0 → result.from ≡ place }
         ensures again { self.to ≢ 0 → result.from ≡ self.from }
         ensures to { result.to ≡ place + 1 }
         ensures classes { result.classes ≡ self.classes }
     {
-        Step {
+        EarlierBonds {
             from: if self.to == 0 { place } else { self.from },
             to: place + 1,
             classes: self.classes,
@@ -55,15 +55,15 @@ impl Step {
 }
 
 /// Finds the step of each atom in one pass over the bonds.
-pub fn plan(graph: &Graph, steps: &mut [Step])
+pub fn plan(graph: &Graph, steps: &mut [EarlierBonds])
     requires searchable { IsSearchable (graph_of graph.now) }
     requires room { length graph.now.atoms.items ≤ length steps.old }
     ensures { IsReady (graph_of graph.now) steps.new }
 {
     for atom in 0..graph.atoms.len() {
-        steps[atom] = Step {
+        steps[atom] = EarlierBonds {
             classes: classes_of(&graph.atoms[atom]),
-            ..NO_STEP
+            ..NONE_EARLIER
         };
     }
     for (place, bond) in graph.bonds.iter().enumerate() {
@@ -73,7 +73,7 @@ pub fn plan(graph: &Graph, steps: &mut [Step])
 }
 
 /// Whether an atom other than the first has no bond to an earlier one.
-pub fn is_loose(steps: &[Step]) -> bool {
+pub fn is_loose(steps: &[EarlierBonds]) -> bool {
     for step in steps.iter().skip(1) {
         if step.from >= step.to {
             return true;

@@ -5,7 +5,7 @@ ghost use Rattle.smarts_parse.specs.Sound.{IsSoundPattern};
 ghost use Rattle.matcher.specs.Partial.{IsSearchable};
 ghost use Rattle.matcher.specs.Plan.{ArePartsPlanned, StandsAt};
 
-use crate::plan::{NO_STEP, Step, plan};
+use crate::plan::{EarlierBonds, NONE_EARLIER, plan};
 use smarts_mean::MOST_PARTS;
 use smarts_parse::{Graph, Pattern};
 use std::alloc::{AllocError, Global};
@@ -17,7 +17,7 @@ pub const MOST_PLACES: usize = 256;
 #[derive(Debug, Drop)]
 pub struct Plans {
     // those of the top graph, and behind them those of each recursive part
-    steps: Vec<Step>,
+    steps: Vec<EarlierBonds>,
     // where those of each part begin
     begins: Vec<usize>,
     ghost steps_room: { vec_len steps ≡ 256 },
@@ -33,7 +33,7 @@ impl Plans {
     /// Takes the memory.
     pub fn reserve(alloc: Global) -> Result<Plans, AllocError> {
         Ok(Plans {
-            steps: vec![in alloc; NO_STEP; MOST_PLACES]?,
+            steps: vec![in alloc; NONE_EARLIER; MOST_PLACES]?,
             begins: vec![in alloc; 0; MOST_PARTS]?,
         })
     }
@@ -47,7 +47,7 @@ impl Plans {
     }
 
     /// The steps of the top graph.
-    pub fn top(&self, pattern: &Pattern) -> &[Step]
+    pub fn top(&self, pattern: &Pattern) -> &[EarlierBonds]
         requires { IsPlanned (pattern_of pattern.now) self.now }
         ensures { IsReady (graph_of pattern.now.top) result.now }
     {
@@ -55,7 +55,7 @@ impl Plans {
     }
 
     /// The steps of a recursive part.
-    pub fn part(&self, pattern: &Pattern, part: usize) -> &[Step]
+    pub fn part(&self, pattern: &Pattern, part: usize) -> &[EarlierBonds]
         requires planned { IsPlanned (pattern_of pattern.now) self.now }
         requires part { part < length pattern.now.recs.items }
         ensures { (g : GraphTerm) → slice_get (pattern_of pattern.now).recs part ≡ Some g
@@ -66,7 +66,7 @@ impl Plans {
     }
 
     // The steps of a graph, which stand from a place on.
-    fn steps_at(&self, graph: &Graph, begin: usize) -> &[Step]
+    fn steps_at(&self, graph: &Graph, begin: usize) -> &[EarlierBonds]
         requires { StandsAt (graph_of graph.now) self.now.steps.items begin }
         ensures { IsReady (graph_of graph.now) result.now }
     {
@@ -75,7 +75,7 @@ impl Plans {
 }
 
 // Finds the steps of the top graph and of each part in turn, and where those of each part begin.
-fn plan_all(pattern: &Pattern, steps: &mut [Step], begins: &mut [usize])
+fn plan_all(pattern: &Pattern, steps: &mut [EarlierBonds], begins: &mut [usize])
     requires sound { IsSoundPattern (pattern_of pattern.now) }
     requires room { length steps.old ≡ 256 }
     requires places { length begins.old ≡ 64 }
@@ -91,7 +91,7 @@ fn plan_all(pattern: &Pattern, steps: &mut [Step], begins: &mut [usize])
 }
 
 // Finds the steps of a graph, from a place on. Where they end.
-fn plan_at(graph: &Graph, steps: &mut [Step], begin: usize) -> usize
+fn plan_at(graph: &Graph, steps: &mut [EarlierBonds], begin: usize) -> usize
     requires searchable { IsSearchable (graph_of graph.now) }
     requires room { begin + length graph.now.atoms.items ≤ length steps.old }
     ensures end { result ≡ begin + length graph.now.atoms.items }

@@ -10,8 +10,8 @@ ghost use Rattle.matcher.specs.Task.{Completes, Embeds, IsReadyTask};
 
 use crate::class::may_be;
 use crate::fit::{Task, is_new};
-use crate::known::Known;
-use crate::plan::Step;
+use crate::known::TruthCache;
+use crate::plan::EarlierBonds;
 use chem_core::Atom;
 use smarts_mean::bond_true;
 use smarts_parse::PatBond;
@@ -20,7 +20,7 @@ use smarts_parse::PatBond;
 /// atoms in front are taken, at these alone. Then the graph cannot be completed.
 pub fn excludes(
     task: &Task,
-    known: &mut Known,
+    known: &mut TruthCache,
     front: &[u16],
     places: &[bool],
     atoms: &[bool],
@@ -62,7 +62,7 @@ pub fn is_crowded(task: &Task) -> bool
 }
 
 // How many of the steps have no classes but these.
-fn places_within(steps: &[Step], classes: u64) -> usize
+fn places_within(steps: &[EarlierBonds], classes: u64) -> usize
     ensures { result ≡ count_by (is_within classes) steps.now }
 {
     let mut count = 0;
@@ -95,7 +95,13 @@ fn marked(marks: &[bool]) -> usize
 }
 
 // Whether the place, which is not in front, can stand only at marked atoms or where those in front stand.
-fn stays_within(task: &Task, known: &mut Known, front: &[u16], atoms: &[bool], place: usize) -> bool
+fn stays_within(
+    task: &Task,
+    known: &mut TruthCache,
+    front: &[u16],
+    atoms: &[bool],
+    place: usize,
+) -> bool
     requires ready { IsReadyTask task.now }
     requires place { place < length task.now.graph.now.atoms.items }
     requires atoms { length atoms.now ≡ length task.now.mol.now.atoms }
@@ -120,7 +126,7 @@ fn stays_within(task: &Task, known: &mut Known, front: &[u16], atoms: &[bool], p
 }
 
 /// Whether a bond of the graph may lie at some bond with both its ends. If not, the graph has no embedding.
-pub fn has_bond(task: &Task, known: &mut Known, place: usize) -> bool
+pub fn has_bond(task: &Task, known: &mut TruthCache, place: usize) -> bool
     requires ready { IsReadyTask task.now }
     requires place { place < length task.now.graph.now.bonds.items }
     requires knows { Knows task.now known.old }
@@ -137,7 +143,7 @@ pub fn has_bond(task: &Task, known: &mut Known, place: usize) -> bool
 }
 
 // Whether a bond of the graph may lie at a bond with both its ends.
-fn may_lie(task: &Task, known: &mut Known, bond: &PatBond, other: u16) -> bool
+fn may_lie(task: &Task, known: &mut TruthCache, bond: &PatBond, other: u16) -> bool
     requires ready { IsReadyTask task.now }
     requires ends { max bond.now.a bond.now.b < length task.now.graph.now.atoms.items }
     requires other { other < length task.now.mol.now.bonds }
@@ -158,7 +164,7 @@ fn may_lie(task: &Task, known: &mut Known, bond: &PatBond, other: u16) -> bool
 }
 
 // Whether the ends of a bond of the graph may stand at two atoms.
-fn may_join(task: &Task, known: &mut Known, bond: &PatBond, one: u16, two: u16) -> bool
+fn may_join(task: &Task, known: &mut TruthCache, bond: &PatBond, one: u16, two: u16) -> bool
     requires ready { IsReadyTask task.now }
     requires ends { max bond.now.a bond.now.b < length task.now.graph.now.atoms.items }
     requires one { one < length task.now.mol.now.atoms }
@@ -176,7 +182,13 @@ fn may_join(task: &Task, known: &mut Known, bond: &PatBond, one: u16, two: u16) 
 
 /// Whether a place that is not in front may stand at an atom, where the atoms in front are taken, as far as is seen
 /// from the atom alone.
-pub fn may_stand(task: &Task, known: &mut Known, front: &[u16], place: usize, atom: u16) -> bool
+pub fn may_stand(
+    task: &Task,
+    known: &mut TruthCache,
+    front: &[u16],
+    place: usize,
+    atom: u16,
+) -> bool
     requires ready { IsReadyTask task.now }
     requires place { place < length task.now.graph.now.atoms.items }
     requires atom { atom < length task.now.mol.now.atoms }

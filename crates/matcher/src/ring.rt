@@ -1,9 +1,12 @@
 //! Rings of a graph. An embedding takes each to a ring of the molecule, so its atoms stand where the smallest ring is
 //! no longer. A ring is found as a bond between two places and a way between them along first bonds.
-ghost use Rattle.std.specs.Prelude.{◌≡◌, ◌<◌, ◌≤◌, ◌+◌, [], ℕ, List, false, length, slice_index, Contains, IfSome, IsTrue};
-ghost use Rattle.chem_core.specs.Graph.{IsSimpleCycle};
+ghost use Rattle.std.specs.Prelude.{◌≡◌, ◌≢◌, ◌<◌, ◌≤◌, ◌+◌, [], ℕ, List, false, length, slice_index, slice_index_or, Contains, IfSome, IsTrue};
+ghost use Rattle.chem_core.specs.Graph.{IsSimpleCycle, JoinsAt};
 ghost use Rattle.chem_core.specs.Molecule.{ends_of};
-ghost use Rattle.matcher.specs.Ring.{AreBound, IsWay};
+ghost use Rattle.smarts_parse.specs.Pattern.{graph_of};
+ghost use Rattle.smarts_parse.specs.Sound.{pattern_ends};
+ghost use Rattle.matcher.specs.Plan.{step_at};
+ghost use Rattle.matcher.specs.Ring.{AreBound, AreOnRings, IsMarked, IsMarkedWay, IsWay};
 ghost use Rattle.matcher.specs.Task.{Completes, Embeds, IsReadyTask};
 
 use crate::class::may_be;
@@ -43,6 +46,66 @@ fn lacks_closed(task: &Task, place: usize) -> bool
     !has_ring_atom(task, low, links)
 }
 
+/// Marks bonds of the graph that lie on its rings, and no others.
+pub fn mark_rings(task: &Task, marks: &mut [bool])
+    requires { IsReadyTask task.now }
+    ensures { AreOnRings task.now marks.new }
+{
+    marks.fill(false);
+    for place in 0..task.graph.bonds.len() {
+        mark_closed(task, marks, place);
+    }
+}
+
+// Marks the bonds of the ring that a bond closes, if it closes one.
+fn mark_closed(task: &Task, marks: &mut [bool], place: usize)
+    requires ready { IsReadyTask task.now }
+    requires place { place < length task.now.graph.now.bonds.items }
+    requires rings { AreOnRings task.now marks.old }
+    ensures { AreOnRings task.now marks.new }
+{
+    let bond = &task.graph.bonds[place];
+    let high = usize::from(bond.a.max(bond.b));
+    let low = usize::from(bond.a.min(bond.b));
+    if task.steps[high].from == place {
+        return;
+    }
+    if mark_way(task, marks, high, low, 0) {
+        mark(marks, place);
+    }
+}
+
+// Marks the first bonds from one place down to a lower one, if they lead there and are two at least, with those above.
+fn mark_way(task: &Task, marks: &mut [bool], from: usize, to: usize, above: usize) -> bool
+    requires ready { IsReadyTask task.now }
+    requires from { from < length task.now.graph.now.atoms.items }
+    requires above { above + from ≤ 256 }
+    ensures kept { result ≡ false → marks.new ≡ marks.old }
+    ensures way { IsTrue result → IsMarkedWay task.now from to above marks.old marks.new }
+{
+    if from == to && above >= 2 {
+        return true;
+    }
+    let Some(next) = place_below(task, from) else {
+        return false;
+    };
+    if !mark_way(task, marks, next, to, above + 1) {
+        return false;
+    }
+    mark(marks, task.steps[from].from);
+    true
+}
+
+// Marks a bond.
+fn mark(marks: &mut [bool], place: usize)
+    ensures { (j : ℕ) → j ≢ place
+        → slice_index_or marks.new j false ≡ slice_index_or marks.old j false }
+{
+    if place < marks.len() {
+        marks[place] = true;
+    }
+}
+
 // How many bonds a way from one place to a lower one has, along first bonds.
 fn way_down(task: &Task, from: usize, to: usize) -> Option<usize>
     requires ready { IsReadyTask task.now }
@@ -65,6 +128,8 @@ fn place_below(task: &Task, place: usize) -> Option<usize>
     requires place { place < length task.now.graph.now.atoms.items }
     ensures lower { IfSome result (λ next. next < place) }
     ensures bound { IfSome result (λ next. AreBound task.now place next) }
+    ensures joined { IfSome result (λ next. JoinsAt (pattern_ends (graph_of task.now.graph.now))
+        (step_at task.now.steps.now place).from place next) }
 {
     let step = task.steps[place];
     if step.from >= step.to {

@@ -3,7 +3,8 @@ ghost use Rattle.std.specs.Prelude.{◌≤◌, vec_len};
 
 use crate::answer::matches;
 use crate::choices::Choices;
-use crate::lay::{NO_STOP, Stop};
+use crate::lay::{NO_PLACEMENT, Placement};
+use crate::narrow::Candidates;
 use crate::planned::MOST_PLACES;
 use crate::prepare::Prepared;
 use chem_core::Mol;
@@ -26,7 +27,8 @@ pub struct Memory {
     pub image: Vec<u16>,
     pub table: RecTable,
     pub choices: Choices,
-    pub stops: Vec<Stop>,
+    pub candidates: Candidates,
+    pub stops: Vec<Placement>,
     ghost image_room: { 256 ≤ vec_len image },
 }
 
@@ -72,7 +74,8 @@ impl Memory {
             image: vec![in alloc; 0; MOST_PLACES]?,
             table: RecTable::reserve(alloc)?,
             choices: Choices::reserve(alloc)?,
-            stops: vec![in alloc; NO_STOP; MOST_PLACES]?,
+            candidates: Candidates::reserve(alloc)?,
+            stops: vec![in alloc; NO_PLACEMENT; MOST_PLACES]?,
         })
     }
 }

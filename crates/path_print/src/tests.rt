@@ -1,4 +1,4 @@
-//! Worked examples: one atom. Longer ones stand where structures are read.
+//! Worked examples of one atom. Longer paths have no example here: `IsPrint` and `IsNeed` say what they set.
 use crate::{need, print};
 use chem_core::{Atom, Mol, Print};
 use smarts_parse::{AtomPrim, Expr, Graph, Pattern};

@@ -1,8 +1,6 @@
 use Rattle.std.proofs.Common.{◌≤◌, length}
 use Rattle.matcher.proofs.lay.lay.Given as goal
 
-abbrev pub invariant-loop-round : goal.invariant-loop-round
-invariant-loop-round l = l.count ≤ length l.stops
-
-abbrev pub invariant-loop-step : goal.invariant-loop-step
-invariant-loop-step l = l.count ≤ length l.stops
+-- there is room for those that are laid
+abbrev pub invariant-loop : goal.invariant-loop
+invariant-loop l = l.laid.count ≤ length l.stops

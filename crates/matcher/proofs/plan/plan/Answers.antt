@@ -2,7 +2,7 @@
 use Rattle.std.proofs.Common.{◌<◌, ◌≤◌, ◌∙◌, ap, arith, length, map, max, refl, sym, subst}
 use Rattle.std.proofs.lemmas.List.{get_or-map, length-set}
 use Rattle.smarts_parse.specs.Pattern.{graph_of, term_of}
-use Rattle.matcher.specs.declared.plan.Step.{Step}
+use Rattle.matcher.specs.declared.plan.EarlierBonds.{EarlierBonds}
 use Rattle.matcher.specs.Class.{Covers}
 use Rattle.matcher.proofs.Plans.{covered_more, covered_set, high_below, none_more, planned_next}
 use Rattle.matcher.proofs.plan.plan.Goals as goal
@@ -54,7 +54,7 @@ loop-atom-preserved c =
     let i = c.loop-atom.atom in
     let exprs = c.args.graph.now.atoms.items in
     let steps = c.loop-atom.steps in
-    let next : Step = record { from = 0; to = 0; classes = c.classes_of.result } in
+    let next : EarlierBonds = record { from = 0; to = 0; classes = c.classes_of.result } in
     let within : i < length exprs = omega (arith, c.loop-atom-test.true, c.len-atom-end.ensures) in
     let room = c.loop-atom.invariant.room in
     let lt : i < length steps = omega arith in

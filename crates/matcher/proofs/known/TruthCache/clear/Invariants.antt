@@ -1,6 +1,6 @@
 use Rattle.std.proofs.Common.{◌≡◌, ℕ, ◌+◌, ◌*◌, ◌<◌, get_or}
 use Rattle.matcher.specs.Known.{nothing}
-use Rattle.matcher.proofs.known.Known.clear.Given as goal
+use Rattle.matcher.proofs.known.TruthCache.clear.Given as goal
 
 -- the words of the places for the blocks so far are cleared
 abbrev pub invariant-loop-block : goal.invariant-loop-block

@@ -6,7 +6,7 @@ use Rattle.matcher.specs.Known.{IsTrueIn}
 use Rattle.matcher.proofs.Joins.{All-image}
 use Rattle.matcher.proofs.Knowledge.{knows_more, true_in}
 use Rattle.matcher.proofs.Places.{get_map}
-use Rattle.matcher.proofs.known.Known.holds.Goals as goal
+use Rattle.matcher.proofs.known.TruthCache.holds.Goals as goal
 
 pub atom_true-requires-clause-named : goal.atom_true-requires-clause-named
 atom_true-requires-clause-named c = All-image (NamesBelow 64) term_of c.args.task.now.graph.now.atoms.items

@@ -1,0 +1,329 @@
+-- Candidates of a place: what an embedding keeps of them.
+use Rattle.std.proofs.Common.{◌≡◌, ◌≢◌, ◌⊎◌, ℕ, ◌+◌, ◌*◌, ◌%◌, ◌^◌, ◌<◌, ◌≤◌, w64, Bool, List, [], ◌∷◌, length, map, get_or, set, slice_index, bit_and, bit_or, Some, slice_get, sym, ap, ◌∙◌, subst, arith, inl, inr, refl}
+use Rattle.std.specs.Int.{bit_at}
+use Rattle.std.specs.Prelude.{count_ones}
+use Rattle.std.proofs.lemmas.Bool.{cases_lt, cases_eq}
+use Rattle.std.proofs.lemmas.List.{get_or-map, get_or-set_other, get_or-set_same, length-map}
+use Rattle.std.proofs.lemmas.List.Elements.{All-cons}
+use Rattle.std.proofs.lemmas.List.Kept.{AllPairs-cons}
+use Rattle.std.proofs.lemmas.Nat.Bits.{bit_at-zero, bit_at_set_same}
+use Rattle.std.proofs.lemmas.Option.{get_or_from_slice_get, slice_get_within, slice_get-get_or}
+use Rattle.chem_core.specs.declared.mol.Bond.{Bond}
+use Rattle.chem_core.specs.Graph.{IsRingBond, JoinsAt, Joined}
+use Rattle.chem_core.specs.Molecule.{IsMolecule, Molecule, ends_of}
+use Rattle.smarts_mean.specs.Table.{HoldsIn}
+use Rattle.smarts_parse.specs.declared.pattern.BondPrim.TheVariants as bonds
+use Rattle.smarts_parse.specs.declared.pattern.PatBond.{PatBond}
+use Rattle.smarts_parse.specs.Embedding.{BondEmbeds}
+use Rattle.smarts_parse.specs.Pattern.{BondTerm, GraphTerm, Prim, bond_of, graph_of}
+use Rattle.smarts_parse.specs.Sound.{pattern_ends}
+use Rattle.matcher.specs.declared.fit.Task.{Task}
+use Rattle.matcher.specs.Narrow.{AreAround, AreCandidates, AreNear, AreOfClasses, AreRingNear, HasClasses, IsReach}
+use Rattle.matcher.specs.Partial.{IsSearchable}
+use Rattle.matcher.specs.Plan.{step_at}
+use Rattle.matcher.specs.Ring.{AreOnRings, IsMarked}
+use Rattle.matcher.specs.Task.{Completes, Embeds, IsReadyTask}
+use Rattle.matcher.specs.Wanted.{IsWithin}
+use Rattle.matcher.proofs.Classes.{and_both, no_element, or_one, or_two, stands_at}
+use Rattle.matcher.proofs.Joins.{joined_back, joins_in_range}
+use Rattle.matcher.proofs.Ones.{distinct_ones}
+use Rattle.matcher.proofs.Refusals.{ends_in_range, ends_read, no_bond}
+
+abbrev pub no_term : BondTerm
+no_term = record { a = 0; b = 0; expr = Prim bonds.Any }
+
+-- the ends of a bond of a graph, as they are read
+ends_at : (g : GraphTerm) (j x y : ℕ) → JoinsAt (pattern_ends g) j x y → (j < length g.bonds)
+    × (((x ≡ (get_or g.bonds j no_term).a) × (y ≡ (get_or g.bonds j no_term).b))
+    ⊎ ((x ≡ (get_or g.bonds j no_term).b) × (y ≡ (get_or g.bonds j no_term).a)))
+ends_at g j x y (inl e) =
+    let inside : j < length g.bonds = subst (λ n. j < n) (length-map g.bonds (λ (b : BondTerm). (b.a, b.b)))
+    (slice_get_within (pattern_ends g) j (x, y) e) in
+    let is : (x, y) ≡ ((get_or g.bonds j no_term).a, (get_or g.bonds j no_term).b) = sym
+    (get_or_from_slice_get (pattern_ends g) j (x, y) (0, 0) e)
+    ∙ get_or-map (λ (b : BondTerm). (b.a, b.b)) g.bonds j no_term (0, 0) inside in
+    (inside, inl (ap (λ (p : ℕ × ℕ). p.0) is, ap (λ (p : ℕ × ℕ). p.1) is))
+ends_at g j x y (inr e) =
+    let inside : j < length g.bonds = subst (λ n. j < n) (length-map g.bonds (λ (b : BondTerm). (b.a, b.b)))
+    (slice_get_within (pattern_ends g) j (y, x) e) in
+    let is : (y, x) ≡ ((get_or g.bonds j no_term).a, (get_or g.bonds j no_term).b) = sym
+    (get_or_from_slice_get (pattern_ends g) j (y, x) (0, 0) e)
+    ∙ get_or-map (λ (b : BondTerm). (b.a, b.b)) g.bonds j no_term (0, 0) inside in
+    (inside, inr (ap (λ (p : ℕ × ℕ). p.1) is, ap (λ (p : ℕ × ℕ). p.0) is))
+
+-- a bond that is read joins its ends
+pub joins_bond : (g : GraphTerm) (items : List PatBond) (place x y : ℕ) (b : PatBond) → g.bonds ≡ map bond_of items
+    → place < length items → b ≡ get_or items place b → ((x ≡ b.a) × (y ≡ b.b)) ⊎ ((x ≡ b.b) × (y ≡ b.a))
+    → JoinsAt (pattern_ends g) place x y
+joins_bond g items place x y b same l is either =
+    let inside : place < length g.bonds = subst (λ n. place < n) (sym (ap length same ∙ length-map items bond_of)) l in
+    let long : place < length (pattern_ends g) = subst (λ n. place < n)
+    (sym (length-map g.bonds (λ (z : BondTerm). (z.a, z.b)))) inside in
+    let read : get_or g.bonds place no_term ≡ bond_of b = ap (λ bs. get_or bs place no_term) same
+    ∙ get_or-map bond_of items place b no_term l ∙ ap bond_of (sym is) in
+    let pair : slice_get (pattern_ends g) place ≡ Some (b.a, b.b) = slice_get-get_or (pattern_ends g) place (0, 0) long
+    ∙ ap Some (get_or-map (λ (z : BondTerm). (z.a, z.b)) g.bonds place no_term (0, 0) inside
+    ∙ ap (λ (z : BondTerm). (z.a, z.b)) read) in
+    elim either [
+      | inl h ↦ inl (pair ∙ ap Some (ap (λ p. (p, b.b)) (sym h.0) ∙ ap (λ q. (x, q)) (sym h.1)))
+      | inr h ↦ inr (pair ∙ ap Some (ap (λ p. (p, b.b)) (sym h.1) ∙ ap (λ q. (y, q)) (sym h.0)))
+    ]
+
+-- and these are places
+pub end_below : (g : GraphTerm) (j x y : ℕ) → IsSearchable g → JoinsAt (pattern_ends g) j x y → y < length g.atoms
+end_below g j x y searchable joined =
+    let h = ends_at g j x y joined in
+    let below : ((get_or g.bonds j no_term).a < length g.atoms) × ((get_or g.bonds j no_term).b < length g.atoms) = subst
+    (λ (p : ℕ × ℕ). (p.0 < length g.atoms) × (p.1 < length g.atoms))
+    (get_or-map (λ (b : BondTerm). (b.a, b.b)) g.bonds j no_term (0, 0) h.0)
+    (searchable.ends j (0, 0) (subst (λ n. j < n) (sym (length-map g.bonds (λ (b : BondTerm). (b.a, b.b)))) h.0)) in
+    let one = below.0 in
+    let two = below.1 in
+    elim h.1 [ inl p ↦ (let e = p.1 in omega arith) | inr p ↦ (let e = p.1 in omega arith) ]
+
+-- an embedding takes the ends of a bond to the ends of one
+embedded : (task : Task) (image : List ℕ) (j x y : ℕ) → Embeds task image
+    → JoinsAt (pattern_ends (graph_of task.graph.now)) j x y
+    → Joined (ends_of task.mol.now) (slice_index image x) (slice_index image y)
+embedded task image j x y e joined =
+    let g : GraphTerm = graph_of task.graph.now in
+    let h = ends_at g j x y joined in
+    let there : BondEmbeds task.mol.now image (get_or g.bonds j no_term) = e.bonds j no_term h.0 in
+    elim h.1 [
+      | inl p ↦ (
+        there.0,
+        subst (λ a. JoinsAt (ends_of task.mol.now) there.0 (slice_index image a) (slice_index image y)) (sym p.0)
+            (subst (λ b. JoinsAt (ends_of task.mol.now) there.0 (slice_index image (get_or g.bonds j no_term).a)
+            (slice_index image b)) (sym p.1) there.1),
+      )
+      | inr p ↦ (
+        there.0,
+        subst (λ a. JoinsAt (ends_of task.mol.now) there.0 (slice_index image a) (slice_index image y)) (sym p.0)
+            (subst (λ b. JoinsAt (ends_of task.mol.now) there.0 (slice_index image (get_or g.bonds j no_term).b)
+            (slice_index image b)) (sym p.1)
+            (joined_back (ends_of task.mol.now) there.0 (slice_index image (get_or g.bonds j no_term).a)
+            (slice_index image (get_or g.bonds j no_term).b) there.1)),
+      )
+    ]
+
+-- all neighbours are near
+pub near_reach : (task : Task) (marks : List Bool) (near : List ℕ) → AreNear task.mol.now near → IsReach task marks near
+near_reach task marks near all image e j x y marked joined =
+    let there = embedded task image j x y e joined in
+    all there.0 (slice_index image x) (slice_index image y) there.1
+
+-- neighbours by ring bonds are near by bonds on rings
+pub ring_reach : (task : Task) (marks : List Bool) (near : List ℕ) → AreOnRings task marks
+    → AreRingNear task.mol.now near → IsReach task marks near
+ring_reach task marks near rings all image e j x y marked joined =
+    let there = embedded task image j x y e joined in
+    all there.0 (slice_index image x) (slice_index image y) there.1
+    (rings j marked image e x y there.0 joined there.1)
+
+-- no place yet
+pub around_none : (g : GraphTerm) (marks : List Bool) (words : List ℕ) (place : ℕ) → AreAround g marks words place 0 0 0
+around_none g marks words place = record {
+  places = [];
+  size = refl;
+  distinct = λ i j d l m. absurd (omega arith);
+  bonded = λ k d l. absurd (omega arith);
+  within = λ k d l. absurd (omega arith);
+}
+
+-- one bond more, which leads to no place
+pub around_kept : (g : GraphTerm) (marks : List Bool) (words : List ℕ) (place k atoms count : ℕ)
+    → AreAround g marks words place k atoms count → AreAround g marks words place (k + 1) atoms count
+around_kept g marks words place k atoms count h = record {
+  places = h.places;
+  size = h.size;
+  distinct = h.distinct;
+  bonded = λ i d l. let w = h.bonded i d l in (w.0, (let below = w.1 in omega arith), w.2, w.3);
+  within = h.within;
+}
+
+-- one bond more, which leads to a place
+pub around_more : (g : GraphTerm) (marks : List Bool) (words : List ℕ) (place k atoms count other : ℕ)
+    → IsSearchable g → AreAround g marks words place k atoms count → IsMarked marks k
+    → JoinsAt (pattern_ends g) k place other
+    → AreAround g marks words place (k + 1) (bit_or atoms (slice_index words other)) (count + 1)
+around_more g marks words place k atoms count other searchable h marked joined = record {
+  places = other ∷ h.places;
+  size = (let before = h.size in omega arith);
+  distinct = AllPairs-cons ◌≢◌ other h.places
+      (λ i d l same.
+      let w = h.bonded i d l in
+      let once : k ≡ w.0 = searchable.once k w.0 place (get_or h.places i d)
+      (subst (λ q. JoinsAt (pattern_ends g) k place q) same joined) w.3 in
+      let below = w.1 in
+      omega arith)
+      h.distinct;
+  bonded = All-cons (λ q. (j : ℕ) × (j < k + 1) × IsMarked marks j × JoinsAt (pattern_ends g) j place q) other h.places
+      (k, omega arith, marked, joined)
+      (λ i d l. let w = h.bonded i d l in (w.0, (let below = w.1 in omega arith), w.2, w.3));
+  within = All-cons (λ q. IsWithin (slice_index words q) (bit_or atoms (slice_index words other))) other h.places
+      (λ c one. or_two atoms (slice_index words other) c one)
+      (λ i d l c one. or_one atoms (slice_index words other) c (h.within i d l c one));
+}
+
+-- an embedding has different atoms at different places
+apart : (task : Task) (image : List ℕ) (p q : ℕ) → Embeds task image → p < length image → q < length image → p ≢ q
+    → slice_index image p ≡ slice_index image q → ⊥
+apart task image p q e lp lq differ same = elim (cases_lt p q) [
+  | inl before ↦ e.distinct p q 0 before lq same
+  | inr after ↦ elim (cases_lt q p) [
+    | inl before ↦ e.distinct q p 0 before lp (sym same)
+    | inr le ↦ absurd (differ (omega arith))
+  ]
+]
+
+-- an embedding has as many atoms near that of a place
+pub has_around : (task : Task) (marks : List Bool) (near words : List ℕ) (place k atoms count : ℕ) (image : List ℕ)
+    → IsReadyTask task → AreAround (graph_of task.graph.now) marks words place k atoms count
+    → IsReach task marks near → AreCandidates task words → Embeds task image
+    → count ≤ count_ones (bit_and (slice_index near (slice_index image place)) atoms)
+has_around task marks near words place k atoms count image ready h reach candidates e =
+    let g : GraphTerm = graph_of task.graph.now in
+    let at : ℕ → ℕ = λ q. slice_index image q in
+    let size : length (map at h.places) ≡ length h.places = length-map h.places at in
+    let word : ℕ = bit_and (slice_index near (slice_index image place)) atoms in
+    let whole = e.one_each in
+    let below : (i : ℕ) → i < length h.places → get_or h.places i 0 < length image = λ i l.
+    (let few = end_below g (h.bonded i 0 l).0 place (get_or h.places i 0) ready.searchable (h.bonded i 0 l).3 in
+    omega arith) in
+    let ones = distinct_ones word (map at h.places)
+    (λ i j d l m same.
+    let one = get_or-map at h.places i 0 d (omega arith) in
+    let two = get_or-map at h.places j 0 d (omega arith) in
+    apart task image (get_or h.places i 0) (get_or h.places j 0) e (below i (omega arith)) (below j (omega arith))
+    (h.distinct i j 0 l (omega arith)) (sym one ∙ same ∙ two))
+    (λ i d l.
+    let m : i < length h.places = omega arith in
+    let w = h.bonded i 0 m in
+    subst (λ a. bit_at word a ≡ 1) (sym (get_or-map at h.places i 0 d m))
+    (and_both (slice_index near (slice_index image place)) atoms (slice_index image (get_or h.places i 0))
+    (reach image e w.0 place (get_or h.places i 0) w.2 w.3)
+    (h.within i 0 m (slice_index image (get_or h.places i 0))
+    (candidates image e (get_or h.places i 0) (below i m))))) in
+    let is = h.size in
+    omega arith
+
+-- no embedding, where a place has no candidates
+pub none_left : (task : Task) (words : List ℕ) (place : ℕ) → AreCandidates task words
+    → place < length (graph_of task.graph.now).atoms → slice_index words place ≡ 0 → Completes task [] → ⊥
+none_left task words place candidates l none w =
+    let size = w.1.one_each in
+    let one = candidates w.0 w.1 place (omega arith) in
+    let zero : bit_at (slice_index words place) (slice_index w.0 place) ≡ 0 =
+    ap (λ n. bit_at n (slice_index w.0 place)) none ∙ bit_at-zero (slice_index w.0 place) in
+    omega arith
+
+-- at first the candidates of a place are the atoms of its classes
+pub class_candidates : (task : Task) (words : List ℕ) → IsReadyTask task
+    → AreOfClasses task (length (graph_of task.graph.now).atoms) words → AreCandidates task words
+class_candidates task words ready h image e p l =
+    let few : p < length (graph_of task.graph.now).atoms = omega (arith, e.one_each) in
+    h p few (slice_index image p) no_element (e.in_range p 0 l)
+    (stands_at (HoldsIn task.table.now) (graph_of task.graph.now) task.mol.now task.steps.now image p
+    (slice_index image p) ready few e refl)
+
+-- the ends of each bond are near each other
+pub near_all : (m : Molecule) (near : List ℕ) → IsMolecule m
+    → ((k : ℕ) → k < length m.bonds
+    → (bit_at (slice_index near (get_or m.bonds k no_bond).a) (get_or m.bonds k no_bond).b ≡ 1)
+    × (bit_at (slice_index near (get_or m.bonds k no_bond).b) (get_or m.bonds k no_bond).a ≡ 1))
+    → AreNear m near
+near_all m near valid h b x y joins =
+    let l = (joins_in_range m b x y valid joins).0 in
+    let both = h b l in
+    elim (ends_read m b x y no_bond l joins) [
+      | inl p ↦ subst (λ u. bit_at (slice_index near u) y ≡ 1) (sym p.0)
+          (subst (λ v. bit_at (slice_index near (get_or m.bonds b no_bond).a) v ≡ 1) (sym p.1) both.0)
+      | inr p ↦ subst (λ u. bit_at (slice_index near u) y ≡ 1) (sym p.0)
+          (subst (λ v. bit_at (slice_index near (get_or m.bonds b no_bond).b) v ≡ 1) (sym p.1) both.1)
+    ]
+
+-- the same of ring bonds
+pub ring_near_all : (m : Molecule) (near : List ℕ) → IsMolecule m
+    → ((k : ℕ) → k < length m.bonds → IsRingBond (ends_of m) k
+    → (bit_at (slice_index near (get_or m.bonds k no_bond).a) (get_or m.bonds k no_bond).b ≡ 1)
+    × (bit_at (slice_index near (get_or m.bonds k no_bond).b) (get_or m.bonds k no_bond).a ≡ 1))
+    → AreRingNear m near
+ring_near_all m near valid h b x y joins ring =
+    let l = (joins_in_range m b x y valid joins).0 in
+    let both = h b l ring in
+    elim (ends_read m b x y no_bond l joins) [
+      | inl p ↦ subst (λ u. bit_at (slice_index near u) y ≡ 1) (sym p.0)
+          (subst (λ v. bit_at (slice_index near (get_or m.bonds b no_bond).a) v ≡ 1) (sym p.1) both.0)
+      | inr p ↦ subst (λ u. bit_at (slice_index near u) y ≡ 1) (sym p.0)
+          (subst (λ v. bit_at (slice_index near (get_or m.bonds b no_bond).b) v ≡ 1) (sym p.1) both.1)
+    ]
+
+-- fewer candidates of one place
+pub narrowed : (task : Task) (marks : List Bool) (near words : List ℕ) (place n atoms count new : ℕ)
+    → IsReadyTask task → AreAround (graph_of task.graph.now) marks words place n atoms count
+    → IsReach task marks near → place < length words → AreCandidates task words
+    → ((a : ℕ) → a < length task.mol.now.atoms → bit_at (slice_index words place) a ≡ 1
+    → count ≤ count_ones (bit_and (slice_index near a) atoms) → bit_at new a ≡ 1)
+    → AreCandidates task (set words place new)
+narrowed task marks near words place n atoms count new ready h reach room candidates kept image e p l =
+    elim (cases_eq p place) [
+      | inl here ↦
+          let within : slice_index image place < length task.mol.now.atoms = e.in_range place 0 (omega arith) in
+          subst (λ q. bit_at (slice_index (set words place new) q) (slice_index image q) ≡ 1) (sym here)
+          (subst (λ w. bit_at w (slice_index image place) ≡ 1) (sym (get_or-set_same words place new 0 room))
+          (kept (slice_index image place) within (candidates image e place (omega arith))
+          (has_around task marks near words place n atoms count image ready h reach candidates e)))
+      | inr other ↦ subst (λ w. bit_at w (slice_index image p) ≡ 1)
+          (sym (get_or-set_other words place p new 0 other)) (candidates image e p l)
+    ]
+
+-- one neighbour more of an atom
+pub joined_here : (near : List ℕ) (atom at other : ℕ) → at ≡ atom → at < length near → other < 64
+    → bit_at (slice_index (set near at (bit_or (get_or near at 0) (1 * 2 ^ other % 2 ^ 64))) atom) other ≡ 1
+joined_here near atom at other same l few =
+    let new : ℕ = bit_or (get_or near at 0) (1 * 2 ^ other % 2 ^ 64) in
+    subst (λ a. bit_at (slice_index (set near at new) a) other ≡ 1) same
+    (subst (λ w. bit_at w other ≡ 1) (sym (get_or-set_same near at new 0 l))
+    (bit_at_set_same w64 (get_or near at 0) other few))
+
+pub joined_kept : (near : List ℕ) (at other : ℕ) → at < length near → other < 64 → (x y : ℕ)
+    → bit_at (slice_index near x) y ≡ 1
+    → bit_at (slice_index (set near at (bit_or (get_or near at 0) (1 * 2 ^ other % 2 ^ 64))) x) y ≡ 1
+joined_kept near at other l few x y h =
+    let new : ℕ = bit_or (get_or near at 0) (1 * 2 ^ other % 2 ^ 64) in
+    elim (cases_eq x at) [
+      | inl here ↦ subst (λ a. bit_at (slice_index (set near at new) a) y ≡ 1) (sym here)
+          (subst (λ w. bit_at w y ≡ 1) (sym (get_or-set_same near at new 0 l))
+          (or_one (get_or near at 0) (1 * 2 ^ other % 2 ^ 64) y
+          (subst (λ a. bit_at (slice_index near a) y ≡ 1) here h)))
+      | inr apart' ↦ subst (λ w. bit_at w y ≡ 1) (sym (get_or-set_other near at x new 0 apart')) h
+    ]
+
+-- one more place has the atoms of its classes
+pub classes_more : (task : Task) (place : ℕ) (words : List ℕ) (new : ℕ) → place < length words
+    → AreOfClasses task place words → HasClasses task.mol.now.atoms (step_at task.steps.now place).classes new
+    → AreOfClasses task (place + 1) (set words place new)
+classes_more task place words new room h here p l = elim (cases_eq p place) [
+  | inl same ↦ subst (λ q. HasClasses task.mol.now.atoms (step_at task.steps.now q).classes
+      (slice_index (set words place new) q)) (sym same)
+      (subst (HasClasses task.mol.now.atoms (step_at task.steps.now place).classes)
+      (sym (get_or-set_same words place new 0 room)) here)
+  | inr other ↦ subst (HasClasses task.mol.now.atoms (step_at task.steps.now p).classes)
+      (sym (get_or-set_other words place p new 0 other)) (h p (omega arith))
+]
+
+-- the other end of a bond of the graph
+pub other_joined : (task : Task) (index place other : ℕ) (b : PatBond) → index < length task.graph.now.bonds.items
+    → b ≡ get_or task.graph.now.bonds.items index b
+    → ((b.a ≡ place) × (b.b ≡ other)) ⊎ ((b.a ≡ other) × (b.b ≡ place))
+    → JoinsAt (pattern_ends (graph_of task.graph.now)) index place other
+other_joined task index place other b l is either =
+    joins_bond (graph_of task.graph.now) task.graph.now.bonds.items index place other b refl l is
+    (elim either [ inl h ↦ inl (sym h.0, sym h.1) | inr h ↦ inr (sym h.1, sym h.0) ])
+
+-- the ends of a bond that is read are atoms
+pub ends_among : (m : Molecule) (bs : List Bond) (i : ℕ) → bs ≡ m.bonds → IsMolecule m → i < length bs
+    → ((get_or bs i no_bond).a < length m.atoms) × ((get_or bs i no_bond).b < length m.atoms)
+ends_among m bs i same valid l = subst
+    (λ xs. ((get_or xs i no_bond).a < length m.atoms) × ((get_or xs i no_bond).b < length m.atoms)) (sym same)
+    (ends_in_range m i no_bond valid (subst (λ xs. i < length xs) same l))

@@ -1,0 +1,9 @@
+use Rattle.std.proofs.Common.{◌≡◌, ℕ, ◌<◌, ◌≤◌, bit_and, slice_index}
+use Rattle.std.specs.Int.{bit_at}
+use Rattle.std.specs.Prelude.{count_ones}
+use Rattle.matcher.proofs.narrow.with_neighbours.Given as goal
+
+-- those so far that have enough neighbours are kept
+abbrev pub invariant-loop-atom : goal.invariant-loop-atom
+invariant-loop-atom l = (a : ℕ) → a < l.atom → bit_at l.from a ≡ 1
+    → l.around.count ≤ count_ones (bit_and (slice_index l.near a) l.around.atoms) → bit_at l.kept a ≡ 1
