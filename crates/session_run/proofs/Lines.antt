@@ -166,7 +166,7 @@ pub text_same : (r : RecordTerm) (format : Format) (text : List ℕ) → r.forma
 text_same r format text e f h = subst (λ (x : List ℕ). IsText format x) f (subst (λ (x : Format). IsText x r.text) e h)
 
 pub text_is : (r : RecordTerm) → IsRecord r → IsText r.format r.text
-text_is r is = (r.mol, is.structure, is.molecule)
+text_is r is = (r.mol, is.structure)
 
 pub on_ok : {X E : Type 0} (r : Result X E) (P : Type 0) → P → OnOk r P
 on_ok (Ok x) P p = p
