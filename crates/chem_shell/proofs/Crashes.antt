@@ -55,10 +55,10 @@ up s t (y ∷ ys) x after run calm =
     let r = up y.after t ys x after run.2 calm.1 in
     record { run = (run.0, run.1, r.run); calm = (calm.0, r.calm) }
 
-at : {P : Step → Type 0} (before : List Step) (x : Step) (after : List Step) → AllByRecursion P (before ++ x ∷ after)
+at : (P : Step → Type 0) (before : List Step) (x : Step) (after : List Step) → AllByRecursion P (before ++ x ∷ after)
     → P x
-at [] x after all = all.0
-at (y ∷ ys) x after all = at ys x after all.1
+at P [] x after all = all.0
+at P (y ∷ ys) x after all = at P ys x after all.1
 
 -- an image of a moment of a step
 pub shows : RunsAdd → {D : Type 0} (model : DiskModel D) (d : D) (first last : State) (steps before after : List Step)
@@ -66,5 +66,5 @@ pub shows : RunsAdd → {D : Type 0} (model : DiskModel D) (d : D) (first last :
     → steps ≡ before ++ x ∷ after → model.images_between d x.begin.a x.end.a image → ShowsAt first before x image
 shows adds model d first last steps before after x image run calm timed is between =
     let u = up first last before x after (subst (λ l. IsRun first l last) is run) (subst IsCalm is calm) in
-    let o = (at before x after (subst (AllByRecursion (IsTimed model d)) is timed)).1 image between in
+    let o = (at (IsTimed model d) before x after (subst (AllByRecursion (IsTimed model d)) is timed)).1 image between in
     shows-at first before x image o.0 (adds first x.before before u.run u.calm) o.1 o.2

@@ -1,5 +1,5 @@
 -- A session over a store that was loaded: what the disk then has.
-use Rattle.std.proofs.Common.{◌≡◌, ◌≤◌, ◌∙◌, ℕ, List, [], refl, sym, ap, append-nil, arith, true}
+use Rattle.std.proofs.Common.{◌≡◌, ◌≤◌, ◌∙◌, ℕ, List, [], refl, subst, sym, ap, append-nil, arith, true}
 use Rattle.disk_edge.specs.Disk.{DiskModel, IfTold}
 use Rattle.journal_core.specs.Looks.{Narrows}
 use Rattle.session_run.specs.Cursors.{Calls}
@@ -38,9 +38,9 @@ module _ (adds : RunsAdd) {D : Type 0} (model : DiskModel D)
     (opened : IsOpened commits s) (opens : IfTold (model.content a) (OpensTo s.history))
     (read : Narrows model a old.journal.disk) where
   -- what calls leave of the disk
-  pub on_disk : (calls : Calls) → core.Calls (Stretches model) (λ _. true) old new s calls
-      → AreOnDisk model commits a new.journal.disk old.b calls
-  on_disk calls made = record {
+  on_disk : (calls : Calls) → (made : core.Calls (Stretches model) (λ _. true) old new s calls)
+      → (on : AreOnDisk model commits a new.journal.disk old.b calls) × (on.last ≡ made.after)
+  on_disk calls made = (record {
     first = s;
     steps = made.steps;
     last = made.after;
@@ -68,4 +68,12 @@ module _ (adds : RunsAdd) {D : Type 0} (model : DiskModel D)
     );
     ends = made.stands.ends.counts
         ∙ (λ i. record { a = model.faults new.journal.disk; b = model.faults (made.stands.other i) });
-  }
+  }, refl)
+
+  -- of a disk that is the store's
+  pub on_this_disk : (calls : Calls) (disk : D) → disk ≡ new.journal.disk
+      → (made : core.Calls (Stretches model) (λ _. true) old new s calls)
+      → (on : AreOnDisk model commits a disk old.b calls) × (on.last ≡ made.after)
+  on_this_disk calls disk is made =
+      subst (λ x. (on : AreOnDisk model commits a x old.b calls) × (on.last ≡ made.after)) (sym is)
+      (on_disk calls made)

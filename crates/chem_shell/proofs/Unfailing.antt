@@ -1,5 +1,5 @@
 -- A run over disks in memory on which no failure is set: no call of it is answered that a disk failed.
-use Rattle.std.proofs.Common.{◌≡◌, ◌&&◌, ap, arith, Bool, cond, inl, inr, List, [], ◌∷◌, length, None, Option, Some, subst, sym, true, ℕ}
+use Rattle.std.proofs.Common.{◌≡◌, ◌&&◌, ap, arith, Bool, cond, inl, inr, List, [], ◌∷◌, length, None, Option, refl, Some, subst, sym, true, ℕ}
 use Rattle.std.specs.List.{AllByRecursion}
 use Rattle.disk_edge.specs.Failures.{bound_of}
 use Rattle.disk_edge.specs.Medium.{Medium, model}
@@ -132,8 +132,8 @@ bounds store = (bound_of store.journal.disk.failures, bound_of store.b.failures)
 -- the calls of a session over a store that begins empty, without failures set
 pub of_calls : (commits : ℕ) (old new : StoreTerm Medium) (calls : Calls)
     → bound_of old.journal.disk.failures ≡ Some 0 → bound_of old.b.failures ≡ Some 0
-    → NotRaised (bounds old) (bounds new) → core.Calls InMemory (λ _. true) old new (empty commits) calls
-    → AreOfRun commits calls
+    → NotRaised (bounds old) (bounds new) → (made : core.Calls InMemory (λ _. true) old new (empty commits) calls)
+    → (run : AreOfRun commits calls) × (run.last ≡ made.after)
 of_calls commits old new calls none_a none_b kept made =
     let bound_a = not_above_none (bounds old).0 (bounds new).0 none_a kept.0 in
     let bound_b = not_above_none (bounds old).1 (bounds new).1 none_b kept.1 in
@@ -144,11 +144,11 @@ of_calls commits old new calls none_a none_b kept made =
     let b : made.after.faults.b ≡ 0 =
     (let is = ap (λ (f : Faults). f.b) made.stands.ends.counts in omega (arith, few_b, is)) in
     let none = unfailing made.steps (empty commits) made.after made.stands.run made.stands.calm a b in
-    record {
+    (record {
       steps = made.steps;
       last = made.after;
       run = made.stands.run;
       calm = made.stands.calm;
       all = made.own;
       sure = subst (AllByRecursion (λ call. IsSure call.1)) made.own none.calls;
-    }
+    }, refl)

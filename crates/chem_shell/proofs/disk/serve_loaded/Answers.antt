@@ -1,6 +1,8 @@
 use Rattle.std.proofs.Common.{◌∙◌, rules, subst, sym}
+use Rattle.session_run.specs.Truths.{IsInRun}
+use Rattle.store_machine.specs.declared.machine.State.{State}
 use Rattle.chem_shell.specs.OnDisk.{RunsOn}
-use Rattle.chem_shell.proofs.Loaded.{in_run, on_disk}
+use Rattle.chem_shell.proofs.Loaded.{in_run, on_this_disk}
 use Rattle.chem_shell.proofs.Transcripts.{script_of, served_true}
 use Rattle.chem_shell.proofs.disk.serve_loaded.Goals as goal
 
@@ -9,18 +11,19 @@ returns-clause-runs g c = λ a s stands opened opens read.
     let d = g.D.Disk.model in
     let serves = c.session-ended.ensures.serves in
     let made = serves.1.made s stands in
-    subst (λ x. RunsOn d g.S.Source.left g.K.Sink.written c.args.plan.now a x c.args.store.b _ _)
-    (sym c.into_disks.ensures.a)
-    (record {
+    let on = on_this_disk c.replies_tell.ensures.commits d c.a_standing_store_opens.ensures c.args.plan.now.commits a s
+    c.args.store c.session-ended.new.service stands opened opens read serves.0 c.into_disks.result.a
+    c.into_disks.ensures.a made in
+    record {
       calls = serves.0;
-      on = on_disk c.replies_tell.ensures.commits d c.a_standing_store_opens.ensures c.args.plan.now.commits a s
-          c.args.store c.session-ended.new.service stands opened opens read serves.0 made;
+      on = on.0;
       script = script_of g.S.Source.left g.K.Sink.written c.session-ended.result c.args.plan.now.page serves.0
-          made.after.history _ _ c.session-ended.ensures.worn c.end_status-end.ensures
+          on.0.last.history _ _ c.session-ended.ensures.worn c.end_status-end.ensures
           (served_true c.services_are_true.ensures c.session-ended.result c.args.plan.now.page _ _ _ _ serves.0
-          made.after.history (in_run d s c.args.store c.session-ended.new.service serves.0 made) serves.2)
+          on.0.last.history (subst (λ (x : State). IsInRun serves.0 x.history) (sym on.1)
+          (in_run d s c.args.store c.session-ended.new.service serves.0 made)) serves.2)
           c.session-ended.ensures.done c.session-ended.ensures.within;
-    })
+    }
 
 pub returns-clause-ends : goal.returns-clause-ends
 returns-clause-ends g c =

@@ -1,5 +1,7 @@
+use Rattle.std.proofs.Common.{subst, sym}
 use Rattle.session_run.specs.Truths.{IsInRun}
 use Rattle.store_core.specs.Stored.{empty}
+use Rattle.store_machine.specs.declared.machine.State.{State}
 use Rattle.store_disk.specs.Stored.{Stretches}
 use Rattle.disk_edge.specs.Medium.{model}
 use Rattle.chem_shell.proofs.Loaded.{in_run}
@@ -24,7 +26,9 @@ returns-clause-serves g c =
     let run = of_calls c.args.plan.now.commits c.in-Ok.store c.session.new.service serves.0 none.0 none.1
     c.session.ensures.bounds made in (
       serves.0,
-      run,
-      served_true c.services_are_true.ensures c.session.result c.args.plan.now.page _ _ _ _ serves.0 run.last.history
-          (in_run model (empty c.args.plan.now.commits) c.in-Ok.store c.session.new.service serves.0 made) serves.2,
+      run.0,
+      served_true c.services_are_true.ensures c.session.result c.args.plan.now.page _ _ _ _ serves.0
+          run.0.last.history
+          (subst (λ (x : State). IsInRun serves.0 x.history) (sym run.1)
+          (in_run model (empty c.args.plan.now.commits) c.in-Ok.store c.session.new.service serves.0 made)) serves.2,
     )

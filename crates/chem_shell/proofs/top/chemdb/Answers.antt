@@ -2,7 +2,7 @@ use Rattle.std.proofs.Common.{◌≤◌, arith, length, refl, ap, ◌∙◌, sym
 use Rattle.std.proofs.lemmas.Bool.{eqb-false}
 use Rattle.chem_shell.specs.Ends.{with_status}
 use Rattle.chem_shell.specs.Loading.{HasEndCauses, Serves}
-use Rattle.chem_shell.proofs.Asked.{one_plan}
+use Rattle.chem_shell.proofs.Asked.{one_plan, plan_within}
 use Rattle.chem_shell.proofs.Ends.{zip_weaker, zip_mapped, fault_of_all_alike, never_created_usage, mem_served, bulk_served, run_served, of_one}
 use Rattle.chem_shell.proofs.EndCounts.{init_bulk_verb, init_mem, init_run_verb, no_and_some, no_ends, none_mapped, none_of_length, one_end, one_end_of, zip_none}
 use Rattle.chem_shell.proofs.Transcripts.{mem_same, mem_unmoved}
@@ -148,6 +148,14 @@ returns-then-makes_store-clause-init g c = λ plan asks verb. (
       ∙ none_of_length c.args.ends.items (no_ends c.args.ends.items _ plan asks verb c.requires.ends),
   c.created.ensures.creates,
 )
+
+pub serve_one-requires-clause-plan : goal.serve_one-requires-clause-plan
+serve_one-requires-clause-plan g c κs within = plan_within _ c.in-Ok.plan c.in-Ok.ensures.ok
+
+pub serve_one-requires-clause-one_end : goal.serve_one-requires-clause-one_end
+serve_one-requires-clause-one_end g c κs within =
+    one_end_of c.args.ends.items _ c.in-Ok.plan c.in-Ok.ensures.ok
+    (c.makes_store.ensures.no c.if-makes_store.false) c.requires.ends
 
 pub returns-clause-usage : goal.returns-clause-usage
 returns-clause-usage g c = λ two asks. c.serve_one.ensures.status two
