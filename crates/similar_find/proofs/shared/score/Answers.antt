@@ -1,4 +1,4 @@
-use Rattle.std.proofs.Common.{◌≡◌, ◌≤◌, ◌&&◌, ◌||◌, cond, ap, sym, ◌∙◌, arith, rules}
+use Rattle.std.proofs.Common.{◌≡◌, ◌&&◌, ◌||◌, cond, ap, ◌∙◌, arith}
 use Rattle.similar_find.specs.Score.{has_bit}
 use Rattle.similar_find.proofs.Bits.{counted, count-none, both-one, one-at-most, truth-number}
 use Rattle.similar_find.proofs.shared.score.Goals as goal

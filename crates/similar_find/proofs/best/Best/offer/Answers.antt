@@ -1,6 +1,6 @@
-use Rattle.std.proofs.Common.{◌≡◌, ◌≢◌, ◌≤◌, ◌<◌, ◌∷◌, ◌++◌, true, false, List, length, take, drop, refl, sym, ap, ◌∙◌, subst, arith}
+use Rattle.std.proofs.Common.{◌≡◌, ◌≢◌, ◌≤◌, ◌∷◌, ◌++◌, List, length, take, drop, refl, sym, ap, ◌∙◌, subst, arith}
 use Rattle.std.specs.List.{insert}
-use Rattle.similar_find.specs.Board.{Offer, Board, passes, IsBest}
+use Rattle.similar_find.specs.Board.{Offer, Board, IsBest}
 use Rattle.similar_find.proofs.Placed.{AskSame, Parts, at-place, passed-over, taken-in, where-on, where-behind, where-ok}
 use Rattle.similar_find.proofs.best.Best.offer.Goals as goal
 
