@@ -55,8 +55,8 @@ impl Best {
     /// Offers an identifier with the bits in both prints and those in at least one. Takes no memory.
     pub fn offer(&mut self, id: u32, c: u32, u: u32)
         requires { (1 ≤ u) × (u ≤ 1024) × (c ≤ u) }
-        ensures best { (offered : List Offer) → AreOffers ((id, c, u) ∷ offered) → IsBest offered self.old
-            → IsBest ((id, c, u) ∷ offered) self.new }
+        ensures best { (offered : List Offer) → AreOffers ((id, c, u) ∷ offered)
+            → IsBest offered self.old → IsBest ((id, c, u) ∷ offered) self.new }
         ensures p { self.new.p ≡ self.old.p }
         ensures q { self.new.q ≡ self.old.q }
         ensures most { self.new.most ≡ self.old.most }
@@ -101,7 +101,8 @@ fn is_better(first: &Offer, second: &Offer) -> bool
 fn place_of(hits: &[Offer], offer: Offer) -> usize
     ensures bound { result ≤ length hits.now }
     ensures place { IsPartitionedBy (λ hit. is_better hit offer) hits.now
-        → IsPartitionPoint (λ hit. is_better hit offer ≡ true) (λ hit. is_better hit offer ≡ false) hits.now result }
+        → IsPartitionPoint (λ hit. is_better hit offer ≡ true) (λ hit. is_better hit offer ≡ false)
+        hits.now result }
 {
     hits.partition_point(|hit| is_better(hit, &offer))
 }

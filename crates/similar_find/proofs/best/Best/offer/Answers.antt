@@ -7,7 +7,8 @@ use Rattle.similar_find.proofs.best.Best.offer.Goals as goal
 pub returns-then-not-passes-clause-best : goal.returns-then-not-passes-clause-best
 returns-then-not-passes-clause-best c = λ offered are best.
     let x : Offer = (c.args.id, c.args.c, c.args.u) in
-    let old : Board = record { p = c.self.inside.p; q = c.self.inside.q; most = c.self.inside.most; hits = c.self.inside.hits.items } in
+    let i = c.self.inside in
+    let old : Board = record { p = i.p; q = i.q; most = i.most; hits = i.hits.items } in
     let before = subst (λ b. IsBest offered b) (sym c.self.view_is) best in
     let same : AskSame old old = record { p = refl; q = refl; most = refl } in
     subst (λ b. IsBest (x ∷ offered) b) c.self.view_is (passed-over old old offered x same are before
@@ -16,7 +17,8 @@ returns-then-not-passes-clause-best c = λ offered are best.
 pub returns-then-place-self-clause-best : goal.returns-then-place-self-clause-best
 returns-then-place-self-clause-best c = λ offered are best.
     let x : Offer = (c.args.id, c.args.c, c.args.u) in
-    let old : Board = record { p = c.self.inside.p; q = c.self.inside.q; most = c.self.inside.most; hits = c.self.inside.hits.items } in
+    let i = c.self.inside in
+    let old : Board = record { p = i.p; q = i.q; most = i.most; hits = i.hits.items } in
     let hits : List Offer = c.self.inside.hits.items in
     let before = subst (λ b. IsBest offered b) (sym c.self.view_is) best in
     let same : AskSame old old = record { p = refl; q = refl; most = refl } in
@@ -36,7 +38,8 @@ returns-then-place-self-clause-best c = λ offered are best.
 pub returns-clause-best : goal.returns-clause-best
 returns-clause-best c = λ offered are best.
     let x : Offer = (c.args.id, c.args.c, c.args.u) in
-    let old : Board = record { p = c.self.inside.p; q = c.self.inside.q; most = c.self.inside.most; hits = c.self.inside.hits.items } in
+    let i = c.self.inside in
+    let old : Board = record { p = i.p; q = i.q; most = i.most; hits = i.hits.items } in
     let hits : List Offer = c.self.inside.hits.items in
     let before = subst (λ b. IsBest offered b) (sym c.self.view_is) best in
     let new : Board = record { p = old.p; q = old.q; most = old.most; hits = c.insert.new.self.items } in
