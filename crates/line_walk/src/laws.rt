@@ -10,7 +10,7 @@ use crate::notation::Notation;
 
 /// A law: the bonds of a tree's graph join atoms of the tree.
 pub fn bonds_join_atoms<N: Notation>()
-    ensures { (tree : Tree N.words.Atom N.words.Bond) (atoms : List N.Atom) (links : List (Link N.Bond))
-        → IsGraphOf N.words tree atoms links
+    ensures { (tree : Tree N.words.Atom N.words.Bond) (atoms : List N.Atom)
+        (links : List (Link N.Bond)) → IsGraphOf N.words tree atoms links
         → AllByRecursion (λ x. (x.a < length atoms) × (x.b < length atoms)) links }
 {}

@@ -94,7 +94,9 @@ module _ (all : Parts) (graph : WalkGraph) (left : List WalkGraph) (open_numbers
       omega (arith, count-join before inner)
 
   split_terms : TermsSplit 0 before inner recs
-  split_terms = let F : Parts → Type 0 = λ v. ArePartTerms 0 v recs in terms_split 0 before inner recs (subst F c.2 terms)
+  split_terms =
+      let F : Parts → Type 0 = λ v. ArePartTerms 0 v recs in
+      terms_split 0 before inner recs (subst F c.2 terms)
 
   put_numbers : (k : ℕ) → k ≡ length recs → numbers_from 0 before ++ k ∷ [] ≡ numbers_from 0 (join before one)
   put_numbers k e =
@@ -261,7 +263,8 @@ atom_done value values whole left numbers done h =
       are = h.are.1;
       plain = (neither (list_any is_stereo value.steps) (list_any (λ a. list_any is_stereo a.steps) values) h.plain).1;
       enough = omega arith;
-      steps_are = append_assoc done (atom_steps left value.steps ∷ []) (atoms_steps (drop (length value.parts) left) values)
+      steps_are = append_assoc done (atom_steps left value.steps ∷ [])
+          (atoms_steps (drop (length value.parts) left) values)
           ∙ h.steps_are;
     }
 

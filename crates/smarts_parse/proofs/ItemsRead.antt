@@ -1,8 +1,6 @@
 -- Items, one after another.
-use Rattle.std.proofs.Common.{◌≡◌, ◌≢◌, ℕ, ◌+◌, ◌≤◌, get_or, max, inl, inr, Bool, true, false, ◌||◌, List, [], ◌∷◌, ◌++◌, length, refl, sym, ◌∙◌, ap, subst, arith, append_assoc}
+use Rattle.std.proofs.Common.{◌≡◌, ◌≢◌, ℕ, ◌+◌, ◌≤◌, get_or, max, inl, inr, Bool, true, false, cond, ◌||◌, List, [], ◌∷◌, ◌++◌, length, refl, sym, ◌∙◌, ap, subst, arith, append_assoc}
 use Rattle.std.proofs.lemmas.List.{append-nil, length-append, nil_from_length}
-use Rattle.std.proofs.lemmas.List.Folds.{list_any-append}
-use Rattle.std.specs.List.{list_any}
 use Rattle.line_walk.specs.Tree as walk
 use Rattle.line_walk.specs.Places.{placed_at}
 use Rattle.line_walk.specs.Walk.{Holds, IsBetween}
@@ -12,7 +10,7 @@ use Rattle.smarts_words.specs.Words.{smarts_words, BeginsAtom}
 use Rattle.smarts_words.proofs.Apart.{smarts_apart}
 use Rattle.smarts_parse.specs.Whole.{Nodes, Item, plain, group, tree_of, item_text, others_text, MayMeet, AreItems, nodes_from, items_depth}
 use Rattle.smarts_parse.specs.Reading.{is_group}
-use Rattle.smarts_parse.specs.Draft.{Read, StopsAfter, IsItemOf, IsItemRead, AreItemsRead}
+use Rattle.smarts_parse.specs.Draft.{Read, groups_of, StopsAfter, IsItemOf, IsItemRead, AreItemsRead}
 use Rattle.smarts_parse.proofs.ItemRead.{tree_begins}
 
 -- items, each followed by a dot
@@ -34,25 +32,25 @@ pub record AreLeft (rest : List ℕ) : Type 0 where
   pub spelled : rest ≡ item_text first ++ others_text others
 
 -- what is read of the items of a text
-pub record SoFar (text rest : List ℕ) (reader : Read) (is_grouped : Bool) : Type 0 where
+pub record SoFar (text rest : List ℕ) (reader : Read) (groups : ℕ) : Type 0 where
   pub done : List Item
   pub holds : Holds smarts_words (nodes_from 0 done) reader
   pub closed : IsBetween reader
   pub depth : reader.depth ≡ items_depth done
-  pub grouped : is_grouped ≡ list_any is_group done
+  pub count : groups ≡ groups_of done
   pub spelled : text ≡ dotted done ++ rest
   pub before : (x : Item) (after : List ℕ) → walk.IsTree smarts_words (tree_of x) → rest ≡ item_text x ++ after
       → AreBefore done x
   pub only : AreLeft text → AreLeft rest
 
 pub so_far_none : (text : List ℕ) (reader : Read) → Holds smarts_words [] reader → IsBetween reader → reader.depth ≡ 0
-    → SoFar text text reader false
+    → SoFar text text reader 0
 so_far_none text reader holds closed depth = record {
   done = [];
   holds = holds;
   closed = closed;
   depth = depth;
-  grouped = refl;
+  count = refl;
   spelled = refl;
   before = λ x after is e. tt;
   only = λ left. left;
@@ -125,13 +123,39 @@ pub or_false : (b : Bool) → (b || false) ≡ b
 or_false true = refl
 or_false false = refl
 
-group_push : (ds : List Item) (x : Item) (g b : Bool) → g ≡ list_any is_group ds → b ≡ is_group x
-    → (g || b) ≡ list_any is_group (ds ++ x ∷ [])
-group_push ds x g b e f = ap (λ v. v || b) e ∙ ap (λ v. list_any is_group ds || v) (f ∙ sym (or_false (is_group x)))
-    ∙ sym (list_any-append is_group ds (x ∷ []))
+one_group : (x : Item) → groups_of (x ∷ []) ≡ cond (is_group x) 1 0
+one_group (plain tree) = refl
+one_group (group tree) = omega arith
 
-module _ (text rest after : List ℕ) (old new : Read) (g b : Bool) (s : SoFar text rest old g)
-    (r : IsItemRead (nodes_from 0 s.done) old new rest b after) where
+groups_push : (ds : List Item) (x : Item) → groups_of (ds ++ x ∷ []) ≡ groups_of ds + cond (is_group x) 1 0
+groups_push [] x = let e = one_group x in omega arith
+groups_push (plain tree ∷ ds) x = groups_push ds x
+groups_push (group tree ∷ ds) x = let e = groups_push ds x in omega arith
+
+group_push : (ds : List Item) (x : Item) (g n : ℕ) (b : Bool) → g ≡ groups_of ds → b ≡ is_group x
+    → n ≡ g + cond b 1 0 → n ≡ groups_of (ds ++ x ∷ [])
+group_push ds x g n b e f h = h ∙ ap (λ v. v + cond b 1 0) e ∙ ap (λ v. groups_of ds + cond v 1 0) f
+    ∙ sym (groups_push ds x)
+
+-- each item takes a byte at least
+pub groups_few : (ds : List Item) → groups_of ds ≤ length (dotted ds)
+groups_few [] = omega arith
+groups_few (plain tree ∷ ds) =
+    let h = groups_few ds in
+    omega (arith, length-append (item_text (plain tree)) (46 ∷ dotted ds))
+groups_few (group tree ∷ ds) =
+    let h = groups_few ds in
+    omega (arith, length-append (item_text (group tree)) (46 ∷ dotted ds))
+
+-- one item more is counted
+pub one_more_group : (b : Bool) (g n : ℕ) → b ≡ true → n ≡ g + 1 → n ≡ g + cond b 1 0
+one_more_group b g n e f = f ∙ ap (λ v. g + cond v 1 0) (sym e)
+
+pub no_more_group : (b : Bool) (g n : ℕ) → b ≡ false → n ≡ g → n ≡ g + cond b 1 0
+no_more_group b g n e f = let k : n ≡ g + 0 = omega arith in k ∙ ap (λ v. g + cond v 1 0) (sym e)
+
+module _ (text rest after : List ℕ) (old new : Read) (g n : ℕ) (b : Bool) (s : SoFar text rest old g)
+    (r : IsItemRead (nodes_from 0 s.done) old new rest b after) (more : n ≡ g + cond b 1 0) where
   holds_more : Holds smarts_words (nodes_from 0 (s.done ++ r.item ∷ [])) new
   holds_more =
       let P : Nodes → Type 0 = λ v. Holds smarts_words v new in
@@ -142,13 +166,13 @@ module _ (text rest after : List ℕ) (old new : Read) (g b : Bool) (s : SoFar t
   depth_more = r.depth ∙ ap (λ v. max v (walk.depth_of (tree_of r.item).tail)) s.depth ∙ sym (depth_push s.done r.item)
 
   pub so_far_more : (next : List ℕ) → after ≡ 46 ∷ next → IsBetween new
-      → ((x : Item) (left : List ℕ) → IsItemOf rest x left → after ≡ left) → SoFar text next new (g || b)
+      → ((x : Item) (left : List ℕ) → IsItemOf rest x left → after ≡ left) → SoFar text next new n
   so_far_more next e closed only = record {
     done = s.done ++ r.item ∷ [];
     holds = holds_more;
     closed = closed;
     depth = depth_more;
-    grouped = group_push s.done r.item g b s.grouped r.grouped;
+    count = group_push s.done r.item g n b s.count r.grouped more;
     spelled = s.spelled ∙ ap (λ v. dotted s.done ++ v) (r.is.spelled ∙ ap (λ v. item_text r.item ++ v) e)
         ∙ dotted_more s.done r.item next;
     before = λ y left is f.
@@ -188,7 +212,7 @@ module _ (text rest after : List ℕ) (old new : Read) (g b : Bool) (s : SoFar t
   joined_text (d ∷ ds) x = append_assoc (item_text d) (46 ∷ dotted ds) (item_text x)
       ∙ ap (λ v. item_text d ++ v) (others_joined ds x)
 
-  pub so_far_all : length after ≡ 0 → AreItemsRead text new (g || b)
+  pub so_far_all : length after ≡ 0 → AreItemsRead text new n
   so_far_all none =
       let e : item_text r.item ++ after ≡ item_text r.item = ap (λ v. item_text r.item ++ v)
       (nil_from_length after none) ∙ append-nil (item_text r.item) in
@@ -201,7 +225,7 @@ module _ (text rest after : List ℕ) (old new : Read) (g b : Bool) (s : SoFar t
         spelled = s.spelled ∙ ap (λ v. dotted s.done ++ v) (r.is.spelled ∙ e) ∙ joined_text s.done r.item;
         holds = subst P (sym t) holds_more;
         depth = depth_more ∙ ap items_depth (sym t);
-        grouped = group_push s.done r.item g b s.grouped r.grouped ∙ ap (list_any is_group) (sym t);
+        count = group_push s.done r.item g n b s.count r.grouped more ∙ ap groups_of (sym t);
       }
 
 -- no dot goes on

@@ -1,7 +1,6 @@
 -- Recursive parts that are left to read.
-use Rattle.std.proofs.Common.{◌≡◌, ℕ, ◌+◌, ◌≤◌, max, Bool, List, [], ◌∷◌, ◌++◌, length, map, reverse, refl, sym, ◌∙◌, ap, subst, arith}
+use Rattle.std.proofs.Common.{◌≡◌, ℕ, ◌+◌, ◌≤◌, max, List, [], ◌∷◌, ◌++◌, length, map, reverse, refl, sym, ◌∙◌, ap, subst, arith}
 use Rattle.std.proofs.lemmas.List.{length-append, map-append, reverse-append}
-use Rattle.std.specs.List.{list_any}
 use Rattle.line_walk.specs.Tree as walk
 use Rattle.line_walk.specs.Places.{placed_nodes, atoms_by}
 use Rattle.line_walk.specs.Walk.{Holds}
@@ -10,8 +9,7 @@ use Rattle.smarts_words.specs.Words.{smarts_words}
 use Rattle.smarts_parse.specs.declared.draft.Sizes.{Sizes}
 use Rattle.smarts_parse.specs.declared.draft.Draft.{Draft}
 use Rattle.smarts_parse.specs.Whole.{Tree, Item, item_text, others_text, AreItems, Parts, none, part, part_texts, tree_atoms, AreParts, Whole, IsWholeOf, nodes_of, nodes_from, items_depth, all_atoms, parts_atoms, count_of, nesting_of, parts_depth, whole_depth}
-use Rattle.smarts_parse.specs.Reading.{is_group}
-use Rattle.smarts_parse.specs.Draft.{Read, join, Close, AreRead, IsDraftOf, IsTaken, Left, at_level}
+use Rattle.smarts_parse.specs.Draft.{Read, groups_of, join, Close, AreRead, IsDraftOf, IsTaken, Left, at_level}
 use Rattle.smarts_parse.proofs.OneWhole.{same_tree, same_items, same_list}
 use Rattle.smarts_parse.proofs.Weights.{weight, weight-append, text_weight, items_weight}
 use Rattle.smarts_parse.proofs.Parts.{split, count-join, atoms-join}
@@ -31,18 +29,18 @@ top_level [] = 0
 top_level (x ∷ xs) = max x.level (top_level xs)
 
 -- what was read, and of the recursive parts that are left
-pub record IsSoFar (whole : Whole) (top : Read) (g : Bool) (s : Sizes) (left : List Left) (p : Parts)
+pub record IsSoFar (whole : Whole) (top : Read) (g : ℕ) (s : Sizes) (left : List Left) (p : Parts)
     (trees : List Tree) : Type 0 where
   pub top_is : Holds smarts_words (nodes_of whole) top
   pub closing : Close p trees whole.parts
-  pub grouped : g ≡ list_any is_group (whole.first ∷ whole.others)
+  pub groups : g ≡ groups_of (whole.first ∷ whole.others)
   pub atoms : length (all_atoms whole) ≡ s.atoms + length (parts_atoms p)
   pub parts : count_of whole.parts ≡ s.parts + count_of p
   pub nesting : nesting_of whole.parts ≡ max s.nesting (nesting_at left p)
   pub depth : whole_depth whole ≡ max s.depth (parts_depth p)
 
 -- what is left, with what was read, is the whole text
-pub record Worklist (text : List ℕ) (top : Read) (g : Bool) (s : Sizes) (parts : List Read) (left : List Left) : Type 0
+pub record Worklist (text : List ℕ) (top : Read) (g : ℕ) (s : Sizes) (parts : List Read) (left : List Left) : Type 0
   where
     pub trees : List Tree
     pub read : AreRead trees (reverse parts)
@@ -84,7 +82,7 @@ blank = record { atoms = 0; parts = 0; nesting = 0; depth = 0 }
 
 module _ (text : List ℕ) (first : Item) (others : List Item) (are : AreItems first others)
     (spelled : text ≡ item_text first ++ others_text others)
-    (g : Bool) (grouped : g ≡ list_any is_group (first ∷ others)) (s : Sizes) (top : Read)
+    (g : ℕ) (groups : g ≡ groups_of (first ∷ others)) (s : Sizes) (top : Read)
     (deep_is : top.depth ≡ items_depth (first ∷ others))
     (holds : Holds smarts_words (nodes_from 0 (first ∷ others)) top)
     (taken : IsTaken blank s (length top.atoms.items) top.depth 0) where
@@ -106,7 +104,7 @@ module _ (text : List ℕ) (first : Item) (others : List Item) (are : AreItems f
       record {
         top_is = holds;
         closing = refl;
-        grouped = grouped;
+        groups = groups;
         atoms = omega (arith, length-append tops (parts_atoms p));
         parts = omega arith;
         nesting = omega arith;
@@ -135,7 +133,7 @@ module _ (text : List ℕ) (first : Item) (others : List Item) (are : AreItems f
       }
 
 -- nothing is left
-pub all_read : (text : List ℕ) (d : Draft) → Worklist text d.top d.grouped d.sizes d.parts.items []
+pub all_read : (text : List ℕ) (d : Draft) → Worklist text d.top d.groups d.sizes d.parts.items []
     → (whole : Whole) × IsWholeOf text whole × IsDraftOf whole d
 all_read text d w =
     let f = w.found none tt in
@@ -151,7 +149,7 @@ all_read text d w =
         trees = w.trees;
         closing = i.closing;
         parts = w.read;
-        grouped = i.grouped;
+        groups = i.groups;
         atoms = omega arith;
         count = omega arith;
         nesting = omega arith;
@@ -160,7 +158,7 @@ all_read text d w =
     )
 
 -- one of them is read
-module _ (text : List ℕ) (top : Read) (g : Bool) (s t : Sizes) (parts : List Read) (init : List Left) (x : Left)
+module _ (text : List ℕ) (top : Read) (g : ℕ) (s t : Sizes) (parts : List Read) (init : List Left) (x : Left)
     (tree : Tree) (reader : Read) (is : walk.IsTreeOf smarts_words x.text tree)
     (deep_is : reader.depth ≡ walk.depth_of tree.tail) (holds : Holds smarts_words (placed_nodes tree) reader)
     (taken : IsTaken s t (length reader.atoms.items) reader.depth x.level)
@@ -211,7 +209,7 @@ module _ (text : List ℕ) (top : Read) (g : Bool) (s t : Sizes) (parts : List R
       record {
         top_is = i.top_is;
         closing = (q, r, refl, k, i.closing);
-        grouped = i.grouped;
+        groups = i.groups;
         atoms = omega (
           arith,
           length-append (parts_atoms q) (parts_atoms one),
@@ -273,7 +271,7 @@ module _ (text : List ℕ) (top : Read) (g : Bool) (s t : Sizes) (parts : List R
         level = omega arith;
       }
 
-module _ (text : List ℕ) (top : Read) (g : Bool) (s : Sizes) (parts : List Read) (init : List Left) (x : Left)
+module _ (text : List ℕ) (top : Read) (g : ℕ) (s : Sizes) (parts : List Read) (init : List Left) (x : Left)
     (w : Worklist text top g s parts (init ++ x ∷ [])) where
   last_texts : texts_of (init ++ x ∷ []) ≡ texts_of init ++ x.text ∷ []
   last_texts = map-append (λ y. y.text) init (x ∷ [])

@@ -48,15 +48,21 @@ pub record IsItemRead (front : Nodes) (old new : Read) (bytes : List ℕ) (is_gr
     pub depth : new.depth ≡ max old.depth (walk.depth_of (tree_of item).tail)
     pub grouped : is_grouped ≡ is_group item
 
+-- how many items stand in parentheses
+abbrev pub groups_of : List Item → ℕ
+groups_of [] = 0
+groups_of (plain tree ∷ items) = groups_of items
+groups_of (group tree ∷ items) = groups_of items + 1
+
 -- the items of a text were read
-pub record AreItemsRead (text : List ℕ) (reader : Read) (is_grouped : Bool) : Type 0 where
+pub record AreItemsRead (text : List ℕ) (reader : Read) (groups : ℕ) : Type 0 where
   pub first : Item
   pub others : List Item
   pub are : AreItems first others
   pub spelled : text ≡ item_text first ++ others_text others
   pub holds : Holds smarts_words (nodes_from 0 (first ∷ others)) reader
   pub depth : reader.depth ≡ items_depth (first ∷ others)
-  pub grouped : is_grouped ≡ list_any is_group (first ∷ others)
+  pub count : groups ≡ groups_of (first ∷ others)
 
 -- recursive parts and then others
 abbrev pub join : Parts → Parts → Parts
@@ -89,7 +95,7 @@ pub record IsDraftOf (whole : Whole) (d : Draft) : Type 0 where
   pub trees : List Tree
   pub closing : Close none trees whole.parts
   pub parts : AreRead trees (reverse d.parts.items)
-  pub grouped : d.grouped ≡ list_any is_group (whole.first ∷ whole.others)
+  pub groups : d.groups ≡ groups_of (whole.first ∷ whole.others)
   pub atoms : d.sizes.atoms ≡ length (all_atoms whole)
   pub count : d.sizes.parts ≡ count_of whole.parts
   pub nesting : d.sizes.nesting ≡ nesting_of whole.parts

@@ -32,7 +32,7 @@ pub fn close<'a>(alloc: Global, draft: Draft<'a>) -> Result<Closed<'a>, SmartsFa
     let Draft {
         top,
         parts,
-        grouped: _,
+        groups: _,
         sizes: _,
     } = draft;
     let top = finish::<Smarts>(top)?;

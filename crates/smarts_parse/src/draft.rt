@@ -33,8 +33,8 @@ pub struct Draft<'a> {
     /// The recursive parts: each before the parts in it, and a right one before those to the left of it. So their
     /// parentheses close in the opposite order.
     pub parts: Vec<Read<'a>>,
-    /// Whether an item stands in parentheses.
-    pub grouped: bool,
+    /// How many items stand in parentheses.
+    pub groups: usize,
     pub sizes: Sizes,
 }
 
@@ -110,7 +110,7 @@ pub fn read_draft<'a>(alloc: Global, arena: &'a Bump, text: &[u8]) -> Result<Dra
     Ok(Draft {
         top: items.reader,
         parts,
-        grouped: items.grouped,
+        groups: items.groups,
         sizes,
     })
 }

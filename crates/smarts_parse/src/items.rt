@@ -17,28 +17,30 @@ use std::alloc::Global;
 /// What a text holds as a whole, without its recursive parts.
 pub type Read<'a> = Reader<'a, smarts_words::PatternAtom, smarts_words::PatternBond>;
 
-/// The items of a text, all of them in one reader, and whether one stands in parentheses.
+/// The items of a text, all of them in one reader, and how many of them stand in parentheses.
 #[derive(Drop)]
 pub struct Items<'a> {
     pub reader: Read<'a>,
-    pub grouped: bool,
+    pub groups: usize,
 }
 
 /// Reads the items of a text.
 pub fn read_items<'a>(alloc: Global, arena: &'a Bump, text: &[u8]) -> Result<Items<'a>, SmartsFault>
-    ensures found { IfOk result (λ r. AreItemsRead text.now r.reader r.grouped) }
+    ensures found { IfOk result (λ r. AreItemsRead text.now r.reader r.groups) }
     ensures only { (x : Item) (xs : List Item) → AreItems x xs → text.now ≡ item_text x ++ others_text xs
         → IfErr result (λ e. e ≡ NoMemory) }
     ensures faults { IfErr result (λ e. (e ≡ Syntax) ⊎ (e ≡ NoMemory)) }
 {
     let mut reader = no_reader::<Smarts>(alloc, arena);
-    let mut grouped = false;
+    let mut groups = 0;
     let mut rest = text;
     'items: loop {
         let (is_group, after) = item(alloc, &mut reader, rest)?;
-        grouped = grouped || is_group;
+        if is_group {
+            groups += 1;
+        }
         match after {
-            [] => return Ok(Items { reader, grouped }),
+            [] => return Ok(Items { reader, groups }),
             [b'.', next @ ..] => rest = next,
             _ => return Err(SmartsFault::Syntax),
         }

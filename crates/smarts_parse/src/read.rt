@@ -46,12 +46,12 @@ pub fn parse(alloc: Global, text: &[u8]) -> Result<Pattern, SmartsFault>
         return Err(SmartsFault::RingSet);
     }
     let sizes = draft.sizes;
-    let grouped = draft.grouped;
+    let groups = draft.groups;
     let closed = close(alloc, draft)?;
     if !sizes.are_within_limits() {
         return Err(SmartsFault::Limit);
     }
-    if grouped {
+    if groups > 0 {
         return Err(SmartsFault::Grouping);
     }
     Ok(pattern(alloc, &closed)?)

@@ -26,7 +26,8 @@ atom_expr-requires c =
     let left = c.loop-atom.left.now in
     let F : List AtomValue → Type 0 = λ v. AtomsLeft v vs left c.args.numbers.now done in
     let h = subst F (drop_at vs i x (omega arith) c.atom-item.is) c.loop-atom.invariant in
-    next_steps x c.steps.result.now left (atom_next x (drop (i + 1) vs) vs left c.args.numbers.now done h) c.steps.ensures
+    next_steps x c.steps.result.now left (atom_next x (drop
+    (i + 1) vs) vs left c.args.numbers.now done h) c.steps.ensures
 
 pub after-left-requires : goal.after-left-requires
 after-left-requires c =
@@ -51,19 +52,23 @@ loop-atom-preserved c =
     let left = c.loop-atom.left.now in
     let F : List AtomValue → Type 0 = λ v. AtomsLeft v vs left ns done in
     let h = subst F (drop_at vs i x (omega arith) c.atom-item.is) c.loop-atom.invariant in
-    let e : c.push.new.self.items ≡ c.loop-atom.exprs.items ++ c.in_ok-atom_expr.field-0 ∷ [] = grind (arith, common_steps) in
+    let e : c.push.new.self.items ≡ c.loop-atom.exprs.items ++ c.in_ok-atom_expr.field-0 ∷ [] = grind
+    (arith, common_steps) in
     let f = exprs_push c.loop-atom.exprs.items c.push.new.self.items c.in_ok-atom_expr.field-0 e
     ∙ ap (λ v. done ++ v ∷ []) (c.in_ok-atom_expr.ensures ∙ ap (atom_steps left) c.steps.ensures) in
-    let G : List (List (Step AtomPrim)) → Type 0 = λ v. AtomsLeft (drop (i + 1) vs) vs (drop (length x.parts) left) ns v in
+    let G : List (List (Step AtomPrim)) → Type 0 = λ v.
+    AtomsLeft (drop (i + 1) vs) vs (drop (length x.parts) left) ns v in
     let count = ap length c.parts.ensures in
     let n : length c.parts.result.now ≡ length x.parts = omega (arith, length-map c.parts.result.now (λ v. v.items)) in
     let H : List ℕ → Type 0 = λ v. AtomsLeft (drop (i + 1) vs) vs v ns
     (map postfix (map term_of c.push.new.self.items)) in
-    subst H (sym (c.after-left.ensures ∙ ap (λ k. drop k left) n)) (subst G (sym f) (atom_done x (drop (i + 1) vs) vs left ns done h))
+    subst H (sym (c.after-left.ensures ∙ ap (λ k. drop k left) n)) (subst G (sym f) (atom_done x (drop
+    (i + 1) vs) vs left ns done h))
 
 pub returns : goal.returns
 returns c =
     let vs = c.args.atoms.now in
-    let F : List AtomValue → Type 0 = λ v. AtomsLeft v vs c.loop-atom.left.now c.args.numbers.now (map postfix (map term_of c.loop-atom.exprs.items)) in
+    let F : List AtomValue → Type 0 = λ v.
+    AtomsLeft v vs c.loop-atom.left.now c.args.numbers.now (map postfix (map term_of c.loop-atom.exprs.items)) in
     atoms_all vs c.loop-atom.left.now c.args.numbers.now (map postfix (map term_of c.loop-atom.exprs.items))
     (subst F (drop_all c.loop-atom.atom-index vs (omega arith)) c.loop-atom.invariant)

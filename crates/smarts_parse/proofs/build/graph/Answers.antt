@@ -79,7 +79,8 @@ returns c = λ nodes front numbers r.
     let n : first ≡ length numbers_open - length (part_texts written.atoms.items) = omega (arith, c.len.ensures) in
     let own = c.after.ensures ∙ ap (λ v. drop first v) c.deref-3.ensures.value
     ∙ numbers_are nodes front numbers written numbers_open r first n in
-    let F : List (Link (List (Step BondWord))) → Type 0 = λ v. AreBondTerms v (map bond_of c.in_ok-bonds.bonds.items) in (
+    let F : List (Link (List (Step BondWord))) → Type 0 = λ v.
+    AreBondTerms v (map bond_of c.in_ok-bonds.bonds.items) in (
       term_is nodes front numbers written numbers_open r _
           (c.in_ok-atoms.ensures ∙ ap (λ v. atoms_steps v c.deref-2.result.now) own
           ∙ ap (λ v. atoms_steps numbers v) c.deref-2.ensures.value)

@@ -11,7 +11,8 @@ use Rattle.smarts_parse.proofs.build.pattern.Goals as goal
 
 pub loop-part-init : goal.loop-part-init
 loop-part-init c = λ whole b.
-    let F : List ℕ → Type 0 = λ v. IsBuilt whole.parts c.args.closed.now.parts.items v (map graph_of c.new-recs.result.items) in
+    let F : List ℕ → Type 0 = λ v. IsBuilt whole.parts c.args.closed.now.parts.items v
+    (map graph_of c.new-recs.result.items) in
     let G : List Graph → Type 0 = λ v. IsBuilt whole.parts c.args.closed.now.parts.items [] (map graph_of v) in
     subst F (sym c.new-open.ensures.items) (subst G (sym c.new-recs.ensures.items)
     (none_built whole c.args.closed.now b))
@@ -24,10 +25,12 @@ put_graph-requires c =
     let x = c.part-item.result in
     let value = c.deref-part-items.ensures.value in
     let k = ap length value in
-    let F : List WalkGraph → Type 0 = λ v. IsBuilt whole.parts v c.loop-part.open.items (map graph_of c.loop-part.recs.items) in (
+    let F : List WalkGraph → Type 0 = λ v.
+    IsBuilt whole.parts v c.loop-part.open.items (map graph_of c.loop-part.recs.items) in (
       whole.parts,
       drop (i + 1) items,
-      subst F (drop_at items i x (omega arith) (c.part-item.is ∙ ap (λ v. get_or v i x) value)) (c.loop-part.invariant whole c.requires.1),
+      subst F (drop_at items i x (omega arith) (c.part-item.is ∙ ap (λ v. get_or v i x) value))
+          (c.loop-part.invariant whole c.requires.1),
     )
 
 pub loop-part-preserved : goal.loop-part-preserved
@@ -37,17 +40,21 @@ loop-part-preserved c = λ whole b.
     let x = c.part-item.result in
     let value = c.deref-part-items.ensures.value in
     let k = ap length value in
-    let F : List WalkGraph → Type 0 = λ v. IsBuilt whole.parts v c.loop-part.open.items (map graph_of c.loop-part.recs.items) in
+    let F : List WalkGraph → Type 0 = λ v.
+    IsBuilt whole.parts v c.loop-part.open.items (map graph_of c.loop-part.recs.items) in
     c.in_ok-put_graph.ensures whole.parts (drop (i + 1) items)
-    (subst F (drop_at items i x (omega arith) (c.part-item.is ∙ ap (λ v. get_or v i x) value)) (c.loop-part.invariant whole b))
+    (subst F (drop_at items i x (omega arith) (c.part-item.is ∙ ap (λ v. get_or v i x) value))
+    (c.loop-part.invariant whole b))
 
 pub graph-requires : goal.graph-requires
 graph-requires c =
     let whole = c.requires.0 in
     let items = c.args.closed.now.parts.items in
-    let F : List WalkGraph → Type 0 = λ v. IsBuilt whole.parts v c.loop-part.open.items (map graph_of c.loop-part.recs.items) in
+    let F : List WalkGraph → Type 0 = λ v.
+    IsBuilt whole.parts v c.loop-part.open.items (map graph_of c.loop-part.recs.items) in
     let k = ap length c.deref-part-items.ensures.value in
-    let done = subst F (drop_all c.loop-part.part-index items (omega arith)) (c.loop-part.invariant whole c.requires.1) in (
+    let done = subst F (drop_all c.loop-part.part-index items (omega arith))
+    (c.loop-part.invariant whole c.requires.1) in (
       nodes_of whole,
       [],
       numbers_from 0 whole.parts,

@@ -52,8 +52,8 @@ returns-then-not-are_within_limits-clause-reading c =
           c.are_within_limits.ensures (within_only text d l h),
     )
 
-pub returns-then-grouped-clause-reading : goal.returns-then-grouped-clause-reading
-returns-then-grouped-clause-reading c =
+pub returns-then-groups-gt0-clause-reading : goal.returns-then-groups-gt0-clause-reading
+returns-then-groups-gt0-clause-reading c =
     let text = c.args.text.now in
     let d = c.in_ok-draft.draft in
     let l = looked text d (omega arith) (not_by _ _ c.if-has_byte.false c.has_byte.ensures) c.in_ok-draft.ensures.found
@@ -63,7 +63,7 @@ returns-then-grouped-clause-reading c =
     let within = c.are_within_limits.ensures.0 c.if-not-are_within_limits.false in (
       l.whole,
       no_limit text d l c.in_ok-closed.closed c.in_ok-closed.ensures.found marks counts within,
-      has_group text d l c.if-grouped.true,
+      has_group text d l c.if-groups-gt0.true,
     )
 
 pub pattern-requires : goal.pattern-requires
@@ -89,7 +89,7 @@ returns-clause-reading c =
     let ready = buildable text d l c.in_ok-closed.closed c.in_ok-closed.ensures.found marks counts within in (
       l.whole,
       no_limit text d l c.in_ok-closed.closed c.in_ok-closed.ensures.found marks counts within,
-      no_group text d l c.if-grouped.false,
+      no_group text d l c.if-groups-gt0.false,
       c.in_ok-pattern.ensures l.whole ready,
     )
 

@@ -1,0 +1,4 @@
+pub mod Bits
+pub mod Order
+pub mod Ranked
+pub mod Placed
