@@ -40,35 +40,38 @@ module _ (adds : RunsAdd) {D : Type 0} (model : DiskModel D)
   -- what calls leave of the disk
   on_disk : (calls : Calls) → (made : core.Calls (Stretches model) (λ _. true) old new s calls)
       → (on : AreOnDisk model commits a new.journal.disk old.b calls) × (on.last ≡ made.after)
-  on_disk calls made = (record {
-    first = s;
-    steps = made.steps;
-    last = made.after;
-    opened = opened;
-    sound = stands.memory.sound;
-    opens = opens;
-    run = made.stands.run;
-    calm = made.stands.calm;
-    all = made.own;
-    loaded = times model old;
-    ended = times model new;
-    later = read.past.later;
-    clocked = made.stands.clocked;
-    now = λ i. record { a = model.clock new.journal.disk; b = model.clock (made.stands.other i) };
-    loading = λ image b. read.moments image
-        (made.stands.past.no_more (model.clock a) (model.clock old.journal.disk) image (omega arith) b);
-    moments = λ l told before after x image is b.
-        shows adds model new.journal.disk s made.after made.steps before after x image made.stands.run
-        made.stands.calm (made.stands.moments l told) is b;
-    left = standing new made.after made.stands.ends;
-    causes = made.stands.causes;
-    begins = (
-      omega (arith, read.count.count, ap (λ (f : Faults). f.a) stands.counts),
-      ap (λ (f : Faults). f.b) stands.counts,
-    );
-    ends = made.stands.ends.counts
-        ∙ (λ i. record { a = model.faults new.journal.disk; b = model.faults (made.stands.other i) });
-  }, refl)
+  on_disk calls made = (
+    record {
+      first = s;
+      steps = made.steps;
+      last = made.after;
+      opened = opened;
+      sound = stands.memory.sound;
+      opens = opens;
+      run = made.stands.run;
+      calm = made.stands.calm;
+      all = made.own;
+      loaded = times model old;
+      ended = times model new;
+      later = read.past.later;
+      clocked = made.stands.clocked;
+      now = λ i. record { a = model.clock new.journal.disk; b = model.clock (made.stands.other i) };
+      loading = λ image b. read.moments image
+          (made.stands.past.no_more (model.clock a) (model.clock old.journal.disk) image (omega arith) b);
+      moments = λ l told before after x image is b.
+          shows adds model new.journal.disk s made.after made.steps before after x image made.stands.run
+          made.stands.calm (made.stands.moments l told) is b;
+      left = standing new made.after made.stands.ends;
+      causes = made.stands.causes;
+      begins = (
+        omega (arith, read.count.count, ap (λ (f : Faults). f.a) stands.counts),
+        ap (λ (f : Faults). f.b) stands.counts,
+      );
+      ends = made.stands.ends.counts
+          ∙ (λ i. record { a = model.faults new.journal.disk; b = model.faults (made.stands.other i) });
+    },
+    refl,
+  )
 
   -- of a disk that is the store's
   pub on_this_disk : (calls : Calls) (disk : D) → disk ≡ new.journal.disk

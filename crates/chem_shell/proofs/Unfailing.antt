@@ -143,12 +143,14 @@ of_calls commits old new calls none_a none_b kept made =
     (let is = ap (λ (f : Faults). f.a) made.stands.ends.counts in omega (arith, few_a, is)) in
     let b : made.after.faults.b ≡ 0 =
     (let is = ap (λ (f : Faults). f.b) made.stands.ends.counts in omega (arith, few_b, is)) in
-    let none = unfailing made.steps (empty commits) made.after made.stands.run made.stands.calm a b in
-    (record {
-      steps = made.steps;
-      last = made.after;
-      run = made.stands.run;
-      calm = made.stands.calm;
-      all = made.own;
-      sure = subst (AllByRecursion (λ call. IsSure call.1)) made.own none.calls;
-    }, refl)
+    let none = unfailing made.steps (empty commits) made.after made.stands.run made.stands.calm a b in (
+      record {
+        steps = made.steps;
+        last = made.after;
+        run = made.stands.run;
+        calm = made.stands.calm;
+        all = made.own;
+        sure = subst (AllByRecursion (λ call. IsSure call.1)) made.own none.calls;
+      },
+      refl,
+    )

@@ -2,9 +2,7 @@
 ghost use Rattle.session_run.specs.Truths.{DialoguesAreTrue, SearchesAreHits, ServicesAreTrue};
 
 use shell_lang::one_reading;
-use store_machine::{
-    calls_give_pages, needs_screen, replies_tell, runs_grow, snapshots_stay,
-};
+use store_machine::{calls_give_pages, needs_screen, replies_tell, runs_grow, snapshots_stay};
 
 /// A search that came to its end listed exactly the hits of its pattern in the history, at a version no older than any
 /// that its caller was told before.

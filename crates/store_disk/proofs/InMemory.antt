@@ -117,7 +117,7 @@ none-needed s [] is needed = refl
 none-needed s (entry ∷ kept) is needed =
     let n = (needed.exactly entry).0 (0, omega arith, refl) in
     absurd (no-state n.at entry.id n.status
-        (subst (λ h. get (snapshot h n.at) entry.id ≡ Some n.status) is n.state))
+    (subst (λ h. get (snapshot h n.at) entry.id ≡ Some n.status) is n.state))
 
 first-state : (commits limit : ℕ) (h : History) (pins : List Held) (kept : List Entry) (doubt : Option Change)
     (faults : Faults) (serves : Bool)

@@ -120,8 +120,7 @@ module _ {D : Type 0} (model : DiskModel D) where
       × IsOpened commits s × IfTold (model.content a) (OpensTo s.history)
   opened-store memory commits a b old new x first second reads flag =
       let t : State = x.state in
-      let s : State = record t { doubt = None; faults = record { a = model.faults new.disk; b = model.faults b } } in
-      (
+      let s : State = record t { doubt = None; faults = record { a = model.faults new.disk; b = model.faults b } } in (
         s,
         record {
           memory = at-rest memory s x.at.stands refl x.opened.serves;

@@ -203,16 +203,19 @@ pub returns-clause-mem : goal.returns-clause-mem
 returns-clause-mem g c = λ plan asks verb.
     let same = one_plan _ plan c.in-Ok.plan asks c.in-Ok.ensures.ok in
     let is = sym same.command ∙ verb in
-    let some : 1 ≤ length c.args.ends.items = omega (arith, one_end_of c.args.ends.items _ c.in-Ok.plan
-    c.in-Ok.ensures.ok (c.makes_store.ensures.no c.if-makes_store.false) c.requires.ends) in (
+    let some : 1 ≤ length c.args.ends.items = omega (
+      arith,
+      one_end_of c.args.ends.items _ c.in-Ok.plan
+          c.in-Ok.ensures.ok (c.makes_store.ensures.no c.if-makes_store.false) c.requires.ends,
+    ) in (
       of_one (Serves c.in-Ok.plan.command g.D.Disk.model c.in-Ok.plan g.S.Source.left g.K.Sink.written
-    c.args.a c.serve_one.result.a c.args.b) _ (λ old new s. (mem_served g.D.Disk.model g.S.Source.left g.K.Sink.written c.args.a c.serve_one.result.a c.args.b
-    c.in-Ok.plan.command c.in-Ok.plan old new is s).0)
+          c.args.a c.serve_one.result.a c.args.b) _ (λ old new s. (mem_served g.D.Disk.model g.S.Source.left g.K.Sink.written c.args.a c.serve_one.result.a c.args.b
+          c.in-Ok.plan.command c.in-Ok.plan old new is s).0)
           c.args.ends.items c.serve_one.result.ends.items some c.serve_one.ensures.served,
       zip_weaker (Serves c.in-Ok.plan.command g.D.Disk.model c.in-Ok.plan g.S.Source.left g.K.Sink.written
-    c.args.a c.serve_one.result.a c.args.b) _ (λ old new s. mem_same g.S.Source.left g.K.Sink.written plan c.in-Ok.plan old new
+          c.args.a c.serve_one.result.a c.args.b) _ (λ old new s. mem_same g.S.Source.left g.K.Sink.written plan c.in-Ok.plan old new
           same.commits same.page (mem_served g.D.Disk.model g.S.Source.left g.K.Sink.written c.args.a c.serve_one.result.a c.args.b
-    c.in-Ok.plan.command c.in-Ok.plan old new is s).1)
+          c.in-Ok.plan.command c.in-Ok.plan old new is s).1)
           c.args.ends.items c.serve_one.result.ends.items c.serve_one.ensures.served,
     )
 
@@ -220,16 +223,19 @@ pub returns-clause-bulk : goal.returns-clause-bulk
 returns-clause-bulk g c = λ plan asks verb.
     let same = one_plan _ plan c.in-Ok.plan asks c.in-Ok.ensures.ok in
     let is = sym same.command ∙ verb in
-    let some : 1 ≤ length c.args.ends.items = omega (arith, one_end_of c.args.ends.items _ c.in-Ok.plan
-    c.in-Ok.ensures.ok (c.makes_store.ensures.no c.if-makes_store.false) c.requires.ends) in (
+    let some : 1 ≤ length c.args.ends.items = omega (
+      arith,
+      one_end_of c.args.ends.items _ c.in-Ok.plan
+          c.in-Ok.ensures.ok (c.makes_store.ensures.no c.if-makes_store.false) c.requires.ends,
+    ) in (
       of_one (Serves c.in-Ok.plan.command g.D.Disk.model c.in-Ok.plan g.S.Source.left g.K.Sink.written
-    c.args.a c.serve_one.result.a c.args.b) _ (λ old new s. (bulk_served g.D.Disk.model g.S.Source.left g.K.Sink.written c.args.a c.serve_one.result.a c.args.b
-    c.in-Ok.plan.command c.in-Ok.plan old new is s).0)
+          c.args.a c.serve_one.result.a c.args.b) _ (λ old new s. (bulk_served g.D.Disk.model g.S.Source.left g.K.Sink.written c.args.a c.serve_one.result.a c.args.b
+          c.in-Ok.plan.command c.in-Ok.plan old new is s).0)
           c.args.ends.items c.serve_one.result.ends.items some c.serve_one.ensures.served,
       zip_weaker (Serves c.in-Ok.plan.command g.D.Disk.model c.in-Ok.plan g.S.Source.left g.K.Sink.written
-    c.args.a c.serve_one.result.a c.args.b) _ (λ old new s. bulk_same g.K.Sink.written plan c.in-Ok.plan old new same
+          c.args.a c.serve_one.result.a c.args.b) _ (λ old new s. bulk_same g.K.Sink.written plan c.in-Ok.plan old new same
           (bulk_served g.D.Disk.model g.S.Source.left g.K.Sink.written c.args.a c.serve_one.result.a c.args.b
-    c.in-Ok.plan.command c.in-Ok.plan old new is s).1)
+          c.in-Ok.plan.command c.in-Ok.plan old new is s).1)
           c.args.ends.items c.serve_one.result.ends.items c.serve_one.ensures.served,
     )
 

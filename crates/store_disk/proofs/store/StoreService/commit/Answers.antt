@@ -62,8 +62,10 @@ pub invariant_of-self-in-Ok : goal.invariant_of-self-in-Ok
 invariant_of-self-in-Ok g c =
     let was = c.self.invariant.stands in
     record {
-      stands = (served (committed (alone was.0) (change_of c.args.change)),
-          (c.in_ok-undo.ensures.committed (alone was.0) was.1).1);
+      stands = (
+        served (committed (alone was.0) (change_of c.args.change)),
+        (c.in_ok-undo.ensures.committed (alone was.0) was.1).1,
+      );
       ready = c.put.ensures.ready;
       few = c.in_ok-undo.ensures.few;
       place = omega (
