@@ -4,3 +4,4 @@ pub mod Degrees
 pub mod Elements
 pub mod Neighbours
 pub mod Prints
+pub mod Shared

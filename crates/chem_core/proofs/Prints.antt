@@ -9,11 +9,11 @@ use Rattle.std.proofs.lemmas.Nat.Bits.{bit_at-zero, bit_at-lt, bit_at_above, bit
 use Rattle.chem_core.specs.Bits.{HasBit}
 use Rattle.chem_core.specs.Words.{word_bits, bits_of}
 
-length-word_bits : (word : ℕ) → length (word_bits word) ≡ 64
+pub length-word_bits : (word : ℕ) → length (word_bits word) ≡ 64
 unfolding word_bits
 length-word_bits word = refl
 
-word_bits-at : (word k : ℕ) → k < 64 → get_or (word_bits word) k false ≡ eqb (bit_at word k) 1
+pub word_bits-at : (word k : ℕ) → k < 64 → get_or (word_bits word) k false ≡ eqb (bit_at word k) 1
 unfolding word_bits
 word_bits-at word k h = get_or-map-range_with_len (λ k. eqb (bit_at word k) 1) 0 64 k k false h (zero-add k)
 
@@ -90,7 +90,7 @@ bits_of-set words bit within =
           bits_of-at after k ∙ ap (λ b. eqb b 1) same ∙ sym (bits_of-at words k) ∙ sym kept
     ])
 
-eqb-one : (n : ℕ) → eqb n 1 ≡ true → n ≡ 1
+pub eqb-one : (n : ℕ) → eqb n 1 ≡ true → n ≡ 1
 eqb-one n h = grind (arith, nat_tests)
 
 -- each bit of one is in the other exactly where each word has the other's

@@ -1,7 +1,8 @@
 //! Fingerprints: one bit for each feature that a structure may have; most structures that lack what a pattern needs
 //! are ruled out by comparing sixteen words (Daylight Theory Manual, chapter Fingerprints).
-ghost use Rattle.std.specs.Prelude.{◌≡◌, ◌↔◌, ℕ, ◌^◌, ◌<◌, true, length, slice_index, slice_set, bit_and, EachIndex, IsTrue};
-ghost use Rattle.chem_core.specs.Bits.{HasBit};
+ghost use Rattle.std.specs.Prelude.{◌≡◌, ◌↔◌, ◌⊎◌, ℕ, ◌^◌, ◌<◌, ◌≤◌, true, length, slice_index, slice_set, bit_and, bit_or, EachIndex, IsTrue};
+ghost use Rattle.chem_core.specs.Bits.{HasBit, set_bits, shared_bits};
+ghost use Rattle.chem_core.specs.Words.{bits_of};
 
 use std::marker::Model;
 
@@ -57,6 +58,30 @@ impl Print {
     {
         covers(&self.words, &need.words)
     }
+
+    /// Sets each bit of another print as well.
+    pub fn unite(&mut self, other: &Print)
+        ensures value { (bit : ℕ) → HasBit self.new bit ↔ (HasBit self.old bit ⊎ HasBit other.now bit) }
+        ensures length { length self.new ≡ 1024 }
+    {
+        unite(&mut self.words, &other.words);
+    }
+
+    /// How many bits are set.
+    pub fn count(&self) -> u32
+        ensures value { result ≡ set_bits self.now }
+        ensures length { length self.now ≡ 1024 }
+    {
+        self.count_shared(self)
+    }
+
+    /// How many bits are set in this print and in another.
+    pub fn count_shared(&self, other: &Print) -> u32
+        ensures value { result ≡ shared_bits self.now other.now }
+        ensures length { length self.now ≡ 1024 }
+    {
+        count_shared(&self.words, &other.words)
+    }
 }
 
 // Whether each word of `have` has all bits of the word of `want` at its place.
@@ -73,4 +98,29 @@ fn covers(have: &[u64], want: &[u64]) -> bool
         }
     }
     true
+}
+
+// Sets in each word the bits of the word of `more` at its place.
+fn unite(words: &mut [u64], more: &[u64])
+    requires { length words.old ≡ length more.now }
+    ensures length { length words.new ≡ length words.old }
+    ensures value { EachIndex words.old (λ k.
+        slice_index words.new k ≡ bit_or (slice_index words.old k) (slice_index more.now k)) }
+{
+    for place in 0..words.len() {
+        words[place] |= more[place];
+    }
+}
+
+// How many bits are in both of two words at the same place.
+fn count_shared(left: &[u64], right: &[u64]) -> u32
+    requires length { length left.now ≡ length right.now }
+    requires few { length left.now ≤ 16 }
+    ensures { result ≡ shared_bits (bits_of left.now) (bits_of right.now) }
+{
+    let mut count = 0;
+    for place in 0..left.len() {
+        count += (left[place] & right[place]).count_ones();
+    }
+    count
 }

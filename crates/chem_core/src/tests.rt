@@ -51,6 +51,17 @@ fn prints(rt: HostRuntime) {
     }
     assert!(rt; two.holds(&empty) && three.holds(&two) && two.holds(&two));
     assert!(rt; !empty.holds(&two) && !two.holds(&three));
+    assert_eq!(rt; (empty.count(), two.count(), three.count()), (0, 2, 3));
+    let mut four = Print::empty();
+    four.set(0);
+    four.set(64);
+    assert_eq!(rt;
+        (four.count_shared(&three), four.count_shared(&two)),
+        (1, 0)
+    );
+    four.unite(&two);
+    assert!(rt; four.holds(&two) && four.has(0) && four.has(64));
+    assert_eq!(rt; four.count(), 4);
 }
 
 #[test]
