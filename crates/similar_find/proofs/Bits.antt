@@ -1,55 +1,48 @@
--- Bits of a print, one after another.
-use Rattle.std.proofs.Common.{◌≡◌, ℕ, ◌+◌, ◌≤◌, ◌&&◌, ◌||◌, Bool, true, false, cond, map, List, [], ◌∷◌, refl, sym, ap, ◌∙◌, count_by, arith, IsTrue}
-use Rattle.std.proofs.lemmas.List.FromFn.{sum_by-map-range_with_len_more}
-use Rattle.std.specs.Prelude.{◌↔◌}
-use Rattle.std.specs.List.{range_with_len}
-use mir.Val.{bool_byte}
-use Rattle.similar_find.specs.Score.{count_below}
+-- Bits of two prints that are in both, or in at least one.
+use Rattle.std.proofs.Common.{◌≡◌, ◌+◌, ◌≤◌, ◌&&◌, ◌||◌, Bool, true, false, cond, length, List, [], ◌∷◌, refl, arith, zip}
+use Rattle.std.proofs.lemmas.List.Sums.{count_by-le-length, sum_by-cons}
+use Rattle.chem_core.specs.Bits.{set_bits, shared_bits}
+use Rattle.similar_find.specs.Score.{all_bits}
 
--- a truth value that is true exactly where another is
-pub same_truth : (a b : Bool) → (IsTrue a ↔ (b ≡ true)) → a ≡ b
-same_truth true true h = refl
-same_truth true false h = sym (h.0 refl)
-same_truth false true h = h.1 refl
-same_truth false false h = refl
+one-bit : (a b : Bool) → cond a 1 0 + cond b 1 0 ≡ cond (a && b) 1 0 + cond (a || b) 1 0
+one-bit true true = refl
+one-bit true false = refl
+one-bit false true = refl
+one-bit false false = refl
 
-map_same : (xs : List ℕ) → map (λ x. x) xs ≡ xs
-map_same [] = refl
-map_same (x ∷ xs) = ap (λ ys. x ∷ ys) (map_same xs)
+-- the bits of each are those in both, and those in at least one
+pub counted : (xs ys : List Bool) → length xs ≡ length ys
+    → set_bits xs + set_bits ys ≡ shared_bits xs ys + all_bits xs ys
+counted [] [] e = refl
+counted [] (y ∷ ys) e = absurd (omega (arith, e))
+counted (x ∷ xs) [] e = absurd (omega (arith, e))
+counted (x ∷ xs) (y ∷ ys) e =
+    let mine = sum_by-cons (λ (b : Bool). cond b 1 0) x xs in
+    let its = sum_by-cons (λ (b : Bool). cond b 1 0) y ys in
+    let shared = sum_by-cons (λ (p : Bool × Bool). cond (p.0 && p.1) 1 0) (x, y) (zip xs ys) in
+    let all = sum_by-cons (λ (p : Bool × Bool). cond (p.0 || p.1) 1 0) (x, y) (zip xs ys) in
+    let more = counted xs ys (omega (arith, e)) in
+    omega (arith, mine, its, shared, all, more, one-bit x y)
 
-none : (p : ℕ → Bool) → count_below 0 p ≡ 0
-unfolding count_below
-none p = refl
-
--- one more number that is counted
-pub count-more : (p : ℕ → Bool) (n : ℕ) → count_below (n + 1) p ≡ count_below n p + cond (p n) 1 0
-unfolding count_below
-count-more p n =
-    let e : 0 + n ≡ n = omega arith in
-    ap (count_by p) (sym (map_same (range_with_len 0 (n + 1))))
-    ∙ sum_by-map-range_with_len_more (λ x. cond (p x) 1 0) (λ (x : ℕ). x) 0 n n e
-    ∙ ap (λ xs. count_by p xs + cond (p n) 1 0) (map_same (range_with_len 0 n))
-
-pub count-none : (p : ℕ → Bool) → 0 ≡ count_below 0 p
-count-none p = sym (none p)
-
--- a count that goes on
-pub counted : (p : ℕ → Bool) (n count more : ℕ) (b : Bool) → count ≡ count_below n p → b ≡ p n → more ≡ cond b 1 0
-    → count + more ≡ count_below (n + 1) p
-counted p n count more b before is adds =
-    ap (λ k. k + more) before ∙ ap (λ k. count_below n p + k) (adds ∙ ap (λ t. cond t 1 0) is) ∙ sym (count-more p n)
-
--- what is in both is in at least one
-pub both-one : (a b : Bool) → cond (a && b) 1 0 ≤ cond (a || b) 1 0
+both-one : (a b : Bool) → cond (a && b) 1 0 ≤ cond (a || b) 1 0
 both-one true true = omega arith
 both-one true false = omega arith
 both-one false b = omega arith
 
-pub one-at-most : (a : Bool) → cond a 1 0 ≤ 1
-one-at-most true = omega arith
-one-at-most false = omega arith
+-- what is in both is in at least one
+pub shared-all : (xs ys : List Bool) → shared_bits xs ys ≤ all_bits xs ys
+shared-all [] ys = omega arith
+shared-all (x ∷ xs) [] = omega arith
+shared-all (x ∷ xs) (y ∷ ys) =
+    let shared = sum_by-cons (λ (p : Bool × Bool). cond (p.0 && p.1) 1 0) (x, y) (zip xs ys) in
+    let all = sum_by-cons (λ (p : Bool × Bool). cond (p.0 || p.1) 1 0) (x, y) (zip xs ys) in
+    omega (arith, shared, all, shared-all xs ys, both-one x y)
 
--- a truth value as a number
-pub truth-number : (b : Bool) → bool_byte b ≡ cond b 1 0
-truth-number true = refl
-truth-number false = refl
+length-zip : (xs ys : List Bool) → length (zip xs ys) ≤ length xs
+length-zip [] ys = omega arith
+length-zip (x ∷ xs) [] = omega arith
+length-zip (x ∷ xs) (y ∷ ys) = omega (arith, length-zip xs ys)
+
+-- no more than a print has
+pub all-few : (xs ys : List Bool) → all_bits xs ys ≤ length xs
+all-few xs ys = omega (arith, count_by-le-length (λ (p : Bool × Bool). p.0 || p.1) (zip xs ys), length-zip xs ys)

@@ -1,31 +1,41 @@
-use Rattle.std.proofs.Common.{◌≡◌, ◌&&◌, ◌||◌, cond, ap, ◌∙◌, arith}
-use Rattle.similar_find.specs.Score.{has_bit}
-use Rattle.similar_find.proofs.Bits.{counted, count-none, both-one, one-at-most, truth-number}
+use Rattle.std.proofs.Common.{◌∙◌, arith, sym}
+use Rattle.similar_find.proofs.Bits.{all-few, counted, shared-all}
 use Rattle.similar_find.proofs.shared.score.Goals as goal
 
-pub loop-bit-init : goal.loop-bit-init
-loop-bit-init c = record {
-  shared = count-none (λ bit. has_bit c.args.left.now bit && has_bit c.args.right.now bit);
-  all = count-none (λ bit. has_bit c.args.left.now bit || has_bit c.args.right.now bit);
-  part = omega arith;
-  few = omega arith;
-}
+pub overflow_sub-result : goal.overflow_sub-result
+overflow_sub-result c =
+    let left = c.args.left.now in
+    let right = c.args.right.now in
+    let sum = counted left right (c.count.ensures.length ∙ sym c.count-2.ensures.length) in
+    omega (arith, sum, c.count.ensures.value, c.count-2.ensures.value, c.count_shared-shared.ensures.value)
 
-pub loop-bit-preserved : goal.loop-bit-preserved
-loop-bit-preserved c =
-    let here = has_bit c.args.left.now c.loop-bit.bit in
-    let there = has_bit c.args.right.now c.loop-bit.bit in
-    let shared : c.from-shared.result ≡ cond c.is_in_both.result 1 0 = c.from-shared.ensures
-    ∙ truth-number c.is_in_both.result in
-    let all : c.from-all.result ≡ cond c.is_in_one.result 1 0 = c.from-all.ensures
-    ∙ truth-number c.is_in_one.result in
-    let both : c.from-shared.result ≡ cond (here && there) 1 0 = shared ∙ ap (λ b. cond b 1 0) c.is_in_both.ensures in
-    let one : c.from-all.result ≡ cond (here || there) 1 0 = all ∙ ap (λ b. cond b 1 0) c.is_in_one.ensures in
-    record {
-      shared = counted (λ bit. has_bit c.args.left.now bit && has_bit c.args.right.now bit) c.loop-bit.bit _ _ _
-          c.loop-bit.invariant.shared c.is_in_both.ensures shared;
-      all = counted (λ bit. has_bit c.args.left.now bit || has_bit c.args.right.now bit) c.loop-bit.bit _ _ _
-          c.loop-bit.invariant.all c.is_in_one.ensures all;
-      part = let before = c.loop-bit.invariant.part in let le = both-one here there in omega (arith, both, one);
-      few = let before = c.loop-bit.invariant.few in let le = one-at-most (here || there) in omega (arith, one);
-    }
+pub returns-clause-all : goal.returns-clause-all
+returns-clause-all c =
+    let left = c.args.left.now in
+    let right = c.args.right.now in
+    let sum = counted left right (c.count.ensures.length ∙ sym c.count-2.ensures.length) in
+    omega (arith, sum, c.count.ensures.value, c.count-2.ensures.value, c.count_shared-shared.ensures.value)
+
+pub returns-clause-part : goal.returns-clause-part
+returns-clause-part c =
+    let left = c.args.left.now in
+    let right = c.args.right.now in
+    let sum = counted left right (c.count.ensures.length ∙ sym c.count-2.ensures.length) in
+    let part = shared-all left right in
+    omega (arith, sum, part, c.count.ensures.value, c.count-2.ensures.value, c.count_shared-shared.ensures.value)
+
+pub returns-clause-few : goal.returns-clause-few
+returns-clause-few c =
+    let left = c.args.left.now in
+    let right = c.args.right.now in
+    let sum = counted left right (c.count.ensures.length ∙ sym c.count-2.ensures.length) in
+    let few = all-few left right in
+    omega (
+      arith,
+      sum,
+      few,
+      c.count.ensures.length,
+      c.count.ensures.value,
+      c.count-2.ensures.value,
+      c.count_shared-shared.ensures.value,
+    )
