@@ -1,6 +1,6 @@
 -- The row of a carbon atom without charge and double bonds.
-use Rattle.std.proofs.Common.{ℕ, ◌≡◌, ◌<◌, Bool, true, false, List, None, Some, length, refl, sym, ap, subst, ◌∙◌, arith}
-use Rattle.std.specs.Prelude.{if◌then◌else◌, pos, slice_index_or}
+use Rattle.std.proofs.Common.{ℕ, ◌≡◌, Bool, true, false, None, Some, refl, sym, ap, subst, ◌∙◌}
+use Rattle.std.specs.Prelude.{if◌then◌else◌, pos}
 use Rattle.aromatic.specs.declared.environment.Environment.{Environment}
 use Rattle.aromatic.specs.declared.table.Row.{Row}
 use Rattle.aromatic.specs.declared.table.Family.TheVariants.{Carbon}
@@ -61,33 +61,14 @@ plain_carbon x number charge inner outer =
     subst (λ y. row_of y ≡ (if fits plain_row y then Some plain_row else None)) same
     (of_fields x.lower x.hydrogens x.neighbours x.ring_bonds x.higher x.to_oxygen x.to_hetero)
 
-row_there : (d : Row) → slice_index_or rows 8 d ≡ plain_row
-unfolding rows
-row_there d = refl
+pub carbon_fits : (x : Environment) (b : Bool) → x.number ≡ 6 → x.charge ≡ pos 0 → x.ring_doubles ≡ 0
+    → x.outer_doubles ≡ 0 → b ≡ fits plain_row x → b ≡ true → Some plain_row ≡ row_of x
+carbon_fits x b number charge inner outer test holds =
+    sym (plain_carbon x number charge inner outer
+    ∙ ap (λ k. if k then Some plain_row else None) (sym test ∙ holds))
 
-row_count : length rows ≡ 20
-unfolding rows
-row_count = refl
-
-pub in_table : (table : List Row) → table ≡ rows → 8 < length table
-in_table table is = let count : length table ≡ 20 = ap length is ∙ row_count in omega arith
-
-pub carbon_fits : (x : Environment) (table : List Row) (d : Row) (b : Bool) → table ≡ rows → x.number ≡ 6
-    → x.charge ≡ pos 0 → x.ring_doubles ≡ 0 → x.outer_doubles ≡ 0 → b ≡ fits (slice_index_or table 8 d) x → b ≡ true
-    → Some (slice_index_or table 8 d) ≡ row_of x
-carbon_fits x table d b is number charge inner outer test holds =
-    let row : slice_index_or table 8 d ≡ plain_row = rw is (row_there d) in
-    let here : fits plain_row x ≡ true = rw row at (sym test ∙ holds) in
-    let found : row_of x ≡ Some plain_row = plain_carbon x number charge inner outer
-    ∙ ap (λ k. if k then Some plain_row else None) here in
-    ap (λ r. Some r) row ∙ sym found
-
-pub carbon_past : (x : Environment) (table : List Row) (d : Row) (b : Bool) → table ≡ rows → x.number ≡ 6
-    → x.charge ≡ pos 0 → x.ring_doubles ≡ 0 → x.outer_doubles ≡ 0 → b ≡ fits (slice_index_or table 8 d) x → b ≡ false
-    → None ≡ row_of x
-carbon_past x table d b is number charge inner outer test fails =
-    let row : slice_index_or table 8 d ≡ plain_row = rw is (row_there d) in
-    let here : fits plain_row x ≡ false = rw row at (sym test ∙ fails) in
-    let found : row_of x ≡ None = plain_carbon x number charge inner outer
-    ∙ ap (λ k. if k then Some plain_row else None) here in
-    sym found
+pub carbon_past : (x : Environment) (b : Bool) → x.number ≡ 6 → x.charge ≡ pos 0 → x.ring_doubles ≡ 0
+    → x.outer_doubles ≡ 0 → b ≡ fits plain_row x → b ≡ false → None ≡ row_of x
+carbon_past x b number charge inner outer test fails =
+    sym (plain_carbon x number charge inner outer
+    ∙ ap (λ k. if k then Some plain_row else None) (sym test ∙ fails))

@@ -1,5 +1,5 @@
 -- How many electrons an atom gives to an aromatic ring. The table is this project's own profile. For callers.
-use Rattle.std.specs.Prelude.{ℕ, ◌+◌, ◌==◌, ◌&&◌, ◌||◌, not, nat_le, Bool, true, false, List, [], ◌∷◌, slice_get, slice_index_or, count_by, map, Option, None, Some, option_and_then, option_map, if◌then◌else◌, pos, neg_ℤ}
+use Rattle.std.specs.Prelude.{ℕ, ℤ, ◌+◌, ◌==◌, ◌&&◌, ◌||◌, not, nat_le, Bool, true, false, List, [], ◌∷◌, slice_get, slice_index_or, count_by, map, Option, None, Some, option_and_then, option_map, if◌then◌else◌, pos, neg_ℤ}
 use Rattle.std.specs.List.{find, list_any, zip}
 use Rattle.std.specs.Ordering.{int_eq}
 use Rattle.chem_core.specs.declared.sketch.SketchAtom.{SketchAtom}
@@ -100,63 +100,40 @@ fits row x =
     has_number row.family x.number && int_eq row.charge x.charge && (not row.lower || x.lower)
     && has_doubles row.doubles x && has_connected row.connected x
 
+-- a row: elements, charge, whether it asks for a symbol in lower case, double bonds, neighbours and hydrogens,
+-- electrons
+abbrev row : Family → ℤ → Bool → Doubles → Option ℕ → ℕ → Row
+row family charge lower doubles connected electrons = record {
+  family = family;
+  charge = charge;
+  lower = lower;
+  doubles = doubles;
+  connected = connected;
+  electrons = electrons;
+}
+
 unfoldable pub rows : List Row
 rows =
-    record { family = Carbon; charge = pos 0; lower = false; doubles = Ring; connected = None; electrons = 1 } ∷
-    record { family = NitrogenGroup; charge = pos 0; lower = false; doubles = Ring; connected = None; electrons = 1 } ∷
-    record { family = NitrogenGroup; charge = pos 1; lower = false; doubles = Ring; connected = None; electrons = 1 } ∷
-    record { family = OxygenGroup; charge = pos 1; lower = false; doubles = Ring; connected = None; electrons = 1 } ∷
-    record { family = Boron; charge = neg_ℤ (pos 1); lower = false; doubles = Ring; connected = None; electrons = 1 } ∷
-    record {
-      family = Nitrogen;
-      charge = pos 0;
-      lower = false;
-      doubles = RingAndOxygen;
-      connected = None;
-      electrons =
-          1;
-    } ∷
-    record { family = Nitrogen; charge = pos 0; lower = true; doubles = Oxygen; connected = Some 3; electrons = 1 } ∷
-    record { family = Carbon; charge = pos 0; lower = false; doubles = Hetero; connected = None; electrons = 0 } ∷
-    record { family = Carbon; charge = pos 0; lower = true; doubles = Absent; connected = Some 3; electrons = 1 } ∷
-    record { family = NitrogenGroup; charge = pos 0; lower = true; doubles = Absent; connected = Some 2; electrons = 1 }
-    ∷
-    record { family = NitrogenGroup; charge = pos 1; lower = true; doubles = Absent; connected = Some 3; electrons = 1 }
-    ∷
-    record { family = OxygenGroup; charge = pos 1; lower = true; doubles = Absent; connected = Some 2; electrons = 1 } ∷
-    record { family = Boron; charge = pos 0; lower = true; doubles = Absent; connected = Some 2; electrons = 1 } ∷
-    record { family = Boron; charge = neg_ℤ (pos 1); lower = true; doubles = Absent; connected = Some 3; electrons = 1 }
-    ∷
-    record {
-      family = NitrogenGroup;
-      charge = pos 0;
-      lower = false;
-      doubles = Absent;
-      connected = Some 3;
-      electrons =
-          2;
-    } ∷
-    record {
-      family = NitrogenOrPhosphorus;
-      charge = neg_ℤ (pos 1);
-      lower = false;
-      doubles = Absent;
-      connected = Some 2;
-      electrons = 2;
-    } ∷
-    record { family = OxygenGroup; charge = pos 0; lower = false; doubles = Absent; connected = Some 2; electrons = 2 }
-    ∷
-    record {
-      family = Carbon;
-      charge = neg_ℤ (pos 1);
-      lower = false;
-      doubles = Absent;
-      connected = Some 3;
-      electrons =
-          2;
-    } ∷
-    record { family = Carbon; charge = pos 1; lower = false; doubles = Absent; connected = Some 3; electrons = 0 } ∷
-    record { family = Boron; charge = pos 0; lower = false; doubles = Absent; connected = Some 3; electrons = 0 } ∷
+    row Carbon (pos 0) false Ring None 1 ∷
+    row NitrogenGroup (pos 0) false Ring None 1 ∷
+    row NitrogenGroup (pos 1) false Ring None 1 ∷
+    row OxygenGroup (pos 1) false Ring None 1 ∷
+    row Boron (neg_ℤ (pos 1)) false Ring None 1 ∷
+    row Nitrogen (pos 0) false RingAndOxygen None 1 ∷
+    row Nitrogen (pos 0) true Oxygen (Some 3) 1 ∷
+    row Carbon (pos 0) false Hetero None 0 ∷
+    row Carbon (pos 0) true Absent (Some 3) 1 ∷
+    row NitrogenGroup (pos 0) true Absent (Some 2) 1 ∷
+    row NitrogenGroup (pos 1) true Absent (Some 3) 1 ∷
+    row OxygenGroup (pos 1) true Absent (Some 2) 1 ∷
+    row Boron (pos 0) true Absent (Some 2) 1 ∷
+    row Boron (neg_ℤ (pos 1)) true Absent (Some 3) 1 ∷
+    row NitrogenGroup (pos 0) false Absent (Some 3) 2 ∷
+    row NitrogenOrPhosphorus (neg_ℤ (pos 1)) false Absent (Some 2) 2 ∷
+    row OxygenGroup (pos 0) false Absent (Some 2) 2 ∷
+    row Carbon (neg_ℤ (pos 1)) false Absent (Some 3) 2 ∷
+    row Carbon (pos 1) false Absent (Some 3) 0 ∷
+    row Boron (pos 0) false Absent (Some 3) 0 ∷
     []
 
 abbrev pub is_by_ring : Doubles → Bool

@@ -5,6 +5,7 @@ ghost use Rattle.aromatic.specs.declared.environment.Environment.{Environment};
 ghost use Rattle.aromatic.specs.declared.table.Row.{Row};
 ghost use Rattle.aromatic.specs.Electrons.{by_ring_double, fits, has_connected, has_doubles, has_number, row_of, rows};
 
+use self::{Doubles as D, Family as F};
 use crate::environment::Environment;
 
 /// Elements that share a row.
@@ -100,9 +101,8 @@ fn plain_carbon_row(environment: &Environment) -> Option<Row>
     requires outer { environment.now.outer_doubles ≡ 0 }
     ensures { result ≡ row_of environment.now }
 {
-    let row = table()[PLAIN_CARBON];
-    if row.fits(environment) {
-        Some(row)
+    if PLAIN_CARBON.fits(environment) {
+        Some(PLAIN_CARBON)
     } else {
         None
     }
@@ -172,168 +172,36 @@ fn table() -> &'static [Row]
     &ROWS
 }
 
-// The place of the row of carbon without charge and double bonds.
-const PLAIN_CARBON: usize = 8;
+// Carbon without charge and double bonds, as most atoms of rings are.
+const PLAIN_CARBON: Row = Row {
+    family: Family::Carbon,
+    charge: 0,
+    lower: true,
+    doubles: Doubles::Absent,
+    connected: Some(3),
+    electrons: 1,
+};
 
+#[rattlefmt::skip]
 const ROWS: [Row; 20] = [
-    Row {
-        family: Family::Carbon,
-        charge: 0,
-        lower: false,
-        doubles: Doubles::Ring,
-        connected: None,
-        electrons: 1,
-    },
-    Row {
-        family: Family::NitrogenGroup,
-        charge: 0,
-        lower: false,
-        doubles: Doubles::Ring,
-        connected: None,
-        electrons: 1,
-    },
-    Row {
-        family: Family::NitrogenGroup,
-        charge: 1,
-        lower: false,
-        doubles: Doubles::Ring,
-        connected: None,
-        electrons: 1,
-    },
-    Row {
-        family: Family::OxygenGroup,
-        charge: 1,
-        lower: false,
-        doubles: Doubles::Ring,
-        connected: None,
-        electrons: 1,
-    },
-    Row {
-        family: Family::Boron,
-        charge: -1,
-        lower: false,
-        doubles: Doubles::Ring,
-        connected: None,
-        electrons: 1,
-    },
-    Row {
-        family: Family::Nitrogen,
-        charge: 0,
-        lower: false,
-        doubles: Doubles::RingAndOxygen,
-        connected: None,
-        electrons: 1,
-    },
-    Row {
-        family: Family::Nitrogen,
-        charge: 0,
-        lower: true,
-        doubles: Doubles::Oxygen,
-        connected: Some(3),
-        electrons: 1,
-    },
-    Row {
-        family: Family::Carbon,
-        charge: 0,
-        lower: false,
-        doubles: Doubles::Hetero,
-        connected: None,
-        electrons: 0,
-    },
-    Row {
-        family: Family::Carbon,
-        charge: 0,
-        lower: true,
-        doubles: Doubles::Absent,
-        connected: Some(3),
-        electrons: 1,
-    },
-    Row {
-        family: Family::NitrogenGroup,
-        charge: 0,
-        lower: true,
-        doubles: Doubles::Absent,
-        connected: Some(2),
-        electrons: 1,
-    },
-    Row {
-        family: Family::NitrogenGroup,
-        charge: 1,
-        lower: true,
-        doubles: Doubles::Absent,
-        connected: Some(3),
-        electrons: 1,
-    },
-    Row {
-        family: Family::OxygenGroup,
-        charge: 1,
-        lower: true,
-        doubles: Doubles::Absent,
-        connected: Some(2),
-        electrons: 1,
-    },
-    Row {
-        family: Family::Boron,
-        charge: 0,
-        lower: true,
-        doubles: Doubles::Absent,
-        connected: Some(2),
-        electrons: 1,
-    },
-    Row {
-        family: Family::Boron,
-        charge: -1,
-        lower: true,
-        doubles: Doubles::Absent,
-        connected: Some(3),
-        electrons: 1,
-    },
-    Row {
-        family: Family::NitrogenGroup,
-        charge: 0,
-        lower: false,
-        doubles: Doubles::Absent,
-        connected: Some(3),
-        electrons: 2,
-    },
-    Row {
-        family: Family::NitrogenOrPhosphorus,
-        charge: -1,
-        lower: false,
-        doubles: Doubles::Absent,
-        connected: Some(2),
-        electrons: 2,
-    },
-    Row {
-        family: Family::OxygenGroup,
-        charge: 0,
-        lower: false,
-        doubles: Doubles::Absent,
-        connected: Some(2),
-        electrons: 2,
-    },
-    Row {
-        family: Family::Carbon,
-        charge: -1,
-        lower: false,
-        doubles: Doubles::Absent,
-        connected: Some(3),
-        electrons: 2,
-    },
-    Row {
-        family: Family::Carbon,
-        charge: 1,
-        lower: false,
-        doubles: Doubles::Absent,
-        connected: Some(3),
-        electrons: 0,
-    },
-    Row {
-        family: Family::Boron,
-        charge: 0,
-        lower: false,
-        doubles: Doubles::Absent,
-        connected: Some(3),
-        electrons: 0,
-    },
+    Row { family: F::Carbon, charge: 0, lower: false, doubles: D::Ring, connected: None, electrons: 1 },
+    Row { family: F::NitrogenGroup, charge: 0, lower: false, doubles: D::Ring, connected: None, electrons: 1 },
+    Row { family: F::NitrogenGroup, charge: 1, lower: false, doubles: D::Ring, connected: None, electrons: 1 },
+    Row { family: F::OxygenGroup, charge: 1, lower: false, doubles: D::Ring, connected: None, electrons: 1 },
+    Row { family: F::Boron, charge: -1, lower: false, doubles: D::Ring, connected: None, electrons: 1 },
+    Row { family: F::Nitrogen, charge: 0, lower: false, doubles: D::RingAndOxygen, connected: None, electrons: 1 },
+    Row { family: F::Nitrogen, charge: 0, lower: true, doubles: D::Oxygen, connected: Some(3), electrons: 1 },
+    Row { family: F::Carbon, charge: 0, lower: false, doubles: D::Hetero, connected: None, electrons: 0 },
+    PLAIN_CARBON,
+    Row { family: F::NitrogenGroup, charge: 0, lower: true, doubles: D::Absent, connected: Some(2), electrons: 1 },
+    Row { family: F::NitrogenGroup, charge: 1, lower: true, doubles: D::Absent, connected: Some(3), electrons: 1 },
+    Row { family: F::OxygenGroup, charge: 1, lower: true, doubles: D::Absent, connected: Some(2), electrons: 1 },
+    Row { family: F::Boron, charge: 0, lower: true, doubles: D::Absent, connected: Some(2), electrons: 1 },
+    Row { family: F::Boron, charge: -1, lower: true, doubles: D::Absent, connected: Some(3), electrons: 1 },
+    Row { family: F::NitrogenGroup, charge: 0, lower: false, doubles: D::Absent, connected: Some(3), electrons: 2 },
+    Row { family: F::NitrogenOrPhosphorus, charge: -1, lower: false, doubles: D::Absent, connected: Some(2), electrons: 2 },
+    Row { family: F::OxygenGroup, charge: 0, lower: false, doubles: D::Absent, connected: Some(2), electrons: 2 },
+    Row { family: F::Carbon, charge: -1, lower: false, doubles: D::Absent, connected: Some(3), electrons: 2 },
+    Row { family: F::Carbon, charge: 1, lower: false, doubles: D::Absent, connected: Some(3), electrons: 0 },
+    Row { family: F::Boron, charge: 0, lower: false, doubles: D::Absent, connected: Some(3), electrons: 0 },
 ];
