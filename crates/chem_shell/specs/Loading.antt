@@ -12,8 +12,9 @@ use Rattle.chem_shell.specs.OnDisk.{IsRefused, RunsOn}
 use Rattle.chem_shell.specs.declared.request.Plan.{Plan}
 use Rattle.chem_shell.specs.declared.request.Verb.{Verb}
 use Rattle.chem_shell.specs.declared.request.Verb.TheVariants.{Mem, Init, Run, Bulk}
-use Rattle.chem_shell.specs.declared.top.End.{End}
-use Rattle.chem_shell.specs.declared.top.TheConstants.{DISK_FAULT, NOT_A_STORE, DAMAGED, NO_MEMORY, SOURCE_FAULT, SINK_FAULT, INPUT_TOO_LONG, INPUT_LIMIT}
+use Rattle.chem_shell.specs.declared.ends.End.{End}
+use Rattle.chem_shell.specs.declared.ends.TheConstants.{INPUT_LIMIT}
+use Rattle.chem_shell.specs.declared.status.TheConstants.{DISK_FAULT, NOT_A_STORE, DAMAGED, NO_MEMORY, SOURCE_FAULT, SINK_FAULT, INPUT_TOO_LONG}
 
 -- the causes of the statuses that come of a disk
 pub record HasCauses {D : Type 0} (model : DiskModel D) (a a' : D) (status place : ℕ) : Type 0 where

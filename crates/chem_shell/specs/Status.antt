@@ -2,7 +2,7 @@
 use Rattle.std.specs.Prelude.{◌≡◌, ◌⊎◌, ℕ, List, [], ◌∷◌, if◌then◌else◌, ◌==◌}
 use Rattle.session_run.specs.declared.settings.EndStatus.{EndStatus}
 use Rattle.session_run.specs.declared.settings.EndStatus.TheVariants.{Done, SourceFault, SinkFault, NoMemory, InputTooLong, Worn}
-use Rattle.chem_shell.specs.declared.top.TheConstants.{DONE, SOURCE_FAULT, SINK_FAULT, DISK_FAULT, NOT_A_STORE, DAMAGED, NO_MEMORY, INPUT_TOO_LONG, NOT_EMPTY}
+use Rattle.chem_shell.specs.declared.status.TheConstants.{DONE, SOURCE_FAULT, SINK_FAULT, DISK_FAULT, NOT_A_STORE, DAMAGED, NO_MEMORY, INPUT_TOO_LONG, NOT_EMPTY}
 
 -- done, a fault of the source or of the sink, want of memory, an input that is too long
 abbrev pub IsEndStatus : ℕ → Type 0

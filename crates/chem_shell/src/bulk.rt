@@ -6,9 +6,10 @@ ghost use Rattle.chem_shell.specs.Serving.{Puts};
 ghost use Rattle.chem_shell.specs.Summed.{IsSummary};
 ghost use Rattle.chem_shell.specs.Words.{IsWithinLimits};
 
+use crate::ends::End;
 use crate::mem::run_script;
 use crate::request::Plan;
-use crate::top::{DONE, End, NO_MEMORY, SINK_FAULT};
+use crate::status::{DONE, NO_MEMORY, SINK_FAULT};
 use chem_gen::{script, summary};
 use io_edge::{MemSink, MemSource, PutFault, Sink};
 use session_run::EndStatus;

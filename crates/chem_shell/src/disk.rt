@@ -11,10 +11,10 @@ ghost use Rattle.chem_shell.specs.OnDisk.{Creates, IsRefused, RunsOn};
 ghost use Rattle.chem_shell.specs.Status.{IsEndStatus};
 ghost use Rattle.chem_shell.specs.Words.{IsWithinLimits};
 
+use crate::ends::{End, INPUT_LIMIT};
 use crate::request::Plan;
-use crate::serving::end_status;
-use crate::top::{
-    DAMAGED, DISK_FAULT, DONE, End, INPUT_LIMIT, NO_MEMORY, NOT_A_STORE, NOT_EMPTY, USAGE,
+use crate::status::{
+    DAMAGED, DISK_FAULT, DONE, NO_MEMORY, NOT_A_STORE, NOT_EMPTY, USAGE, end_status,
 };
 use disk_edge::Disk;
 use io_edge::{Sink, Source};

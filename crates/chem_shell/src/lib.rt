@@ -7,12 +7,15 @@
 
 mod bulk;
 mod disk;
+mod ends;
 mod fault;
 mod mem;
 mod request;
-mod serving;
-pub mod top;
+pub mod status;
+mod top;
 mod words;
 
+pub use ends::{End, INPUT_LIMIT};
 pub use request::{Plan, PlanFault, Verb};
+pub use top::{Outcome, chemdb};
 pub use words::{plan, word_fault};

@@ -9,9 +9,9 @@ ghost use Rattle.chem_shell.specs.Runs.{AreOfRun};
 ghost use Rattle.chem_shell.specs.Serving.{IsScriptServed};
 ghost use Rattle.chem_shell.specs.Words.{IsWithinLimits};
 
+use crate::ends::{End, INPUT_LIMIT};
 use crate::request::Plan;
-use crate::serving::end_status;
-use crate::top::{End, INPUT_LIMIT};
+use crate::status::end_status;
 use io_edge::{Sink, Source};
 use par_search::NoMeter;
 use session_run::{EndStatus, Settings, services_are_true, session};

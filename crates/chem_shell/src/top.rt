@@ -16,8 +16,12 @@ ghost use Rattle.chem_shell.specs.Words.{texts, Asks, AsksFor, IsWithinLimits, O
 
 use crate::bulk::serve_bulk;
 use crate::disk::{create, serve_run};
+use crate::ends::{End, INPUT_LIMIT};
 use crate::mem::serve_mem;
 use crate::request::{Plan, PlanFault, Verb};
+use crate::status::{
+    DAMAGED, DISK_FAULT, INPUT_TOO_LONG, NO_MEMORY, NOT_A_STORE, SINK_FAULT, SOURCE_FAULT, USAGE,
+};
 use crate::words::plan;
 use disk_edge::Disk;
 use io_edge::{Sink, Source};
@@ -25,48 +29,6 @@ use std::alloc::Global;
 use std::sync::Wait;
 use std::thread::Threads;
 use store_disk::Disks;
-
-/// The most bytes that are taken of an input.
-pub const INPUT_LIMIT: u64 = 4_294_967_296;
-
-/// Every line was answered.
-pub const DONE: u8 = 0;
-
-/// The words ask for nothing that is known.
-pub const USAGE: u8 = 2;
-
-/// A source failed.
-pub const SOURCE_FAULT: u8 = 3;
-
-/// A sink failed.
-pub const SINK_FAULT: u8 = 4;
-
-/// Disk `a` failed as a store was made there or loaded.
-pub const DISK_FAULT: u8 = 5;
-
-/// Disk `a` has no store.
-pub const NOT_A_STORE: u8 = 6;
-
-/// The store of disk `a` is damaged.
-pub const DAMAGED: u8 = 7;
-
-/// Memory ran out.
-pub const NO_MEMORY: u8 = 8;
-
-/// As many bytes were taken of an input as may be, and it goes on.
-pub const INPUT_TOO_LONG: u8 = 9;
-
-/// Disk `a` has bytes already, and no store was made there.
-pub const NOT_EMPTY: u8 = 10;
-
-/// One end that is served: where its script comes from, where the replies go, and how it ended.
-#[derive(Drop)]
-pub struct End<S, K> {
-    pub source: S,
-    pub sink: K,
-    /// The end's status; see `chemdb`.
-    pub status: u8,
-}
 
 /// What the top call leaves: the overall status, the place of damage on a disk (0 where there is none), and what was
 /// handed in.

@@ -3,8 +3,8 @@
 
 ghost use Rattle.std.specs.Prelude.{◌≡◌, IfOk, length};
 
-use chem_shell::top::{self, End, chemdb};
-use chem_shell::{PlanFault, Verb, plan, word_fault};
+use chem_shell::status;
+use chem_shell::{End, PlanFault, Verb, chemdb, plan, word_fault};
 use disk_edge::FileDisk;
 use io_edge::{StdSink, StdSource};
 use std::alloc::{AllocError, Global};
@@ -47,11 +47,11 @@ where
     R::Reader: Send,
 {
     match words(rt) {
-        Ok(words) => run_words(rt, &words).unwrap_or(top::NO_MEMORY),
-        Err(error) if error.kind() == ErrorKind::OutOfMemory => top::NO_MEMORY,
+        Ok(words) => run_words(rt, &words).unwrap_or(status::NO_MEMORY),
+        Err(error) if error.kind() == ErrorKind::OutOfMemory => status::NO_MEMORY,
         Err(_) => {
             explain(rt, "a word is not UTF-8");
-            top::USAGE
+            status::USAGE
         }
     }
 }
@@ -70,7 +70,7 @@ where
         texts.push(word.as_str())?;
     }
     let status = serve(rt, alloc, &texts)?;
-    if status == top::USAGE {
+    if status == status::USAGE {
         match word_fault(alloc, &texts) {
             Ok(Some(reason)) => explain(rt, reason.as_str()),
             _ => explain(rt, "the words ask for nothing"),
@@ -91,7 +91,7 @@ where
 {
     let plan = match plan(alloc, words) {
         Ok(plan) => plan,
-        Err(PlanFault::Usage) => return Ok(top::USAGE),
+        Err(PlanFault::Usage) => return Ok(status::USAGE),
         Err(PlanFault::NoMemory) => return Err(AllocError),
     };
     let ends = ends(rt, alloc, plan.ends)?;
@@ -129,7 +129,7 @@ fn ends<'r, R: Input + Print>(
         ends.push(End {
             source: StdSource::new(rt.reader()),
             sink: StdSink::new(io::writer(rt)),
-            status: top::DONE,
+            status: status::DONE,
         })?;
     }
     Ok(ends)
