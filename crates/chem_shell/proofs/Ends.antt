@@ -8,7 +8,7 @@ use Rattle.io_edge.specs.Faults.{Rose}
 use Rattle.chem_shell.specs.declared.request.Plan.{Plan}
 use Rattle.chem_shell.specs.declared.request.Verb.{Verb}
 use Rattle.chem_shell.specs.declared.request.Verb.TheVariants.{Mem, Init, Run, Bulk}
-use Rattle.chem_shell.specs.declared.ends.End.{End}
+use Rattle.chem_shell.specs.declared.end.End.{End}
 use Rattle.chem_shell.specs.declared.status.TheConstants.{SOURCE_FAULT, SINK_FAULT, INPUT_TOO_LONG}
 use Rattle.chem_shell.specs.Status.{first_fault, IsCreationStatus, IsSinkStatus}
 use Rattle.chem_shell.specs.Ends.{with_status, ServesBulk, ServesMem}

@@ -15,8 +15,8 @@ use Rattle.chem_shell.specs.Runs.{AreOfRun, IsTranscriptBy, IsTranscriptPrefixBy
 use Rattle.chem_shell.specs.Serving.{IsScriptServed}
 use Rattle.chem_shell.specs.Status.{IsEndStatus, IsInputStatus, IsStatusOf}
 use Rattle.chem_shell.specs.declared.request.Plan.{Plan}
-use Rattle.chem_shell.specs.declared.ends.End.{End}
-use Rattle.chem_shell.specs.declared.ends.TheConstants.{INPUT_LIMIT}
+use Rattle.chem_shell.specs.declared.end.End.{End}
+use Rattle.chem_shell.specs.declared.end.TheConstants.{INPUT_LIMIT}
 use Rattle.chem_shell.specs.declared.status.TheConstants.{DONE}
 
 -- requests that were answered whole are a beginning

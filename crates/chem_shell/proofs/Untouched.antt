@@ -5,7 +5,7 @@ use Rattle.journal_core.specs.Looks.{Narrows, Stays}
 use Rattle.chem_shell.specs.Ends.{ServesBulk, with_status}
 use Rattle.chem_shell.specs.OnDisk.{Creates, IsRefused, RunsOn}
 use Rattle.chem_shell.specs.declared.request.Plan.{Plan}
-use Rattle.chem_shell.specs.declared.ends.End.{End}
+use Rattle.chem_shell.specs.declared.end.End.{End}
 use Rattle.chem_shell.proofs.Asked.{SamePlan}
 use Rattle.chem_shell.proofs.Summaries as summaries
 

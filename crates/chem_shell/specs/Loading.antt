@@ -12,8 +12,8 @@ use Rattle.chem_shell.specs.OnDisk.{IsRefused, RunsOn}
 use Rattle.chem_shell.specs.declared.request.Plan.{Plan}
 use Rattle.chem_shell.specs.declared.request.Verb.{Verb}
 use Rattle.chem_shell.specs.declared.request.Verb.TheVariants.{Mem, Init, Run, Bulk}
-use Rattle.chem_shell.specs.declared.ends.End.{End}
-use Rattle.chem_shell.specs.declared.ends.TheConstants.{INPUT_LIMIT}
+use Rattle.chem_shell.specs.declared.end.End.{End}
+use Rattle.chem_shell.specs.declared.end.TheConstants.{INPUT_LIMIT}
 use Rattle.chem_shell.specs.declared.status.TheConstants.{DISK_FAULT, NOT_A_STORE, DAMAGED, NO_MEMORY, SOURCE_FAULT, SINK_FAULT, INPUT_TOO_LONG}
 
 -- the causes of the statuses that come of a disk

@@ -17,7 +17,7 @@ use Rattle.chem_shell.specs.Crashes.{ShowsAt}
 use Rattle.chem_shell.specs.Ends.{ServesScript, with_status}
 use Rattle.chem_shell.specs.Status.{IsCreationStatus, IsLoadStatus}
 use Rattle.chem_shell.specs.declared.request.Plan.{Plan}
-use Rattle.chem_shell.specs.declared.ends.End.{End}
+use Rattle.chem_shell.specs.declared.end.End.{End}
 use Rattle.chem_shell.specs.declared.status.TheConstants.{DISK_FAULT, DONE, NO_MEMORY, NOT_EMPTY}
 
 -- `init`: where it is done, the disk was empty, and has the empty store. A disk that had bytes is as before, and so is

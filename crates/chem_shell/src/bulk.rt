@@ -6,7 +6,7 @@ ghost use Rattle.chem_shell.specs.Serving.{Puts};
 ghost use Rattle.chem_shell.specs.Summed.{IsSummary};
 ghost use Rattle.chem_shell.specs.Words.{IsWithinLimits};
 
-use crate::ends::End;
+use crate::end::End;
 use crate::mem::run_script;
 use crate::request::Plan;
 use crate::status::{DONE, NO_MEMORY, SINK_FAULT};

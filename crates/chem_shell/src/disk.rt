@@ -11,7 +11,7 @@ ghost use Rattle.chem_shell.specs.OnDisk.{Creates, IsRefused, RunsOn};
 ghost use Rattle.chem_shell.specs.Status.{IsEndStatus};
 ghost use Rattle.chem_shell.specs.Words.{IsWithinLimits};
 
-use crate::ends::{End, INPUT_LIMIT};
+use crate::end::{End, INPUT_LIMIT};
 use crate::request::Plan;
 use crate::status::{
     DAMAGED, DISK_FAULT, DONE, NO_MEMORY, NOT_A_STORE, NOT_EMPTY, USAGE, end_status,

@@ -7,7 +7,7 @@
 
 mod bulk;
 mod disk;
-mod ends;
+mod end;
 mod fault;
 mod mem;
 mod request;
@@ -15,7 +15,7 @@ pub mod status;
 mod top;
 mod words;
 
-pub use ends::{End, INPUT_LIMIT};
+pub use end::{End, INPUT_LIMIT};
 pub use request::{Plan, PlanFault, Verb};
 pub use top::{Outcome, chemdb};
 pub use words::{plan, word_fault};

@@ -9,7 +9,7 @@ ghost use Rattle.chem_shell.specs.Runs.{AreOfRun};
 ghost use Rattle.chem_shell.specs.Serving.{IsScriptServed};
 ghost use Rattle.chem_shell.specs.Words.{IsWithinLimits};
 
-use crate::ends::{End, INPUT_LIMIT};
+use crate::end::{End, INPUT_LIMIT};
 use crate::request::Plan;
 use crate::status::end_status;
 use io_edge::{Sink, Source};

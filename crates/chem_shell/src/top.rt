@@ -16,7 +16,7 @@ ghost use Rattle.chem_shell.specs.Words.{texts, Asks, AsksFor, IsWithinLimits, O
 
 use crate::bulk::serve_bulk;
 use crate::disk::{create, serve_run};
-use crate::ends::{End, INPUT_LIMIT};
+use crate::end::{End, INPUT_LIMIT};
 use crate::mem::serve_mem;
 use crate::request::{Plan, PlanFault, Verb};
 use crate::status::{

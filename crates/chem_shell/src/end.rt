@@ -1,4 +1,4 @@
-//! The ends that are served.
+//! An end that is served.
 
 /// The most bytes that are taken of an input.
 pub const INPUT_LIMIT: u64 = 4_294_967_296;
