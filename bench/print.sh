@@ -9,7 +9,7 @@ cd "$(dirname "${BASH_SOURCE[0]}")/.."
 place=$(mktemp -d)
 trap 'rm -rf "$place"' EXIT
 
-crates="aromatic chem_core chem_text line_walk mol_finish molfile_read path_print ring_find smarts_parse smarts_words smiles_read valence"
+crates="aromatic chem_core chem_text line_walk mol_finish molfile_read path_print ring_find smarts_parse smarts_words smiles_read smiles_words valence"
 mkdir -p "$place/crates/print_time/src"
 for crate in $crates; do
   cp -a "crates/$crate" "$place/crates/"

@@ -1,15 +1,15 @@
 -- An atom has as many neighbours as bonds end at it.
-use Rattle.std.proofs.Common.{ℕ, suc, zero, ◌+◌, ◌<◌, ◌≤◌, ◌≡◌, ◌≢◌, ◌⊎◌, ◌||◌, eqb, Bool, true, false, inl, inr, Some, List, [], length, take, get_or, insert, refl, sym, ap, subst, ◌∙◌, arith}
+use Rattle.std.proofs.Common.{All, ℕ, suc, zero, ◌+◌, ◌<◌, ◌≤◌, ◌≡◌, ◌≢◌, ◌⊎◌, ◌||◌, eqb, Bool, true, false, inl, inr, Some, List, [], length, take, get_or, insert, refl, sym, ap, subst, ◌∙◌, arith}
 use Rattle.std.proofs.Math.Seq.{take-length}
 use Rattle.std.proofs.lemmas.Bool.{cases_eq, eq-eqb, ne_eqb, or_left, or_right, or_from}
-use Rattle.std.proofs.lemmas.List.{take_more}
+use Rattle.std.proofs.lemmas.List.{length-map, take_more}
 use Rattle.std.proofs.lemmas.List.Edits.{length-insert}
 use Rattle.std.proofs.lemmas.List.Sorted.{IsPermutation-insert}
 use Rattle.std.proofs.lemmas.List.Sums.{count_by_more_yes, count_by_more_no}
 use Rattle.std.proofs.lemmas.Option.{slice_get-get_or}
 use Rattle.chem_core.proofs.Ascending.{place_of, place_of-within, ascending-at_place}
-use Rattle.chem_core.proofs.Neighbours.{AreNeighbours-none, AreNeighbours-other, AreNeighbours-end, AreNeighbours-one, no_neighbour_yet}
-use Rattle.chem_core.specs.Graph.{Ends, JoinsAt, AreNeighbours, IsSimpleGraph, degree}
+use Rattle.chem_core.proofs.Neighbours.{AreNeighbours-none, AreNeighbours-other, AreNeighbours-end, AreNeighbours-one, Listed, items_at, items_of, no_neighbour_yet}
+use Rattle.chem_core.specs.Graph.{Ends, JoinsAt, AreNeighbours, AreNeighbourLists, IsSimpleGraph, degree}
 
 -- the neighbours by some bonds, as many as these end at the atom
 record Counted (ends : Ends) (a : ℕ) : Type 0 where
@@ -81,3 +81,11 @@ length-neighbours ends n a pairs graph are =
     let all : Counted ends a = subst (λ xs. Counted xs a) (take-length ends)
     (counted ends n a (length ends) graph (omega arith)) in
     ap length (AreNeighbours-one ends a pairs all.pairs are all.are) ∙ all.count
+
+-- no list of neighbours is longer than a graph allows
+pub lists-short : (ends : Ends) (n m : ℕ) (lists : List Listed) → IsSimpleGraph n ends
+    → AreNeighbourLists ends m (items_of lists) → All (λ v. length v.items ≤ 12) lists
+lists-short ends n m lists graph are k d within =
+    let there : k < m = omega (arith, within, are.count, length-map lists (λ v. v.items)) in
+    let list = subst (λ xs. AreNeighbours ends k xs) (items_at lists k d within) (are.each k there) in
+    omega (arith, length-neighbours ends n k _ graph list, graph.few_neighbours k)

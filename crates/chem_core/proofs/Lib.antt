@@ -5,3 +5,4 @@ pub mod Elements
 pub mod Neighbours
 pub mod Prints
 pub mod Shared
+pub mod InTurn

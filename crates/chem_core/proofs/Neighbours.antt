@@ -176,10 +176,10 @@ AreNeighbours-one ends a xs ys f g =
 
 -- ---- the same of the lists as they lie in memory
 
-abbrev Listed : Type 0
+abbrev pub Listed : Type 0
 Listed = SmallVec (ℕ × ℕ)
 
-abbrev items_of : List Listed → List (List (ℕ × ℕ))
+abbrev pub items_of : List Listed → List (List (ℕ × ℕ))
 items_of lists = map (λ v. v.items) lists
 
 pub items_at : (lists : List Listed) (a : ℕ) (d : Listed) → a < length lists → get_or (items_of lists) a []
@@ -202,14 +202,6 @@ pub bond_joins : (bonds : List Bond) (i : ℕ) (d : Bond) → i < length bonds �
 bond_joins bonds i d within =
     let within' : i < length (bond_ends bonds) = omega (arith, length-map {B = ℕ × ℕ} bonds (λ b. (b.a, b.b))) in
     slice_get-get_or (bond_ends bonds) i (0, 0) within' ∙ ap Some (get_or-map (λ b. (b.a, b.b)) bonds i d (0, 0) within)
-
-pub neighbours_at : (ends : Ends) (n : ℕ) (lists : List Listed) (a i : ℕ) (v : Listed)
-    → AreNeighbourLists ends n (items_of lists) → a < n → i ≡ a → v ≡ get_or lists i v → AreNeighbours ends a v.items
-neighbours_at ends n lists a i v h within is read =
-    let there : a < length lists = omega (arith, h.count, length-map lists (λ v. v.items)) in
-    let same : get_or (items_of lists) a [] ≡ v.items = items_at lists a v there
-    ∙ ap (λ k. (get_or lists k v).items) (sym is) ∙ ap (λ w. w.items) (sym read) in
-    subst (λ xs. AreNeighbours ends a xs) same (h.each a within)
 
 pub ascending_at : (ends : Ends) (n : ℕ) (lists : List Listed) (a : ℕ) (d : Listed)
     → AreNeighbourLists ends n (items_of lists) → a < n → IsStrictlyIncreasing (map (λ p. p.0) (get_or lists a d).items)

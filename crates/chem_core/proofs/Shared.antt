@@ -1,8 +1,8 @@
 -- How many bits two prints share, word by word, and the bits of a union.
-use Rattle.std.proofs.Common.{ℕ, suc, zero, ◌+◌, ◌*◌, ◌++◌, ◌/◌, ◌%◌, ◌^◌, ◌<◌, ◌≤◌, ◌≡◌, ◌⊎◌, ◌↔◌, ◌&&◌, Bool, cond, eqb, inl, inr, true, false, max, min, List, [], ◌∷◌, length, map, get_or, zip, count_by, count_ones, bit_and, bit_or, refl, sym, ap, ◌∙◌, arith, take}
+use Rattle.std.proofs.Common.{ℕ, suc, zero, ◌+◌, ◌*◌, ◌++◌, ◌/◌, ◌%◌, ◌^◌, ◌<◌, ◌≡◌, ◌⊎◌, ◌↔◌, ◌&&◌, Bool, cond, eqb, inl, inr, true, false, max, min, List, [], ◌∷◌, length, map, get_or, zip, count_by, count_ones, bit_and, bit_or, refl, sym, ap, ◌∙◌, arith, take}
 use Rattle.std.specs.Int.{bit_at}
 use Rattle.std.specs.Simd.Lanes.{mask_l}
-use Rattle.std.proofs.lemmas.Bool.{cases_lt, cases_eq, false≢true}
+use Rattle.std.proofs.lemmas.Bool.{cases_lt, cases_eq}
 use Rattle.std.proofs.lemmas.List.{get_or_past, take_more, length-take, append-nil}
 use Rattle.std.proofs.lemmas.List.Concat.{flat_map-append}
 use Rattle.std.proofs.lemmas.List.Sums.{sum_by-append, sum_by-cons}

@@ -1,10 +1,12 @@
 //! Molecules: atoms and bonds as they are meant, each atom's neighbours, and what lies on rings.
-ghost use Rattle.std.specs.Prelude.{◌≡◌, ◌↔◌, ◌+◌, ◌<◌, ◌∷◌, ℕ, List, [], length, map, replicate, take, Contains, IsPermutation, IsTrue, nat_lt, position, unwrap_or, IfOk, OnOk};
+ghost use Rattle.std.specs.Prelude.{◌≡◌, ◌↔◌, ◌+◌, ◌<◌, ◌≤◌, ◌∷◌, ℕ, All, List, [], length, map, replicate, take, Contains, IsPermutation, IsTrue, nat_lt, position, unwrap_or, IfOk, OnOk};
 ghost use Rattle.std.specs.List.Sorted.{IsStrictlyIncreasing};
 ghost use Rattle.chem_core.specs.Graph.{Ends, IsSimpleGraph, AreNeighbours, AreNeighbourLists, IsRingBond, IsSmallestRing, degree};
 ghost use Rattle.chem_core.specs.Molecule.{IsMolecule, bond_ends, ends_of};
+ghost use Rattle.chem_core.specs.Inside.{AreInTurn};
 ghost use Rattle.chem_core.specs.RingFacts.{AreRingBonds, AreSmallestRings};
 
+use crate::limits::{MOST_ATOMS, MOST_NEIGHBOURS};
 use smallvec::SmallVec;
 use std::alloc::{AllocError, Global};
 use std::marker::Model;
@@ -44,7 +46,7 @@ pub struct Bond {
     pub kind: BondKind,
 }
 
-// The neighbours of an atom, each with the bond to it.
+// The neighbours of an atom, each with the bond to it, while they are gathered.
 type Neighbours = SmallVec<(u16, u16), 4>;
 
 /// A molecule: atoms and bonds as they are meant, for each atom its neighbours, and what lies on rings.
@@ -56,7 +58,10 @@ type Neighbours = SmallVec<(u16, u16), 4>;
 pub struct Mol {
     atoms: Vec<Atom>,
     bonds: Vec<Bond>,
-    neighbours: Vec<Neighbours>,
+    // the neighbours of all atoms in turn
+    neighbours: Vec<(u16, u16)>,
+    // for each atom where its neighbours begin, and where the last one's end
+    starts: Vec<u16>,
     // for each bond whether it is a ring bond
     bond_in_ring: Vec<bool>,
     // for each atom the length of its smallest ring, 0 where it is in none
@@ -72,7 +77,7 @@ impl Model for Mol {
 
     ghost use Rattle.chem_core.specs.Inside.{IsSoundInside};
 
-    ghost invariant = { λ m. IsSoundInside m.atoms.items m.bonds.items m.neighbours.items
+    ghost invariant = { λ m. IsSoundInside m.atoms.items m.bonds.items m.neighbours.items m.starts.items
         m.bond_in_ring.items m.atom_small.items };
 }
 
@@ -91,11 +96,13 @@ impl Mol {
         requires smallest { AreSmallestRings (length atoms.items) (bond_ends bonds.items) atom_small.items }
         ensures { IfOk result (λ mol. mol ≡ record { atoms = atoms.items; bonds = bonds.items }) }
     {
-        let neighbours = neighbour_lists(alloc, atoms.len(), &bonds)?;
+        let lists = neighbour_lists(alloc, atoms.len(), &bonds)?;
+        let (neighbours, starts) = in_turn(alloc, &lists, 2 * bonds.len())?;
         Ok(Mol {
             atoms,
             bonds,
             neighbours,
+            starts,
             bond_in_ring,
             atom_small,
         })
@@ -124,7 +131,10 @@ impl Mol {
         ensures count { length result.now ≡ degree (ends_of self.now) atom }
         ensures valid { IsMolecule self.now }
     {
-        self.neighbours[usize::from(atom)].as_slice()
+        let place = usize::from(atom);
+        let start = usize::from(self.starts[place]);
+        let end = usize::from(self.starts[place + 1]);
+        &self.neighbours[start..end]
     }
 
     /// Whether the bond at a place is a ring bond: one of some simple cycle of at least three atoms.
@@ -165,6 +175,26 @@ fn neighbour_lists(
         join(&mut lists, bonds, place)?;
     }
     Ok(lists)
+}
+
+// The lists one after another, with room for so many pairs at first, and where each begins and the last one ends.
+fn in_turn(
+    alloc: Global,
+    lists: &[Neighbours],
+    room: usize,
+) -> Result<(Vec<(u16, u16)>, Vec<u16>), AllocError>
+    requires few { length lists.now ≤ MOST_ATOMS }
+    requires short { All (λ v. length v.items ≤ MOST_NEIGHBOURS) lists.now }
+    ensures { IfOk result (λ r. AreInTurn (map (λ v. v.items) lists.now) r.0.items r.1.items) }
+{
+    let mut pairs = Vec::with_capacity(alloc, room)?;
+    let mut starts = Vec::with_capacity(alloc, lists.len() + 1)?;
+    starts.push(0)?;
+    for list in lists {
+        pairs.extend_from_slice(list.as_slice())?;
+        starts.push(pairs.len() as u16)?;
+    }
+    Ok((pairs, starts))
 }
 
 fn empty_lists(alloc: Global, count: usize) -> Result<Vec<Neighbours>, AllocError>

@@ -1,4 +1,4 @@
-use Rattle.std.proofs.Common.{rules, ◌≡◌, ◌+◌, ◌<◌, ◌^◌, ap, ◌∙◌, arith, length, slice_index, bit_and, count_ones, refl}
+use Rattle.std.proofs.Common.{rules, ◌+◌, ◌<◌, ◌^◌, ap, ◌∙◌, arith, slice_index, bit_and, count_ones}
 use Rattle.std.proofs.lemmas.Nat.{ones-le}
 use Rattle.chem_core.proofs.Shared.{shared-more, and-fits}
 use Rattle.chem_core.proofs.print.count_shared.Goals as goal
