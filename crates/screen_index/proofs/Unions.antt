@@ -1,50 +1,10 @@
 -- Unions of prints.
-use Rattle.std.proofs.Common.{◌≡◌, ◌+◌, ◌<◌, ◌≤◌, ◌++◌, ◌∙◌, All, ap, arith, Bool, drop, false, get_or, inl, inr, length, List, [], ◌∷◌, slice_set, subst, suc, sym, take, true, ℕ}
-use Rattle.std.proofs.lemmas.Bool.{cases_eq, cases_lt, true≢false}
-use Rattle.std.proofs.lemmas.List.{get_or-set_other, get_or-set_same, get_or_past, length-set}
+use Rattle.std.proofs.Common.{◌≡◌, ◌+◌, ◌++◌, arith, Bool, drop, get_or, inl, inr, List, ◌∷◌, subst, suc, sym, take, ℕ}
+use Rattle.std.proofs.lemmas.Bool.{cases_lt}
 use Rattle.std.proofs.lemmas.List.Elements.{All-append, All-cons, All-drop, All-take}
 use Rattle.std.specs.List.{AllWithin, insert, remove}
-use Rattle.chem_core.specs.Bits.{HasBit}
 use Rattle.screen_index.specs.declared.entry.Screened.{Screened}
 use Rattle.screen_index.specs.Pairs.{AreCovered, Holds}
-
--- up to a bit, each bit of a print is in the union
-abbrev pub HoldsBelow : List Bool → List Bool → ℕ → Type 0
-HoldsBelow union print n = (bit : ℕ) → bit < n → HasBit print bit → HasBit union bit
-
--- a bit that is set, and the others
-pub set-has : (union new : List Bool) (n : ℕ) → new ≡ slice_set union n true → n < length union → HasBit new n
-set-has union new n is less = ap (λ l. get_or l n false) is ∙ get_or-set_same union n true false less
-
-pub set-keeps : (union new : List Bool) (n : ℕ) → new ≡ slice_set union n true → n < length union → Holds new union
-set-keeps union new n is less bit has =
-    elim (cases_eq bit n) [
-      | inl same ↦ subst (HasBit new) (sym same) (set-has union new n is less)
-      | inr other ↦ ap (λ l. get_or l bit false) is ∙ (get_or-set_other union n bit true false other ∙ has)
-    ]
-
-pub set-length : (union new : List Bool) (n : ℕ) → new ≡ slice_set union n true → length new ≡ 1024
-    → length union ≡ 1024
-set-length union new n is size = sym (length-set union n true) ∙ (sym (ap (λ l. length l) is) ∙ size)
-
--- one bit more is looked at
-pub below-more : (union new print : List Bool) (n : ℕ) → HoldsBelow union print n → Holds new union
-    → (HasBit print n → HasBit new n) → HoldsBelow new print (n + 1)
-below-more union new print n below keeps here bit less has =
-    elim (cases_lt bit n) [
-      | inl lt ↦ keeps bit (below bit lt has)
-      | inr ge ↦
-          let same : bit ≡ n = omega (arith, less, ge) in
-          subst (HasBit new) (sym same) (here (subst (HasBit print) same has))
-    ]
-
--- no print has a bit past its end
-pub below-all : (union print : List Bool) (n : ℕ) → HoldsBelow union print n → length print ≤ n → Holds union print
-below-all union print n below end bit has =
-    elim (cases_lt bit n) [
-      | inl lt ↦ below bit lt has
-      | inr ge ↦ absurd (true≢false (sym has ∙ get_or_past print bit false (omega (arith, ge, end))))
-    ]
 
 pub holds-on : (a b c : List Bool) → Holds a b → Holds b c → Holds a c
 holds-on a b c outer inner bit has = outer bit (inner bit has)

@@ -1,26 +1,16 @@
-//! The union of prints, bit by bit.
+//! The union of prints.
 ghost use Rattle.std.specs.Prelude.{All};
 ghost use Rattle.screen_index.specs.Pairs.{AreCovered, Holds};
 
 use crate::entry::Screened;
 use chem_core::Print;
 
-// How many bits a print has.
-const BITS: u16 = 1024;
-
 /// Sets each bit of a print in a union as well.
 pub fn unite(union: &mut Print, print: &Print)
     ensures print { Holds union.new print.now }
     ensures others { Holds union.new union.old }
 {
-    if union.holds(print) {
-        return;
-    }
-    for bit in 0..BITS {
-        if print.has(bit) {
-            union.set(bit);
-        }
-    }
+    union.unite(print);
 }
 
 /// A print that holds the print of each of these.
