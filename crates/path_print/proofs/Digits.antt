@@ -307,8 +307,8 @@ module _ (k there back there_sum back_sum weight byte l r tail tail_sum head hea
       let product : (15736630 + head_sum) * weight ≤ 21000000 * weight = mul-le-mul_right weight few in
       omega arith
 
-  pub longer_inside : IsTextInside (k + 3) (there * 16777216 % 2 ^ 128 + tail) (head * 2 ^ (8 * k) % 2 ^ 128 + back)
-      (there_sum % 65521 * 131 * 131 * 131 + tail_sum) (back_sum + (15736630 + head_sum) * weight)
+  pub longer_inside : IsTextInside (k + 3) (head * 2 ^ (8 * k) % 2 ^ 128 + back) (there * 16777216 % 2 ^ 128 + tail)
+      (back_sum + (15736630 + head_sum) * weight) (there_sum % 65521 * 131 * 131 * 131 + tail_sum)
       (weight * 131 * 131 * 131 % 65521)
   longer_inside =
       let pw = pow_three k in
@@ -318,14 +318,14 @@ module _ (k there back there_sum back_sum weight byte l r tail tail_sum head hea
       let product : head * 256 ^ k ≤ 16777215 * 256 ^ k = mul-le-mul_right (256 ^ k) few in
       record {
         few = omega arith;
-        there_fits = rw there_whole (omega arith);
-        back_fits = rw back_whole (omega arith);
-        there_hash = rw (longer_there, is_tail_sum)
-            (hash-push_three (there_sum % 65521) byte l r (digits k there) inside.there_hash);
-        there_small = omega arith;
-        back_hash = rw (longer_back, is_head_sum) (hash-front_three back_sum weight l r byte (digits k back)
+        there_fits = rw back_whole (omega arith);
+        back_fits = rw there_whole (omega arith);
+        there_hash = rw (longer_back, is_head_sum) (hash-front_three back_sum weight l r byte (digits k back)
             inside.back_hash (inside.weighs ∙ ap (λ n. 131 ^ n % 65521) (sym (length-digits k back))));
-        back_small = omega (arith, weighed_small, inside.back_small);
+        there_small = omega (arith, weighed_small, inside.back_small);
+        back_hash = rw (longer_there, is_tail_sum)
+            (hash-push_three (there_sum % 65521) byte l r (digits k there) inside.there_hash);
+        back_small = omega arith;
         weighs =
             let p = power_three k in
             let e : k + 3 ≡ suc (suc (suc k)) = omega arith in
@@ -335,7 +335,7 @@ module _ (k there back there_sum back_sum weight byte l r tail tail_sum head hea
 
   pub longer_fits : head * 2 ^ (8 * k) % 2 ^ 128 + back < 2 ^ 128
   longer_fits =
-      let low = longer_inside.back_fits in
+      let low = longer_inside.there_fits in
       let bits = pow_bits (k + 3) in
       let few : 8 * (k + 3) ≤ 112 = omega arith in
       let most : 2 ^ (8 * (k + 3)) ≤ 2 ^ 112 = pow_mono few in

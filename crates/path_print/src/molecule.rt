@@ -1,5 +1,5 @@
 //! The print of a molecule.
-ghost use Rattle.std.specs.Prelude.{◌≡◌, ◌<◌, ◌+◌, [], ◌∷◌, ◌++◌, ℕ, length, IfSome, IfNone};
+ghost use Rattle.std.specs.Prelude.{All, ◌≡◌, ◌<◌, ◌+◌, ◌∷◌, ℕ, length, reverse, IfSome, IfNone};
 ghost use Rattle.chem_core.specs.Graph.{JoinsAt};
 ghost use Rattle.chem_core.specs.Molecule.{ends_of};
 ghost use Rattle.path_print.specs.Prints.{known_of, kind_byte, molecule_view, IsPrint};
@@ -26,10 +26,10 @@ trait Walk {
     // how many atoms may follow
     ghost left: { ℕ };
 
-    // Sets the bits of all paths that begin with this one.
+    // Sets the bits of all paths that grow from this one.
     fn walk(mol: &Mol, path: &Path, print: &mut Print)
         requires path { IsOn (molecule_view mol.now) path.now }
-        requires atom { last_of path.now.atoms < length mol.now.atoms }
+        requires atoms { All (λ a. a < length mol.now.atoms) path.now.atoms }
         requires left { length path.now.atoms + left ≡ MOST }
         ensures { SetsBits (IsBitFrom (molecule_view mol.now) path.now.atoms) print.old print.new };
 }
@@ -49,6 +49,9 @@ impl<W: Walk> Walk for More<W> {
     #[inline(always)]
     fn walk(mol: &Mol, path: &Path, print: &mut Print) {
         path.mark(print);
+        if path.is_spent() {
+            return;
+        }
         for (to, bond) in mol.neighbours(path.last()) {
             if let Some(longer) = step(mol, path, *to, *bond) {
                 W::walk(mol, &longer, print);
@@ -63,7 +66,7 @@ fn step(mol: &Mol, path: &Path, to: u16, bond: u16) -> Option<Path>
     requires path { IsOn (molecule_view mol.now) path.now }
     requires joined { JoinsAt (ends_of mol.now) bond (last_of path.now.atoms) to }
     ensures some { IfSome result (IsOneLonger (molecule_view mol.now) path.now to) }
-    ensures none { IfNone result (NoneFrom (molecule_view mol.now) (path.now.atoms ++ to ∷ [])) }
+    ensures none { IfNone result (NoneFrom (molecule_view mol.now) (to ∷ reverse path.now.atoms)) }
 {
     let byte = byte_of(mol.bonds()[usize::from(bond)].kind);
     path.longer(to, byte, known(&mol.atoms()[usize::from(to)]))
