@@ -2,6 +2,7 @@
 use Rattle.std.proofs.Common.{ℕ, zero, suc, ◌+◌, ◌-◌, ◌<◌, ◌≤◌, ◌≡◌, ◌≢◌, ◌⊎◌, inl, inr, List, [], ◌∷◌, ◌++◌, length, get_or, take, reverse, refl, sym, ap, ◌∙◌, subst, lit≤, arith}
 use Rattle.std.specs.Prelude.{Option, Some, All, AllPairs}
 use Rattle.std.proofs.lemmas.List.{length-reverse, reverse-reverse, reverse-append, get_or-reverse}
+use Rattle.std.proofs.lemmas.Bool.{cases_lt}
 use Rattle.std.proofs.lemmas.Option.{none-some}
 use Rattle.path_print.specs.Path.{View, string_of, IsPath}
 use Rattle.path_print.specs.Texts.{grown, before, IsCounted, IsSpent}
@@ -136,3 +137,15 @@ spent_none (a ∷ b ∷ []) y more (inl h) short counted = omega (arith, h.0)
 spent_none (a ∷ b ∷ []) y more (inr h) short counted = omega (arith, h.0)
 spent_none (a ∷ b ∷ c ∷ d ∷ e ∷ xs) y more (inl h) short counted = omega (arith, h.0)
 spent_none (a ∷ b ∷ c ∷ d ∷ e ∷ xs) y more (inr h) short counted = omega (arith, h.0)
+
+-- from one that is not spent each longer one is counted
+pub counted_after : (xs : List ℕ) (y : ℕ) → length xs + 1 ≡ 5 → (IsSpent xs → ⊥) → IsCounted (y ∷ reverse xs)
+counted_after [] y is more = absurd (omega (arith, is))
+counted_after (a ∷ []) y is more = absurd (omega (arith, is))
+counted_after (a ∷ b ∷ []) y is more = absurd (omega (arith, is))
+counted_after (a ∷ b ∷ c ∷ []) y is more = absurd (omega (arith, is))
+counted_after (a ∷ b ∷ c ∷ d ∷ []) y is more = elim (cases_lt b d) [
+  | inl low ↦ absurd (more (inr (refl, low)))
+  | inr high ↦ omega (arith, high)
+]
+counted_after (a ∷ b ∷ c ∷ d ∷ e ∷ xs) y is more = absurd (omega (arith, is))

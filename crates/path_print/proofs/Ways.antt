@@ -14,12 +14,12 @@ use Rattle.std.proofs.lemmas.Option.{none-some, same_Some}
 use Rattle.chem_core.specs.Bits.{HasBit}
 use Rattle.path_print.specs.declared.known.Known.{Known}
 use Rattle.path_print.specs.Path.{Family, exact, plain, label_of, View, string_of, hash_of, bit_of, IsPath}
-use Rattle.path_print.specs.Texts.{TextTerm, PathTerm, text_in, longer_if, of_label, path_start, path_longer, IsOn, IsOneLonger, NoneFrom, IsBitHere, IsBitFrom, IsCounted, IsSpent, SetsBits, grown, before, last_of}
+use Rattle.path_print.specs.Texts.{TextTerm, PathTerm, text_in, longer_if, of_label, path_start, path_longer, IsOn, IsOneLonger, NoneFrom, IsBitHere, IsBitOf, IsBitFrom, IsCounted, IsMarked, IsSpent, SetsBits, grown, before, last_of}
 use Rattle.path_print.specs.Prints.{HasPathBits}
 use Rattle.path_print.proofs.Options.{map_some}
 use Rattle.path_print.proofs.Carries.{labels_in}
 use Rattle.path_print.proofs.Strings.{step_byte, there_longer, back_longer, split_last}
-use Rattle.path_print.proofs.Grown.{reverse-push, turned_back, length-turned, length-grown, distinct_turned, distinct_inner, strings_inner, grows, counted_back, spent_none}
+use Rattle.path_print.proofs.Grown.{reverse-push, turned_back, length-turned, length-grown, distinct_turned, distinct_inner, strings_inner, grows, counted_back, counted_after, spent_none}
 
 -- the bit of some path that grows by one of the first i atoms of a row
 abbrev pub IsBitVia : (Family → View) → List ℕ → (ℕ → ℕ) → ℕ → ℕ → Type 0
@@ -99,12 +99,12 @@ module _ (views : Family → View) (symmetric : (family : Family) (x y : ℕ)
       ap (λ l. option_map (λ t. t.there) (longer_if o b l)) (sym (label family)) ∙ step
       ∙ sym (ap (λ xs. string_of (views family) (y ∷ reverse xs)) whole)
 
-  longer_there : (family : Family) → option_map (λ t. t.there) (text_in (path_longer p y b known) family)
+  pub longer_there : (family : Family) → option_map (λ t. t.there) (text_in (path_longer p y b known) family)
       ≡ string_of (views family) (y ∷ reverse p.atoms)
   longer_there exact = back_on exact p.exact (on.back exact)
   longer_there plain = back_on plain p.plain (on.back plain)
 
-  longer_back : (family : Family) → option_map (λ t. t.back) (text_in (path_longer p y b known) family)
+  pub longer_back : (family : Family) → option_map (λ t. t.back) (text_in (path_longer p y b known) family)
       ≡ string_of (views family) (reverse (y ∷ reverse p.atoms))
   longer_back exact = there_on exact p.exact (on.there exact)
   longer_back plain = there_on plain p.plain (on.there plain)
@@ -285,6 +285,72 @@ pub sets_spent : (views : Family → View) (p : PathTerm) → IsOn views p → I
     → SetsBits (IsBitHere p) old new → SetsBits (IsBitFrom views p.atoms) old new
 sets_spent views p on spent =
     sets_here views p on (λ y bit from. spent_none p.atoms y from.1 spent from.4.short from.5)
+
+-- ---- the last step
+
+-- the texts of a longer path do not depend on its atom
+longer_text_in : (p : PathTerm) (y b : ℕ) (known : Known) (family : Family)
+    → text_in (path_longer p y b known) family ≡ longer_if (text_in p family) b (label_of family known)
+longer_text_in p y b known exact = refl
+longer_text_in p y b known plain = refl
+
+pub end_is_marked : (p : PathTerm) (y b : ℕ) (known : Known) (q : PathTerm) → q ≡ path_longer p y b known
+    → length p.atoms + 1 ≡ 5 → (IsSpent p.atoms → ⊥) → (old new : List Bool) → SetsBits (IsBitHere q) old new
+    → IsMarked p b known new
+end_is_marked p y b known q is room more old new sets family bit h =
+    let here : SetsBits (IsBitHere (path_longer p y b known)) old new = subst (λ z. SetsBits (IsBitHere z) old new) is
+    sets in
+    let same = sym (longer_text_in p y b known family) in
+    (here.bits bit).1
+    (inr (counted_after p.atoms y room more, (family, subst (λ (t : Option TextTerm). IsBitOf t bit) same h)))
+
+module _ (views : Family → View) (symmetric : (family : Family) (x y : ℕ)
+    → (views family).byte x y ≡ (views family).byte y x) (p : PathTerm) (on : IsOn views p) (y b : ℕ) (known : Known)
+    (byte : (family : Family) → (views family).byte (last_of p.atoms) y ≡ Some b) (label : (family : Family)
+    → (views family).label y ≡ label_of family known) (room : length p.atoms + 1 ≡ 5) where
+  -- a longer path is full: no other grows from it
+  full_text : (bit : ℕ) → IsBitFrom views (y ∷ reverse p.atoms) bit
+      → (family : Family) × IsBitOf (longer_if (text_in p family) b (label_of family known)) bit
+  full_text bit from = at from.0 from.1 from.2 from.3 from.4 from.6
+    where
+      at : (family : Family) (more there back : List ℕ) → IsPath (views family) (grown (y ∷ reverse p.atoms) more) there
+          back → bit ≡ bit_of there back
+          → (family : Family) × IsBitOf (longer_if (text_in p family) b (label_of family known)) bit
+      at family [] there back path is =
+          let same = longer_text_in p y b known family in
+          let t = map_some (λ t. t.there) (longer_if (text_in p family) b (label_of family known)) there
+          (sym (ap (option_map (λ t. t.there)) same)
+          ∙ longer_there views symmetric p on y b known byte label family ∙ path.reads) in
+          let u = map_some (λ t. t.back) (longer_if (text_in p family) b (label_of family known)) back
+          (sym (ap (option_map (λ t. t.back)) same)
+          ∙ longer_back views symmetric p on y b known byte label family ∙ path.reads_back) in
+          let one : u.0 ≡ t.0 = same_Some u.0 t.0 (sym u.1 ∙ t.1) in
+          let parts = parts_of t.0 there back t.2 (ap (λ t. t.back) (sym one) ∙ u.2) in
+          (family, (t.0, t.1, is ∙ sym (ap (λ (s : TextTerm). bit_of s.there s.back) parts)))
+      at family (z ∷ zs) there back path is =
+          let short = path.short in
+          let count = length-turned p.atoms y in
+          let grows = length-grown (y ∷ reverse p.atoms) (z ∷ zs) in
+          absurd (omega (arith, short, count, grows, room))
+
+  -- a step that is marked sets nothing more
+  pub end_again : (print : List Bool) → IsMarked p b known print
+      → SetsBits (IsBitFrom views (y ∷ reverse p.atoms)) print print
+  end_again print marked = record {
+    size = refl;
+    bits = λ bit. (
+      λ h. inl h,
+      λ h. elim h [ inl old ↦ old | inr from ↦ let t = full_text bit from in marked t.0 bit t.1 ],
+    );
+  }
+
+  pub end_sets : (q : PathTerm) → q ≡ path_longer p y b known → (Contains p.atoms y → ⊥) → (old new : List Bool)
+      → SetsBits (IsBitHere q) old new → SetsBits (IsBitFrom views (y ∷ reverse p.atoms)) old new
+  end_sets q is new_atom old new sets =
+      let count = length-turned p.atoms y in
+      sets_full views (path_longer p y b known)
+      (longer_on views symmetric p on y b known byte label new_atom (omega (arith, room))) (omega (arith, count, room))
+      old new (subst (λ z. SetsBits (IsBitHere z) old new) is sets)
 
 -- ---- from the start
 

@@ -138,3 +138,8 @@ pub record IsOneLonger (views : Family → View) (p : PathTerm) (y : ℕ) (q : P
 -- no path that is counted grows from these atoms
 abbrev pub NoneFrom : (Family → View) → List ℕ → Type 0
 NoneFrom views atoms = (bit : ℕ) → IsBitFrom views atoms bit → ⊥
+
+-- the bits of the path that goes on by such a step are set
+abbrev pub IsMarked : PathTerm → ℕ → Known → List Bool → Type 0
+IsMarked p byte known print = (family : Family) (bit : ℕ)
+    → IsBitOf (longer_if (text_in p family) byte (label_of family known)) bit → HasBit print bit

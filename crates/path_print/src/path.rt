@@ -21,8 +21,8 @@ pub struct Full;
 /// One atom may follow, and behind it those of `W`.
 pub struct More<W>(W);
 
-/// A path of one atom, which four may follow.
-pub type FromOne = More<More<More<More<Full>>>>;
+/// One atom may follow, and of those that give the same texts one is enough.
+pub struct Last;
 
 /// A path under way. Contracts see its atoms and its texts.
 #[derive(Drop)]

@@ -10,7 +10,7 @@ ghost use Rattle.path_print.specs.Squares.{AreKnown, IsSimplePattern, IsSquare, 
 
 use crate::implied::{implied, implied_byte};
 use crate::known::Known;
-use crate::path::{FromOne, Full, MOST, More, Path};
+use crate::path::{Full, MOST, More, Path};
 use chem_core::Print;
 use smarts_parse::{Graph, Pattern};
 
@@ -32,7 +32,7 @@ pub fn need(pattern: &Pattern) -> Print
     let mut print = Print::empty();
     for atom in 0..graph.atoms.len() {
         let path = Path::start(atom as u16, known[atom]);
-        FromOne::walk(graph, &known, &square, &path, &mut print);
+        <More<More<More<More<Full>>>>>::walk(graph, &known, &square, &path, &mut print);
     }
     print
 }

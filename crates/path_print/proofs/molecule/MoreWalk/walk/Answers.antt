@@ -11,8 +11,8 @@ use Rattle.path_print.proofs.Molecules.{byte_neighbour, ends_within}
 use Rattle.path_print.proofs.molecule.MoreWalk.walk.Goals as goal
 use Rattle.path_print.proofs.molecule.MoreWalk.walk.Goals.{in-Some, in_default}
 
-pub step-requires-clause-joined : goal.step-requires-clause-joined
-step-requires-clause-joined g c =
+pub path_to-requires-clause-joined : goal.path_to-requires-clause-joined
+path_to-requires-clause-joined g c =
     let pairs = c.neighbours-to-items.result.now in
     let pair : ℕ × ℕ = get_or pairs c.loop-to.to-index (0, 0) in
     let joined : JoinsAt (ends_of c.args.mol.now) pair.1 c.last.result
@@ -31,8 +31,8 @@ loop-to-preserved g c =
     let atoms = c.args.path.now.atoms in
     let pairs = c.neighbours-to-items.result.now in
     sets_more (IsBitHere c.args.path.now) (λ k bit. IsBitFrom views ((get_or pairs k (0, 0)).0 ∷ reverse atoms) bit)
-    c.loop-to.to-index c.args.print.now c.loop-to.print c.match-step.print c.loop-to.invariant
-    (elim c.match-step.branch [
+    c.loop-to.to-index c.args.print.now c.loop-to.print c.match-path_to.print c.loop-to.invariant
+    (elim c.match-path_to.branch [
       | in-Some w ↦
           let longer = w.in-Some.ensures.some in
           subst (λ print. SetsBits (IsBitFrom views ((get_or pairs c.loop-to.to-index (0, 0)).0 ∷ reverse atoms))

@@ -6,23 +6,20 @@ use Rattle.chem_core.specs.declared.mol.BondKind.TheVariants.{Single}
 use Rattle.path_print.specs.Path.{Family, label_of}
 use Rattle.path_print.specs.Prints.{known_of, kind_byte, molecule_view}
 use Rattle.path_print.specs.Texts.{last_of}
-use Rattle.path_print.proofs.Molecules.{molecule_symmetric, ends_within, joined_byte, atom_label}
-use Rattle.path_print.proofs.Ways.{step_some, step_none}
-use Rattle.path_print.proofs.molecule.step.Goals as goal
+use Rattle.path_print.proofs.Molecules.{ends_within, joined_byte, atom_label}
+use Rattle.path_print.proofs.molecule.step_to.Goals as goal
 
-pub byte_is : (c : goal.After-longer) (family : Family)
-    → (molecule_view c.args.mol.now family).byte (last_of c.args.path.now.atoms) c.args.to ≡ Some c.byte_of-byte.result
-byte_is c family =
+pub returns-clause-byte : goal.returns-clause-byte
+returns-clause-byte c family =
     let d : Bond = record { a = 0; b = 0; kind = Single } in
     joined_byte c.args.mol.now family c.args.bond (last_of c.args.path.now.atoms) c.args.to d c.bonds.ensures.valid
     c.requires.joined
     ∙ ap Some (ap (λ k. kind_byte (get_or c.args.mol.now.bonds k d).kind) (sym c.from.ensures)
     ∙ ap (λ xs. kind_byte (get_or xs c.from.result d).kind) (sym c.bonds.ensures.value)
-    ∙ sym c.byte_of-byte.ensures)
+    ∙ sym c.byte_of.ensures)
 
-pub label_is : (c : goal.After-longer) (family : Family)
-    → (molecule_view c.args.mol.now family).label c.args.to ≡ label_of family c.known.result
-label_is c family =
+pub returns-clause-label : goal.returns-clause-label
+returns-clause-label c family =
     let d : Atom = record { number = 0; isotope = 0; charge = pos 0; hydrogens = 0; aromatic = false; valence = 0 } in
     atom_label c.args.mol.now family c.args.to d
     (ends_within c.args.mol.now c.args.bond (last_of c.args.path.now.atoms) c.args.to c.bonds.ensures.valid
@@ -30,14 +27,3 @@ label_is c family =
     ∙ ap (λ k. label_of family (known_of (get_or c.args.mol.now.atoms k d))) (sym c.from-2.ensures)
     ∙ ap (λ xs. label_of family (known_of (get_or xs c.from-2.result d))) (sym c.atoms.ensures.value)
     ∙ ap (label_of family) (sym c.known.ensures)
-
-pub returns-clause-some : goal.returns-clause-some
-returns-clause-some c =
-    step_some (molecule_view c.args.mol.now) (molecule_symmetric c.args.mol.now) c.args.path.now c.requires.path
-    c.args.to c.byte_of-byte.result c.known.result (byte_is c)
-    (label_is c) c.longer.result c.longer.ensures.value c.longer.ensures.new c.longer.ensures.room
-
-pub returns-clause-none : goal.returns-clause-none
-returns-clause-none c =
-    step_none (molecule_view c.args.mol.now) (molecule_symmetric c.args.mol.now) c.args.path.now c.requires.path
-    c.args.to c.byte_of-byte.result c.known.result (byte_is c) (label_is c) c.longer.result c.longer.ensures.none
