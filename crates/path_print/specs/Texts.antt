@@ -28,10 +28,14 @@ pub record IsTextInside (count there back there_sum back_sum weight : ℕ) : Typ
   pub there_fits : there < 256 ^ count
   pub back_fits : back < 256 ^ count
   pub there_hash : there_sum % 65521 ≡ hash_of (digits count there)
-  pub there_small : there_sum ≤ 1000000000000 * count
   pub back_hash : back_sum % 65521 ≡ hash_of (digits count back)
-  pub back_small : back_sum ≤ 1000000000000 * count
   pub weighs : weight ≡ 131 ^ count % 65521
+  pub two : count ≤ 2 → (there_sum ≤ 200000) × (back_sum ≤ 200000) × (weight ≤ 17161)
+  pub five : count ≤ 5 → (there_sum ≤ 500000000000) × (back_sum ≤ 500000000000)
+  pub eight : count ≤ 8 → (there_sum ≤ 2000000000000) × (back_sum ≤ 1200000000000000000)
+  pub eleven : count ≤ 11 → back_sum ≤ 4500000000000000000
+  pub there_small : there_sum ≤ 5000000000000000000
+  pub back_small : back_sum ≤ 5000000000000000000
 
 -- a path under way: its atoms, and its text in each family
 pub record PathTerm : Type 0 where
