@@ -8,7 +8,7 @@ use Rattle.std.specs.Ordering.{nat_cmp, is_lt, ordering_reverse}
 use Rattle.std.specs.Cmp.Lexicographic.{slice_cmp}
 use Rattle.std.proofs.lemmas.Cmp.{nat_list_cmp_total}
 use Rattle.std.specs.FinMap.{nat_cmp-IsAntisymmetric, slice_cmp-IsAntisymmetric}
-use Rattle.std.proofs.lemmas.List.{length-reverse, reverse-reverse, get_or-reverse, append_assoc, append-nil, length-append, get_or_append_left, get_or_default}
+use Rattle.std.proofs.lemmas.List.{length-reverse, reverse-reverse, append-nil, length-append, get_or_append_left, get_or_default}
 use Rattle.std.proofs.lemmas.List.Quantifiers.{all_pairs_push}
 use Rattle.std.proofs.lemmas.Option.{none-some, same_Some}
 use Rattle.chem_core.specs.Bits.{HasBit}

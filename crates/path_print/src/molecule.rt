@@ -71,7 +71,14 @@ impl<W: Walk> Walk for More<W> {
 // Sets the bits of the path that goes on to a neighbour by the bond between, unless the step that was marked last had the
 // same bits. Returns the step that is marked now.
 #[inline(always)]
-fn mark_end(mol: &Mol, path: &Path, to: u16, bond: u16, marked: Option<Step>, print: &mut Print) -> Option<Step>
+fn mark_end(
+    mol: &Mol,
+    path: &Path,
+    to: u16,
+    bond: u16,
+    marked: Option<Step>,
+    print: &mut Print,
+) -> Option<Step>
     requires path { IsOn (molecule_view mol.now) path.now }
     requires room { length path.now.atoms + 1 ≡ MOST }
     requires counted { IsSpent path.now.atoms → ⊥ }

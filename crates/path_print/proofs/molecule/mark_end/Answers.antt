@@ -1,4 +1,4 @@
-use Rattle.std.proofs.Common.{◌∷◌, Some, reverse, subst}
+use Rattle.std.proofs.Common.{◌∷◌, reverse, subst}
 use Rattle.std.specs.Prelude.{IfSome}
 use Rattle.path_print.specs.Prints.{molecule_view}
 use Rattle.path_print.specs.Texts.{IsBitFrom, IsMarked}

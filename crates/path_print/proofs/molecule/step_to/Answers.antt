@@ -1,10 +1,10 @@
-use Rattle.std.proofs.Common.{◌≡◌, Some, get_or, sym, ap, ◌∙◌, false}
+use Rattle.std.proofs.Common.{Some, get_or, sym, ap, ◌∙◌, false}
 use Rattle.std.specs.Prelude.{pos}
 use Rattle.chem_core.specs.declared.mol.Atom.{Atom}
 use Rattle.chem_core.specs.declared.mol.Bond.{Bond}
 use Rattle.chem_core.specs.declared.mol.BondKind.TheVariants.{Single}
-use Rattle.path_print.specs.Path.{Family, label_of}
-use Rattle.path_print.specs.Prints.{known_of, kind_byte, molecule_view}
+use Rattle.path_print.specs.Path.{label_of}
+use Rattle.path_print.specs.Prints.{known_of, kind_byte}
 use Rattle.path_print.specs.Texts.{last_of}
 use Rattle.path_print.proofs.Molecules.{ends_within, joined_byte, atom_label}
 use Rattle.path_print.proofs.molecule.step_to.Goals as goal

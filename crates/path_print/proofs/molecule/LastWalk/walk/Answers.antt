@@ -1,4 +1,4 @@
-use Rattle.std.proofs.Common.{ℕ, ◌+◌, ◌≡◌, ◌⊎◌, ◌∷◌, length, reverse, get_or, subst, sym, arith}
+use Rattle.std.proofs.Common.{ℕ, ◌≡◌, ◌⊎◌, ◌∷◌, length, reverse, get_or, subst, arith}
 use Rattle.std.proofs.lemmas.List.Elements.{Contains-get_or}
 use Rattle.chem_core.specs.Graph.{JoinsAt, AreNeighbours}
 use Rattle.chem_core.specs.Molecule.{ends_of}
@@ -47,4 +47,3 @@ returns c =
     (subst (λ n. SetsBits (λ bit. IsBitHere c.args.path.now bit
     ⊎ IsBitVia views c.args.path.now.atoms (λ k. (get_or pairs k (0, 0)).0) n bit) c.args.print.now c.loop-to.print)
     whole c.loop-to.invariant.bits)
-
