@@ -7,7 +7,7 @@ ghost use Rattle.path_print.specs.Path.{Family, label_of};
 ghost use Rattle.path_print.specs.Texts.{IsOn, IsOneLonger, IsBitFrom, IsMarked, IsSpent, NoneFrom, SetsBits, last_of};
 
 use crate::known::Known;
-use crate::path::{Last, MOST, More, Path};
+use crate::path::{MOST, More, Path};
 use chem_core::{Atom, BondKind, Mol, Print};
 
 /// The bits of all paths of the molecule.
@@ -34,6 +34,9 @@ trait Walk {
         requires left { length path.now.atoms + left ≡ MOST }
         ensures { SetsBits (IsBitFrom (molecule_view mol.now) path.now.atoms) print.old print.new };
 }
+
+// One atom may follow. Of those that give the path the same texts one is enough.
+struct Last;
 
 impl Walk for Last {
     ghost left = { 1 };
@@ -68,8 +71,8 @@ impl<W: Walk> Walk for More<W> {
     }
 }
 
-// Sets the bits of the path that goes on to a neighbour by the bond between, unless the step that was marked last had the
-// same bits. Returns the step that is marked now.
+// Sets the bits of the path that goes on to a neighbour by the bond between, unless the step that was marked last gave
+// the same. Returns the step that is marked now.
 #[inline(always)]
 fn mark_end(
     mol: &Mol,

@@ -15,14 +15,8 @@ use std::marker::Model;
 /// The most atoms of a path.
 pub const MOST: usize = 5;
 
-/// No atom may follow.
-pub struct Full;
-
 /// One atom may follow, and behind it those of `W`.
 pub struct More<W>(W);
-
-/// One atom may follow, and of those that give the same texts one is enough.
-pub struct Last;
 
 /// A path under way. Contracts see its atoms and its texts.
 #[derive(Drop)]

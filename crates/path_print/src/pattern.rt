@@ -10,7 +10,7 @@ ghost use Rattle.path_print.specs.Squares.{AreKnown, IsSimplePattern, IsSquare, 
 
 use crate::implied::{implied, implied_byte};
 use crate::known::Known;
-use crate::path::{Full, MOST, More, Path};
+use crate::path::{MOST, More, Path};
 use chem_core::Print;
 use smarts_parse::{Graph, Pattern};
 
@@ -88,6 +88,9 @@ trait Walk {
         requires left { length path.now.atoms + left ≡ MOST }
         ensures { SetsBits (IsBitFrom (graph_view (graph_of graph.now)) path.now.atoms) print.old print.new };
 }
+
+// No atom may follow.
+struct Full;
 
 impl Walk for Full {
     ghost left = { 0 };
