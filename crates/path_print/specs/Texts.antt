@@ -105,7 +105,7 @@ grown atoms (y ∷ ys) = grown (y ∷ reverse atoms) ys
 abbrev pub before : ℕ → ℕ
 before n = n / 2 - 1
 
--- Of the two directions of a path the one in which it is counted: from the middle outwards, the atom before is lower.
+-- Of the two directions of a path the one in which it is counted: of the two atoms around its middle the lower is first.
 abbrev pub IsCounted : List ℕ → Type 0
 IsCounted atoms = slice_index atoms (before (length atoms))
     ≤ slice_index atoms (length atoms - 1 - before (length atoms))
