@@ -60,14 +60,14 @@ why-full read stay store s c o h e allowed full = (
 -- both as answers of a service
 refused-row : (store new : StoreTerm) (s : State) (c : Change) (f : CommitFault) → IsAt store s → IsAt new s
     → IsWhy s (change_of c) f → Calls Stretches (λ _. true) store new s (commit_calls c (Err f))
-refused-row store new s c fault.Known h n why = one-call store new s s 0 (event.Commit (change_of c)) reply.Known refl h
-    (serves s h.serves, (why, refl)) n
-refused-row store new s c fault.Absent h n why = one-call store new s s 0 (event.Commit (change_of c)) reply.Absent refl h
-    (serves s h.serves, (why, refl)) n
+refused-row store new s c fault.Known h n why = one-call store new s s 0
+    (event.Commit (change_of c)) reply.Known refl h (serves s h.serves, (why, refl)) n
+refused-row store new s c fault.Absent h n why = one-call store new s s 0
+    (event.Commit (change_of c)) reply.Absent refl h (serves s h.serves, (why, refl)) n
 refused-row store new s c fault.Withdrawn h n why = one-call store new s s 0
     (event.Commit (change_of c)) reply.Withdrawn refl h (serves s h.serves, (why, refl)) n
-refused-row store new s c fault.Full h n why = one-call store new s s 0 (event.Commit (change_of c)) reply.Full refl h
-    (serves s h.serves, (why.0, why.1, refl)) n
+refused-row store new s c fault.Full h n why = one-call store new s s 0
+    (event.Commit (change_of c)) reply.Full refl h (serves s h.serves, (why.0, why.1, refl)) n
 refused-row store new s c (fault.DiskFault doubt) h n why = absurd why
 refused-row store new s c fault.Worn h n why = absurd why
 refused-row store new s c fault.NoMemory h n why = one-call store new s s 0

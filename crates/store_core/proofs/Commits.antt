@@ -1,7 +1,6 @@
 -- A commit, as a store makes it.
-use Rattle.std.proofs.Common.{◌≡◌, ◌≢◌, ◌+◌, ◌++◌, ◌==◌, ◌<◌, ◌≤◌, ◌⊎◌, ◌∙◌, ap, arith, cond, Contains, count_by, eq-eqb, eqb-true, false, inl, inr, length, length-append, List, [], ◌∷◌, None, not, Option, option_map, refl, Some, subst, sym, true, ℕ, nat_cmp}
-use Rattle.std.proofs.lemmas.Bool.{cond-false, cond-true, true≢false}
-use Rattle.std.proofs.lemmas.List.Elements.{Contains-append_left, Contains-push}
+use Rattle.std.proofs.Common.{◌≡◌, ◌+◌, ◌++◌, ◌<◌, ◌≤◌, ◌⊎◌, ◌∙◌, ap, arith, Contains, count_by, inl, inr, length, length-append, List, [], ◌∷◌, None, not, Option, option_map, refl, Some, subst, sym, true, ℕ, nat_cmp}
+use Rattle.std.proofs.lemmas.Bool.{cond-true}
 use Rattle.std.specs.Arc.{arc_value}
 use Rattle.std.specs.Cmp.{nat_cmp_total}
 use Rattle.std.specs.FinMap.{entries, get, get-insert, insert}
@@ -10,10 +9,8 @@ use Rattle.std.specs.Ordering.{eq_by_cmp}
 use Rattle.store_machine.specs.History.{IsAllowed, IsHistory, IsValid, Snapshot, after_change, grown, head, id_of, refusal, snapshot, unless_live}
 use Rattle.store_machine.specs.Laws.{CommitsChange, KeptIsRead, RunsStaySound, SnapshotsStay, StatesStay}
 use Rattle.store_machine.specs.Machine.{Gives, MayAdd, committed, is_live, now}
-use Rattle.store_machine.specs.Made.{IsKept}
 use Rattle.store_machine.specs.declared.machine.Change.{Change as Told}
 use Rattle.store_machine.specs.declared.machine.Change.TheVariants as told
-use Rattle.store_machine.specs.declared.machine.Entry.{Entry}
 use Rattle.store_machine.specs.declared.machine.Event.TheVariants as event
 use Rattle.store_machine.specs.declared.machine.Reply.TheVariants as reply
 use Rattle.store_machine.specs.declared.machine.State.{State}
@@ -21,7 +18,6 @@ use Rattle.store_machine.specs.declared.machine.Status.{Status}
 use Rattle.store_machine.specs.declared.machine.Status.TheVariants.{Live, Withdrawn}
 use Rattle.store_machine.specs.declared.machine.TheConstants.{LAST_IDENTIFIER}
 use Rattle.store_core.specs.Kept.{IsEntryOf, Kept, Lists, status_in, status_of}
-use Rattle.store_core.specs.Records.{IsRecord, Shared}
 use Rattle.store_core.specs.Replies.{Counts, IsSoundChange, MayCount, change_of, left_by, refusal_by}
 use Rattle.store_core.specs.Stored.{IsChain, Served, StandsFor, StoreTerm, alone, served}
 use Rattle.store_core.specs.declared.words.Change.{Change}
@@ -136,11 +132,13 @@ module _ (snapshots : SnapshotsStay) (change : CommitsChange) (s : Served) (c : 
   each ks q P old new l (inl d) = old l d
   each ks q P old new l (inr e) = subst P e.1 (new e.0)
 
-  pub next-chain : (q : ℕ) (ks new : List Kept) → ((l : Kept) → Contains new l → Contains ks l ⊎ ((q ≡ id_of c) × (k ≡ l)))
+  pub next-chain : (q : ℕ) (ks new : List Kept)
+      → ((l : Kept) → Contains new l → Contains ks l ⊎ ((q ≡ id_of c) × (k ≡ l)))
       → IsChain s q ks → IsChain (served (committed (alone s) c)) q new
   next-chain q ks new which h = record {
     late = λ l d. each ks q (λ x. x.version ≤ head (grown s.history (c ∷ [])))
-        (λ x f. let le = h.late x f in omega (arith, le, later-head)) (λ _. omega (arith, at, later-head)) l (which l d);
+        (λ x f. let le = h.late x f in omega (arith, le, later-head)) (λ _. omega (arith, at, later-head)) l
+        (which l d);
     states = λ l d. each ks q (λ x. get (snapshot (grown s.history (c ∷ [])) x.version) q ≡ Some (status_of x))
         (λ x f. then-state q x (h.late x f) (h.states x f))
         (λ e. subst (λ i. get (snapshot (grown s.history (c ∷ [])) k.version) i ≡ Some (status_of k)) (sym e) new-state)
@@ -192,8 +190,8 @@ commit-stands laws store new s c k h m may =
     ∙ (laws.commits s.history told ∙ inserts (head s.history + 1) told (now (alone s))) in
     let live = ap (λ (n : Snapshot). count_by (λ e. is_live e.1) (entries n)) state in
     let gone = ap (λ (n : Snapshot). count_by (λ e. not (is_live e.1)) (entries n)) state in
-    let counted = counts-after (head s.history + 1) c (get (now (alone s)) (id_of told)) store.live store.withdrawn new.live
-    new.withdrawn _ _ _ _ (sym (refusal-is (now (alone s)) c) ∙ may.1) m.counts h.live h.withdrawn
+    let counted = counts-after (head s.history + 1) c (get (now (alone s)) (id_of told)) store.live store.withdrawn
+    new.live new.withdrawn _ _ _ _ (sym (refusal-is (now (alone s)) c) ∙ may.1) m.counts h.live h.withdrawn
     (count-insert is_live (now (alone s)) (id_of told) (made_by (head s.history + 1) told))
     (count-insert (λ x. not (is_live x)) (now (alone s)) (id_of told) (made_by (head s.history + 1) told)) in
     let room = may.2 in
@@ -218,8 +216,8 @@ commit-stands laws store new s c k h m may =
       );
       live = counted.0 ∙ sym live;
       withdrawn = counted.1 ∙ sym gone;
-      ids = let few = counts-few c store.live store.withdrawn new.live new.withdrawn (LAST_IDENTIFIER + store.version) m.counts h.ids
-          in omega (arith, few, m.version);
+      ids = let few = counts-few c store.live store.withdrawn new.live new.withdrawn (LAST_IDENTIFIER + store.version)
+          m.counts h.ids in omega (arith, few, m.version);
       chains = λ q. next-chain laws.snapshots laws.commits s told k at is entry q (chain_of store.kept.chains q)
           (chain_of new.kept.chains q)
           (added-has store.kept.chains new.kept.chains (id_of told) k m.chains q) (h.chains q);

@@ -31,17 +31,25 @@ module _ (live : List ℕ) (ks : List Kept) (d : Kept) (there : Contains ks d) (
   )
     where
       own : k.version ≢ d.version
-      own e = dead (v, used, (
-        there,
-        (let le = latest.1 in omega (arith, le, e)),
-        λ l c le. let top = latest.2 l c le in omega (arith, top, e),
-      ))
+      own e = dead (
+        v,
+        used,
+        (
+          there,
+          (let le = latest.1 in omega (arith, le, e)),
+          λ l c le. let top = latest.2 l c le in omega (arith, top, e),
+        ),
+      )
 
   left-read : (k : Kept) → IsRead live left k → IsRead live ks k
   left-read k (v, used, latest) = (
     v,
     used,
-    ((filtered-has (is_other d.version) ks k latest.0).0, latest.1, λ l c le. top l c le (cases-same l.version d.version)),
+    (
+      (filtered-has (is_other d.version) ks k latest.0).0,
+      latest.1,
+      λ l c le. top l c le (cases-same l.version d.version),
+    ),
   )
     where
       others : (l : Kept) → Contains ks l → l.version ≤ v → l.version ≢ d.version → l.version ≤ k.version
@@ -57,11 +65,15 @@ module _ (live : List ℕ) (ks : List Kept) (d : Kept) (there : Contains ks d) (
       top l c le (inr other) = others l c le other
       top l c le (inl e) =
           elim (cases_lt k.version d.version) [
-            | inl above ↦ absurd (dead (v, used, (
-              there,
-              omega (arith, le, e),
-              λ m f late. up m f late above (cases-same m.version d.version),
-            )))
+            | inl above ↦ absurd (dead (
+              v,
+              used,
+              (
+                there,
+                omega (arith, le, e),
+                λ m f late. up m f late above (cases-same m.version d.version),
+              ),
+            ))
             | inr ge ↦ omega (arith, ge, e)
           ]
 
@@ -179,23 +191,23 @@ lists-left now next id version takes there fewer es l = record {
   distinct = AllPairs-filter (λ x y. x ≢ y) (is_not id version) es l.distinct;
   exactly = λ e. (
     (λ c.
-    let r = filtered-has (is_not id version) es e c in
-    let h = (l.exactly e).0 r.0 in (
-      h.0,
-      taken-in now next id version takes e.id h.0 h.1
-          (λ same v. not-is id version e r.1 same (sym h.2 ∙ v)),
-      h.2,
-    )),
+        let r = filtered-has (is_not id version) es e c in
+        let h = (l.exactly e).0 r.0 in (
+          h.0,
+          taken-in now next id version takes e.id h.0 h.1
+              (λ same v. not-is id version e r.1 same (sym h.2 ∙ v)),
+          h.2,
+        )),
     (λ h.
-    let r = taken-has now next id version takes e.id h.0 h.1 in
-    filtered-in (is_not id version) es e ((l.exactly e).1 (h.0, r.0, h.2))
-    (is-not id version e (λ same v. r.1 same (h.2 ∙ v)))),
+        let r = taken-has now next id version takes e.id h.0 h.1 in
+        filtered-in (is_not id version) es e ((l.exactly e).1 (h.0, r.0, h.2))
+        (is-not id version e (λ same v. r.1 same (h.2 ∙ v)))),
   );
   count =
       let one = one-out (is_not id version) es (record { id = id; version = version }) l.distinct
-          ((l.exactly (record { id = id; version = version })).1 there) (itself id version)
-          (λ e other. is-not id version e
-          (λ same v. other (λ i. record { id = sym same i; version = sym v i }))) in
+      ((l.exactly (record { id = id; version = version })).1 there) (itself id version)
+      (λ e other. is-not id version e
+      (λ same v. other (λ i. record { id = sym same i; version = sym v i }))) in
       omega (arith, one, fewer, l.count);
 }
 
@@ -206,15 +218,6 @@ pub record Pruning (live : List ℕ) (from : ℕ × ℕ) (old now : Chains) : Ty
   pub passed : (p : ℕ × ℕ) → IsDead live now p → IsUpTo from p
   pub count : length (entries now) ≤ length (entries old)
   pub lists : (es : List Entry) → Lists es old → (left : List Entry) × Lists left now
-
-pub prune-begins : (live : List ℕ) (old : Chains) → Pruning live (0, 0) old old
-prune-begins live old = record {
-  fewer = λ id k c. c;
-  reads = λ id k. ((λ r. r), (λ r. r));
-  passed = λ p dead. (omega arith, λ e. omega arith);
-  count = omega arith;
-  lists = λ es l. (es, l);
-}
 
 module _ (live : List ℕ) (from d : ℕ × ℕ) (old now next : Chains) (p : Pruning live from old now)
     (least : IsLeastDead live from now (Some d)) (takes : Takes now next d.0 d.1)

@@ -1,5 +1,5 @@
 -- The row of Fetch, as a store makes it.
-use Rattle.std.proofs.Common.{◌≡◌, Bool, Contains, Err, List, Ok, refl, Result, subst, sym, true, ℕ}
+use Rattle.std.proofs.Common.{Bool, Contains, Err, List, Ok, refl, subst, sym, true, ℕ}
 use Rattle.snap_registry.specs.declared.Pin.{Pin}
 use Rattle.store_machine.specs.History.{snapshot}
 use Rattle.store_machine.specs.Machine.{IsPage}

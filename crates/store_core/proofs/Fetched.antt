@@ -1,5 +1,5 @@
 -- What a fetch finds at a pinned version, by the kept entries.
-use Rattle.std.proofs.Common.{◌≡◌, ◌+◌, ◌++◌, ◌<◌, ◌≤◌, ◌⊎◌, ◌∙◌, ap, arith, Bool, Contains, inl, inr, List, [], ◌∷◌, map, None, Option, option_map, refl, Some, subst, suc, sym, true, zero, ℕ}
+use Rattle.std.proofs.Common.{◌≡◌, ◌+◌, ◌<◌, ◌≤◌, ◌⊎◌, ◌∙◌, ap, arith, Bool, Contains, inl, inr, List, [], ◌∷◌, map, None, Option, option_map, refl, Some, subst, suc, sym, zero, ℕ}
 use Rattle.std.proofs.lemmas.Bool.{cases_lt, true≢false}
 use Rattle.std.proofs.lemmas.List.Elements.{Contains-append_left}
 use Rattle.std.specs.Arc.{arc_value}
@@ -38,7 +38,8 @@ pinned-version pin (p ∷ ps) c =
 
 pub pin-used : (store : StoreTerm) (s : State) (pin : Pin) → StandsFor store (served s) → Contains store.pins pin
     → Contains (in_use s) pin.version
-pin-used store s pin h held = Contains-append_left (map (λ (p : Held). p.version) s.pins) (head s.history ∷ []) pin.version
+pin-used store s pin h held =
+    Contains-append_left (map (λ (p : Held). p.version) s.pins) (head s.history ∷ []) pin.version
     (pinned-version pin s.pins (subst (λ l. Contains l pin) (sym h.pins) held))
 
 format_in : Format → Status → Format
@@ -95,7 +96,12 @@ record One (Asked : Found → Type 0) (id : ℕ) : Type 0 where
 found-in : (Asked : Found → Type 0) → ((r q : Found) → Asked r → Asked q → r.id ≡ q.id → r ≡ q)
     → ((id : ℕ) → One Asked id ⊎ ¬ One Asked id) → (count from : ℕ) → FoundIn Asked from (from + count)
 found-in Asked unique decide zero from =
-    record { all = []; up = tt; only = λ r c. absurd (omega (arith, c.1)); whole = λ r a le less. absurd (omega (arith, le, less)) }
+    record {
+      all = [];
+      up = tt;
+      only = λ r c. absurd (omega (arith, c.1));
+      whole = λ r a le less. absurd (omega (arith, le, less));
+    }
 found-in Asked unique decide (suc count) from = go (found-in Asked unique decide count (from + 1)) (decide from)
   where
     go : FoundIn Asked (from + 1) (from + 1 + count) → One Asked from ⊎ ¬ One Asked from
@@ -200,12 +206,14 @@ module _ (read : KeptIsRead) (stay : StatesStay) (one : OneStructure) (store : S
   decide-at : (id : ℕ) → One Asked id ⊎ ¬ One Asked id
   decide-at id = go (get states id) refl
     where
-      other : (o : Option Status) → get states id ≡ o → ((version : ℕ) (format : Format) (text : List ℕ) → o ≡ Some (Live version format text) → ⊥)
+      other : (o : Option Status) → get states id ≡ o
+          → ((version : ℕ) (format : Format) (text : List ℕ) → o ≡ Some (Live version format text) → ⊥)
           → One Asked id ⊎ ¬ One Asked id
       other o e not = inr (λ x. not x.asked.0.0 x.r.format x.r.text
           (sym e ∙ (ap (get states) (sym x.same) ∙ x.asked.0.1)))
 
-      not-live : (version n : ℕ) (format : Format) (text : List ℕ) → Some (Withdrawn version) ≡ Some (Live n format text) → ⊥
+      not-live : (version n : ℕ) (format : Format) (text : List ℕ)
+          → Some (Withdrawn version) ≡ Some (Live n format text) → ⊥
       not-live version n format text e = true≢false (sym (ap is_live (same-state _ _ e)))
 
       none-some : {X : Type 0} {x : X} → None ≡ Some x → ⊥
@@ -227,7 +235,8 @@ module _ (read : KeptIsRead) (stay : StatesStay) (one : OneStructure) (store : S
 
       go : (o : Option Status) → get states id ≡ o → One Asked id ⊎ ¬ One Asked id
       go None e = other None e (λ version format text f. none-some f)
-      go (Some (Withdrawn version)) e = other (Some (Withdrawn version)) e (λ n format text f. not-live version n format text f)
+      go (Some (Withdrawn version)) e = other (Some (Withdrawn version)) e
+          (λ n format text f. not-live version n format text f)
       go (Some (Live version format text)) e = live (record { id = id; format = format; text = text }) refl (version, e)
 
   -- something is found
@@ -239,7 +248,8 @@ module _ (read : KeptIsRead) (stay : StatesStay) (one : OneStructure) (store : S
         record {
           ascending = increases f.all f.up;
           only = λ r c. (f.only r c).0;
-          all = λ r live asked. f.whole r (live, asked) (omega arith) (let b = below r (live, asked) in omega (arith, b));
+          all = λ r live asked. f.whole r (live, asked) (omega arith)
+              (let b = below r (live, asked) in omega (arith, b));
         },
       )
 

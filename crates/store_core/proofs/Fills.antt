@@ -64,7 +64,8 @@ module _ (read : KeptIsRead) (stay : StatesStay) (one : OneStructure) (store : S
 
   -- it is passed by
   pub passed-by : (place id : ℕ) (o : Option Kept) (page : List Shared) → Goes place page
-      → IsNextId want place store.kept.chains (Some id) → Latest id o → ¬ HasPrint want (record_of o) → Goes (id + 1) page
+      → IsNextId want place store.kept.chains (Some id) → Latest id o → ¬ HasPrint want (record_of o)
+      → Goes (id + 1) page
   passed-by place id o page goes next latest not s h all found =
       let used = pin-used store s pin h held in
       goes s h all found ∙ ap (λ l. founds page ++ l)

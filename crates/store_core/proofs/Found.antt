@@ -1,5 +1,5 @@
 -- Records that are found, by identifier ascending: those from an identifier on.
-use Rattle.std.proofs.Common.{◌≡◌, ◌+◌, ◌++◌, ◌<◌, ◌≤◌, ◌∙◌, add-one, ap, arith, AllPairs, Bool, cond, Contains, false, filter, get_or, inl, inr, le-leb, length, length-append, List, [], ◌∷◌, map, nat_le, refl, slice_index, subst, suc, sym, take, true, zero, ℕ}
+use Rattle.std.proofs.Common.{◌≡◌, ◌+◌, ◌++◌, ◌<◌, ◌≤◌, ◌∙◌, add-one, ap, arith, AllPairs, Bool, cond, Contains, false, inl, inr, le-leb, length, length-append, List, [], ◌∷◌, nat_le, refl, slice_index, subst, suc, sym, take, true, zero, ℕ}
 use Rattle.std.proofs.Math.Seq.{take-append_seam}
 use Rattle.std.proofs.lemmas.Bool.{lt-leb}
 use Rattle.std.proofs.lemmas.Bool.Decides.{nat_tests}
@@ -29,9 +29,9 @@ rises-pairs : (rs : List Found) → AllPairs (λ x y. x < y) (ids rs) → Rises 
 rises-pairs [] up = tt
 rises-pairs (r ∷ rs) up = (
   λ q c.
-  let d = has-id rs q c in
-  let less = up 0 (suc d.0) q.id (omega arith) (let w = d.1 in omega (arith, w)) in
-  subst (λ n. r.id < n) d.2 less,
+      let d = has-id rs q c in
+      let less = up 0 (suc d.0) q.id (omega arith) (let w = d.1 in omega (arith, w)) in
+      subst (λ n. r.id < n) d.2 less,
   rises-pairs rs (λ i j d less within. up (suc i) (suc j) d (omega (arith, less)) (omega (arith, within))),
 )
 

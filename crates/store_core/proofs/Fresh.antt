@@ -7,7 +7,7 @@ use Rattle.store_machine.specs.Laws.{IsSound}
 use Rattle.store_machine.specs.declared.machine.Change.{Change}
 use Rattle.store_machine.specs.declared.machine.Status.{Status}
 use Rattle.store_core.specs.Stored.{IsAt, IsChain, empty, served}
-use Rattle.store_core.specs.Kept.{Chains, KeptTerm, Lists}
+use Rattle.store_core.specs.Kept.{KeptTerm, Lists}
 use Rattle.store_core.proofs.OneCall.{at-alone}
 
 none-taken : (v : ℕ) → snapshot begun v ≡ none
@@ -42,7 +42,11 @@ none-counted p (x ∷ xs) e = absurd (omega (arith, e))
 
 empty-chain : (commits id : ℕ) → IsChain (served (empty commits)) id []
 empty-chain commits id =
-    record { late = λ k c. absurd (none-in k c); states = λ k c. absurd (none-in k c); records = λ k c. absurd (none-in k c) }
+    record {
+      late = λ k c. absurd (none-in k c);
+      states = λ k c. absurd (none-in k c);
+      records = λ k c. absurd (none-in k c);
+    }
 
 empty-lists : Lists [] []
 empty-lists = record {

@@ -1,6 +1,6 @@
 -- An index of the entries that have a record: an entry more, one taken out, and the next that is wanted.
-use Rattle.std.proofs.Common.{◌≡◌, ◌≢◌, ◌+◌, ◌*◌, ◌++◌, ◌==◌, ◌<◌, ◌≤◌, ◌⊎◌, ◌∙◌, All, ap, arith, Bool, Bor, cond, Contains, eq-eqb, eqb-true, false, filter, get_or, IfSome, inl, inr, length, List, [], ◌∷◌, MatchOption, nat_lt, None, not, Option, refl, Some, subst, suc, sym, true, ℕ}
-use Rattle.std.proofs.lemmas.Bool.{cases_lt, cond-false, cond-true, true≢false}
+use Rattle.std.proofs.Common.{◌≡◌, ◌≢◌, ◌+◌, ◌*◌, ◌++◌, ◌==◌, ◌<◌, ◌≤◌, ◌⊎◌, ◌∙◌, All, ap, arith, Bool, Bor, cond, Contains, eq-eqb, eqb-true, false, filter, get_or, inl, inr, length, List, [], ◌∷◌, MatchOption, nat_lt, None, Option, refl, Some, subst, sym, true, ℕ}
+use Rattle.std.proofs.lemmas.Bool.{cases_lt, cond-false, cond-true}
 use Rattle.std.proofs.lemmas.Bool.Decides.{nat_tests}
 use Rattle.std.proofs.lemmas.List.Elements.{All-contains, Contains-append_left, Contains-get_or, Contains-push, Contains-push_cases}
 use Rattle.std.proofs.lemmas.List.{get_or_default}
@@ -350,9 +350,9 @@ next-some chains xs want from p h (x, c, id-is, version-is, wanted, least) =
         λ bit need. subst (λ print. HasBit print bit) r.1 (wanted.1 bit need),
       ),
       λ id k le d holds.
-      let s = stands chains xs want from id k h le d holds in
-      let up = id-up-to x.id s.x.id x.version s.x.version (h.versions s.x s.there) (least s.x s.there s.wanted) in
-      omega (arith, up, id-is, s.id-is),
+          let s = stands chains xs want from id k h le d holds in
+          let up = id-up-to x.id s.x.id x.version s.x.version (h.versions s.x s.there) (least s.x s.there s.wanted) in
+          omega (arith, up, id-is, s.id-is),
     )
 
 -- what was found of an identifier is its latest entry

@@ -1,5 +1,5 @@
 -- The limit of a store is another.
-use Rattle.std.proofs.Common.{◌≡◌, ◌≤◌, refl, ℕ}
+use Rattle.std.proofs.Common.{◌≤◌, refl, ℕ}
 use Rattle.store_core.specs.Stored.{Served, StandsFor, StoreTerm}
 
 pub relimited : (store : StoreTerm) (s : Served) (commits : ℕ) → commits ≤ 16777215 → StandsFor store s

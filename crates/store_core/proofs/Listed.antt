@@ -1,5 +1,5 @@
 -- The list of the kept entries, with one more.
-use Rattle.std.proofs.Common.{◌≡◌, ◌≢◌, ◌+◌, ◌++◌, ◌<◌, ◌⊎◌, ap, arith, Contains, get_or, inl, inr, length, length-append, List, [], ◌∷◌, refl, subst, sym, ℕ}
+use Rattle.std.proofs.Common.{◌≡◌, ◌≢◌, ◌+◌, ◌++◌, ◌<◌, ap, arith, Contains, get_or, inl, inr, length, length-append, List, [], ◌∷◌, refl, subst, sym, ℕ}
 use Rattle.std.proofs.lemmas.List.Elements.{Contains-append_left, Contains-get_or, Contains-push, Contains-push_cases}
 use Rattle.record_versions.specs.Entries.{chain_of, entries}
 use Rattle.store_machine.specs.declared.machine.Entry.{Entry}

@@ -1,10 +1,9 @@
 -- The row of Prune, as a store makes it.
-use Rattle.std.proofs.Common.{◌≡◌, ◌+◌, ◌++◌, ◌-◌, ◌≤◌, ◌↔◌, ◌∙◌, ap, arith, Contains, drop, length, List, [], ◌∷◌, map, None, Option, option_map, refl, replicate, Some, subst, suc, sym, take, true, zero, ℕ}
+use Rattle.std.proofs.Common.{◌≡◌, ◌+◌, ◌++◌, ◌-◌, ◌≤◌, ◌↔◌, ◌∙◌, ap, arith, Contains, drop, length, List, [], ◌∷◌, map, refl, replicate, Some, subst, suc, sym, take, true, zero, ℕ}
 use Rattle.std.proofs.Math.Seq.{take-append-add}
 use Rattle.std.proofs.lemmas.List.{drop-replicate}
 use Rattle.record_versions.specs.Entries.{IsRead, chain_of}
 use Rattle.snap_registry.specs.declared.Pin.{Pin}
-use Rattle.store_machine.specs.History.{head, made_at}
 use Rattle.store_machine.specs.Kept.{IsNeeded, in_use}
 use Rattle.store_machine.specs.Laws.{IsSound, KeptIsRead, RunsStaySound, StatesStay}
 use Rattle.store_machine.specs.Machine.{AreNeeded, Gives}
@@ -15,7 +14,7 @@ use Rattle.store_machine.specs.declared.machine.Reply.TheVariants as reply
 use Rattle.store_machine.specs.declared.machine.State.{State}
 use Rattle.store_core.specs.Calls.{Calls}
 use Rattle.store_core.specs.Kept.{HasEntry, Kept, KeptTerm, Lists, status_of}
-use Rattle.store_core.specs.Stored.{IsAt, StoreTerm, Stretches, pin_of, served}
+use Rattle.store_core.specs.Stored.{IsAt, StoreTerm, Stretches, pin_of}
 use Rattle.store_core.proofs.OneCall.{alone-sound, one-call, serves}
 use Rattle.store_core.proofs.Rows.{sound-after}
 use Rattle.store_core.proofs.Sees.{latest-of, made-of, sees}
@@ -75,7 +74,8 @@ module _ (read : KeptIsRead) (stay : StatesStay) (sound : RunsStaySound) (store 
       )
 
   -- the entries that are left, as a list
-  module _ (es : List Entry) (l : Lists es kept.chains) (dropped : ℕ) (count : dropped + length es ≡ length s.kept) where
+  module _ (es : List Entry) (l : Lists es kept.chains) (dropped : ℕ)
+      (count : dropped + length es ≡ length s.kept) where
     abbrev pub after : State
     after = record s { kept = es }
 

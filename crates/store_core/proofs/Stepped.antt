@@ -1,5 +1,5 @@
 -- A fetch takes a step for each identifier that has an entry whose print holds what is wanted.
-use Rattle.std.proofs.Common.{◌≡◌, ◌≢◌, ◌+◌, ◌<◌, ◌≤◌, ◌∙◌, All, AllPairs, ap, arith, Bool, Contains, length, List, [], ◌∷◌, None, Option, refl, Some, subst, ℕ}
+use Rattle.std.proofs.Common.{◌≡◌, ◌≢◌, ◌+◌, ◌<◌, ◌≤◌, All, arith, Bool, Contains, List, [], ◌∷◌, None, Option, Some, ℕ}
 use Rattle.std.proofs.lemmas.List.Elements.{All-cons, All-nil, All-weaker}
 use Rattle.std.proofs.lemmas.List.Kept.{AllPairs-cons}
 use Rattle.std.specs.Arc.{arc_value}
@@ -8,7 +8,7 @@ use Rattle.store_machine.specs.Answers.{IsAnswer}
 use Rattle.store_machine.specs.Structures.{IsScreened}
 use Rattle.store_machine.specs.declared.machine.Entry.{Entry}
 use Rattle.store_machine.specs.declared.machine.State.{State}
-use Rattle.store_core.specs.Kept.{HasPrint, IsEntryOf, Kept, status_in}
+use Rattle.store_core.specs.Kept.{HasPrint, IsEntryOf, Kept}
 use Rattle.store_core.specs.Records.{Shared}
 use Rattle.store_core.specs.Steps.{AreSteps}
 use Rattle.store_core.specs.Stored.{StandsFor, StoreTerm, served}
@@ -47,14 +47,18 @@ answer one store s want id version (Some r) h c print =
       asked = (screened one x.format x.text x.mol x.print want own.0.structure own.0.print).0 print;
     }
 
-pub one-step : OneStructure → (store : StoreTerm) (s : State) (want : List Bool) (from place id old new next : ℕ) (k : Kept)
+pub one-step : OneStructure → (store : StoreTerm) (s : State) (want : List Bool) (from place id old new next : ℕ)
+    (k : Kept)
     → StandsFor store (served s) → from ≤ place → place ≤ id → Contains (chain_of store.kept.chains id) k
     → HasPrint want k.value → next ≡ new + 1 → SoFar s from place want old new → SoFar s from (id + 1) want old next
 one-step one store s want from place id old new next k h low up c print is so =
     let x : Entry = record { id = id; version = k.version } in
     let es = so.steps.entries in
-    let first : (from ≤ id) × Contains s.kept x × IsAnswer (IsScreened want) s.history k.version id =
-    (omega (arith, low, up), kept-in store (served s) h id k c, answer one store s want id k.version k.value h c print) in
+    let first : (from ≤ id) × Contains s.kept x × IsAnswer (IsScreened want) s.history k.version id = (
+      omega (arith, low, up),
+      kept-in store (served s) h id k c,
+      answer one store s want id k.version k.value h c print,
+    ) in
     record {
       steps = record {
         entries = x ∷ es;

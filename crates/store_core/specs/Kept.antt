@@ -1,4 +1,5 @@
--- For callers: the kept entries of a store. Each has an identifier, a version, and the record that its commit left, if it left one.
+-- For callers: the kept entries of a store. Each has an identifier, a version, and the record that its commit left, if
+-- it left one.
 use Rattle.std.specs.Prelude.{◌≡◌, ◌≢◌, ◌<◌, ◌≤◌, ◌↔◌, AllPairs, Bool, Contains, filter, IfSome, length, List, None, Option, Some, ℕ}
 use Rattle.std.specs.Arc.{arc_value}
 use Rattle.std.specs.Borrow.{Bor}

@@ -1,5 +1,5 @@
 -- What a store in memory stands for, and its stretches: those of its callers' steps alone.
-use Rattle.std.specs.Prelude.{◌≡◌, ◌+◌, ◌<◌, ◌≤◌, ◌++◌, Contains, count_by, List, [], ◌∷◌, length, map, None, not, refl, Some, true, ℕ}
+use Rattle.std.specs.Prelude.{◌≡◌, ◌+◌, ◌≤◌, ◌++◌, Contains, count_by, List, [], length, map, None, not, refl, Some, true, ℕ}
 use Rattle.std.specs.FinMap.{entries, get}
 use Rattle.snap_registry.specs.declared.Pin.{Pin}
 use Rattle.store_machine.proofs.Joins.{calms-join, runs-join}

@@ -1,7 +1,7 @@
 //! The kept entries of a store, and an index of the prints of those that have a record.
 ghost use Rattle.std.specs.Prelude.{◌≡◌, ◌==◌, ◌+◌, ◌++◌, ◌<◌, ◌↔◌, ℕ, [], ◌∷◌, All, Contains, IfSome, List, OnOk, Option, Some, filter, if◌then◌else◌, length, option_copied, option_map};
 ghost use Rattle.std.specs.Arc.{arc_value};
-ghost use Rattle.record_versions.specs.Entries.{IsLatest, IsRead, IsReserved, chain_of, entries, is_other};
+ghost use Rattle.record_versions.specs.Entries.{IsLatest, IsRead, chain_of, entries, is_other};
 ghost use Rattle.store_machine.specs.declared.machine.Entry.{Entry};
 ghost use Rattle.store_core.specs.Kept.{HasEntry, HasRoom, IsNextId, Kept, Lists, kept_of, with_print, without_print};
 ghost use Rattle.store_core.specs.Records.{Shared};

@@ -1,8 +1,8 @@
 //! The store in memory: the kept entries of each identifier, the pins, and counts.
 //!
-//! It keeps no history. A commit and a look read the latest entry of one identifier; a fetch goes from one identifier to
-//! the next whose print holds what is wanted, and stops at its page's end; a prune goes over the entries once.
-ghost use Rattle.std.specs.Prelude.{◌≡◌, ◌≤◌, ◌+◌, ◌++◌, [], All, drop, false, IfErr, IfOk, length, MatchOption, None, OnErr, OnOk, Some, true, ℕ};
+//! It keeps no history. A commit and a look read the latest entry of one identifier. A fetch goes from one identifier
+//! to the next that has an entry whose print holds what is wanted. A prune goes over the entries once.
+ghost use Rattle.std.specs.Prelude.{◌≡◌, ◌≤◌, ◌+◌, ◌++◌, [], All, drop, false, IfErr, IfOk, length, MatchOption, None, OnErr, OnOk, Some, true};
 ghost use Rattle.std.specs.Arc.{arc_value};
 ghost use Rattle.store_machine.specs.History.{IsId, snapshot};
 ghost use Rattle.store_machine.specs.Machine.{IsPage, committed};
@@ -95,8 +95,8 @@ impl Store {
         self.version
     }
 
-    /// Finds whether a change may be made, and takes the memory for it: the first half of a commit. What the store stands
-    /// for is the same afterwards.
+    /// Finds whether a change may be made, and takes the memory for it: the first half of a commit. It stands for the
+    /// same afterwards.
     pub fn prepare(&mut self, change: &Change) -> Result<(), CommitFault>
         ensures prepared { OnOk result (IsPrepared self.new change.now) }
         ensures why { IfErr result (λ fault. (s : State) → StandsFor self.old (served s)

@@ -53,10 +53,7 @@ impl Change {
     }
 
     // Whether it is allowed, by what its identifier is.
-    pub(crate) fn check(
-        &self,
-        now: Option<(u32, &Option<Arc<Record>>)>,
-    ) -> Result<(), CommitFault>
+    pub(crate) fn check(&self, now: Option<(u32, &Option<Arc<Record>>)>) -> Result<(), CommitFault>
         ensures { let refusal = refusal_by (option_map status_of (kept_of now.entry)) self.now in
             MatchResult result (λ _. refusal ≡ None) (λ fault. IsRefusal fault refusal) }
     {

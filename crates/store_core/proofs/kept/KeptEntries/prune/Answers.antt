@@ -1,5 +1,5 @@
 use Rattle.std.proofs.Common.{sym}
-use Rattle.store_core.proofs.Dead.{dead-there, prune-goes-on, pruned}
+use Rattle.store_core.proofs.Dead.{prune-goes-on, pruned}
 use Rattle.store_core.proofs.kept.KeptEntries.prune.Goals as goal
 
 pub take-requires : goal.take-requires

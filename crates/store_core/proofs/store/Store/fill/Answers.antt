@@ -1,8 +1,7 @@
-use Rattle.std.proofs.Common.{◌≡◌, ◌+◌, ◌++◌, ◌≤◌, ◌∙◌, All, ap, arith, Bool, Contains, length, length-append, List, [], ◌∷◌, None, refl, Some, subst, sym, ℕ}
+use Rattle.std.proofs.Common.{◌+◌, ◌++◌, ◌∙◌, All, ap, arith, length, length-append, List, [], ◌∷◌, None, refl, Some, subst, sym}
 use Rattle.std.proofs.lemmas.List.Elements.{All-nil, All-push}
 use Rattle.std.specs.Arc.{arc_value}
 use Rattle.record_versions.specs.Entries.{IsLatest, chain_of}
-use Rattle.snap_registry.specs.declared.Pin.{Pin}
 use Rattle.store_machine.specs.Answers.{from_on}
 use Rattle.store_machine.specs.History.{IsId}
 use Rattle.store_core.specs.Kept.{IsNextId, kept_of}

@@ -1,4 +1,4 @@
-use Rattle.std.proofs.Common.{◌+◌, arith, ap, get_or, refl, subst, sym, ℕ}
+use Rattle.std.proofs.Common.{◌+◌, arith, get_or, refl, subst, sym}
 use Rattle.std.proofs.lemmas.List.Elements.{Contains-get_or}
 use Rattle.record_versions.specs.Entries.{chain_of}
 use Rattle.store_machine.specs.Machine.{committed}

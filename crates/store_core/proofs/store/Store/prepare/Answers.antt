@@ -1,10 +1,8 @@
-use Rattle.std.proofs.Common.{◌∙◌, ap, None, option_map, subst, sym, ℕ}
+use Rattle.std.proofs.Common.{◌∙◌, subst, sym}
 use Rattle.record_versions.specs.Entries.{IsLatest, chain_of}
-use Rattle.store_machine.specs.History.{id_of}
-use Rattle.store_core.specs.Kept.{HasRoom, kept_of}
-use Rattle.store_core.specs.Replies.{change_of}
-use Rattle.store_core.specs.Stored.{StandsFor, StoreTerm, served}
-use Rattle.store_core.proofs.Advances.{not-worn, refused-not-worn, why-full, why-refused, why-result}
+use Rattle.store_core.specs.Kept.{kept_of}
+use Rattle.store_core.specs.Stored.{served}
+use Rattle.store_core.proofs.Advances.{why-full, why-refused}
 use Rattle.store_core.proofs.Commits.{may-add, now-is}
 use Rattle.store_core.proofs.Rows.{reserved-stands}
 use Rattle.store_core.proofs.store.Store.prepare.Goals as goal

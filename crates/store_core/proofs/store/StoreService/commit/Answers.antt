@@ -4,7 +4,7 @@ use Rattle.store_machine.specs.declared.machine.Reply.TheVariants.{Committed}
 use Rattle.store_core.specs.Calls.{Calls}
 use Rattle.store_core.specs.Replies.{change_of}
 use Rattle.store_core.specs.Stored.{StoreTerm, Stretches, served}
-use Rattle.store_core.proofs.Advances.{committed-row, refused-result, worn-result}
+use Rattle.store_core.proofs.Advances.{committed-row, refused-result}
 use Rattle.store_core.proofs.store.StoreService.commit.Goals as goal
 
 pub returns-in_err-prepare-clause-call : goal.returns-in_err-prepare-clause-call

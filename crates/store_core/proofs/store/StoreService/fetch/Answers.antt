@@ -1,5 +1,3 @@
-use Rattle.std.proofs.Common.{subst, sym}
-use Rattle.store_core.specs.Stored.{HoldsPin, StoreTerm}
 use Rattle.store_core.proofs.FetchRow.{fetch-none, fetch-page}
 use Rattle.store_core.proofs.store.StoreService.fetch.Goals as goal
 

@@ -41,4 +41,5 @@ returns-clause-call c =
     let is = live-is pinned c.put_in_front.new.versions c.self.inside.version few c.put_in_front.ensures
     ∙ ap (λ (l : List ℕ). l ++ c.self.inside.version ∷ []) c.live-pinned.ensures.versions in
     let l = c.prune.ensures.lists s.kept h.stands.kept in
-    prune-call law.read law.states law.sound _ s h _ is c.prune.new.self c.prune.ensures.left l.0 l.1 c.prune.result l.2)
+    prune-call law.read law.states law.sound _ s h _ is c.prune.new.self c.prune.ensures.left l.0 l.1
+    c.prune.result l.2)
