@@ -1,5 +1,4 @@
-use Rattle.std.proofs.Common.{◌∙◌, ◌↔◌, ap, arith, Contains, length, List, option_map, refl, subst, sym, ℕ}
-use Rattle.snap_registry.specs.declared.Pin.{Pin}
+use Rattle.std.proofs.Common.{◌∙◌, ap, arith, length, List, option_map, sym, ℕ}
 use Rattle.store_machine.specs.Machine.{committed}
 use Rattle.store_core.specs.Replies.{change_of}
 use Rattle.store_core.specs.Stored.{alone, served}
