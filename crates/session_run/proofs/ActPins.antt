@@ -1,5 +1,5 @@
 -- What an act does to the pins of the open cursors, and leaves of others.
-use Rattle.std.proofs.Common.{◌≡◌, ◌⊎◌, ◌++◌, ◌∙◌, ap, arith, Bool, cond, inl, inr, List, [], ◌∷◌, refl, subst, sym, ℕ}
+use Rattle.std.proofs.Common.{◌++◌, ap, Bool, cond, inl, inr, List, [], ◌∷◌, subst, sym, ℕ}
 use Rattle.smarts_parse.specs.Pattern.{PatternTerm}
 use Rattle.store_core.specs.Calls.{SameHeld}
 use Rattle.store_machine.specs.Searches.{At, End, Place, past}
@@ -9,7 +9,7 @@ use Rattle.store_machine.specs.declared.machine.Reply.TheVariants as replies
 use Rattle.session_run.specs.Acts.{Act, Asks, Closed, Does, Lines, Opened, Says, Searched, Searches, Turned}
 use Rattle.session_run.specs.Cursors.{AreFetches, Calls, Cursor}
 use Rattle.session_run.specs.Dialogue.{AreExchanged, Exchange}
-use Rattle.session_run.specs.Pins.{AreApart, AreHeld, HeldAfter, HeldBy, Leaves, MovePins, Returns, SameOthers, Takes, effect}
+use Rattle.session_run.specs.Pins.{AreApart, AreHeld, HeldAfter, HeldBy, Returns, SameOthers, Takes, effect}
 use Rattle.session_run.proofs.Acts.{quiet_ask}
 use Rattle.session_run.proofs.Held.{Leave, after-append, apart-parts, held-added, held-moved, held-same, held-without, leave-same, others-added, others-moved, others-without, same_held, same_others, same_others-more}
 use Rattle.session_run.proofs.Passing.{advances_fetch, advances_same}

@@ -1,5 +1,5 @@
 -- What an act did, by its calls and lines, and which acts a command may be.
-use Rattle.std.proofs.Common.{◌≡◌, ◌⊎◌, ◌∙◌, Contains, Err, false, inl, inr, List, [], ◌∷◌, None, Ok, Option, refl, Result, Some, subst, sym, ℕ}
+use Rattle.std.proofs.Common.{◌≡◌, ◌∙◌, Contains, false, inl, inr, List, [], ◌∷◌, None, Ok, Option, refl, Result, Some, subst, sym, ℕ}
 use Rattle.io_edge.specs.Lines.{Whole}
 use Rattle.shell_lang.specs.Command.{Command, IsLine}
 use Rattle.shell_lang.specs.Reply as line
@@ -145,4 +145,3 @@ fits reading cursors request act order (inr (short, text, e, read, line, a)) is 
   where
     one_text : (a b : List ℕ) → Whole a ≡ Whole b → a ≡ b
     one_text a b e = cc
-

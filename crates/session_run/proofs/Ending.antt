@@ -12,7 +12,7 @@ use Rattle.store_machine.specs.declared.machine.Reply.{Reply}
 use Rattle.store_machine.specs.declared.machine.Reply.TheVariants as replies
 use Rattle.session_run.specs.Acts.{Answers, IsCutShort, Lines, Lists, MaySearch, Search, Searched}
 use Rattle.session_run.specs.Cursors.{Calls, Cursor, IsSearched}
-use Rattle.session_run.specs.Made.{Answered, Broken, Did, Said, Tells, Unsaid, WornIn}
+use Rattle.session_run.specs.Made.{Answered, Broken, Said, Tells, Unsaid}
 use Rattle.session_run.specs.Searched.{IsLastLine, PinAnswer, Returns}
 use Rattle.session_run.specs.Texts.{IsPatternOf}
 use Rattle.session_run.specs.Transcript.{IsPrefixOf}

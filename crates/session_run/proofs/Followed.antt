@@ -16,7 +16,7 @@ use Rattle.session_run.specs.Dialogue.{AreExchanged, AreListed, AreTurned, Excha
 use Rattle.session_run.specs.Pins.{AreHeld, HeldAfter}
 use Rattle.session_run.specs.Requests.{Request, molfile_text}
 use Rattle.session_run.proofs.Acts.{OneReading, fits, quiet_ask, quiet_note}
-use Rattle.session_run.proofs.Passing.{IsOpen, IsTurn, PassBy, advances_fetch, advances_same, fetches_pass, one_in, open_advances, open_passes, passes-append}
+use Rattle.session_run.proofs.Passing.{IsOpen, IsTurn, PassBy, advances_fetch, advances_same, fetches_pass, open_advances, open_passes, passes-append}
 use Rattle.session_run.proofs.Pinned.{AreFree, IsPinned, grouped, new_slot, next_calls, none, pinned}
 
 -- the command of a request that turns a page or closes a cursor

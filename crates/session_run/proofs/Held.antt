@@ -1,5 +1,5 @@
 -- Pins that are held: after calls, and of cursors.
-use Rattle.std.proofs.Common.{◌≡◌, ◌↔◌, ◌⊎◌, ◌++◌, ◌∙◌, ap, arith, inl, inr, List, [], ◌∷◌, None, Option, refl, Some, subst, sym, ℕ}
+use Rattle.std.proofs.Common.{◌≡◌, ◌⊎◌, ◌++◌, ◌∙◌, arith, inl, inr, List, [], ◌∷◌, None, Option, refl, Some, subst, sym, ℕ}
 use Rattle.store_core.specs.Calls.{NotAbove, NotRaised, SameHeld}
 use Rattle.session_run.specs.Cursors.{Calls, Cursor}
 use Rattle.session_run.specs.Pins.{AreApart, AreHeld, Effect, HasSlot, HeldAfter, HeldBy, IsApart, Leaves, MovePins, Returns, SameOthers, Takes, effect}

@@ -1,5 +1,5 @@
 -- Calls of one caller in stretches that follow each other, and the pins that they move.
-use Rattle.std.proofs.Common.{◌≡◌, ◌≢◌, ◌⊎◌, ◌↔◌, ◌&&◌, ◌++◌, ◌∙◌, ap, ap₂, Bool, Err, false, if◌then◌else◌, inl, inr, List, [], ◌∷◌, Ok, refl, Result, subst, sym, true, ℕ}
+use Rattle.std.proofs.Common.{◌≡◌, ◌≢◌, ◌⊎◌, ◌↔◌, ◌&&◌, ◌++◌, ◌∙◌, ap, ap₂, Bool, Err, false, if◌then◌else◌, inl, inr, List, [], ◌∷◌, Ok, refl, Result, sym, true, ℕ}
 use Rattle.par_search.specs.Searches.{SearchTerm, calls_at, is_worn, start_calls}
 use Rattle.par_search.specs.declared.fault.SearchFault.{SearchFault}
 use Rattle.par_search.specs.declared.fault.SearchFault.TheVariants as faults
@@ -16,7 +16,7 @@ use Rattle.store_machine.specs.declared.machine.Step.{Step}
 use Rattle.session_run.specs.Cursors.{Calls}
 use Rattle.session_run.specs.Made.{Uses}
 use Rattle.session_run.specs.Searched.{Begins}
-use Rattle.session_run.proofs.Held.{Leave, leave-moves, moves-more, moves-none, not_raised-more, not_raised-same, same_held}
+use Rattle.session_run.proofs.Held.{Leave, leave-moves, moves-more, moves-none, not_raised-more, not_raised-same}
 
 chosen : (b : Bool) (c : Event × Reply) (xs ys zs : Calls) → zs ≡ xs ++ ys
     → (if b then c ∷ zs else zs) ≡ (if b then c ∷ xs else xs) ++ ys

@@ -1,5 +1,5 @@
 -- Answers by their lines: what was said, what a call's reply gave, and answers told in other words.
-use Rattle.std.proofs.Common.{◌≡◌, ◌≢◌, ◌⊎◌, IfErr, IfOk, ◌++◌, ◌∙◌, ap, append-nil, Bool, Err, inl, inr, List, [], ◌∷◌, Ok, OnErr, OnOk, refl, Result, subst, sym, true, ℕ}
+use Rattle.std.proofs.Common.{◌≡◌, ◌≢◌, IfErr, IfOk, ◌++◌, ◌∙◌, ap, append-nil, Bool, Err, inr, List, [], ◌∷◌, Ok, OnErr, refl, Result, subst, sym, true, ℕ}
 use Rattle.mol_finish.specs.Structure.{IsAnswer}
 use Rattle.mol_finish.specs.declared.fault.Format.{Format}
 use Rattle.mol_finish.specs.declared.fault.TextFault.{TextFault}

@@ -1,5 +1,5 @@
 -- A search that is listed page by page, and its end.
-use Rattle.std.proofs.Common.{◌≡◌, ◌⊎◌, ◌++◌, ◌+◌, ◌∙◌, ◌||◌, ap, append-nil, append_assoc, arith, Bool, Err, false, inl, inr, length, length-append, List, [], ◌∷◌, map, not, None, Ok, Option, refl, Result, Some, subst, sym, true, ℕ}
+use Rattle.std.proofs.Common.{◌≡◌, ◌⊎◌, ◌++◌, ◌+◌, ◌∙◌, ◌||◌, ap, append-nil, append_assoc, arith, Bool, Err, false, inl, inr, length-append, List, [], ◌∷◌, map, not, Ok, refl, Result, subst, sym, true, ℕ}
 use Rattle.std.proofs.lemmas.List.{map-append}
 use Rattle.par_search.specs.Searches.{SearchTerm, place_after}
 use Rattle.par_search.specs.declared.fault.SearchFault.{SearchFault}

@@ -1,5 +1,5 @@
 -- What `open`, `next` and `close` answer, by the cursor of a name.
-use Rattle.std.proofs.Common.{◌≡◌, ◌≤◌, ◌⊎◌, ◌++◌, ◌∙◌, ap, append-nil, append_assoc, Bool, drop, Err, get_or, inl, inr, List, [], ◌∷◌, refl, Result, set, subst, suc, sym, take, ℕ}
+use Rattle.std.proofs.Common.{◌≡◌, ◌≤◌, ◌++◌, ◌∙◌, ap, append-nil, append_assoc, Bool, drop, Err, get_or, inl, inr, List, [], ◌∷◌, refl, Result, set, subst, suc, sym, take, ℕ}
 use Rattle.std.specs.List.{remove}
 use Rattle.par_search.specs.Searches.{HasBegun, SearchTerm}
 use Rattle.shell_lang.specs.Reply as line
@@ -8,10 +8,10 @@ use Rattle.smarts_parse.specs.declared.pattern.Pattern.{Pattern}
 use Rattle.store_machine.specs.Searches.{Place, At}
 use Rattle.store_machine.specs.declared.machine.Event.TheVariants as events
 use Rattle.store_machine.specs.declared.machine.Reply.TheVariants as replies
-use Rattle.session_run.specs.Acts.{Act, Advances, Answers, Close, Closed, Fault, IsNamed, Lines, MayClose, MayOpen, MayTurn, Open, Opened, Say, Turn, Turned, new_cursor}
+use Rattle.session_run.specs.Acts.{Advances, Answers, Close, Closed, Fault, IsNamed, Lines, MayClose, MayOpen, MayTurn, Open, Opened, Turn, Turned, new_cursor}
 use Rattle.session_run.specs.Cursors.{Calls, Cursor, IsNoName, unpins}
 use Rattle.session_run.specs.Made.{Answered, Tells}
-use Rattle.session_run.specs.Opened.{IsTaken, opened}
+use Rattle.session_run.specs.Opened.{opened}
 use Rattle.session_run.specs.Pins.{AreHeld, HeldAfter, HeldBy, MovePins, Returns, SameOthers}
 use Rattle.session_run.specs.Responds.{IsFit}
 use Rattle.session_run.specs.Searched.{IsNew}
@@ -27,7 +27,7 @@ use Rattle.session_run.specs.declared.stop.Stop.TheVariants as stops
 use Rattle.session_run.proofs.Ending.{unpin}
 use Rattle.session_run.proofs.Held.{held-at, held-same, held-without, others-without, same_others, same_others-more}
 use Rattle.session_run.proofs.Lines.{answered_as, broken, noted, said}
-use Rattle.session_run.proofs.Named.{pushed, removed, set-split, sized-at, sized-pushed, sized-removed, sized-set, split}
+use Rattle.session_run.proofs.Named.{pushed, removed, set-split, sized-at, sized-removed, sized-set, split}
 
 -- the same cursors, told otherwise
 pub still : {Made : Calls → Type 0} {IsWorn : Type 0} {Is : Calls → Lines → List Cursor → Type 0} {out out' : List ℕ}

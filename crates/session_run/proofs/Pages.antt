@@ -1,5 +1,5 @@
 -- The pages of a search: one by one, and together.
-use Rattle.std.proofs.Common.{◌≡◌, ◌≢◌, ◌⊎◌, ◌≤◌, ◌++◌, ◌+◌, ◌==◌, ◌∙◌, ap, append-nil, append_assoc, arith, Bool, cond, Err, eq-eqb, false, if◌then◌else◌, inl, inr, length, length-append, List, [], ◌∷◌, map, None, Ok, OnErr, OnOk, Option, refl, Result, Some, subst, suc, sym, true, ℕ}
+use Rattle.std.proofs.Common.{◌≡◌, ◌≢◌, ◌≤◌, ◌++◌, ◌+◌, ◌∙◌, ap, append-nil, arith, Bool, Err, false, inl, inr, length, List, [], ◌∷◌, map, Ok, OnErr, OnOk, refl, Result, subst, suc, sym, true, ℕ}
 use Rattle.std.specs.Prelude.{is_ok}
 use Rattle.std.specs.declared.alloc.AllocError.{AllocError}
 use Rattle.par_search.specs.Moves.{IsEnded, after, place_behind}
@@ -19,7 +19,7 @@ use Rattle.store_machine.specs.declared.machine.Event.TheVariants as events
 use Rattle.store_machine.specs.declared.machine.Found.{Found}
 use Rattle.store_machine.specs.declared.machine.Reply.TheVariants as replies
 use Rattle.session_run.specs.Cursors.{Calls}
-use Rattle.session_run.specs.Walks.{ArePartlyWritten, AreWritten, IsLost, IsNoPage, IsPage, Pages}
+use Rattle.session_run.specs.Walks.{ArePartlyWritten, AreWritten, IsLost, Pages}
 use Rattle.session_run.specs.declared.listing.Shown.{Shown}
 
 -- no more are matched than there are
@@ -53,9 +53,6 @@ failed fault = Err fault
 
 abbrev pub unshown : SearchFault → Result Shown SearchFault
 unshown fault = Err fault
-
-pub err_is : (x y : SearchFault) → unshown x ≡ unshown y → x ≡ y
-err_is x y e = cc
 
 -- the search at another place
 abbrev pub moved_to : SearchTerm → Place → SearchTerm

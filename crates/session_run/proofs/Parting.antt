@@ -1,9 +1,9 @@
 -- A run cut at its caller's calls: what the pages of a pin are together, whatever follows.
-use Rattle.std.proofs.Common.{◌≡◌, ◌&&◌, ◌++◌, ◌+◌, ◌*◌, ◌==◌, ◌≤◌, ◌∙◌, ap, ap₂, arith, Bool, cond, drop, drop-drop, eq-eqb, false, length, nat_le, take, List, [], ◌∷◌, None, refl, Some, subst, suc, sym, true, ℕ}
+use Rattle.std.proofs.Common.{◌≡◌, ◌++◌, ◌+◌, ◌*◌, ◌∙◌, ap, ap₂, arith, Bool, cond, drop, drop-drop, false, length, nat_le, take, List, [], ◌∷◌, refl, subst, suc, sym, true, ℕ}
 use Rattle.std.specs.FinMap.{get}
 use Rattle.std.specs.List.{AllByRecursion}
 use Rattle.std.proofs.Math.Nat.{suc-mul}
-use Rattle.std.proofs.lemmas.Bool.{cond-false, cond-true, true≢false}
+use Rattle.std.proofs.lemmas.Bool.{cond-false, cond-true}
 use Rattle.mol_finish.specs.declared.fault.Format.{Format}
 use Rattle.smarts_parse.specs.Pattern.{PatternTerm}
 use Rattle.store_machine.specs.Answers.{AreAnswers, AreFound, AreMatched, IsAnswer, ids}

@@ -1,5 +1,5 @@
 -- Pins by the calls of a run so far, and the versions that lines show: each was told before.
-use Rattle.std.proofs.Common.{◌≡◌, ◌⊎◌, ◌++◌, ◌∙◌, ap, append-nil, append_assoc, Bool, false, inl, inr, length, List, [], ◌∷◌, map, ne_eqb, refl, subst, sym, true, ℕ}
+use Rattle.std.proofs.Common.{◌≡◌, ◌++◌, ◌∙◌, ap, append-nil, append_assoc, Bool, false, inl, inr, length, List, [], ◌∷◌, map, ne_eqb, refl, subst, sym, true, ℕ}
 use Rattle.shell_lang.specs.Reply as line
 use Rattle.store_machine.specs.Searches.{At, End, KeepsPin, Place}
 use Rattle.store_machine.specs.declared.machine.Event.{Event}

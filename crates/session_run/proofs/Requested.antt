@@ -1,5 +1,5 @@
 -- Which acts a request allows, by what was read of it.
-use Rattle.std.proofs.Common.{◌≡◌, ◌≢◌, ◌⊎◌, ◌++◌, ◌∙◌, ap, arith, Contains, Err, inl, inr, List, [], ◌∷◌, Ok, refl, Result, subst, suc, sym, zero, ℕ}
+use Rattle.std.proofs.Common.{◌≡◌, ap, arith, Contains, Err, inl, inr, List, [], ◌∷◌, Ok, refl, Result, subst, suc, sym, zero, ℕ}
 use Rattle.std.specs.Fmt.{decimal}
 use Rattle.io_edge.specs.Lines.{TextLine, TooLong, Whole}
 use Rattle.mol_finish.specs.declared.fault.Format.{Format}
@@ -14,7 +14,7 @@ use Rattle.shell_lang.specs.declared.command.LineRefusal.{LineRefusal}
 use Rattle.shell_lang.specs.declared.command.MolfileChange.{MolfileChange}
 use Rattle.shell_lang.specs.declared.command.MolfileChange.TheVariants as molfile
 use Rattle.shell_lang.specs.declared.reply.Refusal.TheVariants as refusals
-use Rattle.session_run.specs.Acts.{Act, Allows, Answers, Fault, Lines, MayChange, Refused, RequestAllows, RequestAnswer, Say}
+use Rattle.session_run.specs.Acts.{Act, Allows, Fault, Lines, MayChange, Refused, RequestAllows, RequestAnswer, Say}
 use Rattle.session_run.specs.Cursors.{Calls, Cursor}
 use Rattle.session_run.specs.Made.{Answered}
 use Rattle.session_run.specs.Requests.{Request, IsLong, molfile_text}

@@ -1,5 +1,5 @@
 -- What a session served is true: its dialogue's calls are the first of its calls in the run.
-use Rattle.std.proofs.Common.{◌≡◌, ◌⊎◌, ◌++◌, ◌∙◌, ap, append-nil, append_assoc, inl, inr, List, [], ◌∷◌, refl, subst, sym, ℕ}
+use Rattle.std.proofs.Common.{◌≡◌, ◌⊎◌, ◌++◌, ◌∙◌, ap, append-nil, append_assoc, inl, inr, List, [], ◌∷◌, subst, sym, ℕ}
 use Rattle.io_edge.specs.Lines.{TextLine}
 use Rattle.shell_lang.specs.Reply.{text_of}
 use Rattle.store_machine.specs.Runs.{calls_of}

@@ -7,7 +7,7 @@ use Rattle.store_machine.specs.Answers.{AreFound, AreMatched}
 use Rattle.store_machine.specs.History.{snapshot}
 use Rattle.store_machine.specs.Laws.{IsSound}
 use Rattle.store_machine.specs.Runs.{IsCalm, IsRun, calls_of}
-use Rattle.store_machine.specs.Searches.{ArePieces, At, End, Fetched, IsSearch, Place, fetched, past}
+use Rattle.store_machine.specs.Searches.{ArePieces, At, End, Fetched, fetched, past}
 use Rattle.store_machine.specs.Structures.{IsNeedOf, IsScreened}
 use Rattle.store_machine.specs.declared.machine.History.{History}
 use Rattle.store_machine.specs.declared.machine.Event.{Event}
@@ -19,11 +19,10 @@ use Rattle.store_machine.specs.declared.machine.State.{State}
 use Rattle.store_machine.specs.declared.machine.Step.{Step}
 use Rattle.session_run.specs.Acts.{Act, Advances, Asks, Closed, Does, Ended, Lines, Lost, Opened, Paged, RequestAllows, RequestAnswer, Says, Searched, Searches, Turned, after_page, new_cursor, note_lines, page_end}
 use Rattle.session_run.specs.Cursors.{Calls, Cursor, IsNoName}
-use Rattle.session_run.specs.Dialogue.{AreExchanged, AreListed, AreTurned, Exchange, GivePage, IsCommand, IsShown, StaysOpen, hits_in}
-use Rattle.session_run.specs.Pins.{AreHeld, HeldAfter}
+use Rattle.session_run.specs.Dialogue.{AreExchanged, AreListed, Exchange, GivePage, IsCommand, IsShown, StaysOpen, hits_in}
 use Rattle.session_run.specs.Requests.{Request}
 use Rattle.session_run.specs.Texts.{IsPatternOf}
-use Rattle.session_run.specs.Truths.{AreAllHits, AreTrue, CursorsAreTrue, DialoguesAreTrue, IsPageOf, IsTrueList, IsTruePage, IsUpToDate, PagesAreTrue, SearchesAreHits, SearchesAreTrue}
+use Rattle.session_run.specs.Truths.{AreAllHits, CursorsAreTrue, DialoguesAreTrue, IsPageOf, IsUpToDate, PagesAreTrue, SearchesAreHits, SearchesAreTrue}
 use Rattle.session_run.proofs.ActPins.{dialogue_held}
 use Rattle.session_run.proofs.Acts.{OneReading, fits, quiet_ask, quiet_note}
 use Rattle.session_run.proofs.Endings.{SameEnd, advance_end, fault_or_end, no_page_said, says_more, search_end}

@@ -1,5 +1,5 @@
 -- What a turn does, by what was put.
-use Rattle.std.proofs.Common.{◌≡◌, ◌++◌, Err, IfSome, List, [], None, Ok, Option, refl, Some, subst, sym, ℕ}
+use Rattle.std.proofs.Common.{◌≡◌, Err, IfSome, List, [], None, Ok, Option, refl, Some, subst, sym, ℕ}
 use Rattle.std.specs.Io.KnownBytes.{Appends}
 use Rattle.io_edge.specs.Lines.{Reading}
 use Rattle.io_edge.specs.Sink.{AppendsPrefix}

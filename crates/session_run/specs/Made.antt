@@ -1,5 +1,5 @@
 -- For private clauses alone: the calls that a part of an answer makes, and what it leaves.
-use Rattle.std.specs.Prelude.{◌≡◌, ◌≢◌, ◌⊎◌, ℕ, Bool, true, List, [], ◌∷◌, ◌++◌, Option, Result, Ok, Err}
+use Rattle.std.specs.Prelude.{◌≡◌, ℕ, Bool, true, List, [], ◌∷◌, ◌++◌, Result, Ok, Err}
 use Rattle.shell_lang.specs.Reply as line
 use Rattle.shell_lang.specs.Reply.{text_of, reply_of}
 use Rattle.shell_lang.specs.declared.reply.Reply as written
@@ -8,7 +8,7 @@ use Rattle.store_core.specs.Calls.{NotRaised}
 use Rattle.store_core.specs.declared.service.Service as meaning
 use Rattle.store_machine.specs.declared.machine.Event.{Event}
 use Rattle.session_run.specs.Acts.{IsLineOf, Lines}
-use Rattle.session_run.specs.Cursors.{Calls, Cursor, Makes}
+use Rattle.session_run.specs.Cursors.{Calls, Makes}
 use Rattle.session_run.specs.Pins.{MovePins}
 use Rattle.session_run.specs.Transcript.{IsPrefixOf}
 use Rattle.session_run.specs.declared.stop.Stop.{Stop}

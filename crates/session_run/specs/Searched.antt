@@ -1,6 +1,6 @@
 -- For private clauses alone: how a search begins, and what it answers from its pin on.
 use Rattle.std.specs.Prelude.{◌≡◌, ◌++◌, ℕ, Bool, true, false, List, [], ◌∷◌, Option, None, Some, Result, Ok, Err}
-use Rattle.par_search.specs.Searches.{HasBegun, SearchTerm}
+use Rattle.par_search.specs.Searches.{SearchTerm}
 use Rattle.par_search.specs.declared.fault.SearchFault.{SearchFault}
 use Rattle.par_search.specs.declared.fault.SearchFault.TheVariants as faults
 use Rattle.shell_lang.specs.Reply as line
@@ -11,7 +11,6 @@ use Rattle.shell_lang.specs.declared.reply.Refusal.TheVariants as refusals
 use Rattle.smarts_parse.specs.Pattern.{pattern_of}
 use Rattle.smarts_parse.specs.declared.fault.SmartsFault.{SmartsFault}
 use Rattle.smarts_parse.specs.declared.fault.SmartsFault.TheVariants as patterns
-use Rattle.smarts_parse.specs.declared.pattern.Pattern.{Pattern}
 use Rattle.store_machine.specs.Searches.{Place, At}
 use Rattle.store_machine.specs.Structures.{IsNeedOf}
 use Rattle.store_machine.specs.declared.machine.Event.TheVariants as events

@@ -1,5 +1,5 @@
 -- For private clauses alone: a session before the pins of its open cursors are given back.
-use Rattle.std.specs.Prelude.{◌≡◌, ◌≢◌, ℕ, List, [], Option, Some, IfSome, false}
+use Rattle.std.specs.Prelude.{◌≡◌, ℕ, List, [], Option, IfSome, false}
 use Rattle.io_edge.specs.Lines.{Reading, TextLine, lines_of, whole_lines}
 use Rattle.session_run.specs.Cursors.{Calls, Cursor}
 use Rattle.session_run.specs.Dialogue.{AreExchanged, Exchange, replies_of, requests_of}

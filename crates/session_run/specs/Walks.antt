@@ -1,5 +1,5 @@
 -- For private clauses alone: a search with its counts, and how it goes on by a page whose hits are written.
-use Rattle.std.specs.Prelude.{◌≡◌, ◌⊎◌, ◌<◌, ℕ, ◌+◌, Bool, true, false, List, [], ◌∷◌, ◌++◌, get_or, length, map, Option, Result, Ok, Err}
+use Rattle.std.specs.Prelude.{◌≡◌, ◌⊎◌, ◌<◌, ℕ, ◌+◌, Bool, true, false, List, [], ◌∷◌, ◌++◌, get_or, length, map, Result, Ok, Err}
 use Rattle.par_search.specs.Searches.{SearchTerm, place_after}
 use Rattle.par_search.specs.declared.fault.SearchFault.{SearchFault}
 use Rattle.par_search.specs.declared.fault.SearchFault.TheVariants as faults
@@ -7,8 +7,7 @@ use Rattle.shell_lang.specs.Reply as line
 use Rattle.shell_lang.specs.Reply.{reply_line, text_of}
 use Rattle.smarts_parse.specs.Pattern.{pattern_of}
 use Rattle.store_machine.specs.Answers.{AreMatched}
-use Rattle.store_machine.specs.Searches.{Place, At, End}
-use Rattle.store_machine.specs.Structures.{IsNeedOf}
+use Rattle.store_machine.specs.Searches.{At, End}
 use Rattle.store_machine.specs.declared.machine.Event.TheVariants as events
 use Rattle.store_machine.specs.declared.machine.Found.{Found}
 use Rattle.store_machine.specs.declared.machine.Reply.TheVariants as replies
@@ -138,10 +137,10 @@ pub record Listing (Made : Calls → Type 0) (begun now : SearchTerm) (tried cou
 
 -- a search was listed to its end, or was cut short, or the service was worn
 pub data Listed (Made : Calls → Type 0) (IsWorn : Type 0) (old new : Walk) (out out' : List ℕ) : Result Bool Stop → Type 0
-    where
-  Whole : (all : Listing Made old.search new.search new.tried new.hits out true out') (ended : new.search.place ≡ End)
-      → Listed Made IsWorn old new out out' (Ok true)
-  Part : (tried count : ℕ) (some : Listing Made old.search new.search tried count out false out')
-      → Listed Made IsWorn old new out out' (Ok false)
-  Broke : (tried count : ℕ) (whole : Bool) (some : Listing Made old.search new.search tried count out whole out')
-      (worn : IsWorn) → Listed Made IsWorn old new out out' (Err stops.Worn)
+  where
+    Whole : (all : Listing Made old.search new.search new.tried new.hits out true out') (ended : new.search.place ≡ End)
+        → Listed Made IsWorn old new out out' (Ok true)
+    Part : (tried count : ℕ) (some : Listing Made old.search new.search tried count out false out')
+        → Listed Made IsWorn old new out out' (Ok false)
+    Broke : (tried count : ℕ) (whole : Bool) (some : Listing Made old.search new.search tried count out whole out')
+        (worn : IsWorn) → Listed Made IsWorn old new out out' (Err stops.Worn)

@@ -157,7 +157,13 @@ impl Responder {
             Molfile::Text => match read {
                 Ok(change) => {
                     let change = text_change(change);
-                    change_text(&mut self.recorder, service, change, &self.molfile, &mut self.out)
+                    change_text(
+                        &mut self.recorder,
+                        service,
+                        change,
+                        &self.molfile,
+                        &mut self.out,
+                    )
                 }
                 Err(refusal) => say(&Reply::Refused(Refusal::Line(refusal)), &mut self.out),
             },

@@ -1,4 +1,4 @@
-use Rattle.std.proofs.Common.{◌≡◌, ◌∙◌, [], subst, sym, ℕ, List}
+use Rattle.std.proofs.Common.{◌≡◌, ◌∙◌, [], subst, ℕ, List}
 use Rattle.std.specs.Arc.{arc_value}
 use Rattle.mol_finish.specs.declared.fault.Format.{Format}
 use Rattle.shell_lang.specs.Reply.{reply_of}

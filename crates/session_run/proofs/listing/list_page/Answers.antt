@@ -1,4 +1,4 @@
-use Rattle.std.proofs.Common.{◌≡◌, ◌∙◌, arith, Fits, length, Ok, refl, rules, w32}
+use Rattle.std.proofs.Common.{arith, Fits, Ok, refl, rules, w32}
 use Rattle.std.specs.Prelude.{is_ok}
 use Rattle.smarts_parse.specs.Pattern.{pattern_of}
 use Rattle.store_core.specs.Records.{founds}

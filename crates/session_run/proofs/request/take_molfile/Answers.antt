@@ -1,4 +1,4 @@
-use Rattle.std.proofs.Common.{◌∷◌, [], ap, false, IsTrue, Ok, refl, subst, sym}
+use Rattle.std.proofs.Common.{false, IsTrue, refl, subst, sym}
 use Rattle.std.proofs.lemmas.Result.{err_from_is_err_and}
 use Rattle.io_edge.specs.Lines.{TooLong, Whole}
 use Rattle.shell_lang.specs.Command.{EndsMolfile}

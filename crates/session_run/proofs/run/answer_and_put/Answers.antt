@@ -1,4 +1,3 @@
-use Rattle.std.proofs.Common.{ap, Err, refl}
 use Rattle.std.proofs.KnownBytes.{Appends-nil}
 use Rattle.session_run.proofs.Turning.{replied, unanswered, unsaid}
 use Rattle.session_run.proofs.run.answer_and_put.Goals as goal

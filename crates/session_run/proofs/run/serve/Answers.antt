@@ -1,4 +1,4 @@
-use Rattle.std.proofs.Common.{◌≡◌, ◌∙◌, [], ap, arith, List, None, Option, refl, Some, subst, sym, ℕ}
+use Rattle.std.proofs.Common.{◌≡◌, ◌∙◌, [], ap, arith, List, None, refl, Some, subst, sym}
 use Rattle.session_run.specs.Cursors.{Cursor}
 use Rattle.session_run.specs.Made.{Uses}
 use Rattle.session_run.specs.Opened.{opened}

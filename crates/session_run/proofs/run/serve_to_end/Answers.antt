@@ -1,4 +1,4 @@
-use Rattle.std.proofs.Common.{◌++◌, [], Err, Ok, refl, Result, subst}
+use Rattle.std.proofs.Common.{◌++◌, [], subst}
 use Rattle.session_run.specs.Cursors.{unpins}
 use Rattle.session_run.specs.Made.{Uses}
 use Rattle.session_run.specs.Opened.{opened}
@@ -72,7 +72,7 @@ returns-in-Err-clause-serves g c =
     )
 
 pub returns-in-Err-clause-worn : goal.returns-in-Err-clause-worn
-returns-in-Err-clause-worn g c = λ e. 
+returns-in-Err-clause-worn g c = λ e.
     let p = returned_part (Uses g.S.Service c.serve-end.new.service c.close_all.new.service)
     (g.S.Service.worn c.close_all.new.service) (cursors_of (opened c.serve-end.new.responder.cursors)) _ c.in-Err.ensures in
     p.3

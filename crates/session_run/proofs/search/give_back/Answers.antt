@@ -1,4 +1,3 @@
-use Rattle.std.proofs.Common.{◌↔◌, ℕ}
 use Rattle.session_run.proofs.Joined.{close_worn, unreturned_pin, uses-kept}
 use Rattle.session_run.proofs.search.give_back.Goals as goal
 

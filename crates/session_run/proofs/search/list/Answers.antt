@@ -1,5 +1,4 @@
-use Rattle.std.proofs.Common.{rules, subst, sym, ℕ}
-use Rattle.session_run.proofs.Ending.{any_listing, ended_said, listed_broken, pin_kept, unreturned}
+use Rattle.session_run.proofs.Ending.{any_listing, ended_said, listed_broken, unreturned}
 use Rattle.session_run.proofs.Joined.{uses-more}
 use Rattle.session_run.proofs.Listed.{still_held}
 use Rattle.session_run.proofs.search.list.Goals as goal

@@ -1,6 +1,3 @@
-use Rattle.std.proofs.Common.{ap, refl, subst}
-use Rattle.shell_lang.specs.Reply as line
-use Rattle.session_run.specs.Made.{Tells}
 use Rattle.session_run.proofs.ByName.{added_last}
 use Rattle.session_run.proofs.cursors.Cursors.add.Goals as goal
 

@@ -3,7 +3,6 @@ use Rattle.shell_lang.specs.Reply as line
 use Rattle.shell_lang.specs.declared.reply.Refusal.TheVariants as refusals
 use Rattle.session_run.specs.Acts.{Refused}
 use Rattle.session_run.specs.Opened.{named, opened}
-use Rattle.session_run.specs.declared.cursors.Cursor as rust
 use Rattle.session_run.proofs.ByName.{Entry, absent, found}
 use Rattle.session_run.proofs.Joined.{uses-none}
 use Rattle.session_run.proofs.Lines.{noted, said}

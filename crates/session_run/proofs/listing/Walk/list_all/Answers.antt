@@ -1,4 +1,4 @@
-use Rattle.std.proofs.Common.{◌+◌, Ok, refl, subst, sym, true, ℕ}
+use Rattle.std.proofs.Common.{subst, sym, true, ℕ}
 use Rattle.session_run.specs.Made.{Uses}
 use Rattle.session_run.specs.Walks.{Broke, Listing, Part}
 use Rattle.session_run.proofs.Joined.{uses-more, uses-none}

@@ -1,4 +1,4 @@
-use Rattle.std.proofs.Common.{[], Err, inl, Ok, refl}
+use Rattle.std.proofs.Common.{[], inl, refl}
 use Rattle.shell_lang.specs.Reply as line
 use Rattle.shell_lang.specs.Reply.{reply_of}
 use Rattle.shell_lang.specs.declared.reply.Refusal.TheVariants as refusals

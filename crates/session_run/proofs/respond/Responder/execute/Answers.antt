@@ -1,8 +1,6 @@
-use Rattle.std.proofs.Common.{◌≡◌, [], append-nil, List, Ok, refl, Result, sym, ℕ}
-use Rattle.session_run.specs.Acts.{Say, Silence}
+use Rattle.std.proofs.Common.{[], append-nil, refl, sym}
+use Rattle.session_run.specs.Acts.{Silence}
 use Rattle.session_run.specs.Made.{Said}
-use Rattle.session_run.specs.Opened.{opened}
-use Rattle.session_run.specs.Walks.{cursors_of}
 use Rattle.session_run.proofs.Joined.{uses-none}
 use Rattle.session_run.proofs.Lines.{noted}
 use Rattle.session_run.proofs.Requested.{spells_register_mol, spells_revise_mol}
