@@ -2,9 +2,10 @@
 ghost use Rattle.std.specs.Prelude.{◌≤◌, vec_len};
 
 use crate::answer::matches;
+use crate::candidates::Candidates;
 use crate::choices::Choices;
 use crate::lay::{NO_PLACEMENT, Placement};
-use crate::narrow::Candidates;
+use crate::narrow::Narrowing;
 use crate::planned::MOST_PLACES;
 use crate::prepare::Prepared;
 use chem_core::Mol;
@@ -28,6 +29,7 @@ pub struct Memory {
     pub table: RecTable,
     pub choices: Choices,
     pub candidates: Candidates,
+    pub narrowing: Narrowing,
     pub stops: Vec<Placement>,
     ghost image_room: { 256 ≤ vec_len image },
 }
@@ -53,6 +55,7 @@ impl Scratch {
         ensures { IsPreparedFor (pattern_of pattern.now) self.new }
     {
         self.prepared.prepare(pattern);
+        self.memory.narrowing.begin();
     }
 
     /// Whether the pattern, which was prepared last, has an embedding in the molecule.
@@ -75,6 +78,7 @@ impl Memory {
             table: RecTable::reserve(alloc)?,
             choices: Choices::reserve(alloc)?,
             candidates: Candidates::reserve(alloc)?,
+            narrowing: Narrowing::reserve(alloc)?,
             stops: vec![in alloc; NO_PLACEMENT; MOST_PLACES]?,
         })
     }
