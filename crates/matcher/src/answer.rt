@@ -13,20 +13,19 @@ ghost use Rattle.matcher.specs.Task.{Completes, IsReadyTask};
 
 use crate::candidates::Candidates;
 use crate::choices::Choices;
-use crate::class::lacks_atom;
 use crate::fit::Task;
 use crate::hunt::{is_whole, may_continue};
 use crate::lay::{Placement, is_rare, lay, start_at};
 use crate::narrow::Narrowing;
 use crate::parts::note_parts;
 use crate::plan::{EarlierBonds, is_loose};
-use crate::prepare::Prepared;
-use crate::refusal::{has_bond, is_crowded};
+use crate::prepare::{Prepared, only_part};
+use crate::refusal::{has_bond, is_crowded, lacks_atom};
 use crate::ring::lacks_ring;
 use crate::scratch::{Memory, Scratch};
 use crate::search::extend;
 use chem_core::Mol;
-use smarts_parse::{AtomPrim, Expr, Graph, Pattern};
+use smarts_parse::{Expr, Graph, Pattern};
 
 /// As many places of a graph are few.
 const FEW_PLACES: usize = 8;
@@ -66,8 +65,24 @@ pub fn has(pattern: &Pattern, mol: &Mol, scratch: &mut Scratch) -> bool
     scratch.has(pattern, mol)
 }
 
-/// Whether the pattern, for which all is prepared, has an embedding in the molecule.
-pub fn matches(pattern: &Pattern, prepared: &Prepared, mol: &Mol, memory: &mut Memory) -> bool
+impl Scratch {
+    ghost use Rattle.matcher.specs.Prepared.{IsPreparedFor};
+
+    /// Whether the pattern, which was prepared last, has an embedding in the molecule.
+    ///
+    /// Takes no memory. The worst case takes exponential time.
+    pub fn has(&mut self, pattern: &Pattern, mol: &Mol) -> bool
+        requires sound { IsSoundPattern (pattern_of pattern.now) }
+        requires prepared { IsPreparedFor (pattern_of pattern.now) self.old }
+        ensures has { IsTrue result ↔ Matches (pattern_of pattern.now) mol.now }
+        ensures prepared { IsPreparedFor (pattern_of pattern.now) self.new }
+    {
+        matches(pattern, &self.prepared, mol, &mut self.memory)
+    }
+}
+
+// Whether the pattern, for which all is prepared, has an embedding in the molecule.
+fn matches(pattern: &Pattern, prepared: &Prepared, mol: &Mol, memory: &mut Memory) -> bool
     requires sound { IsSoundPattern (pattern_of pattern.now) }
     requires prepared { IsPrepared (pattern_of pattern.now) prepared.now }
     ensures { IsTrue result ↔ Matches (pattern_of pattern.now) mol.now }
@@ -88,28 +103,6 @@ pub fn matches(pattern: &Pattern, prepared: &Prepared, mol: &Mol, memory: &mut M
             exists(&pattern.top, steps, order, mol, memory)
         }
     }
-}
-
-/// The number of the last recursive part, if the pattern asks for this part at one atom and for nothing else.
-pub fn only_part(pattern: &Pattern) -> Option<usize>
-    ensures { IfSome result (λ part. (part + 1 ≡ length pattern.now.recs.items)
-        × (map term_of pattern.now.top.atoms.items ≡ Prim (AtomPrim.Rec part) ∷ [])) }
-{
-    if pattern.top.atoms.len() != 1 {
-        return None;
-    }
-    let Expr::Prim(prim) = &pattern.top.atoms[0] else {
-        return None;
-    };
-    let AtomPrim::Rec(named) = *prim else {
-        return None;
-    };
-    let part = usize::from(named);
-    let count = pattern.recs.len();
-    if count == 0 || part != count - 1 {
-        return None;
-    }
-    Some(part)
 }
 
 // Whether the graph has an embedding, where recursive parts hold as the table says.

@@ -5,10 +5,9 @@ ghost use Rattle.chem_core.specs.Molecule.{ends_of};
 ghost use Rattle.smarts_parse.specs.Embedding.{BondEmbeds};
 ghost use Rattle.smarts_parse.specs.Pattern.{bond_of, term_of};
 ghost use Rattle.smarts_parse.specs.Truth.{BondTrue};
-ghost use Rattle.matcher.specs.Candidates.{AreCandidates, IsTrueAt};
+ghost use Rattle.matcher.specs.Candidates.{IsTrueAt};
 ghost use Rattle.matcher.specs.Task.{FirstEmbeds, IsPlaced, IsReadyTask};
 
-use crate::candidates::Candidates;
 use crate::plan::EarlierBonds;
 use chem_core::Mol;
 use smarts_mean::{RecTable, bond_true};
@@ -42,28 +41,8 @@ pub fn fits(task: &Task, front: &[u16], atom: u16) -> bool
     bonds_embed(others, task.mol, front, atom)
 }
 
-/// Whether the next atom may stand at that one after the atoms in front.
-pub fn begins(task: &Task, candidates: &Candidates, front: &[u16], atom: u16) -> bool
-    requires ready { IsReadyTask task.now }
-    requires few { length front.now < length task.now.graph.now.atoms.items }
-    requires partial { IsPlaced task.now front.now }
-    requires candidates { AreCandidates task.now candidates.now.words.items }
-    ensures { IsTrue result → IsPlaced task.now (front.now ++ atom ∷ []) }
-{
-    if usize::from(atom) >= task.mol.atoms().len() {
-        return false;
-    }
-    if !candidates.has(front.len(), atom) {
-        return false;
-    }
-    if !first_embeds(task, front, atom) {
-        return false;
-    }
-    fits(task, front, atom)
-}
-
-// Whether the first bond of the next atom to an earlier one, if there is one, embeds with it there.
-fn first_embeds(task: &Task, front: &[u16], atom: u16) -> bool
+/// Whether the first bond of the next atom to an earlier one, if there is one, embeds with it there.
+pub fn first_embeds(task: &Task, front: &[u16], atom: u16) -> bool
     requires ready { IsReadyTask task.now }
     requires few { length front.now < length task.now.graph.now.atoms.items }
     requires partial { IsPlaced task.now front.now }

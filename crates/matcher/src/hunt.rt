@@ -2,13 +2,13 @@
 //! stand; a place is taken where the image has an atom of the molecule.
 //!
 //! Nothing is promised where the search comes to its end, but where it does not, there is no embedding.
-ghost use Rattle.std.specs.Prelude.{◌≡◌, ◌<◌, ◌≤◌, ◌⊎◌, [], ℕ, List, false, length, slice_index, IfSome, IsTrue};
+ghost use Rattle.std.specs.Prelude.{◌∷◌, ◌++◌, ◌≡◌, ◌<◌, ◌≤◌, ◌⊎◌, [], ℕ, List, false, length, slice_index, IfSome, IsTrue};
 ghost use Rattle.matcher.specs.Hunt.{Asks, Continues, IsFree, stop_at};
 ghost use Rattle.matcher.specs.Candidates.{AreCandidates};
-ghost use Rattle.matcher.specs.Task.{Completes, IsReadyTask};
+ghost use Rattle.matcher.specs.Task.{Completes, IsPlaced, IsReadyTask};
 
 use crate::candidates::Candidates;
-use crate::fit::{Task, are_joined_by, begins, is_new};
+use crate::fit::{Task, are_joined_by, first_embeds, fits, is_new};
 use crate::lay::{NO_BOND, Placement};
 use crate::refusal::may_stand;
 use smarts_mean::bond_true;
@@ -244,4 +244,24 @@ pub fn is_whole(task: &Task, candidates: &Candidates, image: &[u16]) -> bool
         }
     }
     true
+}
+
+// Whether the next atom may stand at that one after the atoms in front.
+fn begins(task: &Task, candidates: &Candidates, front: &[u16], atom: u16) -> bool
+    requires ready { IsReadyTask task.now }
+    requires few { length front.now < length task.now.graph.now.atoms.items }
+    requires partial { IsPlaced task.now front.now }
+    requires candidates { AreCandidates task.now candidates.now.words.items }
+    ensures { IsTrue result → IsPlaced task.now (front.now ++ atom ∷ []) }
+{
+    if usize::from(atom) >= task.mol.atoms().len() {
+        return false;
+    }
+    if !candidates.has(front.len(), atom) {
+        return false;
+    }
+    if !first_embeds(task, front, atom) {
+        return false;
+    }
+    fits(task, front, atom)
 }

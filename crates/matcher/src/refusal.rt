@@ -2,19 +2,36 @@
 ghost use Rattle.std.specs.Prelude.{◌≡◌, ◌<◌, ◌≤◌, ◌++◌, [], ℕ, List, false, true, count_by, length, max, slice_index, slice_index_or, IsTrue};
 ghost use Rattle.chem_core.specs.Graph.{JoinsAt};
 ghost use Rattle.chem_core.specs.Molecule.{ends_of};
-ghost use Rattle.smarts_parse.specs.Pattern.{term_of};
+ghost use Rattle.smarts_parse.specs.Embedding.{Matches};
+ghost use Rattle.smarts_parse.specs.Pattern.{graph_of, pattern_of, term_of};
 ghost use Rattle.smarts_parse.specs.Truth.{BondTrue};
 ghost use Rattle.matcher.specs.Class.{is_among, is_within};
 ghost use Rattle.matcher.specs.Candidates.{AreCandidates};
+ghost use Rattle.matcher.specs.Plan.{IsReady};
 ghost use Rattle.matcher.specs.Task.{Completes, Embeds, IsReadyTask};
 
 use crate::candidates::Candidates;
-use crate::class::may_be;
+use crate::class::{classes_in, may_be};
 use crate::fit::{Task, is_new};
 use crate::plan::EarlierBonds;
-use chem_core::Atom;
+use chem_core::{Atom, Mol};
 use smarts_mean::bond_true;
-use smarts_parse::PatBond;
+use smarts_parse::{PatBond, Pattern};
+
+/// Whether an atom of the pattern's top graph, of which the steps are given, may stand at no atom of the molecule, as
+/// far as classes show.
+pub fn lacks_atom(pattern: &Pattern, steps: &[EarlierBonds], mol: &Mol) -> bool
+    requires { IsReady (graph_of pattern.now.top) steps.now }
+    ensures { IsTrue result → ¬ Matches (pattern_of pattern.now) mol.now }
+{
+    let present = classes_in(mol.atoms());
+    for step in &steps[..pattern.top.atoms.len()] {
+        if step.classes & present == 0 {
+            return true;
+        }
+    }
+    false
+}
 
 /// Whether the places of a graph that are marked are more than the atoms that are marked, and can stand, where the
 /// atoms in front are taken, at these alone. Then the graph cannot be completed.

@@ -1,14 +1,12 @@
 //! The memory that a search uses, and what is worked out of its pattern.
 ghost use Rattle.std.specs.Prelude.{◌≤◌, vec_len};
 
-use crate::answer::matches;
 use crate::candidates::Candidates;
 use crate::choices::Choices;
 use crate::lay::{NO_PLACEMENT, Placement};
 use crate::narrow::Narrowing;
 use crate::planned::MOST_PLACES;
 use crate::prepare::Prepared;
-use chem_core::Mol;
 use smarts_mean::RecTable;
 use smarts_parse::Pattern;
 use std::alloc::{AllocError, Global};
@@ -35,8 +33,6 @@ pub struct Memory {
 }
 
 impl Scratch {
-    ghost use Rattle.std.specs.Prelude.{◌↔◌, IsTrue};
-    ghost use Rattle.smarts_parse.specs.Embedding.{Matches};
     ghost use Rattle.smarts_parse.specs.Pattern.{pattern_of};
     ghost use Rattle.smarts_parse.specs.Sound.{IsSoundPattern};
     ghost use Rattle.matcher.specs.Prepared.{IsPreparedFor};
@@ -56,18 +52,6 @@ impl Scratch {
     {
         self.prepared.prepare(pattern);
         self.memory.narrowing.begin();
-    }
-
-    /// Whether the pattern, which was prepared last, has an embedding in the molecule.
-    ///
-    /// Takes no memory. The worst case takes exponential time.
-    pub fn has(&mut self, pattern: &Pattern, mol: &Mol) -> bool
-        requires sound { IsSoundPattern (pattern_of pattern.now) }
-        requires prepared { IsPreparedFor (pattern_of pattern.now) self.old }
-        ensures has { IsTrue result ↔ Matches (pattern_of pattern.now) mol.now }
-        ensures prepared { IsPreparedFor (pattern_of pattern.now) self.new }
-    {
-        matches(pattern, &self.prepared, mol, &mut self.memory)
     }
 }
 

@@ -1,7 +1,7 @@
 use Rattle.std.proofs.Common.{ap, arith, length}
 use Rattle.std.proofs.lemmas.List.{length-map}
 use Rattle.smarts_parse.specs.Pattern.{term_of}
-use Rattle.matcher.proofs.fit.begins.Goals as goal
+use Rattle.matcher.proofs.hunt.begins.Goals as goal
 
 pub has-requires : goal.has-requires
 has-requires c =

@@ -2,7 +2,7 @@ use Rattle.std.proofs.Common.{◌≡◌, ◌∷◌, ◌∙◌, [], ap, arith, sy
 use Rattle.smarts_parse.specs.declared.pattern.AtomPrim.TheVariants as atoms
 use Rattle.smarts_parse.specs.Pattern.{Prim, term_of}
 use Rattle.matcher.proofs.OnlyParts.{one_element}
-use Rattle.matcher.proofs.answer.only_part.Goals as goal
+use Rattle.matcher.proofs.prepare.only_part.Goals as goal
 
 pub returns : goal.returns
 returns c =

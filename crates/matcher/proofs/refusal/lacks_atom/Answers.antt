@@ -3,7 +3,7 @@ use Rattle.std.proofs.lemmas.List.{length-map}
 use Rattle.smarts_parse.specs.Embedding.{PartsHold}
 use Rattle.smarts_parse.specs.Pattern.{pattern_of, term_of}
 use Rattle.matcher.proofs.Classes.{no_atom}
-use Rattle.matcher.proofs.class.lacks_atom.Goals as goal
+use Rattle.matcher.proofs.refusal.lacks_atom.Goals as goal
 
 pub returns-then-step-present-eq0 : goal.returns-then-step-present-eq0
 returns-then-step-present-eq0 c = λ _ w.
