@@ -237,7 +237,7 @@ fn asked_truth(prim: AtomPrim, mol: &Mol, table: &RecTable, block: usize, within
     word
 }
 
-// Whether the primitive is true at the atom. What a table says is looked up at once.
+// Whether the primitive is true at the atom. What takes no question is answered at once.
 fn prim_true(prim: AtomPrim, mol: &Mol, table: &RecTable, atom: u16) -> bool
     requires names { PrimNamesBelow MOST_PARTS prim }
     requires atom { atom < length mol.now.atoms }
@@ -245,6 +245,7 @@ fn prim_true(prim: AtomPrim, mol: &Mol, table: &RecTable, atom: u16) -> bool
     ensures { IsTrue result ↔ AtomTrue (HoldsIn table.now) (Prim prim) mol.now atom }
 {
     match prim {
+        AtomPrim::Any => true,
         AtomPrim::Rec(part) => table.get(part, atom),
         _ => atom_true(&Expr::Prim(prim), mol, atom, table),
     }

@@ -19,7 +19,7 @@ use std::alloc::{AllocError, Global};
 const MOST_BITS: usize = 64;
 
 /// From as many places of a graph on its candidates are narrowed.
-const MANY_PLACES: usize = 3;
+const MANY_PLACES: usize = 6;
 
 /// How many passes over all places a narrowing has.
 const ROUNDS: usize = 3;
