@@ -9,3 +9,4 @@ pub mod Pins
 pub mod Turning
 pub mod Joining
 pub mod Holding
+pub mod Starting

@@ -50,6 +50,12 @@ own-last ns xs x others call mine =
 last-calm : (xs : List Step) (x : Step) → IsCalm (xs ++ x ∷ []) → is_call x.event ≡ true
 last-calm xs x c = (calm-parts xs (x ∷ []) c).1.0
 
+-- a pass is at some state
+pub is-at : {D : Type 0} (h : Hall D) (p : HallPass D) → IsOf h p → (s : State) × IsAt p s
+is-at h p of =
+    let origin = single_is (known p).origin of.placed in
+    (after origin.0.state (known p).seen, (origin.0, origin.1, refl))
+
 module _ {D : Type 0} (model : DiskModel D) where
   abbrev Seat : Type 0
   Seat = Sat (Kept D) Step (Origin D)
@@ -88,12 +94,6 @@ module _ {D : Type 0} (model : DiskModel D) where
     stands = stretch-of p q xs t s at;
     own = own;
   }
-
-  -- a pass is at some state
-  pub is-at : (h : Hall D) (p : HallPass D) → IsOf h p → (s : State) × IsAt p s
-  is-at h p of =
-      let origin = single_is (known p).origin of.placed in
-      (after origin.0.state (known p).seen, (origin.0, origin.1, refl))
 
   -- what the calls of a pass tell of its pins
   pub pins-of : PinsStay → (h : Hall D) (p q : HallPass D) (calls : TheCalls) → IsOf h p → Made p q calls
