@@ -108,8 +108,9 @@ module _ (own : ℕ → Bool) where
               let here : (x.event, x.reply) ∷ calls_of own xs ≡ (Pin, Pinned slot version) ∷ [] =
               sym (own-more x xs calm.0 e) ∙ calls in
               let first : (x.event, x.reply) ≡ (Pin, Pinned slot version) = cc here in
+              let rest : calls_of own xs ≡ [] = cc here in
               takes-here x xs s t slot version gives run.2 calm.1 (ap (λ (c : Event × Reply). c.0) first)
-              (ap (λ (c : Event × Reply). c.1) first) (cc here) e
+              (ap (λ (c : Event × Reply). c.1) first) rest e
           | false ↦ λ e.
               let rest = took-one xs x.after t slot version run.2 calm.1 (sym (other-more x xs calm.0 e) ∙ calls) in
               record {

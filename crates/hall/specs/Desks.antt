@@ -40,10 +40,10 @@ module _ {D : Type 0} where
     pub run : IsRun s steps t
     pub calm : IsCalm steps
 
-  still : (p : HallPass D) → Stays p p
+  pub still : (p : HallPass D) → Stays p p
   still p = record { of = λ h is. is; origin = refl; numbers = refl; given = refl; turns = refl }
 
-  later : (p q r : HallPass D) → Stays p q → Stays q r → Stays p r
+  pub later : (p q r : HallPass D) → Stays p q → Stays q r → Stays p r
   later p q r a b = record {
     of = λ h is. b.of h (a.of h is);
     origin = b.origin ∙ a.origin;

@@ -10,6 +10,8 @@ mod desk;
 mod hall;
 mod kept;
 mod laws;
+#[cfg(test)]
+mod tests;
 mod turns;
 
 pub use desk::Desk;
