@@ -13,10 +13,9 @@ use Rattle.store_machine.specs.declared.machine.State.{State}
 use Rattle.store_machine.specs.declared.machine.Step.{Step}
 use Rattle.store_core.specs.Calls.{Calls}
 use Rattle.store_disk.specs.OnDisk.{StandsFor, StoreTerm}
-use Rattle.store_disk.specs.Stored.{IsCaused, Stretches, joins}
+use Rattle.store_disk.specs.Stored.{Stretches, joins}
 use Rattle.hall.specs.declared.kept.Kept.{Kept}
-use Rattle.hall.specs.declared.kept.Origin.{Origin}
-use Rattle.hall.specs.Histories.{Adds, AsksNoOwner, KeptFor, MayAsk, after, told_of}
+use Rattle.hall.specs.Histories.{Adds, AsksNoOwner, MayAsk, after, told_of}
 use Rattle.hall.proofs.Runs.{after-append, call_of, one-more, one-step}
 
 abbrev owner_in : Option Held → ℕ

@@ -1,5 +1,5 @@
 -- Who may ask for what a call told, and that a pin of the pass is one of the store's.
-use Rattle.std.proofs.Common.{◌≡◌, ◌==◌, ◌∙◌, ap, Contains, cond, Err, false, List, [], ◌∷◌, map, None, OnErr, Option, Result, Some, subst, sym, true, ℕ}
+use Rattle.std.proofs.Common.{◌≡◌, ◌==◌, ◌∙◌, ap, Contains, cond, Err, false, List, [], ◌∷◌, map, OnErr, Result, Some, subst, sym, true, ℕ}
 use Rattle.disk_edge.specs.Disk.{DiskModel}
 use Rattle.snap_registry.specs.declared.Pin.{Pin}
 use Rattle.store_machine.proofs.Members.{contains-here, contains-there}
@@ -36,7 +36,7 @@ pub may-commit : {D : Type 0} (w : Kept D) (c : Asked) (a : Result ℕ CommitFau
 may-commit w c a told not_worn s owner e r is =
     let one = one-commit c a not_worn in
     let same : event.Commit (change_of c) ≡ e = one-event (told_of w) (event.Commit (change_of c)) e one.0 r
-        (told ∙ one.1) is in
+    (told ∙ one.1) is in
     subst (MayAsk s owner) same tt
 
 -- and every other call is of those who may ask it

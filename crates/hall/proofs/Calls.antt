@@ -1,5 +1,5 @@
 -- A call that is not answered as worn is one event with its reply.
-use Rattle.std.proofs.Common.{◌≡◌, ap, arith, Err, false, length, List, [], ◌∷◌, Ok, refl, Result, true, ℕ}
+use Rattle.std.proofs.Common.{◌≡◌, Err, false, [], ◌∷◌, Ok, refl, Result, true, ℕ}
 use Rattle.store_machine.specs.declared.machine.Event.{Event}
 use Rattle.store_machine.specs.declared.machine.Event.TheVariants as event
 use Rattle.store_machine.specs.declared.machine.Reply.{Reply}

@@ -1,5 +1,5 @@
 -- What each kind of call tells of the pins of a pass.
-use Rattle.std.proofs.Common.{◌≡◌, ◌⊎◌, ◌↔◌, ◌==◌, ◌∙◌, ap₂, eq-eqb, eqb-true, Err, false, inl, inr, List, [], ◌∷◌, None, Ok, Option, refl, Result, Some, subst, sym, true, ℕ}
+use Rattle.std.proofs.Common.{◌≡◌, ◌⊎◌, ◌↔◌, ◌==◌, ◌∙◌, ap₂, eq-eqb, eqb-true, Err, false, inl, inr, [], ◌∷◌, None, Ok, Option, refl, Result, Some, subst, sym, ℕ}
 use Rattle.std.proofs.lemmas.Bool.{false_from_ne_true, true≢false}
 use Rattle.snap_registry.specs.declared.Pin.{Pin as Ticket}
 use Rattle.store_machine.specs.Searches.{KeepsPin, unpins}

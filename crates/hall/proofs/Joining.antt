@@ -1,8 +1,8 @@
 -- The pins of a pass that was joined.
-use Rattle.std.proofs.Common.{◌≡◌, ◌⊎◌, ◌↔◌, ◌++◌, ◌∙◌, ap, Bool, inl, inr, List, [], ◌∷◌, subst, sym, true, ℕ}
+use Rattle.std.proofs.Common.{◌≡◌, ◌++◌, ◌∙◌, ap, Bool, inl, inr, List, [], subst, sym, true, ℕ}
 use Rattle.store_machine.specs.Laws.{PinsStay}
 use Rattle.store_machine.specs.Machine.{Holds}
-use Rattle.store_machine.specs.Runs.{IsCalm, IsRun, calls_of}
+use Rattle.store_machine.specs.Runs.{IsCalm, IsRun}
 use Rattle.store_machine.specs.Searches.{KeepsPin}
 use Rattle.store_machine.specs.declared.machine.State.{State}
 use Rattle.store_machine.specs.declared.machine.Step.{Step}
@@ -10,7 +10,7 @@ use Rattle.turn_gate.specs.Numbers.{has, own}
 use Rattle.turn_gate.proofs.Lists.{either_number, has_left, has_right}
 use Rattle.hall.specs.declared.hall.HallPass.{HallPass}
 use Rattle.hall.specs.declared.kept.Origin.{Origin}
-use Rattle.hall.specs.Answers.{Takes, TheCalls}
+use Rattle.hall.specs.Answers.{TheCalls}
 use Rattle.hall.specs.Histories.{after}
 use Rattle.hall.specs.Passes.{HasBoth, HoldsPin, IsFrom, Merged, by, known}
 use Rattle.hall.proofs.Numbers.{no-calls}

@@ -10,4 +10,3 @@ pub mod Turning
 pub mod Joining
 pub mod Holding
 pub mod Starting
-pub mod Staying

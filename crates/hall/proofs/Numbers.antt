@@ -1,5 +1,5 @@
 -- The calls of a pass's numbers.
-use Rattle.std.proofs.Common.{◌≡◌, ◌&&◌, ap, arith, Bool, false, if◌then◌else◌, length, List, [], ◌∷◌, refl, true, ◌<◌, ℕ}
+use Rattle.std.proofs.Common.{◌≡◌, ◌&&◌, ap, arith, Bool, false, if◌then◌else◌, length, List, [], ◌∷◌, refl, true, ℕ}
 use Rattle.store_machine.specs.Runs.{calls_of, is_call}
 use Rattle.store_machine.specs.declared.machine.Event.{Event}
 use Rattle.store_machine.specs.declared.machine.Reply.{Reply}

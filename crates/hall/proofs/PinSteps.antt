@@ -1,8 +1,8 @@
 -- The pins before a step, by those after it.
-use Rattle.std.proofs.Common.{◌≡◌, ◌⊎◌, ◌++◌, ◌==◌, ◌∙◌, ap, Bool, cond, eqb-true, false, filter, inl, inr, List, [], ◌∷◌, None, not, Option, refl, Some, sym, true, ℕ}
-use Rattle.std.proofs.lemmas.Bool.{cond_both, cond-false, cond-true, true≢false}
+use Rattle.std.proofs.Common.{◌≡◌, ◌⊎◌, ◌++◌, ◌==◌, ◌∙◌, ap, Bool, cond, eqb-true, false, filter, inl, inr, List, [], ◌∷◌, None, not, refl, Some, sym, true, ℕ}
+use Rattle.std.proofs.lemmas.Bool.{cond-false, cond-true, true≢false}
 use Rattle.store_machine.specs.History.{head}
-use Rattle.store_machine.specs.Machine.{Becomes, CommitGives, DoubtAfter, EndsDoubt, FetchGives, Gives, Holds, LookGives, PinGives, PruneGives, StatsGives, UnpinGives, pin_in}
+use Rattle.store_machine.specs.Machine.{CommitGives, DoubtAfter, EndsDoubt, FetchGives, Gives, Holds, LookGives, PinGives, PruneGives, StatsGives, UnpinGives, pin_in}
 use Rattle.store_machine.specs.Runs.{is_call}
 use Rattle.store_machine.specs.Searches.{unpins}
 use Rattle.store_machine.specs.declared.machine.Change.{Change}

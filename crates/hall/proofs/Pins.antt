@@ -1,10 +1,10 @@
 -- The pins of some numbers over a part of a run, by the calls of these numbers in it.
-use Rattle.std.proofs.Common.{◌≡◌, ◌⊎◌, ◌++◌, ◌==◌, ◌&&◌, ◌∙◌, ap, Bool, eq-eqb, false, if◌then◌else◌, inl, inr, List, [], ◌∷◌, None, refl, Some, subst, sym, true, ℕ}
+use Rattle.std.proofs.Common.{◌≡◌, ◌⊎◌, ◌&&◌, ◌∙◌, ap, Bool, eq-eqb, false, if◌then◌else◌, inl, inr, List, [], ◌∷◌, refl, subst, sym, true, ℕ}
 use Rattle.std.proofs.lemmas.Bool.{true≢false}
 use Rattle.store_machine.specs.Laws.{PinsStay}
-use Rattle.store_machine.specs.Machine.{Gives, Holds, pin_in}
-use Rattle.store_machine.specs.Runs.{IsCalm, IsRun, calls_of, is_call, is_own}
-use Rattle.store_machine.specs.Searches.{KeepsPin, unpins}
+use Rattle.store_machine.specs.Machine.{Gives, Holds}
+use Rattle.store_machine.specs.Runs.{IsCalm, IsRun, calls_of, is_call}
+use Rattle.store_machine.specs.Searches.{KeepsPin}
 use Rattle.store_machine.specs.declared.machine.Event.{Event}
 use Rattle.store_machine.specs.declared.machine.Event.TheVariants.{Pin}
 use Rattle.store_machine.specs.declared.machine.Reply.{Reply}

@@ -1,5 +1,5 @@
 -- Parts of runs, and the calls in them.
-use Rattle.std.proofs.Common.{◌≡◌, ◌++◌, ◌&&◌, ◌∙◌, ap, arith, Bool, if◌then◌else◌, length, length-append, List, [], ◌∷◌, map, refl, sym, true, ℕ}
+use Rattle.std.proofs.Common.{◌≡◌, ◌++◌, ◌&&◌, ◌∙◌, ap, arith, Bool, if◌then◌else◌, length, length-append, List, [], ◌∷◌, map, refl, sym, true}
 use Rattle.store_machine.specs.Runs.{IsCalm, IsRun, calls_of}
 use Rattle.store_machine.specs.declared.machine.Event.{Event}
 use Rattle.store_machine.specs.declared.machine.Reply.{Reply}

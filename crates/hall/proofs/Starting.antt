@@ -1,5 +1,5 @@
 -- The history at its start and at its end.
-use Rattle.std.proofs.Common.{◌≡◌, ◌^◌, ◌∙◌, ap, List, [], refl, subst, sym, ℕ}
+use Rattle.std.proofs.Common.{◌≡◌, ◌^◌, ◌∙◌, ap, [], refl, subst, sym}
 use Rattle.disk_edge.specs.Disk.{DiskModel}
 use Rattle.store_machine.specs.declared.machine.State.{State}
 use Rattle.store_machine.specs.declared.machine.Step.{Step}
@@ -11,7 +11,7 @@ use Rattle.hall.specs.declared.hall.HallPass.{HallPass}
 use Rattle.hall.specs.declared.kept.Kept.{Kept}
 use Rattle.hall.specs.declared.kept.Origin.{Origin}
 use Rattle.hall.specs.Histories.{KeptFor}
-use Rattle.hall.specs.Passes.{Begins, Ends, by}
+use Rattle.hall.specs.Passes.{Begins, Ends}
 
 module _ {D : Type 0} (model : DiskModel D) where
   -- a store without pins stands for no event after each state that it is at

@@ -1,6 +1,6 @@
 -- A turn of a pass is a part of the history with the one call of the pass at its end, or with none where all turns were
 -- taken.
-use Rattle.std.proofs.Common.{◌≡◌, ◌++◌, ◌&&◌, ◌<◌, ◌∙◌, ap, append_assoc, arith, Bool, false, inl, inr, if◌then◌else◌, length, length-append, List, [], ◌∷◌, refl, subst, sym, true, ℕ}
+use Rattle.std.proofs.Common.{◌≡◌, ◌++◌, ◌&&◌, ◌∙◌, ap, append_assoc, arith, Bool, false, inl, inr, if◌then◌else◌, length, length-append, List, [], ◌∷◌, refl, subst, sym, true, ℕ}
 use Rattle.disk_edge.specs.Disk.{DiskModel}
 use Rattle.store_machine.specs.Laws.{PinsStay}
 use Rattle.store_machine.specs.Machine.{Holds}
@@ -10,7 +10,6 @@ use Rattle.store_machine.specs.declared.machine.Event.{Event}
 use Rattle.store_machine.specs.declared.machine.Reply.{Reply}
 use Rattle.store_machine.specs.declared.machine.State.{State}
 use Rattle.store_machine.specs.declared.machine.Step.{Step}
-use Rattle.store_core.specs.Calls.{Calls}
 use Rattle.turn_gate.specs.Numbers.{has, own}
 use Rattle.turn_gate.specs.Passes as gate
 use Rattle.turn_gate.specs.Steps.{Sat}
@@ -21,7 +20,7 @@ use Rattle.hall.specs.declared.hall.HallPass.{HallPass}
 use Rattle.hall.specs.declared.kept.Kept.{Kept}
 use Rattle.hall.specs.declared.kept.Origin.{Origin}
 use Rattle.hall.specs.Answers.{HasPins, IsAnswered, Made, Takes, TheCalls}
-use Rattle.hall.specs.Desks.{IsAt, IsWorn, Stays, Stretches}
+use Rattle.hall.specs.Desks.{IsAt, Stays, Stretches}
 use Rattle.hall.specs.Histories.{Adds, KeptFor, MayTell, Tells, after, told_of}
 use Rattle.hall.specs.Passes.{HoldsPin, IsFrom, IsOf, by, known}
 use Rattle.hall.proofs.Numbers.{no-calls}
@@ -125,8 +124,8 @@ module _ {D : Type 0} (model : DiskModel D) where
       } in
       let was : (slot version : ℕ) (k : HoldsPin p slot version) → Holds s slot k.owner version =
       λ slot version k.
-          let here : k.origin ≡ o = cc (k.of, origin.1) in
-          subst (λ (i : Origin D). Holds (after i.state (known p).seen) slot k.owner version) here k.held in
+      let here : k.origin ≡ o = cc (k.of, origin.1) in
+      subst (λ (i : Origin D). Holds (after i.state (known p).seen) slot k.owner version) here k.held in
       record {
         before = λ slot version k.
             let here : k.origin ≡ o = cc (k.of, from) in

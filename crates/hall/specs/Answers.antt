@@ -1,5 +1,5 @@
 -- What one call of a pass tells. For private clauses alone.
-use Rattle.std.specs.Prelude.{◌≡◌, ◌⊎◌, Bool, List, [], ◌∷◌, length, ℕ}
+use Rattle.std.specs.Prelude.{◌≡◌, ◌⊎◌, Bool, List, [], ◌∷◌, ℕ}
 use Rattle.store_core.specs.Calls.{Calls, WornAs}
 use Rattle.store_machine.specs.Searches.{KeepsPin}
 use Rattle.store_machine.specs.declared.machine.Event.{Event}

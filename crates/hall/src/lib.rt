@@ -10,8 +10,6 @@ mod desk;
 mod hall;
 mod kept;
 mod laws;
-#[cfg(test)]
-mod tests;
 mod turns;
 
 pub use desk::Desk;

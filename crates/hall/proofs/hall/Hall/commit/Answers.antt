@@ -19,7 +19,7 @@ end-requires-clause-names g c =
     names-of _ c.args.pass.now _ c.in-Ok.turn.value c.commit-answer.new.self number.0 sees
     (subst (λ v. Adds g.D.Disk.model v c.commit-answer.new.self) c.value.ensures.value c.commit-answer.ensures.adds) number.1
     (may-commit c.commit-answer.new.self c.args.change c.commit-answer.result c.commit-answer.ensures.told c.commit-answer.ensures.not_worn
-        (after sees.origin.state ((known c.args.pass.now).seen ++ sees.more)) number.0)
+    (after sees.origin.state ((known c.args.pass.now).seen ++ sees.more)) number.0)
 
 pub returns-clause-answered : goal.returns-clause-answered
 returns-clause-answered g c =

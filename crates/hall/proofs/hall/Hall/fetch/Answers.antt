@@ -28,8 +28,8 @@ end-requires-clause-names g c =
     names-of _ c.args.pass.now _ c.in-Ok.turn.value c.fetch-answer.new.self k.owner sees
     (subst (λ v. Adds g.D.Disk.model v c.fetch-answer.new.self) c.value.ensures.value c.fetch-answer.ensures.adds) k.own
     (may-call c.fetch-answer.new.self (Fetch c.args.pin.now.slot c.args.want.now c.args.from c.args.limit) _ c.fetch-answer.result c.fetch-answer.ensures.told c.fetch-answer.ensures.not_worn
-        (after sees.origin.state ((known c.args.pass.now).seen ++ sees.more)) k.owner
-        (c.args.pin.now.version, held))
+    (after sees.origin.state ((known c.args.pass.now).seen ++ sees.more)) k.owner
+    (c.args.pin.now.version, held))
 
 pub returns-clause-answered : goal.returns-clause-answered
 returns-clause-answered g c =

@@ -20,7 +20,7 @@ end-requires-clause-names g c =
     names-of _ c.args.pass.now _ c.in-Ok.turn.value c.prune-answer.new.self number.0 sees
     (subst (λ v. Adds g.D.Disk.model v c.prune-answer.new.self) c.value.ensures.value c.prune-answer.ensures.adds) number.1
     (may-call c.prune-answer.new.self Prune _ c.prune-answer.result c.prune-answer.ensures.told c.prune-answer.ensures.not_worn
-        (after sees.origin.state ((known c.args.pass.now).seen ++ sees.more)) number.0 tt)
+    (after sees.origin.state ((known c.args.pass.now).seen ++ sees.more)) number.0 tt)
 
 pub returns-clause-answered : goal.returns-clause-answered
 returns-clause-answered g c =

@@ -20,7 +20,7 @@ end-requires-clause-names g c =
     names-of _ c.args.pass.now _ c.in-Ok.turn.value c.stats-answer.new.self number.0 sees
     (subst (λ v. Adds g.D.Disk.model v c.stats-answer.new.self) c.value.ensures.value c.stats-answer.ensures.adds) number.1
     (may-call c.stats-answer.new.self Stats _ c.stats-answer.result c.stats-answer.ensures.told c.stats-answer.ensures.not_worn
-        (after sees.origin.state ((known c.args.pass.now).seen ++ sees.more)) number.0 tt)
+    (after sees.origin.state ((known c.args.pass.now).seen ++ sees.more)) number.0 tt)
 
 pub returns-clause-answered : goal.returns-clause-answered
 returns-clause-answered g c =

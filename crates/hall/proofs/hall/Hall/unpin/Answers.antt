@@ -17,8 +17,10 @@ pub unpin-answer-requires : goal.unpin-answer-requires
 unpin-answer-requires g c =
     let sees = c.in-Ok.ensures.sees in
     let held = held-at _ c.laws.ensures.stay c.args.pass.now _ _ c.args.pin.slot c.args.pin.version sees c.requires.held in
-    record { held = subst (λ v. HoldsPin v.store.memory c.args.pin.slot c.args.pin.version) (sym c.value.ensures.value)
-    (store-holds _ c.in-Ok.turn.value.store _ c.args.pin.slot c.requires.held.owner c.args.pin.version sees.standing.stands.ends held) }
+    record {
+      held = subst (λ v. HoldsPin v.store.memory c.args.pin.slot c.args.pin.version) (sym c.value.ensures.value)
+          (store-holds _ c.in-Ok.turn.value.store _ c.args.pin.slot c.requires.held.owner c.args.pin.version sees.standing.stands.ends held);
+    }
 
 pub end-requires-clause-names : goal.end-requires-clause-names
 end-requires-clause-names g c =
@@ -28,8 +30,8 @@ end-requires-clause-names g c =
     names-of _ c.args.pass.now _ c.in-Ok.turn.value c.unpin-answer.new.self k.owner sees
     (subst (λ v. Adds g.D.Disk.model v c.unpin-answer.new.self) c.value.ensures.value c.unpin-answer.ensures.adds) k.own
     (may-call c.unpin-answer.new.self (Unpin c.args.pin.slot) _ c.unpin-answer.result c.unpin-answer.ensures.told c.unpin-answer.ensures.not_worn
-        (after sees.origin.state ((known c.args.pass.now).seen ++ sees.more)) k.owner
-        (c.args.pin.version, held))
+    (after sees.origin.state ((known c.args.pass.now).seen ++ sees.more)) k.owner
+    (c.args.pin.version, held))
 
 pub returns-clause-answered : goal.returns-clause-answered
 returns-clause-answered g c =

@@ -17,9 +17,9 @@ returns-clause-adds g c =
     adds _ _ _ _ c.laws.ensures.free c.laws.ensures.asks _ one.1
     (ap calls_told c.of-4.ensures
     ∙ (ap (λ w. fetch_calls c.args.pin.now.slot w c.args.from c.args.limit c.of-2.result.value.records
-        c.of-3.result.value) c.of.ensures
+    c.of-3.result.value) c.of.ensures
     ∙ (ap (λ p. fetch_calls c.args.pin.now.slot c.args.want.now c.args.from c.args.limit p.records
-        c.of-3.result.value) c.of-2.ensures
+    c.of-3.result.value) c.of-2.ensures
     ∙ ap (fetch_calls c.args.pin.now.slot c.args.want.now c.args.from c.args.limit c.fetch-answer.new.page.records)
-        c.of-3.ensures)))
+    c.of-3.ensures)))
     c.fetch-answer.ensures.call
