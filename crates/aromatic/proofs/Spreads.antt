@@ -157,30 +157,6 @@ spread-push links target distances queue head w v h inside within far farther ne
       room = let e = count-nearer distances w v there far near in let f = h.room in omega arith;
     }
 
--- the atom at the head is done
-pub spread-next : (links : List (List Link)) (target : ℕ) (distances queue : List ℕ) (head : ℕ)
-    → IsSpread links target distances queue head → ((n : ℕ) → IsLinked links (get_or queue head 0) n
-    → get_or distances n 0 ≤ get_or distances (get_or queue head 0) 0 + 1) → IsSpread links target distances queue (head
-    + 1)
-spread-next links target distances queue head h here = record {
-  count = h.count;
-  here = h.here;
-  most = h.most;
-  queued = h.queued;
-  in_range = h.in_range;
-  near = h.near;
-  rises = h.rises;
-  close = λ i j le l k. h.close i j (omega arith) l k;
-  done = λ i n l link. elim (cases_lt i head) [
-    | inl a ↦ h.done i n a link
-    | inr a ↦
-        let e : i ≡ head = omega arith in
-        let link' = rw e at link in
-        rw e (here n link')
-  ];
-  room = h.room;
-}
-
 -- all atoms of the queue are done
 pub spread-end : (links : List (List Link)) (target : ℕ) (distances queue : List ℕ) (head : ℕ) → AreClosed links
     → AreMutual links → IsSpread links target distances queue head → length queue ≤ head

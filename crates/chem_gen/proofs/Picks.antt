@@ -41,14 +41,6 @@ drop_next (suc i) (x ∷ xs) h =
 abbrev pub searches_from : ℕ → List ℕ
 searches_from place = flat_map (λ pattern. codes "search " ++ pattern ++ 10 ∷ []) (drop place patterns)
 
-pub searches_more : (place : ℕ) (out pattern : List ℕ) → place < 5 → pattern ≡ get_or patterns place []
-    → (out ++ (codes "search " ++ pattern ++ 10 ∷ [])) ++ searches_from (place + 1) ≡ out ++ searches_from place
-searches_more place out pattern h is =
-    let line : List ℕ → List ℕ = λ pattern. codes "search " ++ pattern ++ 10 ∷ [] in
-    append_assoc out (line pattern) (searches_from (place + 1))
-    ∙ ap (λ p. out ++ (line p ++ searches_from (place + 1))) is
-    ∙ sym (ap (λ ps. out ++ flat_map line ps) (drop_next place patterns h))
-
 -- ---- outcomes
 
 pub outcomes_more : (place : ℕ) (out pattern ending : List ℕ) (endings : List (List ℕ)) → place < 5

@@ -129,7 +129,7 @@ fn after_word<'a>(line: &'a [u8], word: &[u8]) -> Option<&'a [u8]>
     }
 }
 
-// What stands before the first such byte, and what stands after it; all and nothing where there is none.
+// The bytes before the first `byte` and those after it; all of them and none if it does not occur.
 fn cut(text: &[u8], byte: u8) -> (&[u8], &[u8])
     ensures before { result.0.now ≡ before_first (λ b. b == byte) text.now }
     ensures after { result.1.now ≡ after_first (λ b. b == byte) text.now }

@@ -172,7 +172,7 @@ impl Window {
     }
 }
 
-// A piece, or the bytes that are wanted where they are more, as far as so many are left.
+// How much to read: a piece, or `wanted` if that is more, but no more than `left`.
 fn piece_size(wanted: usize, left: u64) -> usize
     requires few { wanted ≤ 1048576 }
     requires inside { wanted ≤ left }

@@ -7,7 +7,8 @@ pub mod Places
 pub mod Near
 pub mod Asked
 pub mod PartsHeld
-pub mod Knowledge
+pub mod Standing
+pub mod Truths
 pub mod OnlyParts
 pub mod Pigeons
 pub mod Refusals

@@ -1,5 +1,5 @@
 -- Candidates of a place: what an embedding keeps of them.
-use Rattle.std.proofs.Common.{◌≡◌, ◌≢◌, ◌⊎◌, ℕ, ◌+◌, ◌*◌, ◌%◌, ◌^◌, ◌<◌, ◌≤◌, w64, Bool, List, [], ◌∷◌, length, map, get_or, set, slice_index, bit_and, bit_or, Some, slice_get, sym, ap, ◌∙◌, subst, arith, inl, inr, refl}
+use Rattle.std.proofs.Common.{◌≡◌, ◌≢◌, ◌⊎◌, ℕ, ◌+◌, ◌*◌, ◌/◌, ◌%◌, ◌^◌, ◌<◌, ◌≤◌, w64, Bool, List, [], ◌∷◌, length, map, get_or, set, slice_index, bit_and, bit_or, Some, slice_get, sym, ap, ◌∙◌, subst, arith, inl, inr, refl}
 use Rattle.std.specs.Int.{bit_at}
 use Rattle.std.specs.Prelude.{count_ones}
 use Rattle.std.proofs.lemmas.Bool.{cases_lt, cases_eq}
@@ -11,20 +11,20 @@ use Rattle.std.proofs.lemmas.Option.{get_or_from_slice_get, slice_get_within, sl
 use Rattle.chem_core.specs.declared.mol.Bond.{Bond}
 use Rattle.chem_core.specs.Graph.{IsRingBond, JoinsAt, Joined}
 use Rattle.chem_core.specs.Molecule.{IsMolecule, Molecule, ends_of}
-use Rattle.smarts_mean.specs.Table.{HoldsIn}
 use Rattle.smarts_parse.specs.declared.pattern.BondPrim.TheVariants as bonds
 use Rattle.smarts_parse.specs.declared.pattern.PatBond.{PatBond}
 use Rattle.smarts_parse.specs.Embedding.{BondEmbeds}
-use Rattle.smarts_parse.specs.Pattern.{BondTerm, GraphTerm, Prim, bond_of, graph_of}
+use Rattle.smarts_parse.specs.Pattern.{BondTerm, GraphTerm, Prim, bond_of, graph_of, term_of}
 use Rattle.smarts_parse.specs.Sound.{pattern_ends}
 use Rattle.matcher.specs.declared.fit.Task.{Task}
-use Rattle.matcher.specs.Narrow.{AreAround, AreCandidates, AreNear, AreOfClasses, AreRingNear, HasClasses, IsReach}
+use Rattle.matcher.specs.Candidates.{AreCandidates, IsCandidate}
+use Rattle.matcher.specs.declared.narrow.Around.{Around}
+use Rattle.matcher.specs.Narrow.{AreAround, AreNear, AreRingNear, HasAround, IsReach, around_at, more_around}
 use Rattle.matcher.specs.Partial.{IsSearchable}
-use Rattle.matcher.specs.Plan.{step_at}
 use Rattle.matcher.specs.Ring.{AreOnRings, IsMarked}
 use Rattle.matcher.specs.Task.{Completes, Embeds, IsReadyTask}
 use Rattle.matcher.specs.Wanted.{IsWithin}
-use Rattle.matcher.proofs.Classes.{and_both, no_element, or_one, or_two, stands_at}
+use Rattle.matcher.proofs.Classes.{and_both, or_one, or_two}
 use Rattle.matcher.proofs.Joins.{joined_back, joins_in_range}
 use Rattle.matcher.proofs.Ones.{distinct_ones}
 use Rattle.matcher.proofs.Refusals.{ends_in_range, ends_read, no_bond}
@@ -176,12 +176,29 @@ apart task image p q e lp lq differ same = elim (cases_lt p q) [
   ]
 ]
 
+-- of the first block of atoms the bits of a word are the candidates
+pub low_bit : (words : List ℕ) (p a : ℕ) → a < 64 → IsCandidate words p a → bit_at (slice_index words p) a ≡ 1
+low_bit words p a l h =
+    let none : a / 64 ≡ 0 = omega arith in
+    let bit : a % 64 ≡ a = omega arith in
+    let place : 256 * (a / 64) + p ≡ p = omega (arith, none) in
+    subst (λ i. bit_at (slice_index words p) i ≡ 1) bit
+    (subst (λ k. bit_at (slice_index words k) (a % 64) ≡ 1) place h)
+
+pub low_candidate : (words : List ℕ) (p a : ℕ) → a < 64 → bit_at (slice_index words p) a ≡ 1 → IsCandidate words p a
+low_candidate words p a l h =
+    let none : a / 64 ≡ 0 = omega arith in
+    let bit : a % 64 ≡ a = omega arith in
+    let place : 256 * (a / 64) + p ≡ p = omega (arith, none) in
+    subst (λ k. bit_at (slice_index words k) (a % 64) ≡ 1) (sym place)
+    (subst (λ i. bit_at (slice_index words p) i ≡ 1) (sym bit) h)
+
 -- an embedding has as many atoms near that of a place
 pub has_around : (task : Task) (marks : List Bool) (near words : List ℕ) (place k atoms count : ℕ) (image : List ℕ)
     → IsReadyTask task → AreAround (graph_of task.graph.now) marks words place k atoms count
-    → IsReach task marks near → AreCandidates task words → Embeds task image
+    → IsReach task marks near → AreCandidates task words → length task.mol.now.atoms ≤ 64 → Embeds task image
     → count ≤ count_ones (bit_and (slice_index near (slice_index image place)) atoms)
-has_around task marks near words place k atoms count image ready h reach candidates e =
+has_around task marks near words place k atoms count image ready h reach candidates small e =
     let g : GraphTerm = graph_of task.graph.now in
     let at : ℕ → ℕ = λ q. slice_index image q in
     let size : length (map at h.places) ≡ length h.places = length-map h.places at in
@@ -203,28 +220,24 @@ has_around task marks near words place k atoms count image ready h reach candida
     (and_both (slice_index near (slice_index image place)) atoms (slice_index image (get_or h.places i 0))
     (reach image e w.0 place (get_or h.places i 0) w.2 w.3)
     (h.within i 0 m (slice_index image (get_or h.places i 0))
-    (candidates image e (get_or h.places i 0) (below i m))))) in
+    (low_bit words (get_or h.places i 0) (slice_index image (get_or h.places i 0))
+    (let r = e.in_range (get_or h.places i 0) 0 (below i m) in omega arith)
+    (candidates.whole image e (get_or h.places i 0) (below i m)))))) in
     let is = h.size in
     omega arith
 
 -- no embedding, where a place has no candidates
 pub none_left : (task : Task) (words : List ℕ) (place : ℕ) → AreCandidates task words
-    → place < length (graph_of task.graph.now).atoms → slice_index words place ≡ 0 → Completes task [] → ⊥
-none_left task words place candidates l none w =
+    → length task.mol.now.atoms ≤ 64 → place < length (graph_of task.graph.now).atoms → slice_index words place ≡ 0
+    → Completes task [] → ⊥
+none_left task words place candidates small l none w =
     let size = w.1.one_each in
-    let one = candidates w.0 w.1 place (omega arith) in
-    let zero : bit_at (slice_index words place) (slice_index w.0 place) ≡ 0 =
+    let r = w.1.in_range place 0 (omega arith) in
+    let one = low_bit words place (slice_index w.0 place) (omega arith)
+    (candidates.whole w.0 w.1 place (omega arith)) in
+    let zero' : bit_at (slice_index words place) (slice_index w.0 place) ≡ 0 =
     ap (λ n. bit_at n (slice_index w.0 place)) none ∙ bit_at-zero (slice_index w.0 place) in
     omega arith
-
--- at first the candidates of a place are the atoms of its classes
-pub class_candidates : (task : Task) (words : List ℕ) → IsReadyTask task
-    → AreOfClasses task (length (graph_of task.graph.now).atoms) words → AreCandidates task words
-class_candidates task words ready h image e p l =
-    let few : p < length (graph_of task.graph.now).atoms = omega (arith, e.one_each) in
-    h p few (slice_index image p) no_element (e.in_range p 0 l)
-    (stands_at (HoldsIn task.table.now) (graph_of task.graph.now) task.mol.now task.steps.now image p
-    (slice_index image p) ready few e refl)
 
 -- the ends of each bond are near each other
 pub near_all : (m : Molecule) (near : List ℕ) → IsMolecule m
@@ -259,22 +272,104 @@ ring_near_all m near valid h b x y joins ring =
     ]
 
 -- fewer candidates of one place
-pub narrowed : (task : Task) (marks : List Bool) (near words : List ℕ) (place n atoms count new : ℕ)
-    → IsReadyTask task → AreAround (graph_of task.graph.now) marks words place n atoms count
-    → IsReach task marks near → place < length words → AreCandidates task words
-    → ((a : ℕ) → a < length task.mol.now.atoms → bit_at (slice_index words place) a ≡ 1
-    → count ≤ count_ones (bit_and (slice_index near a) atoms) → bit_at new a ≡ 1)
+pub narrowed : (task : Task) (near words : List ℕ) (place new : ℕ) (around : Around) → length task.mol.now.atoms ≤ 64
+    → place < length words → HasAround task near place around → AreCandidates task words
+    → ((a : ℕ) → a < 64 → bit_at (slice_index words place) a ≡ 1
+    → around.count ≤ count_ones (bit_and (slice_index near a) around.atoms) → bit_at new a ≡ 1)
+    → ((a : ℕ) → bit_at new a ≡ 1 → bit_at (slice_index words place) a ≡ 1)
     → AreCandidates task (set words place new)
-narrowed task marks near words place n atoms count new ready h reach room candidates kept image e p l =
-    elim (cases_eq p place) [
-      | inl here ↦
-          let within : slice_index image place < length task.mol.now.atoms = e.in_range place 0 (omega arith) in
-          subst (λ q. bit_at (slice_index (set words place new) q) (slice_index image q) ≡ 1) (sym here)
-          (subst (λ w. bit_at w (slice_index image place) ≡ 1) (sym (get_or-set_same words place new 0 room))
-          (kept (slice_index image place) within (candidates image e place (omega arith))
-          (has_around task marks near words place n atoms count image ready h reach candidates e)))
-      | inr other ↦ subst (λ w. bit_at w (slice_index image p) ≡ 1)
-          (sym (get_or-set_other words place p new 0 other)) (candidates image e p l)
+narrowed task near words place new around small room enough candidates kept within = record {
+  held = λ p a l r h.
+      let bit = low_bit (set words place new) p a (omega arith) h in
+      candidates.held p a l r (low_candidate words p a (omega arith) (elim (cases_eq p place) [
+        | inl here ↦ subst (λ q. bit_at (slice_index words q) a ≡ 1) (sym here) (within a
+            (subst (λ w. bit_at w a ≡ 1) (get_or-set_same words place new 0 room)
+            (subst (λ q. bit_at (slice_index (set words place new) q) a ≡ 1) here bit)))
+        | inr other ↦ subst (λ w. bit_at w a ≡ 1) (get_or-set_other words place p new 0 other) bit
+      ]));
+  whole = λ image e p l.
+      let r : slice_index image p < length task.mol.now.atoms = e.in_range p 0 l in
+      let old = low_bit words p (slice_index image p) (omega arith) (candidates.whole image e p l) in
+      low_candidate (set words place new) p (slice_index image p) (omega arith) (elim (cases_eq p place) [
+        | inl here ↦ subst (λ q. bit_at (slice_index (set words place new) q) (slice_index image p) ≡ 1) (sym here)
+            (subst (λ w. bit_at w (slice_index image p) ≡ 1) (sym (get_or-set_same words place new 0 room))
+            (kept (slice_index image p) (omega arith)
+            (subst (λ q. bit_at (slice_index words q) (slice_index image p) ≡ 1) here old)
+            (subst (λ q. around.count ≤ count_ones (bit_and (slice_index near (slice_index image q)) around.atoms))
+            (sym here) (enough image e))))
+        | inr other ↦ subst (λ w. bit_at w (slice_index image p) ≡ 1)
+            (sym (get_or-set_other words place p new 0 other)) old
+      ]);
+}
+
+-- what the first k bonds lead to from a place
+pub record IsGathered (g : GraphTerm) (marks : List Bool) (words : List ℕ) (place k : ℕ) (x : Around) : Type 0 where
+  pub few : x.count ≤ k
+  pub around : AreAround g marks words place k x.atoms x.count
+
+pub gathered_kept : (g : GraphTerm) (marks : List Bool) (words : List ℕ) (place k : ℕ) (x : Around)
+    → IsGathered g marks words place k x → IsGathered g marks words place (k + 1) x
+gathered_kept g marks words place k x h = record {
+  few = (let few = h.few in omega arith);
+  around = around_kept g marks words place k x.atoms x.count h.around;
+}
+
+gathered_more : (g : GraphTerm) (marks : List Bool) (words : List ℕ) (place k other : ℕ) (x : Around) → IsSearchable g
+    → IsMarked marks k → JoinsAt (pattern_ends g) k place other → IsGathered g marks words place k x
+    → IsGathered g marks words place (k + 1) (more_around x (slice_index words other))
+gathered_more g marks words place k other x searchable marked joined h = record {
+  few = (let few = h.few in omega arith);
+  around = around_more g marks words place k x.atoms x.count other searchable h.around marked joined;
+}
+
+-- the ends of a bond are apart
+pub ends_apart : (g : GraphTerm) (k a b : ℕ) → IsSearchable g → JoinsAt (pattern_ends g) k a b → a ≢ b
+ends_apart g k a b searchable (inl e) = subst (λ (p : ℕ × ℕ). p.0 ≢ p.1)
+    (get_or_from_slice_get (pattern_ends g) k (a, b) (0, 0) e)
+    (searchable.apart k (0, 0) (slice_get_within (pattern_ends g) k (a, b) e))
+ends_apart g k a b searchable (inr e) = λ same. subst (λ (p : ℕ × ℕ). p.0 ≢ p.1)
+    (get_or_from_slice_get (pattern_ends g) k (b, a) (0, 0) e)
+    (searchable.apart k (0, 0) (slice_get_within (pattern_ends g) k (b, a) e)) (sym same)
+
+-- a bond that is read joins two places
+pub bond_ends : (task : Task) (index : ℕ) (b : PatBond) → IsReadyTask task
+    → index < length task.graph.now.bonds.items → b ≡ get_or task.graph.now.bonds.items index b
+    → JoinsAt (pattern_ends (graph_of task.graph.now)) index b.a b.b
+    × (b.a < length task.graph.now.atoms.items) × (b.b < length task.graph.now.atoms.items)
+bond_ends task index b ready l is =
+    let g = graph_of task.graph.now in
+    let joined = joins_bond g task.graph.now.bonds.items index b.a b.b b refl l is (inl (refl, refl)) in
+    let size : length g.atoms ≡ length task.graph.now.atoms.items = length-map task.graph.now.atoms.items term_of in
+    let one = end_below g index b.b b.a ready.searchable (joined_back (pattern_ends g) index b.a b.b joined) in
+    let two = end_below g index b.a b.b ready.searchable joined in
+    (joined, omega arith, omega arith)
+
+-- one bond more, which leads from each of its ends to the other
+pub gathered_both : (g : GraphTerm) (marks : List Bool) (words : List ℕ) (k a b n : ℕ) (old mid new : List Around)
+    → IsSearchable g → IsMarked marks k → JoinsAt (pattern_ends g) k a b
+    → around_at mid a ≡ more_around (around_at old a) (slice_index words b)
+    → ((p : ℕ) → p ≢ a → around_at mid p ≡ around_at old p)
+    → around_at new b ≡ more_around (around_at mid b) (slice_index words a)
+    → ((p : ℕ) → p ≢ b → around_at new p ≡ around_at mid p)
+    → ((p : ℕ) → p < n → IsGathered g marks words p k (around_at old p))
+    → (p : ℕ) → p < n → IsGathered g marks words p (k + 1) (around_at new p)
+gathered_both g marks words k a b n old mid new searchable marked joined one rest two others h p l =
+    let differ = ends_apart g k a b searchable joined in
+    elim (cases_eq p a) [
+      | inl here ↦ subst (λ q. IsGathered g marks words q (k + 1) (around_at new q)) (sym here)
+          (subst (IsGathered g marks words a (k + 1)) (sym (others a differ ∙ one))
+          (gathered_more g marks words a k b (around_at old a) searchable marked joined
+          (subst (λ q. IsGathered g marks words q k (around_at old q)) here (h p l))))
+      | inr apart' ↦ elim (cases_eq p b) [
+        | inl here ↦ subst (λ q. IsGathered g marks words q (k + 1) (around_at new q)) (sym here)
+            (subst (IsGathered g marks words b (k + 1)) (sym (two
+            ∙ ap (λ x. more_around x (slice_index words a)) (rest b (λ same. differ (sym same)))))
+            (gathered_more g marks words b k a (around_at old b) searchable marked
+            (joined_back (pattern_ends g) k a b joined)
+            (subst (λ q. IsGathered g marks words q k (around_at old q)) here (h p l))))
+        | inr other ↦ subst (IsGathered g marks words p (k + 1)) (sym (others p other ∙ rest p apart'))
+            (gathered_kept g marks words p k (around_at old p) (h p l))
+      ]
     ]
 
 -- one neighbour more of an atom
@@ -298,28 +393,6 @@ joined_kept near at other l few x y h =
           (subst (λ a. bit_at (slice_index near a) y ≡ 1) here h)))
       | inr apart' ↦ subst (λ w. bit_at w y ≡ 1) (sym (get_or-set_other near at x new 0 apart')) h
     ]
-
--- one more place has the atoms of its classes
-pub classes_more : (task : Task) (place : ℕ) (words : List ℕ) (new : ℕ) → place < length words
-    → AreOfClasses task place words → HasClasses task.mol.now.atoms (step_at task.steps.now place).classes new
-    → AreOfClasses task (place + 1) (set words place new)
-classes_more task place words new room h here p l = elim (cases_eq p place) [
-  | inl same ↦ subst (λ q. HasClasses task.mol.now.atoms (step_at task.steps.now q).classes
-      (slice_index (set words place new) q)) (sym same)
-      (subst (HasClasses task.mol.now.atoms (step_at task.steps.now place).classes)
-      (sym (get_or-set_same words place new 0 room)) here)
-  | inr other ↦ subst (HasClasses task.mol.now.atoms (step_at task.steps.now p).classes)
-      (sym (get_or-set_other words place p new 0 other)) (h p (omega arith))
-]
-
--- the other end of a bond of the graph
-pub other_joined : (task : Task) (index place other : ℕ) (b : PatBond) → index < length task.graph.now.bonds.items
-    → b ≡ get_or task.graph.now.bonds.items index b
-    → ((b.a ≡ place) × (b.b ≡ other)) ⊎ ((b.a ≡ other) × (b.b ≡ place))
-    → JoinsAt (pattern_ends (graph_of task.graph.now)) index place other
-other_joined task index place other b l is either =
-    joins_bond (graph_of task.graph.now) task.graph.now.bonds.items index place other b refl l is
-    (elim either [ inl h ↦ inl (sym h.0, sym h.1) | inr h ↦ inr (sym h.1, sym h.0) ])
 
 -- the ends of a bond that is read are atoms
 pub ends_among : (m : Molecule) (bs : List Bond) (i : ℕ) → bs ≡ m.bonds → IsMolecule m → i < length bs

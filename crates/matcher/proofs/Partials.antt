@@ -14,7 +14,7 @@ use Rattle.smarts_parse.specs.Pattern.{Term, BondTerm, GraphTerm}
 use Rattle.smarts_parse.specs.Sound.{pattern_ends}
 use Rattle.smarts_parse.specs.Truth.{AtomTrue, BondTrue}
 use Rattle.smarts_parse.specs.Embedding.{BondEmbeds, IsEmbedding}
-use Rattle.matcher.specs.Known.{IsTrueIn}
+use Rattle.matcher.specs.Candidates.{IsTrueIn}
 use Rattle.matcher.specs.Partial.{CanComplete, IsPartial, Parts}
 use Rattle.matcher.proofs.Joins.{joined_back}
 

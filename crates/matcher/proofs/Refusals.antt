@@ -11,10 +11,9 @@ use Rattle.chem_core.specs.Graph.{JoinsAt}
 use Rattle.chem_core.specs.Molecule.{IsMolecule, Molecule, ends_of}
 use Rattle.smarts_parse.specs.Embedding.{BondEmbeds, IsEmbedding}
 use Rattle.smarts_parse.specs.Pattern.{BondTerm, GraphTerm}
-use Rattle.smarts_parse.specs.Truth.{AtomTrue, BondTrue}
+use Rattle.smarts_parse.specs.Truth.{BondTrue}
 use Rattle.matcher.specs.Class.{class_of, is_among, is_within}
 use Rattle.matcher.specs.declared.plan.EarlierBonds.{EarlierBonds}
-use Rattle.matcher.specs.Known.{IsTrueIn}
 use Rattle.matcher.specs.Partial.{CanComplete, Parts}
 use Rattle.matcher.specs.Plan.{IsReady, step_at}
 use Rattle.matcher.proofs.Classes.{no_element, or_one, stands_at}
@@ -22,12 +21,6 @@ use Rattle.matcher.proofs.Joins.{joins_in_range}
 use Rattle.matcher.proofs.Partials.{index_front}
 use Rattle.matcher.proofs.Pigeons.{marks, marks_map, pigeons}
 use Rattle.matcher.proofs.Plans.{empty}
-
--- not where its expression is not true
-pub cannot_stand : (parts : Parts) (g : GraphTerm) (m : Molecule) (place atom : ℕ) (image : List ℕ)
-    → (IsTrueIn parts g m place atom → ⊥) → IsEmbedding parts g m image → slice_index image place ≡ atom → ⊥
-cannot_stand parts g m place atom image lacks e is = lacks
-    (λ expr get. subst (AtomTrue parts expr m) is (e.atoms place expr get))
 
 -- not where an earlier one stands
 pub stands_before : (parts : Parts) (g : GraphTerm) (m : Molecule) (front rest : List ℕ) (place atom : ℕ)

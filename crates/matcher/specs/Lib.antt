@@ -1,6 +1,6 @@
 pub mod Class
 pub mod Hunt
-pub mod Known
+pub mod Candidates
 pub mod Least
 pub mod Narrow
 pub mod Partial

@@ -4,29 +4,28 @@ ghost use Rattle.smarts_mean.specs.Table.{HoldsIn};
 ghost use Rattle.smarts_parse.specs.Embedding.{Matches};
 ghost use Rattle.smarts_parse.specs.Pattern.{graph_of, pattern_of, term_of, Prim};
 ghost use Rattle.smarts_parse.specs.Sound.{IsSoundPattern};
-ghost use Rattle.matcher.specs.Known.{Knows};
+ghost use Rattle.matcher.specs.Candidates.{AreCandidates};
 ghost use Rattle.matcher.specs.Least.{IsLeast};
 ghost use Rattle.matcher.specs.Partial.{CanComplete};
 ghost use Rattle.matcher.specs.Plan.{IsReady};
 ghost use Rattle.matcher.specs.Prepared.{IsPrepared};
 ghost use Rattle.matcher.specs.Task.{Completes, IsReadyTask};
 
+use crate::candidates::Candidates;
 use crate::choices::Choices;
-use crate::class::lacks_atom;
 use crate::fit::Task;
 use crate::hunt::{is_whole, may_continue};
-use crate::known::TruthCache;
 use crate::lay::{Placement, is_rare, lay, start_at};
-use crate::narrow::Candidates;
+use crate::narrow::Narrowing;
 use crate::parts::note_parts;
 use crate::plan::{EarlierBonds, is_loose};
-use crate::prepare::Prepared;
-use crate::refusal::{has_bond, is_crowded};
+use crate::prepare::{Prepared, only_part};
+use crate::refusal::{has_bond, is_crowded, lacks_atom};
 use crate::ring::lacks_ring;
 use crate::scratch::{Memory, Scratch};
 use crate::search::extend;
 use chem_core::Mol;
-use smarts_parse::{AtomPrim, Expr, Graph, Pattern};
+use smarts_parse::{Expr, Graph, Pattern};
 
 /// As many places of a graph are few.
 const FEW_PLACES: usize = 8;
@@ -66,8 +65,24 @@ pub fn has(pattern: &Pattern, mol: &Mol, scratch: &mut Scratch) -> bool
     scratch.has(pattern, mol)
 }
 
-/// Whether the pattern, for which all is prepared, has an embedding in the molecule.
-pub fn matches(pattern: &Pattern, prepared: &Prepared, mol: &Mol, memory: &mut Memory) -> bool
+impl Scratch {
+    ghost use Rattle.matcher.specs.Prepared.{IsPreparedFor};
+
+    /// Whether the pattern, which was prepared last, has an embedding in the molecule.
+    ///
+    /// Takes no memory. The worst case takes exponential time.
+    pub fn has(&mut self, pattern: &Pattern, mol: &Mol) -> bool
+        requires sound { IsSoundPattern (pattern_of pattern.now) }
+        requires prepared { IsPreparedFor (pattern_of pattern.now) self.old }
+        ensures has { IsTrue result ↔ Matches (pattern_of pattern.now) mol.now }
+        ensures prepared { IsPreparedFor (pattern_of pattern.now) self.new }
+    {
+        matches(pattern, &self.prepared, mol, &mut self.memory)
+    }
+}
+
+// Whether the pattern, for which all is prepared, has an embedding in the molecule.
+fn matches(pattern: &Pattern, prepared: &Prepared, mol: &Mol, memory: &mut Memory) -> bool
     requires sound { IsSoundPattern (pattern_of pattern.now) }
     requires prepared { IsPrepared (pattern_of pattern.now) prepared.now }
     ensures { IsTrue result ↔ Matches (pattern_of pattern.now) mol.now }
@@ -90,28 +105,6 @@ pub fn matches(pattern: &Pattern, prepared: &Prepared, mol: &Mol, memory: &mut M
     }
 }
 
-/// The number of the last recursive part, if the pattern asks for this part at one atom and for nothing else.
-pub fn only_part(pattern: &Pattern) -> Option<usize>
-    ensures { IfSome result (λ part. (part + 1 ≡ length pattern.now.recs.items)
-        × (map term_of pattern.now.top.atoms.items ≡ Prim (AtomPrim.Rec part) ∷ [])) }
-{
-    if pattern.top.atoms.len() != 1 {
-        return None;
-    }
-    let Expr::Prim(prim) = &pattern.top.atoms[0] else {
-        return None;
-    };
-    let AtomPrim::Rec(named) = *prim else {
-        return None;
-    };
-    let part = usize::from(named);
-    let count = pattern.recs.len();
-    if count == 0 || part != count - 1 {
-        return None;
-    }
-    Some(part)
-}
-
 // Whether the graph has an embedding, where recursive parts hold as the table says.
 fn exists(
     graph: &Graph,
@@ -123,50 +116,54 @@ fn exists(
     requires { IsReady (graph_of graph.now) steps.now }
     ensures { IsTrue result ↔ CanComplete (HoldsIn memory.old.table) (graph_of graph.now) mol.now [] }
 {
-    let known = &mut memory.choices.known;
-    known.clear(graph.atoms.len(), mol.atoms().len());
     let task = Task {
         graph,
         mol,
         table: &memory.table,
         steps,
     };
-    if is_refused(&task, &mut memory.choices, &mut memory.candidates) {
+    let candidates = &mut memory.candidates;
+    if is_refused(
+        &task,
+        candidates,
+        &mut memory.narrowing,
+        &mut memory.choices,
+    ) {
         return false;
     }
-    let known = &mut memory.choices.known;
-    if let Some(found) = seek(&task, known, order, &mut memory.stops, &mut memory.image) {
+    let candidates = &memory.candidates;
+    let image = &mut memory.image;
+    if let Some(found) = seek(&task, candidates, order, &mut memory.stops, image) {
         return found;
     }
-    extend(&task, &mut memory.image, &mut memory.choices, 0)
+    extend(&task, candidates, image, &mut memory.choices, 0)
 }
 
 // Whether the graph has an embedding, where searches in orders of their own find it out. One from its first place is
 // left to the search for the least embedding.
 fn seek(
     task: &Task,
-    known: &mut TruthCache,
+    candidates: &Candidates,
     order: &[Placement],
     stops: &mut [Placement],
     image: &mut [u16],
 ) -> Option<bool>
     requires ready { IsReadyTask task.now }
     requires room { length task.now.graph.now.atoms.items ≤ length image.old }
-    requires knows { Knows task.now known.old }
-    ensures found { IfSome result (λ found. IsTrue found ↔ Completes task.now []) }
-    ensures knows { Knows task.now known.new }
+    requires candidates { AreCandidates task.now candidates.now.words.items }
+    ensures { IfSome result (λ found. IsTrue found ↔ Completes task.now []) }
 {
     if order.is_empty() {
-        return if lacks_component(task, known, stops, image) {
+        return if lacks_component(task, candidates, stops, image) {
             Some(false)
         } else {
             None
         };
     }
-    if finds_none(task, known, order, image) {
+    if finds_none(task, candidates, order, image) {
         return Some(false);
     }
-    if is_whole(task, known, image) {
+    if is_whole(task, candidates, image) {
         return Some(true);
     }
     None
@@ -176,15 +173,14 @@ fn seek(
 // Different components could still meet.
 fn lacks_component(
     task: &Task,
-    known: &mut TruthCache,
+    candidates: &Candidates,
     stops: &mut [Placement],
     image: &mut [u16],
 ) -> bool
     requires ready { IsReadyTask task.now }
     requires room { length task.now.graph.now.atoms.items ≤ length image.old }
-    requires knows { Knows task.now known.old }
-    ensures none { IsTrue result → ¬ Completes task.now [] }
-    ensures knows { Knows task.now known.new }
+    requires candidates { AreCandidates task.now candidates.now.words.items }
+    ensures { IsTrue result → ¬ Completes task.now [] }
 {
     let places = task.graph.atoms.len();
     if places > 64 || !is_loose(task.steps) {
@@ -195,7 +191,7 @@ fn lacks_component(
             continue;
         }
         let count = lay(&task.graph.bonds, start_at(place), stops);
-        if finds_none(task, known, &stops[..count], image) {
+        if finds_none(task, candidates, &stops[..count], image) {
             return true;
         }
     }
@@ -212,18 +208,17 @@ fn begins_component(task: &Task, place: usize) -> bool {
 }
 
 // Whether a search in that order finds that there is no embedding. If not, the image has what it found.
-fn finds_none(task: &Task, known: &mut TruthCache, order: &[Placement], image: &mut [u16]) -> bool
+fn finds_none(task: &Task, candidates: &Candidates, order: &[Placement], image: &mut [u16]) -> bool
     requires ready { IsReadyTask task.now }
     requires room { length task.now.graph.now.atoms.items ≤ length image.old }
-    requires knows { Knows task.now known.old }
-    ensures none { IsTrue result → ¬ Completes task.now [] }
-    ensures knows { Knows task.now known.new }
+    requires candidates { AreCandidates task.now candidates.now.words.items }
+    ensures { IsTrue result → ¬ Completes task.now [] }
 {
     let no_atom = task.mol.atoms().len() as u16;
     for place in 0..task.graph.atoms.len() {
         image[place] = no_atom;
     }
-    !may_continue(task, known, order, image, 0)
+    !may_continue(task, candidates, order, image, 0)
 }
 
 // Leaves the least embedding at the front of the image, if there is one.
@@ -239,50 +234,72 @@ fn find(pattern: &Pattern, prepared: &Prepared, mol: &Mol, memory: &mut Memory) 
         return false;
     }
     note_parts(pattern, prepared, mol, memory, pattern.recs.len());
-    let known = &mut memory.choices.known;
-    known.clear(pattern.top.atoms.len(), mol.atoms().len());
     let task = Task {
         graph: &pattern.top,
         mol,
         table: &memory.table,
         steps,
     };
-    if is_refused(&task, &mut memory.choices, &mut memory.candidates) {
+    let candidates = &mut memory.candidates;
+    if is_refused(
+        &task,
+        candidates,
+        &mut memory.narrowing,
+        &mut memory.choices,
+    ) {
         return false;
     }
-    extend(&task, &mut memory.image, &mut memory.choices, 0)
+    let image = &mut memory.image;
+    extend(&task, &memory.candidates, image, &mut memory.choices, 0)
 }
 
-// Whether it is found before any search that the graph has no embedding. Of a few places that bonds join only rare
-// bonds are asked for: the others are sooner searched for.
-fn is_refused(task: &Task, choices: &mut Choices, candidates: &mut Candidates) -> bool
-    requires ready { IsReadyTask task.now }
-    requires knows { Knows task.now choices.old.known }
+// Whether it is found before any search that the graph has no embedding. If not, the candidates of its places are
+// found.
+fn is_refused(
+    task: &Task,
+    candidates: &mut Candidates,
+    narrowing: &mut Narrowing,
+    choices: &mut Choices,
+) -> bool
+    requires { IsReadyTask task.now }
     ensures refused { IsTrue result → ¬ Completes task.now [] }
-    ensures knows { Knows task.now choices.new.known }
+    ensures candidates { result ≡ false → AreCandidates task.now candidates.new.words.items }
 {
     if lacks_ring(task) {
         return true;
     }
-    let is_long = task.graph.atoms.len() > FEW_PLACES;
-    if is_long && is_crowded(task) {
+    if task.graph.atoms.len() > FEW_PLACES && is_crowded(task) {
         return true;
     }
-    if is_long && candidates.refuse(task) {
+    candidates.find(task);
+    if narrowing.refuse(task, candidates) {
         return true;
     }
+    if lacks_bond(task, candidates) {
+        return true;
+    }
+    is_loose(task.steps) && choices.refuse(task, candidates, &[])
+}
+
+// Whether a bond of the graph can lie at no bond. Of a few places that bonds join only rare bonds are asked for: the
+// others are sooner searched for.
+fn lacks_bond(task: &Task, candidates: &Candidates) -> bool
+    requires ready { IsReadyTask task.now }
+    requires candidates { AreCandidates task.now candidates.now.words.items }
+    ensures { IsTrue result → ¬ Completes task.now [] }
+{
     for place in 0..task.graph.bonds.len() {
-        if !is_long && !is_rare(&task.graph.bonds[place]) {
+        if !is_rare(&task.graph.bonds[place]) {
             continue;
         }
         if place > 0 && is_alike(task, place) {
             continue;
         }
-        if !has_bond(task, &mut choices.known, place) {
+        if !has_bond(task, candidates, place) {
             return true;
         }
     }
-    is_loose(task.steps) && choices.refuse(task, &[])
+    false
 }
 
 // Whether a bond of the graph asks what its first bond does, as far as is seen at once.

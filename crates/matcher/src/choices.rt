@@ -3,11 +3,11 @@
 //!
 //! Nothing is promised of a choice. Where none is found, the places and atoms that the last try reached show why.
 ghost use Rattle.std.specs.Prelude.{◌≡◌, ◌<◌, length, IsTrue};
-ghost use Rattle.matcher.specs.Known.{Knows};
+ghost use Rattle.matcher.specs.Candidates.{AreCandidates};
 ghost use Rattle.matcher.specs.Task.{Completes, IsReadyTask};
 
+use crate::candidates::Candidates;
 use crate::fit::Task;
-use crate::known::TruthCache;
 use crate::planned::MOST_PLACES;
 use crate::refusal::{excludes, may_stand};
 use chem_core::MOST_ATOMS;
@@ -16,10 +16,9 @@ use std::alloc::{AllocError, Global};
 /// No place, no atom.
 const NONE: u16 = u16::MAX;
 
-/// Memory for choices, and what is known of the graph's atoms.
+/// Memory for choices.
 #[derive(Debug, Drop)]
 pub struct Choices {
-    pub known: TruthCache,
     assignment: Assignment,
     // how many searches found no place for an atom that no bond joins to an earlier one
     failures: u64,
@@ -29,7 +28,6 @@ impl Choices {
     /// Takes the memory.
     pub fn reserve(alloc: Global) -> Result<Choices, AllocError> {
         Ok(Choices {
-            known: TruthCache::reserve(alloc)?,
             assignment: Assignment::reserve(alloc)?,
             failures: 0,
         })
@@ -41,33 +39,35 @@ impl Choices {
     }
 
     /// Counts a failure.
-    pub fn fail(&mut self)
-        ensures { self.new.known ≡ self.old.known }
-    {
+    pub fn fail(&mut self) {
         self.failures = self.failures.wrapping_add(1);
     }
 
     /// Whether it is found that the graph cannot be completed after the atoms in front.
-    pub fn refuse(&mut self, task: &Task, front: &[u16]) -> bool
+    pub fn refuse(&mut self, task: &Task, candidates: &Candidates, front: &[u16]) -> bool
         requires ready { IsReadyTask task.now }
-        requires knows { Knows task.now self.old.known }
-        ensures refused { IsTrue result → ¬ Completes task.now front.now }
-        ensures knows { Knows task.now self.new.known }
+        requires candidates { AreCandidates task.now candidates.now.words.items }
+        ensures { IsTrue result → ¬ Completes task.now front.now }
     {
-        self.assignment.refuse(task, &mut self.known, front)
+        self.assignment.refuse(task, candidates, front)
     }
 
     /// The same, which is tried only if failures were counted since they were as many as these.
-    pub fn refuse_since(&mut self, failures: u64, task: &Task, front: &[u16]) -> bool
+    pub fn refuse_since(
+        &mut self,
+        failures: u64,
+        task: &Task,
+        candidates: &Candidates,
+        front: &[u16],
+    ) -> bool
         requires ready { IsReadyTask task.now }
-        requires knows { Knows task.now self.old.known }
-        ensures refused { IsTrue result → ¬ Completes task.now front.now }
-        ensures knows { Knows task.now self.new.known }
+        requires candidates { AreCandidates task.now candidates.now.words.items }
+        ensures { IsTrue result → ¬ Completes task.now front.now }
     {
         if self.failures == failures {
             return false;
         }
-        self.refuse(task, front)
+        self.refuse(task, candidates, front)
     }
 }
 
@@ -98,11 +98,10 @@ impl Assignment {
     }
 
     // Whether it is found that the graph cannot be completed after the atoms in front.
-    fn refuse(&mut self, task: &Task, known: &mut TruthCache, front: &[u16]) -> bool
+    fn refuse(&mut self, task: &Task, candidates: &Candidates, front: &[u16]) -> bool
         requires ready { IsReadyTask task.now }
-        requires knows { Knows task.now known.old }
-        ensures refused { IsTrue result → ¬ Completes task.now front.now }
-        ensures knows { Knows task.now known.new }
+        requires candidates { AreCandidates task.now candidates.now.words.items }
+        ensures { IsTrue result → ¬ Completes task.now front.now }
     {
         let places = task.graph.atoms.len();
         let atoms = task.mol.atoms().len();
@@ -113,19 +112,18 @@ impl Assignment {
             *holder = NONE;
         }
         for place in front.len()..places {
-            if !self.choose(task, known, front, place) {
-                return self.shows_why(task, known, front);
+            if !self.choose(task, candidates, front, place) {
+                return self.shows_why(task, candidates, front);
             }
         }
         false
     }
 
     // Whether the places and atoms that the last try reached show that the graph cannot be completed.
-    fn shows_why(&self, task: &Task, known: &mut TruthCache, front: &[u16]) -> bool
+    fn shows_why(&self, task: &Task, candidates: &Candidates, front: &[u16]) -> bool
         requires ready { IsReadyTask task.now }
-        requires knows { Knows task.now known.old }
-        ensures refused { IsTrue result → ¬ Completes task.now front.now }
-        ensures knows { Knows task.now known.new }
+        requires candidates { AreCandidates task.now candidates.now.words.items }
+        ensures { IsTrue result → ¬ Completes task.now front.now }
     {
         let places = task.graph.atoms.len();
         let atoms = task.mol.atoms().len();
@@ -134,7 +132,7 @@ impl Assignment {
         }
         excludes(
             task,
-            known,
+            candidates,
             front,
             &self.reached[..places],
             &self.seen[..atoms],
@@ -142,11 +140,10 @@ impl Assignment {
     }
 
     // Gives the place an atom, if it can have one.
-    fn choose(&mut self, task: &Task, known: &mut TruthCache, front: &[u16], place: usize) -> bool
+    fn choose(&mut self, task: &Task, candidates: &Candidates, front: &[u16], place: usize) -> bool
         requires ready { IsReadyTask task.now }
-        requires knows { Knows task.now known.old }
+        requires candidates { AreCandidates task.now candidates.now.words.items }
         requires place { place < length task.now.graph.now.atoms.items }
-        ensures { Knows task.now known.new }
     {
         let places = task.graph.atoms.len();
         let atoms = task.mol.atoms().len();
@@ -162,7 +159,7 @@ impl Assignment {
             if next >= last || usize::from(from) >= places {
                 return false;
             }
-            match self.step(task, known, front, from, last) {
+            match self.step(task, candidates, front, from, last) {
                 Some(more) => last = more,
                 None => return true,
             }
@@ -175,19 +172,18 @@ impl Assignment {
     fn step(
         &mut self,
         task: &Task,
-        known: &mut TruthCache,
+        candidates: &Candidates,
         front: &[u16],
         place: u16,
         queued: usize,
     ) -> Option<usize>
         requires ready { IsReadyTask task.now }
-        requires knows { Knows task.now known.old }
+        requires candidates { AreCandidates task.now candidates.now.words.items }
         requires place { place < length task.now.graph.now.atoms.items }
-        ensures { Knows task.now known.new }
     {
         let mut last = queued;
         for atom in 0..task.mol.atoms().len() as u16 {
-            if self.is_seen(atom) || !may_stand(task, known, front, usize::from(place), atom) {
+            if self.is_seen(atom) || !may_stand(task, candidates, front, usize::from(place), atom) {
                 continue;
             }
             let holder = self.see(atom, place);

@@ -3,29 +3,11 @@
 ghost use Rattle.std.specs.Prelude.{◌≡◌, ◌<◌, ℕ, ◌↔◌, length, slice_index_or, All, IsTrue};
 ghost use Rattle.std.specs.Int.{bit_at};
 ghost use Rattle.chem_core.specs.declared.mol.Atom.{Atom};
-ghost use Rattle.smarts_parse.specs.Embedding.{Matches};
-ghost use Rattle.smarts_parse.specs.Pattern.{graph_of, pattern_of, term_of};
+ghost use Rattle.smarts_parse.specs.Pattern.{term_of};
 ghost use Rattle.matcher.specs.Class.{class_at, class_of, Covers, PrimMayBe};
-ghost use Rattle.matcher.specs.Plan.{IsReady};
 
-use crate::plan::EarlierBonds;
-use chem_core::{Atom, Mol};
-use smarts_parse::{AtomPrim, Expr, Pattern};
-
-/// Whether an atom of the pattern's top graph, of which the steps are given, may stand at no atom of the molecule, as
-/// far as classes show.
-pub fn lacks_atom(pattern: &Pattern, steps: &[EarlierBonds], mol: &Mol) -> bool
-    requires { IsReady (graph_of pattern.now.top) steps.now }
-    ensures { IsTrue result → ¬ Matches (pattern_of pattern.now) mol.now }
-{
-    let present = classes_in(mol.atoms());
-    for step in &steps[..pattern.top.atoms.len()] {
-        if step.classes & present == 0 {
-            return true;
-        }
-    }
-    false
-}
+use chem_core::Atom;
+use smarts_parse::{AtomPrim, Expr};
 
 /// Whether the atom is of one of the classes.
 pub fn may_be(classes: u64, atom: Atom) -> bool
@@ -57,8 +39,8 @@ fn prim_classes(prim: AtomPrim) -> u64
     }
 }
 
-// The classes of the atoms.
-fn classes_in(atoms: &[Atom]) -> u64
+/// The classes of the atoms.
+pub fn classes_in(atoms: &[Atom]) -> u64
     ensures { All (λ x. bit_at result (class_of x) ≡ 1) atoms.now }
 {
     let mut all = 0;

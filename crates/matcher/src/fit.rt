@@ -1,15 +1,13 @@
 //! Whether the next atom of a graph may stand at an atom, where those before it are placed.
-ghost use Rattle.std.specs.Prelude.{◌≡◌, ◌<◌, ◌≤◌, ◌≢◌, ◌+◌, ◌++◌, ◌∷◌, [], ◌↔◌, ℕ, List, false, length, map, max, min, slice_index, All, Contains, IfNone, IfSome, IsTrue};
+ghost use Rattle.std.specs.Prelude.{◌≡◌, ◌<◌, ◌≤◌, ◌≢◌, ◌+◌, ◌++◌, ◌∷◌, [], ◌↔◌, ℕ, length, map, max, min, All, Contains, IfNone, IfSome, IsTrue};
 ghost use Rattle.chem_core.specs.Graph.{JoinsAt};
 ghost use Rattle.chem_core.specs.Molecule.{ends_of};
 ghost use Rattle.smarts_parse.specs.Embedding.{BondEmbeds};
 ghost use Rattle.smarts_parse.specs.Pattern.{bond_of, term_of};
 ghost use Rattle.smarts_parse.specs.Truth.{BondTrue};
-ghost use Rattle.matcher.specs.Known.{Knows};
-ghost use Rattle.matcher.specs.Task.{Completes, Embeds, FirstEmbeds, IsPlaced, IsReadyTask};
+ghost use Rattle.matcher.specs.Candidates.{IsTrueAt};
+ghost use Rattle.matcher.specs.Task.{FirstEmbeds, IsPlaced, IsReadyTask};
 
-use crate::class::may_be;
-use crate::known::TruthCache;
 use crate::plan::EarlierBonds;
 use chem_core::Mol;
 use smarts_mean::{RecTable, bond_true};
@@ -24,65 +22,27 @@ pub struct Task<'a> {
     pub steps: &'a [EarlierBonds],
 }
 
-/// Whether the next atom may stand at that one after the atoms in front. Its first bond to an earlier atom is known to
-/// embed, and is not looked at again.
-pub fn fits(task: &Task, known: &mut TruthCache, front: &[u16], atom: u16) -> bool
+/// Whether the next atom may stand at that one after the atoms in front. Its expression is known to be true there and
+/// its first bond to an earlier atom to embed, and neither is looked at again.
+pub fn fits(task: &Task, front: &[u16], atom: u16) -> bool
     requires ready { IsReadyTask task.now }
     requires few { length front.now < length task.now.graph.now.atoms.items }
     requires in_range { atom < length task.now.mol.now.atoms }
     requires partial { IsPlaced task.now front.now }
     requires first { FirstEmbeds task.now (length front.now) front.now atom }
-    requires knows { Knows task.now known.old }
-    ensures placed { IsTrue result ↔ IsPlaced task.now (front.now ++ atom ∷ []) }
-    ensures knows { Knows task.now known.new }
+    requires holds { IsTrueAt task.now (length front.now) atom }
+    ensures { IsTrue result ↔ IsPlaced task.now (front.now ++ atom ∷ []) }
 {
     let step = task.steps[front.len()];
     let others = step.others(&task.graph.bonds);
     if !is_new(front, atom) {
         return false;
     }
-    if !known.holds(task, front.len(), atom) {
-        return false;
-    }
     bonds_embed(others, task.mol, front, atom)
 }
 
-/// Whether the next atom may stand at that one after the atoms in front.
-pub fn begins(task: &Task, known: &mut TruthCache, front: &[u16], atom: u16) -> bool
-    requires ready { IsReadyTask task.now }
-    requires few { length front.now < length task.now.graph.now.atoms.items }
-    requires partial { IsPlaced task.now front.now }
-    requires knows { Knows task.now known.old }
-    ensures placed { IsTrue result → IsPlaced task.now (front.now ++ atom ∷ []) }
-    ensures knows { Knows task.now known.new }
-{
-    if usize::from(atom) >= task.mol.atoms().len() {
-        return false;
-    }
-    if !first_embeds(task, front, atom) {
-        return false;
-    }
-    fits(task, known, front, atom)
-}
-
-/// Whether the atom of the graph at a place may stand at that one, as far as classes show. It is asked before `fits`.
-pub fn is_of_class(task: &Task, place: usize, atom: u16) -> bool
-    requires ready { IsReadyTask task.now }
-    requires place { place < length task.now.graph.now.atoms.items }
-    requires atom { atom < length task.now.mol.now.atoms }
-    ensures begins { result ≡ false → (front : List ℕ) → length front ≡ place
-        → ¬ Completes task.now (front ++ atom ∷ []) }
-    ensures stands { result ≡ false → (image : List ℕ) → Embeds task.now image
-        → slice_index image place ≡ atom → ⊥ }
-{
-    may_be(
-        task.steps[place].classes,
-        task.mol.atoms()[usize::from(atom)],
-    )
-}
-
-// Whether the first bond of the next atom to an earlier one, if there is one, embeds with it there.
-fn first_embeds(task: &Task, front: &[u16], atom: u16) -> bool
+/// Whether the first bond of the next atom to an earlier one, if there is one, embeds with it there.
+pub fn first_embeds(task: &Task, front: &[u16], atom: u16) -> bool
     requires ready { IsReadyTask task.now }
     requires few { length front.now < length task.now.graph.now.atoms.items }
     requires partial { IsPlaced task.now front.now }

@@ -2,13 +2,13 @@
 //! stand; a place is taken where the image has an atom of the molecule.
 //!
 //! Nothing is promised where the search comes to its end, but where it does not, there is no embedding.
-ghost use Rattle.std.specs.Prelude.{◌≡◌, ◌<◌, ◌≤◌, ◌⊎◌, [], ℕ, List, false, length, slice_index, IfSome, IsTrue};
+ghost use Rattle.std.specs.Prelude.{◌∷◌, ◌++◌, ◌≡◌, ◌<◌, ◌≤◌, ◌⊎◌, [], ℕ, List, false, length, slice_index, IfSome, IsTrue};
 ghost use Rattle.matcher.specs.Hunt.{Asks, Continues, IsFree, stop_at};
-ghost use Rattle.matcher.specs.Known.{Knows};
-ghost use Rattle.matcher.specs.Task.{Completes, IsReadyTask};
+ghost use Rattle.matcher.specs.Candidates.{AreCandidates};
+ghost use Rattle.matcher.specs.Task.{Completes, IsPlaced, IsReadyTask};
 
-use crate::fit::{Task, are_joined_by, begins, is_of_class};
-use crate::known::TruthCache;
+use crate::candidates::Candidates;
+use crate::fit::{Task, are_joined_by, first_embeds, fits, is_new};
 use crate::lay::{NO_BOND, Placement};
 use crate::refusal::may_stand;
 use smarts_mean::bond_true;
@@ -20,7 +20,7 @@ use smarts_parse::PatBond;
 #[cycle(hunt)]
 pub fn may_continue(
     task: &Task,
-    known: &mut TruthCache,
+    candidates: &Candidates,
     stops: &[Placement],
     image: &mut [u16],
     placed: usize,
@@ -28,8 +28,7 @@ pub fn may_continue(
     requires ready { IsReadyTask task.now }
     requires room { length task.now.graph.now.atoms.items ≤ length image.old }
     requires placed { placed ≤ length stops.now }
-    requires knows { Knows task.now known.old }
-    ensures knows { Knows task.now known.new }
+    requires candidates { AreCandidates task.now candidates.now.words.items }
     ensures kept { result ≡ false → image.new ≡ image.old }
     ensures none { result ≡ false → (whole : List ℕ) → ¬ Continues task.now image.old whole }
 {
@@ -42,8 +41,8 @@ pub fn may_continue(
         return true;
     }
     match atom_before(task, image, stop) {
-        Some(from) => continues_near(task, known, stops, image, placed, from),
-        None => continues_anywhere(task, known, stops, image, placed),
+        Some(from) => continues_near(task, candidates, stops, image, placed, from),
+        None => continues_anywhere(task, candidates, stops, image, placed),
     }
 }
 
@@ -51,7 +50,7 @@ pub fn may_continue(
 #[cycle(hunt)]
 fn continues_anywhere(
     task: &Task,
-    known: &mut TruthCache,
+    candidates: &Candidates,
     stops: &[Placement],
     image: &mut [u16],
     placed: usize,
@@ -60,17 +59,16 @@ fn continues_anywhere(
     requires room { length task.now.graph.now.atoms.items ≤ length image.old }
     requires placed { placed < length stops.now }
     requires free { IsFree task.now stops.now placed image.old }
-    requires knows { Knows task.now known.old }
-    ensures knows { Knows task.now known.new }
+    requires candidates { AreCandidates task.now candidates.now.words.items }
     ensures kept { result ≡ false → image.new ≡ image.old }
     ensures none { result ≡ false → (whole : List ℕ) → ¬ Continues task.now image.old whole }
 {
     let place = usize::from(stops[placed].place);
     for atom in 0..task.mol.atoms().len() as u16 {
-        if !is_of_class(task, place, atom) {
+        if !candidates.has(place, atom) {
             continue;
         }
-        if continues_at(task, known, stops, image, placed, atom) {
+        if continues_at(task, candidates, stops, image, placed, atom) {
             return true;
         }
     }
@@ -81,7 +79,7 @@ fn continues_anywhere(
 #[cycle(hunt)]
 fn continues_near(
     task: &Task,
-    known: &mut TruthCache,
+    candidates: &Candidates,
     stops: &[Placement],
     image: &mut [u16],
     placed: usize,
@@ -94,8 +92,7 @@ fn continues_near(
     requires from { from < length task.now.mol.now.atoms }
     requires bond { (stop_at stops.now placed).bond < length task.now.graph.now.bonds.items }
     requires asks { Asks task.now image.old (stop_at stops.now placed).place from (stop_at stops.now placed).bond }
-    requires knows { Knows task.now known.old }
-    ensures knows { Knows task.now known.new }
+    requires candidates { AreCandidates task.now candidates.now.words.items }
     ensures kept { result ≡ false → image.new ≡ image.old }
     ensures none { result ≡ false → (whole : List ℕ) → ¬ Continues task.now image.old whole }
 {
@@ -103,13 +100,13 @@ fn continues_near(
     let bond = &task.graph.bonds[usize::from(stops[placed].bond)];
     let neighbours = task.mol.neighbours(from);
     for (atom, by) in neighbours {
-        if !is_of_class(task, place, *atom) {
+        if !candidates.has(place, *atom) {
             continue;
         }
         if !bond_true(&bond.expr, task.mol, *by) {
             continue;
         }
-        if continues_at(task, known, stops, image, placed, *atom) {
+        if continues_at(task, candidates, stops, image, placed, *atom) {
             return true;
         }
     }
@@ -120,7 +117,7 @@ fn continues_near(
 #[cycle(hunt)]
 fn continues_at(
     task: &Task,
-    known: &mut TruthCache,
+    candidates: &Candidates,
     stops: &[Placement],
     image: &mut [u16],
     placed: usize,
@@ -131,20 +128,19 @@ fn continues_at(
     requires placed { placed < length stops.now }
     requires free { IsFree task.now stops.now placed image.old }
     requires atom { atom < length task.now.mol.now.atoms }
-    requires knows { Knows task.now known.old }
-    ensures knows { Knows task.now known.new }
+    requires candidates { AreCandidates task.now candidates.now.words.items }
     ensures kept { result ≡ false → image.new ≡ image.old }
     ensures none { result ≡ false → (whole : List ℕ) → Continues task.now image.old whole
         → slice_index whole (stop_at stops.now placed).place ≡ atom → ⊥ }
 {
     let stop = stops[placed];
-    if !may_take(task, known, image, stop, atom) {
+    if !may_take(task, candidates, image, stop, atom) {
         return false;
     }
     let place = usize::from(stop.place);
     let before = image[place];
     image[place] = atom;
-    if may_continue(task, known, stops, image, placed + 1) {
+    if may_continue(task, candidates, stops, image, placed + 1) {
         return true;
     }
     image[place] = before;
@@ -152,21 +148,21 @@ fn continues_at(
 }
 
 // Whether the place of a stop may stand at that atom.
-fn may_take(task: &Task, known: &mut TruthCache, image: &[u16], stop: Placement, atom: u16) -> bool
+fn may_take(task: &Task, candidates: &Candidates, image: &[u16], stop: Placement, atom: u16) -> bool
     requires ready { IsReadyTask task.now }
     requires room { length task.now.graph.now.atoms.items ≤ length image.now }
     requires place { stop.place < length task.now.graph.now.atoms.items }
     requires free { length task.now.mol.now.atoms ≤ slice_index image.now stop.place }
     requires atom { atom < length task.now.mol.now.atoms }
-    requires knows { Knows task.now known.old }
-    ensures knows { Knows task.now known.new }
-    ensures none { result ≡ false → (whole : List ℕ) → Continues task.now image.now whole
+    requires candidates { AreCandidates task.now candidates.now.words.items }
+    ensures { result ≡ false → (whole : List ℕ) → Continues task.now image.now whole
         → slice_index whole stop.place ≡ atom → ⊥ }
 {
-    if !may_stand(task, known, &[], usize::from(stop.place), atom) {
+    if !may_stand(task, candidates, &[], usize::from(stop.place), atom) {
         return false;
     }
-    if image[..task.graph.atoms.len()].contains(&atom) {
+    let places = task.graph.atoms.len();
+    if !is_new(&image[..places], atom) {
         return false;
     }
     stop.bond == NO_BOND || closes(task, image, stop, atom)
@@ -236,17 +232,36 @@ pub fn other_end(bond: &PatBond, place: u16) -> Option<u16>
 }
 
 /// Whether the atoms at the front of an image are an embedding.
-pub fn is_whole(task: &Task, known: &mut TruthCache, image: &[u16]) -> bool
+pub fn is_whole(task: &Task, candidates: &Candidates, image: &[u16]) -> bool
     requires ready { IsReadyTask task.now }
     requires room { length task.now.graph.now.atoms.items ≤ length image.now }
-    requires knows { Knows task.now known.old }
-    ensures whole { IsTrue result → Completes task.now [] }
-    ensures knows { Knows task.now known.new }
+    requires candidates { AreCandidates task.now candidates.now.words.items }
+    ensures { IsTrue result → Completes task.now [] }
 {
     for placed in 0..task.graph.atoms.len() {
-        if !begins(task, known, &image[..placed], image[placed]) {
+        if !begins(task, candidates, &image[..placed], image[placed]) {
             return false;
         }
     }
     true
+}
+
+// Whether the next atom may stand at that one after the atoms in front.
+fn begins(task: &Task, candidates: &Candidates, front: &[u16], atom: u16) -> bool
+    requires ready { IsReadyTask task.now }
+    requires few { length front.now < length task.now.graph.now.atoms.items }
+    requires partial { IsPlaced task.now front.now }
+    requires candidates { AreCandidates task.now candidates.now.words.items }
+    ensures { IsTrue result → IsPlaced task.now (front.now ++ atom ∷ []) }
+{
+    if usize::from(atom) >= task.mol.atoms().len() {
+        return false;
+    }
+    if !candidates.has(front.len(), atom) {
+        return false;
+    }
+    if !first_embeds(task, front, atom) {
+        return false;
+    }
+    fits(task, front, atom)
 }

@@ -3,19 +3,19 @@
 //! A molecule that lacks atoms of a class that the pattern asks for, or a ring that one of the pattern's can lie at, is
 //! refused at once. Then the pattern's atoms are placed in turn. One that a bond joins to an earlier one goes along the
 //! bonds of the molecule from there; any other goes anywhere. Where any embedding serves, the first placed is one that
-//! few atoms can take, and components of several atoms are first searched for by themselves. In the search for a graph
-//! each expression is asked at most once at each atom. The number of tries is not bounded.
+//! few atoms can take, and components of several atoms are first searched for by themselves. Each expression is asked
+//! once at each atom before a graph is searched for. The number of tries is not bounded.
 //!
 //! What depends on the pattern alone is worked out once, by `Scratch::prepare`, for searches in any number of
 //! molecules.
 #![tactic(auto)]
 
 mod answer;
+mod candidates;
 mod choices;
 mod class;
 mod fit;
 mod hunt;
-mod known;
 mod lay;
 mod narrow;
 mod parts;

@@ -1,31 +1,46 @@
-//! At which atoms each place of a graph may stand, in a molecule of at most 64 atoms: a word for a place, with a bit for
-//! each atom. At first these are the atoms of its classes. One that has fewer neighbours among the candidates of the
-//! places next to it than there are such places is no candidate (Ullmann 1976; Solnon 2010). Where a place has none
-//! left, the graph has no embedding.
-ghost use Rattle.std.specs.Prelude.{◌≡◌, ◌<◌, ◌≤◌, ◌↔◌, [], ℕ, bit_and, count_ones, false, length, slice_index, slice_index_or, vec_len, IsTrue};
+//! Fewer candidates of the places of a graph, in a molecule of at most 64 atoms. One that has fewer neighbours among the
+//! candidates of the places next to it than there are such places is no candidate (Ullmann 1976; Solnon 2010). Where a
+//! place has none left, the graph has no embedding.
+ghost use Rattle.std.specs.Prelude.{◌≡◌, ◌≢◌, ◌<◌, ◌≤◌, ◌↔◌, [], ℕ, bit_and, count_ones, false, length, slice_index, slice_index_or, vec_len, IsTrue};
 ghost use Rattle.std.specs.Int.{bit_at};
 ghost use Rattle.smarts_parse.specs.Pattern.{graph_of};
-ghost use Rattle.matcher.specs.Narrow.{AreAround, AreCandidates, AreNear, AreOfClasses, AreRingNear, HasClasses, IsReach};
+ghost use Rattle.matcher.specs.Candidates.{AreCandidates};
+ghost use Rattle.matcher.specs.Narrow.{AreNear, AreRingNear, HasAround, IsReach, around_at, more_around};
 ghost use Rattle.matcher.specs.Task.{Completes, IsReadyTask};
-ghost use Rattle.matcher.specs.Plan.{step_at};
 
-use crate::class::may_be;
+use crate::candidates::{Candidates, MOST_WORDS};
 use crate::fit::Task;
-use crate::hunt::other_end;
-use crate::known::has;
 use crate::planned::MOST_PLACES;
 use crate::ring::mark_rings;
-use chem_core::{Atom, Mol};
+use chem_core::Mol;
 use std::alloc::{AllocError, Global};
 
 /// The most atoms of a molecule whose candidates are kept.
 const MOST_BITS: usize = 64;
 
-/// Candidates, and the neighbours of each atom.
+/// From as many places of a graph on its candidates are narrowed.
+const MANY_PLACES: usize = 6;
+
+/// How many passes over all places a narrowing has.
+const ROUNDS: usize = 3;
+
+/// How many narrowings in vain, more than twice the others, end them all.
+const MOST_CREDIT: u8 = 8;
+
+/// Memory for narrowing, and whether it pays for the pattern.
 #[derive(Debug, Drop)]
-pub struct Candidates {
-    // for each place the atoms where it may stand
-    words: Vec<u64>,
+pub struct Narrowing {
+    reach: Reach,
+    // for each place what the bonds of the last pass lead to
+    around: Vec<Around>,
+    // 0 where narrowing does not pay: then no more is tried
+    credit: u8,
+    ghost room: { vec_len around ≡ 256 },
+}
+
+/// How far the bonds of a graph reach in a molecule.
+#[derive(Debug, Drop)]
+struct Reach {
     // for each atom its neighbours, and those by ring bonds
     near: Vec<u64>,
     ring_near: Vec<u64>,
@@ -33,19 +48,66 @@ pub struct Candidates {
     on_ring: Vec<bool>,
     // the same for all bonds: whether some bond is not known to
     is_open: Vec<bool>,
-    ghost words_room: { vec_len words ≡ 256 },
     ghost near_room: { vec_len near ≡ 64 },
     ghost ring_near_room: { vec_len ring_near ≡ 64 },
     ghost on_ring_room: { vec_len on_ring ≡ 256 },
 }
 
-impl Candidates {
-    ghost use Rattle.matcher.specs.Ring.{AreOnRings};
+/// As many places, all different, and atoms with all their candidates.
+#[derive(Clone, Copy, Debug)]
+struct Around {
+    count: usize,
+    atoms: u64,
+}
 
+/// No places.
+const NONE_AROUND: Around = Around { count: 0, atoms: 0 };
+
+impl Narrowing {
     /// Takes the memory.
-    pub fn reserve(alloc: Global) -> Result<Candidates, AllocError> {
-        Ok(Candidates {
-            words: vec![in alloc; 0; MOST_PLACES]?,
+    pub fn reserve(alloc: Global) -> Result<Narrowing, AllocError> {
+        Ok(Narrowing {
+            reach: Reach::reserve(alloc)?,
+            around: vec![in alloc; NONE_AROUND; MOST_PLACES]?,
+            credit: MOST_CREDIT,
+        })
+    }
+
+    /// Begins anew, for another pattern.
+    pub fn begin(&mut self) {
+        self.credit = MOST_CREDIT;
+    }
+
+    /// Takes away candidates, if that pays for the pattern. Whether it is found that the graph has no embedding.
+    pub fn refuse(&mut self, task: &Task, candidates: &mut Candidates) -> bool
+        requires ready { IsReadyTask task.now }
+        requires candidates { AreCandidates task.now candidates.old.words.items }
+        ensures refused { IsTrue result → ¬ Completes task.now [] }
+        ensures candidates { AreCandidates task.now candidates.new.words.items }
+    {
+        if self.credit == 0 || task.graph.atoms.len() < MANY_PLACES {
+            return false;
+        }
+        if task.mol.atoms().len() > MOST_BITS {
+            return false;
+        }
+        self.reach.note(task);
+        let words = &mut candidates.words;
+        let refused = self.reach.narrow(task, &mut self.around, words);
+        self.credit = if refused {
+            self.credit.saturating_add(2).min(MOST_CREDIT)
+        } else {
+            self.credit - 1
+        };
+        refused
+    }
+}
+
+impl Reach {
+    ghost use Rattle.matcher.specs.Narrow.{IsNoted};
+
+    fn reserve(alloc: Global) -> Result<Reach, AllocError> {
+        Ok(Reach {
             near: vec![in alloc; 0; MOST_BITS]?,
             ring_near: vec![in alloc; 0; MOST_BITS]?,
             on_ring: vec![in alloc; false; MOST_PLACES]?,
@@ -53,39 +115,51 @@ impl Candidates {
         })
     }
 
-    /// Whether it is found that the graph has no embedding.
-    pub fn refuse(&mut self, task: &Task) -> bool
-        requires { IsReadyTask task.now }
-        ensures { IsTrue result → ¬ Completes task.now [] }
+    // Notes the neighbours of each atom, and which bonds of the graph lie on its rings.
+    fn note(&mut self, task: &Task)
+        requires ready { IsReadyTask task.now }
+        requires few { length task.now.mol.now.atoms ≤ 64 }
+        ensures { IsNoted task.now self.new.on_ring.items self.new.near.items self.new.ring_near.items }
     {
-        if task.mol.atoms().len() > MOST_BITS {
-            return false;
-        }
-        note_classes(task, &mut self.words);
         mark_rings(task, &mut self.on_ring);
         let open = !has_all(task, &self.on_ring);
         self.is_open.fill(open);
         note_neighbours(task.mol, &mut self.near);
         note_ring_neighbours(task.mol, &mut self.ring_near);
-        self.narrow(task) || self.narrow(task)
     }
 
-    // Takes away candidates of each place, by bonds on rings first. Whether one has none left.
-    fn narrow(&mut self, task: &Task) -> bool
+    // Takes away candidates of each place. Whether one has none left.
+    fn narrow(&self, task: &Task, around: &mut [Around], words: &mut [u64]) -> bool
         requires ready { IsReadyTask task.now }
+        requires room { length words.old ≡ MOST_WORDS }
+        requires around { length around.old ≡ 256 }
         requires few { length task.now.mol.now.atoms ≤ 64 }
-        requires rings { AreOnRings task.now self.old.on_ring.items }
-        requires near { AreNear task.now.mol.now self.old.near.items }
-        requires ring_near { AreRingNear task.now.mol.now self.old.ring_near.items }
-        requires candidates { AreCandidates task.now self.old.words.items }
+        requires noted { IsNoted task.now self.now.on_ring.items self.now.near.items self.now.ring_near.items }
+        requires candidates { AreCandidates task.now words.old }
         ensures refused { IsTrue result → ¬ Completes task.now [] }
-        ensures rings { AreOnRings task.now self.new.on_ring.items }
-        ensures near { AreNear task.now.mol.now self.new.near.items }
-        ensures ring_near { AreRingNear task.now.mol.now self.new.ring_near.items }
-        ensures candidates { AreCandidates task.now self.new.words.items }
+        ensures candidates { AreCandidates task.now words.new }
     {
-        narrow_all(task, &self.on_ring, &self.ring_near, &mut self.words)
-            || narrow_all(task, &self.is_open, &self.near, &mut self.words)
+        for _ in 0..ROUNDS {
+            if self.narrow_once(task, around, words) {
+                return true;
+            }
+        }
+        false
+    }
+
+    // The same in one pass: by bonds on rings first.
+    fn narrow_once(&self, task: &Task, around: &mut [Around], words: &mut [u64]) -> bool
+        requires ready { IsReadyTask task.now }
+        requires room { length words.old ≡ MOST_WORDS }
+        requires around { length around.old ≡ 256 }
+        requires few { length task.now.mol.now.atoms ≤ 64 }
+        requires noted { IsNoted task.now self.now.on_ring.items self.now.near.items self.now.ring_near.items }
+        requires candidates { AreCandidates task.now words.old }
+        ensures refused { IsTrue result → ¬ Completes task.now [] }
+        ensures candidates { AreCandidates task.now words.new }
+    {
+        narrow_all(task, &self.on_ring, &self.ring_near, around, words)
+            || narrow_all(task, &self.is_open, &self.near, around, words)
     }
 }
 
@@ -132,53 +206,17 @@ fn join(near: &mut [u64], atom: u16, other: u16)
     near[usize::from(atom)] |= 1 << other;
 }
 
-// Notes for each place the atoms of its classes.
-fn note_classes(task: &Task, words: &mut [u64])
-    requires ready { IsReadyTask task.now }
-    requires atoms { length task.now.mol.now.atoms ≤ 64 }
-    requires room { length words.old ≡ 256 }
-    ensures { AreCandidates task.now words.new }
-{
-    for place in 0..task.graph.atoms.len() {
-        words[place] = class_word(task, words, place);
-    }
-}
-
-// The atoms of the classes of a place, which those of the place before often are.
-fn class_word(task: &Task, words: &[u64], place: usize) -> u64
-    requires ready { IsReadyTask task.now }
-    requires atoms { length task.now.mol.now.atoms ≤ 64 }
-    requires room { length words.now ≡ 256 }
-    requires place { place < length task.now.graph.now.atoms.items }
-    requires before { AreOfClasses task.now place words.now }
-    ensures { HasClasses task.now.mol.now.atoms (step_at task.now.steps.now place).classes result }
-{
-    let classes = task.steps[place].classes;
-    if place > 0 && task.steps[place - 1].classes == classes {
-        return words[place - 1];
-    }
-    atoms_of(task.mol.atoms(), classes)
-}
-
-// The atoms of the classes.
-fn atoms_of(atoms: &[Atom], classes: u64) -> u64
-    requires { length atoms.now ≤ 64 }
-    ensures { HasClasses atoms.now classes result }
-{
-    let mut word = 0;
-    for (place, atom) in atoms.iter().enumerate() {
-        if !may_be(classes, *atom) {
-            continue;
-        }
-        word |= 1 << place;
-    }
-    word
-}
-
 // Takes away candidates of each place by marked bonds, if there are some. Whether one has none left.
-fn narrow_all(task: &Task, marks: &[bool], near: &[u64], words: &mut [u64]) -> bool
+fn narrow_all(
+    task: &Task,
+    marks: &[bool],
+    near: &[u64],
+    around: &mut [Around],
+    words: &mut [u64],
+) -> bool
     requires ready { IsReadyTask task.now }
-    requires room { length words.old ≡ 256 }
+    requires room { length words.old ≡ MOST_WORDS }
+    requires around { length around.old ≡ 256 }
     requires atoms { length near.now ≡ 64 }
     requires few { length task.now.mol.now.atoms ≤ 64 }
     requires reach { IsReach task.now marks.now near.now }
@@ -189,8 +227,9 @@ fn narrow_all(task: &Task, marks: &[bool], near: &[u64], words: &mut [u64]) -> b
     if !has_mark(task, marks) {
         return false;
     }
+    gather(task, marks, near, words, around);
     for place in 0..task.graph.atoms.len() {
-        narrow(task, marks, near, words, place);
+        words[place] = with_neighbours(near, words[place], around[place]);
         if words[place] == 0 {
             return true;
         }
@@ -198,52 +237,42 @@ fn narrow_all(task: &Task, marks: &[bool], near: &[u64], words: &mut [u64]) -> b
     false
 }
 
-// Takes away those candidates of a place that have too few neighbours.
-fn narrow(task: &Task, marks: &[bool], near: &[u64], words: &mut [u64], place: usize)
+// Finds for each place those to which marked bonds lead from it.
+fn gather(task: &Task, marks: &[bool], near: &[u64], words: &[u64], around: &mut [Around])
     requires ready { IsReadyTask task.now }
-    requires room { length words.old ≡ 256 }
-    requires atoms { length near.now ≡ 64 }
+    requires room { length words.now ≡ MOST_WORDS }
+    requires around { length around.old ≡ 256 }
     requires few { length task.now.mol.now.atoms ≤ 64 }
-    requires place { place < length task.now.graph.now.atoms.items }
     requires reach { IsReach task.now marks.now near.now }
-    requires candidates { AreCandidates task.now words.old }
-    ensures { AreCandidates task.now words.new }
+    requires candidates { AreCandidates task.now words.now }
+    ensures { (p : ℕ) → p < length task.now.graph.now.atoms.items
+        → HasAround task.now near.now p (around_at around.new p) }
 {
-    let around = places_around(task, marks, words, place);
-    let atoms = task.mol.atoms().len();
-    let kept = with_neighbours(near, atoms, words[place], around);
-    words[place] = kept;
-}
-
-// As many places, all different, and atoms with all their candidates.
-#[derive(Clone, Copy)]
-struct Around {
-    count: usize,
-    atoms: u64,
-}
-
-// The places to which a marked bond leads from one.
-fn places_around(task: &Task, marks: &[bool], words: &[u64], place: usize) -> Around
-    requires ready { IsReadyTask task.now }
-    requires place { place < length task.now.graph.now.atoms.items }
-    requires room { length words.now ≡ 256 }
-    ensures { let g = graph_of task.now.graph.now
-        in AreAround g marks.now words.now place (length g.bonds) result.atoms result.count }
-{
-    let mut around = Around { count: 0, atoms: 0 };
+    for place in 0..task.graph.atoms.len() {
+        around[place] = NONE_AROUND;
+    }
     for (index, bond) in task.graph.bonds.iter().enumerate() {
         if !is_marked(marks, index) {
             continue;
         }
-        let Some(other) = other_end(bond, place as u16) else {
-            continue;
-        };
-        around = Around {
-            count: around.count + 1,
-            atoms: around.atoms | words[usize::from(other)],
-        };
+        lead(around, words, bond.a, bond.b);
+        lead(around, words, bond.b, bond.a);
     }
-    around
+}
+
+// Notes that a bond leads from one place to another.
+fn lead(around: &mut [Around], words: &[u64], from: u16, to: u16)
+    requires from { from < length around.old }
+    requires to { to < length words.now }
+    requires few { (around_at around.old from).count < usize.MAX }
+    ensures here { around_at around.new from ≡ more_around (around_at around.old from) (slice_index words.now to) }
+    ensures others { (p : ℕ) → p ≢ from → around_at around.new p ≡ around_at around.old p }
+{
+    let before = around[usize::from(from)];
+    around[usize::from(from)] = Around {
+        count: before.count + 1,
+        atoms: before.atoms | words[usize::from(to)],
+    };
 }
 
 // Whether some bond of the graph is marked.
@@ -275,23 +304,26 @@ fn is_marked(marks: &[bool], index: usize) -> bool
     }
 }
 
-// Those of the first atoms in the word that have as many neighbours around.
-fn with_neighbours(near: &[u64], atoms: usize, from: u64, around: Around) -> u64
-    requires few { atoms ≤ 64 }
+// Those atoms in the word that have as many neighbours around.
+fn with_neighbours(near: &[u64], from: u64, around: Around) -> u64
     requires room { length near.now ≡ 64 }
-    ensures { (a : ℕ) → a < atoms → bit_at from a ≡ 1
+    ensures kept { (a : ℕ) → a < 64 → bit_at from a ≡ 1
         → around.count ≤ count_ones (bit_and (slice_index near.now a) around.atoms)
         → bit_at result a ≡ 1 }
+    ensures within { (a : ℕ) → bit_at result a ≡ 1 → bit_at from a ≡ 1 }
 {
-    let mut kept = 0;
-    for atom in 0..atoms {
-        if !has(from, atom as u16) {
+    let mut left = from;
+    let mut kept = from;
+    for _ in 0..from.count_ones() {
+        let atom = left.trailing_zeros();
+        if atom >= 64 {
+            return kept;
+        }
+        left &= left.wrapping_sub(1);
+        if has_ones(near[atom as usize] & around.atoms, around.count) {
             continue;
         }
-        if !has_ones(near[atom] & around.atoms, around.count) {
-            continue;
-        }
-        kept |= 1 << atom;
+        kept &= !(1 << atom);
     }
     kept
 }

@@ -5,14 +5,14 @@ ghost use Rattle.std.specs.Prelude.{◌≡◌, ◌<◌, ◌≤◌, ◌+◌, ◌�
 ghost use Rattle.smarts_mean.specs.Table.{HoldsIn};
 ghost use Rattle.smarts_parse.specs.Pattern.{graph_of, pattern_of};
 ghost use Rattle.smarts_parse.specs.Sound.{IsSoundPattern};
-ghost use Rattle.matcher.specs.Known.{IsKnowledge};
+ghost use Rattle.matcher.specs.Candidates.{AreTruthsIn};
 ghost use Rattle.matcher.specs.Partial.{CanComplete};
 ghost use Rattle.matcher.specs.Parts.{AreNoted};
 ghost use Rattle.matcher.specs.Plan.{IsReady};
 ghost use Rattle.matcher.specs.Prepared.{IsPrepared};
 
 use crate::class::may_be;
-use crate::fit::{Task, is_of_class};
+use crate::fit::Task;
 use crate::plan::EarlierBonds;
 use crate::prepare::Prepared;
 use crate::scratch::Memory;
@@ -53,8 +53,13 @@ fn note_part(pattern: &Pattern, prepared: &Prepared, mol: &Mol, memory: &mut Mem
     let steps = prepared.plans.part(pattern, part);
     let classes = prepared.wanted.at(part);
     let atoms = mol.atoms();
-    let known = &mut memory.choices.known;
-    known.clear(graph.atoms.len(), atoms.len());
+    let task = Task {
+        graph,
+        mol,
+        table: &memory.table,
+        steps,
+    };
+    memory.candidates.find(&task);
     for atom in 0..atoms.len() as u16 {
         if !may_be(classes, atoms[usize::from(atom)]) {
             continue;
@@ -75,13 +80,12 @@ fn begins_at(
     requires ready { IsReady (graph_of graph.now) steps.now }
     requires some { 0 < length graph.now.atoms.items }
     requires in_range { atom < length mol.now.atoms }
-    requires knows { IsKnowledge (HoldsIn memory.old.table) (graph_of graph.now) mol.now
-        memory.old.choices.known }
-    ensures knows { IsKnowledge (HoldsIn memory.new.table) (graph_of graph.now) mol.now
-        memory.new.choices.known }
+    requires truths { AreTruthsIn (HoldsIn memory.old.table) (graph_of graph.now) mol.now
+        memory.old.candidates.words.items }
     ensures found { IsTrue result
         ↔ CanComplete (HoldsIn memory.old.table) (graph_of graph.now) mol.now (atom ∷ []) }
     ensures table { memory.new.table ≡ memory.old.table }
+    ensures candidates { memory.new.candidates ≡ memory.old.candidates }
 {
     let task = Task {
         graph,
@@ -89,8 +93,10 @@ fn begins_at(
         table: &memory.table,
         steps,
     };
-    if !is_of_class(&task, 0, atom) {
+    if !memory.candidates.has(0, atom) {
         return false;
     }
-    extend_at(&task, &mut memory.image, &mut memory.choices, 0, atom)
+    let image = &mut memory.image;
+    let choices = &mut memory.choices;
+    extend_at(&task, &memory.candidates, image, choices, 0, atom)
 }

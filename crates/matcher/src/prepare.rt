@@ -1,10 +1,12 @@
 //! What is worked out of a pattern alone, once for searches in any number of molecules: the steps of its graphs, the
 //! atoms at which its recursive parts are asked, and an order for the search.
-use crate::answer::only_part;
+ghost use Rattle.std.specs.Prelude.{◌≡◌, ◌+◌, ◌∷◌, [], length, map, IfSome};
+ghost use Rattle.smarts_parse.specs.Pattern.{Prim, term_of};
+
 use crate::lay::Order;
 use crate::planned::Plans;
 use crate::wanted::Wanted;
-use smarts_parse::Pattern;
+use smarts_parse::{AtomPrim, Expr, Pattern};
 use std::alloc::{AllocError, Global};
 
 /// What is worked out of a pattern alone.
@@ -43,4 +45,26 @@ impl Prepared {
             None => self.order.lay(&pattern.top, self.plans.top(pattern)),
         }
     }
+}
+
+/// The number of the last recursive part, if the pattern asks for this part at one atom and for nothing else.
+pub fn only_part(pattern: &Pattern) -> Option<usize>
+    ensures { IfSome result (λ part. (part + 1 ≡ length pattern.now.recs.items)
+        × (map term_of pattern.now.top.atoms.items ≡ Prim (AtomPrim.Rec part) ∷ [])) }
+{
+    if pattern.top.atoms.len() != 1 {
+        return None;
+    }
+    let Expr::Prim(prim) = &pattern.top.atoms[0] else {
+        return None;
+    };
+    let AtomPrim::Rec(named) = *prim else {
+        return None;
+    };
+    let part = usize::from(named);
+    let count = pattern.recs.len();
+    if count == 0 || part != count - 1 {
+        return None;
+    }
+    Some(part)
 }

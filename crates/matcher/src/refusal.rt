@@ -2,25 +2,42 @@
 ghost use Rattle.std.specs.Prelude.{◌≡◌, ◌<◌, ◌≤◌, ◌++◌, [], ℕ, List, false, true, count_by, length, max, slice_index, slice_index_or, IsTrue};
 ghost use Rattle.chem_core.specs.Graph.{JoinsAt};
 ghost use Rattle.chem_core.specs.Molecule.{ends_of};
-ghost use Rattle.smarts_parse.specs.Pattern.{term_of};
+ghost use Rattle.smarts_parse.specs.Embedding.{Matches};
+ghost use Rattle.smarts_parse.specs.Pattern.{graph_of, pattern_of, term_of};
 ghost use Rattle.smarts_parse.specs.Truth.{BondTrue};
 ghost use Rattle.matcher.specs.Class.{is_among, is_within};
-ghost use Rattle.matcher.specs.Known.{Knows};
+ghost use Rattle.matcher.specs.Candidates.{AreCandidates};
+ghost use Rattle.matcher.specs.Plan.{IsReady};
 ghost use Rattle.matcher.specs.Task.{Completes, Embeds, IsReadyTask};
 
-use crate::class::may_be;
+use crate::candidates::Candidates;
+use crate::class::{classes_in, may_be};
 use crate::fit::{Task, is_new};
-use crate::known::TruthCache;
 use crate::plan::EarlierBonds;
-use chem_core::Atom;
+use chem_core::{Atom, Mol};
 use smarts_mean::bond_true;
-use smarts_parse::PatBond;
+use smarts_parse::{PatBond, Pattern};
+
+/// Whether an atom of the pattern's top graph, of which the steps are given, may stand at no atom of the molecule, as
+/// far as classes show.
+pub fn lacks_atom(pattern: &Pattern, steps: &[EarlierBonds], mol: &Mol) -> bool
+    requires { IsReady (graph_of pattern.now.top) steps.now }
+    ensures { IsTrue result → ¬ Matches (pattern_of pattern.now) mol.now }
+{
+    let present = classes_in(mol.atoms());
+    for step in &steps[..pattern.top.atoms.len()] {
+        if step.classes & present == 0 {
+            return true;
+        }
+    }
+    false
+}
 
 /// Whether the places of a graph that are marked are more than the atoms that are marked, and can stand, where the
 /// atoms in front are taken, at these alone. Then the graph cannot be completed.
 pub fn excludes(
     task: &Task,
-    known: &mut TruthCache,
+    candidates: &Candidates,
     front: &[u16],
     places: &[bool],
     atoms: &[bool],
@@ -28,9 +45,8 @@ pub fn excludes(
     requires ready { IsReadyTask task.now }
     requires places { length places.now ≤ length task.now.graph.now.atoms.items }
     requires atoms { length atoms.now ≡ length task.now.mol.now.atoms }
-    requires knows { Knows task.now known.old }
-    ensures refused { IsTrue result → ¬ Completes task.now front.now }
-    ensures knows { Knows task.now known.new }
+    requires candidates { AreCandidates task.now candidates.now.words.items }
+    ensures { IsTrue result → ¬ Completes task.now front.now }
 {
     if marked(places) <= marked(atoms) {
         return false;
@@ -39,7 +55,7 @@ pub fn excludes(
         if !places[place] {
             continue;
         }
-        if !stays_within(task, known, front, atoms, place) {
+        if !stays_within(task, candidates, front, atoms, place) {
             return false;
         }
     }
@@ -97,7 +113,7 @@ fn marked(marks: &[bool]) -> usize
 // Whether the place, which is not in front, can stand only at marked atoms or where those in front stand.
 fn stays_within(
     task: &Task,
-    known: &mut TruthCache,
+    candidates: &Candidates,
     front: &[u16],
     atoms: &[bool],
     place: usize,
@@ -105,11 +121,10 @@ fn stays_within(
     requires ready { IsReadyTask task.now }
     requires place { place < length task.now.graph.now.atoms.items }
     requires atoms { length atoms.now ≡ length task.now.mol.now.atoms }
-    requires knows { Knows task.now known.old }
-    ensures within { IsTrue result → (rest : List ℕ)
+    requires candidates { AreCandidates task.now candidates.now.words.items }
+    ensures { IsTrue result → (rest : List ℕ)
         → Embeds task.now (front.now ++ rest)
         → slice_index_or atoms.now (slice_index (front.now ++ rest) place) false ≡ true }
-    ensures knows { Knows task.now known.new }
 {
     if place < front.len() {
         return false;
@@ -118,7 +133,7 @@ fn stays_within(
         if atoms[usize::from(atom)] {
             continue;
         }
-        if may_stand(task, known, front, place, atom) {
+        if may_stand(task, candidates, front, place, atom) {
             return false;
         }
     }
@@ -126,16 +141,15 @@ fn stays_within(
 }
 
 /// Whether a bond of the graph may lie at some bond with both its ends. If not, the graph has no embedding.
-pub fn has_bond(task: &Task, known: &mut TruthCache, place: usize) -> bool
+pub fn has_bond(task: &Task, candidates: &Candidates, place: usize) -> bool
     requires ready { IsReadyTask task.now }
     requires place { place < length task.now.graph.now.bonds.items }
-    requires knows { Knows task.now known.old }
-    ensures none { result ≡ false → ¬ Completes task.now [] }
-    ensures knows { Knows task.now known.new }
+    requires candidates { AreCandidates task.now candidates.now.words.items }
+    ensures { result ≡ false → ¬ Completes task.now [] }
 {
     let bond = &task.graph.bonds[place];
     for other in 0..task.mol.bonds().len() as u16 {
-        if may_lie(task, known, bond, other) {
+        if may_lie(task, candidates, bond, other) {
             return true;
         }
     }
@@ -143,48 +157,46 @@ pub fn has_bond(task: &Task, known: &mut TruthCache, place: usize) -> bool
 }
 
 // Whether a bond of the graph may lie at a bond with both its ends.
-fn may_lie(task: &Task, known: &mut TruthCache, bond: &PatBond, other: u16) -> bool
+fn may_lie(task: &Task, candidates: &Candidates, bond: &PatBond, other: u16) -> bool
     requires ready { IsReadyTask task.now }
     requires ends { max bond.now.a bond.now.b < length task.now.graph.now.atoms.items }
     requires other { other < length task.now.mol.now.bonds }
-    requires knows { Knows task.now known.old }
-    ensures none { result ≡ false → (image : List ℕ) → Embeds task.now image
+    requires candidates { AreCandidates task.now candidates.now.words.items }
+    ensures { result ≡ false → (image : List ℕ) → Embeds task.now image
         → JoinsAt (ends_of task.now.mol.now) other (slice_index image bond.now.a) (slice_index image bond.now.b)
         → BondTrue (term_of bond.now.expr) task.now.mol.now other → ⊥ }
-    ensures knows { Knows task.now known.new }
 {
     if !bond_true(&bond.expr, task.mol, other) {
         return false;
     }
     let found = task.mol.bonds()[usize::from(other)];
-    if may_join(task, known, bond, found.a, found.b) {
+    if may_join(task, candidates, bond, found.a, found.b) {
         return true;
     }
-    may_join(task, known, bond, found.b, found.a)
+    may_join(task, candidates, bond, found.b, found.a)
 }
 
 // Whether the ends of a bond of the graph may stand at two atoms.
-fn may_join(task: &Task, known: &mut TruthCache, bond: &PatBond, one: u16, two: u16) -> bool
+fn may_join(task: &Task, candidates: &Candidates, bond: &PatBond, one: u16, two: u16) -> bool
     requires ready { IsReadyTask task.now }
     requires ends { max bond.now.a bond.now.b < length task.now.graph.now.atoms.items }
     requires one { one < length task.now.mol.now.atoms }
     requires two { two < length task.now.mol.now.atoms }
-    requires knows { Knows task.now known.old }
-    ensures none { result ≡ false → (image : List ℕ) → Embeds task.now image
+    requires candidates { AreCandidates task.now candidates.now.words.items }
+    ensures { result ≡ false → (image : List ℕ) → Embeds task.now image
         → slice_index image bond.now.a ≡ one → slice_index image bond.now.b ≡ two → ⊥ }
-    ensures knows { Knows task.now known.new }
 {
-    if !may_stand(task, known, &[], usize::from(bond.a), one) {
+    if !may_stand(task, candidates, &[], usize::from(bond.a), one) {
         return false;
     }
-    may_stand(task, known, &[], usize::from(bond.b), two)
+    may_stand(task, candidates, &[], usize::from(bond.b), two)
 }
 
 /// Whether a place that is not in front may stand at an atom, where the atoms in front are taken, as far as is seen
 /// from the atom alone.
 pub fn may_stand(
     task: &Task,
-    known: &mut TruthCache,
+    candidates: &Candidates,
     front: &[u16],
     place: usize,
     atom: u16,
@@ -192,17 +204,13 @@ pub fn may_stand(
     requires ready { IsReadyTask task.now }
     requires place { place < length task.now.graph.now.atoms.items }
     requires atom { atom < length task.now.mol.now.atoms }
-    requires knows { Knows task.now known.old }
-    ensures none { result ≡ false → length front.now ≤ place → (rest : List ℕ)
+    requires candidates { AreCandidates task.now candidates.now.words.items }
+    ensures { result ≡ false → length front.now ≤ place → (rest : List ℕ)
         → Embeds task.now (front.now ++ rest)
         → slice_index (front.now ++ rest) place ≡ atom → ⊥ }
-    ensures knows { Knows task.now known.new }
 {
-    if !may_be(
-        task.steps[place].classes,
-        task.mol.atoms()[usize::from(atom)],
-    ) {
+    if !candidates.has(place, atom) {
         return false;
     }
-    is_new(front, atom) && known.holds(task, place, atom)
+    is_new(front, atom)
 }

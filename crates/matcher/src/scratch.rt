@@ -1,13 +1,12 @@
 //! The memory that a search uses, and what is worked out of its pattern.
 ghost use Rattle.std.specs.Prelude.{◌≤◌, vec_len};
 
-use crate::answer::matches;
+use crate::candidates::Candidates;
 use crate::choices::Choices;
 use crate::lay::{NO_PLACEMENT, Placement};
-use crate::narrow::Candidates;
+use crate::narrow::Narrowing;
 use crate::planned::MOST_PLACES;
 use crate::prepare::Prepared;
-use chem_core::Mol;
 use smarts_mean::RecTable;
 use smarts_parse::Pattern;
 use std::alloc::{AllocError, Global};
@@ -28,13 +27,12 @@ pub struct Memory {
     pub table: RecTable,
     pub choices: Choices,
     pub candidates: Candidates,
+    pub narrowing: Narrowing,
     pub stops: Vec<Placement>,
     ghost image_room: { 256 ≤ vec_len image },
 }
 
 impl Scratch {
-    ghost use Rattle.std.specs.Prelude.{◌↔◌, IsTrue};
-    ghost use Rattle.smarts_parse.specs.Embedding.{Matches};
     ghost use Rattle.smarts_parse.specs.Pattern.{pattern_of};
     ghost use Rattle.smarts_parse.specs.Sound.{IsSoundPattern};
     ghost use Rattle.matcher.specs.Prepared.{IsPreparedFor};
@@ -53,18 +51,7 @@ impl Scratch {
         ensures { IsPreparedFor (pattern_of pattern.now) self.new }
     {
         self.prepared.prepare(pattern);
-    }
-
-    /// Whether the pattern, which was prepared last, has an embedding in the molecule.
-    ///
-    /// Takes no memory. The worst case takes exponential time.
-    pub fn has(&mut self, pattern: &Pattern, mol: &Mol) -> bool
-        requires sound { IsSoundPattern (pattern_of pattern.now) }
-        requires prepared { IsPreparedFor (pattern_of pattern.now) self.old }
-        ensures has { IsTrue result ↔ Matches (pattern_of pattern.now) mol.now }
-        ensures prepared { IsPreparedFor (pattern_of pattern.now) self.new }
-    {
-        matches(pattern, &self.prepared, mol, &mut self.memory)
+        self.memory.narrowing.begin();
     }
 }
 
@@ -75,6 +62,7 @@ impl Memory {
             table: RecTable::reserve(alloc)?,
             choices: Choices::reserve(alloc)?,
             candidates: Candidates::reserve(alloc)?,
+            narrowing: Narrowing::reserve(alloc)?,
             stops: vec![in alloc; NO_PLACEMENT; MOST_PLACES]?,
         })
     }

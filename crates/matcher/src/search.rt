@@ -1,23 +1,29 @@
 //! The atoms of a graph are placed in turn, lowest places first, so that the first embedding found is the least.
 ghost use Rattle.std.specs.Prelude.{◌≡◌, ◌<◌, ◌≤◌, ◌+◌, ◌++◌, ◌∷◌, [], false, length, take, IsTrue};
-ghost use Rattle.matcher.specs.Known.{Knows};
+ghost use Rattle.matcher.specs.Candidates.{AreCandidates, IsTrueAt};
 ghost use Rattle.matcher.specs.Task.{Completes, FirstEmbeds, IsBonded, IsLeastPlaced, IsPlaced, IsReadyTask};
 
+use crate::candidates::Candidates;
 use crate::choices::Choices;
-use crate::fit::{Task, fits, is_of_class};
+use crate::fit::{Task, fits};
 use smarts_mean::bond_true;
 
 /// Places the graph's other atoms after those that are placed, if they can be, as the least embedding that begins so.
 ///
 /// The calls go as deep as the graph has atoms, at most 256.
 #[cycle(search)]
-pub fn extend(task: &Task, image: &mut [u16], choices: &mut Choices, placed: usize) -> bool
+pub fn extend(
+    task: &Task,
+    candidates: &Candidates,
+    image: &mut [u16],
+    choices: &mut Choices,
+    placed: usize,
+) -> bool
     requires ready { IsReadyTask task.now }
     requires room { length task.now.graph.now.atoms.items ≤ length image.old }
     requires few { placed ≤ length task.now.graph.now.atoms.items }
     requires partial { IsPlaced task.now (take placed image.old) }
-    requires knows { Knows task.now choices.old.known }
-    ensures knows { Knows task.now choices.new.known }
+    requires candidates { AreCandidates task.now candidates.now.words.items }
     ensures kept { take placed image.new ≡ take placed image.old }
     ensures found { IsTrue result → IsLeastPlaced task.now
         (take placed image.old) (take (length task.now.graph.now.atoms.items) image.new) }
@@ -28,36 +34,41 @@ pub fn extend(task: &Task, image: &mut [u16], choices: &mut Choices, placed: usi
     }
     let step = task.steps[placed];
     if step.from < step.to {
-        extend_near(task, image, choices, placed)
+        extend_near(task, candidates, image, choices, placed)
     } else {
-        extend_anywhere(task, image, choices, placed)
+        extend_anywhere(task, candidates, image, choices, placed)
     }
 }
 
 // The same where no bond joins the next atom to an earlier one.
 #[cycle(search)]
-fn extend_anywhere(task: &Task, image: &mut [u16], choices: &mut Choices, placed: usize) -> bool
+fn extend_anywhere(
+    task: &Task,
+    candidates: &Candidates,
+    image: &mut [u16],
+    choices: &mut Choices,
+    placed: usize,
+) -> bool
     requires ready { IsReadyTask task.now }
     requires room { length task.now.graph.now.atoms.items ≤ length image.old }
     requires few { placed < length task.now.graph.now.atoms.items }
     requires partial { IsPlaced task.now (take placed image.old) }
     requires free { ¬ IsBonded task.now placed }
-    requires knows { Knows task.now choices.old.known }
-    ensures knows { Knows task.now choices.new.known }
+    requires candidates { AreCandidates task.now candidates.now.words.items }
     ensures kept { take placed image.new ≡ take placed image.old }
     ensures found { IsTrue result → IsLeastPlaced task.now
         (take placed image.old) (take (length task.now.graph.now.atoms.items) image.new) }
     ensures none { result ≡ false → ¬ Completes task.now (take placed image.old) }
 {
     for atom in 0..task.mol.atoms().len() as u16 {
-        if !is_of_class(task, placed, atom) {
+        if !candidates.has(placed, atom) {
             continue;
         }
         let failures = choices.failures();
-        if extend_at(task, image, choices, placed, atom) {
+        if extend_at(task, candidates, image, choices, placed, atom) {
             return true;
         }
-        if choices.refuse_since(failures, task, &image[..placed]) {
+        if choices.refuse_since(failures, task, candidates, &image[..placed]) {
             return false;
         }
     }
@@ -67,14 +78,19 @@ fn extend_anywhere(task: &Task, image: &mut [u16], choices: &mut Choices, placed
 
 // The same where the next atom's first bond joins it to an earlier one: it stands at a neighbour of that one.
 #[cycle(search)]
-fn extend_near(task: &Task, image: &mut [u16], choices: &mut Choices, placed: usize) -> bool
+fn extend_near(
+    task: &Task,
+    candidates: &Candidates,
+    image: &mut [u16],
+    choices: &mut Choices,
+    placed: usize,
+) -> bool
     requires ready { IsReadyTask task.now }
     requires room { length task.now.graph.now.atoms.items ≤ length image.old }
     requires few { placed < length task.now.graph.now.atoms.items }
     requires partial { IsPlaced task.now (take placed image.old) }
     requires bonded { IsBonded task.now placed }
-    requires knows { Knows task.now choices.old.known }
-    ensures knows { Knows task.now choices.new.known }
+    requires candidates { AreCandidates task.now candidates.now.words.items }
     ensures kept { take placed image.new ≡ take placed image.old }
     ensures found { IsTrue result → IsLeastPlaced task.now
         (take placed image.old) (take (length task.now.graph.now.atoms.items) image.new) }
@@ -84,13 +100,13 @@ fn extend_near(task: &Task, image: &mut [u16], choices: &mut Choices, placed: us
     let earlier = image[usize::from(bond.a.min(bond.b))];
     let neighbours = task.mol.neighbours(earlier);
     for (atom, by) in neighbours {
-        if !is_of_class(task, placed, *atom) {
+        if !candidates.has(placed, *atom) {
             continue;
         }
         if !bond_true(&bond.expr, task.mol, *by) {
             continue;
         }
-        if extend_at(task, image, choices, placed, *atom) {
+        if extend_at(task, candidates, image, choices, placed, *atom) {
             return true;
         }
     }
@@ -101,6 +117,7 @@ fn extend_near(task: &Task, image: &mut [u16], choices: &mut Choices, placed: us
 #[cycle(search)]
 pub fn extend_at(
     task: &Task,
+    candidates: &Candidates,
     image: &mut [u16],
     choices: &mut Choices,
     placed: usize,
@@ -112,16 +129,16 @@ pub fn extend_at(
     requires in_range { atom < length task.now.mol.now.atoms }
     requires partial { IsPlaced task.now (take placed image.old) }
     requires first { FirstEmbeds task.now placed (take placed image.old) atom }
-    requires knows { Knows task.now choices.old.known }
-    ensures knows { Knows task.now choices.new.known }
+    requires holds { IsTrueAt task.now placed atom }
+    requires candidates { AreCandidates task.now candidates.now.words.items }
     ensures kept { take placed image.new ≡ take placed image.old }
     ensures found { IsTrue result → IsLeastPlaced task.now
         (take placed image.old ++ atom ∷ []) (take (length task.now.graph.now.atoms.items) image.new) }
     ensures none { result ≡ false → ¬ Completes task.now (take placed image.old ++ atom ∷ []) }
 {
-    if !fits(task, &mut choices.known, &image[..placed], atom) {
+    if !fits(task, &image[..placed], atom) {
         return false;
     }
     image[placed] = atom;
-    extend(task, image, choices, placed + 1)
+    extend(task, candidates, image, choices, placed + 1)
 }

@@ -19,7 +19,6 @@ use Rattle.molfile_read.specs.declared.fault.MolfileFault.{MolfileFault}
 use Rattle.molfile_read.specs.declared.fault.MolfileFault.TheVariants.{Columns, Bond, Query, Cut, Header}
 use Rattle.molfile_read.specs.declared.counts.Counts.{Counts}
 use Rattle.molfile_read.specs.declared.atom.AtomLine.{AtomLine}
-use Rattle.molfile_read.specs.declared.setting.Value.{Value}
 use Rattle.molfile_read.specs.declared.setting.Value.TheVariants.{Charge, Radical, Isotope}
 use Rattle.molfile_read.specs.declared.setting.Setting.{Setting}
 use Rattle.molfile_read.specs.declared.setting.Tag.{Tag}
@@ -31,7 +30,7 @@ use Rattle.molfile_read.specs.Symbol.{hydrogen_isotope, element_or, element_of}
 use Rattle.molfile_read.specs.Counts.{is_zero, is_version_read, counts_read, first_counts}
 use Rattle.molfile_read.specs.Atoms.{given, symbol_in, is_query_atom, atom_read}
 use Rattle.molfile_read.specs.Bonds.{is_query_bond, kind_of_type, is_atom, are_joined, bond_line, bond_read, bonds_read}
-use Rattle.molfile_read.specs.Properties.{words, electrons_of, value_in, place_of, place_in, setting_in, setting_at, nothing_in, pairs_in, count_at, counted_pairs, is_query_line, is_passed_over, tag_of, tagged, property_read, property_lines, passes_next, is_end, is_ended, settings_read}
+use Rattle.molfile_read.specs.Properties.{words, electrons_of, value_in, place_of, place_in, setting_in, setting_at, nothing_in, pairs_in, count_at, counted_pairs, is_query_line, is_passed_over, tag_of, tagged, property_read, property_lines, is_ended, settings_read}
 use Rattle.molfile_read.specs.Reading.{masses_read, sketch_atoms, drawn, HasNoAromaticMark, IsReading}
 use Rattle.molfile_read.specs.Parts.{IsAtomLine, IsKind, JoinsTwo, AreBondsAmong, IsValue, IsSetting, AreAtoms}
 use Rattle.molfile_read.proofs.Drawn.{atoms_of, bonds_of, end_of}

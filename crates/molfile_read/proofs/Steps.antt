@@ -10,19 +10,10 @@ use Rattle.molfile_read.specs.Steps.{◌>>=◌, each}
 abbrev pub with_front : {A : Type 0} → List A → Result (List A) MolfileFault → Result (List A) MolfileFault
 with_front front read = read >>= λ xs. Ok (front ++ xs)
 
-pub with_front_nil : {A : Type 0} → (read : Result (List A) MolfileFault) → with_front [] read ≡ read
-with_front_nil (Ok xs) = refl
-with_front_nil (Err e) = refl
-
 front_more : {A : Type 0} → (front : List A) (x : A) (read : Result (List A) MolfileFault)
     → with_front front (read >>= λ xs. Ok (x ∷ xs)) ≡ with_front (front ++ x ∷ []) read
 front_more front x (Ok xs) = ap (λ w. Ok w) (sym (append_assoc front (x ∷ []) xs))
 front_more front x (Err e) = refl
-
-pub front_appended : {A : Type 0} → (front ys : List A) (read : Result (List A) MolfileFault)
-    → with_front front (read >>= λ xs. Ok (ys ++ xs)) ≡ with_front (front ++ ys) read
-front_appended front ys (Ok xs) = ap (λ w. Ok w) (sym (append_assoc front ys xs))
-front_appended front ys (Err e) = refl
 
 -- the count that is left, at a line
 pub one_less : (n i : ℕ) → i < n → n - i ≡ suc (n - (i + 1))
@@ -72,9 +63,6 @@ ends read front k lines whole e so = sym so ∙ ap (λ w. with_front front (each
 
 pub take_none : (n i : ℕ) (lines : List Line) → n ≤ i → take (n - i) lines ≡ []
 take_none n i lines h = ap (λ k. take k lines) (none_left n i h)
-
-pub take_of_none : (k : ℕ) (lines : List Line) → lines ≡ [] → take k lines ≡ []
-take_of_none k lines e = ap (λ w. take k w) e ∙ take_nothing k
 
 pub drop_next : (n : ℕ) (lines rest : List Line) (l : Line) → drop n lines ≡ l ∷ rest → drop (n + 1) lines ≡ rest
 drop_next n lines rest l e = sym (drop-drop 1 n lines) ∙ ap (λ w. drop 1 w) e

@@ -48,7 +48,7 @@ pub(crate) fn is_atom(atoms: u16, number: u16) -> bool
     0 < number && number <= atoms
 }
 
-// What the bond line of this number says by itself, among so many atoms.
+// Reads bond line `at` of a molfile with `atoms` atoms, without regard to other bonds.
 #[tactic(auto, unfolding(crate::specs::Bonds::bond_line))]
 fn bond(at: u32, line: &[u8], atoms: u16) -> Result<SketchBond, MolfileFault>
     ensures value { result ≡ bond_line atoms (at, line.now) }

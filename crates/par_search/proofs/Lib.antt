@@ -4,3 +4,4 @@ pub mod LastOne
 pub mod Matched
 pub mod Rooming
 pub mod Shares
+pub mod Rooms

@@ -1,12 +1,12 @@
 //! The pieces of a page, each matched by its worker.
-ghost use Rattle.std.specs.Prelude.{◌≡◌, ◌≤◌, ◌+◌, ◌++◌, ◌*◌, All, List, drop, false, length, map, slice_index_or, take, vec_capacity, ℕ};
+ghost use Rattle.std.specs.Prelude.{◌≡◌, ◌≤◌, ◌<◌, ◌+◌, ◌++◌, ◌*◌, All, List, drop, false, length, map, slice_index_or, take, vec_capacity, ℕ};
 ghost use Rattle.std.specs.Int.{div_ceil};
 ghost use Rattle.smarts_parse.specs.Pattern.{PatternTerm, pattern_of};
 ghost use Rattle.smarts_parse.specs.Sound.{IsSoundPattern};
 ghost use Rattle.store_machine.specs.Answers.{AreMatched};
 ghost use Rattle.store_machine.specs.declared.machine.Found.{Found};
 ghost use Rattle.store_core.specs.Records.{founds};
-ghost use Rattle.par_search.specs.Flags.{AreFlagged, AreFlags, WorkerTerm};
+ghost use Rattle.par_search.specs.Flags.{AreFlagged, AreFlags, WorkerTerm, piece_of};
 ghost use Rattle.par_search.specs.declared.pieces.TheConstants.{MOST_WORKERS};
 
 use crate::meter::Meter;
@@ -14,16 +14,18 @@ use crate::worker::Worker;
 use mol_finish::one_structure;
 use smarts_parse::Pattern;
 use std::sync::Arc;
+use std::thread;
 use std::thread::Threads;
 use store_core::Record;
 
 /// The most workers of a search.
 pub const MOST_WORKERS: usize = 16;
 
-/// Matches records. They are cut into pieces of one size, one for each worker, the last ones shorter or empty; the
-/// meter is told of each piece that has records. Takes no memory.
+/// Matches records. They are cut into pieces of one size, one for each worker, the last ones shorter or empty, and each
+/// is matched in a thread of its own, where one can be made. The meter is told of each piece that has records. Takes no
+/// memory.
 pub fn match_pieces<R: Threads + Sync, M: Meter>(
-    _rt: &R,
+    rt: &R,
     records: &[Arc<Record>],
     pattern: &Pattern,
     workers: &mut [Worker],
@@ -36,16 +38,52 @@ pub fn match_pieces<R: Threads + Sync, M: Meter>(
     ensures flags { AreFlagged (pattern_of pattern.now) records.now workers.new }
     ensures room { map {B = ℕ} (λ w. w.room) workers.new ≡ map {B = ℕ} (λ w. w.room) workers.old }
 {
-    let size = records.len().div_ceil(workers.len());
-    let mut rest = records;
-    for number in 0..workers.len() {
-        let (piece, behind) = cut(rest, size);
-        if !piece.is_empty() {
-            meter.begin(number as u32);
-        }
-        workers[number].mark(piece, pattern);
-        rest = behind;
+    let threads = workers.len();
+    let size = records.len().div_ceil(threads);
+    thread::for_each_mut(
+        rt,
+        workers,
+        threads,
+        &|number: usize, worker: &mut Worker|
+            requires number { number < 16 }
+            requires room { size ≤ worker.old.room }
+            requires sound { IsSoundPattern (pattern_of pattern.now) }
+            ensures flags { AreFlags (pattern_of pattern.entry.now) (piece_of size number records.entry.now)
+                worker.new.flags }
+            ensures room { worker.new.room ≡ worker.old.room }
+        { match_piece(records, size, number, pattern, worker, meter) },
+    );
+}
+
+// One piece by its worker.
+fn match_piece<M: Meter>(
+    records: &[Arc<Record>],
+    size: usize,
+    number: usize,
+    pattern: &Pattern,
+    worker: &mut Worker,
+    meter: &M,
+)
+    requires number { number < 16 }
+    requires room { size ≤ worker.old.room }
+    requires sound { IsSoundPattern (pattern_of pattern.now) }
+    ensures flags { AreFlags (pattern_of pattern.now) (piece_of size number records.now) worker.new.flags }
+    ensures room { worker.new.room ≡ worker.old.room }
+{
+    let piece = piece_at(records, size, number);
+    if !piece.is_empty() {
+        meter.begin(number as u32);
     }
+    worker.mark(piece, pattern);
+}
+
+// The records of one piece.
+fn piece_at(records: &[Arc<Record>], size: usize, number: usize) -> &[Arc<Record>]
+    ensures { result.now ≡ piece_of size number records.now }
+{
+    let start = number.saturating_mul(size).min(records.len());
+    let end = start + size.min(records.len() - start);
+    &records[start..end]
 }
 
 // The first piece of this size, and the records behind it.

@@ -2,12 +2,14 @@
 ghost use Rattle.store_machine.specs.History.{IsId};
 ghost use Rattle.store_core.specs.Stored.{HoldsPin};
 
-use crate::{NoMeter, Search};
+use crate::{Meter, NoMeter, Search};
 use matcher::{Scratch, first};
 use mol_finish::Format;
 use smarts_parse::parse;
 use std::alloc::Global;
+use std::sync::atomic::{AtomicU32, Ordering};
 use std::test::Fail;
+use std::thread;
 use std::thread::Threads;
 use store_core::{Change, Record, Service, Store};
 
@@ -21,10 +23,11 @@ fn register(alloc: Global, store: &mut Store, id: u32, text: &[u8]) -> bool
 }
 
 // Whether the next page has these hits, tried as many, and is the last.
-fn is_next<R: Threads + Sync>(
+fn is_next<R: Threads + Sync, M: Meter>(
     rt: &R,
     store: &mut Store,
     search: &mut Search,
+    meter: &M,
     hits: &[u32],
     tried: u32,
     last: bool,
@@ -32,7 +35,7 @@ fn is_next<R: Threads + Sync>(
     requires { HoldsPin store.old search.old.slot search.old.version }
     ensures { HoldsPin store.new search.new.slot search.new.version }
 {
-    match search.next(rt, store, &NoMeter) {
+    match search.next(rt, store, meter) {
         Ok(page) => page.hits == hits && page.tried == tried && page.last == last,
         Err(_) => false,
     }
@@ -55,9 +58,53 @@ fn three_records_come_by_pages_of_two(rt: HostRuntime) -> Result<(), Fail> {
         return Ok(());
     };
     assert_eq!(rt; search.version(), 3);
-    assert!(rt; is_next(&rt, &mut store, &mut search, &[1], 2, false));
-    assert!(rt; is_next(&rt, &mut store, &mut search, &[3], 1, true));
-    assert!(rt; is_next(&rt, &mut store, &mut search, &[], 0, true));
+    assert!(rt; is_next(&rt, &mut store, &mut search, &NoMeter, &[1], 2, false));
+    assert!(rt; is_next(&rt, &mut store, &mut search, &NoMeter, &[3], 1, true));
+    assert!(rt; is_next(&rt, &mut store, &mut search, &NoMeter, &[], 0, true));
+    assert!(rt; search.close(&mut store).is_ok());
+    Ok(())
+}
+
+// Holds each piece until two have begun, up to a limit.
+#[derive(Drop)]
+struct Meeting {
+    begun: AtomicU32,
+    alone: AtomicU32,
+}
+
+impl Meter for Meeting {
+    fn begin(&self, _piece: u32) {
+        self.begun.fetch_add(1, Ordering::SeqCst);
+        for _turn in 0..10_000_000 {
+            if self.begun.load(Ordering::SeqCst) >= 2 {
+                return;
+            }
+            thread::yield_now();
+        }
+        self.alone.fetch_add(1, Ordering::SeqCst);
+    }
+}
+
+#[test]
+fn two_pieces_are_matched_at_once(rt: HostRuntime) -> Result<(), Fail> {
+    let alloc = rt.alloc();
+    let mut store = Store::fresh(alloc, 10);
+    assert!(rt; register(alloc, &mut store, 1, b"C"));
+    assert!(rt; register(alloc, &mut store, 2, b"CC"));
+    let Ok(pattern) = parse(alloc, b"C") else {
+        assert!(rt; false);
+        return Ok(());
+    };
+    let meeting = Meeting {
+        begun: AtomicU32::new(0),
+        alone: AtomicU32::new(0),
+    };
+    let Ok(mut search) = Search::start(alloc, &mut store, pattern, 2, 2) else {
+        assert!(rt; false);
+        return Ok(());
+    };
+    assert!(rt; is_next(&rt, &mut store, &mut search, &meeting, &[1, 2], 2, true));
+    assert_eq!(rt; meeting.alone.load(Ordering::SeqCst), 0);
     assert!(rt; search.close(&mut store).is_ok());
     Ok(())
 }

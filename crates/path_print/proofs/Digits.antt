@@ -152,13 +152,13 @@ hash_small : (xs : List ℕ) → hash_of xs < 65521
 hash_small xs = rw (hash_from 7 xs (omega arith)) (omega arith)
 
 -- the hash after three more bytes
-hash-push_three : (h a b c : ℕ) (xs : List ℕ) → h ≡ hash_of xs
+hash-push_three : (h a b c : ℕ) (xs : List ℕ) → h % 65521 ≡ hash_of xs
     → (h * 131 * 131 * 131 + (17161 * a + 131 * b + c)) % 65521 ≡ hash_of (xs ++ a ∷ b ∷ c ∷ [])
 unfolding sum_of_bytes
 hash-push_three h a b c xs is =
-    let same : h * 131 * 131 * 131 + (17161 * a + 131 * b + c)
-    ≡ h * 2248091 + (131 * (131 * (131 * 0 + a) + b) + c) = omega arith in
-    ap (λ n. n % 65521) same
+    let same : (h * 131 * 131 * 131 + (17161 * a + 131 * b + c)) % 65521
+    ≡ (h % 65521 * 2248091 + (131 * (131 * (131 * 0 + a) + b) + c)) % 65521 = omega arith in
+    same
     ∙ ap (λ k. (k * 2248091 + (131 * (131 * (131 * 0 + a) + b) + c)) % 65521) is
     ∙ sym (hash_from (hash_of xs) (a ∷ b ∷ c ∷ []) (hash_small xs))
     ∙ sym (fold-append (λ s b. (131 * s + b) % 65521) 7 xs (a ∷ b ∷ c ∷ []))
@@ -236,10 +236,14 @@ two_inside n s a b ha hb is adds =
         there_fits = omega arith;
         back_fits = omega arith;
         there_hash = hash;
-        there_small = omega arith;
         back_hash = hash;
-        back_small = omega arith;
         weighs = refl;
+        two = λ _. (omega arith, omega arith, lit≤ tt);
+        five = λ _. (omega arith, omega arith);
+        eight = λ _. (omega arith, omega arith);
+        eleven = λ _. omega arith;
+        there_small = omega arith;
+        back_small = omega arith;
       },
       two,
     )
@@ -280,7 +284,8 @@ module _ (k there back there_sum back_sum weight byte l r tail tail_sum head hea
     (inside : IsTextInside k there back there_sum back_sum weight)
     (hb : byte < 256) (hl : l < 256) (hr : r < 256) (is_tail : tail ≡ 65536 * byte + 256 * l + r)
     (is_tail_sum : tail_sum ≡ 17161 * byte + 131 * l + r) (is_head : head ≡ 65536 * l + 256 * r + byte)
-    (is_head_sum : head_sum ≡ 17161 * l + 131 * r + byte) where
+    (is_head_sum : head_sum ≡ 17161 * l + 131 * r + byte) (sum : ℕ) (same : sum % 65521 ≡ there_sum % 65521)
+    (less : sum ≤ there_sum) (small : sum ≤ 2000000000000) where
   there_whole : there * 16777216 % 2 ^ 128 ≡ there * 16777216
   there_whole =
       let fits : there < 2 ^ (8 * k) = rw pow_bits at inside.there_fits in
@@ -307,8 +312,14 @@ module _ (k there back there_sum back_sum weight byte l r tail tail_sum head hea
       let product : (15736630 + head_sum) * weight ≤ 21000000 * weight = mul-le-mul_right weight few in
       omega arith
 
-  pub longer_inside : IsTextInside (k + 3) (there * 16777216 % 2 ^ 128 + tail) (head * 2 ^ (8 * k) % 2 ^ 128 + back)
-      (there_sum % 65521 * 131 * 131 * 131 + tail_sum) (back_sum + (15736630 + head_sum) * weight)
+  weighed_first : weight ≤ 17161 → (15736630 + head_sum) * weight ≤ 400000000000
+  weighed_first w =
+      let few : 15736630 + head_sum ≤ 21000000 = omega arith in
+      let product : (15736630 + head_sum) * weight ≤ 21000000 * weight = mul-le-mul_right weight few in
+      omega arith
+
+  pub longer_inside : IsTextInside (k + 3) (head * 2 ^ (8 * k) % 2 ^ 128 + back) (there * 16777216 % 2 ^ 128 + tail)
+      (back_sum + (15736630 + head_sum) * weight) (sum * 131 * 131 * 131 + tail_sum)
       (weight * 131 * 131 * 131 % 65521)
   longer_inside =
       let pw = pow_three k in
@@ -318,24 +329,33 @@ module _ (k there back there_sum back_sum weight byte l r tail tail_sum head hea
       let product : head * 256 ^ k ≤ 16777215 * 256 ^ k = mul-le-mul_right (256 ^ k) few in
       record {
         few = omega arith;
-        there_fits = rw there_whole (omega arith);
-        back_fits = rw back_whole (omega arith);
-        there_hash = rw (longer_there, is_tail_sum)
-            (hash-push_three (there_sum % 65521) byte l r (digits k there) inside.there_hash);
-        there_small = omega arith;
-        back_hash = rw (longer_back, is_head_sum) (hash-front_three back_sum weight l r byte (digits k back)
+        there_fits = rw back_whole (omega arith);
+        back_fits = rw there_whole (omega arith);
+        there_hash = rw (longer_back, is_head_sum) (hash-front_three back_sum weight l r byte (digits k back)
             inside.back_hash (inside.weighs ∙ ap (λ n. 131 ^ n % 65521) (sym (length-digits k back))));
-        back_small = omega (arith, weighed_small, inside.back_small);
+        back_hash = rw (longer_there, is_tail_sum)
+            (hash-push_three sum byte l r (digits k there) (same ∙ inside.there_hash));
         weighs =
             let p = power_three k in
             let e : k + 3 ≡ suc (suc (suc k)) = omega arith in
             let w = inside.weighs in
             rw (e, p) (omega arith);
+        two = λ le. absurd (omega (arith, le));
+        five = λ le.
+            let was = inside.two (omega (arith, le)) in
+            let weighed = weighed_first was.2 in
+            (omega (arith, was.1, weighed), omega (arith, was.0, less));
+        eight = λ le.
+            let was = inside.five (omega (arith, le)) in
+            (omega (arith, was.1, weighed_small), omega (arith, was.0, less));
+        eleven = λ le. omega (arith, small);
+        there_small = let was = inside.eleven room in omega (arith, was, weighed_small);
+        back_small = omega (arith, small);
       }
 
   pub longer_fits : head * 2 ^ (8 * k) % 2 ^ 128 + back < 2 ^ 128
   longer_fits =
-      let low = longer_inside.back_fits in
+      let low = longer_inside.there_fits in
       let bits = pow_bits (k + 3) in
       let few : 8 * (k + 3) ≤ 112 = omega arith in
       let most : 2 ^ (8 * (k + 3)) ≤ 2 ^ 112 = pow_mono few in

@@ -3,6 +3,7 @@ pub mod Truths
 pub mod Carries
 pub mod Digits
 pub mod Strings
+pub mod Grown
 pub mod Ways
 pub mod Molecules
 pub mod Sheets

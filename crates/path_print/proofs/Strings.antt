@@ -85,13 +85,13 @@ step_byte v front x y ys s h =
 -- ---- texts
 
 there_longer_if : (o : Option TextTerm) (b : ℕ) (q : Option (ℕ × ℕ))
-    → option_map (λ t. t.there) (longer_if o b q) ≡ joined (option_map (λ t. t.there) o) (tail_of (Some b) q)
+    → option_map (λ t. t.back) (longer_if o b q) ≡ joined (option_map (λ t. t.there) o) (tail_of (Some b) q)
 there_longer_if None b q = refl
 there_longer_if (Some t) b None = refl
 there_longer_if (Some t) b (Some l) = refl
 
 back_longer_if : (o : Option TextTerm) (b : ℕ) (q : Option (ℕ × ℕ))
-    → option_map (λ t. t.back) (longer_if o b q) ≡ option_and_then
+    → option_map (λ t. t.there) (longer_if o b q) ≡ option_and_then
     (λ l. option_and_then (λ c. option_and_then (λ s. Some (l.0 ∷ l.1 ∷ c ∷ s)) (option_map (λ t. t.back) o)) (Some b))
     q
 back_longer_if None b None = refl
@@ -99,25 +99,20 @@ back_longer_if None b (Some l) = refl
 back_longer_if (Some t) b None = refl
 back_longer_if (Some t) b (Some l) = refl
 
--- the text of a path, and that of the path that goes on
+-- the text of a path, and that of the path that goes on and is turned
 pub there_longer : (v : View) (front : List ℕ) (x y b : ℕ) (o : Option TextTerm)
     → option_map (λ t. t.there) o ≡ string_of v (front ++ x ∷ []) → v.byte x y ≡ Some b
-    → option_map (λ t. t.there) (longer_if o b (v.label y)) ≡ string_of v ((front ++ x ∷ []) ++ y ∷ [])
+    → option_map (λ t. t.back) (longer_if o b (v.label y)) ≡ string_of v ((front ++ x ∷ []) ++ y ∷ [])
 there_longer v front x y b o is byte =
     there_longer_if o b (v.label y) ∙ ap (λ r. joined r (tail_of (Some b) (v.label y))) is
     ∙ ap (λ c. joined (string_of v (front ++ x ∷ [])) (tail_of c (v.label y))) (sym byte)
     ∙ sym (string-push v front x y)
 
-reverse-push : (xs : List ℕ) (y : ℕ) → reverse (xs ++ y ∷ []) ≡ y ∷ reverse xs
-reverse-push xs y = reverse-append xs (y ∷ [])
-
 pub back_longer : (v : View) (front : List ℕ) (x y b : ℕ) (o : Option TextTerm)
     → option_map (λ t. t.back) o ≡ string_of v (reverse (front ++ x ∷ [])) → v.byte y x ≡ Some b
-    → option_map (λ t. t.back) (longer_if o b (v.label y)) ≡ string_of v (reverse ((front ++ x ∷ []) ++ y ∷ []))
+    → option_map (λ t. t.there) (longer_if o b (v.label y)) ≡ string_of v (y ∷ reverse (front ++ x ∷ []))
 back_longer v front x y b o is byte =
-    let turn : reverse (front ++ x ∷ []) ≡ x ∷ reverse front = reverse-push front x in
-    let whole : reverse ((front ++ x ∷ []) ++ y ∷ []) ≡ y ∷ x ∷ reverse front = reverse-push (front ++ x ∷ []) y
-    ∙ ap (λ xs. y ∷ xs) turn in
+    let turn : reverse (front ++ x ∷ []) ≡ x ∷ reverse front = reverse-append front (x ∷ []) in
     let is' : option_map (λ t. t.back) o ≡ string_of v (x ∷ reverse front) = is ∙ ap (string_of v) turn in
     back_longer_if o b (v.label y)
     ∙ ap (λ r. option_and_then (λ l. option_and_then (λ c. option_and_then (λ s. Some (l.0 ∷ l.1 ∷ c ∷ s)) r) (Some b))
@@ -125,7 +120,7 @@ back_longer v front x y b o is byte =
     ∙ ap (λ c. option_and_then (λ l. option_and_then
     (λ c. option_and_then (λ s. Some (l.0 ∷ l.1 ∷ c ∷ s)) (string_of v (x ∷ reverse front))) c) (v.label y))
     (sym byte)
-    ∙ sym (ap (string_of v) whole)
+    ∙ sym (ap (λ zs. string_of v (y ∷ zs)) turn)
 
 -- the front and the last of a list
 pub split_last : (xs : List ℕ) → 1 ≤ length xs → xs ≡ take (length xs - 1) xs ++ get_or xs (length xs - 1) 0 ∷ []

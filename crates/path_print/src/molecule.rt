@@ -1,12 +1,13 @@
 //! The print of a molecule.
-ghost use Rattle.std.specs.Prelude.{◌≡◌, ◌<◌, ◌+◌, [], ◌∷◌, ◌++◌, ℕ, length, IfSome, IfNone};
+ghost use Rattle.std.specs.Prelude.{All, ◌≡◌, ◌<◌, ◌+◌, ◌∷◌, ℕ, length, reverse, Some, IfSome, IfNone, IsTrue};
 ghost use Rattle.chem_core.specs.Graph.{JoinsAt};
 ghost use Rattle.chem_core.specs.Molecule.{ends_of};
 ghost use Rattle.path_print.specs.Prints.{known_of, kind_byte, molecule_view, IsPrint};
-ghost use Rattle.path_print.specs.Texts.{IsOn, IsOneLonger, IsBitFrom, NoneFrom, SetsBits, last_of};
+ghost use Rattle.path_print.specs.Path.{Family, label_of};
+ghost use Rattle.path_print.specs.Texts.{IsOn, IsOneLonger, IsBitFrom, IsMarked, IsSpent, NoneFrom, SetsBits, last_of};
 
 use crate::known::Known;
-use crate::path::{FromOne, Full, MOST, More, Path};
+use crate::path::{MOST, More, Path};
 use chem_core::{Atom, BondKind, Mol, Print};
 
 /// The bits of all paths of the molecule.
@@ -15,7 +16,7 @@ pub fn print(mol: &Mol) -> Print
 {
     let mut print = Print::empty();
     for (place, atom) in mol.atoms().iter().enumerate() {
-        FromOne::walk(mol, &Path::start(place as u16, known(atom)), &mut print);
+        <More<More<More<Last>>>>::walk(mol, &Path::start(place as u16, known(atom)), &mut print);
     }
     print
 }
@@ -26,20 +27,30 @@ trait Walk {
     // how many atoms may follow
     ghost left: { ℕ };
 
-    // Sets the bits of all paths that begin with this one.
+    // Sets the bits of all paths that grow from this one.
     fn walk(mol: &Mol, path: &Path, print: &mut Print)
         requires path { IsOn (molecule_view mol.now) path.now }
-        requires atom { last_of path.now.atoms < length mol.now.atoms }
+        requires atoms { All (λ a. a < length mol.now.atoms) path.now.atoms }
         requires left { length path.now.atoms + left ≡ MOST }
         ensures { SetsBits (IsBitFrom (molecule_view mol.now) path.now.atoms) print.old print.new };
 }
 
-impl Walk for Full {
-    ghost left = { 0 };
+// One atom may follow. Of those that give the path the same texts one is enough.
+struct Last;
+
+impl Walk for Last {
+    ghost left = { 1 };
 
     #[inline(always)]
-    fn walk(_mol: &Mol, path: &Path, print: &mut Print) {
+    fn walk(mol: &Mol, path: &Path, print: &mut Print) {
         path.mark(print);
+        if path.is_spent() {
+            return;
+        }
+        let mut marked = None;
+        for (to, bond) in mol.neighbours(path.last()) {
+            marked = mark_end(mol, path, *to, *bond, marked, print);
+        }
     }
 }
 
@@ -49,24 +60,92 @@ impl<W: Walk> Walk for More<W> {
     #[inline(always)]
     fn walk(mol: &Mol, path: &Path, print: &mut Print) {
         path.mark(print);
+        if path.is_spent() {
+            return;
+        }
         for (to, bond) in mol.neighbours(path.last()) {
-            if let Some(longer) = step(mol, path, *to, *bond) {
+            if let Some(longer) = path_to(mol, path, *to, *bond) {
                 W::walk(mol, &longer, print);
             }
         }
     }
 }
 
+// Sets the bits of the path that goes on to a neighbour by the bond between, unless the step that was marked last gave
+// the same. Returns the step that is marked now.
+#[inline(always)]
+fn mark_end(
+    mol: &Mol,
+    path: &Path,
+    to: u16,
+    bond: u16,
+    marked: Option<Step>,
+    print: &mut Print,
+) -> Option<Step>
+    requires path { IsOn (molecule_view mol.now) path.now }
+    requires room { length path.now.atoms + 1 ≡ MOST }
+    requires counted { IsSpent path.now.atoms → ⊥ }
+    requires joined { JoinsAt (ends_of mol.now) bond (last_of path.now.atoms) to }
+    requires marked { IfSome marked (λ s. IsMarked path.now s.byte s.known print.old) }
+    ensures bits { SetsBits (IsBitFrom (molecule_view mol.now) (to ∷ reverse path.now.atoms)) print.old print.new }
+    ensures marked { IfSome result (λ s. IsMarked path.now s.byte s.known print.new) }
+{
+    let step = step_to(mol, path, to, bond);
+    if is_again(marked, step) {
+        return marked;
+    }
+    match path.longer(to, step.byte, step.known) {
+        Some(longer) => {
+            longer.mark(print);
+            Some(step)
+        }
+        None => marked,
+    }
+}
+
+// What the texts of a path grow by: the byte of a bond, and what is known of the atom that it leads to.
+#[derive(Clone, Copy, PartialEq, Eq)]
+struct Step {
+    byte: u8,
+    known: Known,
+}
+
+// Whether it is the step that was marked last.
+#[inline(always)]
+fn is_again(marked: Option<Step>, step: Step) -> bool
+    ensures { IsTrue result → marked ≡ Some step }
+{
+    match marked {
+        Some(last) => last == step,
+        None => false,
+    }
+}
+
 // The path that goes on to a neighbour by the bond between. `None` where no path does.
 #[inline(always)]
-fn step(mol: &Mol, path: &Path, to: u16, bond: u16) -> Option<Path>
+fn path_to(mol: &Mol, path: &Path, to: u16, bond: u16) -> Option<Path>
     requires path { IsOn (molecule_view mol.now) path.now }
     requires joined { JoinsAt (ends_of mol.now) bond (last_of path.now.atoms) to }
     ensures some { IfSome result (IsOneLonger (molecule_view mol.now) path.now to) }
-    ensures none { IfNone result (NoneFrom (molecule_view mol.now) (path.now.atoms ++ to ∷ [])) }
+    ensures none { IfNone result (NoneFrom (molecule_view mol.now) (to ∷ reverse path.now.atoms)) }
 {
-    let byte = byte_of(mol.bonds()[usize::from(bond)].kind);
-    path.longer(to, byte, known(&mol.atoms()[usize::from(to)]))
+    let step = step_to(mol, path, to, bond);
+    path.longer(to, step.byte, step.known)
+}
+
+// The step to a neighbour by the bond between.
+#[inline(always)]
+fn step_to(mol: &Mol, path: &Path, to: u16, bond: u16) -> Step
+    requires joined { JoinsAt (ends_of mol.now) bond (last_of path.now.atoms) to }
+    ensures byte { (family : Family)
+        → (molecule_view mol.now family).byte (last_of path.now.atoms) to ≡ Some result.byte }
+    ensures label { (family : Family)
+        → (molecule_view mol.now family).label to ≡ label_of family result.known }
+{
+    Step {
+        byte: byte_of(mol.bonds()[usize::from(bond)].kind),
+        known: known(&mol.atoms()[usize::from(to)]),
+    }
 }
 
 #[inline(always)]

@@ -1,8 +1,11 @@
 //! Paths under way: the atoms so far, and the text in each family of labels.
-ghost use Rattle.std.specs.Prelude.{◌≡◌, ◌<◌, ◌≤◌, ◌+◌, ◌⊎◌, ◌↔◌, length, Contains, None, IsTrue, IfSome, IfNone, option_map};
+//!
+//! A path grows from its middle atom at its two ends in turn: it goes on to one more atom and is turned, so that it goes
+//! on at its other end next. So each path comes up once, and few are begun in vain.
+ghost use Rattle.std.specs.Prelude.{◌≡◌, ◌<◌, ◌≤◌, ◌+◌, ◌⊎◌, ◌↔◌, ◌∷◌, length, take, reverse, Contains, None, IsTrue, IfSome, IfNone, option_map};
 ghost use Rattle.chem_core.specs.Bits.{HasBit};
 ghost use Rattle.path_print.specs.Path.{bit_of};
-ghost use Rattle.path_print.specs.Texts.{longer_if, path_start, path_longer, IsBitHere, IsBitOf, IsCounted, SetsBits, first_of, last_of};
+ghost use Rattle.path_print.specs.Texts.{longer_if, path_start, path_longer, IsBitHere, IsBitOf, IsCounted, IsSpent, SetsBits, last_of};
 
 use crate::known::Known;
 use crate::text::Text;
@@ -12,14 +15,8 @@ use std::marker::Model;
 /// The most atoms of a path.
 pub const MOST: usize = 5;
 
-/// No atom may follow.
-pub struct Full;
-
 /// One atom may follow, and behind it those of `W`.
 pub struct More<W>(W);
-
-/// A path of one atom, which four may follow.
-pub type FromOne = More<More<More<More<Full>>>>;
 
 /// A path under way. Contracts see its atoms and its texts.
 #[derive(Drop)]
@@ -70,30 +67,40 @@ impl Path {
         self.atoms[self.count - 1]
     }
 
-    /// The atom that it begins with.
+    /// Whether it is counted in this direction.
     #[inline(always)]
-    pub fn first(&self) -> u16
-        ensures { result ≡ first_of self.now.atoms }
+    fn is_counted(&self) -> bool
+        ensures { IsTrue result ↔ IsCounted self.now.atoms }
     {
-        self.atoms[0]
+        let before = (self.count / 2).saturating_sub(1);
+        self.atoms[before] <= self.atoms[self.count - 1 - before]
     }
 
-    /// The path that goes on to an atom by a bond with this byte. `None` where it is full, where the atom is in it,
-    /// where it has no text, and where it would be full and is counted from its other end.
+    /// Whether no longer path is counted that grows from it.
+    #[inline(always)]
+    pub fn is_spent(&self) -> bool
+        ensures { IsTrue result ↔ IsSpent self.now.atoms }
+    {
+        let [first, second, third, fourth, _] = self.atoms;
+        match self.count {
+            3 => second < third && third < first,
+            4 => second < fourth,
+            _ => false,
+        }
+    }
+
+    /// The path that goes on to an atom by a bond with this byte, turned. `None` where it is full, where the atom is in
+    /// it, and where it has no text.
     #[inline(always)]
     pub fn longer(&self, atom: u16, byte: u8, known: Known) -> Option<Path>
         ensures value { IfSome result (λ p. p ≡ path_longer self.now atom byte known) }
         ensures new { IfSome result (λ _. Contains self.now.atoms atom → ⊥) }
         ensures room { IfSome result (λ _. length self.now.atoms < MOST) }
         ensures none { IfNone result ((length self.now.atoms ≡ MOST) ⊎ Contains self.now.atoms atom
-            ⊎ ((length self.now.atoms + 1 ≡ MOST) × (atom < first_of self.now.atoms))
             ⊎ ((path_longer self.now atom byte known).exact ≡ None)
             × ((path_longer self.now atom byte known).plain ≡ None)) }
     {
         if self.is_full() || self.has(atom) {
-            return None;
-        }
-        if self.count + 1 == MOST && atom < self.first() {
             return None;
         }
         let exact = longer_text(&self.exact, byte, known.exact());
@@ -101,14 +108,27 @@ impl Path {
         if exact.is_none() && plain.is_none() {
             return None;
         }
-        let mut atoms = self.atoms;
-        atoms[self.count] = atom;
         Some(Path {
-            atoms,
+            atoms: self.turned(atom),
             count: self.count + 1,
             exact,
             plain,
         })
+    }
+
+    // Its atoms and one more, turned.
+    #[inline(always)]
+    fn turned(&self, atom: u16) -> [u16; 5]
+        requires { length self.now.atoms < MOST }
+        ensures { take (length self.now.atoms + 1) result ≡ atom ∷ reverse self.now.atoms }
+    {
+        let [first, second, third, fourth, _] = self.atoms;
+        match self.count {
+            1 => [atom, first, 0, 0, 0],
+            2 => [atom, second, first, 0, 0],
+            3 => [atom, third, second, first, 0],
+            _ => [atom, fourth, third, second, first],
+        }
     }
 
     // Whether the atom is in it. There is no slice and no loop, so that the compiler keeps the atoms in registers.
@@ -149,7 +169,7 @@ impl Path {
     pub fn mark(&self, print: &mut Print)
         ensures bits { SetsBits (IsBitHere self.now) print.old print.new }
     {
-        if self.first() <= self.last() {
+        if self.is_counted() {
             mark_text(&self.exact, print);
             mark_text(&self.plain, print);
         }

@@ -1,7 +1,7 @@
 //! The need of a pattern: the bits that every molecule has in which it embeds.
 //!
 //! What the expressions imply is worked out once: for each atom, and in a square for each two atoms.
-ghost use Rattle.std.specs.Prelude.{◌≡◌, ◌+◌, ◌*◌, ◌<◌, ◌≤◌, ℕ, [], ◌∷◌, ◌++◌, length, slice_index, slice_set, IfSome, IfNone};
+ghost use Rattle.std.specs.Prelude.{All, ◌≡◌, ◌+◌, ◌*◌, ◌<◌, ◌≤◌, ℕ, ◌∷◌, length, reverse, slice_index, slice_set, IfSome, IfNone};
 ghost use Rattle.smarts_parse.specs.Pattern.{pattern_of, graph_of};
 ghost use Rattle.smarts_parse.specs.Sound.{IsSoundPattern};
 ghost use Rattle.path_print.specs.Prints.{graph_view, IsNeed};
@@ -10,7 +10,7 @@ ghost use Rattle.path_print.specs.Squares.{AreKnown, IsSimplePattern, IsSquare, 
 
 use crate::implied::{implied, implied_byte};
 use crate::known::Known;
-use crate::path::{FromOne, Full, MOST, More, Path};
+use crate::path::{MOST, More, Path};
 use chem_core::Print;
 use smarts_parse::{Graph, Pattern};
 
@@ -32,7 +32,7 @@ pub fn need(pattern: &Pattern) -> Print
     let mut print = Print::empty();
     for atom in 0..graph.atoms.len() {
         let path = Path::start(atom as u16, known[atom]);
-        FromOne::walk(graph, &known, &square, &path, &mut print);
+        <More<More<More<More<Full>>>>>::walk(graph, &known, &square, &path, &mut print);
     }
     print
 }
@@ -80,14 +80,17 @@ trait Walk {
     // how many atoms may follow
     ghost left: { ℕ };
 
-    // Sets the bits of all paths that begin with this one.
+    // Sets the bits of all paths that grow from this one.
     fn walk(graph: &Graph, known: &[Known], square: &[u8], path: &Path, print: &mut Print)
         requires sheet { IsSheet (graph_of graph.now) known.now square.now }
         requires path { IsOn (graph_view (graph_of graph.now)) path.now }
-        requires atom { last_of path.now.atoms < length (graph_of graph.now).atoms }
+        requires atoms { All (λ a. a < length (graph_of graph.now).atoms) path.now.atoms }
         requires left { length path.now.atoms + left ≡ MOST }
         ensures { SetsBits (IsBitFrom (graph_view (graph_of graph.now)) path.now.atoms) print.old print.new };
 }
+
+// No atom may follow.
+struct Full;
 
 impl Walk for Full {
     ghost left = { 0 };
@@ -104,6 +107,9 @@ impl<W: Walk> Walk for More<W> {
     #[inline(always)]
     fn walk(graph: &Graph, known: &[Known], square: &[u8], path: &Path, print: &mut Print) {
         path.mark(print);
+        if path.is_spent() {
+            return;
+        }
         for atom in 0..graph.atoms.len() {
             if let Some(longer) = step(graph, known, square, path, atom as u16) {
                 W::walk(graph, known, square, &longer, print);
@@ -120,7 +126,7 @@ fn step(graph: &Graph, known: &[Known], square: &[u8], path: &Path, atom: u16) -
     requires last { last_of path.now.atoms < length (graph_of graph.now).atoms }
     requires atom { atom < length (graph_of graph.now).atoms }
     ensures some { IfSome result (IsOneLonger (graph_view (graph_of graph.now)) path.now atom) }
-    ensures none { IfNone result (NoneFrom (graph_view (graph_of graph.now)) (path.now.atoms ++ atom ∷ [])) }
+    ensures none { IfNone result (NoneFrom (graph_view (graph_of graph.now)) (atom ∷ reverse path.now.atoms)) }
 {
     let byte = square[SIDE * usize::from(path.last()) + usize::from(atom)];
     if byte == 0 {

@@ -1,7 +1,7 @@
 //! The string of a path in its two directions, kept as two numbers, and what the hash of each is the remainder of.
 //!
-//! The string there grows at its end, and its hash with it. The string back grows in front: the new bytes weigh as much
-//! as all bytes behind them make them weigh.
+//! A path grows and is turned. So the string there, which grows at its end, and its hash with it, is the string back of
+//! the longer path. The string back grows in front: the new bytes weigh as much as all bytes behind them make them weigh.
 ghost use Rattle.std.specs.Prelude.{◌≡◌, ◌<◌, ◌≤◌, ◌+◌, ◌*◌, ◌%◌, length};
 ghost use Rattle.path_print.specs.Path.{bit_of};
 ghost use Rattle.path_print.specs.Texts.{of_label, longer_text};
@@ -61,7 +61,7 @@ impl Text {
         }
     }
 
-    /// The text of a path that goes on to one more atom.
+    /// The text of a path that goes on to one more atom, turned.
     #[inline(always)]
     pub fn longer(&self, byte: u8, label: (u8, u8)) -> Text
         requires { length self.now.there ≤ 11 }
@@ -70,11 +70,12 @@ impl Text {
         let tail = sum_of(byte, label.0, label.1);
         let head = sum_of(label.0, label.1, byte);
         let weighed = (SHIFTED + head) * self.weight;
+        let sum = before_growth(self.there_sum, self.length);
         Text {
-            there: (self.there << 24) + number_of(byte, label.0, label.1),
-            back: (number_of(label.0, label.1, byte) << (8 * self.length)) + self.back,
-            there_sum: self.there_sum % PRIME * FACTOR * FACTOR * FACTOR + tail,
-            back_sum: self.back_sum + weighed,
+            there: (number_of(label.0, label.1, byte) << (8 * self.length)) + self.back,
+            back: (self.there << 24) + number_of(byte, label.0, label.1),
+            there_sum: self.back_sum + weighed,
+            back_sum: sum * FACTOR * FACTOR * FACTOR + tail,
             weight: self.weight * FACTOR * FACTOR * FACTOR % PRIME,
             length: self.length + 3,
         }
@@ -92,6 +93,17 @@ impl Text {
             bit_from(self.there_sum)
         }
     }
+}
+
+// A sum with the same remainder, small enough to grow by three bytes. Sums of up to eight bytes are.
+#[inline(always)]
+fn before_growth(sum: u64, length: u64) -> u64
+    requires { length ≤ 8 → sum ≤ 2000000000000 }
+    ensures same { result % 65521 ≡ sum % 65521 }
+    ensures less { result ≤ sum }
+    ensures small { result ≤ 2000000000000 }
+{
+    if length > 8 { sum % PRIME } else { sum }
 }
 
 // The bit of a hash that is the remainder of this.

@@ -1,12 +1,10 @@
 -- Bonds stripped one after another.
-use Rattle.std.proofs.Common.{ℕ, ◌+◌, ◌<◌, ◌≤◌, ◌≡◌, ◌≢◌, ◌⊎◌, inl, inr, Bool, true, false, cond, Option, Some, None, List, [], ◌∷◌, ◌++◌, length, get_or, set, take, replicate, Contains, AllPairs, sym, ap, subst, ◌∙◌, arith}
-use Rattle.std.specs.List.{count_by}
+use Rattle.std.proofs.Common.{ℕ, ◌+◌, ◌<◌, ◌≤◌, ◌≡◌, ◌≢◌, ◌⊎◌, inl, inr, Bool, true, false, Option, Some, None, List, [], ◌∷◌, ◌++◌, length, get_or, set, take, replicate, Contains, AllPairs, sym, ap, subst, ◌∙◌, arith}
 use Rattle.std.specs.Option.{MatchOption, is_some}
 use Rattle.std.proofs.lemmas.Bool.{cases_lt, cases_eq, false≢true}
 use Rattle.std.proofs.lemmas.Option.{slice_get_within}
 use Rattle.std.proofs.lemmas.List.{length-set, length-replicate, length-take, get_or-take, get_or_default, take_more, take_all, get_or-set_same, get_or-set_other, get_or-replicate}
 use Rattle.std.proofs.lemmas.List.Elements.{Contains-get_or, Contains-push, Contains-push_cases, Contains-append_left}
-use Rattle.std.proofs.lemmas.List.Sums.{sum_by-set}
 use Rattle.chem_core.specs.Graph.{Ends, JoinsAt, IsRingBond}
 use Rattle.ring_find.specs.declared.graph.Step.{Step}
 use Rattle.ring_find.specs.Network.{AreStepsFrom}
@@ -43,14 +41,6 @@ keeps_more ends kept a steps s keeps from only = record {
         absurd (other.2 same)
   ];
 }
-
--- one kept bond fewer
-pub count_less : (kept : List Bool) (b : ℕ) → b < length kept → get_or kept b false ≡ true
-    → count_by (λ k. k) (set kept b false) + 1 ≡ count_by (λ k. k) kept
-count_less kept b h is =
-    let e = sum_by-set (λ k. cond k 1 0) kept b false false h in
-    let e' = rw is at e in
-    omega arith
 
 -- ---- dead ends
 

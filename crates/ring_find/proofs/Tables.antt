@@ -1,9 +1,9 @@
 -- The steps of each atom, put in bond after bond.
-use Rattle.std.proofs.Common.{ℕ, ◌+◌, ◌*◌, ◌<◌, ◌≤◌, ◌≡◌, ◌≢◌, ◌||◌, inl, inr, Bool, cond, eqb, Some, List, length, get_or, set, take, drop, replicate, refl, sym, ap, subst, ◌∙◌, arith}
+use Rattle.std.proofs.Common.{ℕ, ◌+◌, ◌*◌, ◌<◌, ◌≤◌, ◌≡◌, ◌≢◌, ◌||◌, inl, inr, Bool, cond, eqb, Some, List, length, get_or, set, take, drop, refl, sym, ap, subst, ◌∙◌, arith}
 use Rattle.std.specs.List.{slice_get}
 use Rattle.std.proofs.lemmas.Bool.{cases_lt, cases_eq, eq-eqb, ne_eqb, or_from, or_left, or_right}
 use Rattle.std.proofs.lemmas.Option.{slice_get_within, get_or_from_slice_get}
-use Rattle.std.proofs.lemmas.List.{get_or_read, length-set, length-take, length-drop, get_or-take, get_or-drop, get_or-set_same, get_or-set_other, get_or-replicate, length-replicate}
+use Rattle.std.proofs.lemmas.List.{get_or_read, length-set, length-take, length-drop, get_or-take, get_or-drop, get_or-set_same, get_or-set_other}
 use Rattle.std.proofs.lemmas.List.Sums.{count_by_more_yes, count_by_more_no, sum_by-take-le}
 use Rattle.chem_core.specs.Graph.{Ends, JoinsAt, IsSimpleGraph, degree}
 use Rattle.ring_find.specs.declared.graph.Step.{Step}
@@ -119,21 +119,6 @@ filled_none ends p v steps n e h at ne0 ne1 = record {
 }
 
 -- ---- all atoms
-
-pub AreFilled-none : (ends : Ends) (n : ℕ) (d : Step) → AreFilled ends 0 n (replicate (12 * n) d) (replicate n 0)
-AreFilled-none ends n d = record {
-  size = length-replicate (12 * n) d;
-  one_each = (let zeros : List ℕ = replicate n 0 in length-replicate n 0);
-  each = λ a l.
-      let zeros : List ℕ = replicate n 0 in
-      let none : get_or zeros a 0 ≡ 0 = get_or-replicate n a 0 0 l in
-      rw none (record {
-        number = refl;
-        joins = λ k d l. absurd (omega arith);
-        once = λ j k d low l. absurd (omega arith);
-        each = λ b y l joins. absurd (omega arith);
-      });
-}
 
 -- both steps of one more bond
 pub AreFilled-more : (n : ℕ) (ends : Ends) (p x y : ℕ) (steps : List Step) (degrees : List ℕ) → IsSimpleGraph n ends

@@ -1,14 +1,14 @@
 -- The pairs of blocks, as one block changes.
-use Rattle.std.proofs.Common.{◌≡◌, ◌≢◌, ◌+◌, ◌-◌, ◌<◌, ◌≤◌, ◌++◌, ◌∙◌, All, add-one, ap, ap₂, append_assoc, arith, Bool, cond, Contains, drop, false, filter, get_or, inl, inr, length, List, [], ◌∷◌, min, refl, set, subst, suc, sym, take, true, zero, ℕ}
-use Rattle.std.proofs.lemmas.Bool.{cases_lt, false_from_ne_true, true≢false}
+use Rattle.std.proofs.Common.{◌≡◌, ◌≢◌, ◌+◌, ◌-◌, ◌<◌, ◌≤◌, ◌++◌, ◌∙◌, All, add-one, ap, ap₂, append_assoc, arith, Contains, drop, false, filter, get_or, inl, inr, length, List, [], ◌∷◌, min, refl, set, subst, suc, sym, take, true, zero, ℕ}
+use Rattle.std.proofs.lemmas.Bool.{cases_lt}
 use Rattle.std.proofs.lemmas.List.Concat.{flat_map-append}
-use Rattle.std.proofs.lemmas.List.{append-nil, drop-set-lt, drop_all, get_or-drop, get_or-take, get_or_append_left, get_or_default, length-append, length-drop, length-take, length-take-le, take-set, take_all, take_more}
-use Rattle.std.proofs.lemmas.List.Elements.{All-append, All-cons, All-contains, All-drop, All-nil, All-set, All-take, All-tail, Contains-append_cases, Contains-append_left, Contains-append_right, filter-append}
+use Rattle.std.proofs.lemmas.List.{append-nil, drop-set-lt, drop_all, get_or-drop, get_or-take, get_or_append_left, get_or_default, length-append, length-drop, length-take-le, take-set, take_all, take_more}
+use Rattle.std.proofs.lemmas.List.Elements.{All-append, All-cons, All-contains, All-drop, All-nil, All-set, All-take, Contains-append_cases, Contains-append_left, Contains-append_right, filter-append}
 use Rattle.std.specs.List.{AllWithin, insert, remove}
 use Rattle.std.specs.List.Sorted.{IsPartitionedBy}
 use Rattle.screen_index.specs.declared.entry.Screened.{Screened}
 use Rattle.screen_index.specs.Pairs.{AreBlocks, Ascend, HasPlace, Lacks, ends_before, is_other, joined, put_in, rank_of}
-use Rattle.screen_index.proofs.Places.{all-before, all-stay, apart, ascend-left, ascend-right, before-all, not-before, pairs, put-before, put-behind, put-some}
+use Rattle.screen_index.proofs.Places.{all-before, all-stay, apart, ascend-left, ascend-right, before-all, not-before, put-before, put-behind}
 
 -- what is before a block, and what is behind it
 abbrev pub Before : List (List Screened) → ℕ → List Screened

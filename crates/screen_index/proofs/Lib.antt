@@ -1,4 +1,3 @@
 pub mod Blocks
 pub mod Nexts
 pub mod Places
-pub mod Unions

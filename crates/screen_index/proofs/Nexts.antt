@@ -1,8 +1,8 @@
 -- The least pair that is wanted, in parts of the pairs.
-use Rattle.std.proofs.Common.{◌≡◌, ◌+◌, ◌<◌, ◌≤◌, ◌++◌, ◌∙◌, All, ap, arith, Contains, get_or, inl, inr, length, List, [], ◌∷◌, None, Option, refl, Some, subst, sym, Bool, ℕ}
+use Rattle.std.proofs.Common.{◌≡◌, ◌<◌, ◌++◌, All, ap, arith, get_or, inl, inr, length, List, refl, Some, subst, sym, Bool, ℕ}
 use Rattle.std.proofs.lemmas.Bool.{cases_lt}
 use Rattle.std.proofs.lemmas.List.{get_or_default}
-use Rattle.std.proofs.lemmas.List.Elements.{All-append, All-contains, Contains-append_cases, Contains-append_left, Contains-append_right}
+use Rattle.std.proofs.lemmas.List.Elements.{All-contains, Contains-append_cases, Contains-append_left, Contains-append_right}
 use Rattle.std.specs.List.{AllWithin}
 use Rattle.screen_index.specs.declared.entry.Screened.{Screened}
 use Rattle.screen_index.specs.Pairs.{Ascend, AreCovered, Holds, IsNext, IsWanted, rank_of}

@@ -1,5 +1,5 @@
 -- Pairs in ascending order: one put in, one taken out, and parts of them.
-use Rattle.std.proofs.Common.{◌≡◌, ◌≢◌, ◌==◌, ◌+◌, ◌<◌, ◌≤◌, ◌++◌, ◌∙◌, All, ap, arith, Bool, cond, Contains, drop, eq-eqb, false, filter, get_or, inl, inr, length, List, [], ◌∷◌, nat_lt, not, refl, subst, suc, sym, take, true, zero, ℕ}
+use Rattle.std.proofs.Common.{◌≡◌, ◌≢◌, ◌==◌, ◌+◌, ◌<◌, ◌≤◌, ◌++◌, ◌∙◌, All, ap, arith, Bool, cond, Contains, eq-eqb, false, filter, get_or, inl, inr, length, List, [], ◌∷◌, nat_lt, not, refl, suc, sym, true, zero, ℕ}
 use Rattle.std.proofs.lemmas.Bool.{cases_lt, ne_eqb, true≢false}
 use Rattle.std.proofs.lemmas.Bool.Decides.{nat_tests}
 use Rattle.std.proofs.lemmas.List.{get_or_default}
@@ -8,7 +8,7 @@ use Rattle.std.proofs.lemmas.List.Sorted.{IsPartitionedBy-ltb}
 use Rattle.std.specs.List.{AllPairs, AllWithin, insert, remove}
 use Rattle.std.specs.List.Sorted.{IsNonDecreasingBy, IsPartitionedBy}
 use Rattle.screen_index.specs.declared.entry.Screened.{Screened}
-use Rattle.screen_index.specs.Pairs.{Ascend, HasPlace, Lacks, ends_before, is_other, put_in, rank_of}
+use Rattle.screen_index.specs.Pairs.{Ascend, Lacks, ends_before, is_other, put_in, rank_of}
 
 pub weaken : (a b : ℕ) (xs : List Screened) → a ≤ b → Ascend b xs → Ascend a xs
 weaken a b [] le up = tt

@@ -5,7 +5,7 @@ ghost use Rattle.screen_index.specs.declared.entry.Screened.{Screened};
 ghost use Rattle.screen_index.specs.Pairs.{Ascend, HasPlace, IsNext, Lacks, ends_before, is_other, put_in, rank, rank_of};
 
 use crate::entry::Screened;
-use crate::union::{union_of, unite};
+use crate::union::union_of;
 use chem_core::Print;
 use std::alloc::{AllocError, Global};
 use std::marker::Model;
@@ -80,7 +80,7 @@ impl Block {
         ensures { self.new ≡ put_in entry self.old }
     {
         let place = self.count_before((entry.id, entry.version));
-        unite(&mut self.union, &entry.print);
+        self.union.unite(&entry.print);
         let Ok(()) = self.entries.insert(place, entry) else {
             unreachable!()
         };
@@ -152,7 +152,7 @@ impl Block {
         ensures moved { self.new ≡ self.old ++ next.old }
         ensures empty { next.new ≡ [] }
     {
-        unite(&mut self.union, &next.union);
+        self.union.unite(&next.union);
         let Ok(()) = self.entries.append(&mut next.entries) else {
             unreachable!()
         };

@@ -1,35 +1,16 @@
-//! The union of prints, bit by bit.
-ghost use Rattle.std.specs.Prelude.{All};
-ghost use Rattle.screen_index.specs.Pairs.{AreCovered, Holds};
+//! The union of prints.
+ghost use Rattle.screen_index.specs.Pairs.{AreCovered};
 
 use crate::entry::Screened;
 use chem_core::Print;
-
-// How many bits a print has.
-const BITS: u16 = 1024;
-
-/// Sets each bit of a print in a union as well.
-pub fn unite(union: &mut Print, print: &Print)
-    ensures print { Holds union.new print.now }
-    ensures others { Holds union.new union.old }
-{
-    if union.holds(print) {
-        return;
-    }
-    for bit in 0..BITS {
-        if print.has(bit) {
-            union.set(bit);
-        }
-    }
-}
 
 /// A print that holds the print of each of these.
 pub fn union_of(entries: &[Screened]) -> Print
     ensures { AreCovered result entries.now }
 {
     let mut union = Print::empty();
-    for place in 0..entries.len() {
-        unite(&mut union, &entries[place].print);
+    for entry in entries {
+        union.unite(&entry.print);
     }
     union
 }

@@ -1,11 +1,14 @@
 -- How the lines of a source are read on, however its input goes on.
-use Rattle.std.proofs.Common.{◌≡◌, ℕ, IsTrue, Option, None, Some, List, [], ◌∷◌, ◌++◌, ◌≤◌, refl, sym, ap, ◌∙◌, subst, append_assoc}
+use Rattle.std.proofs.Common.{◌≡◌, Err, ℕ, IsTrue, Ok, OnErr, Option, None, Result, Some, List, [], ◌∷◌, ◌++◌, ◌≤◌, refl, sym, ap, ◌∙◌, subst, append_assoc}
 use Rattle.std.proofs.lemmas.List.{append_cancel_right}
 use Rattle.std.specs.Io.KnownBytes.{Consumes}
 use Rattle.io_edge.specs.Source.{Leaves}
-use Rattle.io_edge.specs.Lines.{TextLine, Reading, lines_left, done_bytes, IsFinished}
-use Rattle.io_edge.specs.NextLine.{Counts}
-use Rattle.session_run.specs.Turn.{ReadsLines, ReadsOn}
+use Rattle.io_edge.specs.Lines.{AwaitsBytes, TextLine, TooLong, Whole, Reading, lines_left, done_bytes, IsFinished}
+use Rattle.io_edge.specs.NextLine.{Answers, Counts}
+use Rattle.io_edge.specs.declared.lines.Line.{Line}
+use Rattle.io_edge.specs.declared.lines.Line.TheVariants.{End, Long, Text}
+use Rattle.io_edge.specs.declared.lines.LineFault.{LineFault}
+use Rattle.session_run.specs.Turn.{IsNextLine, ReadsLines, ReadsOn, TakesNone}
 
 some_one : (x y : List ℕ) → Some x ≡ Some y → x ≡ y
 some_one x y e = cc
@@ -54,7 +57,7 @@ lines_same before r = λ l l' got p q split h rest met.
     subst (λ (x : List ℕ). lines_left r (x ++ rest) ≡ lines_left r rest) none refl
 
 -- these lines were read
-pub lines_read : (lines : List TextLine) (old new : Reading) (before after : Option (List ℕ)) (got : List ℕ)
+lines_read : (lines : List TextLine) (old new : Reading) (before after : Option (List ℕ)) (got : List ℕ)
     → Leaves before got after
     → ((rest : List ℕ) → (IsTrue new.ended → rest ≡ [])
     → lines_left old (got ++ rest) ≡ lines ++ lines_left new rest)
@@ -64,7 +67,7 @@ lines_read lines old new before after got took is = λ l l' other p q split h re
     (same_got l l' got other before after p q took split) (is rest met)
 
 -- the input's end was met
-pub lines_ended : (old new : Reading) (before after : Option (List ℕ)) (got : List ℕ) → Leaves before got after
+lines_ended : (old new : Reading) (before after : Option (List ℕ)) (got : List ℕ) → Leaves before got after
     → ((rest : List ℕ) → (IsTrue new.ended → rest ≡ []) → lines_left old (got ++ rest) ≡ lines_left new rest)
     → IsFinished new → ReadsLines old new before after (λ lines left. (lines ≡ []) × (left ≡ []))
 lines_ended old new before after got took is end = λ l l' other p q split h rest met.
@@ -72,6 +75,20 @@ lines_ended old new before after got took is end = λ l l' other p q split h res
     (lines_read [] old new before after got took is l l' other p q split h rest met ∙ none, none) where
       none_left : (rest : List ℕ) → rest ≡ [] → lines_left new rest ≡ []
       none_left rest e = rw (e, end.none, end.short) refl
+
+abbrev ended : Result Line LineFault
+ended = Ok End
+
+pub is_next : (r : Result Line LineFault) (old new : Reading) (before after : Option (List ℕ)) (got : List ℕ)
+    → Leaves before got after → Answers r old got new → (r ≡ ended → IsFinished new) → OnErr r (AwaitsBytes new)
+    → IsNextLine old new before after r
+is_next (Ok Text) old new before after got took is end awaits =
+    lines_read (Whole new.text ∷ []) old new before after got took is
+is_next (Ok Long) old new before after got took is end awaits =
+    lines_read (TooLong ∷ []) old new before after got took is
+is_next (Ok End) old new before after got took is end awaits = lines_ended old new before after got took is (end refl)
+is_next (Err fault) old new before after got took is end awaits =
+    (lines_read [] old new before after got took is, awaits)
 
 module _ (P Q R : List TextLine → List TextLine → Type 0)
     (step : (lines between left : List TextLine) → P lines between → Q between left → R lines left) where
@@ -92,3 +109,11 @@ module _ (P Q R : List TextLine → List TextLine → Type 0)
       (sym (append_assoc u.got v.got rest) ∙ ap (λ x. x ++ rest) (sym whole))
       (step (lines_left old (u.got ++ (v.got ++ rest))) (lines_left r (v.got ++ rest)) (lines_left r' rest)
       (first l k.0 u.got p k.1 k.2 h (v.got ++ rest) none) (second k.0 l' v.got k.1 q mid ends rest met))
+
+-- where the input's end was met, no line was left
+pub none_left : (old new : Reading) (before after : Option (List ℕ)) (f f' : ℕ) → ReadsOn before after f f' old new
+    → ReadsLines old new before after (λ lines left. (lines ≡ []) × (left ≡ [])) → TakesNone old before
+none_left old new before after f f' u r = λ l p h.
+    let k = leaves l u.got before after p u.leaves in
+    subst (λ (x : List ℕ). lines_left old x ≡ []) (sym k.2)
+    (r l k.0 u.got p k.1 k.2 h k.0 (u.met l k.0 p k.1 h)).0

@@ -1,12 +1,13 @@
 -- The end of a search among reply lines, and what a page says.
 use Rattle.std.proofs.Common.{◌≡◌, ◌++◌, ◌+◌, ◌<◌, ◌≤◌, ◌↔◌, ◌∙◌, ap, arith, Bool, cond, Contains, false, leb-false, leb-true, nat_le, inl, inr, length, List, [], ◌∷◌, map, refl, subst, sym, true, ℕ}
+use Rattle.std.proofs.lemmas.Bool.{true≢false}
 use Rattle.std.proofs.lemmas.List.Elements.{Contains-append_right}
 use Rattle.shell_lang.specs.Reply as line
 use Rattle.store_machine.specs.Searches.{At, End, Place, past}
-use Rattle.session_run.specs.Answer.{Advances, IsCutShort, Lines, Lists, page_end}
+use Rattle.session_run.specs.Acts.{Advances, Ended, IsCutShort, Lines, Lists, Lost, Paged, after_page, page_end}
 use Rattle.session_run.specs.Cursors.{Calls, Cursor}
 use Rattle.session_run.specs.Dialogue.{GivePage, hits_in}
-use Rattle.session_run.proofs.Passing.{behind_hits, end_or_more, hit_or_more, hits_listed, one_in}
+use Rattle.session_run.proofs.Passing.{behind_hits, hit_or_more, hits_listed, last_or_more, one_in}
 
 -- The end among lines
 pub hit_or_end : (id version tried hits : ℕ) → line.Hit id ≡ line.End version tried hits → ⊥
@@ -27,18 +28,15 @@ no_page_said lines (inl m) no_more no_end = no_more m
 no_page_said lines (inr m) no_more no_end = no_end m.0 m.1 m.2 m.3
 
 -- whether a page says `more`
-pub says_more : (c : Cursor) (last : Bool) (hits : List ℕ) (lines : Lines) (n size : ℕ)
-    → lines ≡ map line.Hit hits ++ page_end last c ∷ [] → last ≡ nat_le n size
-    → Contains lines line.More ↔ (size < n)
-says_more c true hits lines n size said e = (
-  λ m. absurd (end_or_more c (behind_hits line.More hit_or_more hits (page_end true c)
-      (subst (λ (l : Lines). Contains l line.More) said m))),
+pub says_more : (c : Cursor) (last : Bool) (hits : List ℕ) (n size : ℕ) → last ≡ nat_le n size
+    → Contains (map line.Hit hits ++ page_end last c ∷ []) line.More ↔ (size < n)
+says_more c true hits n size e = (
+  λ m. absurd (true≢false (last_or_more true c (behind_hits line.More hit_or_more hits (page_end true c) m))),
   λ lt. let le : n ≤ size = leb-true n size (sym e) in absurd (omega arith),
 )
-says_more c false hits lines n size said e = (
+says_more c false hits n size e = (
   λ m. leb-false n size (sym e),
-  λ lt. subst (λ (l : Lines). Contains l line.More) (sym said)
-      (Contains-append_right (map line.Hit hits) (line.More ∷ []) line.More (0, omega arith, refl)),
+  λ lt. Contains-append_right (map line.Hit hits) (line.More ∷ []) line.More (0, omega arith, refl),
 )
 
 pub more_or_end : (version tried hits : ℕ) → line.More ≡ line.End version tried hits → ⊥
@@ -92,30 +90,19 @@ search_end (At from) version tried hits lines version' tried' count c k =
     absurd (cut_end hits lines version' tried' count c k)
 
 -- a cursor whose lines have an end
-pub advance_end : (size : ℕ) (place : Place) (c : Cursor) (calls : Calls) (lines : Lines) (c' : Cursor)
-    (version tried count : ℕ) → c.place ≡ place → Advances size place c calls lines c'
-    → Contains lines (line.End version tried count)
+page_is_end : (last : Bool) (c : Cursor) (version tried count : ℕ) → page_end last c ≡ line.End version tried count
+    → (last ≡ true) × SameEnd c.version c.tried c.hits version tried count
+page_is_end true c version tried count e = (refl, same_end c.version c.tried c.hits version tried count e)
+page_is_end false c version tried count e = absurd (more_or_end version tried count e)
+
+pub advance_end : {size : ℕ} {c c' : Cursor} {calls : Calls} {lines : Lines} (version tried count : ℕ)
+    → Advances size c calls lines c' → Contains lines (line.End version tried count)
     → (c'.place ≡ End) × SameEnd c'.version c'.tried c'.hits version tried count
-advance_end size End c calls lines c' version tried count at a k =
-    let e : line.End c.version c.tried c.hits ≡ line.End version tried count =
-    one_in (line.End c.version c.tried c.hits) (line.End version tried count)
-    (subst (λ (l : Lines). Contains l (line.End version tried count)) a.0.1 k) in (
-      ap (λ (x : Cursor). x.place) a.1 ∙ at,
-      subst (λ (x : Cursor). SameEnd x.version x.tried x.hits version tried count) (sym a.1)
-          (same_end c.version c.tried c.hits version tried count e),
-    )
-advance_end size (At from) c calls lines c' version tried count at (inl t) k =
-    by t.last refl (end_behind t.hits (page_end t.last c') version tried count
-    (subst (λ (l : Lines). Contains l (line.End version tried count)) t.said k))
-  where
-    by : (last : Bool) → t.last ≡ last → page_end last c' ≡ line.End version tried count
-        → (c'.place ≡ End) × SameEnd c'.version c'.tried c'.hits version tried count
-    by true q e = (
-      ap (λ (x : Cursor). x.place) t.moved ∙ ap (λ (b : Bool). cond b End (At (past from t.records))) q,
-      same_end c'.version c'.tried c'.hits version tried count e,
-    )
-    by false q e = absurd (more_or_end version tried count e)
-advance_end size (At from) c calls lines c' version tried count at (inr a) k =
-    absurd (fault_or_end version tried count
-    (one_in line.MemoryFault (line.End version tried count)
-    (subst (λ (l : Lines). Contains l (line.End version tried count)) a.1 k)))
+advance_end {c = c} version tried count (Ended at) k =
+    (at, same_end c.version c.tried c.hits version tried count (one_in _ _ k))
+advance_end {c = c} version tried count (Paged from records last hits at m) k =
+    let next = after_page c from records last hits in
+    let e = page_is_end last next version tried count (end_behind hits (page_end last next) version tried count k) in
+    (ap (λ (b : Bool). cond b End (At (past from records))) e.0, e.1)
+advance_end version tried count (Lost from at) k =
+    absurd (fault_or_end version tried count (one_in line.MemoryFault (line.End version tried count) k))

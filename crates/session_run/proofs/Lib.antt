@@ -9,11 +9,8 @@ pub mod Pages
 pub mod Listings
 pub mod Listed
 pub mod Ending
-pub mod Searching
 pub mod Moved
 pub mod Opening
-pub mod Keeping
-pub mod Responses
 pub mod Turning
 pub mod Named
 pub mod ByName
@@ -21,12 +18,10 @@ pub mod Closing
 pub mod Parting
 pub mod Passing
 pub mod Acts
+pub mod ActPins
 pub mod Pinned
 pub mod Followed
 pub mod Truth
 pub mod Told
-pub mod Placed
-pub mod Begun
-pub mod Unpinned
 pub mod Endings
-pub mod Orders
+pub mod Requested

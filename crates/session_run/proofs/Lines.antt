@@ -1,78 +1,187 @@
--- Answers of one line.
-use Rattle.std.proofs.Common.{◌≡◌, ◌≢◌, ◌⊎◌, IfErr, IfOk, ◌++◌, ◌∙◌, ap, append-nil, Err, inl, inr, List, [], ◌∷◌, Ok, OnErr, OnOk, refl, Result, subst, sym, ℕ}
+-- Answers by their lines: what was said, what a call's reply gave, and answers told in other words.
+use Rattle.std.proofs.Common.{◌≡◌, ◌≢◌, IfErr, IfOk, ◌++◌, ◌∙◌, ap, append-nil, Bool, Err, inr, List, [], ◌∷◌, Ok, OnErr, refl, Result, subst, sym, true, ℕ}
 use Rattle.mol_finish.specs.Structure.{IsAnswer}
 use Rattle.mol_finish.specs.declared.fault.Format.{Format}
 use Rattle.mol_finish.specs.declared.fault.TextFault.{TextFault}
 use Rattle.mol_finish.specs.declared.fault.TextFault.TheVariants as faults
+use Rattle.par_search.specs.declared.fault.SearchFault.{SearchFault}
+use Rattle.par_search.specs.declared.fault.SearchFault.TheVariants as searches
 use Rattle.shell_lang.specs.Reply as line
-use Rattle.shell_lang.specs.Reply.{reply_line, reply_of, text_of}
-use Rattle.shell_lang.specs.declared.reply.Refusal.{Refusal}
+use Rattle.shell_lang.specs.Reply.{reply_line, reply_of}
+use Rattle.shell_lang.specs.declared.reply.Refusal.TheVariants as refusals
 use Rattle.shell_lang.specs.declared.reply.Reply as written
 use Rattle.smarts_parse.specs.Pattern.{pattern_of}
 use Rattle.smarts_parse.specs.Reading.{IsReading, answer_of}
 use Rattle.smarts_parse.specs.declared.fault.SmartsFault.{SmartsFault}
-use Rattle.smarts_parse.specs.declared.pattern.Pattern.{Pattern}
 use Rattle.smarts_parse.specs.declared.fault.SmartsFault.TheVariants as patterns
+use Rattle.smarts_parse.specs.declared.pattern.Pattern.{Pattern}
+use Rattle.store_core.specs.Calls as core
+use Rattle.store_core.specs.Calls.{NotRaised, SameHeld}
+use Rattle.store_core.specs.Records.{IsRecord, RecordTerm}
+use Rattle.store_core.specs.declared.service.Service as meaning
 use Rattle.store_machine.specs.Structures.{IsText}
 use Rattle.store_machine.specs.declared.machine.Change.{Change}
-use Rattle.mol_finish.specs.declared.fault.Format.TheVariants as formats
-use Rattle.shell_lang.specs.Command.{molfile_command}
-use Rattle.shell_lang.specs.declared.command.LineRefusal.{LineRefusal}
-use Rattle.shell_lang.specs.declared.command.MolfileChange.{MolfileChange}
-use Rattle.shell_lang.specs.declared.command.MolfileChange.TheVariants as molfile
-use Rattle.session_run.specs.Responds.{IsChange, IsLostLine}
-use Rattle.session_run.specs.Answer.{Commits, FindsNoMemory, IsNoPattern, Lines, MolfileAnswer, TextAnswer}
-use Rattle.session_run.specs.Changes.{IsTextRefusal, change_by}
-use Rattle.session_run.specs.declared.change.Verb.{Verb}
-use Rattle.store_core.specs.Records.{IsRecord, RecordTerm}
-use Rattle.session_run.specs.Cursors.{Calls}
-use Rattle.session_run.specs.Made.{Answered, Did, OneLine, OneLineIn, Said, Tells, WornIn}
-use Rattle.session_run.specs.Searched.{IsPatternRefusal}
+use Rattle.store_machine.specs.declared.machine.Event.{Event}
+use Rattle.store_machine.specs.declared.machine.Event.TheVariants as events
+use Rattle.store_machine.specs.declared.machine.Reply.{Reply}
+use Rattle.store_machine.specs.declared.machine.Reply.TheVariants as replies
+use Rattle.store_machine.specs.declared.machine.State.{State}
+use Rattle.session_run.specs.Acts.{Act, Answers, Ask, Asks, Fault, IsLineOf, Lines, MayAsk, MayChange, Note, Refused, Say, Says, note_lines}
+use Rattle.session_run.specs.Cursors.{Calls, Cursor}
+use Rattle.session_run.specs.Made.{Answered, AnsweredBy, Broken, Gives, IsLineIn, Said, Tells, Unsaid, Uses, Writes, without_room}
+use Rattle.session_run.specs.Pins.{Leaves, effect}
+use Rattle.session_run.specs.Responds.{IsTextRefusal}
+use Rattle.session_run.specs.Searched.{Begins, IsFaultLine, IsPatternRefusal}
 use Rattle.session_run.specs.Texts.{IsPatternFault, IsPatternOf}
-use Rattle.session_run.specs.Transcript.{IsPrefixOf}
 use Rattle.session_run.specs.declared.stop.Stop.{Stop}
 use Rattle.session_run.specs.declared.stop.Stop.TheVariants as stops
-use Rattle.session_run.specs.declared.stop.Worn.{Worn}
+use Rattle.session_run.proofs.Joined.{uses-kept}
+
+-- a line that is said
+pub said : {X : Type 0} {Made : Calls → Type 0} {IsWorn : Type 0} {Is : Calls → Lines → X → Type 0} {out out' : List ℕ}
+    {x : X} (calls : Calls) (one : line.Reply) (result : Result (Unit {0}) Stop) → Made calls → Is calls (one ∷ []) x
+    → Tells one out out' result → Answered Made IsWorn Is out out' x result
+said {out = out} calls one (Ok u) m is e =
+    Said u (record { calls = calls; lines = one ∷ []; made = m; is = is })
+    (e ∙ ap (λ t. out ++ t) (sym (append-nil (reply_line one))))
+said calls one (Err stops.NoMemory) m is e = Unsaid (record { calls = calls; lines = one ∷ []; made = m; is = is })
+said calls one (Err stops.Worn) m is e = absurd e
+
+-- a service that is worn before the first call
+pub broken : {X : Type 0} {Made : Calls → Type 0} {IsWorn : Type 0} {Is : Calls → Lines → X → Type 0}
+    {out out' : List ℕ} {x : X} (whole : Calls) (lines : Lines) (after : X) (result : Result (Unit {0}) Stop) → Made []
+    → IsWorn → Is whole lines after → result ≡ Err stops.Worn → Answered Made IsWorn Is out out' x result
+broken {Made = Made} {IsWorn} {Is} {out} {out'} {x} whole lines after result m worn is e =
+    subst (λ (r : Result (Unit {0}) Stop). Answered Made IsWorn Is out out' x r) (sym e) (Broken (record {
+      calls = [];
+      whole = whole;
+      lines = lines;
+      after = after;
+      made = m;
+      begins = (whole, refl);
+      is = is;
+      worn = worn;
+    }))
+
+-- an answer that is told in other words
+pub answered_as : {X Y : Type 0} {Made : Calls → Type 0} {IsWorn : Type 0} {Is : Calls → Lines → X → Type 0}
+    {As : Calls → Lines → Y → Type 0} {out out' : List ℕ} {x : X} {result : Result (Unit {0}) Stop} (to : X → Y)
+    → ((calls : Calls) (lines : Lines) (x : X) → Is calls lines x → As calls lines (to x))
+    → Answered Made IsWorn Is out out' x result → Answered Made IsWorn As out out' (to x) result
+answered_as to f (Said u did e) =
+    Said u (record { calls = did.calls; lines = did.lines; made = did.made; is = f _ _ _ did.is }) e
+answered_as to f (Unsaid did) =
+    Unsaid (record { calls = did.calls; lines = did.lines; made = did.made; is = f _ _ _ did.is })
+answered_as to f (Broken w) = Broken (record {
+  calls = w.calls;
+  whole = w.whole;
+  lines = w.lines;
+  after = to w.after;
+  made = w.made;
+  begins = w.begins;
+  is = f _ _ _ w.is;
+  worn = w.worn;
+})
+
+-- by acts that are allowed more
+pub allowed_as : {Made : Calls → Type 0} {IsWorn : Type 0} {size : ℕ} {Allowed More : Act → Type 0}
+    {cursors x : List Cursor} {out out' : List ℕ} {result : Result (Unit {0}) Stop}
+    → ((act : Act) → Allowed act → More act) → Answered Made IsWorn (Answers size Allowed cursors) out out' x result
+    → Answered Made IsWorn (Answers size More cursors) out out' x result
+allowed_as f a =
+    answered_as (λ x. x) (λ calls lines x b. record { act = b.act; allowed = f b.act b.allowed; does = b.does }) a
+
+-- a note
+pub noted : {size : ℕ} {Allowed : Act → Type 0} {cursors : List Cursor} (note : Note) → Allowed (Say note)
+    → Answers size Allowed cursors [] (note_lines note) cursors
+noted note may = record { act = Say note; allowed = may; does = Says note }
+
+-- the line that a call's reply gave
+in_line : (event : Event) (calls : Calls) (one : line.Reply) → IsLineIn event calls one
+    → (reply : Reply) × (calls ≡ (event, reply) ∷ []) × IsLineOf event reply one
+in_line event [] one l = absurd l
+in_line event (c ∷ cs) one l =
+    (c.1, ap (λ (rest : Calls). c ∷ rest) l.2 ∙ ap (λ (e : Event). (e, c.1) ∷ []) l.0, l.1)
+
+module _ {S : Type 0} {of : meaning.Ghosts S} {old new : S} {size : ℕ} {Allowed : Act → Type 0} {cursors : List Cursor}
+    {out out' : List ℕ} where
+  pub asked : (event : Event) (calls : Calls) (worn : Bool) (given : Result written.Reply Stop)
+      (result : Result (Unit {0}) Stop) → ((r : Reply) → effect event r ≡ Leaves)
+      → Allowed (Ask event) → Allowed (Say Fault)
+      → ((s : State) → of.at old s → core.Calls of.stretch (of.owns old) old new s calls)
+      → SameHeld (of.holds old) (of.holds new) → NotRaised (of.bounds old) (of.bounds new)
+      → (worn ≡ true → of.worn new) → Gives event calls worn given → Writes given out out' result
+      → AnsweredBy of old new (Answers size Allowed cursors) out out' cursors result
+  asked event calls worn (Ok reply) result leaves may lacks made held bounds is_worn g w =
+      let l = in_line event calls (reply_of reply) g in
+      said ((event, l.0) ∷ []) (reply_of reply) result
+      (uses-kept ((event, l.0) ∷ []) (subst (λ (cs : Calls). (s : State) → of.at old s
+      → core.Calls of.stretch (of.owns old) old new s cs) l.1 made) (leaves l.0, tt) held bounds)
+      (record { act = Ask event; allowed = may; does = Asks event l.0 (reply_of reply) l.2 }) w
+  asked event calls worn (Err stops.Worn) result leaves may lacks made held bounds is_worn g w =
+      broken [] (line.MemoryFault ∷ []) cursors result
+      (uses-kept [] (subst (λ (cs : Calls). (s : State) → of.at old s
+      → core.Calls of.stretch (of.owns old) old new s cs) g.0 made) tt held bounds) (is_worn g.1) (noted Fault lacks) w
+  asked event calls worn (Err stops.NoMemory) result leaves may lacks made held bounds is_worn g w = absurd g
+
+  -- where no search began
+  pub unbegun : (fault : SearchFault) (given : Result written.Reply Stop) (result : Result (Unit {0}) Stop)
+      → Allowed (Ask events.Pin) → Allowed (Say Fault) → Begins (Uses of old new) (of.worn new) (Err fault)
+      → IsFaultLine fault given → Writes given out out' result
+      → AnsweredBy of old new (Answers size Allowed cursors) out out' cursors result
+  unbegun searches.Pins given result may lacks made is w =
+      said ((events.Pin, replies.NoPin) ∷ []) (line.Refused refusals.Pins) result made
+      (record { act = Ask events.Pin; allowed = may; does = Asks events.Pin replies.NoPin _ refl })
+      (subst (λ (g : Result written.Reply Stop). Writes g out out' result) is w)
+  unbegun searches.NoMemory given result may lacks made is w =
+      said [] line.MemoryFault result made (noted Fault lacks)
+      (subst (λ (g : Result written.Reply Stop). Writes g out out' result) is w)
+  unbegun searches.Worn given result may lacks made is w =
+      broken [] (line.MemoryFault ∷ []) cursors result made.0 made.1 (noted Fault lacks)
+      (subst (λ (g : Result written.Reply Stop). Writes g out out' result) is w)
+
+-- where there is no room for what was looked up
+look_short : (id : ℕ) (r : Reply) (one : line.Reply) → IsLineOf (events.Look id) r one
+    → IsLineOf (events.Look id) r line.MemoryFault
+look_short id (replies.Looked state) one h = inr refl
+look_short id replies.NoMemory one h = refl
+look_short id _ one h = absurd h
+
+pub gives_room : (id : ℕ) (calls : Calls) (worn : Bool) (given : Result written.Reply Stop)
+    → Gives (events.Look id) calls worn given → Gives (events.Look id) calls worn (without_room given)
+gives_room id [] worn (Ok reply) g = absurd g
+gives_room id (c ∷ cs) worn (Ok reply) g = (g.0, look_short id c.1 (reply_of reply) g.1, g.2)
+gives_room id calls worn (Err stop) g = g
 
 -- a text that is refused
-pub text_refused : (Made : Calls → Type 0) (change : Change) (format : Format) (text : List ℕ) (fault : TextFault)
-    (said : line.Reply) → Made [] → IsAnswer format text (Err fault) → IsTextRefusal fault said
-    → (calls : Calls) × Made calls × TextAnswer change format text calls (said ∷ [])
-text_refused Made change format text faults.NoMemory said m is e =
-    ([], m, inr (inl (refl, ap (λ (x : line.Reply). x ∷ []) e)))
-text_refused Made change format text (faults.Smiles f) said m is e =
-    ([], m, inl (faults.Smiles f, is, (refl, ap (λ (x : line.Reply). x ∷ []) e)))
-text_refused Made change format text (faults.Molfile f) said m is e =
-    ([], m, inl (faults.Molfile f, is, (refl, ap (λ (x : line.Reply). x ∷ []) e)))
+pub text_refused : {size : ℕ} {cursors : List Cursor} (change : Change) (format : Format) (text : List ℕ)
+    (fault : TextFault) (one : line.Reply) → IsAnswer format text (Err fault) → IsTextRefusal fault one
+    → Answers size (MayChange change format text) cursors [] (one ∷ []) cursors
+text_refused {size} {cursors} change format text faults.NoMemory one is e =
+    subst (λ (l : line.Reply). Answers size (MayChange change format text) cursors [] (l ∷ []) cursors) (sym e)
+    (noted Fault tt)
+text_refused {size} {cursors} change format text fault one is e =
+    subst (λ (l : line.Reply). Answers size (MayChange change format text) cursors [] (l ∷ []) cursors) (sym e)
+    (noted (Refused (refusals.Text fault)) is)
 
--- a text that has a structure, and its change
-pub text_committed : (Made : Calls → Type 0) (change change' : Change) (format : Format) (text : List ℕ)
-    (result : Result written.Reply Worn)
-    → change ≡ change' → IsText format text → OneLine Made (Commits change) result
-    → OneLine Made (TextAnswer change' format text) result
-text_committed Made change change' format text (Ok reply) e is o =
-    (o.0, o.1, inr (inr (is, subst (λ (c : Change). Commits c o.0 (reply_of reply ∷ [])) e o.2)))
-text_committed Made change change' format text (Err w) e is o = o
+-- the change of a text that has a structure
+pub may_change : (change change' : Change) (format : Format) (text : List ℕ) → change ≡ change' → IsText format text
+    → (act : Act) → MayAsk (events.Commit change) act → MayChange change' format text act
+may_change change change' format text e is (Say Fault) a = tt
+may_change change change' format text e is (Ask event) a = (a ∙ ap (λ (c : Change). events.Commit c) e, is)
+may_change change change' format text e is _ a = absurd a
 
 -- a text that is no pattern
-pub pattern_refused : (text : List ℕ) (fault : SmartsFault) (said : line.Reply)
-    → ((fault ≡ patterns.NoMemory → ⊥) → IsPatternFault text fault)
-    → IsPatternRefusal fault said → IsNoPattern text [] (said ∷ []) ⊎ FindsNoMemory [] (said ∷ [])
-pattern_refused text patterns.NoMemory said is e = inr (refl, ap (λ (x : line.Reply). x ∷ []) e)
-pattern_refused text patterns.Reaction said is e =
-    inl (patterns.Reaction, is (λ p. cc), (refl, ap (λ (x : line.Reply). x ∷ []) e))
-pattern_refused text patterns.Syntax said is e =
-    inl (patterns.Syntax, is (λ p. cc), (refl, ap (λ (x : line.Reply). x ∷ []) e))
-pattern_refused text patterns.Stereo said is e =
-    inl (patterns.Stereo, is (λ p. cc), (refl, ap (λ (x : line.Reply). x ∷ []) e))
-pattern_refused text patterns.RingSet said is e =
-    inl (patterns.RingSet, is (λ p. cc), (refl, ap (λ (x : line.Reply). x ∷ []) e))
-pattern_refused text patterns.Ring said is e =
-    inl (patterns.Ring, is (λ p. cc), (refl, ap (λ (x : line.Reply). x ∷ []) e))
-pattern_refused text patterns.Limit said is e =
-    inl (patterns.Limit, is (λ p. cc), (refl, ap (λ (x : line.Reply). x ∷ []) e))
-pattern_refused text patterns.Grouping said is e =
-    inl (patterns.Grouping, is (λ p. cc), (refl, ap (λ (x : line.Reply). x ∷ []) e))
+pub pattern_refused : {size : ℕ} {cursors : List Cursor} (Allowed : Act → Type 0) (text : List ℕ) (fault : SmartsFault)
+    (one : line.Reply) → Allowed (Say Fault)
+    → ((f : SmartsFault) → IsPatternFault text f → Allowed (Say (Refused (refusals.Pattern f))))
+    → ((fault ≡ patterns.NoMemory → ⊥) → IsPatternFault text fault) → IsPatternRefusal fault one
+    → Answers size Allowed cursors [] (one ∷ []) cursors
+pattern_refused {size} {cursors} Allowed text patterns.NoMemory one lacks may is e =
+    subst (λ (l : line.Reply). Answers size Allowed cursors [] (l ∷ []) cursors) (sym e) (noted Fault lacks)
+pattern_refused {size} {cursors} Allowed text fault one lacks may is e =
+    subst (λ (l : line.Reply). Answers size Allowed cursors [] (l ∷ []) cursors) (sym e)
+    (noted (Refused (refusals.Pattern fault)) (may fault (is (λ p. cc))))
 
 -- what a text was read as
 pub pattern_read : (text : List ℕ) (r : Result Pattern SmartsFault) → IsReading text (answer_of r)
@@ -85,111 +194,9 @@ pub pattern_fault : (text : List ℕ) (r : Result Pattern SmartsFault) → IsRea
 pattern_fault text (Ok p) is = tt
 pattern_fault text (Err fault) is = λ n. (n, is)
 
--- an answer that is told in other words
-pub answered_as : {X Y : Type 0} (Made : Calls → Type 0) (Is : Calls → Lines → X → Type 0)
-    (As : Calls → Lines → Y → Type 0) (to : X → Y)
-    → ((calls : Calls) (lines : Lines) (x : X) → Is calls lines x → As calls lines (to x))
-    → (out out' : List ℕ) (x : X) (result : Result (Unit {0}) Stop) → Answered Made Is out out' x result
-    → Answered Made As out out' (to x) result
-answered_as Made Is As to f out out' x (Ok _) a =
-    (record { calls = a.0.calls; lines = a.0.lines; made = a.0.made; is = f _ _ _ a.0.is }, a.1)
-answered_as Made Is As to f out out' x (Err stops.NoMemory) a =
-    record { calls = a.calls; lines = a.lines; made = a.made; is = f _ _ _ a.is }
-answered_as Made Is As to f out out' x (Err stops.Worn) a =
-    record {
-      calls = a.calls;
-      whole = a.whole;
-      lines = a.lines;
-      after = to a.after;
-      made = a.made;
-      begins = a.begins;
-      is = f _ _ _ a.is;
-    }
-
--- a line that is said
-pub said_answered : {X : Type 0} (Made : Calls → Type 0) (Is : Calls → Lines → X → Type 0) (out out' : List ℕ) (x : X)
-    (calls : Calls) (said : line.Reply) (stop : Result (Unit {0}) Stop)
-    → Made calls → Is calls (said ∷ []) x → Tells said out out' stop → Answered Made Is out out' x stop
-said_answered Made Is out out' x calls said (Ok _) m is e = (
-  record { calls = calls; lines = said ∷ []; made = m; is = is },
-  e ∙ ap (λ t. out ++ t) (sym (append-nil (reply_line said))),
-)
-said_answered Made Is out out' x calls said (Err stops.NoMemory) m is e =
-    record { calls = calls; lines = said ∷ []; made = m; is = is }
-said_answered Made Is out out' x calls said (Err stops.Worn) m is e = absurd e
-
--- a service that is worn before the first call
-pub worn_answered : {X : Type 0} (Made : Calls → Type 0) (Is : Calls → Lines → X → Type 0) (x : X) (whole : Calls)
-    (lines : Lines) → Made [] → Is whole lines x → WornIn Made Is
-worn_answered Made Is x whole lines m is =
-    record { calls = []; whole = whole; lines = lines; after = x; made = m; begins = (whole, refl); is = is }
-
--- a line that was written, by whether the service was worn
-pub line_answered : {X : Type 0} (Made : Calls → Type 0) (Is : Calls → Lines → Type 0) (As : Calls → Lines → X → Type 0)
-    (out out' : List ℕ) (x : X) (reply : Result written.Reply Worn) (result : Result (Unit {0}) Stop)
-    → ((calls : Calls) (lines : Lines) → Is calls lines → As calls lines x) → (whole : Calls) (said : Lines)
-    → Is whole said → OneLine Made Is reply → Said reply out out' result → Answered Made As out out' x result
-line_answered Made Is As out out' x (Ok reply) (Ok _) f whole said is o e = (
-  record { calls = o.0; lines = reply_of reply ∷ []; made = o.1; is = f _ _ o.2 },
-  e ∙ ap (λ t. out ++ t) (sym (append-nil (reply_line (reply_of reply)))),
-)
-line_answered Made Is As out out' x (Ok reply) (Err stops.NoMemory) f whole said is o e =
-    record { calls = o.0; lines = reply_of reply ∷ []; made = o.1; is = f _ _ o.2 }
-line_answered Made Is As out out' x (Ok reply) (Err stops.Worn) f whole said is o e = absurd e
-line_answered Made Is As out out' x (Err w) (Ok _) f whole said is o e = absurd e
-line_answered Made Is As out out' x (Err w) (Err stops.NoMemory) f whole said is o e = absurd e
-line_answered Made Is As out out' x (Err w) (Err stops.Worn) f whole said is o e =
-    record { calls = []; whole = whole; lines = said; after = x; made = o; begins = (whole, refl); is = f _ _ is }
-
--- the same where something is left
-pub line_in_answered : {X : Type 0} (Made : Calls → Type 0) (Is : Calls → Lines → X → Type 0) (out out' : List ℕ)
-    (x : X) (reply : Result written.Reply Worn) (result : Result (Unit {0}) Stop)
-    → OneLineIn Made Is x reply → Said reply out out' result → Answered Made Is out out' x result
-line_in_answered Made Is out out' x (Ok reply) (Ok _) o e = (
-  record { calls = o.0; lines = reply_of reply ∷ []; made = o.1; is = o.2 },
-  e ∙ ap (λ t. out ++ t) (sym (append-nil (reply_line (reply_of reply)))),
-)
-line_in_answered Made Is out out' x (Ok reply) (Err stops.NoMemory) o e =
-    record { calls = o.0; lines = reply_of reply ∷ []; made = o.1; is = o.2 }
-line_in_answered Made Is out out' x (Ok reply) (Err stops.Worn) o e = absurd e
-line_in_answered Made Is out out' x (Err w) (Ok _) o e = absurd e
-line_in_answered Made Is out out' x (Err w) (Err stops.NoMemory) o e = absurd e
-line_in_answered Made Is out out' x (Err w) (Err stops.Worn) o e = o
-
--- what a record is made of
-pub change_same : (verb : Verb) (r : RecordTerm) (id : ℕ) (format : Format) (text : List ℕ) → r.id ≡ id
-    → r.format ≡ format → r.text ≡ text → change_by verb r.id r.format r.text ≡ change_by verb id format text
-change_same verb r id format text a b d = cc
-
-pub text_same : (r : RecordTerm) (format : Format) (text : List ℕ) → r.format ≡ format → r.text ≡ text
-    → IsText r.format r.text → IsText format text
-text_same r format text e f h = subst (λ (x : List ℕ). IsText format x) f (subst (λ (x : Format). IsText x r.text) e h)
-
-pub text_is : (r : RecordTerm) → IsRecord r → IsText r.format r.text
-text_is r is = (r.mol, is.structure)
-
-pub on_ok : {X E : Type 0} (r : Result X E) (P : Type 0) → P → OnOk r P
-on_ok (Ok x) P p = p
-on_ok (Err e) P p = tt
-
 pub on_err : {X E : Type 0} (r : Result X E) (P : Type 0) → P → OnErr r P
 on_err (Ok x) P p = tt
 on_err (Err e) P p = p
 
--- a change to a molfile's text
-pub molfile_answer : (change : MolfileChange) (verb : Verb) (id : ℕ) (text : List ℕ) (calls : Calls) (lines : Lines)
-    → IsChange change verb id → TextAnswer (change_by verb id formats.Molfile text) formats.Molfile text calls lines
-    → MolfileAnswer (molfile_command (Ok change)) text calls lines
-molfile_answer (molfile.Register n) verb id text calls lines is a =
-    subst (λ (v : Verb). TextAnswer (change_by v n formats.Molfile text) formats.Molfile text calls lines) is.0
-    (subst (λ (i : ℕ). TextAnswer (change_by verb i formats.Molfile text) formats.Molfile text calls lines) is.1 a)
-molfile_answer (molfile.Revise n) verb id text calls lines is a =
-    subst (λ (v : Verb). TextAnswer (change_by v n formats.Molfile text) formats.Molfile text calls lines) is.0
-    (subst (λ (i : ℕ). TextAnswer (change_by verb i formats.Molfile text) formats.Molfile text calls lines) is.1 a)
-
--- where no text is left of a molfile
-pub lost_answer : (read : Result MolfileChange LineRefusal) (said : line.Reply) → IsLostLine read said
-    → (any : List ℕ) → MolfileAnswer (molfile_command read) any [] (said ∷ [])
-lost_answer (Ok (molfile.Register n)) said e any = inr (inl (refl, ap (λ (x : line.Reply). x ∷ []) e))
-lost_answer (Ok (molfile.Revise n)) said e any = inr (inl (refl, ap (λ (x : line.Reply). x ∷ []) e))
-lost_answer (Err refusal) said e any = (refl, ap (λ (x : line.Reply). x ∷ []) e)
+pub text_is : (r : RecordTerm) → IsRecord r → IsText r.format r.text
+text_is r is = (r.mol, is.structure)

@@ -1,5 +1,5 @@
 -- A search that is listed page by page, and its end.
-use Rattle.std.proofs.Common.{◌≡◌, ◌⊎◌, ◌++◌, ◌+◌, ◌∙◌, ◌||◌, ap, append-nil, append_assoc, arith, Bool, Err, false, inl, inr, length, length-append, List, [], ◌∷◌, map, not, None, Ok, Option, refl, Result, Some, subst, sym, true, ℕ}
+use Rattle.std.proofs.Common.{◌≡◌, ◌⊎◌, ◌++◌, ◌+◌, ◌∙◌, ◌||◌, ap, append-nil, append_assoc, arith, Bool, Err, false, inl, inr, length-append, List, [], ◌∷◌, map, not, Ok, refl, Result, subst, sym, true, ℕ}
 use Rattle.std.proofs.lemmas.List.{map-append}
 use Rattle.par_search.specs.Searches.{SearchTerm, place_after}
 use Rattle.par_search.specs.declared.fault.SearchFault.{SearchFault}
@@ -7,6 +7,7 @@ use Rattle.par_search.specs.declared.fault.SearchFault.TheVariants as faults
 use Rattle.shell_lang.specs.Reply as line
 use Rattle.shell_lang.specs.Reply.{reply_line, text_of}
 use Rattle.smarts_parse.specs.Pattern.{pattern_of}
+use Rattle.store_core.specs.declared.service.Service as meaning
 use Rattle.store_machine.specs.Answers.{AreMatched}
 use Rattle.store_machine.specs.Searches.{Place, At, End}
 use Rattle.store_machine.specs.Structures.{IsNeedOf}
@@ -14,11 +15,14 @@ use Rattle.store_machine.specs.declared.machine.Event.{Event}
 use Rattle.store_machine.specs.declared.machine.Event.TheVariants as events
 use Rattle.store_machine.specs.declared.machine.Reply.{Reply}
 use Rattle.store_machine.specs.declared.machine.Reply.TheVariants as replies
-use Rattle.session_run.specs.Answer.{Lines}
+use Rattle.session_run.specs.Acts.{Lines}
 use Rattle.session_run.specs.Cursors.{Calls, IsSearched}
-use Rattle.session_run.specs.Walks.{ArePartlyWritten, AreWritten, IsLost, IsNoPage, IsPage, Listed, Listing, Pages}
+use Rattle.session_run.specs.Made.{Uses}
+use Rattle.session_run.specs.Walks.{ArePartlyWritten, AreWritten, IsLost, IsNoPage, IsPage, Listed, Listing, Pages, Part, Whole}
 use Rattle.session_run.specs.declared.listing.Shown.{Shown}
 use Rattle.session_run.specs.declared.listing.Walk.{Walk}
+use Rattle.session_run.proofs.ActPins.{fetches_leave}
+use Rattle.session_run.proofs.Held.{leave-same}
 use Rattle.session_run.proofs.Listings.{pages_more, searched_lost, searched_none, searched_page}
 use Rattle.session_run.proofs.Pages.{moved_to}
 
@@ -87,9 +91,9 @@ not_whole : false ≡ true → ⊥
 not_whole e = cc
 
 -- whether all is written or a part
-pub listing_cut : (Made : Calls → Type 0) (begun now : SearchTerm) (tried count : ℕ) (out out' : List ℕ) (w : Bool)
+pub listing_cut : {Made : Calls → Type 0} {begun now : SearchTerm} {tried count : ℕ} {out out' : List ℕ} {w : Bool}
     → Listing Made begun now tried count out w out' → Listing Made begun now tried count out false out'
-listing_cut Made begun now tried count out out' w l = record {
+listing_cut {out = out} {out' = out'} {w = w} l = record {
   pages = l.pages;
   hits = l.hits;
   made = l.made;
@@ -101,18 +105,21 @@ listing_cut Made begun now tried count out out' w l = record {
   answered = λ e. absurd (not_whole e);
 }
 
-module _ (First Next All : Calls → Type 0) (joins : (xs ys : Calls) → First xs → Next ys → All (xs ++ ys))
-    (begun now new : SearchTerm) (tried count : ℕ) (out out' out'' : List ℕ)
-    (l : Listing First begun now tried count out true out') where
-  slot_is : now.slot ≡ begun.slot
-  slot_is = ap (λ (s : SearchTerm). s.slot) l.moved
+-- what a listing leaves of its search
+slot_is : {Made : Calls → Type 0} {begun now : SearchTerm} {tried count : ℕ} {out out' : List ℕ} {w : Bool}
+    → Listing Made begun now tried count out w out' → now.slot ≡ begun.slot
+slot_is l = ap (λ (s : SearchTerm). s.slot) l.moved
 
-  want_is : now.want ≡ l.searched.want
-  want_is = ap (λ (s : SearchTerm). s.want) l.moved ∙ sym l.want
+want_is : {Made : Calls → Type 0} {begun now : SearchTerm} {tried count : ℕ} {out out' : List ℕ} {w : Bool}
+    → (l : Listing Made begun now tried count out w out') → now.want ≡ l.searched.want
+want_is l = ap (λ (s : SearchTerm). s.want) l.moved ∙ sym l.want
 
-  size_is : now.size ≡ begun.size
-  size_is = ap (λ (s : SearchTerm). s.size) l.moved
+size_is : {Made : Calls → Type 0} {begun now : SearchTerm} {tried count : ℕ} {out out' : List ℕ} {w : Bool}
+    → Listing Made begun now tried count out w out' → now.size ≡ begun.size
+size_is l = ap (λ (s : SearchTerm). s.size) l.moved
 
+module _ {First Next All : Calls → Type 0} {begun now new : SearchTerm} {tried count : ℕ} {out out' out'' : List ℕ}
+    (joins : (xs ys : Calls) → First xs → Next ys → All (xs ++ ys)) (l : Listing First begun now tried count out true out') where
   -- nothing more was done
   pub listing_same : Next [] → new ≡ now → out'' ≡ out' → (w : Bool) → Listing All begun new tried count out w out''
   listing_same m e o w = record {
@@ -142,7 +149,7 @@ module _ (First Next All : Calls → Type 0) (joins : (xs ys : Calls) → First 
     hits = l.hits ++ p.hits;
     made = joins l.pages (call ∷ []) l.made (subst (λ (c : Event × Reply). Next (c ∷ []))
         (same_fetch now.slot begun.slot now.want l.searched.want p.from now.size begun.size
-        (replies.Page p.records shown.last) slot_is want_is size_is) p.made);
+        (replies.Page p.records shown.last) (slot_is l) (want_is l) (size_is l)) p.made);
     searched = there.0;
     want = there.1 ∙ l.want;
     moved = p.moved ∙ (ap (λ (s : SearchTerm). moved_to s (place_after p.from p.records shown.last)) l.moved
@@ -176,8 +183,8 @@ module _ (First Next All : Calls → Type 0) (joins : (xs ys : Calls) → First 
       pages = l.pages ++ call ∷ [];
       hits = l.hits;
       made = joins l.pages (call ∷ []) l.made (subst (λ (c : Event × Reply). Next (c ∷ []))
-          (same_fetch now.slot begun.slot now.want l.searched.want e.0 now.size begun.size replies.NoMemory slot_is
-          want_is size_is) (subst Next e.2 p.made));
+          (same_fetch now.slot begun.slot now.want l.searched.want e.0 now.size begun.size replies.NoMemory (slot_is l)
+          (want_is l) (size_is l)) (subst Next e.2 p.made));
       searched = there.0;
       want = there.1 ∙ l.want;
       moved = p.same ∙ (l.moved ∙ ap (λ (q : Place). moved_to begun q) (sym place_is));
@@ -216,33 +223,33 @@ at_end Made old new out out' shown (inl p) e =
     ap (λ (s : SearchTerm). s.place) p.moved ∙ ap (λ (b : Bool). place_after p.from p.records b) e
 at_end Made old new out out' shown (inr p) e = ap (λ (s : SearchTerm). s.place) p.same ∙ p.place
 
--- what a page says of its search
-pub page_kept : (Made : Calls → Type 0) (old new : SearchTerm) (out out' : List ℕ) (r : Result Shown SearchFault)
-    → Pages Made old new out out' r → (place : Place) × (new ≡ record old { place = place })
-page_kept Made old new out out' (Ok shown) (inl p) = (place_after p.from p.records shown.last, p.moved)
-page_kept Made old new out out' (Ok shown) (inr p) = (old.place, p.same)
-page_kept Made old new out out' (Err faults.NoMemory) p = (old.place, p.same)
-page_kept Made old new out out' (Err faults.Worn) p = (old.place, p.1)
-page_kept Made old new out out' (Err faults.Pins) p = absurd p
+-- a page moves its search alone
+pub page_size : (Made : Calls → Type 0) (IsWorn : Type 0) (old new : SearchTerm) (out out' : List ℕ)
+    (r : Result Shown SearchFault) → Pages Made IsWorn old new out out' r → new.size ≡ old.size
+page_size Made IsWorn old new out out' (Ok shown) (inl p) = ap (λ (s : SearchTerm). s.size) p.moved
+page_size Made IsWorn old new out out' (Ok shown) (inr p) = ap (λ (s : SearchTerm). s.size) p.same
+page_size Made IsWorn old new out out' (Err faults.NoMemory) p = ap (λ (s : SearchTerm). s.size) p.same
+page_size Made IsWorn old new out out' (Err faults.Worn) p = ap (λ (s : SearchTerm). s.size) p.1
+page_size Made IsWorn old new out out' (Err faults.Pins) p = absurd p
 
 or_true : (a : Bool) → (a || not true) ≡ true → a ≡ true
 or_true true e = refl
 or_true false e = e
 
 -- a search that is listed no further
-pub listed_done : (Made : Calls → Type 0) (old new : Walk) (out out' : List ℕ) (shown : Shown) (tried count : ℕ)
+pub listed_done : (Made : Calls → Type 0) (IsWorn : Type 0) (old new : Walk) (out out' : List ℕ) (shown : Shown) (tried count : ℕ)
     → Listing Made old.search new.search tried count out shown.whole out' → new.tried ≡ tried → new.hits ≡ count
     → true ≡ (shown.last || not shown.whole) → (shown.last ≡ true → new.search.place ≡ End)
-    → Listed Made old new out out' (Ok shown.whole)
-listed_done Made old new out out' shown tried count l t h e end = by shown.whole refl where
-  by : (w : Bool) → shown.whole ≡ w → Listed Made old new out out' (Ok w)
-  by true q = (
-    subst (λ (n : ℕ). Listing Made old.search new.search n new.hits out true out') (sym t)
-        (subst (λ (n : ℕ). Listing Made old.search new.search tried n out true out') (sym h)
-        (subst (λ (b : Bool). Listing Made old.search new.search tried count out b out') q l)),
-    end (or_true shown.last (subst (λ (b : Bool). (shown.last || not b) ≡ true) q (sym e))),
-  )
-  by false q = (tried, count, subst (λ (b : Bool). Listing Made old.search new.search tried count out b out') q l)
+    → Listed Made IsWorn old new out out' (Ok shown.whole)
+listed_done Made IsWorn old new out out' shown tried count l t h e end = by shown.whole refl where
+  by : (w : Bool) → shown.whole ≡ w → Listed Made IsWorn old new out out' (Ok w)
+  by true q = Whole
+      (subst (λ (n : ℕ). Listing Made old.search new.search n new.hits out true out') (sym t)
+      (subst (λ (n : ℕ). Listing Made old.search new.search tried n out true out') (sym h)
+      (subst (λ (b : Bool). Listing Made old.search new.search tried count out b out') q l)))
+      (end (or_true shown.last (subst (λ (b : Bool). (shown.last || not b) ≡ true) q (sym e))))
+  by false q =
+      Part tried count (subst (λ (b : Bool). Listing Made old.search new.search tried count out b out') q l)
 
 whole_on : (a b : Bool) → (a || not b) ≡ false → b ≡ true
 whole_on false true e = refl
@@ -252,11 +259,21 @@ whole_on true b e = absurd (apart e) where
   apart e = cc
 
 -- a search that is listed on
-pub listed_on : (Made : Calls → Type 0) (begun new : SearchTerm) (out out' : List ℕ) (shown : Shown)
-    (tried count tried' count' : ℕ)
+pub listed_on : {Made : Calls → Type 0} {begun new : SearchTerm} {out out' : List ℕ} (shown : Shown)
+    {tried count tried' count' : ℕ}
     → Listing Made begun new tried count out shown.whole out' → tried' ≡ tried → count' ≡ count
     → false ≡ (shown.last || not shown.whole) → Listing Made begun new tried' count' out true out'
-listed_on Made begun new out out' shown tried count tried' count' l t h e =
+listed_on {Made} {begun} {new} {out} {out'} shown {tried} {count} {tried'} {count'} l t h e =
     subst (λ (n : ℕ). Listing Made begun new n count' out true out') (sym t)
     (subst (λ (n : ℕ). Listing Made begun new tried n out true out') (sym h)
     (subst (λ (b : Bool). Listing Made begun new tried count out b out') (whole_on shown.last shown.whole (sym e)) l))
+
+-- its pin is held all the time
+pub still_held : {S : Type 0} (of : meaning.Ghosts S) {a b : S} {begun now : SearchTerm} {tried count : ℕ}
+    {out out' : List ℕ} {whole : Bool} → Listing (Uses of a b) begun now tried count out whole out'
+    → of.holds a begun.slot begun.version → of.holds b now.slot now.version
+still_held of {a} {b} {begun = begun} l h =
+    let leave = leave-same (of.holds a) l.pages
+    (fetches_leave begun.slot begun.size l.searched.want (At 0) _ l.pages l.searched.fetches) in
+    subst (λ (s : SearchTerm). of.holds b s.slot s.version) (sym l.moved)
+    ((l.made.pins.now begun.slot begun.version).1 ((leave begun.slot begun.version).1 h))

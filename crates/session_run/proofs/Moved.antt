@@ -6,20 +6,20 @@ use Rattle.par_search.specs.declared.fault.SearchFault.TheVariants as faults
 use Rattle.shell_lang.specs.Reply as line
 use Rattle.shell_lang.specs.Reply.{reply_line}
 use Rattle.smarts_parse.specs.Pattern.{pattern_of}
-use Rattle.store_machine.specs.Searches.{Place, At, End}
+use Rattle.store_machine.specs.Searches.{At}
 use Rattle.store_machine.specs.declared.machine.Event.TheVariants as events
 use Rattle.store_machine.specs.declared.machine.Reply.{Reply}
 use Rattle.store_machine.specs.declared.machine.Reply.TheVariants as replies
-use Rattle.session_run.specs.Answer.{Advances, Lines, page_end}
+use Rattle.session_run.specs.Acts.{Ended, Lines, Lost, Paged, page_end}
 use Rattle.session_run.specs.Cursors.{Calls, Cursor}
-use Rattle.session_run.specs.Made.{Answered, Tells, WornIn}
-use Rattle.session_run.specs.Walks.{AreWritten, Counts, CursorAnswer, EndsPage, IsLost, IsNoPage, IsPage, Pages, cursor_of}
+use Rattle.session_run.specs.Made.{Answered, Said, Tells, Unsaid}
+use Rattle.session_run.specs.Walks.{AreWritten, Counts, CursorAnswer, EndsPage, IsNoPage, IsPage, Pages, cursor_of}
 use Rattle.session_run.specs.declared.cursors.Cursor as rust
 use Rattle.session_run.specs.declared.listing.Shown.{Shown}
 use Rattle.session_run.specs.declared.stop.Stop.{Stop}
 use Rattle.session_run.specs.declared.stop.Stop.TheVariants as stops
 use Rattle.session_run.proofs.Ending.{text_more}
-use Rattle.session_run.proofs.Lines.{said_answered}
+use Rattle.session_run.proofs.Lines.{broken, said}
 
 -- a cursor, by its search and its counts
 abbrev with_search : List ℕ → SearchTerm → ℕ → ℕ → Cursor
@@ -47,7 +47,7 @@ fetches s from reply = (events.Fetch s.slot s.want from s.size, reply) ∷ []
 abbrev page_lines : List ℕ → Bool → Cursor → Lines
 page_lines hits last c = map line.Hit hits ++ page_end last c ∷ []
 
-module _ (Made : Calls → Type 0) (c c' : rust.Cursor) (out out' out'' : List ℕ)
+module _ (Made : Calls → Type 0) (IsWorn : Type 0) (c c' : rust.Cursor) (out out' out'' : List ℕ)
     (name : c'.name.items ≡ c.name.items) where
   abbrev Is : Calls → Lines → Cursor → Type 0
   Is calls lines after = CursorAnswer c.walk.search.size (cursor_of c) calls lines after
@@ -59,12 +59,6 @@ module _ (Made : Calls → Type 0) (c c' : rust.Cursor) (out out' out'' : List �
       same_cursor c.name.items c'.name.items c.walk.search c'.walk.search c.walk.tried c'.walk.tried c.walk.hits
       c'.walk.hits name s t h
 
-  -- by where it was
-  from_place : (place : Place) (calls : Calls) (lines : Lines) → c.walk.search.place ≡ place
-      → Advances c.walk.search.size place (cursor_of c) calls lines (cursor_of c') → Is calls lines (cursor_of c')
-  from_place place calls lines e a =
-      inr (subst (λ (q : Place). Advances c.walk.search.size q (cursor_of c) calls lines (cursor_of c')) (sym e) a)
-
   -- a page whose lines are these
   turned : (shown : Shown) (p : IsPage Made c.walk.search c'.walk.search out out' shown)
       → c'.walk.tried ≡ c.walk.tried + shown.tried → c'.walk.hits ≡ c.walk.hits + shown.hits
@@ -72,18 +66,12 @@ module _ (Made : Calls → Type 0) (c c' : rust.Cursor) (out out' out'' : List �
       (page_lines p.hits shown.last (cursor_of c')) (cursor_of c')
   turned shown p t h =
       let next : SearchTerm = record c.walk.search { place = place_after p.from p.records shown.last } in
-      from_place (At p.from) (fetches c.walk.search p.from (replies.Page p.records shown.last))
-      (page_lines p.hits shown.last (cursor_of c')) p.place (inl (record {
-        records = p.records;
-        last = shown.last;
-        hits = p.hits;
-        made = refl;
-        matched = p.matched;
-        moved = same_cursor c.name.items c'.name.items next c'.walk.search (c.walk.tried + length p.records)
-            c'.walk.tried (c.walk.hits + length p.hits) c'.walk.hits name p.moved
-            (t ∙ ap (λ (n : ℕ). c.walk.tried + n) p.tried) (h ∙ ap (λ (n : ℕ). c.walk.hits + n) p.count);
-        said = refl;
-      }))
+      let calls = fetches c.walk.search p.from (replies.Page p.records shown.last) in
+      subst (λ (x : Cursor). Is calls (page_lines p.hits shown.last x) x)
+      (sym (same_cursor c.name.items c'.name.items next c'.walk.search (c.walk.tried + length p.records)
+      c'.walk.tried (c.walk.hits + length p.hits) c'.walk.hits name p.moved
+      (t ∙ ap (λ (n : ℕ). c.walk.tried + n) p.tried) (h ∙ ap (λ (n : ℕ). c.walk.hits + n) p.count)))
+      (inr (Paged p.from p.records shown.last p.hits p.place p.matched))
 
   -- the end alone
   ended : (shown : Shown) (p : IsNoPage Made c.walk.search c'.walk.search out out' shown)
@@ -91,47 +79,26 @@ module _ (Made : Calls → Type 0) (c c' : rust.Cursor) (out out' out'' : List �
       → Is [] (page_end shown.last (cursor_of c') ∷ []) (cursor_of c')
   ended shown p t h =
       let same = stays p.same (omega (arith, t, p.tried)) (omega (arith, h, p.count)) in
-      let said = ap (λ (b : Bool). page_end b (cursor_of c') ∷ []) p.last
-      ∙ ap (λ (x : Cursor). page_end true x ∷ []) same in
-      from_place End [] (page_end shown.last (cursor_of c') ∷ []) p.place ((refl, said), same)
+      subst (λ (b : Bool). Is [] (page_end b (cursor_of c') ∷ []) (cursor_of c')) (sym p.last)
+      (subst (λ (x : Cursor). Is [] (page_end true x ∷ []) x) (sym same) (inr (Ended p.place)))
 
   -- a page was shown, and its end was said
   shown_ended : (shown : Shown) (result : Result (Unit {0}) Stop)
       → IsPage Made c.walk.search c'.walk.search out out' shown
       ⊎ IsNoPage Made c.walk.search c'.walk.search out out' shown
       → c'.walk.tried ≡ c.walk.tried + shown.tried → c'.walk.hits ≡ c.walk.hits + shown.hits
-      → EndsPage (cursor_of c') (Ok shown) out' out'' result → Answered Made Is out out'' (cursor_of c') result
-  shown_ended shown (Ok _) (inl p) t h end = (
-    record {
-      calls = fetches c.walk.search p.from (replies.Page p.records shown.last);
-      lines = page_lines p.hits shown.last (cursor_of c');
-      made = p.made;
-      is = turned shown p t h;
-    },
-    text_more out out' out'' p.hits (page_end shown.last (cursor_of c'))
-        (subst (λ (b : Bool). AreWritten b p.hits out out') end.0 p.written) end.1,
-  )
-  shown_ended shown (Ok _) (inr p) t h end = (
-    record {
-      calls = [];
-      lines = page_end shown.last (cursor_of c') ∷ [];
-      made = p.made;
-      is = ended shown p t h;
-    },
-    text_more out out' out'' [] (page_end shown.last (cursor_of c')) (p.unwritten ∙ sym (append-nil out)) end.1,
-  )
-  shown_ended shown (Err stops.NoMemory) (inl p) t h end = record {
-    calls = fetches c.walk.search p.from (replies.Page p.records shown.last);
-    lines = page_lines p.hits shown.last (cursor_of c');
-    made = p.made;
-    is = turned shown p t h;
-  }
-  shown_ended shown (Err stops.NoMemory) (inr p) t h end = record {
-    calls = [];
-    lines = page_end shown.last (cursor_of c') ∷ [];
-    made = p.made;
-    is = ended shown p t h;
-  }
+      → EndsPage (cursor_of c') (Ok shown) out' out'' result → Answered Made IsWorn Is out out'' (cursor_of c') result
+  shown_ended shown (Ok u) (inl p) t h end =
+      Said u (record { calls = _; lines = _; made = p.made; is = turned shown p t h })
+      (text_more out out' out'' p.hits (page_end shown.last (cursor_of c'))
+      (subst (λ (b : Bool). AreWritten b p.hits out out') end.0 p.written) end.1)
+  shown_ended shown (Ok u) (inr p) t h end =
+      Said u (record { calls = _; lines = _; made = p.made; is = ended shown p t h })
+      (text_more out out' out'' [] (page_end shown.last (cursor_of c')) (p.unwritten ∙ sym (append-nil out)) end.1)
+  shown_ended shown (Err stops.NoMemory) (inl p) t h end =
+      Unsaid (record { calls = _; lines = _; made = p.made; is = turned shown p t h })
+  shown_ended shown (Err stops.NoMemory) (inr p) t h end =
+      Unsaid (record { calls = _; lines = _; made = p.made; is = ended shown p t h })
   shown_ended shown (Err stops.Worn) p t h end = absurd end
 
   -- no memory was found
@@ -139,57 +106,24 @@ module _ (Made : Calls → Type 0) (c c' : rust.Cursor) (out out' out'' : List �
       → (calls ≡ [])
       ⊎ ((from : ℕ) × (c.walk.search.place ≡ At from) × (calls ≡ fetches c.walk.search from replies.NoMemory))
       → Is calls (line.MemoryFault ∷ []) (cursor_of c')
-  lost_by calls same (inl e) = inl ((e, refl), same)
-  lost_by calls same (inr e) = from_place (At e.0) calls (line.MemoryFault ∷ []) e.1 (inr (e.2, refl, same))
-
-  lost_ended : (result : Result (Unit {0}) Stop) → IsLost Made c.walk.search c'.walk.search out out'
-      → c'.walk.tried ≡ c.walk.tried → c'.walk.hits ≡ c.walk.hits → Tells line.MemoryFault out' out'' result
-      → Answered Made Is out out'' (cursor_of c') result
-  lost_ended result p t h tells =
-      said_answered Made Is out out'' (cursor_of c') p.calls line.MemoryFault result p.made
-      (lost_by p.calls (stays p.same t h) p.by)
-      (subst (λ (o : List ℕ). Tells line.MemoryFault o out'' result) p.unwritten tells)
-
-  -- the service was worn
-  worn_before : Made [] → WornIn Made Is
-  worn_before m = record {
-    calls = [];
-    whole = [];
-    lines = line.MemoryFault ∷ [];
-    after = cursor_of c;
-    made = m;
-    begins = ([], refl);
-    is = inl ((refl, refl), refl);
-  }
+  lost_by calls same (inl e) = inl (e, refl, same)
+  lost_by calls same (inr e) =
+      subst (λ (l : Calls). Is l (line.MemoryFault ∷ []) (cursor_of c')) (sym e.2)
+      (subst (λ (x : Cursor). Is (fetches c.walk.search e.0 replies.NoMemory) (line.MemoryFault ∷ []) x) (sym same)
+      (inr (Lost e.0 e.1)))
 
   -- a page, by what it gave and how its end was said
   pub next_answered : (page : Result Shown SearchFault) (result : Result (Unit {0}) Stop)
-      → Pages Made c.walk.search c'.walk.search out out' page → Counts c.walk c'.walk page
+      → Pages Made IsWorn c.walk.search c'.walk.search out out' page → Counts c.walk c'.walk page
       → EndsPage (cursor_of c') page out' out'' result
-      → Answered Made (CursorAnswer c.walk.search.size (cursor_of c)) out out'' (cursor_of c') result
+      → Answered Made IsWorn (CursorAnswer c.walk.search.size (cursor_of c)) out out'' (cursor_of c') result
   next_answered (Ok shown) result p n end = shown_ended shown result p n.0 n.1 end
-  next_answered (Err faults.NoMemory) result p n end = lost_ended result p n.0 n.1 end
+  next_answered (Err faults.NoMemory) result p n end =
+      said p.calls line.MemoryFault result p.made (lost_by p.calls (stays p.same n.0 n.1) p.by)
+      (subst (λ (o : List ℕ). Tells line.MemoryFault o out'' result) p.unwritten end)
   next_answered (Err faults.Pins) result p n end = absurd p
   next_answered (Err faults.Worn) result p n end =
-      subst (λ (r : Result (Unit {0}) Stop). Answered Made Is out out'' (cursor_of c') r) (sym end) (worn_before p.0)
-
--- only a page that was worn ends so
-pub page_worn : (c : Cursor) (page : Result Shown SearchFault) (out out' : List ℕ) (result : Result (Unit {0}) Stop)
-    → EndsPage c page out out' result → result ≡ Err stops.Worn → page ≡ Err faults.Worn
-page_worn c (Ok shown) out out' (Ok _) end e = cc
-page_worn c (Ok shown) out out' (Err stops.NoMemory) end e = cc
-page_worn c (Ok shown) out out' (Err stops.Worn) end e = absurd end
-page_worn c (Err faults.NoMemory) out out' result end e =
-    absurd (subst (λ (r : Result (Unit {0}) Stop). Tells line.MemoryFault out out' r) e end)
-page_worn c (Err faults.Pins) out out' result end e =
-    absurd (subst (λ (r : Result (Unit {0}) Stop). Tells line.MemoryFault out out' r) e end)
-page_worn c (Err faults.Worn) out out' result end e = refl
-
--- a line that was told, or not for want of memory
-pub not_worn : (said : line.Reply) (out out' : List ℕ) (result : Result (Unit {0}) Stop) → Tells said out out' result
-    → (result ≡ Err stops.Worn → ⊥)
-not_worn said out out' result t e =
-    subst (λ (r : Result (Unit {0}) Stop). Tells said out out' r) e t
+      broken [] (line.MemoryFault ∷ []) (cursor_of c) result p.0 p.3 (inl (refl, refl, refl)) end
 
 -- the end of a page that was shown, by whether its line was written
 pub end_said : (c : Cursor) (shown : Shown) (out out' : List ℕ) (result : Result (Unit {0}) Stop)

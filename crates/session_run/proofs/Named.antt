@@ -23,10 +23,6 @@ sized-left : (size : ℕ) (xs ys : List rust.Cursor) → AreSized size (xs ++ ys
 sized-left size [] ys h = tt
 sized-left size (x ∷ xs) ys h = (h.0, sized-left size xs ys h.1)
 
-sized-right : (size : ℕ) (xs ys : List rust.Cursor) → AreSized size (xs ++ ys) → AreSized size ys
-sized-right size [] ys h = h
-sized-right size (x ∷ xs) ys h = sized-right size xs ys h.1
-
 sized-both : (size : ℕ) (xs ys : List rust.Cursor) → AreSized size xs → AreSized size ys → AreSized size (xs ++ ys)
 sized-both size [] ys h k = k
 sized-both size (x ∷ xs) ys h k = (h.0, sized-both size xs ys h.1 k)

@@ -1,5 +1,5 @@
 -- The pages of a search: one by one, and together.
-use Rattle.std.proofs.Common.{◌≡◌, ◌≢◌, ◌⊎◌, ◌≤◌, ◌++◌, ◌+◌, ◌==◌, ◌∙◌, ap, append-nil, append_assoc, arith, Bool, cond, Err, eq-eqb, false, if◌then◌else◌, inl, inr, length, length-append, List, [], ◌∷◌, map, None, Ok, OnErr, OnOk, Option, refl, Result, Some, subst, suc, sym, true, ℕ}
+use Rattle.std.proofs.Common.{◌≡◌, ◌≢◌, ◌≤◌, ◌++◌, ◌+◌, ◌∙◌, ap, append-nil, arith, Bool, Err, false, inl, inr, length, List, [], ◌∷◌, map, Ok, OnErr, OnOk, refl, Result, subst, suc, sym, true, ℕ}
 use Rattle.std.specs.Prelude.{is_ok}
 use Rattle.std.specs.declared.alloc.AllocError.{AllocError}
 use Rattle.par_search.specs.Moves.{IsEnded, after, place_behind}
@@ -19,7 +19,7 @@ use Rattle.store_machine.specs.declared.machine.Event.TheVariants as events
 use Rattle.store_machine.specs.declared.machine.Found.{Found}
 use Rattle.store_machine.specs.declared.machine.Reply.TheVariants as replies
 use Rattle.session_run.specs.Cursors.{Calls}
-use Rattle.session_run.specs.Walks.{ArePartlyWritten, AreWritten, IsLost, IsNoPage, IsPage, Pages}
+use Rattle.session_run.specs.Walks.{ArePartlyWritten, AreWritten, IsLost, Pages}
 use Rattle.session_run.specs.declared.listing.Shown.{Shown}
 
 -- no more are matched than there are
@@ -54,9 +54,6 @@ failed fault = Err fault
 abbrev pub unshown : SearchFault → Result Shown SearchFault
 unshown fault = Err fault
 
-pub err_is : (x y : SearchFault) → unshown x ≡ unshown y → x ≡ y
-err_is x y e = cc
-
 -- the search at another place
 abbrev pub moved_to : SearchTerm → Place → SearchTerm
 moved_to search place = record search { place = place }
@@ -68,16 +65,16 @@ pub worn_by : (place : Place) (fault : SearchFault) (none : Type 0) (before worn
 worn_by End fault none before worn ended w e = absurd (ended refl).0
 worn_by (At from) fault none before worn ended w e = (w (λ k. cc)).1 (ap (λ (f : SearchFault). is_worn (failed f)) e)
 
-module _ (Made : Calls → Type 0) (old new : SearchTerm) (out out' : List ℕ) where
+module _ (Made : Calls → Type 0) (IsWorn : Type 0) (old new : SearchTerm) (out out' : List ℕ) where
   -- a page that was shown
   pub page_shown : (page : PageHits) (w : Bool) (shown : Shown)
       → new ≡ after old (Ok page) → Made (next_calls old (Ok page)) → (old.place ≡ End → HasNothing page)
       → AreMatched (pattern_of old.pattern) (founds page.records.now) page.hits.now
       → page.tried ≡ length page.records.now → AreWritten w page.hits.now out out'
       → shown.tried ≡ page.tried → shown.hits ≡ length page.hits.now → shown.last ≡ page.last → shown.whole ≡ w
-      → Pages Made old new out out' (Ok shown)
+      → Pages Made IsWorn old new out out' (Ok shown)
   page_shown page w shown n made ended m tried wr t h l e = by old.place refl where
-    by : (p : Place) → old.place ≡ p → Pages Made old new out out' (Ok shown)
+    by : (p : Place) → old.place ≡ p → Pages Made IsWorn old new out out' (Ok shown)
     by (At from) q = inl (record {
       from = from;
       records = founds page.records.now;
@@ -108,13 +105,13 @@ module _ (Made : Calls → Type 0) (old new : SearchTerm) (out out' : List ℕ) 
 
   -- a page that was not fetched
   pub page_failed : (fault : SearchFault) → new ≡ after old (Err fault) → Made (next_calls old (Err fault))
-      → fault ≢ faults.Pins → out' ≡ out → Pages Made old new out out' (Err fault)
-  page_failed faults.Pins n made pins o = pins refl
-  page_failed faults.Worn n made pins o = (by old.place made, n, o) where
+      → fault ≢ faults.Pins → (fault ≡ faults.Worn → IsWorn) → out' ≡ out → Pages Made IsWorn old new out out' (Err fault)
+  page_failed faults.Pins n made pins worn o = pins refl
+  page_failed faults.Worn n made pins worn o = (by old.place made, n, o, worn refl) where
     by : (p : Place) → Made (calls_at p old (Err faults.Worn)) → Made []
     by (At from) m = m
     by End m = m
-  page_failed faults.NoMemory n made pins o = by old.place refl where
+  page_failed faults.NoMemory n made pins worn o = by old.place refl where
     by : (p : Place) → old.place ≡ p → IsLost Made old new out out'
     by (At from) q = record {
       calls = (events.Fetch old.slot old.want from old.size, replies.NoMemory) ∷ [];
@@ -137,8 +134,8 @@ pub lost_none : (Made : Calls → Type 0) (s : SearchTerm) (out out' : List ℕ)
 lost_none Made s out out' m e = record { calls = []; made = m; by = inl refl; same = refl; unwritten = e }
 
 -- no memory was found for a text
-pub lost_exit : (Made : Calls → Type 0) (s : SearchTerm) (out out' : List ℕ) (r : Result Shown SearchFault)
-    → (y : SearchFault) × (r ≡ unshown y) × (y ≡ faults.NoMemory) → Made [] → out' ≡ out → Pages Made s s out out' r
-lost_exit Made s out out' r p m e =
-    subst (λ (x : Result Shown SearchFault). Pages Made s s out out' x) (sym (p.1 ∙ ap unshown p.2))
+pub lost_exit : (Made : Calls → Type 0) (IsWorn : Type 0) (s : SearchTerm) (out out' : List ℕ) (r : Result Shown SearchFault)
+    → (y : SearchFault) × (r ≡ unshown y) × (y ≡ faults.NoMemory) → Made [] → out' ≡ out → Pages Made IsWorn s s out out' r
+lost_exit Made IsWorn s out out' r p m e =
+    subst (λ (x : Result Shown SearchFault). Pages Made IsWorn s s out out' x) (sym (p.1 ∙ ap unshown p.2))
     (lost_none Made s out out' m e)

@@ -1,9 +1,9 @@
 -- A run cut at its caller's calls: what the pages of a pin are together, whatever follows.
-use Rattle.std.proofs.Common.{◌≡◌, ◌&&◌, ◌++◌, ◌+◌, ◌*◌, ◌==◌, ◌≤◌, ◌∙◌, ap, ap₂, arith, Bool, cond, drop, drop-drop, eq-eqb, false, length, nat_le, take, List, [], ◌∷◌, None, refl, Some, subst, suc, sym, true, ℕ}
+use Rattle.std.proofs.Common.{◌≡◌, ◌++◌, ◌+◌, ◌*◌, ◌∙◌, ap, ap₂, arith, Bool, cond, drop, drop-drop, false, length, nat_le, take, List, [], ◌∷◌, refl, subst, suc, sym, true, ℕ}
 use Rattle.std.specs.FinMap.{get}
 use Rattle.std.specs.List.{AllByRecursion}
 use Rattle.std.proofs.Math.Nat.{suc-mul}
-use Rattle.std.proofs.lemmas.Bool.{cond-false, cond-true, true≢false}
+use Rattle.std.proofs.lemmas.Bool.{cond-false, cond-true}
 use Rattle.mol_finish.specs.declared.fault.Format.{Format}
 use Rattle.smarts_parse.specs.Pattern.{PatternTerm}
 use Rattle.store_machine.specs.Answers.{AreAnswers, AreFound, AreMatched, IsAnswer, ids}
@@ -155,54 +155,48 @@ ids-length : (rs : List Found) → length (ids rs) ≡ length rs
 ids-length [] = refl
 ids-length (r ∷ rs) = ap suc (ids-length rs)
 
--- the pages of a pin up to the end of its search, whatever follows
-pub whole_pages : Laws
-    → (own : ℕ → Bool) (s t : State) (steps : List Step) (before pages later : Calls) (slot version tried : ℕ)
-    (pattern : PatternTerm) (want : List Bool) (hits : List ℕ) → IsSound s → IsRun s steps t → IsCalm steps
-    → calls_of own steps ≡ (before ++ (Pin, Pinned slot version) ∷ pages) ++ later → KeepsPin slot pages
-    → IsSearch want (At 0) (fetched slot pages) End → IsNeedOf pattern want
-    → AreMatched pattern (records_of (fetched slot pages)) hits
-    → tried ≡ length (records_of (fetched slot pages)) → AreAllHits t.history version pattern tried hits
-whole_pages laws own s t steps before pages later slot version tried pattern want hits sound run calm e keeps search
-    need matched count =
-    let a = halves own s t steps (before ++ (Pin, Pinned slot version) ∷ pages) later run calm e in
-    let p : Pages s a.middle slot version want End pages =
-    laws.pages s a.middle a.front own slot version 0 want End pages sound a.to a.calm_to (omega arith)
-    (record { before = before; own = a.first_calls; keeps = keeps; search = search }) in
-    let more = laws.grow a.middle t a.back a.from a.calm_from in
-    let stays : snapshot a.middle.history version ≡ snapshot t.history version =
-    sym (ap (λ (h : History). snapshot h version) more.1
-    ∙ laws.snapshots a.middle.history more.0 version p.not_after) in
-    record {
-      are = then_answers (IsMatched pattern) a.middle.history t.history version hits stays
-          (p.hits refl pattern hits (laws.needs pattern want need) matched);
-      want = want;
-      need = need;
-      screened = ids (records_of (fetched slot pages));
-      all = then_answers (IsScreened want) a.middle.history t.history version
-          (ids (records_of (fetched slot pages))) stays (p.tried refl);
-      count = count ∙ sym (ids-length (records_of (fetched slot pages)));
-    }
+-- the pages of a pin so far, whatever follows
+module _ (laws : Laws) (own : ℕ → Bool) (s t : State) (steps : List Step) (before pages later : Calls)
+    (slot version : ℕ) (want : List Bool) (place : Place) (sound : IsSound s) (run : IsRun s steps t)
+    (calm : IsCalm steps) (made : calls_of own steps ≡ (before ++ (Pin, Pinned slot version) ∷ pages) ++ later)
+    (keeps : KeepsPin slot pages) (search : IsSearch want (At 0) (fetched slot pages) place) where
+  so_far : (m : State) × Pages s m slot version want place pages
+      × (snapshot m.history version ≡ snapshot t.history version)
+  so_far =
+      let a = halves own s t steps (before ++ (Pin, Pinned slot version) ∷ pages) later run calm made in
+      let p : Pages s a.middle slot version want place pages =
+      laws.pages s a.middle a.front own slot version 0 want place pages sound a.to a.calm_to (omega arith)
+      (record { before = before; own = a.first_calls; keeps = keeps; search = search }) in
+      let more = laws.grow a.middle t a.back a.from a.calm_from in (
+        a.middle,
+        p,
+        sym (ap (λ (h : History). snapshot h version) more.1
+            ∙ laws.snapshots a.middle.history more.0 version p.not_after),
+      )
 
--- the pages of a pin so far are pieces of what is wanted at its version, whatever follows
-pub pieces_so_far : Laws
-    → (own : ℕ → Bool) (s t : State) (steps : List Step) (before pages later : Calls) (slot version size : ℕ)
-    (want : List Bool) (place : Place) (all : List Found) → IsSound s → IsRun s steps t → IsCalm steps
-    → calls_of own steps ≡ (before ++ (Pin, Pinned slot version) ∷ pages) ++ later → KeepsPin slot pages
-    → IsSearch want (At 0) (fetched slot pages) place
-    → AllByRecursion (λ (f : Fetched). f.limit ≡ size) (fetched slot pages)
-    → AreFound (IsScreened want) (snapshot t.history version) all → ArePieces size all (fetched slot pages)
-pieces_so_far laws own s t steps before pages later slot version size want place all sound run calm e keeps search sized
-    found =
-    let a = halves own s t steps (before ++ (Pin, Pinned slot version) ∷ pages) later run calm e in
-    let p : Pages s a.middle slot version want place pages =
-    laws.pages s a.middle a.front own slot version 0 want place pages sound a.to a.calm_to (omega arith)
-    (record { before = before; own = a.first_calls; keeps = keeps; search = search }) in
-    let more = laws.grow a.middle t a.back a.from a.calm_from in
-    let stays : snapshot a.middle.history version ≡ snapshot t.history version =
-    sym (ap (λ (h : History). snapshot h version) more.1
-    ∙ laws.snapshots a.middle.history more.0 version p.not_after) in
-    p.pieces all size (subst (λ (m : Snapshot). AreFound (IsScreened want) m all) (sym stays) found) sized
+  -- up to the end of its search
+  pub whole_pages : place ≡ End → (tried : ℕ) (pattern : PatternTerm) (hits : List ℕ) → IsNeedOf pattern want
+      → AreMatched pattern (records_of (fetched slot pages)) hits
+      → tried ≡ length (records_of (fetched slot pages)) → AreAllHits t.history version pattern tried hits
+  whole_pages ended tried pattern hits need matched count =
+      let p = so_far in
+      record {
+        are = then_answers (IsMatched pattern) p.0.history t.history version hits p.2
+            (p.1.hits ended pattern hits (laws.needs pattern want need) matched);
+        want = want;
+        need = need;
+        screened = ids (records_of (fetched slot pages));
+        all = then_answers (IsScreened want) p.0.history t.history version (ids (records_of (fetched slot pages))) p.2
+            (p.1.tried ended);
+        count = count ∙ sym (ids-length (records_of (fetched slot pages)));
+      }
+
+  -- pieces of what is wanted at its version
+  pub pieces_so_far : (size : ℕ) (all : List Found) → AllByRecursion (λ (f : Fetched). f.limit ≡ size) (fetched slot pages)
+      → AreFound (IsScreened want) (snapshot t.history version) all → ArePieces size all (fetched slot pages)
+  pieces_so_far size all sized found =
+      let p = so_far in
+      p.1.pieces all size (subst (λ (m : Snapshot). AreFound (IsScreened want) m all) (sym p.2) found) sized
 
 -- the last of some pieces
 pub last_piece : (size : ℕ) (all : List Found) (fs : List Fetched) (f : Fetched) → ArePieces size all (fs ++ f ∷ [])

@@ -4,16 +4,15 @@ use Rattle.std.proofs.lemmas.Bool.{cond-false, cond-true}
 use Rattle.std.proofs.lemmas.List.Elements.{Contains-append_cases, Contains-push_cases}
 use Rattle.std.specs.List.{AllByRecursion, cons_option}
 use Rattle.shell_lang.specs.Reply as line
-use Rattle.smarts_parse.specs.Pattern.{PatternTerm}
 use Rattle.store_machine.specs.Answers.{AreMatched}
-use Rattle.store_machine.specs.Searches.{At, End, Fetched, IsSearch, KeepsPin, Place, fetched, page_in, past, place_after, records_of, unpins}
+use Rattle.store_machine.specs.Searches.{At, End, Fetched, IsSearch, KeepsPin, Place, fetched, page_in, past, records_of, unpins}
 use Rattle.store_machine.specs.Structures.{IsNeedOf}
 use Rattle.store_machine.specs.declared.machine.Event.{Event}
 use Rattle.store_machine.specs.declared.machine.Event.TheVariants.{Fetch, Pin}
 use Rattle.store_machine.specs.declared.machine.Found.{Found}
 use Rattle.store_machine.specs.declared.machine.Reply.{Reply}
 use Rattle.store_machine.specs.declared.machine.Reply.TheVariants as replies
-use Rattle.session_run.specs.Answer.{Advances, Lines, after_page, page_end}
+use Rattle.session_run.specs.Acts.{Advances, Ended, Lines, Lost, Paged, after_page, page_end}
 use Rattle.session_run.specs.Cursors.{AreFetches, Calls, Cursor}
 use Rattle.session_run.specs.Dialogue.{hits_in}
 use Rattle.session_run.proofs.Listings.{fetched-append, matched-append, records-append, search-append}
@@ -112,9 +111,9 @@ pub record IsOpen (size turned : ℕ) (calls : Calls) (c : Cursor) (hits : List 
   pub count : c.hits ≡ length hits
 
 -- other calls
-pub open_passes : (size k : ℕ) (calls its : Calls) (c : Cursor) (hits : List ℕ) → PassBy c.slot its
+pub open_passes : {size k : ℕ} {calls : Calls} {c : Cursor} {hits : List ℕ} (its : Calls) → PassBy c.slot its
     → IsOpen size k calls c hits → IsOpen size k (calls ++ its) c hits
-open_passes size k calls its c hits pass o =
+open_passes {size} {k} {calls} {c} {hits} its pass o =
     let same : fetched c.slot (o.pages ++ its) ≡ fetched c.slot o.pages =
     fetched-append c.slot o.pages its
     ∙ (ap (λ (fs : List Fetched). fetched c.slot o.pages ++ fs) (passes_none c.slot its pass)
@@ -144,12 +143,12 @@ page_of c size from records last =
     record { want = c.want; from = from; limit = size; records = records; last = last }
 
 -- a page of the pin
-pub page_more : (size k : ℕ) (calls : Calls) (c : Cursor) (hits more : List ℕ) (from : ℕ) (records : List Found)
-    (last : Bool) → c.place ≡ At from → AreMatched c.pattern records more → (o : IsOpen size k calls c hits)
+pub page_more : {size k : ℕ} {calls : Calls} {c : Cursor} {hits : List ℕ} (more : List ℕ) (from : ℕ)
+    (records : List Found) (last : Bool) → c.place ≡ At from → AreMatched c.pattern records more → (o : IsOpen size k calls c hits)
     → (p : IsOpen size (k + 1) (calls ++ (Fetch c.slot c.want from size, replies.Page records last) ∷ [])
     (after_page c from records last more) (hits ++ more))
     × (fetched c.slot p.pages ≡ fetched c.slot o.pages ++ page_of c size from records last ∷ [])
-page_more size k calls c hits more from records last e m o =
+page_more {size} {k} {calls} {c} {hits} more from records last e m o =
     let f : Fetched = page_of c size from records last in
     let call : Event × Reply = (Fetch c.slot c.want from size, replies.Page records last) in
     let page : page_in c.slot call.0 call.1 ≡ Some f =
@@ -203,34 +202,19 @@ pub record IsSame (c c' : Cursor) : Type 0 where
   pub slot : c'.slot ≡ c.slot
   pub version : c'.version ≡ c.version
 
-same_after : (c c' d : Cursor) → c' ≡ d → IsSame c d → IsSame c c'
-same_after c c' d e s = subst (λ (x : Cursor). IsSame c x) (sym e) s
-
-pub advances_same : (size : ℕ) (place : Place) (c : Cursor) (calls : Calls) (lines : Lines) (c' : Cursor)
-    → Advances size place c calls lines c' → IsSame c c'
-advances_same size End c calls lines c' a =
-    same_after c c' c a.1 (record { name = refl; pattern = refl; slot = refl; version = refl })
-advances_same size (At from) c calls lines c' (inl t) =
-    same_after c c' (after_page c from t.records t.last t.hits) t.moved
-    (record { name = refl; pattern = refl; slot = refl; version = refl })
-advances_same size (At from) c calls lines c' (inr a) =
-    same_after c c' c a.2 (record { name = refl; pattern = refl; slot = refl; version = refl })
+pub advances_same : {size : ℕ} {c c' : Cursor} {calls : Calls} {lines : Lines} → Advances size c calls lines c'
+    → IsSame c c'
+advances_same (Ended at) = record { name = refl; pattern = refl; slot = refl; version = refl }
+advances_same (Paged from records last hits at m) = record { name = refl; pattern = refl; slot = refl; version = refl }
+advances_same (Lost from at) = record { name = refl; pattern = refl; slot = refl; version = refl }
 
 -- its calls are fetches of its pin
-pub advances_fetch : (size : ℕ) (place : Place) (c : Cursor) (calls : Calls) (lines : Lines) (c' : Cursor)
-    → Advances size place c calls lines c' → (place' : Place) × AreFetches c.slot size c.want place calls place'
-advances_fetch size End c calls lines c' a =
-    (End, subst (λ (l : Calls). AreFetches c.slot size c.want End l End) (sym a.0.0) refl)
-advances_fetch size (At from) c calls lines c' (inl t) = (
-  cond t.last End (At (past from t.records)),
-  subst (λ (l : Calls). AreFetches c.slot size c.want (At from) l (cond t.last End (At (past from t.records))))
-      (sym t.made) (from, refl, refl, inr (t.records, t.last, refl, refl)),
-)
-advances_fetch size (At from) c calls lines c' (inr a) = (
-  At from,
-  subst (λ (l : Calls). AreFetches c.slot size c.want (At from) l (At from)) (sym a.0)
-      (from, refl, refl, inl (refl, refl, refl)),
-)
+pub advances_fetch : {size : ℕ} {c c' : Cursor} {calls : Calls} {lines : Lines} → Advances size c calls lines c'
+    → (place : Place) × AreFetches c.slot size c.want c.place calls place
+advances_fetch {c = c} (Ended at) = (c.place, refl)
+advances_fetch (Paged from records last hits at m) =
+    (cond last End (At (past from records)), (from, at, refl, inr (records, last, refl, refl)))
+advances_fetch {c = c} (Lost from at) = (c.place, (from, at, refl, inl (refl, refl, refl)))
 
 -- Lines
 pub none_in : {X : Type 0} → (x : X) → ¬ Contains [] x
@@ -254,86 +238,66 @@ behind_hits x other (h ∷ hs) said k = elim (first_or_rest (line.Hit h) (map li
 pub hit_or_more : (id : ℕ) → line.Hit id ≡ line.More → ⊥
 hit_or_more id e = cc
 
-hit_or_fault : (id : ℕ) → line.Hit id ≡ line.MemoryFault → ⊥
-hit_or_fault id e = cc
+end_or_more : (version tried hits : ℕ) → line.End version tried hits ≡ line.More → ⊥
+end_or_more version tried hits e = cc
 
-pub end_or_more : (c : Cursor) → page_end true c ≡ line.More → ⊥
-end_or_more c e = cc
+pub fault_or_more : line.MemoryFault ≡ line.More → ⊥
+fault_or_more e = cc
 
 end_or_fault : (last : Bool) (c : Cursor) → page_end last c ≡ line.MemoryFault → ⊥
 end_or_fault true c e = cc
 end_or_fault false c e = cc
 
-pub fault_or_more : line.MemoryFault ≡ line.More → ⊥
-fault_or_more e = cc
-
-fault_among : (lines : Lines) → lines ≡ line.MemoryFault ∷ [] → Contains lines line.MemoryFault
-fault_among lines e = subst (λ (l : Lines). Contains l line.MemoryFault) (sym e) (0, omega arith, refl)
+pub last_or_more : (last : Bool) (c : Cursor) → page_end last c ≡ line.More → last ≡ false
+last_or_more true c e = absurd (end_or_more c.version c.tried c.hits e)
+last_or_more false c e = refl
 
 -- How a reply moves a cursor: by a page with `more`, or not at all where it found no memory
 pub record IsTurn (lines : Lines) (k : ℕ) (place : Place) (k' : ℕ) (place' : Place) : Type 0 where
   pub more : Contains lines line.More → (k' ≡ k + 1) × (from : ℕ) × (place' ≡ At from)
   pub lost : lines ≡ line.MemoryFault ∷ [] → (k' ≡ k) × (place' ≡ place)
 
-page_turn : (c c' : Cursor) (from k : ℕ) (place : Place) (records : List Found) (last : Bool) (hits : List ℕ)
-    (lines : Lines) → lines ≡ map line.Hit hits ++ page_end last c' ∷ []
-    → c'.place ≡ cond last End (At (past from records)) → IsTurn lines k place (k + 1) c'.place
-page_turn c c' from k place records last hits lines said moved = record {
+page_turn : (c' : Cursor) {k : ℕ} {place : Place} (from : ℕ) (records : List Found) (last : Bool) (hits : List ℕ)
+    → c'.place ≡ cond last End (At (past from records))
+    → IsTurn (map line.Hit hits ++ page_end last c' ∷ []) k place (k + 1) c'.place
+page_turn c' from records last hits moved = record {
   more = λ m.
-      let g = goes_on last moved (behind_hits line.More hit_or_more hits (page_end last c')
-      (subst (λ (l : Lines). Contains l line.More) said m)) in
-      (refl, g.0, g.1);
-  lost = λ e. absurd (end_or_fault last c' (behind_hits line.MemoryFault hit_or_fault hits (page_end last c')
-      (subst (λ (l : Lines). Contains l line.MemoryFault) said (fault_among lines e))));
-} where
-  goes_on : (b : Bool) → c'.place ≡ cond b End (At (past from records)) → page_end b c' ≡ line.More
-      → (n : ℕ) × (c'.place ≡ At n)
-  goes_on true q e = absurd (end_or_more c' e)
-  goes_on false q e = (past from records, q)
+      let q = last_or_more last c' (behind_hits line.More hit_or_more hits (page_end last c') m) in
+      (refl, past from records, moved ∙ ap (λ (b : Bool). cond b End (At (past from records))) q);
+  lost = λ e.
+      let among : Contains (map line.Hit hits ++ page_end last c' ∷ []) line.MemoryFault =
+      subst (λ (l : Lines). Contains l line.MemoryFault) (sym e) (0, omega arith, refl) in
+      absurd (end_or_fault last c' (behind_hits line.MemoryFault (λ id q. cc) hits (page_end last c') among));
+}
 
 -- the cursor goes on, and lists the hits among its lines
-pub open_advances : (size k : ℕ) (place : Place) (calls its : Calls) (lines : Lines) (c c' : Cursor) (hits : List ℕ)
-    → c.place ≡ place → Advances size place c its lines c' → IsOpen size k calls c hits
+pub open_advances : {size k : ℕ} {calls its : Calls} {lines : Lines} {c c' : Cursor} {hits : List ℕ}
+    → Advances size c its lines c' → IsOpen size k calls c hits
     → (k' : ℕ) × IsTurn lines k c.place k' c'.place × IsOpen size k' (calls ++ its) c' (hits ++ hits_in lines)
-open_advances size k End calls its lines c c' hits e a o =
-    let none : hits_in lines ≡ [] = ap hits_in a.0.1 in
-    let same : IsOpen size k (calls ++ []) c hits = open_passes size k calls [] c hits tt o in (
-      k,
-      record {
-        more = λ m. absurd (end_or_more c (one_in (page_end true c) line.More
-            (subst (λ (l : Lines). Contains l line.More) a.0.1 m)));
-        lost = λ q. (refl, ap (λ (x : Cursor). x.place) a.1);
-      },
-      subst (λ (x : Cursor). IsOpen size k (calls ++ its) x (hits ++ hits_in lines)) (sym a.1)
-          (subst (λ (l : Calls). IsOpen size k (calls ++ l) c (hits ++ hits_in lines)) (sym a.0.0)
-          (subst (λ (l : List ℕ). IsOpen size k (calls ++ []) c l)
-          (sym (ap (λ (l : List ℕ). hits ++ l) none ∙ append-nil hits)) same)),
-    )
-open_advances size k (At from) calls its lines c c' hits e (inl t) o =
-    let listed : hits_in lines ≡ t.hits =
-    ap hits_in t.said ∙ hits_listed t.hits (page_end t.last c') (no_hit t.last c') in (
+open_advances {size} {k} {calls} {c = c} {hits = hits} (Ended at) o = (
+  k,
+  record {
+    more = λ m. absurd (end_or_more c.version c.tried c.hits (one_in (page_end true c) line.More m));
+    lost = λ q. (refl, refl);
+  },
+  subst (IsOpen size k (calls ++ []) c) (sym (append-nil hits)) (open_passes [] tt o),
+)
+open_advances {size} {k} {calls} {c = c} {hits = hits} (Paged from records last more at m) o =
+    let call : Event × Reply = (Fetch c.slot c.want from size, replies.Page records last) in
+    let next = after_page c from records last more in
+    let listed : hits_in (map line.Hit more ++ page_end last next ∷ []) ≡ more =
+    hits_listed more (page_end last next) (no_hit last next) in (
       k + 1,
-      page_turn c c' from k c.place t.records t.last t.hits lines t.said (ap (λ (x : Cursor). x.place) t.moved),
-      subst (λ (x : Cursor). IsOpen size (k + 1) (calls ++ its) x (hits ++ hits_in lines)) (sym t.moved)
-          (subst (λ (l : Calls). IsOpen size (k + 1) (calls ++ l) (after_page c from t.records t.last t.hits)
-          (hits ++ hits_in lines)) (sym t.made)
-          (subst (λ (l : List ℕ). IsOpen size (k + 1)
-          (calls ++ (Fetch c.slot c.want from size, replies.Page t.records t.last) ∷ [])
-          (after_page c from t.records t.last t.hits) (hits ++ l)) (sym listed)
-          (page_more size k calls c hits t.hits from t.records t.last e t.matched o).0)),
+      page_turn next from records last more refl,
+      subst (λ (l : List ℕ). IsOpen size (k + 1) (calls ++ call ∷ []) next (hits ++ l)) (sym listed)
+          (page_more more from records last at m o).0,
     )
-open_advances size k (At from) calls its lines c c' hits e (inr a) o =
-    let none : hits_in lines ≡ [] = ap hits_in a.1 in
-    let same : IsOpen size k (calls ++ (Fetch c.slot c.want from size, replies.NoMemory) ∷ []) c hits =
-    open_passes size k calls ((Fetch c.slot c.want from size, replies.NoMemory) ∷ []) c hits (refl, refl, tt) o in (
+open_advances {size} {k} {calls} {c = c} {hits = hits} (Lost from at) o =
+    let its : Calls = (Fetch c.slot c.want from size, replies.NoMemory) ∷ [] in (
       k,
       record {
-        more = λ m. absurd (fault_or_more (one_in line.MemoryFault line.More
-            (subst (λ (l : Lines). Contains l line.More) a.1 m)));
-        lost = λ q. (refl, ap (λ (x : Cursor). x.place) a.2);
+        more = λ m. absurd (fault_or_more (one_in line.MemoryFault line.More m));
+        lost = λ q. (refl, refl);
       },
-      subst (λ (x : Cursor). IsOpen size k (calls ++ its) x (hits ++ hits_in lines)) (sym a.2)
-          (subst (λ (l : Calls). IsOpen size k (calls ++ l) c (hits ++ hits_in lines)) (sym a.0)
-          (subst (λ (l : List ℕ). IsOpen size k (calls ++ (Fetch c.slot c.want from size, replies.NoMemory) ∷ []) c l)
-          (sym (ap (λ (l : List ℕ). hits ++ l) none ∙ append-nil hits)) same)),
+      subst (IsOpen size k (calls ++ its) c) (sym (append-nil hits)) (open_passes its (refl, refl, tt) o),
     )

@@ -1,11 +1,11 @@
 -- Requests that are read and answered one after another, and how a session ends among them.
-use Rattle.std.proofs.Common.{◌≡◌, inl, inr, ℕ, ◌≤◌, IsTrue, false, Option, None, Some, List, [], ◌∷◌, ◌++◌, length, refl, sym, ap, ◌∙◌, subst, arith, append_assoc, append-nil, length-append}
+use Rattle.std.proofs.Common.{◌≡◌, IfSome, inl, inr, ℕ, ◌≤◌, IsTrue, false, Option, None, Some, List, [], ◌∷◌, ◌++◌, length, refl, sym, ap, ◌∙◌, subst, arith, append_assoc, append-nil, length-append}
 use Rattle.std.specs.Io.KnownBytes.{Appends}
 use Rattle.io_edge.specs.Faults.{Rose}
 use Rattle.io_edge.specs.Sink.{AppendsPrefix}
 use Rattle.io_edge.specs.Lines.{TextLine, Reading, lines_of, lines_left}
 use Rattle.shell_lang.specs.Reply.{text_of}
-use Rattle.session_run.specs.Answer.{Lines, RequestAnswer}
+use Rattle.session_run.specs.Acts.{Lines, RequestAnswer}
 use Rattle.session_run.specs.Cursors.{Calls, Cursor}
 use Rattle.session_run.specs.Dialogue.{AreExchanged, Exchange, replies_of, requests_of}
 use Rattle.session_run.specs.Requests.{Request, BeginWith, BeginWithAll, IsPartOfRequest}
@@ -125,8 +125,30 @@ appended old text None next p h = cc
 appended old text (Some m) None p h = absurd h
 appended old text (Some m) (Some n) p h = let e : m ≡ old = cc in rw (h, e) refl
 
-module _ (size limit : ℕ) (before now put0 put : Option (List ℕ)) (r : Reading) (calls : Calls)
-    (cursors : List Cursor) (u : IsUnderWay size limit before now put0 put r calls cursors) where
+module _ {size limit : ℕ} {before now put0 put : Option (List ℕ)} {r : Reading} {calls : Calls}
+    {cursors : List Cursor} (u : IsUnderWay size limit before now put0 put r calls cursors) where
+  -- where the source is now
+  taken_on : {now' : Option (List ℕ)} {r' : Reading} {f f' : ℕ} → ReadsOn now now' f f' r r' → (input : List ℕ)
+      → before ≡ Some input → (got l : List ℕ) × (input ≡ got ++ l) × (now' ≡ Some l) × (length got ≡ r'.taken)
+      × (IsTrue r'.ended → l ≡ [])
+  taken_on {now'} reads input p =
+      let t = u.taken input p in
+      let k = leaves t.1 reads.got now now' t.3 reads.leaves in (
+        t.0 ++ reads.got,
+        k.0,
+        t.2 ∙ (ap (λ x. t.0 ++ x) k.2 ∙ sym (append_assoc t.0 reads.got k.0)),
+        k.1,
+        omega (arith, length-append t.0 reads.got, t.4, reads.counts.taken),
+        reads.met t.1 k.0 t.3 k.1 t.5,
+      )
+
+  -- where the source told its bytes
+  if_told : (P : List ℕ → Type 0) → ((input : List ℕ) → before ≡ Some input → P input) → IfSome before P
+  if_told P f = by before refl where
+    by : (b : Option (List ℕ)) → before ≡ b → IfSome b P
+    by None e = tt
+    by (Some input) e = f input e
+
   -- a request was answered
   pub under_way-request : (now' put' : Option (List ℕ)) (r' : Reading) (f f' : ℕ) (request : Request) (its : Calls)
       (lines : Lines) (cursors' : List Cursor)
@@ -159,16 +181,7 @@ module _ (size limit : ℕ) (before now put0 put : Option (List ℕ)) (r : Readi
           said = ap (λ l. l ++ text_of lines) t.said ∙ sym (replies_more t.exchanges x);
           ended = reads.met t.left k.0 t.left_is k.1 t.ended;
         };
-    taken = λ input p.
-        let t = u.taken input p in
-        let k = leaves t.1 reads.got now now' t.3 reads.leaves in (
-          t.0 ++ reads.got,
-          k.0,
-          t.2 ∙ (ap (λ x. t.0 ++ x) k.2 ∙ sym (append_assoc t.0 reads.got k.0)),
-          k.1,
-          omega (arith, length-append t.0 reads.got, t.4, reads.counts.taken),
-          reads.met t.1 k.0 t.3 k.1 t.5,
-        );
+    taken = taken_on reads;
     limit_is = reads.counts.limit ∙ u.limit_is;
     within = reads.counts.within;
   }
@@ -238,15 +251,7 @@ module _ (size limit : ℕ) (before now put0 put : Option (List ℕ)) (r : Readi
     by : (b q : Option (List ℕ)) → before ≡ b → put0 ≡ q
         → WritesForTaken b now' q put' (AnswersTaken size calls cursors)
     by None q e d = tt
-    by (Some input) None e d =
-        let t = u.taken input e in
-        let k = leaves t.1 reads.got now now' t.3 reads.leaves in (
-          t.0 ++ reads.got,
-          k.0,
-          t.2 ∙ (ap (λ x. t.0 ++ x) k.2 ∙ sym (append_assoc t.0 reads.got k.0)),
-          k.1,
-          tt,
-        )
+    by (Some input) None e d = let t = taken_on reads input e in (t.0, t.1, t.2, t.3, tt)
     by (Some input) (Some old) e d =
         let t = u.told input old e d in
         let k = leaves t.left reads.got now now' t.left_is reads.leaves in
@@ -331,65 +336,36 @@ module _ (size limit : ℕ) (before now put0 put : Option (List ℕ)) (r : Readi
       ))
 
   -- as many bytes were taken as may be
-  pub takes_all : (now' : Option (List ℕ)) (r' : Reading) (f f' : ℕ) → ReadsOn now now' f f' r r'
+  pub takes_all : {now' : Option (List ℕ)} {r' : Reading} {f f' : ℕ} → ReadsOn now now' f f' r r'
       → r'.taken ≡ r'.limit → TakesExactly before now' limit
-  takes_all now' r' f f' reads full = by before refl where
-    by : (b : Option (List ℕ)) → before ≡ b → TakesExactly b now' limit
-    by None e = tt
-    by (Some input) e =
-        let t = u.taken input e in
-        let k = leaves t.1 reads.got now now' t.3 reads.leaves in (
-          t.0 ++ reads.got,
-          k.0,
-          t.2 ∙ (ap (λ x. t.0 ++ x) k.2 ∙ sym (append_assoc t.0 reads.got k.0)),
-          k.1,
-          omega (arith, length-append t.0 reads.got, t.4, reads.counts.taken, reads.counts.limit, u.limit_is, full),
-        )
+  takes_all reads full = if_told _ (λ input e.
+      let t = taken_on reads input e in
+      (t.0, t.1, t.2, t.3, t.4 ∙ (full ∙ (reads.counts.limit ∙ u.limit_is))))
 
   -- no more were taken
-  pub takes_within : (now' : Option (List ℕ)) (r' : Reading) (f f' : ℕ) → ReadsOn now now' f f' r r'
+  pub takes_within : {now' : Option (List ℕ)} {r' : Reading} {f f' : ℕ} → ReadsOn now now' f f' r r'
       → TakesAtMost before now' limit
-  takes_within now' r' f f' reads = by before refl where
-    by : (b : Option (List ℕ)) → before ≡ b → TakesAtMost b now' limit
-    by None e = tt
-    by (Some input) e =
-        let t = u.taken input e in
-        let k = leaves t.1 reads.got now now' t.3 reads.leaves in (
-          t.0 ++ reads.got,
-          k.0,
-          t.2 ∙ (ap (λ x. t.0 ++ x) k.2 ∙ sym (append_assoc t.0 reads.got k.0)),
-          k.1,
-          omega (
-            arith,
-            length-append t.0 reads.got,
-            t.4,
-            reads.counts.taken,
-            reads.counts.limit,
-            u.limit_is,
-            reads.counts.within,
-          ),
-        )
+  takes_within reads = if_told _ (λ input e.
+      let t = taken_on reads input e in
+      (t.0, t.1, t.2, t.3, omega (arith, t.4, reads.counts.within, reads.counts.limit, u.limit_is)))
 
   -- the source's end was met
-  pub takes_whole : (now' : Option (List ℕ)) (r' : Reading) (f f' : ℕ) → ReadsOn now now' f f' r r'
-      → IsTrue r'.ended → TakesAll before now'
-  takes_whole now' r' f f' reads ended = by before refl where
-    by : (b : Option (List ℕ)) → before ≡ b → TakesAll b now'
-    by None e = tt
-    by (Some input) e =
-        let t = u.taken input e in
-        let k = leaves t.1 reads.got now now' t.3 reads.leaves in
-        k.1 ∙ ap Some (reads.met t.1 k.0 t.3 k.1 t.5 ended)
+  pub takes_whole : {now' : Option (List ℕ)} {r' : Reading} {f f' : ℕ} → ReadsOn now now' f f' r r' → IsTrue r'.ended
+      → TakesAll before now'
+  takes_whole reads ended = if_told _ (λ input e.
+      let t = taken_on reads input e in
+      t.3 ∙ ap Some (t.5 ended))
 
 -- a count that rose since a later moment rose since an earlier one
 pub Rose-since : (a b c : ℕ) → a ≤ b → Rose b c → Rose a c
 Rose-since a b c le (inl lt) = inl (omega arith)
 Rose-since a b c le (inr top) = inr top
 
-module _ (size limit : ℕ) (before now put0 put : Option (List ℕ)) (r : Reading) (calls : Calls)
-    (cursors : List Cursor) (u : IsUnderWay size limit before now put0 put r calls cursors)
-    (Made More : Calls → Type 0) (more : (its : Calls) → Made its → More (calls ++ its)) (now' put' : Option (List ℕ))
-    (r' : Reading) (f f' : ℕ) (cursors' : List Cursor) (reads : ReadsOn now now' f f' r r') where
+module _ {size limit : ℕ} {before now put0 put : Option (List ℕ)} {r : Reading} {calls : Calls}
+    {cursors : List Cursor} (u : IsUnderWay size limit before now put0 put r calls cursors)
+    (Made More : Calls → Type 0) (IsWorn : Type 0) (more : (its : Calls) → Made its → More (calls ++ its))
+    (put' : Option (List ℕ)) (cursors' : List Cursor) {now' : Option (List ℕ)} {r' : Reading} {f f' : ℕ}
+    (reads : ReadsOn now now' f f' r r') where
   -- nothing was asked in the turn
   quiet : (end : EndStatus) → Made [] → cursors' ≡ cursors → Serves end size before now' put0 put' calls cursors
       → (all : Calls) × More all × Serves end size before now' put0 put' all cursors'
@@ -401,30 +377,30 @@ module _ (size limit : ℕ) (before now put0 put : Option (List ℕ)) (r : Readi
   )
 
   -- a turn with which the session ends
-  pub serves-turn : (end : EndStatus) → Turns size Made (TakesRequest r r' now now') (TakesNone r now) cursors
+  pub serves-turn : (end : EndStatus) → Turns size Made IsWorn (TakesRequest r r' now now') (TakesNone r now) cursors
       cursors' put put' (Some end)
       → (IsInputFault end → TakesPart r r' now now' IsPartOfRequest)
       → (all : Calls) × More all × Serves end size before now' put0 put' all cursors'
   serves-turn Done t part = quiet Done t.1 t.2 (record {
-    script = script-done size limit before now put0 put r calls cursors u put' t.0 t.3;
+    script = script-done u put' t.0 t.3;
     taken = λ is. absurd is;
   })
   serves-turn SourceFault t part = quiet SourceFault t.0 t.1 (record {
-    script = script-source_fault size limit before now put0 put r calls cursors u put' t.2;
+    script = script-source_fault u put' t.2;
     taken = λ is.
-        answered_taken size limit before now put0 put r calls cursors u now' put' r' f f' reads (part is) t.2;
+        answered_taken u now' put' r' f f' reads (part is) t.2;
   })
   serves-turn InputTooLong t part = quiet InputTooLong t.0 t.1 (record {
-    script = script-too_long size limit before now put0 put r calls cursors u put' t.2;
+    script = script-too_long u put' t.2;
     taken = λ is.
-        answered_taken size limit before now put0 put r calls cursors u now' put' r' f f' reads (part is) t.2;
+        answered_taken u now' put' r' f f' reads (part is) t.2;
   })
   serves-turn SinkFault t part = let a = t.0 in (
     calls ++ a.did.calls,
     more a.did.calls a.did.made,
     record {
-      script = script_told size limit before now put0 put r calls cursors u SinkFault put' (calls ++ a.did.calls)
-          cursors' (stops-part size limit before now put0 put r calls cursors u now' put' r' f f' a.request a.did.calls
+      script = script_told u SinkFault put' (calls ++ a.did.calls)
+          cursors' (stops-part u now' put' r' f f' a.request a.did.calls
           a.did.lines cursors' reads a.taken a.did.is t.1);
       taken = λ is. absurd is;
     },
@@ -433,8 +409,8 @@ module _ (size limit : ℕ) (before now put0 put : Option (List ℕ)) (r : Readi
     calls ++ a.did.calls,
     more a.did.calls a.did.made,
     record {
-      script = script_told size limit before now put0 put r calls cursors u NoMemory put' (calls ++ a.did.calls)
-          cursors' (stops-part size limit before now put0 put r calls cursors u now' put' r' f f' a.request a.did.calls
+      script = script_told u NoMemory put' (calls ++ a.did.calls)
+          cursors' (stops-part u now' put' r' f f' a.request a.did.calls
           a.did.lines cursors' reads a.taken a.did.is t.1);
       taken = λ is. absurd is;
     },
@@ -443,18 +419,18 @@ module _ (size limit : ℕ) (before now put0 put : Option (List ℕ)) (r : Readi
     calls ++ b.worn.calls,
     more b.worn.calls b.worn.made,
     record {
-      script = script-worn size limit before now put0 put r calls cursors u now' put' r' f f' b.request b.worn.calls
+      script = script-worn u now' put' r' f f' b.request b.worn.calls
           b.worn.whole b.worn.lines b.worn.after cursors' reads b.taken b.worn.begins b.worn.is t.1;
       taken = λ is. absurd is;
     },
   )
 
   -- a turn after which it goes on
-  pub under_way-turn : Turns size Made (TakesRequest r r' now now') (TakesNone r now) cursors cursors' put put' None
+  pub under_way-turn : Turns size Made IsWorn (TakesRequest r r' now now') (TakesNone r now) cursors cursors' put put' None
       → (all : Calls) × More all × IsUnderWay size limit before now' put0 put' r' all cursors'
   under_way-turn t = let a = t.0 in (
     calls ++ a.did.calls,
     more a.did.calls a.did.made,
-    under_way-request size limit before now put0 put r calls cursors u now' put' r' f f' a.request a.did.calls
+    under_way-request u now' put' r' f f' a.request a.did.calls
         a.did.lines cursors' reads a.taken a.did.is t.1,
   )

@@ -1,10 +1,10 @@
 -- What a session served is true: its dialogue's calls are the first of its calls in the run.
-use Rattle.std.proofs.Common.{◌≡◌, ◌⊎◌, ◌++◌, ◌∙◌, ap, append-nil, append_assoc, inl, inr, List, [], ◌∷◌, refl, subst, sym, ℕ}
+use Rattle.std.proofs.Common.{◌≡◌, ◌⊎◌, ◌++◌, ◌∙◌, ap, append-nil, append_assoc, inl, inr, List, [], ◌∷◌, subst, sym, ℕ}
 use Rattle.io_edge.specs.Lines.{TextLine}
 use Rattle.shell_lang.specs.Reply.{text_of}
 use Rattle.store_machine.specs.Runs.{calls_of}
 use Rattle.store_machine.specs.declared.machine.History.{History}
-use Rattle.session_run.specs.Answer.{Lines, RequestAnswer}
+use Rattle.session_run.specs.Acts.{Lines, RequestAnswer}
 use Rattle.session_run.specs.Cursors.{Calls, Cursor, unpins}
 use Rattle.session_run.specs.Dialogue.{AreExchanged, Exchange}
 use Rattle.session_run.specs.Requests.{Request, BeginWith}

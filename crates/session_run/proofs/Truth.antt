@@ -7,7 +7,7 @@ use Rattle.store_machine.specs.Answers.{AreFound, AreMatched}
 use Rattle.store_machine.specs.History.{snapshot}
 use Rattle.store_machine.specs.Laws.{IsSound}
 use Rattle.store_machine.specs.Runs.{IsCalm, IsRun, calls_of}
-use Rattle.store_machine.specs.Searches.{ArePieces, At, End, Fetched, IsSearch, Place, fetched, past}
+use Rattle.store_machine.specs.Searches.{ArePieces, At, End, Fetched, fetched, past}
 use Rattle.store_machine.specs.Structures.{IsNeedOf, IsScreened}
 use Rattle.store_machine.specs.declared.machine.History.{History}
 use Rattle.store_machine.specs.declared.machine.Event.{Event}
@@ -17,19 +17,19 @@ use Rattle.store_machine.specs.declared.machine.Reply.{Reply}
 use Rattle.store_machine.specs.declared.machine.Reply.TheVariants as replies
 use Rattle.store_machine.specs.declared.machine.State.{State}
 use Rattle.store_machine.specs.declared.machine.Step.{Step}
-use Rattle.session_run.specs.Answer.{Advances, Lines, Opens, Turns, page_end}
+use Rattle.session_run.specs.Acts.{Act, Advances, Asks, Closed, Does, Ended, Lines, Lost, Opened, Paged, RequestAllows, RequestAnswer, Says, Searched, Searches, Turned, after_page, new_cursor, note_lines, page_end}
 use Rattle.session_run.specs.Cursors.{Calls, Cursor, IsNoName}
-use Rattle.session_run.specs.Dialogue.{AreExchanged, AreListed, AreTurned, Exchange, GivePage, IsCommand, IsShown, StaysOpen, hits_in}
+use Rattle.session_run.specs.Dialogue.{AreExchanged, AreListed, Exchange, GivePage, IsCommand, IsShown, StaysOpen, hits_in}
 use Rattle.session_run.specs.Requests.{Request}
 use Rattle.session_run.specs.Texts.{IsPatternOf}
-use Rattle.session_run.specs.Truths.{AreAllHits, AreTrue, CursorsAreTrue, DialoguesAreTrue, IsPageOf, IsTrueList, IsTruePage, IsUpToDate, PagesAreTrue, SearchesAreHits, SearchesAreTrue}
-use Rattle.session_run.proofs.Followed.{Follows, OneReading, follow_all, follow_new, one_command, places, turn_all}
-use Rattle.session_run.proofs.Acts.{Closed, Kind, Moved, Opened, Other, Searched, kind}
+use Rattle.session_run.specs.Truths.{AreAllHits, CursorsAreTrue, DialoguesAreTrue, IsPageOf, IsUpToDate, PagesAreTrue, SearchesAreHits, SearchesAreTrue}
+use Rattle.session_run.proofs.ActPins.{dialogue_held}
+use Rattle.session_run.proofs.Acts.{OneReading, fits, quiet_ask, quiet_note}
+use Rattle.session_run.proofs.Endings.{SameEnd, advance_end, fault_or_end, no_page_said, says_more, search_end}
+use Rattle.session_run.proofs.Followed.{Follows, follow_all, follow_new, places, turn_all}
 use Rattle.session_run.proofs.Parting.{Laws, last_piece, pieces_so_far, whole_pages}
 use Rattle.session_run.proofs.Passing.{IsOpen, advances_same, fault_or_more, fetches_keep, fetches_search, hits_listed, no_hit, one_in, open_advances, page_more, page_of}
-use Rattle.session_run.proofs.Pinned.{AreFree, dialogue_pins, next_calls, pin_first}
-use Rattle.session_run.proofs.Endings.{SameEnd, advance_end, fault_or_end, no_page_said, says_more, search_end}
-use Rattle.session_run.proofs.Orders.{close_or_next, close_or_search, close_or_start, next_or_search, next_or_start, one_next, one_opened, one_search, one_start, search_or_next, search_or_start, start_or_next, start_or_search}
+use Rattle.session_run.proofs.Pinned.{AreFree, are_apart, dialogue_shown, next_calls, none}
 
 -- A search
 cut_calls : (before pages after : Calls) (pin unpin : Event × Reply)
@@ -44,69 +44,14 @@ searches-are-hits laws s t steps own size pattern before its after lines sound r
     let unpin : Event × Reply = (events.Unpin found.slot, replies.Unpinned) in
     let made : calls_of own steps ≡ before ++ ((pin ∷ (found.pages ++ unpin ∷ [])) ++ after) =
     e ∙ ap (λ (l : Calls). before ++ (l ++ after)) found.made in (
-      whole_pages laws own s t steps before found.pages
-          (unpin ∷ after) found.slot found.version found.tried pattern found.searched.want found.hits
-          sound run calm (made ∙ cut_calls before found.pages after pin unpin)
+      whole_pages laws own s t steps before found.pages (unpin ∷ after) found.slot found.version found.searched.want
+          found.place sound run calm (made ∙ cut_calls before found.pages after pin unpin)
           (fetches_keep found.slot size found.slot found.searched.want (At 0) found.place found.pages
           found.searched.fetches)
-          (subst (λ (p : Place). IsSearch found.searched.want (At 0) (fetched found.slot found.pages) p) ended
-          (fetches_search found.slot size found.searched.want (At 0) found.place found.pages found.searched.fetches))
-          found.searched.need found.searched.matched found.searched.count,
+          (fetches_search found.slot size found.searched.want (At 0) found.place found.pages found.searched.fetches)
+          ended found.tried pattern found.hits found.searched.need found.searched.matched found.searched.count,
       laws.pins s t steps own found.slot found.version before ((found.pages ++ unpin ∷ []) ++ after) sound run calm made,
     )
-
--- the cursor of a name after a reply with an end
-record Ended (size : ℕ) (calls : Calls) (pattern : PatternTerm) (opened : ℕ) (hits : List ℕ)
-    (version tried count : ℕ) : Type 0 where
-  c : Cursor
-  turned : ℕ
-  open_since : IsOpen size turned calls c hits
-  place_is : c.place ≡ End
-  numbers : SameEnd c.version c.tried c.hits version tried count
-  pattern_is : c.pattern ≡ pattern
-  opened_at : c.version ≡ opened
-
-module _ (reading : OneReading) (size : ℕ) (name : List ℕ) where
-  ends : (calls its : Calls) (cursors cursors' : List Cursor) (request : Request) (lines : Lines)
-      (pattern : PatternTerm) (opened : ℕ) (hits : List ℕ) (version tried count : ℕ)
-      → Kind size cursors request its lines cursors' → IsCommand request (command.Next name)
-      → Contains lines (line.End version tried count)
-      → Follows size calls cursors name pattern opened hits
-      → Ended size (calls ++ its) pattern opened (hits ++ hits_in lines) version tried count
-  ends calls its cursors cursors' request lines pattern opened hits version tried count (Other pass plain same) is k f =
-      absurd (plain.ends version tried count k)
-  ends calls its cursors cursors' request lines pattern opened hits version tried count
-      (Searched text p was reads s same) is k f =
-      absurd (search_or_next text name (one_command reading request (command.Search text) (command.Next name) was is))
-  ends calls its cursors cursors' request lines pattern opened hits version tried count
-      (Opened other text p was reads new o) is k f =
-      absurd (start_or_next text other name
-      (one_command reading request (command.Start other text) (command.Next name) was is))
-  ends calls its cursors cursors' request lines pattern opened hits version tried count
-      (Closed other before after d was at made said now) is k f =
-      absurd (close_or_next other name (one_command reading request (command.Close other) (command.Next name) was is))
-  ends calls its cursors cursors' request lines pattern opened hits version tried count
-      (Moved other before after d d' was at advances now) is k f =
-      elim (places name f.c.slot f.front f.back before after f.c d f.left f.right (sym f.among ∙ at.place)) [
-        | inl s ↦
-            let own : Advances size f.c.place f.c its lines d' =
-            subst (λ (x : Cursor). Advances size x.place x its lines d') (sym s.1) advances in
-            let end = advance_end size f.c.place f.c its lines d' version tried count refl own k in
-            let same = advances_same size f.c.place f.c its lines d' own in
-            let next = open_advances size f.turned f.c.place calls its lines f.c d' hits refl own f.open_since in
-            record {
-              c = d';
-              turned = next.0;
-              open_since = next.2;
-              place_is = end.0;
-              numbers = end.1;
-              pattern_is = same.pattern ∙ f.pattern_is;
-              opened_at = same.version ∙ f.version_is;
-            }
-        | inr e ↦ absurd (e.name_apart
-            (at.named ∙ one_next other name
-            (one_command reading request (command.Next other) (command.Next name) was is)))
-      ]
 
 -- a dialogue in two parts
 exchanged_parts : (size : ℕ) (cursors cursors' : List Cursor) (xs ys : List Exchange) (calls : Calls)
@@ -150,6 +95,95 @@ same_hits h version version' tried tried' pattern pattern' hits hits' a b c d al
     (subst (λ (p : PatternTerm). AreAllHits h version p tried hits') c
     (subst (λ (l : List ℕ). AreAllHits h version pattern tried l) d all)))
 
+-- What a request did, by its command and a line of its reply: a search with an end
+searched_by : OneReading → {size : ℕ} {cursors cursors' : List Cursor} {act : Act} {its : Calls} {lines : Lines}
+    (request : Request) (text : List ℕ) (version tried count : ℕ) → RequestAllows cursors request act
+    → Does size cursors act its lines cursors' → IsCommand request (command.Search text)
+    → Contains lines (line.End version tried count)
+    → (pattern : PatternTerm) × IsPatternOf text pattern × Searches size pattern its lines
+searched_by reading request text version tried count a (Says note) is k = absurd ((quiet_note note).plain _ k)
+searched_by reading request text version tried count a (Asks event reply said q) is k =
+    absurd ((quiet_ask event reply said q).plain _ k)
+searched_by reading {cursors = cursors} {act = act} request text version tried count a (Searched p its lines s) is k =
+    (p, fits reading cursors request act (command.Search text) a is, s)
+searched_by reading {cursors = cursors} {act = act} request text version tried count a (Opened name p want slot v new need)
+    is k = absurd (fits reading cursors request act (command.Search text) a is)
+searched_by reading {cursors = cursors} {act = act} request text version tried count a
+    (Turned name before after c c' its lines named advances) is k =
+    absurd (fits reading cursors request act (command.Search text) a is)
+searched_by reading {cursors = cursors} {act = act} request text version tried count a
+    (Closed name before after c named) is k = absurd (fits reading cursors request act (command.Search text) a is)
+
+-- a cursor that was opened
+record IsOpening (cursors : List Cursor) (its : Calls) (cursors' : List Cursor) (name text : List ℕ) (version : ℕ)
+    : Type 0 where
+  pattern : PatternTerm
+  want : List Bool
+  slot : ℕ
+  reads : IsPatternOf text pattern
+  new : IsNoName cursors name
+  need : IsNeedOf pattern want
+  its_are : its ≡ (events.Pin, replies.Pinned slot version) ∷ []
+  then_are : cursors' ≡ cursors ++ new_cursor name pattern want slot version ∷ []
+
+one_opened : (a b : ℕ) → line.Opened a ≡ line.Opened b → a ≡ b
+one_opened a b e = cc
+
+opened_by : OneReading → {size : ℕ} {cursors cursors' : List Cursor} {act : Act} {its : Calls} {lines : Lines}
+    (request : Request) (name text : List ℕ) (version : ℕ) → RequestAllows cursors request act
+    → Does size cursors act its lines cursors' → IsCommand request (command.Start name text)
+    → Contains lines (line.Opened version) → IsOpening cursors its cursors' name text version
+opened_by reading request name text version a (Says note) is k = absurd ((quiet_note note).plain _ k)
+opened_by reading request name text version a (Asks event reply said q) is k =
+    absurd ((quiet_ask event reply said q).plain _ k)
+opened_by reading {cursors = cursors} {act = act} request name text version a (Searched p its lines s) is k =
+    absurd (fits reading cursors request act (command.Start name text) a is)
+opened_by reading {cursors = cursors} {cursors' = then} {act = act} {its = its} request name text version a
+    (Opened own p want slot v new need) is k =
+    let f = fits reading cursors request act (command.Start name text) a is in
+    subst (λ (n : List ℕ). IsOpening cursors its then n text version) f.0
+    (subst (λ (n : ℕ). IsOpening cursors its then own text n)
+    (one_opened v version (one_in (line.Opened v) (line.Opened version) k)) (record {
+      pattern = p;
+      want = want;
+      slot = slot;
+      reads = f.1;
+      new = new;
+      need = need;
+      its_are = refl;
+      then_are = refl;
+    }))
+opened_by reading {cursors = cursors} {act = act} request name text version a
+    (Turned own before after c c' its lines named advances) is k =
+    absurd (fits reading cursors request act (command.Start name text) a is)
+opened_by reading {cursors = cursors} {act = act} request name text version a (Closed own before after c named) is k =
+    absurd (fits reading cursors request act (command.Start name text) a is)
+
+-- a page of the cursor of a name
+turned_by : OneReading → {size : ℕ} {calls : Calls} {cursors cursors' : List Cursor} {act : Act} {its : Calls}
+    {lines : Lines} {name : List ℕ} {pattern : PatternTerm} {opened : ℕ} {hits : List ℕ} (request : Request)
+    → RequestAllows cursors request act → Does size cursors act its lines cursors'
+    → IsCommand request (command.Next name) → GivePage lines
+    → (f : Follows size calls cursors name pattern opened hits) → (d : Cursor) × Advances size f.c its lines d
+turned_by reading request a (Says note) is gives f =
+    let q = quiet_note note in
+    absurd (no_page_said (note_lines note) gives (q.plain line.More) (λ version tried count. q.plain (line.End version tried count)))
+turned_by reading request a (Asks event reply said i) is gives f =
+    let q = quiet_ask event reply said i in
+    absurd (no_page_said (said ∷ []) gives (q.plain line.More) (λ version tried count. q.plain (line.End version tried count)))
+turned_by reading {cursors = cursors} {act = act} {name = name} request a (Searched p its lines s) is gives f =
+    absurd (fits reading cursors request act (command.Next name) a is)
+turned_by reading {cursors = cursors} {act = act} {name = name} request a (Opened own p want slot v new need) is gives f =
+    absurd (fits reading cursors request act (command.Next name) a is)
+turned_by reading {size} {cursors = cursors} {act = act} {name = name} request a
+    (Turned own before after c c' its lines at advances) is gives f =
+    elim (places name f.c.slot f.front f.back before after f.c c f.left f.right (sym f.among ∙ at.place)) [
+      | inl s ↦ (c', subst (λ (x : Cursor). Advances size x its lines c') (sym s.1) advances)
+      | inr e ↦ absurd (e.name_apart (at.named ∙ fits reading cursors request act (command.Next name) a is))
+    ]
+turned_by reading {cursors = cursors} {act = act} {name = name} request a (Closed own before after c at) is gives f =
+    absurd (fits reading cursors request act (command.Next name) a is)
+
 module _ (laws : Laws) (reading : OneReading) (s t : State) (steps : List Step) (own : ℕ
     → Bool) (size : ℕ) (exchanges : List Exchange) (calls more : Calls) (cursors : List Cursor)
     (sound : IsSound s) (run : IsRun s steps t) (calm : IsCalm steps) (made : calls_of own steps ≡ calls ++ more)
@@ -165,7 +199,7 @@ module _ (laws : Laws) (reading : OneReading) (s t : State) (steps : List Step) 
     here : List Cursor
     then : List Cursor
     to : AreExchanged size [] before first here
-    did : Kind size here x.request its x.lines then
+    did : RequestAnswer size here x.request its x.lines then
     from : AreExchanged size then after rest cursors
     calls_are : calls_of own steps ≡ first ++ (its ++ (rest ++ more))
     behind : calls_of own steps ≡ (first ++ its) ++ (rest ++ more)
@@ -185,7 +219,7 @@ module _ (laws : Laws) (reading : OneReading) (s t : State) (steps : List Step) 
         here = p.2;
         then = b.2;
         to = p.4;
-        did = kind size p.2 x.request b.0 x.lines b.2 b.3;
+        did = b.3;
         from = b.5;
         calls_are = n.0;
         behind = n.1;
@@ -195,35 +229,21 @@ module _ (laws : Laws) (reading : OneReading) (s t : State) (steps : List Step) 
   no_older : (before after : List Exchange) (x : Exchange) (a : Spot before after x) (version : ℕ)
       → IsUpToDate t.history a.first version → (v : ℕ) → IsShown before v → v ≤ version
   no_older before after x a version fresh v shown =
-      fresh.1 v ((dialogue_pins (calls_of own steps) free size before [] a.first
-      (a.its ++ (a.rest ++ more)) [] a.here a.calls_are a.to tt).1 v shown)
+      fresh.1 v (dialogue_shown size before [] a.first [] a.here a.to (are_apart free [] a.first _ a.calls_are) tt v shown)
 
-  searched : (before after : List Exchange) (x : Exchange) (text : List ℕ) (version tried count : ℕ)
-      (a : Spot before after x)
-      → Kind size a.here x.request a.its x.lines a.then → IsCommand x.request (command.Search text)
-      → Contains x.lines (line.End version tried count)
-      → IsTrueList t.history text version tried count (hits_in x.lines) × ((v : ℕ) → IsShown before v → v ≤ version)
-  searched before after x text version tried count a (Other pass plain same) is k =
-      absurd (plain.ends version tried count k)
-  searched before after x text version tried count a (Opened name other p was reads new o) is k =
-      absurd (start_or_search name other text
-      (one_command reading x.request (command.Start name other) (command.Search text) was is))
-  searched before after x text version tried count a (Moved name front back d d' was at advances now) is k =
-      absurd (next_or_search name text (one_command reading x.request (command.Next name) (command.Search text) was is))
-  searched before after x text version tried count a (Closed name front back d was at made said now) is k =
-      absurd (close_or_search name text
-      (one_command reading x.request (command.Close name) (command.Search text) was is))
-  searched before after x text version tried count a (Searched other p was reads found same) is k =
+  searches_true : SearchesAreTrue t.history exchanges
+  searches_true before after x text version tried count e is k =
+      let a = spot before after x e in
+      let did = searched_by reading x.request text version tried count a.did.allowed a.did.does is k in
+      let found = did.2 in
       let e = search_end found.place found.version found.tried found.hits x.lines version tried count found.lists k
       in
-      let true_all = searches-are-hits laws s t steps own size p a.first a.its
+      let true_all = searches-are-hits laws s t steps own size did.0 a.first a.its
       (a.rest ++ more) x.lines sound run calm a.calls_are found e.place_is in (
         record {
-          pattern = p;
-          is = subst (λ (l : List ℕ). IsPatternOf l p)
-              (one_search other text
-              (one_command reading x.request (command.Search other) (command.Search text) was is)) reads;
-          all = same_hits t.history found.version version found.tried tried p p found.hits
+          pattern = did.0;
+          is = did.1;
+          all = same_hits t.history found.version version found.tried tried did.0 did.0 found.hits
               (hits_in x.lines) e.numbers.version_is e.numbers.tried_is refl (sym e.listed) true_all.0;
           length_is = sym e.numbers.hits_is ∙ ap (λ (l : List ℕ). length l) (sym e.listed);
         },
@@ -231,23 +251,15 @@ module _ (laws : Laws) (reading : OneReading) (s t : State) (steps : List Step) 
             (subst (λ (v : ℕ). IsUpToDate t.history a.first v) e.numbers.version_is true_all.1),
       )
 
-  searches_true : SearchesAreTrue t.history exchanges
-  searches_true before after x text version tried count e is k = let a = spot before after x e in
-      searched before after x text version tried count a a.did is k
-
   -- the calls of a whole listing
-  listed : (calls' later : Calls) (pattern : PatternTerm) (opened : ℕ) (hits : List ℕ) (version tried count : ℕ)
-      → calls_of own steps ≡ calls' ++ later
-      → (e : Ended size calls' pattern opened hits version tried count) → AreAllHits t.history version pattern tried hits
-  listed calls' later pattern opened hits version tried count w e =
-      let o = e.open_since in
-      same_hits t.history e.c.version version e.c.tried tried e.c.pattern pattern hits hits e.numbers.version_is
-      e.numbers.tried_is e.pattern_is refl
-      (whole_pages laws own s t steps o.before o.pages later e.c.slot e.c.version e.c.tried e.c.pattern e.c.want hits
-      sound run calm
-      (w ∙ ap (λ (l : Calls). l ++ later) o.own) o.keeps
-      (subst (λ (p : Place). IsSearch e.c.want (At 0) (fetched e.c.slot o.pages) p) e.place_is o.search) o.need
-      o.matched o.tried)
+  listed : {calls' : Calls} (later : Calls) {turned : ℕ} (c : Cursor) {hits : List ℕ} (version tried count : ℕ)
+      → calls_of own steps ≡ calls' ++ later → IsOpen size turned calls' c hits → c.place ≡ End
+      → SameEnd c.version c.tried c.hits version tried count → AreAllHits t.history version c.pattern tried hits
+  listed later c {hits} version tried count w o place numbers =
+      same_hits t.history c.version version c.tried tried c.pattern c.pattern hits hits numbers.version_is
+      numbers.tried_is refl refl
+      (whole_pages laws own s t steps o.before o.pages later c.slot c.version c.want c.place sound run calm
+      (w ∙ ap (λ (l : Calls). l ++ later) o.own) o.keeps o.search place c.tried c.pattern hits o.need o.matched o.tried)
 
   -- the last page of the cursor of a name, in what follows its opening
   last_page : (between after : List Exchange) (y : Exchange) (name : List ℕ) (hits : List ℕ) (pattern : PatternTerm)
@@ -266,88 +278,43 @@ module _ (laws : Laws) (reading : OneReading) (s t : State) (steps : List Step) 
       let g = follow_all reading (calls_of own steps) free size name pattern opened between first p.0
       (p.1 ++ more) here p.2 [] parts.0 n.0 p.4 kept parts.1 f in
       let m = next_calls (calls_of own steps) (first ++ p.0) p.1 b.0 b.1 more n.1 b.4 in
-      let e : Ended size ((first ++ p.0) ++ b.0) pattern opened (parts.0 ++ hits_in y.lines) version tried count =
-      ends reading size name (first ++ p.0) b.0 p.2 b.2 y.request y.lines pattern opened parts.0 version tried count
-      (kind size p.2 y.request b.0 y.lines b.2 b.3) is k g in (
+      let turn = turned_by reading y.request b.3.allowed b.3.does is (inr (version, tried, count, k)) g in
+      let same = advances_same turn.1 in
+      let end = advance_end version tried count turn.1 k in
+      let next = open_advances turn.1 g.open_since in (
         subst (λ (l : List ℕ). AreAllHits t.history version pattern tried l) (sym parts.2)
-            (listed ((first ++ p.0) ++ b.0) (b.1 ++ more) pattern opened
-            (parts.0 ++ hits_in y.lines) version tried count m.1 e),
-        sym e.numbers.version_is ∙ e.opened_at,
-        sym e.numbers.hits_is ∙ (e.open_since.count ∙ ap (λ (l : List ℕ). length l) (sym parts.2)),
+            (subst (λ (q : PatternTerm). AreAllHits t.history version q tried (parts.0 ++ hits_in y.lines))
+            (same.pattern ∙ g.pattern_is)
+            (listed (b.1 ++ more) turn.0 version tried count m.1 next.2 end.0 end.1)),
+        sym end.1.version_is ∙ (same.version ∙ g.version_is),
+        sym end.1.hits_is ∙ (next.2.count ∙ ap (λ (l : List ℕ). length l) (sym parts.2)),
       )
 
   -- the cursor that an exchange opened
-  begin : (before after : List Exchange) (x : Exchange) (name text name' text' : List ℕ) (version : ℕ)
-      (a : Spot before after x) (p : PatternTerm) → IsCommand x.request (command.Start name' text')
-      → IsCommand x.request (command.Start name text) → IsNoName a.here name'
-      → (o : Opens name' p a.here a.its x.lines a.then) → Contains x.lines (line.Opened version)
-      → (f : Follows size (a.first ++ a.its) a.then name p version []) × (f.turned ≡ 0) × (f.c.place ≡ At 0)
-  begin before after x name text name' text' version a p was start new o k =
-      let same = one_start name' text' name text
-      (one_command reading x.request (command.Start name' text') (command.Start name text) was start) in
-      let at0 : o.version ≡ version =
-      one_opened o.version version
-      (one_in (line.Opened o.version) (line.Opened version)
-      (subst (λ (l : Lines). Contains l (line.Opened version)) o.said k)) in
-      let pins = (dialogue_pins (calls_of own steps) free size before [] a.first
-      (a.its ++ (a.rest ++ more)) [] a.here a.calls_are a.to tt).0 in
-      let new_name : IsNoName a.here name = subst (λ (l : List ℕ). IsNoName a.here l) same.0 new in
-      let opens : (q : Opens name p a.here a.its x.lines a.then) × (q.version ≡ o.version) =
-      subst (λ (l : List ℕ). (q : Opens l p a.here a.its x.lines a.then) × (q.version ≡ o.version)) same.0 (o, refl) in
-      follow_new reading (calls_of own steps) free size name p version a.first a.its
-      (a.rest ++ more) a.here a.then x.lines a.calls_are pins new_name opens.0 (opens.1 ∙ at0)
-
-  opened : (before between after : List Exchange) (x y : Exchange) (name text hits : List ℕ)
-      (version0 version tried count : ℕ) (a : Spot before (between ++ y ∷ after) x)
-      → Kind size a.here x.request a.its x.lines a.then
-      → IsCommand x.request (command.Start name text) → Contains x.lines (line.Opened version0) → StaysOpen name between
-      → IsCommand y.request (command.Next name) → Contains y.lines (line.End version tried count)
-      → AreListed name (between ++ y ∷ []) hits
-      → IsTrueList t.history text version tried count hits × (version ≡ version0)
-      × ((v : ℕ) → IsShown before v → v ≤ version)
-  opened before between after x y name text hits version0 version tried count a
-      (Other pass plain same) start k kept next end list = absurd (plain.opens version0 k)
-  opened before between after x y name text hits version0 version tried count a
-      (Searched other p was reads found same) start k kept next end list =
-      absurd (search_or_start other text name
-      (one_command reading x.request (command.Search other) (command.Start name text) was start))
-  opened before between after x y name text hits version0 version tried count a
-      (Moved other front back d d' was at advances now) start k kept next end list =
-      absurd (next_or_start other name text
-      (one_command reading x.request (command.Next other) (command.Start name text) was start))
-  opened before between after x y name text hits version0 version tried count a
-      (Closed other front back d was at made said now) start k kept next end list =
-      absurd (close_or_start other name text
-      (one_command reading x.request (command.Close other) (command.Start name text) was start))
-  opened before between after x y name text hits version0 version tried count a
-      (Opened name' text' p was reads new o) start k kept next end list =
-      let same = one_start name' text' name text
-      (one_command reading x.request (command.Start name' text') (command.Start name text) was start) in
-      let at0 : o.version ≡ version0 =
-      one_opened o.version version0
-      (one_in (line.Opened o.version) (line.Opened version0)
-      (subst (λ (l : Lines). Contains l (line.Opened version0)) o.said k)) in
-      let f = (begin before (between ++ y ∷ after) x name text name' text' version0 a p was start new o k).0 in
-      let r = last_page between after y name hits p version0 version tried count
-      (a.first ++ a.its) a.rest a.then a.behind a.from kept next end list f in
-      let fresh : IsUpToDate t.history a.first o.version =
-      laws.pins s t steps own o.slot o.version a.first (a.rest ++ more) sound run calm
-      (pin_first (calls_of own steps) a.first a.its (a.rest ++ more) [] o.slot o.version a.calls_are o.made) in (
-        record {
-          pattern = p;
-          is = subst (λ (l : List ℕ). IsPatternOf l p) same.1 reads;
-          all = r.0;
-          length_is = r.2;
-        },
-        r.1,
-        no_older before (between ++ y ∷ after) x a version
-            (subst (λ (v : ℕ). IsUpToDate t.history a.first v) (at0 ∙ sym r.1) fresh),
-      )
+  begin : (before after : List Exchange) (x : Exchange) (name text : List ℕ) (version : ℕ) (a : Spot before after x)
+      → (o : IsOpening a.here a.its a.then name text version)
+      → (f : Follows size (a.first ++ a.its) a.then name o.pattern version []) × (f.turned ≡ 0) × (f.c.place ≡ At 0)
+  begin before after x name text version a o =
+      subst (λ (l : List Cursor). (f : Follows size (a.first ++ a.its) l name o.pattern version []) × (f.turned ≡ 0)
+      × (f.c.place ≡ At 0)) (sym o.then_are)
+      (follow_new reading (calls_of own steps) free size name o.pattern version a.first a.its (a.rest ++ more) a.here
+      o.want o.slot a.calls_are o.its_are
+      (dialogue_held none size before a.first [] a.here a.to (are_apart free [] a.first _ a.calls_are) tt) o.new o.need)
 
   cursors_true : CursorsAreTrue t.history exchanges
   cursors_true before between after x y name text hits version0 version tried count e start k kept next end list =
       let a = spot before (between ++ y ∷ after) x e in
-      opened before between after x y name text hits version0 version tried count a a.did start k kept next end list
+      let o = opened_by reading x.request name text version0 a.did.allowed a.did.does start k in
+      let r = last_page between after y name hits o.pattern version0 version tried count (a.first ++ a.its) a.rest a.then
+      a.behind a.from kept next end list (begin before (between ++ y ∷ after) x name text version0 a o).0 in
+      let fresh : IsUpToDate t.history a.first version0 =
+      laws.pins s t steps own o.slot version0 a.first (a.rest ++ more) sound run calm
+      (a.calls_are ∙ ap (λ (l : Calls). a.first ++ (l ++ (a.rest ++ more))) o.its_are) in (
+        record { pattern = o.pattern; is = o.reads; all = r.0; length_is = r.2 },
+        r.1,
+        no_older before (between ++ y ∷ after) x a version
+            (subst (λ (v : ℕ). IsUpToDate t.history a.first v) (sym r.1) fresh),
+      )
 
   -- a page of the cursor of a name
   abbrev TruePage : PatternTerm → ℕ → ℕ → Lines → Type 0
@@ -355,139 +322,64 @@ module _ (laws : Laws) (reading : OneReading) (s t : State) (steps : List Step) 
       × ((all : List Found) → AreFound (IsScreened want) (snapshot t.history at_version) all
       → IsPageOf pattern size (drop (k * size) all) lines)
 
-  page_true : (calls' its later : Calls) (c c' : Cursor) (lines : Lines) (hits : List ℕ) (from k at_version : ℕ)
-      (pattern : PatternTerm) → calls_of own steps ≡ (calls' ++ its) ++ later → c.place ≡ At from
-      → c.pattern ≡ pattern → c.version ≡ at_version
-      → Turns size from c its lines c' → IsOpen size k calls' c hits → TruePage pattern at_version k lines
-  page_true calls' its later c c' lines hits from k at_version pattern w at p v turn o = (
+  at_end_or : (from : ℕ) → End ≡ At from → ⊥
+  at_end_or from e = cc
+
+  page_true : (calls' its later : Calls) (c c' : Cursor) (lines : Lines) (hits : List ℕ) (from k : ℕ)
+      → calls_of own steps ≡ (calls' ++ its) ++ later → c.place ≡ At from → GivePage lines
+      → Advances size c its lines c' → IsOpen size k calls' c hits → TruePage c.pattern c.version k lines
+  page_true calls' its later c c' lines hits from0 k w at0 gives (Ended at) o = absurd (at_end_or from0 (sym at ∙ at0))
+  page_true calls' its later c c' lines hits from0 k w at0 gives (Lost from at) o =
+      absurd (no_page_said lines gives (λ m. fault_or_more (one_in line.MemoryFault line.More m))
+      (λ version tried count m. fault_or_end version tried count
+      (one_in line.MemoryFault (line.End version tried count) m)))
+  page_true calls' its later c c' lines hits from0 k w at0 gives (Paged from records last turned at matched) o = (
     c.want,
-    subst (λ (q : PatternTerm). IsNeedOf q c.want) p o.need,
+    o.need,
     λ all found.
-        let m = page_more size k calls' c hits turn.hits from turn.records turn.last at turn.matched o in
+        let m = page_more turned from records last at matched o in
         let own_is : calls_of own steps ≡ (m.0.before ++ (events.Pin, replies.Pinned c.slot c.version) ∷ m.0.pages)
-        ++ later =
-        w ∙ (ap (λ (l : Calls). (calls' ++ l) ++ later) turn.made ∙ ap (λ (l : Calls). l ++ later) m.0.own) in
-        let pieces = pieces_so_far laws own s t steps m.0.before m.0.pages later c.slot c.version size c.want
-        (cond turn.last End (At (past from turn.records))) all sound run calm own_is m.0.keeps m.0.search m.0.sized
-        (subst (λ (n : ℕ). AreFound (IsScreened c.want) (snapshot t.history n) all) (sym v) found) in
-        let last = last_piece size all (fetched c.slot o.pages) (page_of c size from turn.records turn.last)
+        ++ later = w ∙ ap (λ (l : Calls). l ++ later) m.0.own in
+        let pieces = pieces_so_far laws own s t steps m.0.before m.0.pages later c.slot c.version c.want
+        (cond last End (At (past from records))) sound run calm own_is m.0.keeps m.0.search size all m.0.sized found in
+        let piece = last_piece size all (fetched c.slot o.pages) (page_of c size from records last)
         (subst (λ (fs : List Fetched). ArePieces size all fs) m.1 pieces) in
-        let here = subst (λ (n : ℕ). (turn.records ≡ take size (drop (n * size) all))
-        × (turn.last ≡ nat_le (length (drop (n * size) all)) size)) o.turned_is last in
-        let listed : hits_in lines ≡ turn.hits =
-        ap hits_in turn.said ∙ hits_listed turn.hits (page_end turn.last c') (no_hit turn.last c') in
+        let here = subst (λ (n : ℕ). (records ≡ take size (drop (n * size) all))
+        × (last ≡ nat_le (length (drop (n * size) all)) size)) o.turned_is piece in
+        let next = after_page c from records last turned in
+        let listed : hits_in lines ≡ turned = hits_listed turned (page_end last next) (no_hit last next) in
         record {
-          hits = subst (λ (l : List ℕ). AreMatched pattern (take size (drop (k * size) all)) l) (sym listed)
-              (subst (λ (rs : List Found). AreMatched pattern rs turn.hits) here.0
-              (subst (λ (q : PatternTerm). AreMatched q turn.records turn.hits) p turn.matched));
-          more = says_more c' turn.last turn.hits lines (length (drop (k * size) all)) size turn.said here.1;
+          hits = subst (λ (l : List ℕ). AreMatched c.pattern (take size (drop (k * size) all)) l) (sym listed)
+              (subst (λ (rs : List Found). AreMatched c.pattern rs turned) here.0 matched);
+          more = says_more next last turned (length (drop (k * size) all)) size here.1;
         },
   )
-
-  -- the page of a cursor that was followed to here
-  followed_page : (calls' its later : Calls) (cursors' cursors'' : List Cursor) (y : Exchange) (name : List ℕ)
-      (pattern : PatternTerm) (at_version k : ℕ) (hits : List ℕ) → calls_of own steps ≡ (calls' ++ its) ++ later
-      → Kind size cursors' y.request its y.lines cursors'' → IsCommand y.request (command.Next name)
-      → GivePage y.lines → (f : Follows size calls' cursors' name pattern at_version hits) → f.turned ≡ k
-      → (from : ℕ) → f.c.place ≡ At from → TruePage pattern at_version k y.lines
-  followed_page calls' its later cursors' cursors'' y name pattern at_version k hits w (Other pass plain same) is gives f
-      turns from at = absurd (no_page_said y.lines gives plain.turns plain.ends)
-  followed_page calls' its later cursors' cursors'' y name pattern at_version k hits w (Searched other p was reads found same)
-      is gives f turns from at =
-      absurd (search_or_next other name
-      (one_command reading y.request (command.Search other) (command.Next name) was is))
-  followed_page calls' its later cursors' cursors'' y name pattern at_version k hits w (Opened other text p was reads new o)
-      is gives f turns from at =
-      absurd (start_or_next text other name
-      (one_command reading y.request (command.Start other text) (command.Next name) was is))
-  followed_page calls' its later cursors' cursors'' y name pattern at_version k hits w
-      (Closed other front back d was place made said now) is gives f turns from at =
-      absurd (close_or_next other name
-      (one_command reading y.request (command.Close other) (command.Next name) was is))
-  followed_page calls' its later cursors' cursors'' y name pattern at_version k hits w
-      (Moved other front back d d' was place advances now) is gives f turns from at =
-      elim (places name f.c.slot f.front f.back front back f.c d f.left f.right (sym f.among ∙ place.place)) [
-        | inl e ↦
-            let here : Advances size (At from) f.c its y.lines d' =
-            subst (λ (q : Place). Advances size q f.c its y.lines d') at
-            (subst (λ (x : Cursor). Advances size x.place x its y.lines d') (sym e.1) advances) in
-            elim here [
-              | inl turn ↦ subst (λ (n : ℕ). TruePage pattern at_version n y.lines) turns
-                  (page_true calls' its later f.c d' y.lines hits from f.turned at_version pattern w at f.pattern_is
-                  f.version_is turn f.open_since)
-              | inr lost ↦ absurd (no_page_said y.lines gives
-                  (λ m. fault_or_more (one_in line.MemoryFault line.More
-                  (subst (λ (l : Lines). Contains l line.More) lost.1 m)))
-                  (λ version tried count m. fault_or_end version tried count
-                  (one_in line.MemoryFault (line.End version tried count)
-                  (subst (λ (l : Lines). Contains l (line.End version tried count)) lost.1 m))))
-            ]
-        | inr e ↦ absurd (e.name_apart
-            (place.named ∙ one_next other name
-            (one_command reading y.request (command.Next other) (command.Next name) was is)))
-      ]
-
-  -- a page in what follows the opening
-  later_page : (between after : List Exchange) (y : Exchange) (name : List ℕ) (pattern : PatternTerm) (at_version k : ℕ)
-      (first rest : Calls) (here : List Cursor)
-      → calls_of own steps ≡ first ++ (rest ++ more) → AreExchanged size here (between ++ y ∷ after) rest cursors
-      → StaysOpen name between → AreTurned name between k
-      → IsCommand y.request (command.Next name) → GivePage y.lines
-      → (f : Follows size first here name pattern at_version []) → f.turned ≡ 0 → f.c.place ≡ At 0
-      → TruePage pattern at_version k y.lines
-  later_page between after y name pattern at_version k first rest here w a kept turned is gives f none at =
-      let p = exchanged_parts size here cursors between (y ∷ after) rest a in
-      let b = p.5 in
-      let n = next_calls (calls_of own steps) first rest p.0 p.1 more w p.3 in
-      let g = turn_all reading (calls_of own steps) free size name pattern at_version between first p.0
-      (p.1 ++ more) here p.2 0 k n.0 p.4 kept turned ([], f, none, 0, at) in
-      let m = next_calls (calls_of own steps) (first ++ p.0) p.1 b.0 b.1 more n.1 b.4 in
-      let zero_more : 0 + k ≡ k = omega arith in
-      followed_page (first ++ p.0) b.0 (b.1 ++ more) p.2 b.2 y name pattern at_version k g.0 m.1
-      (kind size p.2 y.request b.0 y.lines b.2 b.3) is gives g.1 (g.2 ∙ zero_more) g.3 g.4
-
-  paged : (before between after : List Exchange) (x y : Exchange) (name text : List ℕ) (version k : ℕ)
-      (a : Spot before (between ++ y ∷ after) x)
-      → Kind size a.here x.request a.its x.lines a.then
-      → IsCommand x.request (command.Start name text) → Contains x.lines (line.Opened version) → StaysOpen name between
-      → AreTurned name between k → IsCommand y.request (command.Next name) → GivePage y.lines
-      → IsTruePage t.history text version size k y.lines
-  paged before between after x y name text version k a (Other pass plain same) start o kept turned next gives =
-      absurd (plain.opens version o)
-  paged before between after x y name text version k a (Searched other p was reads found same) start o kept turned
-      next gives =
-      absurd (search_or_start other text name
-      (one_command reading x.request (command.Search other) (command.Start name text) was start))
-  paged before between after x y name text version k a (Moved other front back d d' was at advances now) start o kept
-      turned next gives =
-      absurd (next_or_start other name text
-      (one_command reading x.request (command.Next other) (command.Start name text) was start))
-  paged before between after x y name text version k a (Closed other front back d was at made said now) start o kept
-      turned next gives =
-      absurd (close_or_start other name text
-      (one_command reading x.request (command.Close other) (command.Start name text) was start))
-  paged before between after x y name text version k a (Opened name' text' p was reads new opens) start o kept turned
-      next gives =
-      let b = begin before (between ++ y ∷ after) x name text name' text' version a p was start new opens o in
-      let r = later_page between after y name p version k (a.first ++ a.its) a.rest a.then a.behind a.from kept turned
-      next gives b.0 b.1 b.2 in
-      record {
-        pattern = p;
-        is = subst (λ (l : List ℕ). IsPatternOf l p) (one_start name' text' name text
-            (one_command reading x.request (command.Start name' text') (command.Start name text) was start)).1 reads;
-        want = r.0;
-        need = r.1;
-        page = r.2;
-      }
 
   pages_true : PagesAreTrue t.history size exchanges
   pages_true before between after x y name text version k e start o kept turned next gives =
       let a = spot before (between ++ y ∷ after) x e in
-      paged before between after x y name text version k a a.did start o kept turned next gives
-
-  pub all_true : AreTrue t.history size exchanges
-  all_true = record { searches = searches_true; cursors = cursors_true; pages = pages_true }
+      let opening = opened_by reading x.request name text version a.did.allowed a.did.does start o in
+      let f = begin before (between ++ y ∷ after) x name text version a opening in
+      let p = exchanged_parts size a.then cursors between (y ∷ after) a.rest a.from in
+      let b = p.5 in
+      let first : Calls = a.first ++ a.its in
+      let n = next_calls (calls_of own steps) first a.rest p.0 p.1 more a.behind p.3 in
+      let g = turn_all reading (calls_of own steps) free size name opening.pattern version between first p.0
+      (p.1 ++ more) a.then p.2 0 k n.0 p.4 kept turned ([], f.0, f.1, 0, f.2) in
+      let m = next_calls (calls_of own steps) (first ++ p.0) p.1 b.0 b.1 more n.1 b.4 in
+      let turn = turned_by reading y.request b.3.allowed b.3.does next gives g.1 in
+      let k_is : 0 + k ≡ k = omega arith in
+      let page = page_true (first ++ p.0) b.0 (b.1 ++ more) g.1.c turn.0 y.lines g.0 g.3 g.1.turned m.1 g.4 gives turn.1
+      g.1.open_since in
+      let r : TruePage opening.pattern version k y.lines =
+      subst (λ (n : ℕ). TruePage opening.pattern version n y.lines) (g.2 ∙ k_is)
+      (subst (λ (v : ℕ). TruePage opening.pattern v g.1.turned y.lines) g.1.version_is
+      (subst (λ (q : PatternTerm). TruePage q g.1.c.version g.1.turned y.lines) g.1.pattern_is page)) in
+      record { pattern = opening.pattern; is = opening.reads; want = r.0; need = r.1; page = r.2 }
 
 pub dialogues-are-true : Laws → OneReading → DialoguesAreTrue
-dialogues-are-true laws reading s t steps own size exchanges calls more cursors sound run calm made said =
-    all_true laws reading s t steps own size exchanges calls more cursors sound run calm made said
+dialogues-are-true laws reading s t steps own size exchanges calls more cursors sound run calm made said = record {
+  searches = searches_true laws reading s t steps own size exchanges calls more cursors sound run calm made said;
+  cursors = cursors_true laws reading s t steps own size exchanges calls more cursors sound run calm made said;
+  pages = pages_true laws reading s t steps own size exchanges calls more cursors sound run calm made said;
+}

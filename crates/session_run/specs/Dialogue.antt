@@ -5,7 +5,7 @@ use Rattle.shell_lang.specs.Command as command
 use Rattle.shell_lang.specs.Command.{Command, IsLine}
 use Rattle.shell_lang.specs.Reply as line
 use Rattle.shell_lang.specs.Reply.{text_of}
-use Rattle.session_run.specs.Answer.{Lines, RequestAnswer}
+use Rattle.session_run.specs.Acts.{Lines, RequestAnswer}
 use Rattle.session_run.specs.Cursors.{Calls, Cursor}
 use Rattle.session_run.specs.Requests.{Request}
 

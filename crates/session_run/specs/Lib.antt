@@ -1,13 +1,13 @@
 pub mod Requests
 pub mod Texts
 pub mod Cursors
-pub mod Answer
+pub mod Acts
+pub mod Pins
 pub mod Transcript
 pub mod Served
 pub mod Turn
 pub mod Made
 pub mod Opened
-pub mod Changes
 pub mod Walks
 pub mod Responds
 pub mod Serving

@@ -1,14 +1,24 @@
 -- For private clauses alone: the calls that a part of an answer makes, and what it leaves.
-use Rattle.std.specs.Prelude.{◌≡◌, ◌⊎◌, ◌↔◌, ℕ, List, [], ◌∷◌, ◌++◌, Result, Ok, Err}
+use Rattle.std.specs.Prelude.{◌≡◌, ℕ, Bool, true, List, [], ◌∷◌, ◌++◌, Result, Ok, Err}
 use Rattle.shell_lang.specs.Reply as line
 use Rattle.shell_lang.specs.Reply.{text_of, reply_of}
 use Rattle.shell_lang.specs.declared.reply.Reply as written
-use Rattle.session_run.specs.Answer.{Lines}
-use Rattle.session_run.specs.Cursors.{Calls, Cursor}
+use Rattle.shell_lang.specs.declared.reply.Reply.TheVariants as replies
+use Rattle.store_core.specs.Calls.{NotRaised}
+use Rattle.store_core.specs.declared.service.Service as meaning
+use Rattle.store_machine.specs.declared.machine.Event.{Event}
+use Rattle.session_run.specs.Acts.{IsLineOf, Lines}
+use Rattle.session_run.specs.Cursors.{Calls, Makes}
+use Rattle.session_run.specs.Pins.{MovePins}
 use Rattle.session_run.specs.Transcript.{IsPrefixOf}
 use Rattle.session_run.specs.declared.stop.Stop.{Stop}
 use Rattle.session_run.specs.declared.stop.Stop.TheVariants as stops
-use Rattle.session_run.specs.declared.stop.Worn.{Worn}
+
+-- from one value of a service to a later one these calls were made, and they alone moved pins
+pub record Uses {S : Type 0} (of : meaning.Ghosts S) (old new : S) (calls : Calls) : Type 0 where
+  pub makes : Makes of.at of.owns of.stretch old new calls
+  pub pins : MovePins calls (of.holds old) (of.holds new)
+  pub bounds : NotRaised (of.bounds old) (of.bounds new)
 
 -- calls were made and this is left, so that these lines are due
 pub record Did {X : Type 0} (Made : Calls → Type 0) (Is : Calls → Lines → X → Type 0) (after : X) : Type 0 where
@@ -18,7 +28,8 @@ pub record Did {X : Type 0} (Made : Calls → Type 0) (Is : Calls → Lines → 
   pub is : Is calls lines after
 
 -- calls were made, and then the service was worn: more would have followed
-pub record WornIn {X : Type 0} (Made : Calls → Type 0) (Is : Calls → Lines → X → Type 0) : Type 0 where
+pub record WornIn {X : Type 0} (Made : Calls → Type 0) (IsWorn : Type 0) (Is : Calls → Lines → X → Type 0)
+    : Type 0 where
   pub calls : Calls
   pub whole : Calls
   pub lines : Lines
@@ -26,33 +37,21 @@ pub record WornIn {X : Type 0} (Made : Calls → Type 0) (Is : Calls → Lines �
   pub made : Made calls
   pub begins : IsPrefixOf calls whole
   pub is : Is whole lines after
+  pub worn : IsWorn
 
--- An answer behind a text. Where no memory is left for the lines, the calls were made all the same
-abbrev pub Answered : {X : Type 0} → (Calls → Type 0) → (Calls → Lines → X → Type 0) → List ℕ → List ℕ → X
-    → Result (Unit {0}) Stop → Type 0
-Answered Made Is out out' after (Ok _) = (did : Did Made Is after) × (out' ≡ out ++ text_of did.lines)
-Answered Made Is out out' after (Err stops.NoMemory) = Did Made Is after
-Answered Made Is out out' after (Err stops.Worn) = WornIn Made Is
+-- An answer behind a text: its lines were written; or no memory is left for them, and the calls were made all the same;
+-- or the service was worn
+pub data Answered {X : Type 0} (Made : Calls → Type 0) (IsWorn : Type 0) (Is : Calls → Lines → X → Type 0)
+    (out out' : List ℕ) (after : X) : Result (Unit {0}) Stop → Type 0 where
+  Said : (u : Unit {0}) (did : Did Made Is after) (said : out' ≡ out ++ text_of did.lines)
+      → Answered Made IsWorn Is out out' after (Ok u)
+  Unsaid : (did : Did Made Is after) → Answered Made IsWorn Is out out' after (Err stops.NoMemory)
+  Broken : (worn : WornIn Made IsWorn Is) → Answered Made IsWorn Is out out' after (Err stops.Worn)
 
--- an answer of one line; the service was worn before the first call
-abbrev pub OneLine : (Calls → Type 0) → (Calls → Lines → Type 0) → Result written.Reply Worn → Type 0
-OneLine Made Is (Ok reply) = (calls : Calls) × Made calls × Is calls (reply_of reply ∷ [])
-OneLine Made Is (Err _) = Made []
-
--- the same of an answer that leaves something
-abbrev pub OneLineIn : {X : Type 0} → (Calls → Type 0) → (Calls → Lines → X → Type 0) → X → Result written.Reply Worn
-    → Type 0
-OneLineIn Made Is after (Ok reply) = (calls : Calls) × Made calls × Is calls (reply_of reply ∷ []) after
-OneLineIn Made Is after (Err _) = WornIn Made Is
-
--- the line was written behind a text, or there is none to write
-abbrev pub Said : Result written.Reply Worn → List ℕ → List ℕ → Result (Unit {0}) Stop → Type 0
-Said (Ok reply) out out' (Ok _) = out' ≡ out ++ line.reply_line (reply_of reply)
-Said (Ok reply) out out' (Err stops.NoMemory) = Unit {0}
-Said (Ok reply) out out' (Err stops.Worn) = ⊥
-Said (Err _) out out' (Ok _) = ⊥
-Said (Err _) out out' (Err stops.NoMemory) = ⊥
-Said (Err _) out out' (Err stops.Worn) = Unit {0}
+-- the same of a service
+abbrev pub AnsweredBy : {S X : Type 0} → meaning.Ghosts S → S → S → (Calls → Lines → X → Type 0) → List ℕ → List ℕ
+    → X → Result (Unit {0}) Stop → Type 0
+AnsweredBy of old new Is out out' after result = Answered (Uses of old new) (of.worn new) Is out out' after result
 
 -- the line was written behind a text, unless no memory is left
 abbrev pub Tells : line.Reply → List ℕ → List ℕ → Result (Unit {0}) Stop → Type 0
@@ -60,17 +59,23 @@ Tells said out out' (Ok _) = out' ≡ out ++ line.reply_line said
 Tells said out out' (Err stops.NoMemory) = Unit {0}
 Tells said out out' (Err stops.Worn) = ⊥
 
--- a cursor's pin is in the slot
-abbrev pub HasSlot : List Cursor → ℕ → Type 0
-HasSlot [] slot = ⊥
-HasSlot (c ∷ cs) slot = (c.slot ≡ slot) ⊎ HasSlot cs slot
+-- a line was written, where the service gave one
+abbrev pub Writes : Result written.Reply Stop → List ℕ → List ℕ → Result (Unit {0}) Stop → Type 0
+Writes (Ok reply) out out' result = Tells (reply_of reply) out out' result
+Writes (Err stop) out out' result = result ≡ Err stop
 
--- the pins of the cursors are held, in slots of their own
-abbrev pub AreHeld : (ℕ → ℕ → Type 0) → List Cursor → Type 0
-AreHeld held [] = Unit {0}
-AreHeld held (c ∷ cs) = held c.slot c.version × ¬ HasSlot cs c.slot × AreHeld held cs
+-- that there is no room for it
+abbrev pub without_room : Result written.Reply Stop → Result written.Reply Stop
+without_room (Ok reply) = Ok replies.MemoryFault
+without_room (Err stop) = Err stop
 
--- the pins that are no cursor's are the same
-abbrev pub SameOthers : (ℕ → ℕ → Type 0) → List Cursor → (ℕ → ℕ → Type 0) → List Cursor → Type 0
-SameOthers old cursors new cursors' =
-    (slot version : ℕ) → (new slot version × ¬ HasSlot cursors' slot) ↔ (old slot version × ¬ HasSlot cursors slot)
+-- these are one call, and its reply gives the line
+abbrev pub IsLineIn : Event → Calls → line.Reply → Type 0
+IsLineIn event [] said = ⊥
+IsLineIn event (c ∷ cs) said = (c.0 ≡ event) × IsLineOf event c.1 said × (cs ≡ [])
+
+-- the line that the reply to a call gives, or none where the service is worn
+abbrev pub Gives : Event → Calls → Bool → Result written.Reply Stop → Type 0
+Gives event calls worn (Ok reply) = IsLineIn event calls (reply_of reply)
+Gives event calls worn (Err stops.Worn) = (calls ≡ []) × (worn ≡ true)
+Gives event calls worn (Err stops.NoMemory) = ⊥

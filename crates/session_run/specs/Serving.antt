@@ -1,16 +1,11 @@
 -- For private clauses alone: a session before the pins of its open cursors are given back.
-use Rattle.std.specs.Prelude.{◌≡◌, ◌≢◌, ℕ, List, [], Option, Some, IfSome, false}
+use Rattle.std.specs.Prelude.{◌≡◌, ℕ, List, [], Option, IfSome, false}
 use Rattle.io_edge.specs.Lines.{Reading, TextLine, lines_of, whole_lines}
-use Rattle.store_core.specs.Calls.{NotRaised}
 use Rattle.session_run.specs.Cursors.{Calls, Cursor}
 use Rattle.session_run.specs.Dialogue.{AreExchanged, Exchange, replies_of, requests_of}
-use Rattle.session_run.specs.Opened.{opened}
 use Rattle.session_run.specs.Requests.{AreAllWhole}
-use Rattle.session_run.specs.Responds.{IsFit, KeepsPins}
 use Rattle.session_run.specs.Served.{IsInputFault, Writes, WritesForTaken}
 use Rattle.session_run.specs.Transcript.{IsDialogue, Stops, WornAt}
-use Rattle.session_run.specs.Walks.{cursors_of}
-use Rattle.session_run.specs.declared.respond.Responder.{Responder}
 use Rattle.session_run.specs.declared.settings.EndStatus.{EndStatus}
 use Rattle.session_run.specs.declared.settings.EndStatus.TheVariants.{Done, InputTooLong, SourceFault, Worn}
 
@@ -38,17 +33,6 @@ pub record Serves (end : EndStatus) (size : ℕ) (before after put put' : Option
     (cursors : List Cursor) : Type 0 where
   pub script : Script end size before put put' calls cursors
   pub taken : IsInputFault end → WritesForTaken before after put put' (AnswersTaken size calls cursors)
-
--- what a turn keeps, by how the session ends with it, if it does
-pub record KeepsOn {S : Type 0} (Holds : S → ℕ → ℕ → Type 0) (IsWorn : S → Type 0)
-    (bounds_of : S → Option ℕ × Option ℕ) (service service' : S) (old new : Responder)
-    (result : Option EndStatus) : Type 0 where
-  pub fit : IsFit new.settings new.cursors.size (opened new.cursors)
-  pub size : new.cursors.size ≡ old.cursors.size
-  pub worn : result ≡ Some Worn → IsWorn service'
-  pub pins : result ≢ Some Worn → KeepsPins (Holds service) (cursors_of (opened old.cursors))
-      (Holds service') (cursors_of (opened new.cursors))
-  pub bounds : NotRaised (bounds_of service) (bounds_of service')
 
 -- nothing was read
 pub record IsFresh (reading : Reading) : Type 0 where

@@ -3,7 +3,7 @@
 use Rattle.std.specs.Prelude.{◌≡◌, ◌⊎◌, ℕ, List, [], ◌++◌}
 use Rattle.io_edge.specs.Lines.{TextLine}
 use Rattle.shell_lang.specs.Reply.{text_of}
-use Rattle.session_run.specs.Answer.{Lines, RequestAnswer}
+use Rattle.session_run.specs.Acts.{Lines, RequestAnswer}
 use Rattle.session_run.specs.Cursors.{Calls, Cursor, unpins}
 use Rattle.session_run.specs.Dialogue.{AreExchanged, Exchange, replies_of, requests_of}
 use Rattle.session_run.specs.Requests.{Request, BeginWith, BeginWithAll}

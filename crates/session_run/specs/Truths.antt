@@ -16,7 +16,7 @@ use Rattle.store_machine.specs.declared.machine.Found.{Found}
 use Rattle.store_machine.specs.declared.machine.State.{State}
 use Rattle.store_machine.specs.declared.machine.Step.{Step}
 use Rattle.store_machine.specs.Told.{IsTold}
-use Rattle.session_run.specs.Answer.{Lines, Searches}
+use Rattle.session_run.specs.Acts.{Lines, Searches}
 use Rattle.session_run.specs.Cursors.{Calls, Cursor}
 use Rattle.session_run.specs.Dialogue.{AreExchanged, AreListed, AreTurned, Exchange, GivePage, IsCommand, IsShown, StaysOpen, hits_in}
 use Rattle.session_run.specs.Served.{IsServed}

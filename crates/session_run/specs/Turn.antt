@@ -1,16 +1,18 @@
 -- For private clauses alone: how a source is read on by requests, and what a turn of a session does.
-use Rattle.std.specs.Prelude.{◌≡◌, ◌≤◌, ℕ, IsTrue, Option, None, Some, List, [], ◌∷◌, ◌++◌, Contains}
+use Rattle.std.specs.Prelude.{◌≡◌, ◌≤◌, Err, ℕ, IsTrue, Ok, Option, None, Result, Some, List, [], ◌∷◌, ◌++◌, Contains}
 use Rattle.std.specs.Io.KnownBytes.{Appends}
 use Rattle.io_edge.specs.Faults.{Rose}
 use Rattle.io_edge.specs.Sink.{AppendsPrefix}
 use Rattle.io_edge.specs.Lines.{AwaitsBytes, Reading, TextLine, Whole, TooLong, lines_left, done_bytes}
 use Rattle.io_edge.specs.NextLine.{Counts}
 use Rattle.io_edge.specs.Source.{Leaves}
+use Rattle.io_edge.specs.declared.lines.Line.{Line}
+use Rattle.io_edge.specs.declared.lines.Line.TheVariants as one
 use Rattle.io_edge.specs.declared.lines.LineFault.{LineFault}
 use Rattle.io_edge.specs.declared.lines.LineFault.TheVariants as line_faults
 use Rattle.shell_lang.specs.Command.{StartsMolfile, IsLine, molfile_command}
 use Rattle.shell_lang.specs.Reply.{text_of}
-use Rattle.session_run.specs.Answer.{RequestAnswer}
+use Rattle.session_run.specs.Acts.{RequestAnswer}
 use Rattle.session_run.specs.Cursors.{Calls, Cursor}
 use Rattle.session_run.specs.Made.{Did, WornIn}
 use Rattle.session_run.specs.Requests.{Request, BeginWith, BeginWithMolfile, IsLong, molfile_text}
@@ -43,6 +45,16 @@ abbrev pub ReadsLines : Reading → Reading → Option (List ℕ) → Option (Li
 ReadsLines old new before after P =
     (l l' got : List ℕ) → before ≡ Some l → after ≡ Some l' → l ≡ got ++ l' → (IsTrue old.ended → l ≡ [])
     → (rest : List ℕ) → (IsTrue new.ended → rest ≡ []) → P (lines_left old (got ++ rest)) (lines_left new rest)
+
+-- what a call for the next line read, by its answer
+abbrev pub IsNextLine : Reading → Reading → Option (List ℕ) → Option (List ℕ) → Result Line LineFault → Type 0
+IsNextLine old new before after (Ok one.Text) =
+    ReadsLines old new before after (λ all left. all ≡ Whole new.text ∷ left)
+IsNextLine old new before after (Ok one.Long) = ReadsLines old new before after (λ all left. all ≡ TooLong ∷ left)
+IsNextLine old new before after (Ok one.End) =
+    ReadsLines old new before after (λ all left. (all ≡ []) × (left ≡ []))
+IsNextLine old new before after (Err fault) =
+    ReadsLines old new before after (λ all left. all ≡ left) × AwaitsBytes new
 
 -- the request was the next
 abbrev pub TakesRequest : Reading → Reading → Option (List ℕ) → Option (List ℕ) → Request → Type 0
@@ -102,41 +114,42 @@ pub record Answers (size : ℕ) (Made : Calls → Type 0) (Taken : Request → T
   pub did : Did Made (RequestAnswer size cursors request) cursors'
 
 -- a request was read, and in its answer the service was worn
-pub record Breaks (size : ℕ) (Made : Calls → Type 0) (Taken : Request → Type 0) (cursors : List Cursor) : Type 0 where
+pub record Breaks (size : ℕ) (Made : Calls → Type 0) (IsWorn : Type 0) (Taken : Request → Type 0)
+    (cursors : List Cursor) : Type 0 where
   pub request : Request
   pub taken : Taken request
-  pub worn : WornIn Made (RequestAnswer size cursors request)
+  pub worn : WornIn Made IsWorn (RequestAnswer size cursors request)
 
 -- What a turn does, by how the session ends with it, if it does
-abbrev pub Turns : ℕ → (Calls → Type 0) → (Request → Type 0) → Type 0 → List Cursor → List Cursor
+abbrev pub Turns : ℕ → (Calls → Type 0) → Type 0 → (Request → Type 0) → Type 0 → List Cursor → List Cursor
     → Option (List ℕ) → Option (List ℕ) → Option EndStatus → Type 0
-Turns size Made Taken AtEnd cursors cursors' put put' None =
+Turns size Made IsWorn Taken AtEnd cursors cursors' put put' None =
     (a : Answers size Made Taken cursors cursors') × Appends put put' (text_of a.did.lines)
-Turns size Made Taken AtEnd cursors cursors' put put' (Some Done) =
+Turns size Made IsWorn Taken AtEnd cursors cursors' put put' (Some Done) =
     AtEnd × Made [] × (cursors' ≡ cursors) × Appends put put' []
-Turns size Made Taken AtEnd cursors cursors' put put' (Some SourceFault) =
+Turns size Made IsWorn Taken AtEnd cursors cursors' put put' (Some SourceFault) =
     Made [] × (cursors' ≡ cursors) × Appends put put' []
-Turns size Made Taken AtEnd cursors cursors' put put' (Some InputTooLong) =
+Turns size Made IsWorn Taken AtEnd cursors cursors' put put' (Some InputTooLong) =
     Made [] × (cursors' ≡ cursors) × Appends put put' []
-Turns size Made Taken AtEnd cursors cursors' put put' (Some SinkFault) =
+Turns size Made IsWorn Taken AtEnd cursors cursors' put put' (Some SinkFault) =
     (a : Answers size Made Taken cursors cursors') × AppendsPrefix put put' (text_of a.did.lines)
-Turns size Made Taken AtEnd cursors cursors' put put' (Some NoMemory) =
+Turns size Made IsWorn Taken AtEnd cursors cursors' put put' (Some NoMemory) =
     (a : Answers size Made Taken cursors cursors') × AppendsPrefix put put' (text_of a.did.lines)
-Turns size Made Taken AtEnd cursors cursors' put put' (Some Worn) =
-    Breaks size Made Taken cursors × Appends put put' []
+Turns size Made IsWorn Taken AtEnd cursors cursors' put put' (Some Worn) =
+    Breaks size Made IsWorn Taken cursors × Appends put put' []
 
 -- What the answer to a request does and what is put of it, by how the session ends with it, if it does
-abbrev pub Replies : ℕ → (Calls → Type 0) → Request → List Cursor → List Cursor → Option (List ℕ) → Option (List ℕ)
+abbrev pub Replies : ℕ → (Calls → Type 0) → Type 0 → Request → List Cursor → List Cursor → Option (List ℕ) → Option (List ℕ)
     → Option EndStatus → Type 0
-Replies size Made request cursors cursors' put put' None =
+Replies size Made IsWorn request cursors cursors' put put' None =
     (did : Did Made (RequestAnswer size cursors request) cursors') × Appends put put' (text_of did.lines)
-Replies size Made request cursors cursors' put put' (Some SinkFault) =
+Replies size Made IsWorn request cursors cursors' put put' (Some SinkFault) =
     (did : Did Made (RequestAnswer size cursors request) cursors') × AppendsPrefix put put' (text_of did.lines)
-Replies size Made request cursors cursors' put put' (Some NoMemory) =
+Replies size Made IsWorn request cursors cursors' put put' (Some NoMemory) =
     (did : Did Made (RequestAnswer size cursors request) cursors') × AppendsPrefix put put' (text_of did.lines)
-Replies size Made request cursors cursors' put put' (Some Worn) =
-    WornIn Made (RequestAnswer size cursors request) × Appends put put' []
-Replies size Made request cursors cursors' put put' (Some _) = ⊥
+Replies size Made IsWorn request cursors cursors' put put' (Some Worn) =
+    WornIn Made IsWorn (RequestAnswer size cursors request) × Appends put put' []
+Replies size Made IsWorn request cursors cursors' put put' (Some _) = ⊥
 
 -- what was put of a reply
 abbrev pub Puts : Option (List ℕ) → Option (List ℕ) → List ℕ → ℕ → ℕ → Option EndStatus → Type 0

@@ -1,20 +1,17 @@
 -- For private clauses alone: a search with its counts, and how it goes on by a page whose hits are written.
-use Rattle.std.specs.Prelude.{◌≡◌, ◌⊎◌, ◌<◌, ℕ, ◌+◌, Bool, true, false, List, [], ◌∷◌, ◌++◌, get_or, length, map, Option, Result, Ok, Err}
+use Rattle.std.specs.Prelude.{◌≡◌, ◌⊎◌, ◌<◌, ℕ, ◌+◌, Bool, true, false, List, [], ◌∷◌, ◌++◌, get_or, length, map, Result, Ok, Err}
 use Rattle.par_search.specs.Searches.{SearchTerm, place_after}
 use Rattle.par_search.specs.declared.fault.SearchFault.{SearchFault}
 use Rattle.par_search.specs.declared.fault.SearchFault.TheVariants as faults
 use Rattle.shell_lang.specs.Reply as line
-use Rattle.shell_lang.specs.Reply.{reply_line, reply_of, text_of}
-use Rattle.shell_lang.specs.declared.reply.Refusal.TheVariants as refusals
-use Rattle.shell_lang.specs.declared.reply.Reply as written
+use Rattle.shell_lang.specs.Reply.{reply_line, text_of}
 use Rattle.smarts_parse.specs.Pattern.{pattern_of}
 use Rattle.store_machine.specs.Answers.{AreMatched}
-use Rattle.store_machine.specs.Searches.{Place, At, End}
-use Rattle.store_machine.specs.Structures.{IsNeedOf}
+use Rattle.store_machine.specs.Searches.{At, End}
 use Rattle.store_machine.specs.declared.machine.Event.TheVariants as events
 use Rattle.store_machine.specs.declared.machine.Found.{Found}
 use Rattle.store_machine.specs.declared.machine.Reply.TheVariants as replies
-use Rattle.session_run.specs.Answer.{Advances, FindsNoMemory, Lines, page_end}
+use Rattle.session_run.specs.Acts.{Advances, Lines, page_end}
 use Rattle.session_run.specs.Cursors.{Calls, Cursor, IsSearched}
 use Rattle.session_run.specs.Made.{Tells}
 use Rattle.session_run.specs.declared.cursors.Cursor as rust
@@ -22,7 +19,6 @@ use Rattle.session_run.specs.declared.listing.Shown.{Shown}
 use Rattle.session_run.specs.declared.listing.Walk.{Walk}
 use Rattle.session_run.specs.declared.stop.Stop.{Stop}
 use Rattle.session_run.specs.declared.stop.Stop.TheVariants as stops
-use Rattle.session_run.specs.declared.stop.Worn.{Worn}
 
 -- some of the hits, from the first on, were written behind a text
 abbrev pub ArePartlyWritten : List ℕ → List ℕ → List ℕ → Type 0
@@ -68,11 +64,13 @@ pub record IsLost (Made : Calls → Type 0) (old new : SearchTerm) (out out' : L
   pub unwritten : out' ≡ out
 
 -- a step of a search, by what it gave
-abbrev pub Pages : (Calls → Type 0) → SearchTerm → SearchTerm → List ℕ → List ℕ → Result Shown SearchFault → Type 0
-Pages Made old new out out' (Ok shown) = IsPage Made old new out out' shown ⊎ IsNoPage Made old new out out' shown
-Pages Made old new out out' (Err faults.NoMemory) = IsLost Made old new out out'
-Pages Made old new out out' (Err faults.Worn) = Made [] × (new ≡ old) × (out' ≡ out)
-Pages Made old new out out' (Err faults.Pins) = ⊥
+abbrev pub Pages : (Calls → Type 0) → Type 0 → SearchTerm → SearchTerm → List ℕ → List ℕ → Result Shown SearchFault
+    → Type 0
+Pages Made IsWorn old new out out' (Ok shown) =
+    IsPage Made old new out out' shown ⊎ IsNoPage Made old new out out' shown
+Pages Made IsWorn old new out out' (Err faults.NoMemory) = IsLost Made old new out out'
+Pages Made IsWorn old new out out' (Err faults.Worn) = Made [] × (new ≡ old) × (out' ≡ out) × IsWorn
+Pages Made IsWorn old new out out' (Err faults.Pins) = ⊥
 
 abbrev pub Counts : Walk → Walk → Result Shown SearchFault → Type 0
 Counts old new (Ok shown) = (new.tried ≡ old.tried + shown.tried) × (new.hits ≡ old.hits + shown.hits)
@@ -106,7 +104,8 @@ AreSized size (c ∷ cs) = (c.walk.search.size ≡ size) × AreSized size cs
 
 -- an answer to `next` by its cursor
 abbrev pub CursorAnswer : ℕ → Cursor → Calls → Lines → Cursor → Type 0
-CursorAnswer size c calls lines c' = (FindsNoMemory calls lines × (c' ≡ c)) ⊎ Advances size c.place c calls lines c'
+CursorAnswer size c calls lines c' =
+    ((calls ≡ []) × (lines ≡ line.MemoryFault ∷ []) × (c' ≡ c)) ⊎ Advances size c calls lines c'
 
 -- the line behind a page was written, or why it was not
 abbrev pub EndsPage : Cursor → Result Shown SearchFault → List ℕ → List ℕ → Result (Unit {0}) Stop → Type 0
@@ -116,25 +115,6 @@ EndsPage c (Ok shown) out out' (Err stops.Worn) = ⊥
 EndsPage c (Err faults.NoMemory) out out' result = Tells line.MemoryFault out out' result
 EndsPage c (Err faults.Pins) out out' result = Tells line.MemoryFault out out' result
 EndsPage c (Err faults.Worn) out out' result = result ≡ Err stops.Worn
-
--- a line that is given, or none since the service is worn
-abbrev pub GivesLine : line.Reply → Result written.Reply Worn → Type 0
-GivesLine said (Ok reply) = reply_of reply ≡ said
-GivesLine said (Err _) = ⊥
-
-abbrev pub GivesNone : Result written.Reply Worn → Type 0
-GivesNone (Ok reply) = ⊥
-GivesNone (Err _) = Unit {0}
-
--- a cursor of this name was added for a search that began, or why none was
-abbrev pub Adds : List ℕ → Result Walk SearchFault → List rust.Cursor → List rust.Cursor → Result written.Reply Worn
-    → Type 0
-Adds name (Ok walk) items items' result =
-    (c : rust.Cursor) × (c.name.items ≡ name) × (c.walk ≡ walk) × (items' ≡ items ++ c ∷ [])
-    × GivesLine (line.Opened walk.search.version) result
-Adds name (Err faults.Pins) items items' result = (items' ≡ items) × GivesLine (line.Refused refusals.Pins) result
-Adds name (Err faults.NoMemory) items items' result = (items' ≡ items) × GivesLine line.MemoryFault result
-Adds name (Err faults.Worn) items items' result = (items' ≡ items) × GivesNone result
 
 -- all of these calls were answered by pages
 abbrev pub ArePages : Calls → Type 0
@@ -155,11 +135,12 @@ pub record Listing (Made : Calls → Type 0) (begun now : SearchTerm) (tried cou
   pub written : AreWritten whole hits out out'
   pub answered : whole ≡ true → ArePages pages
 
--- a search was listed to its end, or was cut short
-abbrev pub Listed : (Calls → Type 0) → Walk → Walk → List ℕ → List ℕ → Result Bool Worn → Type 0
-Listed Made old new out out' (Ok true) = Listing Made old.search new.search new.tried new.hits out true out'
-    × (new.search.place ≡ End)
-Listed Made old new out out' (Ok false) = (tried count : ℕ)
-    × Listing Made old.search new.search tried count out false out'
-Listed Made old new out out' (Err _) = (tried count : ℕ) × (whole : Bool)
-    × Listing Made old.search new.search tried count out whole out'
+-- a search was listed to its end, or was cut short, or the service was worn
+pub data Listed (Made : Calls → Type 0) (IsWorn : Type 0) (old new : Walk) (out out' : List ℕ) : Result Bool Stop → Type 0
+  where
+    Whole : (all : Listing Made old.search new.search new.tried new.hits out true out') (ended : new.search.place ≡ End)
+        → Listed Made IsWorn old new out out' (Ok true)
+    Part : (tried count : ℕ) (some : Listing Made old.search new.search tried count out false out')
+        → Listed Made IsWorn old new out out' (Ok false)
+    Broke : (tried count : ℕ) (whole : Bool) (some : Listing Made old.search new.search tried count out whole out')
+        (worn : IsWorn) → Listed Made IsWorn old new out out' (Err stops.Worn)

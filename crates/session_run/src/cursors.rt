@@ -1,22 +1,24 @@
-//! The open cursors of a session, by name, in order of opening.
-ghost use Rattle.std.specs.Prelude.{◌≡◌, ◌≤◌, ◌∷◌, ◌++◌, [], Err, IfErr, IfNone, IfOk, IfSome, OnErr, OnOk, ◌↔◌, true, Vec, ℕ};
+//! Searches of a session: at once, and by the open cursors, by name, in order of opening.
+ghost use Rattle.std.specs.Prelude.{◌≡◌, ◌≤◌, ◌∷◌, ◌++◌, [], IfErr, IfNone, IfOk, IfSome, List, OnOk, true, Vec, ℕ};
 ghost use Rattle.std.specs.declared.alloc.Global.{Global};
 ghost use Rattle.indexmap.specs.IndexMap.{spare};
+ghost use Rattle.shell_lang.specs.Reply as line;
 ghost use Rattle.shell_lang.specs.Reply.{reply_line};
-ghost use Rattle.store_core.specs.Calls.{NotRaised, SameHeld};
-ghost use Rattle.store_machine.specs.declared.machine.Event.TheVariants as event;
-ghost use Rattle.store_machine.specs.declared.machine.Reply.TheVariants as reply;
-ghost use Rattle.session_run.specs.Answer.{CloseAnswer, NextAnswer, OpenAnswer, page_end};
-ghost use Rattle.session_run.specs.Cursors.{Calls, IsNoName, Makes, unpins};
-ghost use Rattle.session_run.specs.Made.{AreHeld, Answered, OneLineIn, SameOthers};
+ghost use Rattle.session_run.specs.Acts.{Answers, MayClose, MayOpen, MaySearch, MayTurn, page_end};
+ghost use Rattle.session_run.specs.Cursors as cursor;
+ghost use Rattle.session_run.specs.Cursors.{IsNoName};
+ghost use Rattle.session_run.specs.Made.{AnsweredBy, Tells, Uses};
 ghost use Rattle.session_run.specs.Opened.{IsTaken, named, opened};
-ghost use Rattle.session_run.specs.Transcript.{IsPrefixOf};
-ghost use Rattle.session_run.specs.Walks.{Adds, AreSized, CursorAnswer, EndsPage, cursor_of, cursors_of};
+ghost use Rattle.session_run.specs.Pins.{AreHeld};
+ghost use Rattle.session_run.specs.Responds.{IsFit, IsReady};
+ghost use Rattle.session_run.specs.Searched.{ReturnsAll};
+ghost use Rattle.session_run.specs.Walks.{CursorAnswer, EndsPage, cursor_of, cursors_of};
 
 use crate::listing::{Shown, Walk};
-use crate::search::{begin, refuse_pattern, say};
+use crate::say::{say, say_given};
+use crate::search::{begin, fault_line, give_back, list, refuse_pattern};
 use crate::settings::Settings;
-use crate::stop::{Stop, Worn};
+use crate::stop::Stop;
 use crate::texts::read_pattern;
 use indexmap::IndexMap;
 use par_search::{Meter, SearchFault};
@@ -32,85 +34,79 @@ pub struct Cursor {
     pub walk: Walk,
 }
 
-impl Cursor {
-    // Gives the pin back.
-    fn close<S: Service>(self, service: &mut S) -> Result<(), Worn>
-        requires held { S.holds service.old self.walk.search.slot self.walk.search.version }
-        ensures ok { OnOk result (Makes S.at S.owns S.stretch service.old service.new
-            ((event.Unpin self.walk.search.slot, reply.Unpinned) ∷ [])) }
-        ensures err { OnErr result (Makes S.at S.owns S.stretch service.old service.new []) }
-        ensures worn { OnErr result (S.worn service.new) }
-        ensures held { OnOk result ((slot version : ℕ) → S.holds service.new slot version
-            ↔ (S.holds service.old slot version × ¬ (self.walk.search.slot ≡ slot))) }
-        ensures bounds { NotRaised (S.bounds service.old) (S.bounds service.new) }
-    {
-        let Cursor { walk, .. } = self;
-        let Walk { search, .. } = walk;
-        match search.close(service) {
-            Ok(()) => Ok(()),
-            Err(_) => Err(Worn),
-        }
-    }
-}
-
-/// The searches of the open cursors by name, in order of opening, with pages of one size.
+/// The searches of the open cursors by name, in order of opening, and how a search is done.
 #[derive(Drop)]
 pub struct Cursors {
-    pub size: u32,
+    pub alloc: Global,
+    pub settings: Settings,
     pub by_name: IndexMap<Vec<u8>, Walk>,
 }
 
 impl Cursors {
-    /// None, with pages of this size.
-    pub fn new(alloc: Global, size: u32) -> Cursors
-        ensures size { result.size ≡ size }
+    /// None.
+    pub fn new(alloc: Global, settings: Settings) -> Cursors
+        ensures settings { result.settings ≡ settings }
         ensures none { opened result ≡ [] }
     {
         Cursors {
-            size,
+            alloc,
+            settings,
             by_name: IndexMap::new(alloc),
+        }
+    }
+
+    /// Lists the hits of a text's pattern, and the end.
+    pub fn search<R: Threads + Sync, S: Service, M: Meter>(
+        &self,
+        rt: &R,
+        service: &mut S,
+        meter: &M,
+        text: &[u8],
+        out: &mut Vec<u8>,
+    ) -> Result<(), Stop>
+        requires { IsFit self.now }
+        ensures { (cursors : List cursor.Cursor) → AnsweredBy S.Service service.old service.new
+            (Answers self.now.settings.page (MaySearch text.now) cursors) out.old.items out.new.items cursors result }
+    {
+        let pattern = match read_pattern(self.alloc, text) {
+            Ok(pattern) => pattern,
+            Err(fault) => return say(&refuse_pattern(fault), out),
+        };
+        match begin(self.alloc, service, &self.settings, pattern) {
+            Ok(walk) => list(rt, service, meter, walk, out),
+            Err(fault) => say_given(fault_line(fault), out),
         }
     }
 
     /// Opens a cursor for the pattern of a text, at the head.
     pub fn open<S: Service>(
         &mut self,
-        alloc: Global,
         service: &mut S,
-        settings: &Settings,
         name: &[u8],
         text: &[u8],
-    ) -> Result<Reply, Worn>
-        requires some_workers { 1 ≤ settings.now.workers }
-        requires few_workers { settings.now.workers ≤ 16 }
-        requires some { 1 ≤ settings.now.page }
-        requires few { settings.now.page ≤ 256 }
-        requires size { settings.now.page ≡ self.old.size }
-        requires sized { AreSized self.old.size (opened self.old) }
-        requires held { AreHeld (S.holds service.old) (cursors_of (opened self.old)) }
-        ensures call { OneLineIn (Makes S.at S.owns S.stretch service.old service.new)
-            (OpenAnswer name.now text.now (cursors_of (opened self.old)))
-            (cursors_of (opened self.new)) result }
-        ensures size { self.new.size ≡ self.old.size }
-        ensures sized { AreSized self.new.size (opened self.new) }
-        ensures worn { OnErr result (S.worn service.new) }
-        ensures held { OnOk result (AreHeld (S.holds service.new) (cursors_of (opened self.new))) }
-        ensures others { OnOk result (SameOthers (S.holds service.old) (cursors_of (opened self.old))
-            (S.holds service.new) (cursors_of (opened self.new))) }
-        ensures bounds { NotRaised (S.bounds service.old) (S.bounds service.new) }
+        out: &mut Vec<u8>,
+    ) -> Result<(), Stop>
+        requires { IsReady S.Service service.old self.old }
+        ensures answered { AnsweredBy S.Service service.old service.new
+            (Answers self.old.settings.page (MayOpen (cursors_of (opened self.old)) name.now text.now)
+            (cursors_of (opened self.old))) out.old.items out.new.items (cursors_of (opened self.new)) result }
+        ensures fit { IsFit self.new }
+        ensures settings { self.new.settings ≡ self.old.settings }
     {
-        let pattern = match read_pattern(alloc, text) {
+        let pattern = match read_pattern(self.alloc, text) {
             Ok(pattern) => pattern,
-            Err(fault) => return Ok(refuse_pattern(fault)),
+            Err(fault) => return say(&refuse_pattern(fault), out),
         };
         if self.by_name.contains_key(name) {
-            return Ok(Reply::Refused(Refusal::Cursor));
+            return say(&Reply::Refused(Refusal::Cursor), out);
         }
-        let Ok(own_name) = self.room_for(alloc, name) else {
-            return Ok(Reply::MemoryFault);
+        let Ok(own_name) = self.room_for(name) else {
+            return say(&Reply::MemoryFault, out);
         };
-        let begun = begin(alloc, service, settings, pattern);
-        self.add(own_name, begun)
+        match begin(self.alloc, service, &self.settings, pattern) {
+            Ok(walk) => self.add(own_name, walk, out),
+            Err(fault) => say_given(fault_line(fault), out),
+        }
     }
 
     /// Writes the next page of the cursor of a name.
@@ -122,18 +118,12 @@ impl Cursors {
         name: &[u8],
         out: &mut Vec<u8>,
     ) -> Result<(), Stop>
-        requires sized { AreSized self.old.size (opened self.old) }
-        requires held { AreHeld (S.holds service.old) (cursors_of (opened self.old)) }
-        ensures answered { Answered (Makes S.at S.owns S.stretch service.old service.new)
-            (NextAnswer self.old.size name.now (cursors_of (opened self.old)))
-            out.old.items out.new.items (cursors_of (opened self.new)) result }
-        ensures size { self.new.size ≡ self.old.size }
-        ensures sized { AreSized self.new.size (opened self.new) }
-        ensures worn { result ≡ Err Stop.Worn → S.worn service.new }
-        ensures held { AreHeld (S.holds service.new) (cursors_of (opened self.new)) }
-        ensures others { SameOthers (S.holds service.old) (cursors_of (opened self.old))
-            (S.holds service.new) (cursors_of (opened self.new)) }
-        ensures bounds { NotRaised (S.bounds service.old) (S.bounds service.new) }
+        requires { IsReady S.Service service.old self.old }
+        ensures answered { AnsweredBy S.Service service.old service.new
+            (Answers self.old.settings.page (MayTurn (cursors_of (opened self.old)) name.now)
+            (cursors_of (opened self.old))) out.old.items out.new.items (cursors_of (opened self.new)) result }
+        ensures fit { IsFit self.new }
+        ensures settings { self.new.settings ≡ self.old.settings }
     {
         match self.by_name.get_mut(name) {
             Some(walk) => next_page(walk, rt, service, meter, out),
@@ -142,79 +132,67 @@ impl Cursors {
     }
 
     /// Closes the cursor of a name.
-    pub fn close<S: Service>(&mut self, service: &mut S, name: &[u8]) -> Result<Reply, Worn>
-        requires sized { AreSized self.old.size (opened self.old) }
-        requires held { AreHeld (S.holds service.old) (cursors_of (opened self.old)) }
-        ensures call { OneLineIn (Makes S.at S.owns S.stretch service.old service.new)
-            (CloseAnswer name.now (cursors_of (opened self.old))) (cursors_of (opened self.new)) result }
-        ensures size { self.new.size ≡ self.old.size }
-        ensures sized { AreSized self.new.size (opened self.new) }
-        ensures worn { OnErr result (S.worn service.new) }
-        ensures held { OnOk result (AreHeld (S.holds service.new) (cursors_of (opened self.new))) }
-        ensures others { OnOk result (SameOthers (S.holds service.old) (cursors_of (opened self.old))
-            (S.holds service.new) (cursors_of (opened self.new))) }
-        ensures bounds { NotRaised (S.bounds service.old) (S.bounds service.new) }
+    pub fn close<S: Service>(
+        &mut self,
+        service: &mut S,
+        name: &[u8],
+        out: &mut Vec<u8>,
+    ) -> Result<(), Stop>
+        requires { IsReady S.Service service.old self.old }
+        ensures answered { AnsweredBy S.Service service.old service.new
+            (Answers self.old.settings.page (MayClose (cursors_of (opened self.old)) name.now)
+            (cursors_of (opened self.old))) out.old.items out.new.items (cursors_of (opened self.new)) result }
+        ensures fit { IsFit self.new }
+        ensures settings { self.new.settings ≡ self.old.settings }
     {
         let Some(cursor) = self.take(name) else {
-            return Ok(Reply::Refused(Refusal::Cursor));
+            return say(&Reply::Refused(Refusal::Cursor), out);
         };
-        match cursor.close(service) {
-            Ok(()) => Ok(Reply::Closed),
-            Err(Worn) => Err(Worn),
+        match give_back(cursor.walk.search, service) {
+            Ok(()) => say(&Reply::Closed, out),
+            Err(stop) => Err(stop),
         }
     }
 
     /// Gives the pins of all cursors back, in order of opening.
-    pub fn close_all<S: Service>(&mut self, service: &mut S) -> Result<(), Worn>
-        requires sized { AreSized self.old.size (opened self.old) }
-        requires held { AreHeld (S.holds service.old) (cursors_of (opened self.old)) }
-        ensures ok { OnOk result (Makes S.at S.owns S.stretch service.old service.new
-            (unpins (cursors_of (opened self.old)))) }
-        ensures err { OnErr result ((calls : Calls) × Makes S.at S.owns S.stretch service.old service.new calls
-            × IsPrefixOf calls (unpins (cursors_of (opened self.old)))) }
-        ensures worn { OnErr result (S.worn service.new) }
-        ensures others { OnOk result (SameOthers (S.holds service.old) (cursors_of (opened self.old))
-            (S.holds service.new) []) }
-        ensures bounds { NotRaised (S.bounds service.old) (S.bounds service.new) }
+    pub fn close_all<S: Service>(&mut self, service: &mut S) -> Result<(), Stop>
+        requires { AreHeld (S.holds service.old) (cursors_of (opened self.old)) }
+        ensures { ReturnsAll (Uses S.Service service.old service.new) (S.worn service.new)
+            (cursors_of (opened self.old)) result }
     {
         while let Some(cursor) = self.take_first() {
-            match cursor.close(service) {
+            match give_back(cursor.walk.search, service) {
                 Ok(()) => {}
-                Err(Worn) => return Err(Worn),
+                Err(stop) => return Err(stop),
             }
         }
         Ok(())
     }
 
     // A copy of a name, and room for one cursor more.
-    fn room_for(&mut self, alloc: Global, name: &[u8]) -> Result<Vec<u8>, AllocError>
+    fn room_for(&mut self, name: &[u8]) -> Result<Vec<u8>, AllocError>
         ensures name { IfOk result (λ own. own.items ≡ name.now) }
         ensures room { OnOk result (1 ≤ spare self.new.by_name) }
-        ensures size { self.new.size ≡ self.old.size }
+        ensures settings { self.new.settings ≡ self.old.settings }
         ensures same { opened self.new ≡ opened self.old }
     {
-        let own = Vec::from_slice(alloc, name)?;
+        let own = Vec::from_slice(self.alloc, name)?;
         self.by_name.reserve(1)?;
         Ok(own)
     }
 
-    // Adds the cursor of a name, where its search began.
-    fn add(&mut self, name: Vec<u8>, begun: Result<Walk, SearchFault>) -> Result<Reply, Worn>
+    // Adds the cursor of a name, whose search began.
+    fn add(&mut self, name: Vec<u8>, walk: Walk, out: &mut Vec<u8>) -> Result<(), Stop>
         requires room { 1 ≤ spare self.old.by_name }
         requires free { IsNoName (cursors_of (opened self.old)) name.items }
-        ensures adds { Adds name.items begun (opened self.old) (opened self.new) result }
-        ensures size { self.new.size ≡ self.old.size }
+        ensures added { opened self.new ≡ opened self.old ++ named (name, walk) ∷ [] }
+        ensures said { Tells (line.Opened walk.search.version) out.old.items out.new.items result }
+        ensures settings { self.new.settings ≡ self.old.settings }
     {
-        let walk = match begun {
-            Ok(walk) => walk,
-            Err(SearchFault::Pins) => return Ok(Reply::Refused(Refusal::Pins)),
-            Err(SearchFault::NoMemory) => return Ok(Reply::MemoryFault),
-            Err(SearchFault::Worn) => return Err(Worn),
-        };
         let version = walk.search.version();
         // There is room for it.
         match self.by_name.insert(name, walk) {
-            Ok(_) => Ok(Reply::Opened { version }),
+            Ok(_) => say(&Reply::Opened { version }, out),
             Err(_) => unreachable!(),
         }
     }
@@ -224,7 +202,7 @@ impl Cursors {
         ensures some { IfSome result (λ cursor. IsTaken name.now (opened self.old) cursor (opened self.new)) }
         ensures none { IfNone result (IsNoName (cursors_of (opened self.old)) name.now) }
         ensures same { IfNone result (opened self.new ≡ opened self.old) }
-        ensures size { self.new.size ≡ self.old.size }
+        ensures settings { self.new.settings ≡ self.old.settings }
     {
         let (name, walk) = self.by_name.shift_remove_entry(name)?;
         Some(Cursor { name, walk })
@@ -249,16 +227,10 @@ fn next_page<R: Threads + Sync, S: Service, M: Meter>(
     out: &mut Vec<u8>,
 ) -> Result<(), Stop>
     requires held { S.holds service.old walk.old.search.slot walk.old.search.version }
-    ensures answered { (name : Vec ℕ Global)
-        → Answered (Makes S.at S.owns S.stretch service.old service.new)
+    ensures answered { (name : Vec ℕ Global) → AnsweredBy S.Service service.old service.new
         (CursorAnswer walk.old.search.size (cursor_of (named (name, walk.old))))
         out.old.items out.new.items (cursor_of (named (name, walk.new))) result }
     ensures size { walk.new.search.size ≡ walk.old.search.size }
-    ensures slot { walk.new.search.slot ≡ walk.old.search.slot }
-    ensures version { walk.new.search.version ≡ walk.old.search.version }
-    ensures worn { result ≡ Err Stop.Worn → S.worn service.new }
-    ensures held { SameHeld (S.holds service.old) (S.holds service.new) }
-    ensures bounds { NotRaised (S.bounds service.old) (S.bounds service.new) }
 {
     let page = walk.page(rt, service, meter, out);
     say_page(walk, page, out)

@@ -5,14 +5,14 @@
 //! the calls that were made with their replies, and the text that was put.
 #![tactic(auto)]
 
-mod change;
+mod commands;
 mod cursors;
 mod laws;
 mod listing;
-mod look;
 mod request;
 mod respond;
 mod run;
+mod say;
 mod search;
 mod settings;
 mod stop;

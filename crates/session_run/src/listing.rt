@@ -1,16 +1,12 @@
 //! The pages of a search, listed: their hits as reply lines, and counts of what was tried and listed.
-ghost use Rattle.std.specs.Prelude.{◌≡◌, ◌++◌, ◌||◌, Err, IfSome, OnErr, OnOk, map, not};
-ghost use Rattle.par_search.specs.declared.fault.SearchFault.TheVariants as fault;
+ghost use Rattle.std.specs.Prelude.{◌≡◌, ◌++◌, ◌||◌, IfSome, OnErr, OnOk, map, not};
 ghost use Rattle.shell_lang.specs.Reply as line;
 ghost use Rattle.shell_lang.specs.Reply.{reply_of, text_of};
-ghost use Rattle.smarts_parse.specs.Pattern.{pattern_of};
-ghost use Rattle.store_core.specs.Calls.{NotRaised, SameHeld};
-ghost use Rattle.store_machine.specs.Searches.{At};
-ghost use Rattle.store_machine.specs.Structures.{IsNeedOf};
-ghost use Rattle.session_run.specs.Cursors.{Makes};
+ghost use Rattle.session_run.specs.Made.{Uses};
+ghost use Rattle.session_run.specs.Searched.{IsNew};
 ghost use Rattle.session_run.specs.Walks.{ArePartlyWritten, Counts, Listed, Pages};
 
-use crate::stop::Worn;
+use crate::stop::Stop;
 use par_search::{Meter, Search, SearchFault};
 use shell_lang::{Reply, reply_text};
 use std::alloc::AllocError;
@@ -60,12 +56,9 @@ impl Walk {
         out: &mut Vec<u8>,
     ) -> Result<Shown, SearchFault>
         requires held { S.holds service.old self.old.search.slot self.old.search.version }
-        ensures pages { Pages (Makes S.at S.owns S.stretch service.old service.new)
+        ensures pages { Pages (Uses S.Service service.old service.new) (S.worn service.new)
             self.old.search self.new.search out.old.items out.new.items result }
         ensures counts { Counts self.old self.new result }
-        ensures worn { result ≡ Err fault.Worn → S.worn service.new }
-        ensures held { SameHeld (S.holds service.old) (S.holds service.new) }
-        ensures bounds { NotRaised (S.bounds service.old) (S.bounds service.new) }
     {
         let is_over = self.tried > MOST_TRIED || self.hits > MOST_TRIED;
         if is_over {
@@ -85,17 +78,11 @@ impl Walk {
         service: &mut S,
         meter: &M,
         out: &mut Vec<u8>,
-    ) -> Result<bool, Worn>
+    ) -> Result<bool, Stop>
         requires held { S.holds service.old self.old.search.slot self.old.search.version }
-        requires place { self.old.search.place ≡ At 0 }
-        requires need { IsNeedOf (pattern_of self.old.search.pattern) self.old.search.want }
-        requires tried { self.old.tried ≡ 0 }
-        requires hits { self.old.hits ≡ 0 }
-        ensures listed { Listed (Makes S.at S.owns S.stretch service.old service.new)
+        requires new { IsNew self.old }
+        ensures { Listed (Uses S.Service service.old service.new) (S.worn service.new)
             self.old self.new out.old.items out.new.items result }
-        ensures worn { OnErr result (S.worn service.new) }
-        ensures held { SameHeld (S.holds service.old) (S.holds service.new) }
-        ensures bounds { NotRaised (S.bounds service.old) (S.bounds service.new) }
     {
         for _ in 0..MOST_COMMITS {
             match self.page(rt, service, meter, out) {
@@ -104,7 +91,7 @@ impl Walk {
                         return Ok(shown.whole);
                     }
                 }
-                Err(SearchFault::Worn) => return Err(Worn),
+                Err(SearchFault::Worn) => return Err(Stop::Worn),
                 Err(SearchFault::NoMemory) => return Ok(false),
                 Err(SearchFault::Pins) => return Ok(false),
             }
@@ -136,11 +123,8 @@ fn list_page<R: Threads + Sync, S: Service, M: Meter>(
     out: &mut Vec<u8>,
 ) -> Result<Shown, SearchFault>
     requires held { S.holds service.old search.old.slot search.old.version }
-    ensures pages { Pages (Makes S.at S.owns S.stretch service.old service.new)
+    ensures { Pages (Uses S.Service service.old service.new) (S.worn service.new)
         search.old search.new out.old.items out.new.items result }
-    ensures worn { result ≡ Err fault.Worn → S.worn service.new }
-    ensures held { SameHeld (S.holds service.old) (S.holds service.new) }
-    ensures bounds { NotRaised (S.bounds service.old) (S.bounds service.new) }
 {
     match search.next(rt, service, meter) {
         Ok(page) => {

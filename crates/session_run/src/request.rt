@@ -3,7 +3,8 @@ ghost use Rattle.std.specs.Prelude.{◌≡◌, ◌≢◌, ◌<◌, ◌≤◌, �
 ghost use Rattle.io_edge.specs.Faults.{Rose};
 ghost use Rattle.io_edge.specs.Lines.{TextLine, done_bytes};
 ghost use Rattle.session_run.specs.Requests.{HasNoLast, IsPartOfRequest};
-ghost use Rattle.session_run.specs.Turn.{AddsLine, IsMolfile, ReadsOn, Takes, TakesMolfileLines, TakesPart};
+ghost use Rattle.io_edge.specs.NextLine.{OnLine};
+ghost use Rattle.session_run.specs.Turn.{AddsLine, IsMolfile, IsNextLine, ReadsOn, Takes, TakesMolfileLines, TakesPart};
 ghost use Rattle.session_run.specs.declared.request.Next.TheVariants as next;
 
 use io_edge::{Line, LineFault, Lines, Source};
@@ -54,7 +55,7 @@ pub fn next_request<I: Source>(
     ensures source_fault { result ≡ Err LineFault.Source → Rose (I.faults source.old) (I.faults source.new) }
     ensures too_long { result ≡ Err LineFault.TooLong → lines.new.taken ≡ lines.new.limit }
 {
-    match lines.next_line(source)? {
+    match read_line(lines, source)? {
         Line::End => Ok(Next::End),
         Line::Long => Ok(Next::Long),
         Line::Text => match molfile_change(lines.text()) {
@@ -65,6 +66,19 @@ pub fn next_request<I: Source>(
             }
         },
     }
+}
+
+// The next line of a source.
+fn read_line<I: Source>(lines: &mut Lines, source: &mut I) -> Result<Line, LineFault>
+    ensures line { IsNextLine lines.old lines.new (I.left source.old) (I.left source.new) result }
+    ensures reads { ReadsOn (I.left source.old) (I.left source.new) (I.faults source.old)
+        (I.faults source.new) lines.old lines.new }
+    ensures rises { OnLine result (done_bytes lines.old < done_bytes lines.new) }
+    ensures ended { result ≡ Ok Line.End → IsTrue lines.new.ended }
+    ensures source_fault { result ≡ Err LineFault.Source → Rose (I.faults source.old) (I.faults source.new) }
+    ensures too_long { result ≡ Err LineFault.TooLong → lines.new.taken ≡ lines.new.limit }
+{
+    lines.next_line(source)
 }
 
 // Takes the lines of a molfile, up to and with the first that ends one or to the input's end.
@@ -85,7 +99,7 @@ fn take_molfile<I: Source>(
     text.clear();
     let mut taken = Molfile::Text;
     loop {
-        match lines.next_line(source)? {
+        match read_line(lines, source)? {
             Line::End => return Ok(taken),
             Line::Long => taken = Molfile::Long,
             Line::Text => {

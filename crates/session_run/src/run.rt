@@ -4,18 +4,19 @@ ghost use Rattle.io_edge.specs.Faults.{Rose};
 ghost use Rattle.io_edge.specs.Lines.{done_bytes};
 ghost use Rattle.store_core.specs.Calls.{NotRaised, SameHeld};
 ghost use Rattle.session_run.specs.Cursors.{Calls, Makes};
+ghost use Rattle.session_run.specs.Made.{Uses};
 ghost use Rattle.session_run.specs.Opened.{opened};
 ghost use Rattle.session_run.specs.Requests.{IsPartOfRequest, Request};
 ghost use Rattle.session_run.specs.Responds.{IsFit, IsReady, KeepsPins};
 ghost use Rattle.session_run.specs.Served.{IsInputFault, IsServedBy, TakesAll, TakesAtMost, TakesExactly};
-ghost use Rattle.session_run.specs.Serving.{IsFresh, KeepsOn, Serves};
+ghost use Rattle.session_run.specs.Serving.{IsFresh, Serves};
 ghost use Rattle.session_run.specs.Turn.{IsNext, Puts, ReadsOn, Replies, TakesNone, TakesPart, TakesRequest, Turns};
 ghost use Rattle.session_run.specs.Walks.{cursors_of};
 
 use crate::request::{Next, next_request};
 use crate::respond::Responder;
 use crate::settings::{EndStatus, Settings};
-use crate::stop::{Stop, Worn};
+use crate::stop::Stop;
 use io_edge::{LineFault, Lines, PutFault, Sink, Source};
 use par_search::Meter;
 use std::alloc::Global;
@@ -69,11 +70,11 @@ fn serve_to_end<R: Threads + Sync, S: Service, I: Source, O: Sink, M: Meter>(
     lines: &mut Lines,
     responder: &mut Responder,
 ) -> EndStatus
-    requires fit { IsFit responder.old.settings responder.old.cursors.size (opened responder.old.cursors) }
+    requires fit { IsFit responder.old.cursors }
     requires none { opened responder.old.cursors ≡ [] }
     requires fresh { IsFresh lines.old }
-    ensures serves { (calls : Calls) × Makes S.at S.owns S.stretch service.old service.new calls
-        × IsServedBy result responder.old.cursors.size (I.left source.old) (I.left source.new)
+    ensures serves { (calls : Calls) × Uses S.Service service.old service.new calls
+        × IsServedBy result responder.old.cursors.settings.page (I.left source.old) (I.left source.new)
         (O.written sink.old) (O.written sink.new) calls }
     ensures pins { result ≢ EndStatus.Worn → SameHeld (S.holds service.old) (S.holds service.new) }
     ensures worn { result ≡ EndStatus.Worn → S.worn service.new }
@@ -83,14 +84,13 @@ fn serve_to_end<R: Threads + Sync, S: Service, I: Source, O: Sink, M: Meter>(
     ensures within { TakesAtMost (I.left source.old) (I.left source.new) lines.old.limit }
     ensures too_long { result ≡ EndStatus.InputTooLong
         → TakesExactly (I.left source.old) (I.left source.new) lines.old.limit }
-    ensures bounds { NotRaised (S.bounds service.old) (S.bounds service.new) }
 {
     let end = serve(rt, service, source, sink, meter, lines, responder);
     match end {
         EndStatus::Worn => EndStatus::Worn,
         _ => match responder.cursors.close_all(service) {
             Ok(()) => end,
-            Err(Worn) => EndStatus::Worn,
+            Err(_) => EndStatus::Worn,
         },
     }
 }
@@ -105,13 +105,12 @@ fn serve<R: Threads + Sync, S: Service, I: Source, O: Sink, M: Meter>(
     lines: &mut Lines,
     responder: &mut Responder,
 ) -> EndStatus
-    requires fit { IsFit responder.old.settings responder.old.cursors.size (opened responder.old.cursors) }
+    requires fit { IsFit responder.old.cursors }
     requires none { opened responder.old.cursors ≡ [] }
     requires fresh { IsFresh lines.old }
-    ensures serves { (calls : Calls) × Makes S.at S.owns S.stretch service.old service.new calls
-        × Serves result responder.old.cursors.size (I.left source.old) (I.left source.new)
+    ensures serves { (calls : Calls) × Uses S.Service service.old service.new calls
+        × Serves result responder.old.cursors.settings.page (I.left source.old) (I.left source.new)
         (O.written sink.old) (O.written sink.new) calls (cursors_of (opened responder.new.cursors)) }
-    ensures fit { IsFit responder.new.settings responder.new.cursors.size (opened responder.new.cursors) }
     ensures pins { result ≢ EndStatus.Worn
         → KeepsPins (S.holds service.old) [] (S.holds service.new) (cursors_of (opened responder.new.cursors)) }
     ensures worn { result ≡ EndStatus.Worn → S.worn service.new }
@@ -121,7 +120,6 @@ fn serve<R: Threads + Sync, S: Service, I: Source, O: Sink, M: Meter>(
     ensures within { TakesAtMost (I.left source.old) (I.left source.new) lines.old.limit }
     ensures too_long { result ≡ EndStatus.InputTooLong
         → TakesExactly (I.left source.old) (I.left source.new) lines.old.limit }
-    ensures bounds { NotRaised (S.bounds service.old) (S.bounds service.new) }
 {
     loop {
         if let Some(end) = turn(rt, service, source, sink, meter, lines, responder) {
@@ -140,9 +138,9 @@ fn turn<R: Threads + Sync, S: Service, I: Source, O: Sink, M: Meter>(
     lines: &mut Lines,
     responder: &mut Responder,
 ) -> Option<EndStatus>
-    requires { IsReady S.holds service.old responder.old }
-    ensures turns { Turns responder.old.cursors.size (Makes S.at S.owns S.stretch service.old service.new)
-        (TakesRequest lines.old lines.new (I.left source.old) (I.left source.new))
+    requires { IsReady S.Service service.old responder.old.cursors }
+    ensures turns { Turns responder.old.cursors.settings.page (Uses S.Service service.old service.new)
+        (S.worn service.new) (TakesRequest lines.old lines.new (I.left source.old) (I.left source.new))
         (TakesNone lines.old (I.left source.old))
         (cursors_of (opened responder.old.cursors)) (cursors_of (opened responder.new.cursors))
         (O.written sink.old) (O.written sink.new) result }
@@ -152,7 +150,8 @@ fn turn<R: Threads + Sync, S: Service, I: Source, O: Sink, M: Meter>(
         lines.old lines.new }
     ensures progress { result ≡ None → done_bytes lines.old < done_bytes lines.new }
     ensures ended { result ≡ Some EndStatus.Done → IsTrue lines.new.ended }
-    ensures keeps { KeepsOn S.holds S.worn S.bounds service.old service.new responder.old responder.new result }
+    ensures fit { IsFit responder.new.cursors }
+    ensures settings { responder.new.cursors.settings ≡ responder.old.cursors.settings }
     ensures source_fault { result ≡ Some EndStatus.SourceFault → Rose (I.faults source.old) (I.faults source.new) }
     ensures sink_fault { result ≡ Some EndStatus.SinkFault → Rose (O.faults sink.old) (O.faults sink.new) }
     ensures sink_count { O.faults sink.old ≤ O.faults sink.new }
@@ -179,13 +178,14 @@ fn answer_and_put<R: Threads + Sync, S: Service, O: Sink, M: Meter>(
     line: &[u8],
     responder: &mut Responder,
 ) -> Option<EndStatus>
-    requires ready { IsReady S.holds service.old responder.old }
+    requires ready { IsReady S.Service service.old responder.old.cursors }
     requires request { (request : Request) × IsNext next request line.now responder.old.molfile.items }
     ensures replies { (request : Request) → IsNext next request line.now responder.old.molfile.items
-        → Replies responder.old.cursors.size (Makes S.at S.owns S.stretch service.old service.new) request
+        → Replies responder.old.cursors.settings.page (Uses S.Service service.old service.new) (S.worn service.new) request
         (cursors_of (opened responder.old.cursors)) (cursors_of (opened responder.new.cursors))
         (O.written sink.old) (O.written sink.new) result }
-    ensures keeps { KeepsOn S.holds S.worn S.bounds service.old service.new responder.old responder.new result }
+    ensures fit { IsFit responder.new.cursors }
+    ensures settings { responder.new.cursors.settings ≡ responder.old.cursors.settings }
     ensures sink_fault { result ≡ Some EndStatus.SinkFault → Rose (O.faults sink.old) (O.faults sink.new) }
     ensures sink_count { O.faults sink.old ≤ O.faults sink.new }
 {

@@ -1,24 +1,18 @@
-//! `search`: the pages of a pin, listed at once.
-ghost use Rattle.std.specs.Prelude.{◌≡◌, ◌≢◌, ◌⊎◌, ◌↔◌, ◌≤◌, Err, IfOk, OnOk, ℕ};
+//! A search from its pin to its end.
+ghost use Rattle.std.specs.Prelude.{◌≤◌, IfOk};
 ghost use Rattle.par_search.specs.Searches.{HasBegun};
-ghost use Rattle.par_search.specs.declared.fault.SearchFault.TheVariants as fault;
 ghost use Rattle.shell_lang.specs.Reply.{reply_of};
 ghost use Rattle.smarts_parse.specs.Pattern.{pattern_of};
 ghost use Rattle.smarts_parse.specs.Sound.{IsSoundPattern};
-ghost use Rattle.store_core.specs.Calls.{NotRaised, SameHeld};
-ghost use Rattle.store_machine.specs.Searches.{At};
-ghost use Rattle.store_machine.specs.Structures.{IsNeedOf};
-ghost use Rattle.session_run.specs.Answer.{SearchAnswer};
-ghost use Rattle.session_run.specs.Cursors.{Makes};
-ghost use Rattle.session_run.specs.Made.{Answered, Tells};
-ghost use Rattle.session_run.specs.Searched.{Begins, IsLastLine, IsPatternRefusal, IsPinOf, PinAnswer, SaysEnd, alone};
+ghost use Rattle.session_run.specs.Made.{AnsweredBy, Uses};
+ghost use Rattle.session_run.specs.Searched.{Begins, IsFaultLine, IsLastLine, IsNew, IsPatternRefusal, PinAnswer, Returns};
 
 use crate::listing::Walk;
+use crate::say::say;
 use crate::settings::Settings;
-use crate::stop::{Stop, Worn};
-use crate::texts::read_pattern;
+use crate::stop::Stop;
 use par_search::{Meter, Search, SearchFault};
-use shell_lang::{Refusal, Reply, reply_text};
+use shell_lang::{Refusal, Reply};
 use smarts_parse::{Pattern, SmartsFault};
 use std::alloc::Global;
 use std::thread::Threads;
@@ -36,59 +30,44 @@ pub fn begin<S: Service>(
     requires some { 1 ≤ settings.now.page }
     requires few { settings.now.page ≤ 256 }
     requires sound { IsSoundPattern (pattern_of pattern) }
-    ensures call { Begins (Makes S.at S.owns S.stretch service.old service.new) result }
+    ensures begins { Begins (Uses S.Service service.old service.new) (S.worn service.new) result }
     ensures begun { IfOk result (λ walk. HasBegun pattern settings.now.page walk.search) }
-    ensures tried { IfOk result (λ walk. walk.tried ≡ 0) }
-    ensures hits { IfOk result (λ walk. walk.hits ≡ 0) }
-    ensures worn { result ≡ Err fault.Worn → S.worn service.new }
-    ensures held { (slot version : ℕ)
-        → S.holds service.new slot version ↔ (S.holds service.old slot version ⊎ IsPinOf result slot version) }
-    ensures apart { (slot version other : ℕ) → IsPinOf result slot version → S.holds service.old slot other → ⊥ }
-    ensures bounds { NotRaised (S.bounds service.old) (S.bounds service.new) }
+    ensures new { IfOk result (λ walk. IsNew walk) }
 {
-    let search = Search::start(alloc, service, pattern, settings.workers, settings.page)?;
-    Ok(Walk {
-        search,
-        tried: 0,
-        hits: 0,
-    })
-}
-
-/// Lists the hits of a text's pattern, and the end.
-pub fn search<R: Threads + Sync, S: Service, M: Meter>(
-    rt: &R,
-    alloc: Global,
-    service: &mut S,
-    meter: &M,
-    settings: &Settings,
-    text: &[u8],
-    out: &mut Vec<u8>,
-) -> Result<(), Stop>
-    requires some_workers { 1 ≤ settings.now.workers }
-    requires few_workers { settings.now.workers ≤ 16 }
-    requires some { 1 ≤ settings.now.page }
-    requires few { settings.now.page ≤ 256 }
-    ensures answered { Answered (Makes S.at S.owns S.stretch service.old service.new)
-        (alone (SearchAnswer settings.now.page text.now)) out.old.items out.new.items tt result }
-    ensures worn { result ≡ Err Stop.Worn → S.worn service.new }
-    ensures held { OnOk result (SameHeld (S.holds service.old) (S.holds service.new)) }
-    ensures kept { result ≡ Err Stop.NoMemory → SameHeld (S.holds service.old) (S.holds service.new) }
-    ensures bounds { NotRaised (S.bounds service.old) (S.bounds service.new) }
-{
-    let pattern = match read_pattern(alloc, text) {
-        Ok(pattern) => pattern,
-        Err(fault) => return say(&refuse_pattern(fault), out),
-    };
-    match begin(alloc, service, settings, pattern) {
-        Ok(walk) => list(rt, service, meter, walk, out),
-        Err(SearchFault::Pins) => say(&Reply::Refused(Refusal::Pins), out),
-        Err(SearchFault::NoMemory) => say(&Reply::MemoryFault, out),
-        Err(SearchFault::Worn) => Err(Stop::Worn),
+    match Search::start(alloc, service, pattern, settings.workers, settings.page) {
+        Ok(search) => Ok(Walk {
+            search,
+            tried: 0,
+            hits: 0,
+        }),
+        Err(fault) => Err(fault),
     }
 }
 
-// Lists a search to its end, and gives its pin back.
-fn list<R: Threads + Sync, S: Service, M: Meter>(
+/// The line where no search began.
+pub fn fault_line(fault: SearchFault) -> Result<Reply, Stop>
+    ensures { IsFaultLine fault result }
+{
+    match fault {
+        SearchFault::Pins => Ok(Reply::Refused(Refusal::Pins)),
+        SearchFault::NoMemory => Ok(Reply::MemoryFault),
+        SearchFault::Worn => Err(Stop::Worn),
+    }
+}
+
+/// Gives the pin of a search back.
+pub fn give_back<S: Service>(search: Search, service: &mut S) -> Result<(), Stop>
+    requires { S.holds service.old search.slot search.version }
+    ensures { Returns (Uses S.Service service.old service.new) (S.worn service.new) search.slot result }
+{
+    match search.close(service) {
+        Ok(()) => Ok(()),
+        Err(_) => Err(Stop::Worn),
+    }
+}
+
+/// Lists a search to its end, and gives its pin back.
+pub fn list<R: Threads + Sync, S: Service, M: Meter>(
     rt: &R,
     service: &mut S,
     meter: &M,
@@ -96,33 +75,19 @@ fn list<R: Threads + Sync, S: Service, M: Meter>(
     out: &mut Vec<u8>,
 ) -> Result<(), Stop>
     requires held { S.holds service.old walk.search.slot walk.search.version }
-    requires place { walk.search.place ≡ At 0 }
-    requires need { IsNeedOf (pattern_of walk.search.pattern) walk.search.want }
-    requires tried { walk.tried ≡ 0 }
-    requires hits { walk.hits ≡ 0 }
-    ensures answered { Answered (Makes S.at S.owns S.stretch service.old service.new)
-        (alone (PinAnswer walk.search)) out.old.items out.new.items tt result }
-    ensures worn { result ≡ Err Stop.Worn → S.worn service.new }
-    ensures held { result ≢ Err Stop.Worn → (slot version : ℕ)
-        → S.holds service.new slot version ↔ (S.holds service.old slot version × ¬ (walk.search.slot ≡ slot)) }
-    ensures bounds { NotRaised (S.bounds service.old) (S.bounds service.new) }
+    requires new { IsNew walk }
+    ensures { AnsweredBy S.Service service.old service.new (PinAnswer walk.search)
+        out.old.items out.new.items tt result }
 {
     let mut walk = walk;
-    let listed = walk.list_all(rt, service, meter, out);
+    let whole = match walk.list_all(rt, service, meter, out) {
+        Ok(whole) => whole,
+        Err(stop) => return Err(stop),
+    };
     let end = walk.end();
-    match walk.search.close(service) {
-        Ok(()) => say_end(listed, end, out),
-        Err(_) => Err(Stop::Worn),
-    }
-}
-
-// Writes the last line of a search, where the service answered its pages.
-fn say_end(listed: Result<bool, Worn>, end: Option<Reply>, out: &mut Vec<u8>) -> Result<(), Stop>
-    ensures { SaysEnd listed end out.old.items out.new.items result }
-{
-    match listed {
-        Ok(whole) => say(&last_line(whole, end), out),
-        Err(Worn) => Err(Stop::Worn),
+    match give_back(walk.search, service) {
+        Ok(()) => say(&last_line(whole, end), out),
+        Err(stop) => Err(stop),
     }
 }
 
@@ -134,14 +99,6 @@ fn last_line(whole: bool, end: Option<Reply>) -> Reply
         Some(end) if whole => end,
         Some(_) | None => Reply::MemoryFault,
     }
-}
-
-/// Writes a line.
-pub fn say(reply: &Reply, out: &mut Vec<u8>) -> Result<(), Stop>
-    ensures { Tells (reply_of reply.now) out.old.items out.new.items result }
-{
-    reply_text(reply, out)?;
-    Ok(())
 }
 
 /// The refusal of a text that is no pattern.

@@ -1,10 +1,6 @@
 //! Why a session ends in the middle of an answer.
 use std::alloc::AllocError;
 
-/// The service answers no call any more.
-#[derive(Clone, Copy, Debug, PartialEq, Eq)]
-pub struct Worn;
-
 /// Why an answer is not written.
 #[derive(Clone, Copy, Debug, PartialEq, Eq)]
 pub enum Stop {

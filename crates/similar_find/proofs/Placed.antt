@@ -127,14 +127,6 @@ taken-in old new offered x same are best fits is =
     ∙ ap (λ zs. take old.most zs) (sym here ∙ sym (ranked-same old new (x ∷ offered) same))
     ∙ ap (λ n. take n (ranked new (x ∷ offered))) (sym same.most))
 
--- nothing is offered yet
-pub none-best : (board : Board) → board.hits ≡ [] → IsBest [] board
-none-best board e = best-from board [] tt (e ∙ nothing board.most)
-  where
-    nothing : (n : ℕ) → ◌≡◌ {A = List Offer} [] (take n [])
-    nothing zero = refl
-    nothing (suc n) = refl
-
 -- the cases of a place
 insert-front : (n i : ℕ) (x : Offer) (ys : List Offer) → i ≤ n → take (suc n) (take i ys ++ x ∷ drop i ys)
     ≡ take i (take n ys) ++ x ∷ drop i (take n ys)

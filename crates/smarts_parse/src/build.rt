@@ -24,44 +24,44 @@ pub fn pattern(alloc: Global, closed: &Closed<'_>) -> Result<Pattern, AllocError
         → IsPatternOf whole (pattern_of p)) }
 {
     let mut recs = Vec::new(alloc);
-    let mut open = Vec::new(alloc);
+    let mut unplaced = Vec::new(alloc);
     for part in &closed.parts {
-        put_graph(alloc, part, &mut open, &mut recs)?;
+        put_graph(alloc, part, &mut unplaced, &mut recs)?;
     }
-    let top = graph(alloc, &closed.top, &mut open)?;
+    let top = graph(alloc, &closed.top, &mut unplaced)?;
     Ok(Pattern { top, recs })
 }
 
-// Puts the graph of the next recursive part on the list, and its number on that of the open ones.
+// Puts the graph of the next recursive part on the list, and its number on that of the unplaced ones.
 fn put_graph(
     alloc: Global,
     part: &Written<'_>,
-    open: &mut Vec<u16>,
+    unplaced: &mut Vec<u16>,
     recs: &mut Vec<Graph>,
 ) -> Result<(), AllocError>
     requires { (all : Parts) × (left : List WalkGraph)
-        × IsBuilt all (part.now ∷ left) open.old.items (map graph_of recs.old.items) }
+        × IsBuilt all (part.now ∷ left) unplaced.old.items (map graph_of recs.old.items) }
     ensures { OnOk result ((all : Parts) (left : List WalkGraph)
-        → IsBuilt all (part.now ∷ left) open.old.items (map graph_of recs.old.items)
-        → IsBuilt all left open.new.items (map graph_of recs.new.items)) }
+        → IsBuilt all (part.now ∷ left) unplaced.old.items (map graph_of recs.old.items)
+        → IsBuilt all left unplaced.new.items (map graph_of recs.new.items)) }
 {
-    let graph = graph(alloc, part, open)?;
-    open.push(recs.len() as u16)?;
+    let graph = graph(alloc, part, unplaced)?;
+    unplaced.push(recs.len() as u16)?;
     recs.push(graph)?;
     Ok(())
 }
 
 // The graph of what is written. Its recursive parts are those that were opened last, whose numbers it takes.
-fn graph(alloc: Global, written: &Written<'_>, open: &mut Vec<u16>) -> Result<Graph, AllocError>
+fn graph(alloc: Global, written: &Written<'_>, unplaced: &mut Vec<u16>) -> Result<Graph, AllocError>
     requires { (nodes : Nodes) × (front : List ℕ) × (numbers : List ℕ)
-        × IsReady nodes front numbers written.now open.old.items }
+        × IsReady nodes front numbers written.now unplaced.old.items }
     ensures { IfOk result (λ g. (nodes : Nodes) (front numbers : List ℕ)
-        → IsReady nodes front numbers written.now open.old.items
-        → IsGraphTerm nodes numbers (graph_of g) × (open.new.items ≡ front)) }
+        → IsReady nodes front numbers written.now unplaced.old.items
+        → IsGraphTerm nodes numbers (graph_of g) × (unplaced.new.items ≡ front)) }
 {
-    let first = open.len() - part_count(&written.atoms);
-    let atoms = atoms(alloc, &written.atoms, after(open, first))?;
-    open.truncate(first);
+    let first = unplaced.len() - part_count(&written.atoms);
+    let atoms = atoms(alloc, &written.atoms, after(unplaced, first))?;
+    unplaced.truncate(first);
     let bonds = bonds(alloc, &written.links)?;
     Ok(Graph { atoms, bonds })
 }

@@ -18,8 +18,8 @@ pub enum Joint {
     And,
 }
 
-/// The steps so far, and whether something waits to be joined: an operand in the part between two `,` that is read,
-/// such a part in the part between two `;` that is read, and a part between two `;`.
+/// The steps so far; `in_and`, `in_or` and `in_low` say whether an operand of the current `&` list, `,` list and `;`
+/// list is there already.
 #[derive(Drop)]
 pub struct Postfix<P> {
     pub(crate) steps: Vec<Step<P>>,

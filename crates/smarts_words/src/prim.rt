@@ -136,7 +136,7 @@ fn part_at(bytes: &[u8]) -> Option<(&[u8], &[u8])>
     None
 }
 
-// How many parentheses are open after the byte, where so many are open before it; none where it is a `)` and none is.
+// The depth after the byte; `None` if it is a `)` at depth 0.
 fn opened(byte: u8, depth: usize) -> Option<usize>
     requires { depth < 2 ^ 63 }
     ensures steps { IfSome result (λ next. (more : List ℕ)

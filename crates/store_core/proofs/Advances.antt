@@ -9,15 +9,15 @@ use Rattle.store_machine.specs.declared.machine.Reply.{Reply}
 use Rattle.store_machine.specs.declared.machine.Reply.TheVariants as reply
 use Rattle.store_machine.specs.declared.machine.State.{State}
 use Rattle.store_core.specs.Calls.{Calls, WornAs, is_worn_out}
-use Rattle.store_core.specs.Chains.{chain_of, latest, status_of}
+use Rattle.record_versions.specs.Entries.{IsLatest, chain_of}
+use Rattle.store_core.specs.Kept.{Kept, status_of}
+use Rattle.store_core.specs.Prepared.{IsWhy}
 use Rattle.store_core.specs.Replies.{IsRefusal, change_of, commit_calls, refusal_by}
 use Rattle.store_core.specs.Stored.{IsAt, StandsFor, StoreTerm, Stretches, served}
-use Rattle.store_core.specs.Undone.{IsWhy}
-use Rattle.store_core.specs.declared.chain.Kept.{Kept}
 use Rattle.store_core.specs.declared.words.Change.{Change}
 use Rattle.store_core.specs.declared.words.CommitFault.{CommitFault}
 use Rattle.store_core.specs.declared.words.CommitFault.TheVariants as fault
-use Rattle.store_core.proofs.Commits.{Committing, Laws, done-stands, may-add, now-is}
+use Rattle.store_core.proofs.Commits.{now-is}
 use Rattle.store_core.proofs.OneCall.{one-call, serves, whole-sound}
 
 -- what a `?` returns is why
@@ -29,7 +29,7 @@ why-result store c f (Ok x) is why = tt
 why-result store c f (Err e) is why = λ s h. subst (IsWhy s (change_of c)) (sym is) (why s h)
 
 refused-why : KeptIsRead → StatesStay → (store : StoreTerm) (s : State) (c : Change) (f : CommitFault) (o : Option Kept)
-    → StandsFor store (served s) → o ≡ latest store.version (chain_of store.chains (id_of (change_of c)))
+    → StandsFor store (served s) → IsLatest store.version (chain_of store.kept.chains (id_of (change_of c))) o
     → IsRefusal f (refusal_by (option_map status_of o) c) → IsWhy s (change_of c) f
 refused-why read stay store s c fault.Known o h e r = now-is read stay store s c o h e ∙ r
 refused-why read stay store s c fault.Absent o h e r = now-is read stay store s c o h e ∙ r
@@ -42,14 +42,14 @@ refused-why read stay store s c fault.NoMemory o h e r = tt
 pub why-refused : {X : Type 0} → KeptIsRead → StatesStay
     → (store : StoreTerm) (c : Change) (f : CommitFault) (o : Option Kept) (r : Result X CommitFault)
     → IsErrAnd r (λ e. e ≡ f)
-    → o ≡ latest store.version (chain_of store.chains (id_of (change_of c)))
+    → IsLatest store.version (chain_of store.kept.chains (id_of (change_of c))) o
     → IsRefusal f (refusal_by (option_map status_of o) c)
     → IfErr r (λ e. (s : State) → StandsFor store (served s) → IsWhy s (change_of c) e)
 why-refused read stay store c f o r is e refusal = why-result store c f r is
     (λ s h. refused-why read stay store s c f o h e refusal)
 
 pub why-full : KeptIsRead → StatesStay → (store : StoreTerm) (s : State) (c : Change) (o : Option Kept)
-    → StandsFor store (served s) → o ≡ latest store.version (chain_of store.chains (id_of (change_of c)))
+    → StandsFor store (served s) → IsLatest store.version (chain_of store.kept.chains (id_of (change_of c))) o
     → refusal_by (option_map status_of o) c ≡ None → store.limit ≤ store.version → IsWhy s (change_of c) fault.Full
 why-full read stay store s c o h e allowed full = (
   now-is read stay store s c o h e
@@ -57,50 +57,40 @@ why-full read stay store s c o h e allowed full = (
   omega (arith, full, h.version, h.limit, h.sound.history.version),
 )
 
--- what is committed
-pub adds : KeptIsRead → Laws → (store new : StoreTerm) (s : State) (c : Change) (k : Kept) (o : Option Kept)
-    → StandsFor store (served s) → o ≡ latest store.version (chain_of store.chains (id_of (change_of c)))
-    → refusal_by (option_map status_of o) c ≡ None → Committing store new c k
-    → MayAdd s (change_of c) × StandsFor new (served (committed s (change_of c)))
-adds read laws store new s c k o h e allowed m = (
-  may-add laws store new (served s) c k h m (now-is read laws.states store s c o h e ∙ allowed),
-  done-stands read laws store new s c k o h e allowed m,
-)
-
 -- both as answers of a service
-pub refused-row : (store : StoreTerm) (s : State) (c : Change) (f : CommitFault) → IsAt store s
-    → IsWhy s (change_of c) f → Calls Stretches (λ _. true) store store s (commit_calls c (Err f))
-refused-row store s c fault.Known h why = one-call store store s s 0 (event.Commit (change_of c)) reply.Known refl h
-    (serves s h.serves, (why, refl)) h
-refused-row store s c fault.Absent h why = one-call store store s s 0 (event.Commit (change_of c)) reply.Absent refl h
-    (serves s h.serves, (why, refl)) h
-refused-row store s c fault.Withdrawn h why = one-call store store s s 0
-    (event.Commit (change_of c)) reply.Withdrawn refl h (serves s h.serves, (why, refl)) h
-refused-row store s c fault.Full h why = one-call store store s s 0 (event.Commit (change_of c)) reply.Full refl h
-    (serves s h.serves, (why.0, why.1, refl)) h
-refused-row store s c (fault.DiskFault doubt) h why = absurd why
-refused-row store s c fault.Worn h why = absurd why
-refused-row store s c fault.NoMemory h why = one-call store store s s 0
-    (event.Commit (change_of c)) reply.NoMemory refl h (serves s h.serves, inl refl) h
+refused-row : (store new : StoreTerm) (s : State) (c : Change) (f : CommitFault) → IsAt store s → IsAt new s
+    → IsWhy s (change_of c) f → Calls Stretches (λ _. true) store new s (commit_calls c (Err f))
+refused-row store new s c fault.Known h n why = one-call store new s s 0
+    (event.Commit (change_of c)) reply.Known refl h (serves s h.serves, (why, refl)) n
+refused-row store new s c fault.Absent h n why = one-call store new s s 0
+    (event.Commit (change_of c)) reply.Absent refl h (serves s h.serves, (why, refl)) n
+refused-row store new s c fault.Withdrawn h n why = one-call store new s s 0
+    (event.Commit (change_of c)) reply.Withdrawn refl h (serves s h.serves, (why, refl)) n
+refused-row store new s c fault.Full h n why = one-call store new s s 0
+    (event.Commit (change_of c)) reply.Full refl h (serves s h.serves, (why.0, why.1, refl)) n
+refused-row store new s c (fault.DiskFault doubt) h n why = absurd why
+refused-row store new s c fault.Worn h n why = absurd why
+refused-row store new s c fault.NoMemory h n why = one-call store new s s 0
+    (event.Commit (change_of c)) reply.NoMemory refl h (serves s h.serves, inl refl) n
 
 pub refused-result : (store new : StoreTerm) (s : State) (c : Change) (f : CommitFault) (r : Result ℕ CommitFault)
-    → IsErrAnd r (λ e. e ≡ f) → new ≡ store → IsAt store s → IsWhy s (change_of c) f
+    → IsErrAnd r (λ e. e ≡ f) → StandsFor new (served s) → IsAt store s → IsWhy s (change_of c) f
     → Calls Stretches (λ _. true) store new s (commit_calls c r)
-refused-result store new s c f (Ok x) is same h why = absurd is
-refused-result store new s c f (Err e) is same h why =
-    subst (λ x. Calls Stretches (λ _. true) store x s (commit_calls c (Err e))) (sym same)
-    (refused-row store s c e h (subst (IsWhy s (change_of c)) (sym is) why))
+refused-result store new s c f (Ok x) is stands h why = absurd is
+refused-result store new s c f (Err e) is stands h why =
+    refused-row store new s c e h (record { sound = h.sound; serves = h.serves; stands = stands })
+    (subst (IsWhy s (change_of c)) (sym is) why)
 
-pub committed-row : (store new : StoreTerm) (s : State) (c : Change) → IsAt store s
-    → MayAdd s (change_of c) × StandsFor new (served (committed s (change_of c)))
+pub committed-row : (store new : StoreTerm) (s : State) (c : Change) → IsAt store s → MayAdd s (change_of c)
+    → StandsFor new (served (committed s (change_of c)))
     → Calls Stretches (λ _. true) store new s ((event.Commit (change_of c), reply.Committed new.version) ∷ [])
-committed-row store new s c h m =
+committed-row store new s c h may stands =
     one-call store new s (committed s (change_of c)) 0 (event.Commit (change_of c)) (reply.Committed new.version) refl h
-    (serves s h.serves, (m.0, omega (arith, m.1.version, length-append s.history.commits (change_of c ∷ [])), refl))
+    (serves s h.serves, (may, omega (arith, stands.version, length-append s.history.commits (change_of c ∷ [])), refl))
     (record {
-      sound = whole-sound (committed s (change_of c)) tt m.1.sound;
+      sound = whole-sound (committed s (change_of c)) tt stands.sound;
       serves = h.serves;
-      stands = m.1;
+      stands = stands;
     })
 
 -- a store in memory is never worn

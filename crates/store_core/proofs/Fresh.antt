@@ -1,15 +1,13 @@
 -- A store without commits.
-use Rattle.std.proofs.Common.{◌≡◌, ◌-◌, ◌≤◌, ◌∙◌, ap, arith, Bool, Contains, count_by, length, List, [], ◌∷◌, nat_cmp, None, refl, Some, subst, suc, sym, take, zero, ℕ}
+use Rattle.std.proofs.Common.{◌≡◌, ◌-◌, ◌≤◌, ◌∙◌, ap, arith, Bool, Contains, count_by, length, List, [], ◌∷◌, nat_cmp, None, Option, refl, Some, subst, suc, sym, take, zero, ℕ}
 use Rattle.std.specs.FinMap.{empty as none, entries, get, get-empty, len-empty, len-entries}
-use Rattle.std.specs.List.Sorted.{IsStrictlySortedBy}
-use Rattle.std.specs.Map.{keys_of}
 use Rattle.snap_registry.specs.declared.Pin.{Pin}
 use Rattle.store_machine.specs.History.{Snapshot, after_changes, begun, snapshot}
 use Rattle.store_machine.specs.Laws.{IsSound}
 use Rattle.store_machine.specs.declared.machine.Change.{Change}
 use Rattle.store_machine.specs.declared.machine.Status.{Status}
 use Rattle.store_core.specs.Stored.{IsAt, IsChain, empty, served}
-use Rattle.store_core.specs.declared.chain.Kept.{Kept}
+use Rattle.store_core.specs.Kept.{KeptTerm, Lists}
 use Rattle.store_core.proofs.OneCall.{at-alone}
 
 none-taken : (v : ℕ) → snapshot begun v ≡ none
@@ -43,22 +41,30 @@ none-counted p [] e = refl
 none-counted p (x ∷ xs) e = absurd (omega (arith, e))
 
 empty-chain : (commits id : ℕ) → IsChain (served (empty commits)) id []
-empty-chain commits id = record {
-  ascending = tt;
-  late = λ k c. absurd (none-in k c);
-  only = λ k c. absurd (none-in k c);
-  states = λ k c. absurd (none-in k c);
-  records = λ k c. absurd (none-in k c);
-  all = λ version k. absurd (none-in _ k);
+empty-chain commits id =
+    record {
+      late = λ k c. absurd (none-in k c);
+      states = λ k c. absurd (none-in k c);
+      records = λ k c. absurd (none-in k c);
+    }
+
+empty-lists : Lists [] []
+empty-lists = record {
+  distinct = λ i j d less within. absurd (omega (arith, within));
+  exactly = λ e. ((λ c. absurd (none-in e c)), (λ h. absurd (none-in h.0 h.1)));
+  count = refl;
 }
 
-abbrev no-chains : List (ℕ × List Kept)
-no-chains = []
-
-stands : (commits : ℕ) → commits ≤ 16777215 → IsStrictlySortedBy nat_cmp (keys_of no-chains)
-    → IsAt (record { chains = []; pins = []; version = 0; limit = commits; kept = 0; live = 0; withdrawn = 0 })
-    (empty commits)
-stands commits few ordered =
+stands : (commits : ℕ) (reserved : Option (List Bool)) → commits ≤ 16777215
+    → IsAt (record {
+      kept = record { chains = []; reserved = reserved };
+      pins = [];
+      version = 0;
+      limit = commits;
+      live = 0;
+      withdrawn = 0;
+    }) (empty commits)
+stands commits reserved few =
     let start : Snapshot = none in
     let size : length (entries start) ≡ 0 = sym (len-entries start) ∙ len-empty nat_cmp Status in
     at-alone _ (served (empty commits)) (record {
@@ -68,44 +74,30 @@ stands commits few ordered =
       most = few;
       within = omega arith;
       pins = refl;
-      kept = refl;
+      kept = empty-lists;
       few = omega arith;
-      sum = refl;
       live = none-counted _ _ size;
       withdrawn = none-counted _ _ size;
       ids = omega arith;
-      ordered = ordered;
       chains = λ id. empty-chain commits id;
     })
 
-pub fresh-stands : (commits : ℕ) (chains : List (ℕ × List Kept)) (pins : List Pin) → commits ≤ 16777215 → chains ≡ []
-    → pins ≡ [] → IsStrictlySortedBy nat_cmp (keys_of chains)
-    → IsAt (record {
-      chains = chains;
-      pins = pins;
-      version = 0;
-      limit = commits;
-      kept = 0;
-      live = 0;
-      withdrawn = 0;
-    }) (empty commits)
-fresh-stands commits chains pins few e f ordered =
+pub fresh-stands : (commits : ℕ) (kept : KeptTerm) (pins : List Pin) → commits ≤ 16777215 → kept.chains ≡ [] → pins ≡ []
+    → IsAt (record { kept = kept; pins = pins; version = 0; limit = commits; live = 0; withdrawn = 0 }) (empty commits)
+fresh-stands commits kept pins few e f =
     subst (λ l. IsAt (record {
-      chains = l;
+      kept = record { chains = l; reserved = kept.reserved };
       pins = pins;
       version = 0;
       limit = commits;
-      kept = 0;
       live = 0;
       withdrawn = 0;
     }) (empty commits)) (sym e)
     (subst (λ l. IsAt (record {
-      chains = [];
+      kept = record { chains = []; reserved = kept.reserved };
       pins = l;
       version = 0;
       limit = commits;
-      kept = 0;
       live = 0;
       withdrawn = 0;
-    }) (empty commits)) (sym f)
-    (stands commits few (subst (λ l. IsStrictlySortedBy nat_cmp (keys_of l)) e ordered)))
+    }) (empty commits)) (sym f) (stands commits kept.reserved few))

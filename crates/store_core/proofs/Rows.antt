@@ -15,16 +15,16 @@ use Rattle.store_machine.specs.declared.machine.Reply.TheVariants as reply
 use Rattle.store_machine.specs.declared.machine.State.{State}
 use Rattle.store_machine.specs.declared.machine.Status.{Status}
 use Rattle.store_core.specs.Calls.{Calls}
-use Rattle.store_core.specs.Chains.{chain_of, latest, seen, status_of}
+use Rattle.record_versions.specs.Entries.{IsLatest, chain_of, entries}
+use Rattle.store_core.specs.Kept.{Kept, KeptTerm, status_of}
 use Rattle.store_core.specs.Replies.{look_calls, looked, pin_reply}
 use Rattle.store_core.specs.Stored.{IsAt, IsChain, Served, StandsFor, StoreTerm, Stretches, alone, pin_of, served}
 use Rattle.store_core.specs.declared.words.CallFault.{CallFault}
 use Rattle.store_core.specs.declared.words.CallFault.TheVariants as call
 use Rattle.store_core.specs.declared.words.Look.{Look}
-use Rattle.store_core.specs.declared.chain.Kept.{Kept}
 use Rattle.store_machine.proofs.Members.{contains-here, contains-split, contains-there}
 use Rattle.store_core.proofs.OneCall.{alone-sound, one-call, serves, step_of}
-use Rattle.store_core.proofs.Sees.{head-used, seen-at}
+use Rattle.store_core.proofs.Sees.{head-used, sees}
 
 -- a step keeps a sound state sound
 pub sound-after : RunsStaySound → (s t : State) (owner : ℕ) (e : Event) (r : Reply) → Gives s owner e r t → IsSound s
@@ -33,14 +33,7 @@ sound-after law s t owner e r gives sound = law s t (step_of owner e r s t ∷ [
 
 chain-of : (s : Served) (pins : List Held) (id : ℕ) (ks : List Kept) → IsChain s id ks
     → IsChain (record s { pins = pins }) id ks
-chain-of s pins id ks h = record {
-  ascending = h.ascending;
-  late = h.late;
-  only = h.only;
-  states = h.states;
-  records = h.records;
-  all = h.all;
-}
+chain-of s pins id ks h = record { late = h.late; states = h.states; records = h.records }
 
 pub pins-stand : (store : StoreTerm) (s : Served) (pins : List Held) (held : List Pin) → StandsFor store s
     → IsSound (alone (record s { pins = pins })) → map pin_of pins ≡ held
@@ -54,12 +47,37 @@ pins-stand store s pins held h sound e = record {
   pins = e;
   kept = h.kept;
   few = h.few;
-  sum = h.sum;
   live = h.live;
   withdrawn = h.withdrawn;
   ids = h.ids;
-  ordered = h.ordered;
   chains = λ id. chain-of s pins id _ (h.chains id);
+}
+
+-- memory was taken
+pub reserved-stands : (store : StoreTerm) (kept : KeptTerm) (s : Served)
+    → entries kept.chains ≡ entries store.kept.chains
+    → ((q : ℕ) → chain_of kept.chains q ≡ chain_of store.kept.chains q) → StandsFor store s
+    → StandsFor (record store { kept = kept }) s
+reserved-stands store kept s all same h = record {
+  sound = h.sound;
+  version = h.version;
+  limit = h.limit;
+  most = h.most;
+  within = h.within;
+  pins = h.pins;
+  kept = record {
+    distinct = h.kept.distinct;
+    exactly = λ e. (
+      (λ c. let r = (h.kept.exactly e).0 c in (r.0, subst (λ ks. Contains ks r.0) (sym (same e.id)) r.1, r.2)),
+      (λ r. (h.kept.exactly e).1 (r.0, subst (λ ks. Contains ks r.0) (same e.id) r.1, r.2)),
+    );
+    count = ap (λ l. length l) all ∙ h.kept.count;
+  };
+  few = h.few;
+  live = h.live;
+  withdrawn = h.withdrawn;
+  ids = h.ids;
+  chains = λ id. subst (IsChain s id) (sym (same id)) (h.chains id);
 }
 
 pub other-pins : (store : StoreTerm) (s : State) (pins : List Held) (held : List Pin) → IsAt store s
@@ -191,15 +209,17 @@ unpin-given law store s pin pins h c e =
     }
 
 -- Stats
-pub stats-gives : (store : StoreTerm) (s : State) (pins : ℕ) → IsAt store s → pins ≡ length store.pins
-    → Gives s 0 event.Stats (reply.Counted store.version store.live store.withdrawn store.kept pins) s
-stats-gives store s pins h e = (
+pub stats-gives : (store : StoreTerm) (s : State) (kept pins : ℕ) → IsAt store s
+    → kept ≡ length (entries store.kept.chains) → pins ≡ length store.pins
+    → Gives s 0 event.Stats (reply.Counted store.version store.live store.withdrawn kept pins) s
+stats-gives store s kept pins h n e = (
   serves s h.serves,
   (
     h.stands.version,
     h.stands.live,
     h.stands.withdrawn,
-    h.stands.kept,
+    n
+        ∙ h.stands.kept.count,
     e
         ∙ (ap (λ l. length l) (sym h.stands.pins) ∙ length-map s.pins pin_of),
     refl,
@@ -252,34 +272,22 @@ others-held pin slot version ps = (go ps, λ h. back ps h.0 h.1)
         ]
 
 -- Look
-pub look-gives : KeptIsRead → StatesStay → (store : StoreTerm) (s : State) (id : ℕ) (status : Option Status)
-    → IsAt store s → status ≡ seen store.version (chain_of store.chains id)
-    → Gives s 0 (event.Look id) (reply.Looked status) s
-look-gives read stay store s id status h e = (
-  serves s h.serves,
-  (
-    e
-        ∙ (ap (λ v. seen v (chain_of store.chains id)) h.stands.version
-        ∙ sym (seen-at read stay store s (head s.history) id h.stands (head-used s))),
-    refl,
-  ),
-)
-
-look-ok : KeptIsRead → StatesStay → (store : StoreTerm) (s : State) (id : ℕ) (status : Option Status)
-    → IsAt store s → status ≡ seen store.version (chain_of store.chains id)
+look-ok : KeptIsRead → StatesStay → (store : StoreTerm) (s : State) (id : ℕ) (o : Option Kept) (status : Option Status)
+    → IsAt store s → IsLatest store.version (chain_of store.kept.chains id) o → status ≡ option_map status_of o
     → Calls Stretches (λ _. true) store store s ((event.Look id, reply.Looked status) ∷ [])
-look-ok read stay store s id status h e = one-call store store s s 0 (event.Look id) (reply.Looked status) refl h
-    (look-gives read stay store s id status h e) h
+look-ok read stay store s id o status h latest e =
+    let seen = sees read store s (head s.history) id h.stands (head-used s) stay o
+    (subst (λ v. IsLatest v (chain_of store.kept.chains id) o) h.stands.version latest) in
+    one-call store store s s 0 (event.Look id) (reply.Looked status) refl h (serves s h.serves, (e ∙ sym seen, refl)) h
 
-pub look-call : KeptIsRead → StatesStay → (store : StoreTerm) (s : State) (id : ℕ) (k : Kept)
-    (r : Result Look CallFault) → IsAt store s → Some k ≡ latest store.version (chain_of store.chains id)
-    → IfOk r (λ l. looked l ≡ Some (status_of k)) → IfErr r (λ e. e ≡ call.NoMemory)
+pub look-call : KeptIsRead → StatesStay → (store : StoreTerm) (s : State) (id : ℕ) (o : Option Kept)
+    (r : Result Look CallFault) → IsAt store s → IsLatest store.version (chain_of store.kept.chains id) o
+    → IfOk r (λ l. looked l ≡ option_map status_of o) → IfErr r (λ e. e ≡ call.NoMemory)
     → Calls Stretches (λ _. true) store store s (look_calls id r)
-look-call read stay store s id k (Ok l) h at ok err = look-ok read stay store s id (looked l) h (ok
-    ∙ ap (option_map status_of) at)
-look-call read stay store s id k (Err call.NoMemory) h at ok err = one-call store store s s 0
+look-call read stay store s id o (Ok l) h latest ok err = look-ok read stay store s id o (looked l) h latest ok
+look-call read stay store s id o (Err call.NoMemory) h latest ok err = one-call store store s s 0
     (event.Look id) reply.NoMemory refl h (serves s h.serves, refl) h
-look-call read stay store s id k (Err call.Worn) h at ok err = absurd (other-fault err)
+look-call read stay store s id o (Err call.Worn) h latest ok err = absurd (other-fault err)
   where
     is-worn : CallFault → Bool
     is-worn call.Worn = true
@@ -287,8 +295,3 @@ look-call read stay store s id k (Err call.Worn) h at ok err = absurd (other-fau
 
     other-fault : call.Worn ≡ call.NoMemory → ⊥
     other-fault e = true≢false (ap is-worn e)
-
-pub look-none : KeptIsRead → StatesStay → (store : StoreTerm) (s : State) (id : ℕ) → IsAt store s
-    → None ≡ latest store.version (chain_of store.chains id)
-    → Calls Stretches (λ _. true) store store s ((event.Look id, reply.Looked None) ∷ [])
-look-none read stay store s id h at = look-ok read stay store s id None h (ap (option_map status_of) at)

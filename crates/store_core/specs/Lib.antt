@@ -1,7 +1,7 @@
 pub mod Calls
-pub mod Chains
-pub mod Picks
+pub mod Kept
+pub mod Prepared
 pub mod Records
 pub mod Replies
+pub mod Steps
 pub mod Stored
-pub mod Undone

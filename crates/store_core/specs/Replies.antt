@@ -45,14 +45,10 @@ IsSoundChange (asked.Revise r) = IsRecord (arc_value r)
 IsSoundChange (asked.Withdraw id) = Unit {0}
 
 -- the record that it leaves
-abbrev pub IsShared : Shared → Option Shared → Type 0
-IsShared r None = ⊥
-IsShared r (Some q) = arc_value q ≡ arc_value r
-
-abbrev pub IsLeft : Asked → Option Shared → Type 0
-IsLeft (asked.Register r) left = IsShared r left
-IsLeft (asked.Revise r) left = IsShared r left
-IsLeft (asked.Withdraw id) left = left ≡ None
+abbrev pub left_by : Asked → Option Shared
+left_by (asked.Register r) = Some r
+left_by (asked.Revise r) = Some r
+left_by (asked.Withdraw id) = None
 
 -- why it is refused, by what its identifier is
 abbrev pub refusal_by : Option Status → Asked → Option Reply

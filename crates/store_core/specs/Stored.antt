@@ -1,16 +1,11 @@
 -- What a store in memory stands for, and its stretches: those of its callers' steps alone.
-use Rattle.std.specs.Prelude.{◌≡◌, ◌+◌, ◌<◌, ◌≤◌, ◌++◌, Contains, count_by, List, [], ◌∷◌, length, map, None, not, refl, Some, true, ℕ}
+use Rattle.std.specs.Prelude.{◌≡◌, ◌+◌, ◌≤◌, ◌++◌, Contains, count_by, List, [], length, map, None, not, refl, Some, true, ℕ}
 use Rattle.std.specs.FinMap.{entries, get}
-use Rattle.std.specs.List.{sum_by}
-use Rattle.std.specs.List.Sorted.{IsStrictlySortedBy}
-use Rattle.std.specs.Map.{keys_of, values_of}
-use Rattle.std.specs.Ordering.{nat_cmp}
 use Rattle.snap_registry.specs.declared.Pin.{Pin}
 use Rattle.store_machine.proofs.Joins.{calms-join, runs-join}
 use Rattle.store_machine.specs.History.{begun, head, snapshot}
 use Rattle.store_machine.specs.Laws.{IsSound}
 use Rattle.store_machine.specs.Machine.{is_live, now}
-use Rattle.store_machine.specs.Made.{IsKept}
 use Rattle.store_machine.specs.Owners.{SameButOwners}
 use Rattle.store_machine.specs.Runs.{IsCalm, IsRun}
 use Rattle.store_machine.specs.declared.machine.Entry.{Entry}
@@ -19,15 +14,14 @@ use Rattle.store_machine.specs.declared.machine.History.{History}
 use Rattle.store_machine.specs.declared.machine.State.{State}
 use Rattle.store_machine.specs.declared.machine.Step.{Step}
 use Rattle.store_machine.specs.declared.machine.TheConstants.{LAST_IDENTIFIER}
-use Rattle.store_core.specs.Chains.{IsEntryOf, chain_of, status_of}
-use Rattle.store_core.specs.declared.chain.Kept.{Kept}
+use Rattle.record_versions.specs.Entries.{chain_of}
+use Rattle.store_core.specs.Kept.{IsEntryOf, Kept, KeptTerm, Lists, status_of}
 
 pub record StoreTerm : Type 0 where
-  pub chains : List (ℕ × List Kept)
+  pub kept : KeptTerm
   pub pins : List Pin
   pub version : ℕ
   pub limit : ℕ
-  pub kept : ℕ
   pub live : ℕ
   pub withdrawn : ℕ
 
@@ -54,19 +48,11 @@ alone s = record {
   serves = true;
 }
 
--- states in the order of their versions
-abbrev pub AreAscending : List Kept → Type 0
-AreAscending [] = Unit {0}
-AreAscending (k ∷ ks) = ((l : Kept) → Contains ks l → k.version < l.version) × AreAscending ks
-
--- a chain holds exactly the kept entries of its identifier, each with the state that its commit made
+-- each kept entry of an identifier has the state that its commit made
 pub record IsChain (s : Served) (id : ℕ) (ks : List Kept) : Type 0 where
-  pub ascending : AreAscending ks
   pub late : (k : Kept) → Contains ks k → k.version ≤ head s.history
-  pub only : (k : Kept) → Contains ks k → IsKept (alone s) id k.version
   pub states : (k : Kept) → Contains ks k → get (snapshot s.history k.version) id ≡ Some (status_of k)
-  pub records : (k : Kept) → Contains ks k → IsEntryOf id k.entry
-  pub all : (version : ℕ) → IsKept (alone s) id version → (k : Kept) × Contains ks k × (k.version ≡ version)
+  pub records : (k : Kept) → Contains ks k → IsEntryOf id k.value
 
 abbrev pub pin_of : Held → Pin
 pin_of p = record { slot = p.slot; version = p.version }
@@ -79,14 +65,12 @@ pub record StandsFor (store : StoreTerm) (s : Served) : Type 0 where
   pub most : store.limit ≤ 16777215
   pub within : store.version ≤ 16777215
   pub pins : map pin_of s.pins ≡ store.pins
-  pub kept : store.kept ≡ length s.kept
-  pub few : store.kept ≤ LAST_IDENTIFIER + store.version
-  pub sum : sum_by (λ ks. length ks) (values_of store.chains) ≡ store.kept
+  pub kept : Lists s.kept store.kept.chains
+  pub few : length s.kept ≤ LAST_IDENTIFIER + store.version
   pub live : store.live ≡ count_by (λ e. is_live e.1) (entries (now (alone s)))
   pub withdrawn : store.withdrawn ≡ count_by (λ e. not (is_live e.1)) (entries (now (alone s)))
   pub ids : store.live + store.withdrawn ≤ LAST_IDENTIFIER + store.version
-  pub ordered : IsStrictlySortedBy nat_cmp (keys_of store.chains)
-  pub chains : (id : ℕ) → IsChain s id (chain_of store.chains id)
+  pub chains : (id : ℕ) → IsChain s id (chain_of store.kept.chains id)
 
 abbrev pub IsStore : StoreTerm → Type 0
 IsStore store = (s : Served) × StandsFor store s

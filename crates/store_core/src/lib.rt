@@ -4,22 +4,18 @@
 //! may have steps too. A session over any service is then proved once.
 #![tactic(auto)]
 
-mod chain;
+mod kept;
 mod laws;
 mod page;
 mod record;
 mod service;
-mod steps;
 mod store;
-mod undo;
-mod walk;
 mod words;
 
 pub use laws::stores_ask_no_owner;
 pub use page::Page;
 pub use record::{Record, Recorder};
+pub use record_versions::Steps;
 pub use service::Service;
-pub use steps::Steps;
 pub use store::{MOST_COMMITS, Store};
-pub use undo::Undo;
 pub use words::{CallFault, Change, CommitFault, Look, Stats};

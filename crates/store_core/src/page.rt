@@ -43,8 +43,8 @@ impl Page {
         self.records.as_slice()
     }
 
-    // Without records. The room stays.
-    pub(crate) fn clear(&mut self)
+    /// Without records. The room stays.
+    pub fn clear(&mut self)
         ensures empty { self.new.records ≡ [] }
         ensures room { self.new.room ≡ self.old.room }
     {

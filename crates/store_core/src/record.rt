@@ -1,15 +1,15 @@
 //! A record: a text under its identifier, with its structure and print.
-ghost use Rattle.std.specs.Prelude.{◌≡◌, ◌↔◌, ◌≤◌, Err, IfErr, IfOk, IsTrue};
+ghost use Rattle.std.specs.Prelude.{◌≡◌, Err, IfErr, IfOk};
 ghost use Rattle.std.specs.Arc.{arc_value};
 ghost use Rattle.chem_core.specs.Molecule.{IsMolecule};
 ghost use Rattle.mol_finish.specs.Structure.{HasMolecule, IsAnswer};
 ghost use Rattle.store_machine.specs.History.{IsId};
-ghost use Rattle.store_machine.specs.Structures.{IsPrintOf, IsScreened};
+ghost use Rattle.store_machine.specs.Structures.{IsPrintOf};
 ghost use Rattle.store_core.specs.Records.{IsRecord};
 
 use bumpalo::Bump;
 use chem_core::{Mol, Print};
-use mol_finish::{Format, TextFault, one_structure, structure_in};
+use mol_finish::{Format, TextFault, structure_in};
 use path_print::print;
 use std::alloc::Global;
 use std::marker::Model;
@@ -92,15 +92,6 @@ impl Record {
         ensures of_structure { IsPrintOf self.now.mol result.now }
     {
         &self.print
-    }
-
-    /// Whether the print holds what is wanted.
-    pub(crate) fn is_screened(&self, want: &Print) -> bool
-        ensures screened { IsTrue result ↔ IsScreened want.now self.now.format self.now.text }
-        ensures sound { IsRecord self.now }
-    {
-        one_structure();
-        self.print.holds(want)
     }
 }
 

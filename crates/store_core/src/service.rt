@@ -10,9 +10,9 @@ ghost use Rattle.store_core.specs.Records.{Shared};
 ghost use Rattle.store_core.specs.Replies.{IsLookOf, commit_calls, fetch_calls, look_calls, pin_calls, prune_calls, stats_calls, unpin_calls};
 
 use crate::page::{MOST_RECORDS, Page};
-use crate::steps::Steps;
 use crate::words::{CallFault, Change, CommitFault, Look, Stats};
 use chem_core::Print;
+use record_versions::Steps;
 use snap_registry::Pin;
 use std::sync::ledger::Ledger;
 

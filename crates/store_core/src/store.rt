@@ -1,51 +1,48 @@
-//! The store in memory: for each identifier the chain of its kept states, in the order of identifiers.
+//! The store in memory: the kept entries of each identifier, the pins, and counts.
 //!
-//! It keeps no history. A commit and a look read one chain; a fetch walks the chains from its identifier on and stops
-//! at its page's end; a prune walks each chain once.
-ghost use Rattle.std.specs.Prelude.{◌≡◌, ◌≤◌, ◌+◌, ◌++◌, ◌∷◌, [], ◌==◌, All, false, IfErr, IfOk, IfSome, OnErr, OnOk, if◌then◌else◌, length, None, option_copied, true, ℕ};
+//! It keeps no history. A commit and a look read the latest entry of one identifier. A fetch goes from one identifier
+//! to the next that has an entry whose print holds what is wanted. A prune goes over the entries once.
+ghost use Rattle.std.specs.Prelude.{◌≡◌, ◌≤◌, ◌+◌, ◌++◌, [], All, drop, false, IfErr, IfOk, length, MatchOption, None, OnErr, OnOk, Some, true};
 ghost use Rattle.std.specs.Arc.{arc_value};
-ghost use Rattle.store_machine.specs.History.{IsId};
-ghost use Rattle.store_machine.specs.Machine.{MayAdd, committed};
+ghost use Rattle.store_machine.specs.History.{IsId, snapshot};
+ghost use Rattle.store_machine.specs.Machine.{IsPage, committed};
 ghost use Rattle.store_machine.specs.declared.machine.State.{State};
 ghost use Rattle.store_core.specs.Calls.{Calls, NotRaised, SameHeld, WornAs, is_worn, is_worn_out};
-ghost use Rattle.store_core.specs.Chains.{IsEntryOf, but_last, chain_of, latest};
-ghost use Rattle.store_core.specs.Records.{Shared};
+ghost use Rattle.store_core.specs.Kept.{HasPrint, kept_of, record_of};
+ghost use Rattle.store_core.specs.Prepared.{IsPrepared, IsWhy};
+ghost use Rattle.store_core.specs.Records.{Shared, founds};
 ghost use Rattle.store_core.specs.Replies.{change_of, fetch_calls};
-ghost use Rattle.store_core.specs.Undone.{Follows, IsWhy};
-ghost use Rattle.std.specs.List.{sum_by};
-ghost use Rattle.std.specs.Map.{values_of};
-ghost use Rattle.std.specs.BTreeMap.{IsOrdered, get};
-ghost use Rattle.std.specs.Ordering.{nat_cmp};
-ghost use Rattle.store_core.specs.Stored.{HoldsPin, IsAt, Served, StandsFor, StoreTerm, Stretches, empty, served};
+ghost use Rattle.store_core.specs.Steps.{AreSteps};
+ghost use Rattle.store_core.specs.Stored.{HoldsPin, IsAt, Served, StandsFor, Stretches, empty, served};
 
-use crate::chain::{Chain, Kept};
+use crate::kept::KeptEntries;
 use crate::laws::laws;
 use crate::page::{MOST_RECORDS, Page};
+use crate::record::Record;
 use crate::service::Service;
-use crate::steps::Steps;
-use crate::undo::Undo;
-use crate::walk::{count, fill};
 use crate::words::{CallFault, Change, CommitFault, Look, Stats, counted};
 use chem_core::Print;
 use mol_finish::one_structure;
+use record_versions::Steps;
 use snap_registry::{Pin, Registry};
 use std::alloc::{AllocError, Global};
-use std::collections::BTreeMap;
 use std::marker::Model;
+use std::sync::Arc;
 use std::sync::ledger::Ledger;
 
 /// The most commits that a store may have.
 pub const MOST_COMMITS: u32 = 16_777_215;
 
-/// A store with any number of callers. Contracts see its chains, pins and counts.
+// The most versions that are in use: those of 64 pins, and the head's.
+const MOST_IN_USE: usize = 65;
+
+/// A store with any number of callers. Contracts see its entries, pins and counts.
 #[derive(Drop)]
 pub struct Store {
-    alloc: Global,
-    chains: BTreeMap<u32, Chain>,
+    kept: KeptEntries,
     registry: Registry,
     version: u32,
     limit: u32,
-    kept: u32,
     live: u32,
     withdrawn: u32,
 }
@@ -56,21 +53,19 @@ impl Model for Store {
     ghost Value = { StoreTerm };
 
     ghost view = { λ s. record {
-      chains = s.chains.entries;
+      kept = s.kept;
       pins = s.registry;
       version = s.version;
       limit = s.limit;
-      kept = s.kept;
       live = s.live;
       withdrawn = s.withdrawn;
     } };
 
     ghost invariant = { λ s. IsStore (record {
-      chains = s.chains.entries;
+      kept = s.kept;
       pins = s.registry;
       version = s.version;
       limit = s.limit;
-      kept = s.kept;
       live = s.live;
       withdrawn = s.withdrawn;
     }) };
@@ -84,12 +79,10 @@ impl Store {
         ensures { IsAt result (empty commits) }
     {
         Store {
-            alloc,
-            chains: BTreeMap::new(alloc),
+            kept: KeptEntries::new(alloc),
             registry: Registry::new(),
             version: 0,
             limit: commits,
-            kept: 0,
             live: 0,
             withdrawn: 0,
         }
@@ -102,57 +95,43 @@ impl Store {
         self.version
     }
 
-    /// Commits a change, as a service does, and tells how to take it back.
-    pub fn advance(&mut self, change: &Change) -> Result<Undo, CommitFault>
-        ensures committed { OnOk result ((s : State) → StandsFor self.old (served s)
-            → MayAdd s (change_of change.now)
-            × StandsFor self.new (served (committed s (change_of change.now)))) }
-        ensures follows { IfOk result (λ undo. Follows self.old undo self.new) }
-        ensures few { OnOk result (self.new.version ≤ MOST_COMMITS) }
+    /// Finds whether a change may be made, and takes the memory for it: the first half of a commit. It stands for the
+    /// same afterwards.
+    pub fn prepare(&mut self, change: &Change) -> Result<(), CommitFault>
+        ensures prepared { OnOk result (IsPrepared self.new change.now) }
         ensures why { IfErr result (λ fault. (s : State) → StandsFor self.old (served s)
             → IsWhy s (change_of change.now) fault) }
         ensures not_worn { is_worn_out result ≡ false }
-        ensures err { OnErr result (self.new ≡ self.old) }
+        ensures stands { (s : Served) → StandsFor self.old s → StandsFor self.new s }
+        ensures pins { self.new.pins ≡ self.old.pins }
+        ensures version { self.new.version ≡ self.old.version }
     {
         laws();
         let id = change.id();
-        change.check(self.head(id))?;
+        change.check(self.kept.latest(id, self.version))?;
         if self.version >= self.limit {
             return Err(CommitFault::Full);
         }
-        let state = Kept {
-            version: self.version + 1,
-            entry: change.entry()?,
-        };
-        keep(self.alloc, &mut self.chains, id, state)?;
-        let undo = Undo {
-            id,
-            live: self.live,
-            withdrawn: self.withdrawn,
-        };
-        let (live, withdrawn) = counted(change, self.live, self.withdrawn);
-        self.live = live;
-        self.withdrawn = withdrawn;
-        self.kept += 1;
-        self.version += 1;
-        Ok(undo)
+        self.kept.reserve(id, change.print())?;
+        Ok(())
     }
 
-    /// Takes the last change back. The store is then as before it.
-    pub fn take_back(&mut self, undo: Undo)
-        requires { (before : StoreTerm) × Follows before undo self.old }
-        ensures stands { (before : StoreTerm) (s : Served) → Follows before undo self.old
-            → StandsFor before s → StandsFor self.new s }
-        ensures pins { (before : StoreTerm) → Follows before undo self.old
-            → self.new.pins ≡ before.pins }
-        ensures version { (before : StoreTerm) → Follows before undo self.old
-            → self.new.version ≡ before.version }
+    /// Makes a change that was prepared: the second half of a commit. It takes no memory.
+    pub fn make(&mut self, change: Change)
+        requires { IsPrepared self.old change }
+        ensures committed { (s : State) → StandsFor self.old (served s)
+            → StandsFor self.new (served (committed s (change_of change))) }
+        ensures pins { self.new.pins ≡ self.old.pins }
+        ensures version { self.new.version ≡ self.old.version + 1 }
+        ensures few { self.new.version ≤ MOST_COMMITS }
     {
-        drop_last(&mut self.chains, undo.id);
-        self.live = undo.live;
-        self.withdrawn = undo.withdrawn;
-        self.kept -= 1;
-        self.version -= 1;
+        laws();
+        let id = change.id();
+        let (live, withdrawn) = counted(&change, self.live, self.withdrawn);
+        self.live = live;
+        self.withdrawn = withdrawn;
+        self.version += 1;
+        self.kept.add(id, self.version, change.into_entry());
     }
 
     /// Takes so many commits in all from now on. Those that were made stay.
@@ -165,15 +144,42 @@ impl Store {
         self.limit = commits;
     }
 
-    // What an identifier is at the head.
-    fn head(&self, id: u32) -> Option<&Kept>
-        ensures latest { option_copied result ≡ latest self.now.version (chain_of self.now.chains id) }
-        ensures entry { IfSome result (λ k. IsEntryOf id k.now.entry) }
+    // Fills an empty page of a pinned version, as a service does.
+    fn fill<L: Ledger>(
+        &self,
+        pin: &Pin,
+        want: &Print,
+        from: u32,
+        limit: u32,
+        page: &mut Page,
+        steps: &mut Steps<L>,
+    ) -> Result<bool, AllocError>
+        requires held { HoldsPin self.now pin.now.slot pin.now.version }
+        requires empty { page.old.records ≡ [] }
+        requires room { limit ≤ page.old.room }
+        ensures page { (s : State) → StandsFor self.now (served s)
+            → IfOk result (λ last. IsPage (snapshot s.history pin.now.version) want.now from limit
+            (founds page.new.records) last) }
+        ensures few { length page.new.records ≤ limit }
+        ensures in_range { All (λ (r : Shared). IsId (arc_value r).id) page.new.records }
+        ensures room { page.new.room ≡ page.old.room }
+        ensures steps { (s : State) → StandsFor self.now (served s)
+            → AreSteps s from want.now steps.old steps.new }
     {
-        match self.chains.get(&id) {
-            Some(chain) => chain.latest(self.version),
-            None => None,
+        laws();
+        one_structure();
+        let mut place = from;
+        while let Some(id) = self.kept.next(want, place) {
+            let found = self.kept.at(id, pin.version, steps);
+            if let Some(record) = screened(found, want) {
+                if page.records().len() >= limit as usize {
+                    return Ok(false);
+                }
+                page.push(Arc::try_clone(record)?);
+            }
+            place = id + 1;
         }
+        Ok(true)
     }
 }
 
@@ -195,7 +201,8 @@ impl Service for Store {
     ghost bounds = { λ _. (None, None) };
 
     fn commit(&mut self, change: Change) -> Result<u32, CommitFault> {
-        self.advance(&change)?;
+        self.prepare(&change)?;
+        self.make(change);
         Ok(self.version)
     }
 
@@ -224,15 +231,13 @@ impl Service for Store {
         ensures in_range { All (λ (r : Shared). IsId (arc_value r).id) page.new.records }
         ensures err { OnErr result (page.new.records ≡ []) }
         ensures room { page.new.room ≡ page.old.room }
-        ensures steps { steps.new ≡ steps.old }
+        ensures steps { (s : State) → IsAt self.new s → AreSteps s from want.now steps.old steps.new }
         ensures worn { WornAs ⊥ ⊥ (is_worn result) }
         ensures held { SameHeld (HoldsPin self.old) (HoldsPin self.new) }
         ensures bounds { NotRaised (None, None) (None, None) }
     {
-        laws();
-        one_structure();
         page.clear();
-        match fill(&self.chains, pin.version, want, from, limit, page) {
+        match self.fill(pin, want, from, limit, page, steps) {
             Ok(last) => Ok(last),
             Err(_) => {
                 page.clear();
@@ -249,23 +254,15 @@ impl Service for Store {
 
     fn prune(&mut self) -> Result<u32, CallFault> {
         laws();
-        let live = self.registry.live();
-        self.chains.retain(|_, chain| {
-            chain.drop_unread(live);
-            true
-        });
-        let kept = count(&self.chains);
-        let dropped = self.kept - kept;
-        self.kept = kept;
-        Ok(dropped)
+        let pinned = self.registry.live();
+        let mut versions = [self.version; MOST_IN_USE];
+        put_in_front(&mut versions, pinned);
+        Ok(self.kept.prune(&versions[..=pinned.len()]))
     }
 
     fn look(&mut self, id: u32) -> Result<Look, CallFault> {
         laws();
-        match self.head(id) {
-            None => Ok(Look::Absent),
-            Some(state) => state.look(),
-        }
+        Look::of(self.kept.latest(id, self.version))
     }
 
     fn stats(&mut self) -> Result<Stats, CallFault> {
@@ -273,7 +270,7 @@ impl Service for Store {
             version: self.version,
             live: self.live,
             withdrawn: self.withdrawn,
-            kept: self.kept,
+            kept: self.kept.count(),
             pins: self.registry.live().len() as u32,
         })
     }
@@ -287,60 +284,25 @@ impl Service for Store {
     ghost same = { same };
 }
 
-// One state more in the chain of an identifier. An `Err` changes no chain.
-fn keep(
-    alloc: Global,
-    chains: &mut BTreeMap<u32, Chain>,
-    id: u32,
-    state: Kept,
-) -> Result<(), AllocError>
-    ensures ok { OnOk result ((q : ℕ)
-        → chain_of chains.new.entries q ≡ (if q == id then chain_of chains.old.entries id ++ state ∷ []
-        else chain_of chains.old.entries q)) }
-    ensures one_more { OnOk result (sum_by (λ ks. length ks) (values_of chains.new.entries)
-        ≡ sum_by (λ ks. length ks) (values_of chains.old.entries) + 1) }
-    ensures err { OnErr result (chains.new.entries ≡ chains.old.entries) }
-    ensures ordered { IsOrdered nat_cmp chains.new }
+// The record that was found, where its print holds what is wanted.
+fn screened<'a>(
+    found: Option<(u32, &'a Option<Arc<Record>>)>,
+    want: &Print,
+) -> Option<&'a Arc<Record>>
+    ensures { MatchOption result
+        (¬ HasPrint want.now (record_of (kept_of found.entry)))
+        (λ r. (record_of (kept_of found.entry) ≡ Some r.now) × HasPrint want.now (Some r.now)) }
 {
-    match chains.get_mut(&id) {
-        Some(chain) => chain.push(state),
-        None => start(alloc, chains, id, state),
+    match found {
+        Some((_, Some(record))) if record.print().holds(want) => Some(record),
+        _ => None,
     }
 }
 
-// The chain of an identifier that has none.
-fn start(
-    alloc: Global,
-    chains: &mut BTreeMap<u32, Chain>,
-    id: u32,
-    state: Kept,
-) -> Result<(), AllocError>
-    requires absent { get nat_cmp chains.old id ≡ None }
-    requires ordered { IsOrdered nat_cmp chains.old }
-    ensures ok { OnOk result ((q : ℕ)
-        → chain_of chains.new.entries q ≡ (if q == id then state ∷ [] else chain_of chains.old.entries q)) }
-    ensures one_more { OnOk result (sum_by (λ ks. length ks) (values_of chains.new.entries)
-        ≡ sum_by (λ ks. length ks) (values_of chains.old.entries) + 1) }
-    ensures err { OnErr result (chains.new.entries ≡ chains.old.entries) }
-    ensures ordered { IsOrdered nat_cmp chains.new }
+// Puts some versions in place of the first.
+fn put_in_front(versions: &mut [u32], first: &[u32])
+    requires { length first.now ≤ length versions.old }
+    ensures { versions.new ≡ first.now ++ drop (length first.now) versions.old }
 {
-    let chain = Chain::of(alloc, state)?;
-    match chains.insert(id, chain) {
-        Ok(_) => Ok(()),
-        Err(_) => Err(AllocError),
-    }
-}
-
-// The last state in the chain of an identifier goes.
-fn drop_last(chains: &mut BTreeMap<u32, Chain>, id: u32)
-    ensures chains { (q : ℕ) → chain_of chains.new.entries q
-        ≡ (if q == id then but_last (chain_of chains.old.entries id) else chain_of chains.old.entries q) }
-    ensures one_less { 1 ≤ length (chain_of chains.old.entries id)
-        → sum_by (λ ks. length ks) (values_of chains.new.entries) + 1
-        ≡ sum_by (λ ks. length ks) (values_of chains.old.entries) }
-    ensures ordered { IsOrdered nat_cmp chains.new }
-{
-    if let Some(chain) = chains.get_mut(&id) {
-        chain.drop_last();
-    }
+    versions[..first.len()].copy_from_slice(first);
 }

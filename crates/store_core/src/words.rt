@@ -1,11 +1,13 @@
 //! What is asked of a service, and what it answers.
-ghost use Rattle.std.specs.Prelude.{◌≡◌, ◌+◌, ◌<◌, ◌^◌, IfOk, MatchResult, None, option_copied, option_map};
+ghost use Rattle.std.specs.Prelude.{◌≡◌, ◌+◌, ◌<◌, ◌^◌, IfErr, IfOk, IfSome, MatchResult, None, option_copied, option_map, ℕ};
+ghost use Rattle.std.specs.Arc.{arc_value};
 ghost use Rattle.store_machine.specs.History.{id_of};
-ghost use Rattle.store_core.specs.Chains.{status_of};
-ghost use Rattle.store_core.specs.Replies.{Counts, IsLeft, IsRefusal, IsSoundChange, MayCount, change_of, refusal_by};
+ghost use Rattle.store_core.specs.Kept.{IsEntryOf, kept_of, status_of};
+ghost use Rattle.store_core.specs.Records.{Shared};
+ghost use Rattle.store_core.specs.Replies.{Counts, IsLookOf, IsRefusal, IsSoundChange, MayCount, change_of, left_by, looked, refusal_by};
 
-use crate::chain::Kept;
 use crate::record::Record;
+use chem_core::Print;
 use std::alloc::AllocError;
 use std::sync::Arc;
 use thiserror::Error;
@@ -30,27 +32,37 @@ impl Change {
         }
     }
 
-    // The record that it leaves, shared once more.
-    pub(crate) fn entry(&self) -> Result<Option<Arc<Record>>, AllocError>
-        ensures { IfOk result (λ left. IsLeft self.now left) }
+    // The print of the record that it leaves.
+    pub(crate) fn print(&self) -> Option<&Print>
+        ensures { option_copied result ≡ option_map (λ (r : Shared). (arc_value r).print) (left_by self.now) }
     {
         match self {
-            Change::Register(record) | Change::Revise(record) => Ok(Some(Arc::try_clone(record)?)),
-            Change::Withdraw(_) => Ok(None),
+            Change::Register(record) | Change::Revise(record) => Some(record.print()),
+            Change::Withdraw(_) => None,
+        }
+    }
+
+    // The record that it leaves.
+    pub(crate) fn into_entry(self) -> Option<Arc<Record>>
+        ensures { result ≡ left_by self }
+    {
+        match self {
+            Change::Register(record) | Change::Revise(record) => Some(record),
+            Change::Withdraw(_) => None,
         }
     }
 
     // Whether it is allowed, by what its identifier is.
-    pub(crate) fn check(&self, now: Option<&Kept>) -> Result<(), CommitFault>
-        ensures { let refusal = refusal_by (option_map status_of (option_copied now.entry)) self.now in
+    pub(crate) fn check(&self, now: Option<(u32, &Option<Arc<Record>>)>) -> Result<(), CommitFault>
+        ensures { let refusal = refusal_by (option_map status_of (kept_of now.entry)) self.now in
             MatchResult result (λ _. refusal ≡ None) (λ fault. IsRefusal fault refusal) }
     {
         match (self, now) {
             (Change::Register(_), None) => Ok(()),
             (Change::Register(_), Some(_)) => Err(CommitFault::Known),
             (_, None) => Err(CommitFault::Absent),
-            (_, Some(Kept { entry: Some(_), .. })) => Ok(()),
-            (_, Some(_)) => Err(CommitFault::Withdrawn),
+            (_, Some((_, Some(_)))) => Ok(()),
+            (_, Some((_, None))) => Err(CommitFault::Withdrawn),
         }
     }
 }
@@ -110,6 +122,25 @@ pub enum Look {
     Absent,
     Live { version: u32, entry: Arc<Record> },
     Withdrawn { version: u32 },
+}
+
+impl Look {
+    // What was found of an identifier at the head. A record is shared once more.
+    pub(crate) fn of(found: Option<(u32, &Option<Arc<Record>>)>) -> Result<Look, CallFault>
+        ensures look { IfOk result (λ l. looked l ≡ option_map status_of (kept_of found.entry)) }
+        ensures entry { (id : ℕ) → IfSome (kept_of found.entry) (λ k. IsEntryOf id k.value)
+            → IfOk result (λ l. IsLookOf id l) }
+        ensures err { IfErr result (λ e. e ≡ CallFault.NoMemory) }
+    {
+        match found {
+            None => Ok(Look::Absent),
+            Some((version, None)) => Ok(Look::Withdrawn { version }),
+            Some((version, Some(entry))) => Ok(Look::Live {
+                version,
+                entry: Arc::try_clone(entry)?,
+            }),
+        }
+    }
 }
 
 /// Counts: the head's version, live and withdrawn identifiers there, kept entries, and pins.

@@ -9,7 +9,7 @@ use Rattle.store_core.specs.Calls.{Calls}
 use Rattle.store_core.specs.Replies.{change_of, commit_calls}
 use Rattle.store_core.specs.Stored as memory
 use Rattle.store_core.specs.Stored.{StoreTerm as Memory, served}
-use Rattle.store_core.specs.Undone.{IsWhy}
+use Rattle.store_core.specs.Prepared.{IsWhy}
 use Rattle.store_core.specs.declared.words.Change.{Change as Asked}
 use Rattle.store_core.specs.declared.words.CommitFault.{CommitFault}
 use Rattle.store_core.specs.declared.words.CommitFault.TheVariants as fault
@@ -39,30 +39,42 @@ module _ {D : Type 0} (model : DiskModel D)
   stays : (store : StoreTerm D) (s : State) → StandsFor model store s → Serves s s
   stays store s h = (h.memory.serves, (omega arith, omega arith))
 
-  refused : RunsStaySound → (store : StoreTerm D) (s : State) (c : Asked) (f : CommitFault) → StandsFor model store s
-      → IsWhy s (change_of c) f → Gone store store s c (Err f)
-  refused law store s c fault.Known h why = still-call model only-now law store store s s 0
-      (event.Commit (change_of c)) reply.Known refl (λ f. f) h (stays store s h, (why, refl)) h refl refl
-  refused law store s c fault.Absent h why = still-call model only-now law store store s s 0
-      (event.Commit (change_of c)) reply.Absent refl (λ f. f) h (stays store s h, (why, refl)) h refl refl
-  refused law store s c fault.Withdrawn h why = still-call model only-now law store store s s 0
-      (event.Commit (change_of c)) reply.Withdrawn refl (λ f. f) h (stays store s h, (why, refl)) h refl refl
-  refused law store s c fault.Full h why = still-call model only-now law store store s s 0
-      (event.Commit (change_of c)) reply.Full refl (λ f. f) h (stays store s h, (why.0, why.1, refl)) h refl refl
-  refused law store s c (fault.DiskFault doubt) h why = absurd why
-  refused law store s c fault.Worn h why = absurd why
-  refused law store s c fault.NoMemory h why = still-call model only-now law store store s s 0
-      (event.Commit (change_of c)) reply.NoMemory refl (λ f. f) h (stays store s h, inl refl) h refl refl
+  -- the store with another memory, which stands for the same
+  abbrev With : StoreTerm D → Memory → StoreTerm D
+  With store m = record store { memory = m }
+
+  with-memory : (store : StoreTerm D) (m : Memory) (s : State) → StandsFor model store s
+      → memory.StandsFor m (served s) → StandsFor model (With store m) s
+  with-memory store m s h stands = record {
+    memory = record { sound = h.memory.sound; serves = h.memory.serves; stands = stands };
+    journal = h.journal;
+    counts = h.counts;
+  }
+
+  refused : RunsStaySound → (store : StoreTerm D) (m : Memory) (s : State) (c : Asked) (f : CommitFault)
+      → StandsFor model store s → StandsFor model (With store m) s → IsWhy s (change_of c) f
+      → Gone store (With store m) s c (Err f)
+  refused law store m s c fault.Known h n why = still-call model only-now law store (With store m) s s 0
+      (event.Commit (change_of c)) reply.Known refl (λ f. f) h (stays store s h, (why, refl)) n refl refl
+  refused law store m s c fault.Absent h n why = still-call model only-now law store (With store m) s s 0
+      (event.Commit (change_of c)) reply.Absent refl (λ f. f) h (stays store s h, (why, refl)) n refl refl
+  refused law store m s c fault.Withdrawn h n why = still-call model only-now law store (With store m) s s 0
+      (event.Commit (change_of c)) reply.Withdrawn refl (λ f. f) h (stays store s h, (why, refl)) n refl refl
+  refused law store m s c fault.Full h n why = still-call model only-now law store (With store m) s s 0
+      (event.Commit (change_of c)) reply.Full refl (λ f. f) h (stays store s h, (why.0, why.1, refl)) n refl refl
+  refused law store m s c (fault.DiskFault doubt) h n why = absurd why
+  refused law store m s c fault.Worn h n why = absurd why
+  refused law store m s c fault.NoMemory h n why = still-call model only-now law store (With store m) s s 0
+      (event.Commit (change_of c)) reply.NoMemory refl (λ f. f) h (stays store s h, inl refl) n refl refl
 
   -- by the result of a `?`
-  pub refused-result : RunsStaySound → (store new : StoreTerm D) (s : State) (c : Asked) (f : CommitFault)
+  pub refused-result : RunsStaySound → (store : StoreTerm D) (m : Memory) (s : State) (c : Asked) (f : CommitFault)
       (r : Result ℕ CommitFault)
-      → IsErrAnd r (λ e. e ≡ f) → new ≡ store → StandsFor model store s
-      → IsWhy s (change_of c) f → Gone store new s c r
-  refused-result law store new s c f (Ok x) is same h why = absurd is
-  refused-result law store new s c f (Err e) is same h why =
-      subst (λ (x : StoreTerm D). Gone store x s c (Err e)) (sym same)
-      (refused law store s c e h (subst (IsWhy s (change_of c)) (sym is) why))
+      → IsErrAnd r (λ e. e ≡ f) → memory.StandsFor m (served s) → StandsFor model store s
+      → IsWhy s (change_of c) f → Gone store (With store m) s c r
+  refused-result law store m s c f (Ok x) is stands h why = absurd is
+  refused-result law store m s c f (Err e) is stands h why =
+      refused law store m s c e h (with-memory store m s h stands) (subst (IsWhy s (change_of c)) (sym is) why)
 
   module _ (law : RunsStaySound) (store : StoreTerm D) (s : State) (h : StandsFor model store s)
       (c : Asked) (m : Memory) (journal : Standing D)
@@ -182,10 +194,19 @@ module _ {D : Type 0} (model : DiskModel D)
       by-fault fault.Worn has r = absurd has
       by-fault fault.NoMemory has r = older reply.NoMemory (λ doubt e. e) has (λ f. absurd f)
 
-      pub faulted : (f : CommitFault)
+      faulted : (f : CommitFault)
           → PutGives (Err f) (Has model journal) (payloads s.history) (option_map payload s.doubt) p
           → OnFault (Err f) (disk.Rose (model.faults store.journal.disk) (model.faults journal.disk))
           → Gone store (record { memory = m; journal = journal; b = store.b }) s c (Err f)
       faulted f has r = by-fault f
           (subst (λ q. PutGives (Err f) (Has model journal) (payloads s.history)
           (option_map payload s.doubt) q) written has) r
+
+      pub faulted-result : (f : CommitFault) (r : Result ℕ CommitFault) → IsErrAnd r (λ e. e ≡ f)
+          → PutGives (Err f) (Has model journal) (payloads s.history) (option_map payload s.doubt) p
+          → OnFault (Err f) (disk.Rose (model.faults store.journal.disk) (model.faults journal.disk))
+          → Gone store (record { memory = m; journal = journal; b = store.b }) s c r
+      faulted-result f (Ok x) is has r = absurd is
+      faulted-result f (Err e) is has r =
+          subst (λ g. Gone store (record { memory = m; journal = journal; b = store.b }) s c (Err g)) (sym is)
+          (faulted f has r)

@@ -1,5 +1,5 @@
 -- A loading: what is read, made again, and opened.
-use Rattle.std.proofs.Common.{◌≡◌, ◌∙◌, ap, arith, Err, false, length, List, [], MatchOption, None, Ok, Option, refl, Result, subst, sym, true, ℕ}
+use Rattle.std.proofs.Common.{◌≡◌, ◌∙◌, ap, arith, Err, false, List, [], MatchOption, None, Ok, refl, Result, subst, sym, true, ℕ}
 use Rattle.std.proofs.lemmas.List.{length-map}
 use Rattle.std.specs.List.{AllByRecursion}
 use Rattle.commit_log.specs.Change.{Change as Logged}

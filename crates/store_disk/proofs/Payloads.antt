@@ -1,5 +1,5 @@
 -- A record's payload is short, and a logged change is the machine's.
-use Rattle.std.proofs.Common.{◌≡◌, ◌≢◌, ◌⊎◌, ◌+◌, ◌++◌, ◌≤◌, ◌∙◌, ap, arith, Err, IfErr, IfOk, inl, inr, IsErrAnd, length, length-append, List, [], ◌∷◌, map, Ok, refl, Result, subst, sym, Vec, ℕ}
+use Rattle.std.proofs.Common.{◌≡◌, ◌≢◌, ◌⊎◌, ◌+◌, ◌++◌, ◌≤◌, ◌∙◌, ap, arith, Err, IfErr, IfOk, inl, inr, IsErrAnd, length, length-append, List, [], ◌∷◌, Ok, refl, Result, subst, sym, Vec, ℕ}
 use Rattle.std.specs.Arc.{arc_value}
 use Rattle.std.specs.Int.{to_le_bytes, w32}
 use Rattle.std.specs.declared.alloc.AllocError.{AllocError}

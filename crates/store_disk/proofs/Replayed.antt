@@ -1,5 +1,5 @@
 -- The commits of a log, made again one after the other.
-use Rattle.std.proofs.Common.{◌≡◌, ◌+◌, ◌++◌, ◌<◌, ◌≤◌, ◌∙◌, ap, append_assoc, arith, drop, Err, get_or, IsErrAnd, length, List, [], ◌∷◌, map, None, Ok, refl, Result, subst, sym, take, ℕ}
+use Rattle.std.proofs.Common.{◌≡◌, ◌+◌, ◌++◌, ◌<◌, ◌≤◌, ◌∙◌, ap, append_assoc, arith, drop, Err, get_or, IsErrAnd, length, List, [], ◌∷◌, None, Ok, refl, Result, subst, sym, take, ℕ}
 use Rattle.std.proofs.lemmas.List.{length-map, map-append}
 use Rattle.std.proofs.Math.Seq.{take_all}
 use Rattle.std.proofs.lemmas.Grind.{take_at_read}

@@ -1,5 +1,5 @@
 -- What the bytes of a disk open to as a store, and where they are damaged. For callers.
-use Rattle.std.specs.Prelude.{◌≡◌, ◌⊎◌, ◌++◌, ◌<◌, ◌≤◌, Err, List, [], ◌∷◌, length, None, Ok, Result, ℕ}
+use Rattle.std.specs.Prelude.{◌≡◌, ◌⊎◌, ◌++◌, ◌<◌, ◌≤◌, Err, List, [], ◌∷◌, length, Ok, Result, ℕ}
 use Rattle.commit_log.specs.Change.{Change as Logged}
 use Rattle.commit_log.specs.Log.{DamagesLog, IsLog, payloads as log_payloads}
 use Rattle.journal_core.specs.Records.{Opens, header, prefix}

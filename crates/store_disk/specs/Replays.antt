@@ -1,5 +1,5 @@
 -- What replaying a log leaves, and where it stops. For private clauses alone.
-use Rattle.std.specs.Prelude.{◌≡◌, ◌++◌, ◌≤◌, length, List, [], ◌∷◌, Option, ℕ}
+use Rattle.std.specs.Prelude.{◌≡◌, ◌++◌, ◌≤◌, length, List, [], ◌∷◌, ℕ}
 use Rattle.commit_log.specs.Change.{Change as Logged, change_of}
 use Rattle.commit_log.specs.Log.{changes_of}
 use Rattle.commit_log.specs.declared.change.Commit.{Commit}

@@ -50,8 +50,11 @@ fn add(recorder: &mut Recorder, memory: &mut Memory, commit: &Commit) -> Result<
     ensures no_other { ¬ IsErrOf result LoadFault.NotAStore }
 {
     match change_from(recorder, &commit.wire) {
-        Ok(change) => match memory.advance(&change) {
-            Ok(_) => Ok(()),
+        Ok(change) => match memory.prepare(&change) {
+            Ok(()) => {
+                memory.make(change);
+                Ok(())
+            }
             Err(
                 CommitFault::Known
                 | CommitFault::Absent

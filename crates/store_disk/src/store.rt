@@ -1,5 +1,5 @@
-//! A store on a disk. A commit is first kept in memory, then put into the journal, and taken back from memory where the
-//! journal does not take it. No other call touches the disk (`Stretches`, fields `causes` and `untouched`).
+//! A store on a disk. For a commit the memory is taken first; then it is put into the journal, and only where that takes
+//! it, made in memory. No other call touches the disk (`Stretches`, fields `causes` and `untouched`).
 
 ghost use Rattle.std.specs.Prelude.{◌≡◌, ◌≤◌, [], All, false, IfErr, IfOk, IsErrOf, length, OnErr, Some, true, ℕ};
 ghost use Rattle.disk_edge.specs.Disk.{IfTold, Rose, Faulted};
@@ -11,6 +11,7 @@ ghost use Rattle.journal_core.specs.Records.{IsNoJournal, header};
 ghost use Rattle.store_core.specs.Calls.{Calls, NotRaised, SameHeld, WornAs, is_worn};
 ghost use Rattle.store_core.specs.Records.{Shared};
 ghost use Rattle.store_core.specs.Replies.{fetch_calls};
+ghost use Rattle.store_core.specs.Steps.{AreSteps};
 ghost use Rattle.store_core.specs.Stored.{HoldsPin, empty};
 ghost use Rattle.store_core.specs.declared.page.TheConstants.{MOST_RECORDS};
 ghost use Rattle.store_machine.specs.History.{IsId, begun, head};
@@ -201,14 +202,10 @@ impl<D: Disk> Service for Store<D> {
     fn commit(&mut self, change: Change) -> Result<u32, CommitFault> {
         laws();
         let payload = payload_of(self.alloc, &change)?;
-        let undo = self.memory.advance(&change)?;
-        match put(&mut self.journal, &payload) {
-            Ok(()) => Ok(self.memory.version()),
-            Err(fault) => {
-                self.memory.take_back(undo);
-                Err(fault)
-            }
-        }
+        self.memory.prepare(&change)?;
+        put(&mut self.journal, &payload)?;
+        self.memory.make(change);
+        Ok(self.memory.version())
     }
 
     fn pin(&mut self) -> Result<Option<Pin>, CallFault> {
@@ -236,7 +233,8 @@ impl<D: Disk> Service for Store<D> {
         ensures in_range { All (λ (r : Shared). IsId (arc_value r).id) page.new.records }
         ensures err { OnErr result (page.new.records ≡ []) }
         ensures room { page.new.room ≡ page.old.room }
-        ensures steps { steps.new ≡ steps.old }
+        ensures steps { (s : State) → StandsFor D.model self.new s
+            → AreSteps s from want.now steps.old steps.new }
         ensures worn { WornAs ⊥ ⊥ (is_worn result) }
         ensures held { SameHeld (HoldsPin self.old.memory) (HoldsPin self.new.memory) }
         ensures bounds { NotRaised

@@ -16,16 +16,6 @@ use Rattle.store_machine.proofs.Ascending.{Ascends}
 use Rattle.store_machine.proofs.Made.{state-valid}
 use Rattle.store_machine.proofs.Members.{contains-here, contains-split, contains-there}
 
--- ascending from an identifier on, and strictly increasing
-pub Ascends-increasing : (a : ℕ) (rs : List Found) → Ascends a rs → IsStrictlyIncreasing (ids rs)
-Ascends-increasing a [] h k less = absurd (omega (arith, less))
-Ascends-increasing a (r ∷ []) h k less = absurd (omega (arith, less))
-Ascends-increasing a (r ∷ q ∷ qs) h zero less = omega (arith, h.1.0)
-Ascends-increasing a (r ∷ q ∷ qs) h (suc k) less =
-    let rest : slice_index (ids (q ∷ qs)) k < slice_index (ids (q ∷ qs)) (k + 1) = Ascends-increasing (r.id + 1)
-    (q ∷ qs) h.1 k (omega (arith, less)) in
-    rw add-one (rw add-one at rest)
-
 behind : (r q : Found) (qs : List Found) → IsStrictlyIncreasing (ids (r ∷ q ∷ qs)) → IsStrictlyIncreasing (ids (q ∷ qs))
 behind r q qs up k less =
     let rest : slice_index (ids (r ∷ q ∷ qs)) (suc k) < slice_index (ids (r ∷ q ∷ qs)) (suc k + 1) = up (suc k)

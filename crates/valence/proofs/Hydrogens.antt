@@ -2,7 +2,7 @@
 use Rattle.std.proofs.Common.{ℕ, ◌+◌, ◌-◌, ◌<◌, ◌≤◌, ◌≡◌, Bool, true, false, cond, nat_le, List, [], ◌∷◌, length, map, get_or, All, Option, Some, option_map, unwrap_or, ap, sym, subst, ◌∙◌, arith, set, take, drop, ◌++◌}
 use Rattle.std.specs.Prelude.{ℤ, pos, negsuc, zero, suc, find}
 use Rattle.std.specs.List.{enumerate_from}
-use Rattle.std.proofs.lemmas.List.{length-map, get_or-map, same_lists}
+use Rattle.std.proofs.lemmas.List.{length-map, get_or-map}
 use Rattle.std.proofs.lemmas.List.FromFn.{length-enumerate_from, get_or-enumerate_from}
 use Rattle.chem_core.specs.declared.sketch.SketchAtom.{SketchAtom}
 use Rattle.chem_core.specs.declared.sketch.Fill.{Fill}
@@ -134,16 +134,3 @@ filled-sound s sound = record {
       subst IsSketchAtom (sym (filled-at s k d within))
       (with_hydrogens atom (hydrogens_of atom.fill atom (bond_sum s k)) old le);
 }
-
--- the atoms with the hydrogens of equal sums
-pub filled-by : (s : SketchTerm) (sums : List ℕ) → ((a : ℕ) → get_or sums a 0 ≡ bond_sum s a)
-    → map (λ p. filled_atom (get_or sums p.0 0) p.1) (enumerate_from 0 s.atoms) ≡ (filled s).atoms
-filled-by s sums h =
-    let f : ℕ × SketchAtom → SketchAtom = λ p. filled_atom (get_or sums p.0 0) p.1 in
-    let g : ℕ × SketchAtom → SketchAtom = λ p. filled_atom (bond_sum s p.0) p.1 in
-    let len : length (map f (enumerate_from 0 s.atoms)) ≡ length (map g (enumerate_from 0 s.atoms)) =
-    length-map (enumerate_from 0 s.atoms) f ∙ sym (length-map (enumerate_from 0 s.atoms) g) in
-    same_lists (map f (enumerate_from 0 s.atoms)) (map g (enumerate_from 0 s.atoms)) len (λ k d l.
-    let within : k < length (enumerate_from 0 s.atoms) = omega (arith, length-map (enumerate_from 0 s.atoms) f) in
-    get_or-map f _ k (0, d) d within ∙ ap (λ n. filled_atom n (get_or (enumerate_from 0 s.atoms) k (0, d)).1)
-    (h (get_or (enumerate_from 0 s.atoms) k (0, d)).0) ∙ sym (get_or-map g _ k (0, d) d within))

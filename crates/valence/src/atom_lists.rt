@@ -70,7 +70,8 @@ fn is_plain(atom: &SketchAtom) -> bool
     atom.number == 1 && atom.isotope == 0 && atom.charge == 0
 }
 
-// Whether an atom goes that has so many neighbours, and a plain bond to one that is no hydrogen if `leads`.
+// Whether the atom becomes a count: a plain hydrogen with one neighbour, where `leads` says that a single bond joins it
+// to a heavy atom.
 fn is_taken(atom: &SketchAtom, degree: u8, leads: bool) -> bool
     ensures { result ≡ (is_plain_hydrogen atom.now && ((degree == 1) && leads)) }
 {

@@ -66,7 +66,7 @@ fn hydrogens(atom: SketchAtom, total: u8) -> u8
     }
 }
 
-// What the least of the valences that is not below the sum leaves, and 0 where there is none.
+// `valence - total` for the least valence that is at least `total`; 0 if all are less.
 fn lacking(valences: &[u8], total: u8) -> u8
     ensures { result ≡ missing valences.now total }
 {

@@ -5,8 +5,8 @@ use Rattle.smarts_parse.specs.Pattern.{term_of}
 use Rattle.matcher.proofs.Hunts.{none_taken}
 use Rattle.matcher.proofs.answer.finds_none.Goals as goal
 
-pub returns-clause-none : goal.returns-clause-none
-returns-clause-none c = λ t w.
+pub returns : goal.returns
+returns c = λ t w.
     let task = c.args.task.now in
     let items = task.graph.now.atoms.items in
     let all : c.loop-place.place ≡ length items = omega

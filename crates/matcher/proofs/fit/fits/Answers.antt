@@ -16,8 +16,8 @@ bonds_embed-requires-clause-apart c =
     (step_of_all c.args.task.now.graph.now.bonds.items g (λ bond. bond.a ≢ bond.b) _ _ refl
     (all_apart g c.requires.ready.searchable.apart))
 
-pub returns-then-not-is_new-clause-placed : goal.returns-then-not-is_new-clause-placed
-returns-then-not-is_new-clause-placed c = (
+pub returns-then-not-is_new : goal.returns-then-not-is_new
+returns-then-not-is_new c = (
   λ t. absurd (cc),
   λ p.
       let last = IsPartial-last (HoldsIn c.args.task.now.table.now)
@@ -26,18 +26,8 @@ returns-then-not-is_new-clause-placed c = (
       absurd (cc),
 )
 
-pub returns-then-not-holds-clause-placed : goal.returns-then-not-holds-clause-placed
-returns-then-not-holds-clause-placed c = (
-  λ t. absurd (cc),
-  λ p.
-      let last = IsPartial-last (HoldsIn c.args.task.now.table.now)
-      (graph_of c.args.task.now.graph.now) c.args.task.now.mol.now c.args.front.now c.args.atom p in
-      let is_true = c.holds.ensures.holds.1 last.1 in
-      absurd (cc),
-)
-
-pub returns-clause-placed : goal.returns-clause-placed
-returns-clause-placed c =
+pub returns : goal.returns
+returns c =
     let task = c.args.task.now in
     let g = graph_of task.graph.now in
     let m = task.mol.now in
@@ -47,7 +37,7 @@ returns-clause-placed c =
     let left = subst (λ n. length front < n) (sym (length-map task.graph.now.atoms.items term_of)) c.requires.few in
     let rest = rw c.deref.ensures.value at c.others-others.ensures in (
       λ t. IsPartial-push parts g m front c.args.atom c.requires.partial left c.requires.in_range
-          (c.is_new.ensures.0 c.if-not-is_new.false) (c.holds.ensures.holds.0 c.if-not-holds.false)
+          (c.is_new.ensures.0 c.if-not-is_new.false) c.requires.holds
           (all_of_step bonds g task.steps.now (length front) (BondEmbeds m (front ++ c.args.atom ∷ [])) refl
           c.requires.ready (rw rest at (c.bonds_embed.ensures.0 t)) c.requires.first),
       λ p.

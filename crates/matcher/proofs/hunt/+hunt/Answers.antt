@@ -1,8 +1,10 @@
 -- Each atom is tried in turn.
-use Rattle.std.proofs.Common.{◌≡◌, ◌∙◌, ap, arith, below_more, get_or, length, rules, set, subst, sym}
+use Rattle.std.proofs.Common.{◌≡◌, ◌∙◌, ◌<◌, ap, arith, below_more, get_or, length, refl, rules, set, slice_index, subst, sym}
 use Rattle.std.proofs.lemmas.Bool.{iff_false}
-use Rattle.std.proofs.lemmas.List.{set-get_or, set-set}
-use Rattle.matcher.specs.Hunt.{IsFree}
+use Rattle.std.proofs.lemmas.List.{length-map, set-get_or, set-set}
+use Rattle.smarts_parse.specs.Pattern.{term_of}
+use Rattle.matcher.specs.Hunt.{IsFree, stop_at}
+use Rattle.matcher.proofs.Standing.{cannot_stand}
 use Rattle.matcher.proofs.Hunts.{not_near, nowhere_near}
 use Rattle.matcher.proofs.Joins.{joins_in_range, neighbour_joined}
 use Rattle.matcher.proofs.hunt.+hunt.Goals as goal
@@ -15,30 +17,24 @@ continues_at-returns-clause-kept t c = λ _.
     ap (λ xs. set xs place (get_or old place 0)) same ∙ set-set old place c.args.atom (get_or old place 0)
     ∙ set-get_or old place 0
 
-pub continues_anywhere-loop-atom-preserved-then-not-is_of_class :
-    goal.continues_anywhere-loop-atom-preserved-then-not-is_of_class
-continues_anywhere-loop-atom-preserved-then-not-is_of_class t c = record {
-  knows = c.loop-atom.invariant.knows;
+pub continues_anywhere-loop-atom-preserved-then-not-has :
+    goal.continues_anywhere-loop-atom-preserved-then-not-has
+continues_anywhere-loop-atom-preserved-then-not-has t c = record {
   kept = c.loop-atom.invariant.kept;
   none = below_more _ _ c.loop-atom.invariant.none
-      (λ whole h e. c.is_of_class.ensures.stands c.if-not-is_of_class.true whole h.embeds
-      (ap (λ p. get_or whole p 0) c.from-place.ensures ∙ e));
+      (λ whole h e. cannot_stand c.args.task.now c.args.candidates.now.words.items whole c.from-place.result _
+      c.requires.candidates h.embeds (omega (arith, c.requires.free.place, c.from-place.ensures))
+      (iff_false c.has.ensures c.if-not-has.true) (ap (λ p. get_or whole p 0) c.from-place.ensures ∙ e));
 }
 
-pub continues_near-is_of_class-requires-clause-atom : goal.continues_near-is_of_class-requires-clause-atom
-continues_near-is_of_class-requires-clause-atom t c =
-    (joins_in_range c.args.task.now.mol.now _ _ _ c.neighbours-neighbours.ensures.valid
-    (neighbour_joined _ _ c.neighbours-neighbours.result.now c.loop-atom.atom-index
-    (0, 0) c.neighbours-neighbours.ensures.each c.loop-atom-test.true)).1
-
-pub continues_near-loop-atom-preserved-then-not-is_of_class :
-    goal.continues_near-loop-atom-preserved-then-not-is_of_class
-continues_near-loop-atom-preserved-then-not-is_of_class t c = record {
-  knows = c.loop-atom.invariant.knows;
+pub continues_near-loop-atom-preserved-then-not-has :
+    goal.continues_near-loop-atom-preserved-then-not-has
+continues_near-loop-atom-preserved-then-not-has t c = record {
   kept = c.loop-atom.invariant.kept;
   none = below_more _ _ c.loop-atom.invariant.none
-      (λ whole h e. c.is_of_class.ensures.stands c.if-not-is_of_class.true whole h.embeds
-      (ap (λ p. get_or whole p 0) c.from-place.ensures ∙ e));
+      (λ whole h e. cannot_stand c.args.task.now c.args.candidates.now.words.items whole c.from-place.result _
+      c.requires.candidates h.embeds (omega (arith, c.requires.free.place, c.from-place.ensures))
+      (iff_false c.has.ensures c.if-not-has.true) (ap (λ p. get_or whole p 0) c.from-place.ensures ∙ e));
 }
 
 pub continues_near-bond_true-requires : goal.continues_near-bond_true-requires
@@ -52,7 +48,6 @@ continues_near-loop-atom-preserved-then-not-bond_true t c =
     let f = c.from.ensures in
     let i = c.index-bond.ensures in
     record {
-      knows = c.loop-atom.invariant.knows;
       kept = c.loop-atom.invariant.kept;
       none = below_more _ _ c.loop-atom.invariant.none
           (λ whole h e. not_near c.args.task.now c.args.image.now whole _ c.args.from _ c.index-bond.result.now
@@ -80,7 +75,7 @@ continues_near-continues_at-requires t c =
                   (sym c.loop-atom.invariant.kept) c.requires.free,
               (
                 (joins_in_range m _ _ _ c.neighbours-neighbours.ensures.valid joined).1,
-                c.loop-atom.invariant.knows,
+                c.requires.candidates,
               ),
             ),
           ),
@@ -93,3 +88,25 @@ continues_near-returns-clause-none t c =
     λ _. nowhere_near c.args.task.now c.args.image.now _ c.args.from _ c.neighbours-neighbours.result.now
     c.requires.asks c.neighbours-neighbours.ensures.each
     (λ k l. c.loop-atom.invariant.none k (omega (arith, l, c.loop-atom-test.false)))
+
+pub continues_anywhere-has-requires : goal.continues_anywhere-has-requires
+continues_anywhere-has-requires t c =
+    let few = c.requires.ready.searchable.few in
+    let at = c.requires.free.place in
+    omega (arith, few, at, c.from-place.ensures, length-map c.args.task.now.graph.now.atoms.items term_of)
+
+pub continues_near-has-requires : goal.continues_near-has-requires
+continues_near-has-requires t c =
+    let few = c.requires.ready.searchable.few in
+    let at = c.requires.free.place in
+    omega (arith, few, at, c.from-place.ensures, length-map c.args.task.now.graph.now.atoms.items term_of)
+
+pub continues_anywhere-returns-clause-none : goal.continues_anywhere-returns-clause-none
+continues_anywhere-returns-clause-none t c = λ _ whole h.
+    let place = (stop_at c.args.stops.now c.args.placed).place in
+    let at = c.requires.free.place in
+    let size = h.embeds.one_each in
+    let few : place < length whole = omega (arith, at, size, length-map c.args.task.now.graph.now.atoms.items term_of) in
+    let there = h.embeds.in_range place 0 few in
+    c.loop-atom.invariant.none (slice_index whole place)
+    (omega (arith, there, ap length c.atoms.ensures.value, c.loop-atom-test.false)) whole h refl

@@ -5,8 +5,8 @@ use Rattle.smarts_parse.specs.Pattern.{graph_of, term_of}
 use Rattle.matcher.proofs.Partials.{IsPartial-whole}
 use Rattle.matcher.proofs.hunt.is_whole.Goals as goal
 
-pub returns-clause-whole : goal.returns-clause-whole
-returns-clause-whole c = λ _.
+pub returns : goal.returns
+returns c = λ _.
     let task = c.args.task.now in
     let items = task.graph.now.atoms.items in
     let n = c.loop-placed.placed in
@@ -22,5 +22,5 @@ returns-clause-whole c = λ _.
     ∙ sym (length-map items term_of) in (
       take n image,
       IsPartial-whole (HoldsIn task.table.now) (graph_of task.graph.now) task.mol.now
-          (take n image) c.requires.ready.searchable.ends full c.loop-placed.invariant.placed,
+          (take n image) c.requires.ready.searchable.ends full c.loop-placed.invariant,
     )

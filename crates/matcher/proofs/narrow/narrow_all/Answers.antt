@@ -1,7 +1,7 @@
 use Rattle.std.proofs.Common.{arith}
 use Rattle.std.proofs.lemmas.List.{length-map}
 use Rattle.smarts_parse.specs.Pattern.{term_of}
-use Rattle.matcher.proofs.Narrowings.{none_left}
+use Rattle.matcher.proofs.Narrowings.{narrowed, none_left}
 use Rattle.matcher.proofs.narrow.narrow_all.Goals as goal
 
 pub bounds-words-place : goal.bounds-words-place
@@ -9,7 +9,29 @@ bounds-words-place c =
     let few = c.requires.ready.searchable.few in
     omega (arith, few, c.requires.room, length-map c.args.task.now.graph.now.atoms.items term_of)
 
+pub loop-place-preserved : goal.loop-place-preserved
+loop-place-preserved c =
+    let few = c.requires.ready.searchable.few in
+    narrowed c.args.task.now c.args.near.now c.loop-place.words c.loop-place.place c.with_neighbours.result _
+    c.requires.few (omega (arith, few, c.requires.room, length-map c.args.task.now.graph.now.atoms.items term_of))
+    (c.gather.ensures c.loop-place.place (omega (arith, c.loop-place-test.true))) c.loop-place.invariant
+    c.with_neighbours.ensures.kept c.with_neighbours.ensures.within
+
 pub returns-then-words-place-eq0-clause-refused : goal.returns-then-words-place-eq0-clause-refused
-returns-then-words-place-eq0-clause-refused c = λ _. none_left c.args.task.now c.narrow.new.words c.loop-place.place
-    c.narrow.ensures (omega (arith, length-map c.args.task.now.graph.now.atoms.items term_of))
+returns-then-words-place-eq0-clause-refused c = λ _.
+    let few = c.requires.ready.searchable.few in
+    none_left c.args.task.now _ c.loop-place.place
+    (narrowed c.args.task.now c.args.near.now c.loop-place.words c.loop-place.place c.with_neighbours.result _
+    c.requires.few (omega (arith, few, c.requires.room, length-map c.args.task.now.graph.now.atoms.items term_of))
+    (c.gather.ensures c.loop-place.place (omega (arith, c.loop-place-test.true))) c.loop-place.invariant
+    c.with_neighbours.ensures.kept c.with_neighbours.ensures.within)
+    c.requires.few (omega (arith, length-map c.args.task.now.graph.now.atoms.items term_of))
     c.if-words-place-eq0.true
+
+pub returns-then-words-place-eq0-clause-candidates : goal.returns-then-words-place-eq0-clause-candidates
+returns-then-words-place-eq0-clause-candidates c =
+    let few = c.requires.ready.searchable.few in
+    narrowed c.args.task.now c.args.near.now c.loop-place.words c.loop-place.place c.with_neighbours.result _
+    c.requires.few (omega (arith, few, c.requires.room, length-map c.args.task.now.graph.now.atoms.items term_of))
+    (c.gather.ensures c.loop-place.place (omega (arith, c.loop-place-test.true))) c.loop-place.invariant
+    c.with_neighbours.ensures.kept c.with_neighbours.ensures.within

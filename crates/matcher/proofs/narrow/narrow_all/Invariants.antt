@@ -1,4 +1,4 @@
-use Rattle.matcher.specs.Narrow.{AreCandidates}
+use Rattle.matcher.specs.Candidates.{AreCandidates}
 use Rattle.matcher.proofs.narrow.narrow_all.Given as goal
 
 -- no candidate is lost

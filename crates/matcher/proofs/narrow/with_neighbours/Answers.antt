@@ -1,20 +1,22 @@
-use Rattle.std.proofs.Common.{◌*◌, ◌%◌, ◌^◌, arith, below_more, w64}
-use Rattle.std.proofs.lemmas.Bool.{iff_false}
-use Rattle.std.proofs.lemmas.Nat.Bits.{bit_at_set_same}
-use Rattle.matcher.proofs.Classes.{or_one}
+use Rattle.std.proofs.Common.{◌*◌, ◌%◌, ◌^◌, ◌≤◌, ◌∙◌, arith, bit_and, get_or, inl, inr, subst, w64}
+use Rattle.std.specs.Int.{bit_not, trailing_zeros}
+use Rattle.std.specs.Prelude.{count_ones}
+use Rattle.std.proofs.lemmas.Bool.{cases_eq, iff_false}
+use Rattle.std.proofs.lemmas.Nat.Bits.{bit_at-lt, bit_at_and, bit_at_clear_other}
 use Rattle.matcher.proofs.narrow.with_neighbours.Goals as goal
 
-pub loop-atom-preserved-then-not-has : goal.loop-atom-preserved-then-not-has
-loop-atom-preserved-then-not-has c = below_more _ _ c.loop-atom.invariant
-    (λ f e. absurd (iff_false c.has.ensures c.if-not-has.true f))
-
-pub loop-atom-preserved-then-not-has_ones : goal.loop-atom-preserved-then-not-has_ones
-loop-atom-preserved-then-not-has_ones c = below_more _ _ c.loop-atom.invariant
-    (λ f e. absurd (iff_false c.has_ones.ensures c.if-not-has_ones.true e))
-
-pub loop-atom-preserved : goal.loop-atom-preserved
-loop-atom-preserved c =
-    let kept = c.loop-atom.kept in
-    let atom = c.loop-atom.atom in
-    below_more _ _ (λ k l f e. or_one kept (1 * 2 ^ atom % 2 ^ 64) k (c.loop-atom.invariant k l f e))
-    (λ f e. bit_at_set_same w64 kept atom (omega arith))
+pub loop-preserved : goal.loop-preserved
+loop-preserved c =
+    let atom = trailing_zeros w64 c.loop.left in
+    let kept = c.loop.kept in
+    record {
+      kept = λ a l f e. elim (cases_eq a atom) [
+        | inl same ↦ absurd (iff_false c.has_ones.ensures c.if-has_ones.false
+            (subst (λ k. c.args.around.count ≤ count_ones (bit_and (get_or c.args.near.now k 0) c.args.around.atoms)) same e))
+        | inr other ↦ bit_at_clear_other w64 kept atom (omega arith) a l other ∙ c.loop.invariant.kept a l f e
+      ];
+      within = λ a t.
+          let both = bit_at_and kept (bit_not w64 (1 * 2 ^ atom % 2 ^ 64)) a in
+          let one = bit_at-lt kept a in
+          c.loop.invariant.within a (omega arith);
+    }

@@ -4,28 +4,19 @@ use Rattle.std.specs.Int.{bit_at}
 use Rattle.std.proofs.lemmas.Bool.{iff_false}
 use Rattle.std.proofs.lemmas.List.{length-map}
 use Rattle.std.proofs.lemmas.Option.{slice_get-get_or}
-use Rattle.smarts_mean.specs.Table.{HoldsIn}
 use Rattle.smarts_parse.specs.Pattern.{graph_of, pattern_of, term_of}
 use Rattle.matcher.specs.Class.{class_of}
 use Rattle.matcher.proofs.Asked.{asked_of}
 use Rattle.matcher.proofs.Classes.{no_element}
-use Rattle.matcher.proofs.Knowledge.{knows_noted, knows_nothing}
+use Rattle.matcher.proofs.Truths.{truths_noted}
 use Rattle.matcher.proofs.PartsHeld.{IsRow, noted_more, row_more, row_skip}
 use Rattle.matcher.proofs.Places.{get_map}
 use Rattle.matcher.proofs.parts.note_part.Goals as goal
 
-pub clear-requires-clause-places : goal.clear-requires-clause-places
-clear-requires-clause-places c =
-    let ready = c.part-steps.ensures (graph_of c.index-graph.result.now)
+pub find-requires : goal.find-requires
+find-requires c = c.part-steps.ensures (graph_of c.index-graph.result.now)
     (get_map graph_of c.args.pattern.now.recs.items c.args.part c.index-graph.result.now c.requires.part
-    c.index-graph.ensures) in
-    omega (
-      arith,
-      ready.searchable.few,
-      length-map c.index-graph.result.now.atoms.items term_of,
-      c.index-graph.result.now.atoms.ok.0,
-      c.len.ensures,
-    )
+    c.index-graph.ensures)
 
 pub begins_at-holds-requires-clause-ready : goal.begins_at-holds-requires-clause-ready
 begins_at-holds-requires-clause-ready c = c.part-steps.ensures (graph_of c.index-graph.result.now)
@@ -41,13 +32,7 @@ begins_at-holds-requires-clause-some c =
 
 pub loop-atom-init : goal.loop-atom-init
 loop-atom-init c = record {
-  knows = knows_nothing (HoldsIn c.args.memory.now.table) (graph_of c.index-graph.result.now) c.args.mol.now
-      c.clear.new.self _ _ (omega (
-        arith,
-        length-map c.index-graph.result.now.atoms.items term_of,
-        c.index-graph.result.now.atoms.ok.0,
-      ))
-      (ap length (sym c.atoms-atoms.ensures.value)) c.clear.ensures;
+  truths = c.find.ensures.truths;
   row = record { kept = c.requires.noted; done = λ a x l. absurd (omega (arith, l)) };
 }
 
@@ -64,9 +49,11 @@ loop-atom-preserved c =
     let within : c.loop-atom.atom < length m.atoms = omega
     (arith, c.loop-atom-test.true, ap length c.atoms-atoms.ensures.value) in
     record {
-      knows = knows_noted g m c.begins_at-holds.new.memory.choices.known c.begins_at-holds.new.memory.table
-          c.put.new.self c.args.part c.loop-atom.atom c.begins_at-holds.result c.put.ensures low few
-          (c.requires.sound.parts c.args.part g get).names c.begins_at-holds.ensures.knows;
+      truths = truths_noted g m c.begins_at-holds.new.memory.candidates.words.items c.loop-atom.memory.table
+          c.put.new.self c.args.part c.loop-atom.atom c.begins_at-holds.result
+          (rw c.begins_at-holds.ensures.table at c.put.ensures) low few
+          (c.requires.sound.parts c.args.part g get).names
+          (rw c.begins_at-holds.ensures.candidates c.loop-atom.invariant.truths);
       row = row_more p.recs m c.args.prepared.now.wanted.classes.items c.args.part c.loop-atom.atom g
           c.loop-atom.memory.table c.put.new.self c.begins_at-holds.result low within few get
           (c.requires.sound.parts c.args.part g get).names
@@ -83,7 +70,7 @@ loop-atom-preserved-then-not-may_be c =
     (arith, c.loop-atom-test.true, ap length c.atoms-atoms.ensures.value) in
     let asked = rw (c.atoms-atoms.ensures.value, c.from.ensures) at c.may_be.ensures in
     record {
-      knows = c.loop-atom.invariant.knows;
+      truths = c.loop-atom.invariant.truths;
       row = row_skip (pattern_of c.args.pattern.now).recs m c.args.prepared.now.wanted.classes.items c.args.part
           c.loop-atom.atom x c.loop-atom.memory.table (slice_get-get_or m.atoms c.loop-atom.atom no_element within)
           (λ yes'. iff_false asked c.if-not-may_be.true

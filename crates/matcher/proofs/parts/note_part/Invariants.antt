@@ -1,12 +1,12 @@
 use Rattle.smarts_mean.specs.Table.{HoldsIn}
 use Rattle.smarts_parse.specs.Pattern.{graph_of, pattern_of}
-use Rattle.matcher.specs.Known.{IsKnowledge}
+use Rattle.matcher.specs.Candidates.{AreTruthsIn}
 use Rattle.matcher.proofs.PartsHeld.{IsRow}
 use Rattle.matcher.proofs.parts.note_part.Given as goal
 
--- what is known of the graph is so, and the part is noted at the atoms so far
+-- the candidates are still so, and the part is noted at the atoms so far
 abbrev pub invariant-loop-atom : goal.invariant-loop-atom
 invariant-loop-atom l = record {
-  knows : IsKnowledge (HoldsIn l.memory.table) (graph_of l.graph) l.mol l.memory.choices.known;
+  truths : AreTruthsIn (HoldsIn l.memory.table) (graph_of l.graph) l.mol l.memory.candidates.words.items;
   row : IsRow (pattern_of l.pattern).recs l.mol l.prepared.wanted.classes.items l.part l.atom l.memory.table;
 }

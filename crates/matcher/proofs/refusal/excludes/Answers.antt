@@ -6,12 +6,12 @@ use Rattle.matcher.proofs.Pigeons.{marks}
 use Rattle.matcher.proofs.Refusals.{excluded}
 use Rattle.matcher.proofs.refusal.excludes.Goals as goal
 
-pub returns-clause-refused : goal.returns-clause-refused
-returns-clause-refused c =
+pub returns : goal.returns
+returns c =
     let few : length c.args.places.now ≤ length (graph_of c.args.task.now.graph.now).atoms = subst
     (λ n. length c.args.places.now ≤ n) (sym (length-map c.args.task.now.graph.now.atoms.items term_of))
     c.requires.places in
     let fewer : marks c.args.atoms.now < marks c.args.places.now = omega arith in
     λ _. excluded (HoldsIn c.args.task.now.table.now) (graph_of c.args.task.now.graph.now) c.args.task.now.mol.now
     c.args.front.now c.args.places.now c.args.atoms.now few fewer
-    (λ k l. c.loop-place.invariant.within k (omega (arith, l, c.loop-place-test.false)))
+    (λ k l. c.loop-place.invariant k (omega (arith, l, c.loop-place-test.false)))

@@ -14,13 +14,13 @@ may_lie-requires-clause-ends c =
     (high_below c.args.task.now.graph.now.bonds.items g c.args.place c.index-bond.result.now c.requires.place
     c.index-bond.ensures c.requires.ready.searchable.ends)
 
-pub returns-clause-none : goal.returns-clause-none
-returns-clause-none c =
+pub returns : goal.returns
+returns c =
     let task = c.args.task.now in
     let bonds = task.graph.now.bonds.items in
     let bond = c.index-bond.result.now in
     λ _. no_place (HoldsIn task.table.now) (graph_of task.graph.now) task.mol.now c.args.place (bond_of bond)
     (subst (λ n. c.args.place < n) (sym (length-map bonds bond_of)) c.requires.place)
     (λ d. get_or-map bond_of bonds c.args.place bond d c.requires.place ∙ ap bond_of (sym c.index-bond.ensures))
-    (λ b l. c.loop-other.invariant.none b (omega (arith, l, ap length c.bonds.ensures.value, c.loop-other-test.false)))
+    (λ b l. c.loop-other.invariant b (omega (arith, l, ap length c.bonds.ensures.value, c.loop-other-test.false)))
     c.bonds.ensures.valid

@@ -5,8 +5,10 @@ use Rattle.std.proofs.lemmas.List.{length-map, length-take-le}
 use Rattle.smarts_mean.specs.Table.{HoldsIn}
 use Rattle.smarts_parse.specs.Embedding.{BondEmbeds}
 use Rattle.smarts_parse.specs.Pattern.{BondTerm, bond_of, graph_of, term_of}
+use Rattle.matcher.specs.Candidates.{IsTrueAt}
 use Rattle.matcher.specs.Partial.{IsLeastFrom, IsPartial}
 use Rattle.matcher.specs.Plan.{step_at}
+use Rattle.matcher.proofs.Standing.{cannot_begin}
 use Rattle.matcher.proofs.Joins.{joins_in_range, neighbour_joined}
 use Rattle.matcher.proofs.Leasts.{found_next, least_whole}
 use Rattle.matcher.proofs.Places.{kept_less}
@@ -42,7 +44,6 @@ extend_anywhere-returns-then-extend_at-clause-found t c =
 
 pub extend_anywhere-loop-atom-preserved : goal.extend_anywhere-loop-atom-preserved
 extend_anywhere-loop-atom-preserved t c = record {
-  knows = c.refuse_since.ensures.knows;
   kept = c.extend_at.ensures.kept ∙ c.loop-atom.invariant.kept;
   none = below_more _ _ c.loop-atom.invariant.none
       (λ w. c.extend_at.ensures.none c.if-extend_at.false
@@ -50,18 +51,59 @@ extend_anywhere-loop-atom-preserved t c = record {
       c.args.task.now.mol.now _ _ c.loop-atom.atom c.loop-atom.invariant.kept w));
 }
 
-pub extend_anywhere-loop-atom-preserved-then-not-is_of_class :
-    goal.extend_anywhere-loop-atom-preserved-then-not-is_of_class
-extend_anywhere-loop-atom-preserved-then-not-is_of_class t c =
+pub extend_anywhere-loop-atom-preserved-then-not-has :
+    goal.extend_anywhere-loop-atom-preserved-then-not-has
+extend_anywhere-loop-atom-preserved-then-not-has t c =
     let room : c.args.placed ≤ length c.args.image.now = let r = c.requires.room in let f = c.requires.few
     in omega arith in
     record {
-      knows = c.loop-atom.invariant.knows;
       kept = c.loop-atom.invariant.kept;
       none = below_more _ _ c.loop-atom.invariant.none
-          (c.is_of_class.ensures.begins c.if-not-is_of_class.true (take c.args.placed c.args.image.now)
-          (length-take-le c.args.placed c.args.image.now room));
+          (cannot_begin c.args.task.now c.args.candidates.now.words.items (take c.args.placed c.args.image.now)
+          c.args.placed _ c.requires.candidates (length-take-le c.args.placed c.args.image.now room) c.requires.few
+          (iff_false c.has.ensures c.if-not-has.true));
     }
+
+pub extend_anywhere-has-requires : goal.extend_anywhere-has-requires
+extend_anywhere-has-requires t c =
+    let few = c.requires.ready.searchable.few in
+    omega (arith, few, c.requires.few, length-map c.args.task.now.graph.now.atoms.items term_of)
+
+pub extend_near-has-requires : goal.extend_near-has-requires
+extend_near-has-requires t c =
+    let few = c.requires.ready.searchable.few in
+    omega (arith, few, c.requires.few, length-map c.args.task.now.graph.now.atoms.items term_of)
+
+pub extend_anywhere-extend_at-requires : goal.extend_anywhere-extend_at-requires
+extend_anywhere-extend_at-requires t c =
+    let task = c.args.task.now in
+    let in_range : c.loop-atom.atom < length task.mol.now.atoms = omega
+    (arith, c.loop-atom-test.true, ap length c.atoms.ensures.value) in (
+      search rules,
+      (
+        c.requires.ready,
+        (
+          omega (arith, c.requires.room),
+          (
+            c.requires.few,
+            (
+              in_range,
+              (
+                subst (IsPartial (HoldsIn task.table.now) (graph_of task.graph.now) task.mol.now)
+                    (sym c.loop-atom.invariant.kept) c.requires.partial,
+                (
+                  λ d lt. absurd (c.requires.free lt),
+                  (
+                    c.requires.candidates.held _ _ c.requires.few in_range (c.has.ensures.0 c.if-not-has.false),
+                    c.requires.candidates,
+                  ),
+                ),
+              ),
+            ),
+          ),
+        ),
+      ),
+    )
 
 pub extend_anywhere-returns-clause-none : goal.extend_anywhere-returns-clause-none
 extend_anywhere-returns-clause-none t c =
@@ -83,9 +125,16 @@ extend_at-fits-requires-clause-first t c =
     (slice_index_or (map bond_of c.args.task.now.graph.now.bonds.items) (step_at steps k).from d))
     (sym size) c.requires.first
 
+pub extend_at-fits-requires-clause-holds : goal.extend_at-fits-requires-clause-holds
+extend_at-fits-requires-clause-holds t c =
+    let room : c.args.placed ≤ length c.args.image.now = let r = c.requires.room in let f = c.requires.few
+    in omega arith in
+    subst (λ k. IsTrueAt c.args.task.now k c.args.atom) (sym (length-take-le c.args.placed c.args.image.now room))
+    c.requires.holds
+
 pub extend_at-returns-then-not-fits-clause-none : goal.extend_at-returns-then-not-fits-clause-none
 extend_at-returns-then-not-fits-clause-none t c = λ _ w.
-    let here = c.fits.ensures.placed.1 (IsPartial-from_completion (HoldsIn c.args.task.now.table.now)
+    let here = c.fits.ensures.1 (IsPartial-from_completion (HoldsIn c.args.task.now.table.now)
     (graph_of c.args.task.now.graph.now) c.args.task.now.mol.now
     (take c.args.placed c.args.image.now ++ c.args.atom ∷ []) w) in
     absurd (cc)
@@ -149,7 +198,12 @@ extend_near-extend_at-requires t c =
                   λ d _. subst (λ xs. BondEmbeds m (xs ++ pair.0 ∷ [])
                       (slice_index_or g.bonds (step_at task.steps.now c.args.placed).from d)) (sym front)
                       (near.embeds pair.0 d (pair.1, joined, c.bond_true.ensures.0 c.if-not-bond_true.false)),
-                  c.loop-atom.invariant.knows,
+                  (
+                    c.requires.candidates.held _ _ c.requires.few
+                        (joins_in_range m _ _ _ c.neighbours-neighbours.ensures.valid joined).1
+                        (c.has.ensures.0 c.if-not-has.false),
+                    c.requires.candidates,
+                  ),
                 ),
               ),
             ),
@@ -193,7 +247,6 @@ extend_near-loop-atom-preserved-then-not-bond_true t c =
     room (subst (λ n. c.args.placed < n) (sym (length-map task.graph.now.atoms.items term_of)) c.requires.few)
     c.requires.partial c.requires.bonded c.index-bond.ensures (c.from.ensures ∙ c.min.ensures)).1 in
     record {
-      knows = c.loop-atom.invariant.knows;
       kept = c.loop-atom.invariant.kept;
       none = below_more _ _ c.loop-atom.invariant.none
           (near_false parts g m (take c.args.placed c.args.image.now) _ _ _ pairs c.loop-atom.atom-index near
@@ -201,28 +254,20 @@ extend_near-loop-atom-preserved-then-not-bond_true t c =
           (iff_false c.bond_true.ensures c.if-not-bond_true.true));
     }
 
-pub extend_near-is_of_class-requires-clause-atom : goal.extend_near-is_of_class-requires-clause-atom
-extend_near-is_of_class-requires-clause-atom t c =
-    let m = c.args.task.now.mol.now in
-    (joins_in_range m _ _ _ c.neighbours-neighbours.ensures.valid
-    (neighbour_joined _ _ c.neighbours-neighbours.result.now c.loop-atom.atom-index
-    (0, 0) c.neighbours-neighbours.ensures.each c.loop-atom-test.true)).1
-
-pub extend_near-loop-atom-preserved-then-not-is_of_class : goal.extend_near-loop-atom-preserved-then-not-is_of_class
-extend_near-loop-atom-preserved-then-not-is_of_class t c =
+pub extend_near-loop-atom-preserved-then-not-has : goal.extend_near-loop-atom-preserved-then-not-has
+extend_near-loop-atom-preserved-then-not-has t c =
     let room : c.args.placed ≤ length c.args.image.now = let r = c.requires.room in let f = c.requires.few
     in omega arith in
     record {
-      knows = c.loop-atom.invariant.knows;
       kept = c.loop-atom.invariant.kept;
       none = below_more _ _ c.loop-atom.invariant.none
-          (c.is_of_class.ensures.begins c.if-not-is_of_class.true (take c.args.placed c.args.image.now)
-          (length-take-le c.args.placed c.args.image.now room));
+          (cannot_begin c.args.task.now c.args.candidates.now.words.items (take c.args.placed c.args.image.now)
+          c.args.placed _ c.requires.candidates (length-take-le c.args.placed c.args.image.now room) c.requires.few
+          (iff_false c.has.ensures c.if-not-has.true));
     }
 
 pub extend_near-loop-atom-preserved : goal.extend_near-loop-atom-preserved
 extend_near-loop-atom-preserved t c = record {
-  knows = c.extend_at.ensures.knows;
   kept = c.extend_at.ensures.kept ∙ c.loop-atom.invariant.kept;
   none = below_more _ _ c.loop-atom.invariant.none
       (λ w. c.extend_at.ensures.none c.if-extend_at.false

@@ -1,7 +1,6 @@
 use Rattle.std.proofs.Common.{◌≡◌, ◌<◌, ◌*◌, ◌+◌, ◌-◌, ◌++◌, ◌∷◌, [], ℕ, get_or, length, take}
 use Rattle.smarts_mean.specs.Table.{HoldsIn}
 use Rattle.smarts_parse.specs.Pattern.{graph_of}
-use Rattle.matcher.specs.Known.{Knows}
 use Rattle.matcher.specs.Partial.{CanComplete}
 use Rattle.matcher.proofs.search.+search.Given as goal
 
@@ -21,7 +20,6 @@ decreases-extend_at l = 3 * (length l.task.now.graph.now.atoms.items - l.placed)
 -- at no atom so far can the next one stand
 abbrev pub invariant-extend_anywhere-loop-atom : goal.invariant-extend_anywhere-loop-atom
 invariant-extend_anywhere-loop-atom l = record {
-  knows : Knows l.task l.choices.known;
   kept : take l.placed l.image ≡ take l.placed l.initial.image;
   none : (a : ℕ) → a < l.atom → CanComplete (HoldsIn l.task.table.now) (graph_of l.task.graph.now) l.task.mol.now
       (take l.placed l.initial.image ++ a ∷ []) → ⊥;
@@ -30,7 +28,6 @@ invariant-extend_anywhere-loop-atom l = record {
 -- at no neighbour so far can it stand
 abbrev pub invariant-extend_near-loop-atom : goal.invariant-extend_near-loop-atom
 invariant-extend_near-loop-atom l = record {
-  knows : Knows l.task l.choices.known;
   kept : take l.placed l.image ≡ take l.placed l.initial.image;
   none : (k : ℕ) → k < l.atom-index → CanComplete (HoldsIn l.task.table.now) (graph_of l.task.graph.now) l.task.mol.now
       (take l.placed l.initial.image ++ (get_or l.neighbours k (0, 0)).0 ∷ []) → ⊥;

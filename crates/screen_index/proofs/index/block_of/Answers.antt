@@ -1,4 +1,4 @@
-use Rattle.std.proofs.Common.{◌≡◌, ◌+◌, ◌<◌, ◌∙◌, add-one, All, ap, arith, drop, get_or, length, rules, subst, sym}
+use Rattle.std.proofs.Common.{◌<◌, ◌∙◌, add-one, All, ap, arith, drop, get_or, length, rules, subst, sym}
 use Rattle.std.proofs.lemmas.List.Sorted.{IsPartitionPoint-from_clause}
 use Rattle.screen_index.specs.Pairs.{AreBlocks, ends_before, joined, rank, rank_of}
 use Rattle.screen_index.proofs.Blocks.{before-place, behind-place, blocks-parted}

@@ -1,4 +1,4 @@
-use Rattle.std.proofs.Common.{◌≡◌, ◌+◌, ◌++◌, ◌<◌, ◌∙◌, add-one, All, ap, ap₂, arith, get_or, length, length-append, List, set, subst, suc, sym}
+use Rattle.std.proofs.Common.{◌≡◌, ◌++◌, ◌<◌, ◌∙◌, add-one, All, ap, ap₂, arith, get_or, length, length-append, List, set, subst, suc, sym}
 use Rattle.std.proofs.lemmas.List.{get_or_default}
 use Rattle.std.specs.List.{remove}
 use Rattle.screen_index.specs.declared.entry.Screened.{Screened}

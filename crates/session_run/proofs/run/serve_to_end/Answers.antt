@@ -1,27 +1,27 @@
 use Rattle.std.proofs.Common.{◌++◌, [], subst}
 use Rattle.session_run.specs.Cursors.{unpins}
+use Rattle.session_run.specs.Made.{Uses}
 use Rattle.session_run.specs.Opened.{opened}
+use Rattle.session_run.specs.Pins.{HeldAfter}
 use Rattle.session_run.specs.Serving.{Serves}
 use Rattle.session_run.specs.Walks.{cursors_of}
 use Rattle.session_run.specs.declared.settings.EndStatus.{EndStatus}
 use Rattle.session_run.proofs.Closing.{served-closed, served-closing, served-worn}
-use Rattle.session_run.proofs.Held.{not_raised-more, same_others-more}
-use Rattle.session_run.proofs.Joined.{makes_more}
-use Rattle.session_run.proofs.Keeping.{held-all}
+use Rattle.session_run.proofs.Held.{same_others, same_others-more}
+use Rattle.session_run.proofs.Joined.{uses-more}
+use Rattle.session_run.proofs.Opening.{returned_part, unpins_others}
+use Rattle.session_run.proofs.Turning.{held-all}
 use Rattle.session_run.proofs.run.serve_to_end.Goals as goal
 
-pub close_all-requires-clause-sized : goal.close_all-requires-clause-sized
-close_all-requires-clause-sized g c = c.serve-end.ensures.fit.sized
-
-pub close_all-requires-clause-held : goal.close_all-requires-clause-held
-close_all-requires-clause-held g c =
+pub close_all-requires : goal.close_all-requires
+close_all-requires g c =
     let p = c.serve-end.ensures.pins c.in_default.not-Worn in
     p.are_held
 
 pub returns-in-Worn-clause-serves : goal.returns-in-Worn-clause-serves
 returns-in-Worn-clause-serves g c =
     let u = c.serve-end.ensures.serves in
-    let size = c.args.responder.now.cursors.size in
+    let size = c.args.responder.now.cursors.settings.page in
     let input = g.I.Source.left c.args.source.now in
     let after = g.I.Source.left c.serve-end.new.source in
     let put = g.O.Sink.written c.args.sink.now in
@@ -41,12 +41,8 @@ returns-in-Ok-clause-serves g c =
     let u = c.serve-end.ensures.serves in
     let cursors = cursors_of (opened c.serve-end.new.responder.cursors) in (
       u.0 ++ unpins cursors,
-      makes_more g.S.Service.at g.S.Service.owns g.S.Service.stretch g.met.S.Service.joins g.met.S.Service.lands
-          g.met.S.Service.same c.args.service.now c.serve-end.new.service c.close_all.new.service u.0 (unpins cursors)
-          u.1 c.in-Ok.ensures.ok,
-      served-closed c.serve-end.result c.args.responder.now.cursors.size (g.I.Source.left c.args.source.now)
-          (g.I.Source.left c.serve-end.new.source) (g.O.Sink.written c.args.sink.now) (g.O.Sink.written c.serve-end.new.sink) u.0 cursors c.in_default.not-Worn
-          u.2,
+      uses-more g.met.S.Service.joins g.met.S.Service.lands g.met.S.Service.same u.1 c.in-Ok.ensures,
+      served-closed c.serve-end.result _ _ _ _ _ u.0 cursors c.in_default.not-Worn u.2,
     )
 
 pub returns-in-Ok-clause-pins : goal.returns-in-Ok-clause-pins
@@ -54,35 +50,29 @@ returns-in-Ok-clause-pins g c = λ n.
     let first = g.S.Service.holds c.args.service.now in
     let middle = g.S.Service.holds c.serve-end.new.service in
     let last = g.S.Service.holds c.close_all.new.service in
+    let cursors = cursors_of (opened c.serve-end.new.responder.cursors) in
+    let then = HeldAfter middle (unpins cursors) in
     let p = c.serve-end.ensures.pins c.in_default.not-Worn in
-    held-all first last (same_others-more first middle last []
-    (cursors_of (opened c.serve-end.new.responder.cursors)) [] p.others c.in-Ok.ensures.others)
+    held-all first last (same_others-more first middle last [] cursors [] p.others
+    (same_others-more middle then last cursors [] [] (unpins_others middle cursors)
+    (same_others then last [] c.in-Ok.ensures.pins.now)))
 
 pub returns-in-Ok-clause-worn : goal.returns-in-Ok-clause-worn
 returns-in-Ok-clause-worn g c = λ e. absurd (c.in_default.not-Worn e)
 
-pub returns-in-Ok-clause-bounds : goal.returns-in-Ok-clause-bounds
-returns-in-Ok-clause-bounds g c =
-    not_raised-more (g.S.Service.bounds c.args.service.now) (g.S.Service.bounds c.serve-end.new.service)
-    (g.S.Service.bounds c.close_all.new.service) c.serve-end.ensures.bounds c.close_all.ensures.bounds
-
 pub returns-in-Err-clause-serves : goal.returns-in-Err-clause-serves
 returns-in-Err-clause-serves g c =
     let u = c.serve-end.ensures.serves in
-    let p = c.in-Err.ensures.err in
+    let p = returned_part (Uses g.S.Service c.serve-end.new.service c.close_all.new.service)
+    (g.S.Service.worn c.close_all.new.service) (cursors_of (opened c.serve-end.new.responder.cursors)) _ c.in-Err.ensures in
     let cursors = cursors_of (opened c.serve-end.new.responder.cursors) in (
       u.0 ++ p.0,
-      makes_more g.S.Service.at g.S.Service.owns g.S.Service.stretch g.met.S.Service.joins g.met.S.Service.lands
-          g.met.S.Service.same c.args.service.now c.serve-end.new.service c.close_all.new.service u.0 p.0 u.1 p.1,
-      served-closing c.serve-end.result c.args.responder.now.cursors.size (g.I.Source.left c.args.source.now)
-          (g.I.Source.left c.serve-end.new.source) (g.O.Sink.written c.args.sink.now) (g.O.Sink.written c.serve-end.new.sink) u.0 p.0 cursors
-          c.in_default.not-Worn p.2 u.2,
+      uses-more g.met.S.Service.joins g.met.S.Service.lands g.met.S.Service.same u.1 p.1,
+      served-closing c.serve-end.result _ _ _ _ _ u.0 p.0 cursors c.in_default.not-Worn p.2 u.2,
     )
 
 pub returns-in-Err-clause-worn : goal.returns-in-Err-clause-worn
-returns-in-Err-clause-worn g c = λ e. c.in-Err.ensures.worn
-
-pub returns-in-Err-clause-bounds : goal.returns-in-Err-clause-bounds
-returns-in-Err-clause-bounds g c =
-    not_raised-more (g.S.Service.bounds c.args.service.now) (g.S.Service.bounds c.serve-end.new.service)
-    (g.S.Service.bounds c.close_all.new.service) c.serve-end.ensures.bounds c.close_all.ensures.bounds
+returns-in-Err-clause-worn g c = λ e.
+    let p = returned_part (Uses g.S.Service c.serve-end.new.service c.close_all.new.service)
+    (g.S.Service.worn c.close_all.new.service) (cursors_of (opened c.serve-end.new.responder.cursors)) _ c.in-Err.ensures in
+    p.3

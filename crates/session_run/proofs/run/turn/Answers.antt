@@ -1,39 +1,28 @@
 use Rattle.std.proofs.Common.{ap, Err, Ok, refl}
 use Rattle.std.proofs.KnownBytes.{Appends-nil}
-use Rattle.session_run.specs.Cursors.{Makes}
+use Rattle.session_run.specs.Made.{Uses}
 use Rattle.session_run.specs.Opened.{opened}
 use Rattle.session_run.specs.Requests.{IsPartOfRequest}
 use Rattle.session_run.specs.Turn.{TakesNone, TakesPart, TakesRequest}
 use Rattle.session_run.specs.Walks.{cursors_of}
-use Rattle.session_run.proofs.Joined.{makes_none}
-use Rattle.session_run.proofs.Keeping.{done_lives, keeps_on, limit_lives, source_lives}
+use Rattle.session_run.proofs.Joined.{uses-none}
 use Rattle.session_run.proofs.Turning.{no_input_fault, takes_request, turn_replied}
 use Rattle.session_run.proofs.run.turn.Goals as goal
 
 pub returns-in-End-clause-turns : goal.returns-in-End-clause-turns
 returns-in-End-clause-turns g c = (
   rw c.in-End.is at c.in-Ok.ensures.takes,
-  makes_none g.S.Service.at g.S.Service.owns g.S.Service.stretch g.met.S.Service.stays c.args.service.now,
+  uses-none g.met.S.Service.stays c.args.service.now,
   refl,
   Appends-nil (g.O.Sink.written c.args.sink.now),
 )
-
-pub returns-in-End-clause-keeps : goal.returns-in-End-clause-keeps
-returns-in-End-clause-keeps g c =
-    keeps_on g.S.Service.holds g.S.Service.worn g.S.Service.bounds c.args.service.now c.args.responder.now _ c.requires
-    refl refl _ done_lives
 
 pub returns-in-Err-Source-clause-turns : goal.returns-in-Err-Source-clause-turns
 returns-in-Err-Source-clause-turns g c = (
-  makes_none g.S.Service.at g.S.Service.owns g.S.Service.stretch g.met.S.Service.stays c.args.service.now,
+  uses-none g.met.S.Service.stays c.args.service.now,
   refl,
   Appends-nil (g.O.Sink.written c.args.sink.now),
 )
-
-pub returns-in-Err-Source-clause-keeps : goal.returns-in-Err-Source-clause-keeps
-returns-in-Err-Source-clause-keeps g c =
-    keeps_on g.S.Service.holds g.S.Service.worn g.S.Service.bounds c.args.service.now c.args.responder.now _ c.requires
-    refl refl _ source_lives
 
 pub returns-in-Err-Source-clause-source_fault : goal.returns-in-Err-Source-clause-source_fault
 returns-in-Err-Source-clause-source_fault g c = λ e.
@@ -41,15 +30,10 @@ returns-in-Err-Source-clause-source_fault g c = λ e.
 
 pub returns-in-Err-TooLong-clause-turns : goal.returns-in-Err-TooLong-clause-turns
 returns-in-Err-TooLong-clause-turns g c = (
-  makes_none g.S.Service.at g.S.Service.owns g.S.Service.stretch g.met.S.Service.stays c.args.service.now,
+  uses-none g.met.S.Service.stays c.args.service.now,
   refl,
   Appends-nil (g.O.Sink.written c.args.sink.now),
 )
-
-pub returns-in-Err-TooLong-clause-keeps : goal.returns-in-Err-TooLong-clause-keeps
-returns-in-Err-TooLong-clause-keeps g c =
-    keeps_on g.S.Service.holds g.S.Service.worn g.S.Service.bounds c.args.service.now c.args.responder.now _ c.requires
-    refl refl _ limit_lives
 
 pub returns-in-Err-TooLong-clause-too_long : goal.returns-in-Err-TooLong-clause-too_long
 returns-in-Err-TooLong-clause-too_long g c = λ e.
@@ -67,37 +51,31 @@ answer_and_put-requires-clause-request g c _ _ =
 
 pub returns-in_default-clause-turns : goal.returns-in_default-clause-turns
 returns-in_default-clause-turns g c =
-    let s = c.args.service.now in
-    let now = c.args.responder.now in
     let before = g.I.Source.left c.args.source.now in
     let after = g.I.Source.left c.next_request.new.source in
     let t = takes_request c.in-Ok.next c.args.lines.now c.next_request.new.lines before after
     c.next_request.new.text.items c.in_default.not-End c.in-Ok.ensures.takes in
-    turn_replied now.cursors.size
-    (Makes g.S.Service.at g.S.Service.owns g.S.Service.stretch s c.answer_and_put.new.service) t.0
-    (cursors_of (opened now.cursors)) (cursors_of (opened c.answer_and_put.new.responder.cursors))
+    turn_replied c.args.responder.now.cursors.settings.page
+    (Uses g.S.Service c.args.service.now c.answer_and_put.new.service)
+    (g.S.Service.worn c.answer_and_put.new.service) t.0
+    (cursors_of (opened c.args.responder.now.cursors)) (cursors_of (opened c.answer_and_put.new.responder.cursors))
     (g.O.Sink.written c.args.sink.now) (g.O.Sink.written c.answer_and_put.new.sink)
     (TakesRequest c.args.lines.now c.next_request.new.lines before after) (TakesNone c.args.lines.now before)
     c.answer_and_put.result t.1 (c.answer_and_put.ensures.replies t.0 (rw c.text.ensures t.2))
 
 pub returns-in_default-clause-part : goal.returns-in_default-clause-part
 returns-in_default-clause-part g c =
-    let now = c.args.responder.now in
-    let t = takes_request c.in-Ok.next c.args.lines.now c.next_request.new.lines (g.I.Source.left c.args.source.now)
-    (g.I.Source.left c.next_request.new.source) c.next_request.new.text.items c.in_default.not-End
-    c.in-Ok.ensures.takes in
-    no_input_fault now.cursors.size
-    (Makes g.S.Service.at g.S.Service.owns g.S.Service.stretch c.args.service.now c.answer_and_put.new.service) t.0
-    (cursors_of (opened now.cursors)) (cursors_of (opened c.answer_and_put.new.responder.cursors))
+    let before = g.I.Source.left c.args.source.now in
+    let after = g.I.Source.left c.next_request.new.source in
+    let t = takes_request c.in-Ok.next c.args.lines.now c.next_request.new.lines before after
+    c.next_request.new.text.items c.in_default.not-End c.in-Ok.ensures.takes in
+    no_input_fault c.args.responder.now.cursors.settings.page
+    (Uses g.S.Service c.args.service.now c.answer_and_put.new.service)
+    (g.S.Service.worn c.answer_and_put.new.service) t.0
+    (cursors_of (opened c.args.responder.now.cursors)) (cursors_of (opened c.answer_and_put.new.responder.cursors))
     (g.O.Sink.written c.args.sink.now) (g.O.Sink.written c.answer_and_put.new.sink)
-    (TakesPart c.args.lines.now c.next_request.new.lines (g.I.Source.left c.args.source.now)
-    (g.I.Source.left c.next_request.new.source) IsPartOfRequest) c.answer_and_put.result
+    (TakesPart c.args.lines.now c.next_request.new.lines before after IsPartOfRequest) c.answer_and_put.result
     (c.answer_and_put.ensures.replies t.0 (rw c.text.ensures t.2))
-
-pub returns-in_default-clause-keeps : goal.returns-in_default-clause-keeps
-returns-in_default-clause-keeps g c =
-    let k = c.answer_and_put.ensures.keeps in
-    record { fit = k.fit; size = k.size; worn = k.worn; pins = k.pins; bounds = k.bounds }
 
 pub returns-in_default-clause-progress : goal.returns-in_default-clause-progress
 returns-in_default-clause-progress g c = λ e. c.in-Ok.ensures.progress c.in_default.not-End

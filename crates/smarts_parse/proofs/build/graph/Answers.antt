@@ -16,14 +16,14 @@ use Rattle.smarts_parse.proofs.build.graph.Goals as goal
 pub part_count-requires : goal.part_count-requires
 part_count-requires c =
     let r = c.requires in
-    let h = few_texts r.0 r.1 r.2 c.args.written.now c.args.open.now.items r.3 in
+    let h = few_texts r.0 r.1 r.2 c.args.written.now c.args.unplaced.now.items r.3 in
     let e = ap (λ v. length (part_texts v)) c.deref.ensures.value in
     omega arith
 
 pub overflow_sub-first : goal.overflow_sub-first
 overflow_sub-first c =
     let r = c.requires in
-    let h = enough_open r.0 r.1 r.2 c.args.written.now c.args.open.now.items r.3 in
+    let h = enough_open r.0 r.1 r.2 c.args.written.now c.args.unplaced.now.items r.3 in
     let e = ap (λ v. length (part_texts v)) c.deref.ensures.value in
     omega (arith, c.len.ensures, c.part_count.ensures)
 
@@ -36,24 +36,24 @@ pub atoms-requires-clause-are : goal.atoms-requires-clause-are
 atoms-requires-clause-are c =
     let r = c.requires in
     let F : List AtomValue → Type 0 = λ v. AllByRecursion IsValue v in
-    subst F (sym c.deref-2.ensures.value) (values_are r.0 r.1 r.2 c.args.written.now c.args.open.now.items r.3)
+    subst F (sym c.deref-2.ensures.value) (values_are r.0 r.1 r.2 c.args.written.now c.args.unplaced.now.items r.3)
 
 pub atoms-requires-clause-plain : goal.atoms-requires-clause-plain
 atoms-requires-clause-plain c =
     let r = c.requires in
     let F : List AtomValue → Type 0 = λ v. list_any (λ a. list_any is_stereo a.steps) v ≡ false in
-    subst F (sym c.deref-2.ensures.value) (plain_is r.0 r.1 r.2 c.args.written.now c.args.open.now.items r.3)
+    subst F (sym c.deref-2.ensures.value) (plain_is r.0 r.1 r.2 c.args.written.now c.args.unplaced.now.items r.3)
 
 pub atoms-requires-clause-enough : goal.atoms-requires-clause-enough
 atoms-requires-clause-enough c =
     let r = c.requires in
     let texts = c.part_count.ensures ∙ ap (λ v. length (part_texts v)) c.deref.ensures.value in
-    let own = own_texts r.0 r.1 r.2 c.args.written.now c.args.open.now.items r.3 in
+    let own = own_texts r.0 r.1 r.2 c.args.written.now c.args.unplaced.now.items r.3 in
     let first = c.len.result - c.part_count.result in
-    let n : first ≡ length c.args.open.now.items - length (part_texts c.args.written.now.atoms.items) =
+    let n : first ≡ length c.args.unplaced.now.items - length (part_texts c.args.written.now.atoms.items) =
     omega (arith, c.len.ensures) in
     let numbers = c.after.ensures ∙ ap (λ v. drop first v) c.deref-3.ensures.value
-    ∙ numbers_are r.0 r.1 r.2 c.args.written.now c.args.open.now.items r.3 first n in
+    ∙ numbers_are r.0 r.1 r.2 c.args.written.now c.args.unplaced.now.items r.3 first n in
     let e = ap length numbers in
     let f = ap (λ v. length (part_texts v)) c.deref-2.ensures.value in
     omega arith
@@ -62,18 +62,18 @@ pub bonds-requires-clause-kinds : goal.bonds-requires-clause-kinds
 bonds-requires-clause-kinds c =
     let r = c.requires in
     let F : List (Link (List (Step BondWord))) → Type 0 = λ v. All (λ x. IsKind x.kind) v in
-    subst F (sym c.deref-4.ensures.value) (kinds_are r.0 r.1 r.2 c.args.written.now c.args.open.now.items r.3)
+    subst F (sym c.deref-4.ensures.value) (kinds_are r.0 r.1 r.2 c.args.written.now c.args.unplaced.now.items r.3)
 
 pub bonds-requires-clause-ends : goal.bonds-requires-clause-ends
 bonds-requires-clause-ends c =
     let r = c.requires in
     let F : List (Link (List (Step BondWord))) → Type 0 = λ v. All (λ x. (x.a < 65536) × (x.b < 65536)) v in
-    subst F (sym c.deref-4.ensures.value) (ends_are r.0 r.1 r.2 c.args.written.now c.args.open.now.items r.3)
+    subst F (sym c.deref-4.ensures.value) (ends_are r.0 r.1 r.2 c.args.written.now c.args.unplaced.now.items r.3)
 
 pub returns : goal.returns
 returns c = λ nodes front numbers r.
     let written = c.args.written.now in
-    let numbers_open = c.args.open.now.items in
+    let numbers_open = c.args.unplaced.now.items in
     let texts = c.part_count.ensures ∙ ap (λ v. length (part_texts v)) c.deref.ensures.value in
     let first = c.len.result - c.part_count.result in
     let n : first ≡ length numbers_open - length (part_texts written.atoms.items) = omega (arith, c.len.ensures) in

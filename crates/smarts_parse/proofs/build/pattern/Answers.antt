@@ -14,7 +14,7 @@ loop-part-init c = λ whole b.
     let F : List ℕ → Type 0 = λ v. IsBuilt whole.parts c.args.closed.now.parts.items v
     (map graph_of c.new-recs.result.items) in
     let G : List Graph → Type 0 = λ v. IsBuilt whole.parts c.args.closed.now.parts.items [] (map graph_of v) in
-    subst F (sym c.new-open.ensures.items) (subst G (sym c.new-recs.ensures.items)
+    subst F (sym c.new-unplaced.ensures.items) (subst G (sym c.new-recs.ensures.items)
     (none_built whole c.args.closed.now b))
 
 pub put_graph-requires : goal.put_graph-requires
@@ -26,7 +26,7 @@ put_graph-requires c =
     let value = c.deref-part-items.ensures.value in
     let k = ap length value in
     let F : List WalkGraph → Type 0 = λ v.
-    IsBuilt whole.parts v c.loop-part.open.items (map graph_of c.loop-part.recs.items) in (
+    IsBuilt whole.parts v c.loop-part.unplaced.items (map graph_of c.loop-part.recs.items) in (
       whole.parts,
       drop (i + 1) items,
       subst F (drop_at items i x (omega arith) (c.part-item.is ∙ ap (λ v. get_or v i x) value))
@@ -41,7 +41,7 @@ loop-part-preserved c = λ whole b.
     let value = c.deref-part-items.ensures.value in
     let k = ap length value in
     let F : List WalkGraph → Type 0 = λ v.
-    IsBuilt whole.parts v c.loop-part.open.items (map graph_of c.loop-part.recs.items) in
+    IsBuilt whole.parts v c.loop-part.unplaced.items (map graph_of c.loop-part.recs.items) in
     c.in_ok-put_graph.ensures whole.parts (drop (i + 1) items)
     (subst F (drop_at items i x (omega arith) (c.part-item.is ∙ ap (λ v. get_or v i x) value))
     (c.loop-part.invariant whole b))
@@ -51,23 +51,23 @@ graph-requires c =
     let whole = c.requires.0 in
     let items = c.args.closed.now.parts.items in
     let F : List WalkGraph → Type 0 = λ v.
-    IsBuilt whole.parts v c.loop-part.open.items (map graph_of c.loop-part.recs.items) in
+    IsBuilt whole.parts v c.loop-part.unplaced.items (map graph_of c.loop-part.recs.items) in
     let k = ap length c.deref-part-items.ensures.value in
     let done = subst F (drop_all c.loop-part.part-index items (omega arith))
     (c.loop-part.invariant whole c.requires.1) in (
       nodes_of whole,
       [],
       numbers_from 0 whole.parts,
-      top_ready whole c.args.closed.now c.loop-part.open.items (map graph_of c.loop-part.recs.items) c.requires.1 done,
+      top_ready whole c.args.closed.now c.loop-part.unplaced.items (map graph_of c.loop-part.recs.items) c.requires.1 done,
     )
 
 pub returns : goal.returns
 returns c = λ whole b.
     let items = c.args.closed.now.parts.items in
     let recs = map graph_of c.loop-part.recs.items in
-    let F : List WalkGraph → Type 0 = λ v. IsBuilt whole.parts v c.loop-part.open.items recs in
+    let F : List WalkGraph → Type 0 = λ v. IsBuilt whole.parts v c.loop-part.unplaced.items recs in
     let k = ap length c.deref-part-items.ensures.value in
     let done = subst F (drop_all c.loop-part.part-index items (omega arith)) (c.loop-part.invariant whole b) in
-    let ready = top_ready whole c.args.closed.now c.loop-part.open.items recs b done in
-    pattern_built whole c.args.closed.now c.loop-part.open.items recs b done (graph_of c.in_ok-top.top)
+    let ready = top_ready whole c.args.closed.now c.loop-part.unplaced.items recs b done in
+    pattern_built whole c.args.closed.now c.loop-part.unplaced.items recs b done (graph_of c.in_ok-top.top)
     (c.in_ok-top.ensures (nodes_of whole) [] (numbers_from 0 whole.parts) ready).0

@@ -8,13 +8,13 @@ use Rattle.smarts_parse.proofs.build.put_graph.Goals as goal
 
 pub graph-requires : goal.graph-requires
 graph-requires c =
-    let n = next c.requires.0 c.args.part.now c.requires.1 c.args.open.now.items
+    let n = next c.requires.0 c.args.part.now c.requires.1 c.args.unplaced.now.items
     (map graph_of c.args.recs.now.items) c.requires.2 in
     (n.nodes, n.front, n.numbers, n.ready)
 
 pub overflow_cast-len : goal.overflow_cast-len
 overflow_cast-len c =
-    let n = next c.requires.0 c.args.part.now c.requires.1 c.args.open.now.items
+    let n = next c.requires.0 c.args.part.now c.requires.1 c.args.unplaced.now.items
     (map graph_of c.args.recs.now.items) c.requires.2 in
     let few = n.number in
     record { fits = omega (arith, length-map c.args.recs.now.items graph_of) }
@@ -22,11 +22,11 @@ overflow_cast-len c =
 pub returns : goal.returns
 returns c = λ all left h.
     let recs = map graph_of c.args.recs.now.items in
-    let n = next all c.args.part.now left c.args.open.now.items recs h in
+    let n = next all c.args.part.now left c.args.unplaced.now.items recs h in
     let g = c.in_ok-graph.ensures n.nodes n.front n.numbers n.ready in
     let k = c.len.result in
     let count : k ≡ length recs = omega (arith, c.len.ensures, length-map c.args.recs.now.items graph_of) in
-    let e : c.push.new.self.items ≡ c.graph.new.open.items ++ k ∷ [] = grind (arith, common_steps) in
+    let e : c.push.new.self.items ≡ c.graph.new.unplaced.items ++ k ∷ [] = grind (arith, common_steps) in
     let f : c.push-2.new.self.items ≡ c.args.recs.now.items ++ c.in_ok-graph.graph ∷ [] = grind (arith, common_steps) in
     let F : List ℕ → Type 0 = λ v. IsBuilt all left v (map graph_of c.push-2.new.self.items) in
     let G : List GraphTerm → Type 0 = λ v. IsBuilt all left (n.front ++ k ∷ []) v in

@@ -1,5 +1,4 @@
-use Rattle.std.proofs.Common.{◌≡◌, ◌++◌, ◌<◌, ◌∙◌, All, ap, arith, length, subst, sym}
-use Rattle.screen_index.specs.declared.entry.Screened.{Screened}
+use Rattle.std.proofs.Common.{◌++◌, ◌<◌, ◌∙◌, All, ap, arith, length, subst, sym}
 use Rattle.screen_index.specs.Pairs.{Ascend, Lacks, put_in, rank_of}
 use Rattle.screen_index.proofs.Places.{apart, ascend-left, ascend-right, lacks-right, put-before, put-behind, put-some}
 use Rattle.screen_index.proofs.block.Block.insert_split.Goals as goal

@@ -1,4 +1,4 @@
-use Rattle.std.proofs.Common.{◌≡◌, ◌+◌, ◌++◌, ◌<◌, ◌∙◌, ap, arith, get_or, length, Some, subst, sym, take}
+use Rattle.std.proofs.Common.{◌++◌, ◌<◌, ◌∙◌, ap, arith, get_or, length, Some, subst, sym, take}
 use Rattle.std.proofs.lemmas.List.{take_all}
 use Rattle.std.proofs.lemmas.List.Elements.{All-append}
 use Rattle.screen_index.specs.declared.entry.Screened.{Screened}

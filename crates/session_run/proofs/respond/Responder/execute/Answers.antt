@@ -1,71 +1,55 @@
-use Rattle.std.proofs.Common.{[], append-nil, Ok, refl, sym}
-use Rattle.session_run.specs.Cursors.{Makes}
-use Rattle.session_run.specs.Walks.{cursors_of}
-use Rattle.session_run.proofs.Held.{not_raised-same, same_held}
-use Rattle.session_run.proofs.Joined.{makes_none}
-use Rattle.session_run.proofs.Keeping.{keeps_all, ok_lives}
-use Rattle.session_run.proofs.Responses.{spells_register_mol, spells_revise_mol}
+use Rattle.std.proofs.Common.{[], append-nil, refl, sym}
+use Rattle.session_run.specs.Acts.{Silence}
+use Rattle.session_run.specs.Made.{Said}
+use Rattle.session_run.proofs.Joined.{uses-none}
+use Rattle.session_run.proofs.Lines.{noted}
+use Rattle.session_run.proofs.Requested.{spells_register_mol, spells_revise_mol}
 use Rattle.session_run.proofs.respond.Responder.execute.Goals as goal
 
 pub returns-in-Empty-clause-answered : goal.returns-in-Empty-clause-answered
-returns-in-Empty-clause-answered g c =
-    let s = c.args.service.now in
-    rw c.in-Empty.is (
-      record {
-        calls = [];
-        lines = [];
-        made = makes_none g.S.Service.at g.S.Service.owns g.S.Service.stretch g.met.S.Service.stays s;
-        is = (refl, refl, refl);
-      },
-      sym (append-nil c.args.self.now.out.items),
-    )
-
-pub returns-in-Empty-clause-keeps : goal.returns-in-Empty-clause-keeps
-returns-in-Empty-clause-keeps g c =
-    let s = c.args.service.now in
-    keeps_all g.S.Service.holds g.S.Service.worn g.S.Service.bounds s s c.args.self.now c.args.self.now
-    c.requires.ready (Ok tt)
-    refl refl (ok_lives (g.S.Service.worn s)) (same_held (g.S.Service.holds s)) (not_raised-same (g.S.Service.bounds s))
+returns-in-Empty-clause-answered g c molfile =
+    rw c.in-Empty.is (Said tt (record {
+      calls = [];
+      lines = [];
+      made = uses-none g.met.S.Service.stays c.args.service.now;
+      is = noted Silence refl;
+    }) (sym (append-nil c.args.self.now.out.items)))
 
 pub returns-in-Register-clause-answered : goal.returns-in-Register-clause-answered
-returns-in-Register-clause-answered g c = rw c.in-Register.is c.answer_change.ensures.answered
+returns-in-Register-clause-answered g c molfile = rw c.in-Register.is (c.change_text.ensures _ _)
 
 pub returns-in-Revise-clause-answered : goal.returns-in-Revise-clause-answered
-returns-in-Revise-clause-answered g c = rw c.in-Revise.is c.answer_change-in-Revise.ensures.answered
+returns-in-Revise-clause-answered g c molfile = rw c.in-Revise.is (c.change_text-in-Revise.ensures _ _)
 
 pub returns-in-Withdraw-clause-answered : goal.returns-in-Withdraw-clause-answered
-returns-in-Withdraw-clause-answered g c = rw c.in-Withdraw.is c.answer_withdraw.ensures.answered
+returns-in-Withdraw-clause-answered g c molfile = rw c.in-Withdraw.is (c.commit.ensures _ _)
 
 pub returns-in-Show-clause-answered : goal.returns-in-Show-clause-answered
-returns-in-Show-clause-answered g c = rw c.in-Show.is c.answer_show.ensures.answered
-
-pub returns-in-Search-clause-answered : goal.returns-in-Search-clause-answered
-returns-in-Search-clause-answered g c = rw c.in-Search.is c.answer_search.ensures.answered
-
-pub returns-in-Start-clause-answered : goal.returns-in-Start-clause-answered
-returns-in-Start-clause-answered g c = rw c.in-Start.is c.answer_open.ensures.answered
-
-pub returns-in-Next-clause-answered : goal.returns-in-Next-clause-answered
-returns-in-Next-clause-answered g c = rw c.in-Next.is c.answer_next.ensures.answered
-
-pub returns-in-Close-clause-answered : goal.returns-in-Close-clause-answered
-returns-in-Close-clause-answered g c = rw c.in-Close.is c.answer_close.ensures.answered
+returns-in-Show-clause-answered g c molfile = rw c.in-Show.is (c.show.ensures _ _)
 
 pub returns-in-Prune-clause-answered : goal.returns-in-Prune-clause-answered
-returns-in-Prune-clause-answered g c = rw c.in-Prune.is c.answer_prune.ensures.answered
+returns-in-Prune-clause-answered g c molfile = rw c.in-Prune.is (c.prune.ensures _ _)
 
 pub returns-in-Stats-clause-answered : goal.returns-in-Stats-clause-answered
-returns-in-Stats-clause-answered g c = rw c.in-Stats.is c.answer_stats.ensures.answered
+returns-in-Stats-clause-answered g c molfile = rw c.in-Stats.is (c.stats.ensures _ _)
 
-pub answer_change-requires-clause-id : goal.answer_change-requires-clause-id
-answer_change-requires-clause-id g c =
-    let s = rw c.in-Register.is at c.requires.line.1 in
-    s.0
+pub returns-in-Search-clause-answered : goal.returns-in-Search-clause-answered
+returns-in-Search-clause-answered g c molfile = rw c.in-Search.is (c.search.ensures _)
 
-pub answer_change-requires-in-Revise-clause-id : goal.answer_change-requires-in-Revise-clause-id
-answer_change-requires-in-Revise-clause-id g c =
-    let s = rw c.in-Revise.is at c.requires.line.1 in
-    s.0
+pub returns-in-Start-clause-answered : goal.returns-in-Start-clause-answered
+returns-in-Start-clause-answered g c molfile = rw c.in-Start.is c.open.ensures.answered
+
+pub returns-in-Next-clause-answered : goal.returns-in-Next-clause-answered
+returns-in-Next-clause-answered g c molfile = rw c.in-Next.is c.next.ensures.answered
+
+pub returns-in-Close-clause-answered : goal.returns-in-Close-clause-answered
+returns-in-Close-clause-answered g c molfile = rw c.in-Close.is c.close.ensures.answered
+
+pub change_text-requires : goal.change_text-requires
+change_text-requires g c = let s = rw c.in-Register.is at c.requires.line.1 in s.0
+
+pub change_text-requires-in-Revise : goal.change_text-requires-in-Revise
+change_text-requires-in-Revise g c = let s = rw c.in-Revise.is at c.requires.line.1 in s.0
 
 pub unreachable-requires : goal.unreachable-requires
 unreachable-requires g c =

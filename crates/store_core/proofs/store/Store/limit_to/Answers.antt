@@ -1,6 +1,6 @@
 use Rattle.std.proofs.Common.{sym}
 use Rattle.store_core.specs.Stored.{Served}
-use Rattle.store_core.proofs.Undoing.{relimited}
+use Rattle.store_core.proofs.Limits.{relimited}
 use Rattle.store_core.proofs.store.Store.limit_to.Goals as goal
 
 pub invariant_of-self : goal.invariant_of-self

@@ -1,14 +1,17 @@
-use Rattle.store_core.proofs.Rows.{look-call, look-none}
+use Rattle.std.proofs.Common.{sym}
+use Rattle.store_core.specs.Kept.{kept_of}
+use Rattle.store_core.proofs.Rows.{look-call}
+use Rattle.store_core.proofs.Sees.{entry-of}
 use Rattle.store_core.proofs.store.StoreService.look.Goals as goal
 
-pub returns-in-None-clause-call : goal.returns-in-None-clause-call
-returns-in-None-clause-call c = λ s h. look-none c.laws.ensures.read c.laws.ensures.states c.args.self.now s c.args.id h
-    c.in-None.ensures.latest
+pub returns-clause-call : goal.returns-clause-call
+returns-clause-call c =
+    rw (sym c.self.view_is)
+    (λ s h. look-call c.laws.ensures.read c.laws.ensures.states _ s c.args.id (kept_of c.latest.result) c.of.result h
+    c.latest.ensures c.of.ensures.look c.of.ensures.err)
 
-pub returns-in-Some-clause-call : goal.returns-in-Some-clause-call
-returns-in-Some-clause-call c =
-    λ s h. look-call c.laws.ensures.read c.laws.ensures.states c.args.self.now s c.args.id c.in-Some.state.now
-    c.look.result h c.in-Some.ensures.latest c.look.ensures.look c.look.ensures.err
-
-pub returns-in-Some-clause-entry : goal.returns-in-Some-clause-entry
-returns-in-Some-clause-entry c = c.look.ensures.entry c.args.id c.in-Some.ensures.entry
+pub returns-clause-entry : goal.returns-clause-entry
+returns-clause-entry c =
+    let was = c.self.invariant in
+    c.of.ensures.entry c.args.id
+    (entry-of _ was.0 was.1 c.args.id c.self.inside.version (kept_of c.latest.result) c.latest.ensures)

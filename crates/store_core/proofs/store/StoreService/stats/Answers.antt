@@ -9,5 +9,6 @@ use Rattle.store_core.proofs.store.StoreService.stats.Goals as goal
 pub returns-clause-call : goal.returns-clause-call
 returns-clause-call c =
     rw (sym c.self.view_is)
-    (λ s h. one-call _ _ s s 0 Stats _ refl h (stats-gives _ s (length c.live.result.now) h
+    (λ s h. one-call _ _ s s 0 Stats _ refl h
+    (stats-gives _ s c.count.result (length c.live.result.now) h c.count.ensures
     (ap (λ l. length l) c.live.ensures.versions ∙ length-map c.self.inside.registry (λ (p : Pin). p.version))) h)

@@ -1,0 +1,54 @@
+-- The history at its start and at its end.
+use Rattle.std.proofs.Common.{◌≡◌, ◌^◌, ◌∙◌, ap, [], refl, subst, sym}
+use Rattle.disk_edge.specs.Disk.{DiskModel}
+use Rattle.store_machine.specs.declared.machine.State.{State}
+use Rattle.store_machine.specs.declared.machine.Step.{Step}
+use Rattle.store_disk.specs.OnDisk.{StandsFor, StoreTerm}
+use Rattle.store_disk.specs.Stored.{Stretches, stays}
+use Rattle.turn_gate.specs.Passes as gate
+use Rattle.turn_gate.specs.declared.known.Known.{Known}
+use Rattle.hall.specs.declared.hall.HallPass.{HallPass}
+use Rattle.hall.specs.declared.kept.Kept.{Kept}
+use Rattle.hall.specs.declared.kept.Origin.{Origin}
+use Rattle.hall.specs.Histories.{KeptFor}
+use Rattle.hall.specs.Passes.{Begins, Ends}
+
+module _ {D : Type 0} (model : DiskModel D) where
+  -- a store without pins stands for no event after each state that it is at
+  pub may-start : (store : StoreTerm D) (kept : Kept D) → kept.store ≡ store → (s : State) → StandsFor model store s
+      → s.pins ≡ [] → (o : Origin D) × KeptFor model o kept []
+  may-start store kept e s stands pins = (
+    record { store = store; state = s },
+    record {
+      unpinned = pins;
+      given = λ _. e;
+      stands = subst (λ (x : StoreTerm D). Stretches model store x s [] s) (sym e) (stays model store s stands);
+    },
+  )
+
+  pub begins : (store : StoreTerm D) (kept : Kept D) (p : HallPass D) → kept.store ≡ store
+      → gate.Begins (KeptFor model) kept (2 ^ 63) p.pass → Begins model store p
+  begins store kept p e b =
+      let is : b.origin.store ≡ store = sym (b.standing.given refl) ∙ e in
+      record {
+        origin = b.origin;
+        of = ap (λ (k : Known (Kept D) Step (Origin D)). k.origin) b.is;
+        store_is = is;
+        stands = subst (λ (x : StoreTerm D). StandsFor model x b.origin.state) is b.standing.stands.begins;
+        unpinned = b.standing.unpinned;
+        seen = ap (λ (k : Known (Kept D) Step (Origin D)). k.seen) b.is;
+        numbers = ap (λ (k : Known (Kept D) Step (Origin D)). k.numbers) b.is;
+        given = ap (λ (k : Known (Kept D) Step (Origin D)). k.given) b.is;
+        turns = ap (λ (k : Known (Kept D) Step (Origin D)). k.turns) b.is;
+      }
+
+  pub ends : (p : HallPass D) (kept : Kept D) (store : StoreTerm D) → store ≡ kept.store
+      → gate.Ends (KeptFor model) p.pass kept → Ends model p store
+  ends p kept store e c =
+      let whole : Ends model p kept.store = record {
+        origin = c.origin;
+        of = c.of;
+        unpinned = c.standing.unpinned;
+        stretch = c.standing.stands;
+      } in
+      subst (λ (x : StoreTerm D). Ends model p x) (sym e) whole

@@ -1,0 +1,12 @@
+-- The history begins at the state at which the store is.
+use Rattle.hall.proofs.Starting.{begins, may-start}
+use Rattle.hall.proofs.hall.Hall.start.Goals as goal
+
+pub start-requires-clause-stands : goal.start-requires-clause-stands
+start-requires-clause-stands g c =
+    let at = c.requires.stands in
+    may-start _ c.args.store c.new.result c.new.ensures.store at.0 at.1 at.2
+
+pub returns-in-Ok-clause-begins : goal.returns-in-Ok-clause-begins
+returns-in-Ok-clause-begins g c =
+    begins _ c.args.store c.new.result (record { pass = c.in-Ok.pass }) c.new.ensures.store c.in-Ok.ensures.begins

@@ -1,0 +1,70 @@
+-- For which histories the store under the gate stands, and what a call on it adds.
+use Rattle.std.specs.Prelude.{◌≡◌, ◌++◌, List, [], ◌∷◌, ℕ}
+use Rattle.disk_edge.specs.Disk.{DiskModel}
+use Rattle.store_machine.specs.Machine.{Holds}
+use Rattle.store_machine.specs.Owners.{SameButOwners}
+use Rattle.store_machine.specs.declared.machine.Event.{Event}
+use Rattle.store_machine.specs.declared.machine.Event.TheVariants.{Fetch, Unpin}
+use Rattle.store_machine.specs.declared.machine.Reply.{Reply}
+use Rattle.store_machine.specs.declared.machine.State.{State}
+use Rattle.store_machine.specs.declared.machine.Step.{Step}
+use Rattle.store_core.specs.Replies.{commit_calls, fetch_calls, look_calls, pin_calls, prune_calls, stats_calls, unpin_calls}
+use Rattle.store_disk.specs.OnDisk.{StandsFor, StoreTerm}
+use Rattle.store_disk.specs.Stored.{Stretches}
+use Rattle.hall.specs.declared.kept.Kept.{Kept}
+use Rattle.hall.specs.declared.kept.Origin.{Origin}
+use Rattle.hall.specs.declared.kept.Told.{Told}
+use Rattle.hall.specs.declared.kept.Told.TheVariants as told
+
+-- the state after these steps
+abbrev pub after : State → List Step → State
+after s [] = s
+after s (x ∷ xs) = after x.after xs
+
+-- the call that was told, with its reply
+abbrev pub calls_told : Told → List (Event × Reply)
+calls_told told.Nothing = []
+calls_told (told.Commit change answer) = commit_calls change.value answer.value
+calls_told (told.Pin answer) = pin_calls answer.value
+calls_told (told.Fetch slot want from limit page answer) = fetch_calls slot want.value from limit page.value.records answer.value
+calls_told (told.Unpin slot answer) = unpin_calls slot answer.value
+calls_told (told.Prune answer) = prune_calls answer.value
+calls_told (told.Look id answer) = look_calls id answer.value
+calls_told (told.Stats answer) = stats_calls answer.value
+
+module _ {D : Type 0} where
+  abbrev pub told_of : Kept D → List (Event × Reply)
+  told_of k = calls_told k.told.value
+
+  -- the step is the call that was told
+  abbrev pub Tells : Kept D → Step → Type 0
+  Tells k e = told_of k ≡ (e.event, e.reply) ∷ []
+
+-- The store has made these steps since it was given, from a state without pins for which it stood: they are a stretch
+-- of the store on its disks.
+pub record KeptFor {D : Type 0} (model : DiskModel D) (origin : Origin D) (kept : Kept D) (history : List Step) : Type 0
+  where
+    pub unpinned : origin.state.pins ≡ []
+    pub given : history ≡ [] → kept.store ≡ origin.store
+    pub stands : Stretches model origin.store kept.store origin.state history (after origin.state history)
+
+-- Whose an event may be: a pin that it names is held by its owner.
+abbrev pub MayAsk : State → ℕ → Event → Type 0
+MayAsk s owner (Fetch slot want from limit) = (version : ℕ) × Holds s slot owner version
+MayAsk s owner (Unpin slot) = (version : ℕ) × Holds s slot owner version
+MayAsk s owner _ = Unit {0}
+
+abbrev pub MayTell : {D : Type 0} → State → ℕ → Kept D → Type 0
+MayTell s owner k = (event : Event) (reply : Reply) → told_of k ≡ (event, reply) ∷ [] → MayAsk s owner event
+
+-- one step more, which is told, by each owner who may ask it
+abbrev pub Adds : {D : Type 0} → DiskModel D → Kept D → Kept D → Type 0
+Adds {D} model old new =
+    (origin : Origin D) (history : List Step) (owner : ℕ) → KeptFor model origin old history
+    → MayTell (after origin.state history) owner new
+    → (e : Step) × (e.owner ≡ owner) × Tells new e × KeptFor model origin new (history ++ e ∷ [])
+
+-- a store stands for a state as for one with other owners
+abbrev pub AsksNoOwner : {D : Type 0} → DiskModel D → Type 0
+AsksNoOwner {D} model = (store : StoreTerm D) (s t : State) → SameButOwners s t → StandsFor model store s
+    → StandsFor model store t

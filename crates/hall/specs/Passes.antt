@@ -1,0 +1,80 @@
+-- For callers: passes of a hall, and what its calls tell of them.
+use Rattle.std.specs.Prelude.{◌≡◌, ◌⊎◌, ◌^◌, ◌↔◌, [], ◌∷◌, true, ℕ}
+use Rattle.disk_edge.specs.Disk.{DiskModel}
+use Rattle.store_machine.specs.Machine.{Holds}
+use Rattle.store_machine.specs.Runs.{IsCalm, IsRun}
+use Rattle.store_machine.specs.declared.machine.Step.{Step}
+use Rattle.store_disk.specs.OnDisk.{StandsFor, StoreTerm}
+use Rattle.store_disk.specs.Stored.{Stretches}
+use Rattle.turn_gate.specs.Numbers.{has}
+use Rattle.turn_gate.specs.Passes as gate
+use Rattle.turn_gate.specs.declared.known.Known.{Known}
+use Rattle.hall.specs.declared.hall.Hall.{Hall}
+use Rattle.hall.specs.declared.hall.HallPass.{HallPass}
+use Rattle.hall.specs.declared.kept.Kept.{Kept}
+use Rattle.hall.specs.declared.kept.Origin.{Origin}
+use Rattle.hall.specs.Histories.{after}
+
+-- an event of the history is a step of the machine
+abbrev pub by : Step → ℕ
+by x = x.owner
+
+module _ {D : Type 0} where
+  -- What a pass knows: its numbers, the events that it has seen, in the root pass how many numbers were given, and how
+  -- many turns the hall has.
+  abbrev pub known : HallPass D → Known (Kept D) Step (Origin D)
+  known p = gate.known p.pass
+
+  abbrev pub IsOf : Hall D → HallPass D → Type 0
+  IsOf h p = gate.IsOf h.gate p.pass
+
+  -- its hall's history begins there
+  abbrev pub IsFrom : Origin D → HallPass D → Type 0
+  IsFrom origin p = gate.IsFrom origin p.pass
+
+  abbrev pub IsRoot : HallPass D → Type 0
+  IsRoot p = gate.IsRoot p.pass
+
+  abbrev pub IsWhole : HallPass D → Type 0
+  IsWhole p = gate.IsWhole p.pass
+
+  -- it was taken by one of the pass's numbers, and not given back, in what the pass has seen
+  pub record HoldsPin (p : HallPass D) (slot version : ℕ) : Type 0 where
+    pub origin : Origin D
+    pub of : IsFrom origin p
+    pub owner : ℕ
+    pub own : has (known p).numbers owner ≡ true
+    pub held : Holds (after origin.state (known p).seen) slot owner version
+
+module _ {D : Type 0} (model : DiskModel D) where
+  -- the first pass: the history begins with the store that was given, at a state without pins for which it stood
+  pub record Begins (store : StoreTerm D) (p : HallPass D) : Type 0 where
+    pub origin : Origin D
+    pub of : IsFrom origin p
+    pub store_is : origin.store ≡ store
+    pub stands : StandsFor model store origin.state
+    pub unpinned : origin.state.pins ≡ []
+    pub seen : (known p).seen ≡ []
+    pub numbers : (known p).numbers ≡ 0 ∷ []
+    pub given : (known p).given ≡ 1
+    pub turns : (known p).turns ≡ 2 ^ 63
+
+  -- the whole history is a stretch of the store on its disks, from the store that was given to the one that comes back
+  pub record Ends (p : HallPass D) (store : StoreTerm D) : Type 0 where
+    pub origin : Origin D
+    pub of : IsFrom origin p
+    pub unpinned : origin.state.pins ≡ []
+    pub stretch : Stretches model origin.store store origin.state (known p).seen
+        (after origin.state (known p).seen)
+
+module _ {D : Type 0} where
+  -- the pass has seen what both had, and has the numbers of both
+  abbrev pub Merged : HallPass D → HallPass D → HallPass D → Type 0
+  Merged p o q = gate.Merged by p.pass o.pass q.pass
+
+  -- and the pins of both, where what it has seen is a run
+  abbrev pub HasBoth : HallPass D → HallPass D → HallPass D → Type 0
+  HasBoth p o q =
+      (origin : Origin D) → IsFrom origin q
+      → IsRun origin.state (known q).seen (after origin.state (known q).seen) → IsCalm (known q).seen
+      → (slot version : ℕ) → HoldsPin q slot version ↔ (HoldsPin p slot version ⊎ HoldsPin o slot version)

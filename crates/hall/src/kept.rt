@@ -1,0 +1,228 @@
+//! What is under the gate of a hall: the store, and the last call on it, which only contracts read.
+ghost use Rattle.std.specs.Prelude.{◌≡◌, ◌≤◌, ◌++◌, [], All, false, IfOk, length, List, OnErr, ℕ};
+ghost use Rattle.std.specs.Arc.{arc_value};
+ghost use Rattle.store_core.specs.Calls.{NeedsNone, is_worn, is_worn_out};
+ghost use Rattle.store_core.specs.Records.{Shared};
+ghost use Rattle.store_core.specs.Replies.{IsLookOf, commit_calls, fetch_calls, look_calls, pin_calls, prune_calls, stats_calls, unpin_calls};
+ghost use Rattle.store_core.specs.Stored.{HoldsPin};
+ghost use Rattle.store_core.specs.declared.page.TheConstants.{MOST_RECORDS};
+ghost use Rattle.store_machine.specs.History.{IsId};
+ghost use Rattle.hall.specs.Histories.{Adds, told_of};
+
+use crate::laws::laws;
+use chem_core::Print;
+use disk_edge::Disk;
+use snap_registry::Pin;
+use std::snapshot::Snapshot;
+use std::sync::ledger::Ledger;
+use store_core::{CallFault, Change, CommitFault, Look, Page, Service, Stats, Steps};
+use store_disk::Store;
+use store_machine::{State, Step};
+use turn_gate::Stands;
+
+/// Where a hall's history begins: the store as it was given, and the state for which it stood. No value of it is made.
+pub struct Origin<D: Disk> {
+    pub store: Store<D>,
+    pub state: State,
+}
+
+/// A call and its answer, for contracts alone.
+#[derive(Drop)]
+pub enum Told {
+    Nothing,
+    Commit {
+        change: Snapshot<Change>,
+        answer: Snapshot<Result<u32, CommitFault>>,
+    },
+    Pin {
+        answer: Snapshot<Result<Option<Pin>, CallFault>>,
+    },
+    Fetch {
+        slot: u32,
+        want: Snapshot<Print>,
+        from: u32,
+        limit: u32,
+        page: Snapshot<Page>,
+        answer: Snapshot<Result<bool, CallFault>>,
+    },
+    Unpin {
+        slot: u32,
+        answer: Snapshot<Result<(), CallFault>>,
+    },
+    Prune {
+        answer: Snapshot<Result<u32, CallFault>>,
+    },
+    Look {
+        id: u32,
+        answer: Snapshot<Result<Look, CallFault>>,
+    },
+    Stats {
+        answer: Snapshot<Result<Stats, CallFault>>,
+    },
+}
+
+/// The store, and its last call, which takes no bytes.
+pub struct Kept<D: Disk> {
+    pub store: Store<D>,
+    pub told: Snapshot<Told>,
+}
+
+impl<D: Disk> Stands for Kept<D> {
+    ghost use Rattle.hall.specs.Histories.{KeptFor, Tells};
+
+    type Event = Step;
+
+    type Origin = Origin<D>;
+
+    ghost stands = { KeptFor D.model };
+
+    ghost tells = { Tells };
+
+    ghost number = { λ e. e.owner };
+}
+
+// Each call adds one step to every history for which the store stands. It is told by the value, and may be of any
+// owner, but for a fetch and an unpin, which are of the owner of their pin.
+impl<D: Disk> Kept<D> {
+    // Before any call.
+    pub(crate) fn new(store: Store<D>) -> Kept<D>
+        ensures store { result.store ≡ store }
+    {
+        Kept {
+            store,
+            told: Snapshot::of(&Told::Nothing),
+        }
+    }
+
+    // The store alone.
+    pub(crate) fn into_store(self) -> Store<D>
+        ensures { result ≡ self.store }
+    {
+        let Kept { store, told } = self;
+        drop(told);
+        store
+    }
+
+    pub(crate) fn commit(&mut self, change: Change) -> Result<u32, CommitFault>
+        ensures adds { Adds D.model self.old self.new }
+        ensures told { told_of self.new ≡ commit_calls change result }
+        ensures not_worn { is_worn_out result ≡ false }
+    {
+        laws::<D>();
+        let asked = Snapshot::of(&change);
+        let answer = self.store.commit(change);
+        self.told = Snapshot::of(&Told::Commit {
+            change: asked,
+            answer: Snapshot::of(&answer),
+        });
+        answer
+    }
+
+    pub(crate) fn pin(&mut self) -> Result<Option<Pin>, CallFault>
+        ensures adds { Adds D.model self.old self.new }
+        ensures told { told_of self.new ≡ pin_calls result }
+        ensures not_worn { is_worn result ≡ false }
+        ensures memory { NeedsNone result }
+    {
+        laws::<D>();
+        let answer = self.store.pin();
+        self.told = Snapshot::of(&Told::Pin {
+            answer: Snapshot::of(&answer),
+        });
+        answer
+    }
+
+    pub(crate) fn fetch<L: Ledger>(
+        &mut self,
+        pin: &Pin,
+        want: &Print,
+        from: u32,
+        limit: u32,
+        page: &mut Page,
+        steps: &mut Steps<L>,
+    ) -> Result<bool, CallFault>
+        requires held { HoldsPin self.old.store.memory pin.now.slot pin.now.version }
+        requires some { 1 ≤ limit }
+        requires few { limit ≤ MOST_RECORDS }
+        requires room { limit ≤ page.old.room }
+        ensures adds { Adds D.model self.old self.new }
+        ensures told { told_of self.new
+            ≡ fetch_calls pin.now.slot want.now from limit page.new.records result }
+        ensures few { length page.new.records ≤ limit }
+        ensures in_range { All (λ (r : Shared). IsId (arc_value r).id) page.new.records }
+        ensures err { OnErr result (page.new.records ≡ []) }
+        ensures room { page.new.room ≡ page.old.room }
+        ensures not_worn { is_worn result ≡ false }
+    {
+        laws::<D>();
+        let answer = self.store.fetch(pin, want, from, limit, page, steps);
+        self.told = Snapshot::of(&Told::Fetch {
+            slot: pin.slot,
+            want: Snapshot::of(want),
+            from,
+            limit,
+            page: Snapshot::of(page),
+            answer: Snapshot::of(&answer),
+        });
+        answer
+    }
+
+    pub(crate) fn unpin(&mut self, pin: Pin) -> Result<(), CallFault>
+        requires held { HoldsPin self.old.store.memory pin.slot pin.version }
+        ensures adds { Adds D.model self.old self.new }
+        ensures told { told_of self.new ≡ unpin_calls pin.slot result }
+        ensures not_worn { is_worn result ≡ false }
+        ensures memory { NeedsNone result }
+    {
+        laws::<D>();
+        let answer = self.store.unpin(pin);
+        self.told = Snapshot::of(&Told::Unpin {
+            slot: pin.slot,
+            answer: Snapshot::of(&answer),
+        });
+        answer
+    }
+
+    pub(crate) fn prune(&mut self) -> Result<u32, CallFault>
+        ensures adds { Adds D.model self.old self.new }
+        ensures told { told_of self.new ≡ prune_calls result }
+        ensures not_worn { is_worn result ≡ false }
+        ensures memory { NeedsNone result }
+    {
+        laws::<D>();
+        let answer = self.store.prune();
+        self.told = Snapshot::of(&Told::Prune {
+            answer: Snapshot::of(&answer),
+        });
+        answer
+    }
+
+    pub(crate) fn look(&mut self, id: u32) -> Result<Look, CallFault>
+        ensures adds { Adds D.model self.old self.new }
+        ensures told { told_of self.new ≡ look_calls id result }
+        ensures entry { IfOk result (λ l. IsLookOf id l) }
+        ensures not_worn { is_worn result ≡ false }
+    {
+        laws::<D>();
+        let answer = self.store.look(id);
+        self.told = Snapshot::of(&Told::Look {
+            id,
+            answer: Snapshot::of(&answer),
+        });
+        answer
+    }
+
+    pub(crate) fn stats(&mut self) -> Result<Stats, CallFault>
+        ensures adds { Adds D.model self.old self.new }
+        ensures told { told_of self.new ≡ stats_calls result }
+        ensures not_worn { is_worn result ≡ false }
+        ensures memory { NeedsNone result }
+    {
+        laws::<D>();
+        let answer = self.store.stats();
+        self.told = Snapshot::of(&Told::Stats {
+            answer: Snapshot::of(&answer),
+        });
+        answer
+    }
+}

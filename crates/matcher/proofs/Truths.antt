@@ -1,0 +1,220 @@
+-- At which atoms the expressions of a graph are true, as bits of words.
+use Rattle.std.proofs.Common.{◌≡◌, ◌==◌, ◌&&◌, if◌then◌else◌, ◌↔◌, ◌∙◌, ◌+◌, ◌-◌, ◌*◌, ◌/◌, ◌%◌, ◌^◌, ◌<◌, ◌≤◌, ℕ, Bool, true, List, inl, inr, bit_and, bit_or, get_or, length, slice_get, slice_index, set, Some, All, ap, arith, subst, sym, w64}
+use Rattle.std.specs.Int.{bit_at}
+use Rattle.std.specs.Int.{bit_not}
+use Rattle.std.proofs.lemmas.Nat.Bits.{bit_at-lt, bit_at-zero, bit_at_and, bit_at_not, bit_at_or, bit_at_ones, bit_at_ones_above, bit_at_set_other, bit_at_set_same}
+use Rattle.std.proofs.Math.Nat.{mod-eq_of_lt}
+use Rattle.std.proofs.Math.Pow.{pow-lt}
+use Rattle.std.proofs.lemmas.Bool.{cases_eq, cases_lt}
+use Rattle.std.proofs.lemmas.List.{get_or-set_other, get_or-set_same}
+use Rattle.std.proofs.lemmas.Option.{get_or_from_slice_get, same_Some, slice_get_within, slice_get-get_or}
+use Rattle.chem_core.specs.declared.mol.Atom.{Atom}
+use Rattle.chem_core.specs.Molecule.{Molecule}
+use Rattle.smarts_mean.specs.Table.{HoldsIn, Table, holds_at}
+use Rattle.smarts_parse.specs.declared.pattern.AtomPrim.{AtomPrim}
+use Rattle.smarts_parse.specs.declared.pattern.AtomPrim.TheVariants as atoms
+use Rattle.smarts_parse.specs.Pattern.{And, GraphTerm, Not, Or, Prim, Term, graph_of}
+use Rattle.smarts_parse.specs.Sound.{NamesBelow}
+use Rattle.smarts_parse.specs.Truth.{AtomPrimTrue, AtomTrue}
+use Rattle.matcher.specs.Candidates.{AreTruths, AreTruthsIn, IsTruth, IsTruthAt}
+use Rattle.matcher.specs.declared.fit.Task.{Task}
+use Rattle.matcher.specs.Partial.{Parts}
+use Rattle.matcher.proofs.Asked.{names_below}
+use Rattle.matcher.proofs.PartsHeld.{parts_term, put_other}
+
+-- a primitive at the atom that is read
+pub prim_at : (parts : Parts) (m : Molecule) (a : ℕ) (p : AtomPrim) (r : Bool) (x : Atom) → slice_get m.atoms a ≡ Some x
+    → (r ≡ true) ↔ AtomPrimTrue parts p m a x → (r ≡ true) ↔ AtomTrue parts (Prim p) m a
+prim_at parts m a p r x get h = (
+  λ t. (x, get, h.0 t),
+  λ w. h.1 (subst (AtomPrimTrue parts p m a) (same_Some w.0 x (sym w.1 ∙ get)) w.2),
+)
+
+-- the lowest k bits are set
+pub shifted : (k : ℕ) → k < 64 → 1 * 2 ^ k % 2 ^ 64 ≡ 2 ^ k
+shifted k l =
+    let one : 1 * 2 ^ k ≡ 2 ^ k = omega arith in
+    ap (λ n. n % 2 ^ 64) one ∙ mod-eq_of_lt (pow-lt l)
+
+pub ones_below : (k i : ℕ) → bit_at (2 ^ k - 1) i ≡ 1 ↔ i < k
+ones_below k i = (
+  λ t. elim (cases_lt i k) [
+    | inl before ↦ before
+    | inr after ↦ absurd (let zero' = bit_at_ones_above k i after in omega arith)
+  ],
+  λ l. bit_at_ones k i l,
+)
+
+-- no atoms, those of a word but not of another, those of both, and those of either
+pub truth_none : (parts : Parts) (m : Molecule) (e : Term AtomPrim) (block : ℕ) → IsTruth parts m e block 0 0
+truth_none parts m e block i l =
+    let zero' = bit_at-zero i in
+    (λ t. absurd (omega arith), λ w. w.0)
+
+pub truth_not : (parts : Parts) (m : Molecule) (e : Term AtomPrim) (block within word : ℕ) → word < 2 ^ 64
+    → IsTruth parts m e block within word
+    → IsTruth parts m (Not e) block within (bit_and within (bit_not w64 word))
+truth_not parts m e block within word room h i l =
+    let both = bit_at_and within (bit_not w64 word) i in
+    let other = bit_at_not w64 word i room l in
+    let one = bit_at-lt word i in
+    let two = bit_at-lt within i in (
+      λ t. (omega arith, λ yes'. let set' = (h i l).1 (omega arith, yes') in omega arith),
+      λ w. elim (cases_eq (bit_at word i) 1) [
+        | inl yes' ↦ absurd (w.1 ((h i l).0 yes').1)
+        | inr apart ↦ (let set' = w.0 in omega arith)
+      ],
+    )
+
+pub truth_and : (parts : Parts) (m : Molecule) (e f : Term AtomPrim) (block within a b : ℕ)
+    → IsTruth parts m e block within a → IsTruth parts m f block a b → IsTruth parts m (And e f) block within b
+truth_and parts m e f block within a b h k i l = (
+  λ t. let both = (k i l).0 t in let first = (h i l).0 both.0 in (first.0, (first.1, both.1)),
+  λ w. (k i l).1 ((h i l).1 (w.0, w.1.0), w.1.1),
+)
+
+pub truth_or : (parts : Parts) (m : Molecule) (e f : Term AtomPrim) (block within a b : ℕ)
+    → IsTruth parts m e block within a → IsTruth parts m f block within b
+    → IsTruth parts m (Or e f) block within (bit_or a b)
+truth_or parts m e f block within a b h k i l =
+    let is = bit_at_or a b i in
+    let one = bit_at-lt a i in
+    let two = bit_at-lt b i in (
+      λ t. elim (cases_eq (bit_at a i) 1) [
+        | inl yes' ↦ (let w = (h i l).0 yes' in (w.0, inl w.1))
+        | inr apart ↦ (let w = (k i l).0 (omega arith) in (w.0, inr w.1))
+      ],
+      λ w. elim w.1 [
+        | inl x ↦ (let y = (h i l).1 (w.0, x) in omega arith)
+        | inr x ↦ (let y = (k i l).1 (w.0, x) in omega arith)
+      ],
+    )
+
+-- the bits below one place are so, and those from there on are not set
+pub record IsBegun (parts : Parts) (m : Molecule) (e : Term AtomPrim) (block within n word : ℕ) : Type 0 where
+  pub done : (i : ℕ) → i < n → bit_at word i ≡ 1 ↔ ((bit_at within i ≡ 1) × AtomTrue parts e m (64 * block + i))
+  pub rest : (i : ℕ) → n ≤ i → bit_at word i ≡ 0
+
+pub begun_none : (parts : Parts) (m : Molecule) (e : Term AtomPrim) (block within : ℕ)
+    → IsBegun parts m e block within 0 0
+begun_none parts m e block within = record {
+  done = λ i l. absurd (omega arith);
+  rest = λ i l. bit_at-zero i;
+}
+
+pub begun_false : (parts : Parts) (m : Molecule) (e : Term AtomPrim) (block within n word : ℕ)
+    → ((bit_at within n ≡ 1) × AtomTrue parts e m (64 * block + n) → ⊥) → IsBegun parts m e block within n word
+    → IsBegun parts m e block within (n + 1) word
+begun_false parts m e block within n word none h = record {
+  done = λ i l. elim (cases_eq i n) [
+    | inl same ↦ subst (λ k. bit_at word k ≡ 1 ↔ ((bit_at within k ≡ 1) × AtomTrue parts e m (64 * block + k)))
+        (sym same) (λ t. absurd (let zero' = h.rest n (omega arith) in omega arith), λ w. absurd (none w))
+    | inr apart ↦ h.done i (omega arith)
+  ];
+  rest = λ i l. h.rest i (omega arith);
+}
+
+pub begun_true : (parts : Parts) (m : Molecule) (e : Term AtomPrim) (block within n word : ℕ) → n < 64
+    → (bit_at within n ≡ 1) × AtomTrue parts e m (64 * block + n) → IsBegun parts m e block within n word
+    → IsBegun parts m e block within (n + 1) (bit_or word (1 * 2 ^ n % 2 ^ 64))
+begun_true parts m e block within n word few both h = record {
+  done = λ i l. elim (cases_eq i n) [
+    | inl same ↦ subst (λ k. bit_at (bit_or word (1 * 2 ^ n % 2 ^ 64)) k ≡ 1
+        ↔ ((bit_at within k ≡ 1) × AtomTrue parts e m (64 * block + k)))
+        (sym same) (λ t. both, λ w. bit_at_set_same w64 word n few)
+    | inr apart ↦
+        let same = bit_at_set_other w64 word n few i apart in
+        let old = h.done i (omega arith) in
+        (λ t. old.0 (omega arith), λ w. let set' = old.1 w in omega arith)
+  ];
+  rest = λ i l. bit_at_set_other w64 word n few i (λ same. omega arith) ∙ h.rest i (omega arith);
+}
+
+-- all bits of the block are found
+pub begun_all : (parts : Parts) (m : Molecule) (p : AtomPrim) (block within n word : ℕ)
+    → ((i : ℕ) → i < 64 → n ≤ i → length m.atoms ≤ 64 * block + i) → IsBegun parts m (Prim p) block within n word
+    → IsTruth parts m (Prim p) block within word
+begun_all parts m p block within n word enough h i l = elim (cases_lt i n) [
+  | inl before ↦ h.done i before
+  | inr after ↦ (
+    λ t. absurd (let zero' = h.rest i after in omega arith),
+    λ w. absurd (let r = slice_get_within m.atoms (64 * block + i) w.1.0 w.1.1 in let s = enough i l after in
+        omega arith),
+  )
+]
+
+-- all atoms of the block are asked
+pub truth_whole : (task : Task) (block place within word : ℕ) (t : Term AtomPrim)
+    → ((i : ℕ) → i < 64 → 64 * block + i < length task.mol.now.atoms → bit_at within i ≡ 1)
+    → slice_get (graph_of task.graph.now).atoms place ≡ Some t
+    → IsTruth (HoldsIn task.table.now) task.mol.now t block within word → IsTruthAt task block place word
+truth_whole task block place within word t all get h e at i l r =
+    let one = subst (λ x. bit_at word i ≡ 1
+    ↔ ((bit_at within i ≡ 1) × AtomTrue (HoldsIn task.table.now) x task.mol.now (64 * block + i)))
+    (same_Some t e (sym get ∙ at)) (h i l) in
+    (λ s. (one.0 s).1, λ w. one.1 (all i l r, w))
+
+-- the same expression as at another place
+pub truth_same : (task : Task) (block before place word : ℕ) (t : Term AtomPrim)
+    → slice_get (graph_of task.graph.now).atoms before ≡ Some t
+    → slice_get (graph_of task.graph.now).atoms place ≡ Some t
+    → IsTruthAt task block before word → IsTruthAt task block place word
+truth_same task block before place word t get here h e at = h e (get ∙ sym here ∙ at)
+
+-- the words of the first n places of a block, with one more
+pub block_more : (task : Task) (block n word : ℕ) (words : List ℕ) → 256 * block + n < length words
+    → ((p : ℕ) → p < n → IsTruthAt task block p (slice_index words (256 * block + p))) → IsTruthAt task block n word
+    → (p : ℕ) → p < n + 1 → IsTruthAt task block p (slice_index (set words (256 * block + n) word) (256 * block + p))
+block_more task block n word words room h here p l = elim (cases_eq p n) [
+  | inl same ↦ subst (λ q. IsTruthAt task block q (slice_index (set words (256 * block + n) word) (256 * block + q)))
+      (sym same) (subst (IsTruthAt task block n) (sym (get_or-set_same words (256 * block + n) word 0 room)) here)
+  | inr other ↦ subst (IsTruthAt task block p)
+      (sym (get_or-set_other words (256 * block + n) (256 * block + p) word 0 (λ same. other (omega arith))))
+      (h p (omega arith))
+]
+
+-- the words of all blocks
+pub truths_all : (task : Task) (blocks : ℕ) (words : List ℕ) → length task.mol.now.atoms ≤ 64 * blocks
+    → ((b p : ℕ) → b < blocks → p < length (graph_of task.graph.now).atoms
+    → IsTruthAt task b p (slice_index words (256 * b + p))) → AreTruths task words
+truths_all task blocks words enough h p a l r =
+    let block : ℕ = a / 64 in
+    let bit : ℕ = a % 64 in
+    let is : 64 * block + bit ≡ a = omega arith in
+    let both : (e : Term AtomPrim) → slice_get (graph_of task.graph.now).atoms p ≡ Some e
+    → bit_at (slice_index words (256 * block + p)) bit ≡ 1 ↔ AtomTrue (HoldsIn task.table.now) e task.mol.now a =
+    λ e get. subst (λ k. bit_at (slice_index words (256 * block + p)) bit ≡ 1
+    ↔ AtomTrue (HoldsIn task.table.now) e task.mol.now k) is
+    (h block p (omega arith) l e get bit (omega arith) (omega arith)) in
+    let e : Term AtomPrim = get_or (graph_of task.graph.now).atoms p (Prim atoms.Any) in
+    let get : slice_get (graph_of task.graph.now).atoms p ≡ Some e = slice_get-get_or (graph_of task.graph.now).atoms p (Prim atoms.Any) l in (
+      λ t f at. (both f at).0 t,
+      λ w. (both e get).1 (w e get),
+    )
+
+-- the same where the parts that the graph names hold at the same atoms
+truths_still : (P Q : Parts) (n : ℕ) (g : GraphTerm) (m : Molecule) (words : List ℕ) → All (NamesBelow n) g.atoms
+    → ((k a : ℕ) → k < n → a < length m.atoms → P k a ↔ Q k a) → AreTruthsIn P g m words → AreTruthsIn Q g m words
+truths_still P Q n g m words names same h p a l r = (
+  λ t e get. (alike e get).0 ((h p a l r).0 t e get),
+  λ w. (h p a l r).1 (λ e get. (alike e get).1 (w e get)),
+)
+  where
+    named : (e : Term AtomPrim) → slice_get g.atoms p ≡ Some e → NamesBelow n e
+    named e get = subst (NamesBelow n) (get_or_from_slice_get g.atoms p e e get)
+        (names p e (slice_get_within g.atoms p e get))
+
+    alike : (e : Term AtomPrim) → slice_get g.atoms p ≡ Some e → AtomTrue P e m a ↔ AtomTrue Q e m a
+    alike e get = parts_term P Q e m a
+        (names_below (λ k. P k a ↔ Q k a) n e (named e get) (λ k j. same k a j r))
+
+-- the same where the part is noted at an atom
+pub truths_noted : (g : GraphTerm) (m : Molecule) (words : List ℕ) (old new : Table) (part atom : ℕ) (holds : Bool)
+    → ((p a : ℕ) → p < 64 → a < 999 → holds_at new p a ≡ (if (p == part) && (a == atom) then holds
+    else holds_at old p a)) → part < 64 → length m.atoms ≤ 999 → All (NamesBelow part) g.atoms
+    → AreTruthsIn (HoldsIn old) g m words → AreTruthsIn (HoldsIn new) g m words
+truths_noted g m words old new part atom holds put low few names =
+    truths_still (HoldsIn old) (HoldsIn new) part g m words names (λ k a l r.
+    let same : holds_at new k a ≡ holds_at old k a = put_other old new part atom holds put k a
+    (omega arith) (omega arith) (λ e _. omega arith) in
+    (λ h. same ∙ h, λ h. sym same ∙ h))

@@ -1,0 +1,16 @@
+use Rattle.std.proofs.Common.{arith}
+use Rattle.std.proofs.lemmas.Bool.{iff_false}
+use Rattle.std.proofs.lemmas.List.{length-map}
+use Rattle.smarts_parse.specs.Pattern.{term_of}
+use Rattle.matcher.proofs.Hunts.{taken_twice}
+use Rattle.matcher.proofs.hunt.may_take.Goals as goal
+
+pub returns-then-not-is_new : goal.returns-then-not-is_new
+returns-then-not-is_new c = λ _ whole h e.
+    let task = c.args.task.now in
+    let size = length-map task.graph.now.atoms.items term_of in
+    let all = h.embeds.one_each in
+    iff_false c.is_new.ensures c.if-not-is_new.true
+    (λ inside. taken_twice task c.args.image.now whole c.args.stop.place c.args.atom c.len-places.result
+    (omega (arith, size, all, c.len-places.ensures)) (omega (arith, c.requires.room, c.len-places.ensures))
+    (omega (arith, c.requires.place, c.len-places.ensures)) c.requires.atom c.requires.free inside h e)

@@ -1,0 +1,272 @@
+//! At which atoms each place of a graph may stand: a word for a place and each block of 64 atoms, with a bit for each
+//! atom. At first these are the atoms at which the place's expression is true.
+ghost use Rattle.std.specs.Prelude.{◌≡◌, ◌<◌, ◌≤◌, ◌+◌, ◌*◌, ◌↔◌, ℕ, length, slice_index, vec_len, IsTrue};
+ghost use Rattle.std.specs.Int.{bit_at};
+ghost use Rattle.smarts_mean.specs.Table.{HoldsIn, Table};
+ghost use Rattle.smarts_parse.specs.Pattern.{Prim, term_of};
+ghost use Rattle.smarts_parse.specs.Sound.{NamesBelow, PrimNamesBelow};
+ghost use Rattle.smarts_parse.specs.Truth.{AtomTrue};
+ghost use Rattle.matcher.specs.Candidates.{AreTruths, IsCandidate, IsTruth, IsTruthAt};
+ghost use Rattle.matcher.specs.Task.{IsReadyTask};
+ghost use Rattle.matcher.specs.declared.candidates.TheConstants.{MOST_WORDS};
+
+use crate::fit::Task;
+use crate::planned::MOST_PLACES;
+use chem_core::{Atom, MOST_ATOMS, Mol};
+use smarts_mean::{MOST_PARTS, RecTable, atom_true};
+use smarts_parse::{AtomPrim, Expr};
+use std::alloc::{AllocError, Global};
+
+/// The words for the places of the largest graph and the atoms of the largest molecule: first those of all places for
+/// the first block of atoms, then those for the second.
+pub const MOST_WORDS: usize = 16 * MOST_PLACES;
+
+/// The candidates of the places of a graph. There is room for every graph and molecule within the limits.
+#[derive(Debug, Drop)]
+pub struct Candidates {
+    pub words: Vec<u64>,
+    ghost room: { vec_len words ≡ MOST_WORDS },
+}
+
+impl Candidates {
+    ghost use Rattle.matcher.specs.Candidates.{AreCandidates};
+
+    /// Takes the memory.
+    pub fn reserve(alloc: Global) -> Result<Candidates, AllocError> {
+        Ok(Candidates {
+            words: vec![in alloc; 0; MOST_WORDS]?,
+        })
+    }
+
+    /// Finds at which atoms the expression of each place is true.
+    pub fn find(&mut self, task: &Task)
+        requires { IsReadyTask task.now }
+        ensures truths { AreTruths task.now self.new.words.items }
+        ensures candidates { AreCandidates task.now self.new.words.items }
+    {
+        find_truths(task, &mut self.words);
+    }
+
+    /// Whether the place may stand at the atom.
+    pub fn has(&self, place: usize, atom: u16) -> bool
+        requires { place < MOST_PLACES }
+        ensures { IsTrue result ↔ IsCandidate self.now.words.items place atom }
+    {
+        match self.words.get(MOST_PLACES * usize::from(atom / 64) + place) {
+            Some(word) => has(*word, atom % 64),
+            None => false,
+        }
+    }
+}
+
+// Finds at which atoms the expression of each place is true.
+fn find_truths(task: &Task, words: &mut [u64])
+    requires ready { IsReadyTask task.now }
+    requires room { length words.old ≡ MOST_WORDS }
+    ensures { AreTruths task.now words.new }
+{
+    for block in 0..task.mol.atoms().len().div_ceil(64) {
+        find_block(task, words, block);
+    }
+}
+
+// The same for a block of atoms. The words before are kept.
+fn find_block(task: &Task, words: &mut [u64], block: usize)
+    requires ready { IsReadyTask task.now }
+    requires room { length words.old ≡ MOST_WORDS }
+    requires block { block < 16 }
+    ensures here { (p : ℕ) → p < length task.now.graph.now.atoms.items
+        → IsTruthAt task.now block p (slice_index words.new (256 * block + p)) }
+    ensures before { (k : ℕ) → k < 256 * block
+        → slice_index words.new k ≡ slice_index words.old k }
+{
+    for place in 0..task.graph.atoms.len() {
+        words[MOST_PLACES * block + place] = word_at(task, words, block, place);
+    }
+}
+
+// The word of a place for a block, which often is that of the place before.
+fn word_at(task: &Task, words: &[u64], block: usize, place: usize) -> u64
+    requires ready { IsReadyTask task.now }
+    requires room { length words.now ≡ MOST_WORDS }
+    requires block { block < 16 }
+    requires place { place < length task.now.graph.now.atoms.items }
+    requires before { (p : ℕ) → p < place
+        → IsTruthAt task.now block p (slice_index words.now (256 * block + p)) }
+    ensures { IsTruthAt task.now block place result }
+{
+    if place == 0 {
+        return place_truth(task, block, place);
+    }
+    let before = &task.graph.atoms[place - 1];
+    let expr = &task.graph.atoms[place];
+    if !is_same(before, expr) {
+        return place_truth(task, block, place);
+    }
+    words[MOST_PLACES * block + (place - 1)]
+}
+
+// At which atoms of a block the expression of a place is true.
+fn place_truth(task: &Task, block: usize, place: usize) -> u64
+    requires ready { IsReadyTask task.now }
+    requires block { block < 16 }
+    requires place { place < length task.now.graph.now.atoms.items }
+    ensures { IsTruthAt task.now block place result }
+{
+    let expr = &task.graph.atoms[place];
+    let count = task.mol.atoms().len().saturating_sub(64 * block).min(64);
+    truth(expr, task.mol, task.table, block, ones(count))
+}
+
+// Whether the expressions are the same, as far as is seen at once.
+fn is_same(one: &Expr<AtomPrim>, two: &Expr<AtomPrim>) -> bool
+    ensures { IsTrue result → term_of one.now ≡ term_of two.now }
+{
+    let Expr::Prim(left) = one else {
+        return false;
+    };
+    let Expr::Prim(right) = two else {
+        return false;
+    };
+    *left == *right
+}
+
+// The word with as many ones.
+fn ones(count: usize) -> u64
+    requires { count ≤ 64 }
+    ensures { (i : ℕ) → bit_at result i ≡ 1 ↔ i < count }
+{
+    if count < 64 {
+        (1 << count) - 1
+    } else {
+        u64::MAX
+    }
+}
+
+// At which atoms of a word for a block the expression is true.
+fn truth(expr: &Expr<AtomPrim>, mol: &Mol, table: &RecTable, block: usize, within: u64) -> u64
+    requires names { NamesBelow MOST_PARTS (term_of expr.now) }
+    requires block { block < 16 }
+    ensures { IsTruth (HoldsIn table.now) mol.now (term_of expr.now) block within result }
+{
+    if within == 0 {
+        return 0;
+    }
+    match expr {
+        Expr::Prim(prim) => prim_truth(*prim, mol, table, block, within),
+        Expr::Not(inner) => within & !truth(inner, mol, table, block, within),
+        Expr::And(left, right) => {
+            let first = truth(left, mol, table, block, within);
+            truth(right, mol, table, block, first)
+        }
+        Expr::Or(left, right) => {
+            truth(left, mol, table, block, within) | truth(right, mol, table, block, within)
+        }
+    }
+}
+
+// The same of a primitive. Most are a symbol or a number, which have loops of their own.
+fn prim_truth(prim: AtomPrim, mol: &Mol, table: &RecTable, block: usize, within: u64) -> u64
+    requires names { PrimNamesBelow MOST_PARTS prim }
+    requires block { block < 16 }
+    ensures { IsTruth (HoldsIn table.now) mol.now (Prim prim) block within result }
+{
+    match prim {
+        AtomPrim::Symbol { number, lower } => symbol_truth(mol, block, within, number, lower),
+        AtomPrim::Number(number) => number_truth(mol, block, within, number),
+        _ => asked_truth(prim, mol, table, block, within),
+    }
+}
+
+// The same of a symbol.
+fn symbol_truth(mol: &Mol, block: usize, within: u64, number: u8, lower: bool) -> u64
+    requires { block < 16 }
+    ensures { (t : Table)
+        → IsTruth (HoldsIn t) mol.now (Prim (AtomPrim.Symbol number lower)) block within result }
+{
+    let atoms = mol.atoms();
+    let mut word = 0;
+    for bit in 0..atoms.len().saturating_sub(64 * block).min(64) {
+        if !has(within, bit as u16) {
+            continue;
+        }
+        if !has_symbol(atoms[64 * block + bit], number, lower) {
+            continue;
+        }
+        word |= 1 << bit;
+    }
+    word
+}
+
+// The same of a number.
+fn number_truth(mol: &Mol, block: usize, within: u64, number: u16) -> u64
+    requires { block < 16 }
+    ensures { (t : Table)
+        → IsTruth (HoldsIn t) mol.now (Prim (AtomPrim.Number number)) block within result }
+{
+    let atoms = mol.atoms();
+    let mut word = 0;
+    for bit in 0..atoms.len().saturating_sub(64 * block).min(64) {
+        if !has(within, bit as u16) {
+            continue;
+        }
+        if !has_number(atoms[64 * block + bit], number) {
+            continue;
+        }
+        word |= 1 << bit;
+    }
+    word
+}
+
+// The same of any primitive.
+fn asked_truth(prim: AtomPrim, mol: &Mol, table: &RecTable, block: usize, within: u64) -> u64
+    requires names { PrimNamesBelow MOST_PARTS prim }
+    requires block { block < 16 }
+    ensures { IsTruth (HoldsIn table.now) mol.now (Prim prim) block within result }
+{
+    let mut word = 0;
+    for bit in 0..mol.atoms().len().saturating_sub(64 * block).min(64) {
+        if !has(within, bit as u16) {
+            continue;
+        }
+        if !prim_true(prim, mol, table, (64 * block + bit) as u16) {
+            continue;
+        }
+        word |= 1 << bit;
+    }
+    word
+}
+
+// Whether the primitive is true at the atom. What takes no question is answered at once.
+fn prim_true(prim: AtomPrim, mol: &Mol, table: &RecTable, atom: u16) -> bool
+    requires names { PrimNamesBelow MOST_PARTS prim }
+    requires atom { atom < length mol.now.atoms }
+    requires few { atom < MOST_ATOMS }
+    ensures { IsTrue result ↔ AtomTrue (HoldsIn table.now) (Prim prim) mol.now atom }
+{
+    match prim {
+        AtomPrim::Any => true,
+        AtomPrim::Rec(part) => table.get(part, atom),
+        _ => atom_true(&Expr::Prim(prim), mol, atom, table),
+    }
+}
+
+fn has_symbol(atom: Atom, number: u8, lower: bool) -> bool
+    ensures { IsTrue result ↔ (atom.number ≡ number) × (atom.aromatic ≡ lower) }
+{
+    atom.number == number && atom.aromatic == lower
+}
+
+fn has_number(atom: Atom, number: u16) -> bool
+    ensures { IsTrue result ↔ atom.number ≡ number }
+{
+    u16::from(atom.number) == number
+}
+
+// Whether the word has the bit.
+fn has(word: u64, bit: u16) -> bool
+    requires { bit < 64 }
+    ensures { IsTrue result ↔ bit_at word bit ≡ 1 }
+{
+    (word >> bit) & 1 == 1
+}

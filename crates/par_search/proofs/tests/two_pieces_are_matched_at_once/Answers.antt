@@ -1,0 +1,6 @@
+use Rattle.std.proofs.Common.{inr, refl}
+use Rattle.par_search.proofs.tests.two_pieces_are_matched_at_once.Goals as goal
+
+pub is_next-requires-after_bounds : goal.is_next-requires-after_bounds
+is_next-requires-after_bounds g c κs =
+    (c.in-Ok-start.ensures.held c.in-Ok-start.search.slot c.in-Ok-start.search.version).1 (inr (refl, refl))

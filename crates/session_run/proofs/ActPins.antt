@@ -1,0 +1,97 @@
+-- What an act does to the pins of the open cursors, and leaves of others.
+use Rattle.std.proofs.Common.{◌++◌, ap, Bool, cond, inl, inr, List, [], ◌∷◌, subst, sym, ℕ}
+use Rattle.smarts_parse.specs.Pattern.{PatternTerm}
+use Rattle.store_core.specs.Calls.{SameHeld}
+use Rattle.store_machine.specs.Searches.{At, End, Place, past}
+use Rattle.store_machine.specs.declared.machine.Event.{Event}
+use Rattle.store_machine.specs.declared.machine.Event.TheVariants as events
+use Rattle.store_machine.specs.declared.machine.Reply.TheVariants as replies
+use Rattle.session_run.specs.Acts.{Act, Asks, Closed, Does, Lines, Opened, Says, Searched, Searches, Turned}
+use Rattle.session_run.specs.Cursors.{AreFetches, Calls, Cursor}
+use Rattle.session_run.specs.Dialogue.{AreExchanged, Exchange}
+use Rattle.session_run.specs.Pins.{AreApart, AreHeld, HeldAfter, HeldBy, Returns, SameOthers, Takes, effect}
+use Rattle.session_run.proofs.Acts.{quiet_ask}
+use Rattle.session_run.proofs.Held.{Leave, after-append, apart-parts, held-added, held-moved, held-same, held-without, leave-same, others-added, others-moved, others-without, same_held, same_others, same_others-more}
+use Rattle.session_run.proofs.Passing.{advances_fetch, advances_same}
+
+pub fetches_leave : (slot size : ℕ) (want : List Bool) (place place' : Place) (cs : Calls)
+    → AreFetches slot size want place cs place' → Leave cs
+fetches_leave slot size want place place' [] h = tt
+fetches_leave slot size want place place' (c ∷ cs) (from, at, is, inl k) =
+    (ap (λ (e : Event). effect e c.1) is, subst Leave (sym k.1) tt)
+fetches_leave slot size want place place' (c ∷ cs) (from, at, is, inr k) =
+    (ap (λ (e : Event). effect e c.1) is, fetches_leave slot size want (cond k.1 End (At (past from k.0))) place' cs k.3)
+
+-- a search gives its pin back
+search_same : (a : ℕ → ℕ → Type 0) (size : ℕ) (pattern : PatternTerm) (calls : Calls) (lines : Lines)
+    → Searches size pattern calls lines → AreApart a calls → SameHeld a (HeldAfter a calls)
+search_same a size pattern calls lines s apart =
+    let taken : ℕ → ℕ → Type 0 = HeldBy a (Takes s.slot s.version) in
+    let unpin : Calls = (events.Unpin s.slot, replies.Unpinned) ∷ [] in
+    let free = subst (AreApart a) s.made apart in
+    let leave = leave-same taken s.pages
+    (fetches_leave s.slot size s.searched.want (At 0) s.place s.pages s.searched.fetches) in
+    subst (λ (cs : Calls). SameHeld a (HeldAfter a cs)) (sym s.made)
+    (subst (λ (f : ℕ → ℕ → Type 0). SameHeld a f) (sym (after-append taken s.pages unpin)) (λ slot version. (
+      λ x. elim ((leave slot version).0 x.0) [ inl h ↦ h | inr e ↦ absurd (x.1 (sym e.0)) ],
+      λ x. (
+        (leave slot version).1 (inl x),
+        λ e. free.0 version (subst (λ (n : ℕ). a n version) (sym e) x),
+      ),
+    )))
+
+-- the cursors' pins
+pub act_held : {size : ℕ} {cursors cursors' : List Cursor} {act : Act} {calls : Calls} {lines : Lines}
+    (a : ℕ → ℕ → Type 0) → Does size cursors act calls lines cursors' → AreApart a calls → AreHeld a cursors
+    → AreHeld (HeldAfter a calls) cursors'
+act_held a (Says note) apart h = h
+act_held {cursors = cursors} a (Asks event reply said is) apart h =
+    let calls : Calls = (event, reply) ∷ [] in
+    held-same a (HeldAfter a calls) cursors (leave-same a calls (quiet_ask event reply said is).leave) h
+act_held {size} {cursors} a (Searched pattern calls lines found) apart h =
+    held-same a (HeldAfter a calls) cursors (search_same a size pattern calls lines found apart) h
+act_held {cursors = cursors} a (Opened name pattern want slot version new need) apart h =
+    held-added a cursors _ apart.0 h
+act_held {size} {cursors} a (Turned name before after c c' calls lines named advances) apart h =
+    let same = advances_same advances in
+    let f = advances_fetch advances in
+    held-same a (HeldAfter a calls) (before ++ c' ∷ after)
+    (leave-same a calls (fetches_leave c.slot size c.want c.place f.0 calls f.1))
+    (held-moved a before after c c' same.slot same.version (subst (AreHeld a) named.place h))
+act_held a (Closed name before after c named) apart h =
+    held-without a before after c (subst (AreHeld a) named.place h)
+
+-- and all others
+pub act_others : {size : ℕ} {cursors cursors' : List Cursor} {act : Act} {calls : Calls} {lines : Lines}
+    (a : ℕ → ℕ → Type 0) → Does size cursors act calls lines cursors' → AreApart a calls
+    → SameOthers a cursors (HeldAfter a calls) cursors'
+act_others {cursors = cursors} a (Says note) apart = same_others a a cursors (same_held a)
+act_others {cursors = cursors} a (Asks event reply said is) apart =
+    let calls : Calls = (event, reply) ∷ [] in
+    same_others a (HeldAfter a calls) cursors (leave-same a calls (quiet_ask event reply said is).leave)
+act_others {size} {cursors} a (Searched pattern calls lines found) apart =
+    same_others a (HeldAfter a calls) cursors (search_same a size pattern calls lines found apart)
+act_others {cursors = cursors} a (Opened name pattern want slot version new need) apart =
+    others-added a cursors _ apart.0
+act_others {size} {cursors} a (Turned name before after c c' calls lines named advances) apart =
+    let f = advances_fetch advances in
+    subst (λ (l : List Cursor). SameOthers a l (HeldAfter a calls) (before ++ c' ∷ after)) (sym named.place)
+    (same_others-more a a (HeldAfter a calls) (before ++ c ∷ after) (before ++ c' ∷ after) (before ++ c' ∷ after)
+    (others-moved a before after c c' (advances_same advances).slot)
+    (same_others a (HeldAfter a calls) (before ++ c' ∷ after)
+    (leave-same a calls (fetches_leave c.slot size c.want c.place f.0 calls f.1))))
+act_others a (Closed name before after c named) apart =
+    subst (λ (l : List Cursor). SameOthers a l (HeldBy a (Returns c.slot)) (before ++ after)) (sym named.place)
+    (others-without a before after c)
+
+-- those of a dialogue
+pub dialogue_held : (a : ℕ → ℕ → Type 0) (size : ℕ) (xs : List Exchange) (calls : Calls) (cursors cursors' : List Cursor)
+    → AreExchanged size cursors xs calls cursors' → AreApart a calls → AreHeld a cursors
+    → AreHeld (HeldAfter a calls) cursors'
+dialogue_held a size [] calls cursors cursors' x apart h =
+    subst (λ (cs : Calls). AreHeld (HeldAfter a cs) cursors') (sym x.0) (subst (AreHeld a) (sym x.1) h)
+dialogue_held a size (x ∷ xs) calls cursors cursors' d apart h =
+    let parts = apart-parts a d.0 d.1 (subst (AreApart a) d.4 apart) in
+    subst (λ (cs : Calls). AreHeld (HeldAfter a cs) cursors') (sym d.4)
+    (subst (λ (f : ℕ → ℕ → Type 0). AreHeld f cursors') (sym (after-append a d.0 d.1))
+    (dialogue_held (HeldAfter a d.0) size xs d.1 d.2 cursors' d.5 parts.1 (act_held a d.3.does parts.0 h)))

@@ -1,0 +1,243 @@
+-- For callers: what is done for a request and how it is answered. An act makes calls, with their replies in order, has
+-- reply lines, and leaves cursors open. A command allows some acts.
+-- Want of memory may take the place of a reply; the request has then done nothing, but a search may have listed some of
+-- its hits.
+use Rattle.std.specs.Prelude.{◌≡◌, ◌⊎◌, ℕ, ◌+◌, Bool, true, false, if◌then◌else◌, List, [], ◌∷◌, ◌++◌, length, map, Option, None, Some, Result, Ok, Err}
+use Rattle.io_edge.specs.Lines.{Whole}
+use Rattle.mol_finish.specs.declared.fault.Format.{Format}
+use Rattle.mol_finish.specs.declared.fault.Format.TheVariants.{Smiles, Molfile}
+use Rattle.smarts_parse.specs.Pattern.{PatternTerm}
+use Rattle.shell_lang.specs.declared.command.LineRefusal.{LineRefusal}
+use Rattle.shell_lang.specs.declared.reply.Refusal.{Refusal}
+use Rattle.shell_lang.specs.declared.reply.Refusal.TheVariants as refusals
+use Rattle.shell_lang.specs.Command as command
+use Rattle.shell_lang.specs.Command.{Command, IsLine}
+use Rattle.shell_lang.specs.Reply as line
+use Rattle.store_machine.specs.Answers.{AreMatched}
+use Rattle.store_machine.specs.Searches.{Place, At, End, past}
+use Rattle.store_machine.specs.Structures.{IsNeedOf, IsText}
+use Rattle.store_machine.specs.declared.machine.Change.{Change}
+use Rattle.store_machine.specs.declared.machine.Change.TheVariants as changes
+use Rattle.store_machine.specs.declared.machine.Event.{Event}
+use Rattle.store_machine.specs.declared.machine.Event.TheVariants as events
+use Rattle.store_machine.specs.declared.machine.Found.{Found}
+use Rattle.store_machine.specs.declared.machine.Reply.{Reply}
+use Rattle.store_machine.specs.declared.machine.Reply.TheVariants as replies
+use Rattle.store_machine.specs.declared.machine.Status.{Status}
+use Rattle.store_machine.specs.declared.machine.Status.TheVariants as status
+use Rattle.session_run.specs.Cursors.{Calls, Cursor, IsNoName, IsSearched}
+use Rattle.session_run.specs.Requests.{Request, IsLong, molfile_text}
+use Rattle.session_run.specs.Texts.{IsTextFault, IsPatternOf, IsPatternFault}
+
+-- reply lines
+abbrev pub Lines : Type 0
+Lines = List line.Reply
+
+-- what is said where nothing is called
+pub data Note : Type 0 where
+  Silence : Note
+  Refused : (refusal : Refusal) → Note
+  Fault : Note
+
+abbrev pub note_lines : Note → Lines
+note_lines Silence = []
+note_lines (Refused refusal) = line.Refused refusal ∷ []
+note_lines Fault = line.MemoryFault ∷ []
+
+-- the acts: a note alone; one call, of a change too; a search; a cursor that is opened, that turns a page, that is
+-- closed
+pub data Act : Type 0 where
+  Say : (note : Note) → Act
+  Ask : (event : Event) → Act
+  Search : (pattern : PatternTerm) → Act
+  Open : (name : List ℕ) (pattern : PatternTerm) → Act
+  Turn : (name : List ℕ) → Act
+  Close : (name : List ℕ) → Act
+
+-- what an identifier is, as `show` says it
+abbrev pub shown : ℕ → Option Status → line.Reply
+shown id None = line.Refused refusals.Absent
+shown id (Some (status.Live version format text)) = line.Shown id version format text
+shown id (Some (status.Withdrawn version)) = line.Gone id version
+
+-- the line that the reply to a call gives. There may be no room for what `show` found; no pin may be free
+abbrev pub IsLineOf : Event → Reply → line.Reply → Type 0
+IsLineOf (events.Commit change) (replies.Committed version) said = said ≡ line.Accepted version
+IsLineOf (events.Commit change) replies.Known said = said ≡ line.Refused refusals.Known
+IsLineOf (events.Commit change) replies.Absent said = said ≡ line.Refused refusals.Absent
+IsLineOf (events.Commit change) replies.Withdrawn said = said ≡ line.Refused refusals.Withdrawn
+IsLineOf (events.Commit change) replies.Full said = said ≡ line.Refused refusals.Full
+IsLineOf (events.Commit change) (replies.DiskFault doubt) said = said ≡ line.DiskFault doubt
+IsLineOf (events.Commit change) replies.NoMemory said = said ≡ line.MemoryFault
+IsLineOf (events.Look id) (replies.Looked state) said = (said ≡ shown id state) ⊎ (said ≡ line.MemoryFault)
+IsLineOf (events.Look id) replies.NoMemory said = said ≡ line.MemoryFault
+IsLineOf events.Prune (replies.Pruned count) said = said ≡ line.Pruned count
+IsLineOf events.Stats (replies.Counted version live withdrawn kept pins) said =
+    said ≡ line.Counts version live withdrawn kept pins
+IsLineOf events.Pin replies.NoPin said = said ≡ line.Refused refusals.Pins
+IsLineOf _ _ said = ⊥
+
+-- some of the hits, and then memory ran out
+abbrev pub IsCutShort : List ℕ → Lines → Type 0
+IsCutShort hits lines = (some others : List ℕ) × (hits ≡ some ++ others)
+    × (lines ≡ map line.Hit some ++ line.MemoryFault ∷ [])
+
+-- a search that came to its end lists its hits and their end, or is cut short; any other is cut short
+abbrev pub Lists : Place → ℕ → ℕ → List ℕ → Lines → Type 0
+Lists End version tried hits lines = (lines ≡ map line.Hit hits ++ line.End version tried (length hits) ∷ [])
+    ⊎ IsCutShort hits lines
+Lists (At from) version tried hits lines = IsCutShort hits lines
+
+-- a pin, pages, and the pin is given back
+pub record Searches (size : ℕ) (pattern : PatternTerm) (calls : Calls) (lines : Lines) : Type 0 where
+  pub slot : ℕ
+  pub version : ℕ
+  pub place : Place
+  pub pages : Calls
+  pub tried : ℕ
+  pub hits : List ℕ
+  pub made : calls ≡ (events.Pin, replies.Pinned slot version) ∷ (pages ++ (events.Unpin slot, replies.Unpinned) ∷ [])
+  pub searched : IsSearched pattern slot size place pages tried hits
+  pub lists : Lists place version tried hits lines
+
+-- a cursor before its first page
+abbrev pub new_cursor : List ℕ → PatternTerm → List Bool → ℕ → ℕ → Cursor
+new_cursor name pattern want slot version = record {
+  name = name;
+  pattern = pattern;
+  want = want;
+  slot = slot;
+  version = version;
+  place = At 0;
+  tried = 0;
+  hits = 0;
+}
+
+-- the cursor after a page
+abbrev pub after_page : Cursor → ℕ → List Found → Bool → List ℕ → Cursor
+after_page c from records last hits = record c {
+  place = if last then End else At (past from records);
+  tried = c.tried + length records;
+  hits = c.hits + length hits;
+}
+
+abbrev pub page_end : Bool → Cursor → line.Reply
+page_end true c = line.End c.version c.tried c.hits
+page_end false c = line.More
+
+-- how a cursor goes on: a page, with its hits; after the last page the end alone. A fetch may find no memory
+pub data Advances (size : ℕ) (c : Cursor) : Calls → Lines → Cursor → Type 0 where
+  Ended : (at : c.place ≡ End) → Advances size c [] (page_end true c ∷ []) c
+  Paged : (from : ℕ) (records : List Found) (last : Bool) (hits : List ℕ) (at : c.place ≡ At from)
+      (matched : AreMatched c.pattern records hits)
+      → Advances size c ((events.Fetch c.slot c.want from size, replies.Page records last) ∷ [])
+      (map line.Hit hits ++ page_end last (after_page c from records last hits) ∷ [])
+      (after_page c from records last hits)
+  Lost : (from : ℕ) (at : c.place ≡ At from)
+      → Advances size c ((events.Fetch c.slot c.want from size, replies.NoMemory) ∷ []) (line.MemoryFault ∷ []) c
+
+-- the cursor of a name is in its place among the others
+pub record IsNamed (name : List ℕ) (cursors before : List Cursor) (c : Cursor) (after : List Cursor) : Type 0 where
+  pub place : cursors ≡ before ++ c ∷ after
+  pub named : c.name ≡ name
+
+-- what an act does where these cursors are open: its calls, its lines, and the cursors that are open then. Pages have
+-- a size
+pub data Does (size : ℕ) (cursors : List Cursor) : Act → Calls → Lines → List Cursor → Type 0 where
+  Says : (note : Note) → Does size cursors (Say note) [] (note_lines note) cursors
+  Asks : (event : Event) (reply : Reply) (said : line.Reply) (is : IsLineOf event reply said)
+      → Does size cursors (Ask event) ((event, reply) ∷ []) (said ∷ []) cursors
+  Searched : (pattern : PatternTerm) (calls : Calls) (lines : Lines) (found : Searches size pattern calls lines)
+      → Does size cursors (Search pattern) calls lines cursors
+  Opened : (name : List ℕ) (pattern : PatternTerm) (want : List Bool) (slot version : ℕ) (new : IsNoName cursors name)
+      (need : IsNeedOf pattern want)
+      → Does size cursors (Open name pattern) ((events.Pin, replies.Pinned slot version) ∷ [])
+      (line.Opened version ∷ []) (cursors ++ new_cursor name pattern want slot version ∷ [])
+  Turned : (name : List ℕ) (before after : List Cursor) (c c' : Cursor) (calls : Calls) (lines : Lines)
+      (named : IsNamed name cursors before c after) (advances : Advances size c calls lines c')
+      → Does size cursors (Turn name) calls lines (before ++ c' ∷ after)
+  Closed : (name : List ℕ) (before after : List Cursor) (c : Cursor) (named : IsNamed name cursors before c after)
+      → Does size cursors (Close name) ((events.Unpin c.slot, replies.Unpinned) ∷ []) (line.Closed ∷ [])
+      (before ++ after)
+
+-- The acts that a command allows. A call with no text to look at
+abbrev pub MayAsk : Event → Act → Type 0
+MayAsk event (Say Fault) = Unit {0}
+MayAsk event (Ask other) = other ≡ event
+MayAsk event _ = ⊥
+
+-- a change to a text: the text is looked at first
+abbrev pub MayChange : Change → Format → List ℕ → Act → Type 0
+MayChange change format text (Say Fault) = Unit {0}
+MayChange change format text (Say (Refused (refusals.Text fault))) = IsTextFault format text fault
+MayChange change format text (Ask event) = (event ≡ events.Commit change) × IsText format text
+MayChange change format text _ = ⊥
+
+-- a search, where the text is a pattern and a pin is free
+abbrev pub MaySearch : List ℕ → Act → Type 0
+MaySearch text (Say Fault) = Unit {0}
+MaySearch text (Say (Refused (refusals.Pattern fault))) = IsPatternFault text fault
+MaySearch text (Ask event) = (event ≡ events.Pin) × (pattern : PatternTerm) × IsPatternOf text pattern
+MaySearch text (Search pattern) = IsPatternOf text pattern
+MaySearch text _ = ⊥
+
+-- a cursor is opened, where the name is free too
+abbrev pub MayOpen : List Cursor → List ℕ → List ℕ → Act → Type 0
+MayOpen cursors name text (Say Fault) = Unit {0}
+MayOpen cursors name text (Say (Refused (refusals.Pattern fault))) = IsPatternFault text fault
+MayOpen cursors name text (Say (Refused refusals.Cursor)) =
+    (pattern : PatternTerm) × IsPatternOf text pattern × ¬ IsNoName cursors name
+MayOpen cursors name text (Ask event) =
+    (event ≡ events.Pin) × (pattern : PatternTerm) × IsPatternOf text pattern × IsNoName cursors name
+MayOpen cursors name text (Open own pattern) = (own ≡ name) × IsPatternOf text pattern
+MayOpen cursors name text _ = ⊥
+
+-- the cursor of a name turns a page, or is closed
+abbrev pub MayTurn : List Cursor → List ℕ → Act → Type 0
+MayTurn cursors name (Say Fault) = Unit {0}
+MayTurn cursors name (Say (Refused refusals.Cursor)) = IsNoName cursors name
+MayTurn cursors name (Turn own) = own ≡ name
+MayTurn cursors name _ = ⊥
+
+abbrev pub MayClose : List Cursor → List ℕ → Act → Type 0
+MayClose cursors name (Say (Refused refusals.Cursor)) = IsNoName cursors name
+MayClose cursors name (Close own) = own ≡ name
+MayClose cursors name _ = ⊥
+
+-- by what the line is read as, with the text of the molfile that it may take
+abbrev pub Allows : List Cursor → List ℕ → Result Command LineRefusal → Act → Type 0
+Allows cursors molfile (Err refusal) act = act ≡ Say (Refused (refusals.Line refusal))
+Allows cursors molfile (Ok command.Empty) act = act ≡ Say Silence
+Allows cursors molfile (Ok (command.Register id text)) act =
+    MayChange (changes.Register id Smiles text) Smiles text act
+Allows cursors molfile (Ok (command.Revise id text)) act = MayChange (changes.Revise id Smiles text) Smiles text act
+Allows cursors molfile (Ok (command.RegisterMol id)) act =
+    MayChange (changes.Register id Molfile molfile) Molfile molfile act
+Allows cursors molfile (Ok (command.ReviseMol id)) act =
+    MayChange (changes.Revise id Molfile molfile) Molfile molfile act
+Allows cursors molfile (Ok (command.Withdraw id)) act = MayAsk (events.Commit (changes.Withdraw id)) act
+Allows cursors molfile (Ok (command.Show id)) act = MayAsk (events.Look id) act
+Allows cursors molfile (Ok (command.Search text)) act = MaySearch text act
+Allows cursors molfile (Ok (command.Start name text)) act = MayOpen cursors name text act
+Allows cursors molfile (Ok (command.Next name)) act = MayTurn cursors name act
+Allows cursors molfile (Ok (command.Close name)) act = MayClose cursors name act
+Allows cursors molfile (Ok command.Prune) act = MayAsk events.Prune act
+Allows cursors molfile (Ok command.Stats) act = MayAsk events.Stats act
+
+-- one of the acts was done that are allowed
+pub record Answers (size : ℕ) (Allowed : Act → Type 0) (cursors : List Cursor) (calls : Calls) (lines : Lines)
+    (cursors' : List Cursor) : Type 0 where
+  pub act : Act
+  pub allowed : Allowed act
+  pub does : Does size cursors act calls lines cursors'
+
+-- a line that is too long, among those of its molfile too, is refused before all else
+abbrev pub RequestAllows : List Cursor → Request → Act → Type 0
+RequestAllows cursors request act =
+    (IsLong request × (act ≡ Say (Refused refusals.Long)))
+    ⊎ (¬ IsLong request × (line : List ℕ) × (request.line ≡ Whole line) × (read : Result Command LineRefusal)
+    × IsLine line read × Allows cursors (molfile_text request.molfile) read act)
+
+abbrev pub RequestAnswer : ℕ → List Cursor → Request → Calls → Lines → List Cursor → Type 0
+RequestAnswer size cursors request calls lines cursors' =
+    Answers size (RequestAllows cursors request) cursors calls lines cursors'

@@ -1,0 +1,168 @@
+//! Commands of one call: changes of the store, `show`, `prune` and `stats`.
+ghost use Rattle.std.specs.Prelude.{◌≡◌, IfOk, List, ℕ};
+ghost use Rattle.std.specs.Arc.{arc_value};
+ghost use Rattle.shell_lang.specs.Reply.{reply_of};
+ghost use Rattle.store_core.specs.Calls.{NeedsNone, is_worn, is_worn_out};
+ghost use Rattle.store_core.specs.Replies.{IsLookOf, change_of, commit_calls, look_calls, prune_calls, stats_calls};
+ghost use Rattle.store_core.specs.declared.words.Change as asked;
+ghost use Rattle.store_machine.specs.declared.machine.Event.TheVariants as event;
+ghost use Rattle.store_machine.specs.History.{IsId};
+ghost use Rattle.session_run.specs.Acts.{Answers, MayAsk, MayChange};
+ghost use Rattle.session_run.specs.Cursors.{Cursor};
+ghost use Rattle.session_run.specs.Made.{AnsweredBy, Gives};
+ghost use Rattle.session_run.specs.Responds.{IsTextRefusal, change_by};
+
+use crate::say::{say, say_given, say_long};
+use crate::stop::Stop;
+use crate::texts::text_is_sound;
+use mol_finish::{Format, TextFault};
+use shell_lang::{Refusal, Reply};
+use std::sync::Arc;
+use store_core::{CallFault, Change, CommitFault, Look, Record, Recorder, Service, Stats};
+
+/// A change to a text.
+#[derive(Clone, Copy, Debug, PartialEq, Eq)]
+pub enum Verb {
+    Register,
+    Revise,
+}
+
+/// Which text is to be changed: by what, of which identifier, in which format.
+#[derive(Clone, Copy, Debug, PartialEq, Eq)]
+pub struct TextChange {
+    pub verb: Verb,
+    pub id: u32,
+    pub format: Format,
+}
+
+/// Commits a change to a text. The text is looked at first.
+pub fn change_text<S: Service>(
+    recorder: &mut Recorder,
+    service: &mut S,
+    change: TextChange,
+    text: &[u8],
+    out: &mut Vec<u8>,
+) -> Result<(), Stop>
+    requires { IsId change.id }
+    ensures { (size : ℕ) (cursors : List Cursor) → AnsweredBy S.Service service.old service.new
+        (Answers size (MayChange (change_by change.verb change.id change.format text.now) change.format text.now) cursors)
+        out.old.items out.new.items cursors result }
+{
+    let record = match recorder.record(change.id, change.format, text) {
+        Ok(record) => record,
+        Err(fault) => return say(&refuse_text(fault), out),
+    };
+    text_is_sound(&record);
+    commit(service, change_to(change.verb, record), out)
+}
+
+// The change that a verb makes.
+fn change_to(verb: Verb, entry: Arc<Record>) -> Change
+    ensures { let r = arc_value entry in change_of result ≡ change_by verb r.id r.format r.text }
+{
+    match verb {
+        Verb::Register => Change::Register(entry),
+        Verb::Revise => Change::Revise(entry),
+    }
+}
+
+/// Commits a change.
+pub fn commit<S: Service>(service: &mut S, change: Change, out: &mut Vec<u8>) -> Result<(), Stop>
+    ensures { (size : ℕ) (cursors : List Cursor) → AnsweredBy S.Service service.old service.new
+        (Answers size (MayAsk (event.Commit (change_of change))) cursors) out.old.items out.new.items cursors result }
+{
+    let answer = service.commit(change);
+    say_given(commit_line(answer), out)
+}
+
+// The line of a commit.
+fn commit_line(answer: Result<u32, CommitFault>) -> Result<Reply, Stop>
+    ensures { (change : asked.Change)
+        → Gives (event.Commit (change_of change)) (commit_calls change answer) (is_worn_out answer) result }
+{
+    match answer {
+        Ok(version) => Ok(Reply::Accepted { version }),
+        Err(CommitFault::Known) => Ok(Reply::Refused(Refusal::Known)),
+        Err(CommitFault::Absent) => Ok(Reply::Refused(Refusal::Absent)),
+        Err(CommitFault::Withdrawn) => Ok(Reply::Refused(Refusal::Withdrawn)),
+        Err(CommitFault::Full) => Ok(Reply::Refused(Refusal::Full)),
+        Err(CommitFault::DiskFault { doubt }) => Ok(Reply::DiskFault { doubt }),
+        Err(CommitFault::NoMemory) => Ok(Reply::MemoryFault),
+        Err(CommitFault::Worn) => Err(Stop::Worn),
+    }
+}
+
+/// Drops the entries that nobody reads.
+pub fn prune<S: Service>(service: &mut S, out: &mut Vec<u8>) -> Result<(), Stop>
+    ensures { (size : ℕ) (cursors : List Cursor) → AnsweredBy S.Service service.old service.new
+        (Answers size (MayAsk event.Prune) cursors) out.old.items out.new.items cursors result }
+{
+    let answer = service.prune();
+    say_given(prune_line(answer), out)
+}
+
+// The line of `prune`.
+fn prune_line(answer: Result<u32, CallFault>) -> Result<Reply, Stop>
+    requires { NeedsNone answer }
+    ensures { Gives event.Prune (prune_calls answer) (is_worn answer) result }
+{
+    match answer {
+        Ok(count) => Ok(Reply::Pruned { count }),
+        Err(CallFault::Worn) => Err(Stop::Worn),
+        Err(CallFault::NoMemory) => unreachable!(),
+    }
+}
+
+/// What an identifier is.
+pub fn show<S: Service>(service: &mut S, id: u32, out: &mut Vec<u8>) -> Result<(), Stop>
+    ensures { (size : ℕ) (cursors : List Cursor) → AnsweredBy S.Service service.old service.new
+        (Answers size (MayAsk (event.Look id)) cursors) out.old.items out.new.items cursors result }
+{
+    let answer = service.look(id);
+    say_long(look_line(id, answer), out)
+}
+
+// The line of `show`.
+fn look_line(id: u32, answer: Result<Look, CallFault>) -> Result<Reply, Stop>
+    requires { IfOk answer (λ l. IsLookOf id l) }
+    ensures { Gives (event.Look id) (look_calls id answer) (is_worn answer) result }
+{
+    match answer {
+        Ok(Look::Absent) => Ok(Reply::Refused(Refusal::Absent)),
+        Ok(Look::Live { version, entry }) => Ok(Reply::Shown { version, entry }),
+        Ok(Look::Withdrawn { version }) => Ok(Reply::Gone { id, version }),
+        Err(CallFault::NoMemory) => Ok(Reply::MemoryFault),
+        Err(CallFault::Worn) => Err(Stop::Worn),
+    }
+}
+
+/// Counts.
+pub fn stats<S: Service>(service: &mut S, out: &mut Vec<u8>) -> Result<(), Stop>
+    ensures { (size : ℕ) (cursors : List Cursor) → AnsweredBy S.Service service.old service.new
+        (Answers size (MayAsk event.Stats) cursors) out.old.items out.new.items cursors result }
+{
+    let answer = service.stats();
+    say_given(stats_line(answer), out)
+}
+
+// The line of `stats`.
+fn stats_line(answer: Result<Stats, CallFault>) -> Result<Reply, Stop>
+    requires { NeedsNone answer }
+    ensures { Gives event.Stats (stats_calls answer) (is_worn answer) result }
+{
+    match answer {
+        Ok(stats) => Ok(Reply::Counts(stats)),
+        Err(CallFault::Worn) => Err(Stop::Worn),
+        Err(CallFault::NoMemory) => unreachable!(),
+    }
+}
+
+// The refusal of a text.
+fn refuse_text(fault: TextFault) -> Reply
+    ensures { IsTextRefusal fault (reply_of result) }
+{
+    match fault {
+        TextFault::NoMemory => Reply::MemoryFault,
+        TextFault::Smiles(_) | TextFault::Molfile(_) => Reply::Refused(Refusal::Text(fault)),
+    }
+}

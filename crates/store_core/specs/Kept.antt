@@ -1,0 +1,98 @@
+-- For callers: the kept entries of a store. Each has an identifier, a version, and the record that its commit left, if
+-- it left one.
+use Rattle.std.specs.Prelude.{◌≡◌, ◌≢◌, ◌<◌, ◌≤◌, ◌↔◌, AllPairs, Bool, Contains, filter, IfSome, length, List, None, Option, Some, ℕ}
+use Rattle.std.specs.Arc.{arc_value}
+use Rattle.std.specs.Borrow.{Bor}
+use Rattle.chem_core.specs.Bits.{HasBit}
+use Rattle.record_versions.specs.Entries.{IsReserved, chain_of, entries}
+use Rattle.record_versions.specs.Rows.{Row}
+use Rattle.record_versions.specs.declared.chain.Entry.{Entry as Versioned}
+use Rattle.screen_index.specs.Pairs.{is_other, put_in, rank}
+use Rattle.screen_index.specs.declared.entry.Screened.{Screened}
+use Rattle.store_machine.specs.declared.machine.Entry.{Entry}
+use Rattle.store_machine.specs.declared.machine.Status.{Status}
+use Rattle.store_machine.specs.declared.machine.Status.TheVariants.{Live, Withdrawn}
+use Rattle.store_core.specs.Records.{IsRecord, Shared}
+
+-- an entry of an identifier
+abbrev pub Kept : Type 0
+Kept = Versioned (Option Shared)
+
+abbrev pub Chains : Type 0
+Chains = List (ℕ × Row (Option Shared))
+
+-- the state as the machine knows it
+abbrev pub status_in : ℕ → Option Shared → Status
+status_in version None = Withdrawn version
+status_in version (Some r) = Live version (arc_value r).format (arc_value r).text
+
+abbrev pub status_of : Kept → Status
+status_of k = status_in k.version k.value
+
+-- its record is one of this identifier
+abbrev pub IsEntryOf : ℕ → Option Shared → Type 0
+IsEntryOf id None = Unit {0}
+IsEntryOf id (Some r) = IsRecord (arc_value r) × ((arc_value r).id ≡ id)
+
+-- what contracts see of them: the entries by identifiers, and the print that memory was taken for
+pub record KeptTerm : Type 0 where
+  pub chains : Chains
+  pub reserved : Option (List Bool)
+
+-- what was found of an identifier
+abbrev pub kept_of : Option (ℕ × Bor (Option Shared)) → Option Kept
+kept_of None = None
+kept_of (Some r) = Some (record { version = r.0; value = r.1.now })
+
+-- the record that was found, if there is one
+abbrev pub record_of : Option Kept → Option Shared
+record_of None = None
+record_of (Some k) = k.value
+
+-- it has a record, whose print has each bit that is wanted
+abbrev pub HasPrint : List Bool → Option Shared → Type 0
+HasPrint want None = ⊥
+HasPrint want (Some r) = (bit : ℕ) → HasBit want bit → HasBit (arc_value r).print bit
+
+-- there is memory for one entry more of an identifier, with this print, where it has one
+pub record HasRoom (id : ℕ) (own : Option (List Bool)) (kept : KeptTerm) : Type 0 where
+  pub chain : IsReserved id kept.chains
+  pub print : IfSome own (λ p. kept.reserved ≡ Some p)
+
+-- the least identifier from one on that has an entry with such a print; none where none has
+abbrev pub IsNextId : List Bool → ℕ → Chains → Option ℕ → Type 0
+IsNextId want from chains None = (id : ℕ) (k : Kept) → from ≤ id → Contains (chain_of chains id) k
+    → ¬ HasPrint want k.value
+IsNextId want from chains (Some next) = (from ≤ next)
+    × ((k : Kept) × Contains (chain_of chains next) k × HasPrint want k.value)
+    × ((id : ℕ) (k : Kept) → from ≤ id → Contains (chain_of chains id) k → HasPrint want k.value → next ≤ id)
+
+-- an identifier has an entry of a version
+abbrev pub HasEntry : Chains → Entry → Type 0
+HasEntry chains e = (k : Kept) × Contains (chain_of chains e.id) k × (k.version ≡ e.version)
+
+-- a list of the entries, each once
+pub record Lists (es : List Entry) (chains : Chains) : Type 0 where
+  pub distinct : AllPairs (λ x y. x ≢ y) es
+  pub exactly : (e : Entry) → Contains es e ↔ HasEntry chains e
+  pub count : length (entries chains) ≡ length es
+
+-- a print more in an index, where the entry has a record
+abbrev pub with_print : ℕ → ℕ → Option Shared → List Screened → List Screened
+with_print id version None xs = xs
+with_print id version (Some r) xs = put_in (record { id = id; version = version; print = (arc_value r).print }) xs
+
+-- and one fewer
+abbrev pub without_print : ℕ → ℕ → Option Shared → List Screened → List Screened
+without_print id version None xs = xs
+without_print id version (Some r) xs = filter (is_other (rank id version)) xs
+
+-- An index has the prints of the entries that have a record, and those alone. For private clauses alone.
+pub record AreIndexed (chains : Chains) (xs : List Screened) : Type 0 where
+  pub ascending : (id : ℕ) → AllPairs (λ k l. k.version < l.version) (chain_of chains id)
+  pub versions : (x : Screened) → Contains xs x → x.version < 4294967296
+  pub only : (x : Screened) → Contains xs x → (r : Shared) × (x.print ≡ (arc_value r).print)
+      × Contains (chain_of chains x.id) (record { version = x.version; value = Some r })
+  pub all : (id version : ℕ) (r : Shared)
+      → Contains (chain_of chains id) (record { version = version; value = Some r })
+      → Contains xs (record { id = id; version = version; print = (arc_value r).print })

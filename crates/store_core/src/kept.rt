@@ -1,0 +1,176 @@
+//! The kept entries of a store, and an index of the prints of those that have a record.
+ghost use Rattle.std.specs.Prelude.{◌≡◌, ◌==◌, ◌+◌, ◌++◌, ◌<◌, ◌↔◌, ℕ, [], ◌∷◌, All, Contains, IfSome, List, OnOk, Option, Some, filter, if◌then◌else◌, length, option_copied, option_map};
+ghost use Rattle.std.specs.Arc.{arc_value};
+ghost use Rattle.record_versions.specs.Entries.{IsLatest, IsRead, chain_of, entries, is_other};
+ghost use Rattle.store_machine.specs.declared.machine.Entry.{Entry};
+ghost use Rattle.store_core.specs.Kept.{HasEntry, HasRoom, IsNextId, Kept, Lists, kept_of, with_print, without_print};
+ghost use Rattle.store_core.specs.Records.{Shared};
+ghost use Rattle.screen_index.specs.Pairs.{Lacks, rank};
+
+use crate::record::Record;
+use chem_core::Print;
+use record_versions::{Chains, Steps};
+use screen_index::ScreenIndex;
+use std::alloc::{AllocError, Global};
+use std::marker::{Brand, Model};
+use std::sync::Arc;
+use std::sync::ledger::{Blank, Ledger};
+
+/// Entries by identifier and version, each with the record that its commit left, if it left one. Contracts see the
+/// entries, and the print for which memory was taken.
+#[derive(Drop)]
+pub struct KeptEntries {
+    chains: Chains<Option<Arc<Record>>>,
+    index: ScreenIndex,
+}
+
+impl Model for KeptEntries {
+    ghost use Rattle.store_core.specs.Kept.{AreIndexed, KeptTerm};
+
+    ghost Value = { KeptTerm };
+
+    ghost view = { λ e. record { chains = e.chains; reserved = e.index.reserved } };
+
+    ghost invariant = { λ e. AreIndexed e.chains e.index.entries };
+}
+
+impl KeptEntries {
+    /// Without entries. It takes no memory.
+    pub fn new(alloc: Global) -> KeptEntries
+        ensures { result.chains ≡ [] }
+    {
+        KeptEntries {
+            chains: Chains::new(alloc),
+            index: ScreenIndex::new(alloc),
+        }
+    }
+
+    /// Takes the memory of one entry more of an identifier, with this print, where it has one.
+    pub fn reserve(&mut self, id: u32, print: Option<&Print>) -> Result<(), AllocError>
+        ensures ok { OnOk result (HasRoom id (option_copied print.entry) self.new) }
+        ensures entries { entries self.new.chains ≡ entries self.old.chains }
+        ensures chains { (q : ℕ) → chain_of self.new.chains q ≡ chain_of self.old.chains q }
+    {
+        self.chains.reserve(id)?;
+        match print {
+            Some(print) => self.index.reserve(print),
+            None => Ok(()),
+        }
+    }
+
+    /// One entry more, whose version exceeds the identifier's others. It takes no memory.
+    pub fn add(&mut self, id: u32, version: u32, entry: Option<Arc<Record>>)
+        requires room { HasRoom id (option_map (λ (r : Shared). (arc_value r).print) entry) self.old }
+        requires later { All (λ k. k.version < version) (chain_of self.old.chains id) }
+        requires few { length (entries self.old.chains) < u32.MAX }
+        ensures chains { (q : ℕ) → chain_of self.new.chains q ≡ (if q == id
+            then chain_of self.old.chains id ++ record { version = version; value = entry } ∷ []
+            else chain_of self.old.chains q) }
+        ensures one_more { length (entries self.new.chains) ≡ length (entries self.old.chains) + 1 }
+    {
+        add_print(&mut self.index, id, version, &entry);
+        self.chains.add(id, version, entry);
+    }
+
+    /// The version and the record of an identifier's latest entry that is not after `version`. It takes one step.
+    pub fn at<L: Ledger>(
+        &self,
+        id: u32,
+        version: u32,
+        steps: &mut Steps<L>,
+    ) -> Option<(u32, &Option<Arc<Record>>)>
+        ensures latest { IsLatest version (chain_of self.now.chains id) (kept_of result) }
+        ensures steps { steps.new ≡ steps.old + 1 }
+    {
+        self.chains.at(id, version, steps)
+    }
+
+    /// The same, where nobody counts the steps.
+    pub fn latest(&self, id: u32, version: u32) -> Option<(u32, &Option<Arc<Record>>)>
+        ensures { IsLatest version (chain_of self.now.chains id) (kept_of result) }
+    {
+        self.latest_by::<Brand>(id, version, Blank::new(1))
+    }
+
+    fn latest_by<L: Ledger>(
+        &self,
+        id: u32,
+        version: u32,
+        blank: Blank,
+    ) -> Option<(u32, &Option<Arc<Record>>)>
+        requires name { blank.name ≡ L.name }
+        requires parts { blank.parts ≡ L.parts }
+        requires some { 0 < blank.parts }
+        ensures { IsLatest version (chain_of self.now.chains id) (kept_of result) }
+    {
+        self.at(id, version, &mut Steps::<L>::open(blank))
+    }
+
+    /// The least identifier from `from` on that has an entry whose print holds what is wanted.
+    pub fn next(&self, want: &Print, from: u32) -> Option<u32>
+        ensures { IsNextId want.now from self.now.chains result }
+    {
+        let (id, _) = self.index.next(want, (from, 0))?;
+        Some(id)
+    }
+
+    /// Takes out each entry that is its identifier's latest at none of some versions, and returns how many. It takes no
+    /// memory.
+    pub fn prune(&mut self, live: &[u32]) -> u32
+        ensures left { (id : ℕ) (k : Kept) → Contains (chain_of self.new.chains id) k
+            ↔ (Contains (chain_of self.old.chains id) k × IsRead live.now (chain_of self.old.chains id) k) }
+        ensures lists { (es : List Entry) → Lists es self.old.chains → (left : List Entry)
+            × Lists left self.new.chains × (result + length left ≡ length es) }
+    {
+        let before = self.chains.kept();
+        let mut from = (0, 0);
+        while let Some((id, version)) = self.chains.dead_from(from, live) {
+            self.take(id, version);
+            from = (id, version);
+        }
+        before - self.chains.kept()
+    }
+
+    // Takes an entry out of the chains, and its print out of the index.
+    fn take(&mut self, id: u32, version: u32)
+        requires { HasEntry self.old.chains (record { id = id; version = version }) }
+        ensures chains { (q : ℕ) → chain_of self.new.chains q ≡ (if q == id
+            then filter (is_other version) (chain_of self.old.chains id)
+            else chain_of self.old.chains q) }
+        ensures fewer { length (entries self.new.chains) + 1 ≡ length (entries self.old.chains) }
+    {
+        let Some(entry) = self.chains.take(id, version) else {
+            unreachable!()
+        };
+        drop_print(&mut self.index, id, version, &entry);
+    }
+
+    /// How many entries there are. It takes no memory.
+    pub fn count(&self) -> u32
+        ensures { result ≡ length (entries self.now.chains) }
+    {
+        self.chains.kept()
+    }
+}
+
+// The print of an entry, where it has a record, into the index.
+fn add_print(index: &mut ScreenIndex, id: u32, version: u32, entry: &Option<Arc<Record>>)
+    requires reserved { IfSome entry.now (λ r. index.old.reserved ≡ Some (arc_value r).print) }
+    requires absent { Lacks (rank id version) index.old.entries }
+    ensures { index.new.entries ≡ with_print id version entry.now index.old.entries }
+{
+    if let Some(record) = entry {
+        index.add(id, version, record.print());
+    }
+}
+
+// And out of it.
+fn drop_print(index: &mut ScreenIndex, id: u32, version: u32, entry: &Option<Arc<Record>>)
+    requires { IfSome entry.now (λ r. Contains index.old.entries
+        (record { id = id; version = version; print = (arc_value r).print })) }
+    ensures { index.new.entries ≡ without_print id version entry.now index.old.entries }
+{
+    if let Some(record) = entry {
+        index.drop_entry(id, version, record.print());
+    }
+}
