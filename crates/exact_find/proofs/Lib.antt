@@ -4,3 +4,4 @@ pub mod Onto
 pub mod Maps
 pub mod Images
 pub mod Keys
+pub mod Steps

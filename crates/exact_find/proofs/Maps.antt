@@ -190,7 +190,7 @@ kept-back m n f g is count back kept u v kind has =
           (sym (back x.0.a) ∙ ap g e.0) same (turned m x.0.a x.0.b x.0.kind bond)
     ]
 
-alike-back : (x y : Atom) → IsAlike x y → IsAlike y x
+pub alike-back : (x y : Atom) → IsAlike x y → IsAlike y x
 alike-back x y like = record {
   number = sym like.number;
   isotope = sym like.isotope;
@@ -230,7 +230,7 @@ map-self m = record {
   kept = λ x y kind has. has;
 }
 
-alike-along : (x y z : Atom) → IsAlike x y → IsAlike y z → IsAlike x z
+pub alike-along : (x y z : Atom) → IsAlike x y → IsAlike y z → IsAlike x z
 alike-along x y z one two = record {
   number = one.number ∙ two.number;
   isotope = one.isotope ∙ two.isotope;

@@ -38,7 +38,7 @@ sum_below f xs ys (suc k) long one below =
     subst (λ n. sum (take n xs) ≤ sum ys) next (omega arith)
 
 -- where f takes some number below the limit
-find_below : (f : ℕ → ℕ) (y n : ℕ) → ((x : ℕ) × (x < n) × (f x ≡ y)) ⊎ ((x : ℕ) → x < n → f x ≡ y → ⊥)
+pub find_below : (f : ℕ → ℕ) (y n : ℕ) → ((x : ℕ) × (x < n) × (f x ≡ y)) ⊎ ((x : ℕ) → x < n → f x ≡ y → ⊥)
 find_below f y zero = inr (λ x h same. absurd (omega arith))
 find_below f y (suc n) =
     elim (cases_eq (f n) y) [
