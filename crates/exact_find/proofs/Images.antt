@@ -9,8 +9,9 @@ use Rattle.chem_core.specs.declared.mol.Atom.{Atom}
 use Rattle.chem_core.specs.declared.mol.BondKind.{BondKind}
 use Rattle.chem_core.specs.Molecule.{Molecule, IsMolecule, ends_of}
 use Rattle.exact_find.specs.Same.{HasBond, IsAlike, IsImage, IsSame}
+use Rattle.exact_find.specs.Pairs.{IsMap}
 use Rattle.exact_find.proofs.Onto.{IsOneToOne, onto}
-use Rattle.exact_find.proofs.Maps.{IsMap, Lies, lies, joins, some_one, turned}
+use Rattle.exact_find.proofs.Maps.{Lies, lies, joins, some_one, turned}
 
 -- the image of each atom; what is no atom stays
 pub image_map : List ℕ → ℕ → ℕ

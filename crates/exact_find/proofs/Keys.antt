@@ -16,8 +16,9 @@ use Rattle.chem_core.specs.Molecule.{Molecule, IsMolecule, ends_of}
 use Rattle.exact_find.specs.declared.key.Key.{Key}
 use Rattle.exact_find.specs.Key.{IsKey, atom_code, charge_code, code, codes}
 use Rattle.exact_find.specs.Same.{HasBond, IsAlike, IsSame}
+use Rattle.exact_find.specs.Pairs.{IsMap}
 use Rattle.exact_find.proofs.Onto.{IsOneToOne, sum_below}
-use Rattle.exact_find.proofs.Maps.{IsMap, Lies, Taken, taken, bonds-one, bond_at, map-back, joins}
+use Rattle.exact_find.proofs.Maps.{Lies, Taken, taken, bonds-one, bond_at, map-back, joins}
 use Rattle.exact_find.proofs.Images.{as_map}
 
 -- a sum is no less than one whose elements are no more than different ones of its own

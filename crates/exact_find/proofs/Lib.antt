@@ -5,3 +5,6 @@ pub mod Maps
 pub mod Images
 pub mod Keys
 pub mod Steps
+pub mod Near
+pub mod Flips
+pub mod Grow

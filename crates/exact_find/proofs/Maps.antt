@@ -8,20 +8,9 @@ use Rattle.chem_core.specs.declared.mol.BondKind.{BondKind}
 use Rattle.chem_core.specs.declared.mol.BondKind.TheVariants.{Single}
 use Rattle.chem_core.specs.Graph.{Ends, JoinsAt}
 use Rattle.chem_core.specs.Molecule.{Molecule, IsMolecule, ends_of}
-use Rattle.exact_find.specs.Same.{HasBond, IsAlike, IsImage, IsSame}
+use Rattle.exact_find.specs.Same.{HasBond, IsAlike}
+use Rattle.exact_find.specs.Pairs.{IsMap}
 use Rattle.exact_find.proofs.Onto.{IsOneToOne, onto}
-
--- f takes the atoms of m to those of n, and g back; beyond the atoms nothing is said of them but that
-pub record IsMap (m n : Molecule) (f g : ℕ → ℕ) : Type 0 where
-  pub atoms : length m.atoms ≡ length n.atoms
-  pub bonds : length m.bonds ≡ length n.bonds
-  pub within : (a : ℕ) → a < length m.atoms → f a < length n.atoms
-  pub within_back : (a : ℕ) → a < length n.atoms → g a < length m.atoms
-  pub back : (a : ℕ) → g (f a) ≡ a
-  pub forth : (a : ℕ) → f (g a) ≡ a
-  pub alike : (a : ℕ) (x : Atom) → slice_get m.atoms a ≡ Some x
-      → (y : Atom) × (slice_get n.atoms (f a) ≡ Some y) × IsAlike x y
-  pub kept : (x y : ℕ) (kind : BondKind) → HasBond m x y kind → HasBond n (f x) (f y) kind
 
 -- the bond at a place
 abbrev pub Lies : Molecule → ℕ → ℕ → ℕ → BondKind → Type 0
@@ -151,7 +140,7 @@ bonds-one m n f g is back kept = record {
       ((taken m n f kept j).is y.0 y.1);
 }
 
-same_kind : (n : Molecule) (c x y p q : ℕ) (k l : BondKind) → Lies n c x y k → Lies n c p q l → k ≡ l
+pub same_kind : (n : Molecule) (c x y p q : ℕ) (k l : BondKind) → Lies n c x y k → Lies n c p q l → k ≡ l
 same_kind n c x y p q k l one other =
     let kinds : (s t : Bond) → slice_get n.bonds c ≡ Some s → slice_get n.bonds c ≡ Some t → s.kind ≡ t.kind =
     λ s t e h. ap (λ (z : Bond). z.kind) (some_one s t (sym e ∙ h)) in

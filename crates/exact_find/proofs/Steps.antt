@@ -8,17 +8,10 @@ use Rattle.chem_core.specs.declared.mol.Atom.{Atom}
 use Rattle.chem_core.specs.declared.mol.BondKind.{BondKind}
 use Rattle.chem_core.specs.Molecule.{Molecule, IsMolecule}
 use Rattle.exact_find.specs.Same.{HasBond, IsAlike}
-use Rattle.exact_find.specs.Pairs.{Has, IsPaired, flip, Carries, IsPartial, IsLevel, IsPart}
+use Rattle.exact_find.specs.Pairs.{IsMap, Extends, Has, IsPaired, flip, Carries, IsPartial, IsLevel, IsPart}
 use Rattle.exact_find.proofs.Onto.{find_below}
 use Rattle.exact_find.proofs.Exchange.{Parts, changed, changed-in, changed-met, changed-out, changed-back, changed-kept}
-use Rattle.exact_find.proofs.Maps.{IsMap, turned, some_one, alike-along, map-back}
-
--- some map goes on from the pairs
-pub record Extends (m n : Molecule) (ps : List (ℕ × ℕ)) : Type 0 where
-  pub f : ℕ → ℕ
-  pub g : ℕ → ℕ
-  pub is : IsMap m n f g
-  pub goes : (a b : ℕ) → Has ps a b → f a ≡ b
+use Rattle.exact_find.proofs.Maps.{turned, some_one, alike-along, map-back}
 
 -- whether an atom is in a pair
 abbrev pub Decided : Type 0 → Type 0

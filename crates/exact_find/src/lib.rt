@@ -4,8 +4,11 @@
 //! bonds of the other. Equal structures have equal keys.
 #![tactic(auto)]
 
+mod fit;
 mod key;
 mod law;
+mod walk;
 
 pub use key::{Key, key_of};
 pub use law::{same_have_equal_keys, same_is_reflexive, same_is_symmetric, same_is_transitive};
+pub use walk::{SameScratch, same};
