@@ -8,3 +8,4 @@ pub mod Steps
 pub mod Near
 pub mod Flips
 pub mod Grow
+pub mod Walks

@@ -106,3 +106,10 @@ near_kind m a c ns k bonds b none are within same at to =
     let joined : JoinsAt (ends_of m) b a c = subst (λ n. JoinsAt (ends_of m) n a c) (sym at)
         (subst (λ n. JoinsAt (ends_of m) (get_or ns k (0, 0)).1 a n) to (near m a ns k are within)) in
     at_place m b a c (get_or bonds b none) joined read
+
+-- some bond joins an atom to its neighbour
+pub near_bond : (m : Molecule) (a : ℕ) (ns : List (ℕ × ℕ)) (k : ℕ) → AreNeighbours (ends_of m) a ns → k < length ns
+    → (kind : BondKind) × HasBond m a (get_or ns k (0, 0)).0 kind
+near_bond m a ns k are within =
+    let x = bond_at m (get_or ns k (0, 0)).1 (near_within m a ns k are within) in
+    (x.0.kind, at_place m (get_or ns k (0, 0)).1 a (get_or ns k (0, 0)).0 x.0 (near m a ns k are within) x.1)

@@ -76,3 +76,21 @@ onto f n y one within =
           let whole : take n ones ≡ ones = ap (λ k. take k ones) (sym long) ∙ take-length ones in
           absurd (omega (arith, ap sum whole))
     ]
+
+-- different numbers below a limit are no more than the limit
+pub one_to_one-le : (n m : ℕ) (f : ℕ → ℕ) → IsOneToOne n m f → n ≤ m
+one_to_one-le n m f one =
+    let left : List ℕ = replicate n 1 in
+    let right : List ℕ = replicate m 1 in
+    let long : length left ≡ n = length-replicate n 1 in
+    let room : length right ≡ m = length-replicate m 1 in
+    let total : sum left ≡ n * 1 = sum_by-replicate (λ (x : ℕ). x) n 1 in
+    let whole : sum right ≡ m * 1 = sum_by-replicate (λ (x : ℕ). x) m 1 in
+    let below : (i : ℕ) → i < n → get_or left i 0 ≤ get_or right (f i) 0 = λ i h.
+        let here : get_or left i 0 ≡ 1 = get_or-replicate n i 1 0 h in
+        let there : get_or right (f i) 0 ≡ 1 = get_or-replicate m (f i) 1 0 (one.within i h) in
+        omega arith in
+    let le : sum (take n left) ≤ sum right =
+        sum_below f left right n (omega arith) (subst (λ k. IsOneToOne n k f) (sym room) one) below in
+    let same : take n left ≡ left = ap (λ k. take k left) (sym long) ∙ take-length left in
+    omega (arith, ap sum same)
