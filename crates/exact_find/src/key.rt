@@ -1,7 +1,7 @@
 //! Keys of molecules: counts and sums that equal structures share.
 ghost use Rattle.std.specs.Prelude.{◌≡◌, ◌<◌, ◌*◌, ◌^◌, Some, length, slice_get};
 ghost use Rattle.chem_core.specs.declared.mol.Atom.{Atom};
-ghost use Rattle.chem_core.specs.Molecule.{IsAtom};
+ghost use Rattle.chem_core.specs.Molecule.{IsAtom, IsMolecule};
 ghost use Rattle.exact_find.specs.Key.{IsKey, atom_code, code};
 
 use chem_core::{Atom, Mol};
@@ -20,7 +20,8 @@ pub struct Key {
 
 /// The key of a molecule. Takes no memory.
 pub fn key_of(mol: &Mol) -> Key
-    ensures { IsKey mol.now result }
+    ensures key { IsKey mol.now result }
+    ensures valid { IsMolecule mol.now }
 {
     let mut sum = 0;
     let mut squares = 0;

@@ -9,6 +9,7 @@ ghost use Rattle.exact_find.specs.Same.{HasBond, IsSame};
 ghost use Rattle.exact_find.specs.Pairs.{Extends, Has, IsPaired, IsPartial, IsStep, flip};
 
 use crate::fit::{fits, partner, partner_back};
+use crate::key::key_of;
 use chem_core::{MOST_ATOMS, Mol};
 use std::alloc::{AllocError, Global};
 
@@ -28,13 +29,17 @@ impl SameScratch {
     }
 }
 
-/// Whether the molecules are the same structure. Takes no memory.
+/// Whether the molecules are the same structure: some one-to-one map of their atoms keeps element, isotope, charge,
+/// hydrogens and whether an atom is aromatic, and takes the bonds of one to the bonds of the other, with their kinds.
+///
+/// Takes no memory. The worst case takes exponential time.
 pub fn same(left: &Mol, right: &Mol, scratch: &mut SameScratch) -> bool
     ensures { IsTrue result ↔ IsSame left.now right.now }
 {
-    left.atoms().len() == right.atoms().len()
-        && left.bonds().len() == right.bonds().len()
-        && pair_all(left, right, &mut scratch.pairs)
+    if key_of(left) != key_of(right) {
+        return false;
+    }
+    pair_all(left, right, &mut scratch.pairs)
 }
 
 // Pairs all atoms, if they can be.
