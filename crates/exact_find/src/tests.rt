@@ -1,45 +1,36 @@
-//! One atom beside another that differs in one thing.
-use crate::{SameScratch, same};
+//! One atom beside another.
+ghost use Rattle.std.specs.Prelude.{◌≤◌};
+
+use crate::{SameScratch, key_of, same};
 use chem_core::{Atom, Mol};
+use std::alloc::{AllocError, Global};
 use std::test::Fail;
 
-// Methane.
-const CARBON: Atom = Atom {
-    number: 6,
-    isotope: 0,
-    charge: 0,
-    hydrogens: 4,
-    aromatic: false,
-    valence: 4,
-};
+// An atom with four hydrogens.
+fn alone(alloc: Global, number: u8) -> Result<Mol, AllocError>
+    requires { number ≤ 103 }
+{
+    let atom = Atom {
+        number,
+        isotope: 0,
+        charge: 0,
+        hydrogens: 4,
+        aromatic: false,
+        valence: 4,
+    };
+    let atoms = [atom].to_vec(alloc)?;
+    let smallest = [0].to_vec(alloc)?;
+    Mol::make(alloc, atoms, Vec::new(alloc), Vec::new(alloc), smallest)
+}
 
 #[test]
-fn atoms_alone(rt: HostRuntime) -> Result<(), Fail> {
+fn methane_and_silane(rt: HostRuntime) -> Result<(), Fail> {
     let mut scratch = SameScratch::reserve(rt.alloc())?;
-    let atoms = [CARBON].to_vec(rt.alloc())?;
-    let smallest = [0].to_vec(rt.alloc())?;
-    let carbon = Mol::make(
-        rt.alloc(),
-        atoms,
-        Vec::new(rt.alloc()),
-        Vec::new(rt.alloc()),
-        smallest,
-    )?;
-    let silicon_atom = Atom {
-        number: 14,
-        ..CARBON
-    };
-    let silicon_atoms = [silicon_atom].to_vec(rt.alloc())?;
-    let silicon_smallest = [0].to_vec(rt.alloc())?;
-    let silicon = Mol::make(
-        rt.alloc(),
-        silicon_atoms,
-        Vec::new(rt.alloc()),
-        Vec::new(rt.alloc()),
-        silicon_smallest,
-    )?;
-    assert!(rt; same(&carbon, &carbon, &mut scratch));
-    assert!(rt; !same(&carbon, &silicon, &mut scratch));
-    assert!(rt; same(&silicon, &silicon, &mut scratch));
+    let methane = alone(rt.alloc(), 6)?;
+    let silane = alone(rt.alloc(), 14)?;
+    assert!(rt; same(&methane, &methane, &mut scratch));
+    assert!(rt; !same(&methane, &silane, &mut scratch));
+    assert!(rt; same(&silane, &silane, &mut scratch));
+    assert_eq!(rt; key_of(&methane).sum, 13 * 2 * (256 * (31 * 6000 + 15) + 4));
     Ok(())
 }
