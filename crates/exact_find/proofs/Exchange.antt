@@ -1,7 +1,7 @@
 -- A map of atoms that keeps bonds is changed on a part of the atoms, for which another map is known: where the first
 -- map takes some other part to the images of that part, these two parts change places. For proofs alone.
-use Rattle.std.proofs.Common.{◌≡◌, ℕ, Bool, true, false, cond, refl, sym, ap, ◌∙◌, subst, inl, inr}
-use Rattle.std.proofs.lemmas.Bool.{cases_Bool, false≢true}
+use Rattle.std.proofs.Common.{◌≡◌, ℕ, Bool, true, false, cond, sym, ap, ◌∙◌, subst, inl, inr}
+use Rattle.std.proofs.lemmas.Bool.{cases_Bool}
 
 -- f takes the atoms of one side to those of the other, and g back; h takes the part d to the part e, and k back. Bonds of
 -- the part go to atoms outside that f takes outside of e; and no part is met by halves.

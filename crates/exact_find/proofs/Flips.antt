@@ -1,13 +1,9 @@
 -- Pairs the other way round, and one pair more.
-use Rattle.std.proofs.Common.{◌≡◌, ◌≢◌, ℕ, ◌+◌, ◌<◌, ◌≤◌, ◌⊎◌, inl, inr, List, [], ◌∷◌, ◌++◌, length, map, get_or, slice_get, Some, refl, sym, ap, ◌∙◌, subst, arith, length-append}
-use Rattle.std.proofs.lemmas.Bool.{cases_lt, cases_eq}
+use Rattle.std.proofs.Common.{◌≡◌, ◌≢◌, ℕ, ◌<◌, ◌⊎◌, inl, inr, List, [], ◌∷◌, ◌++◌, length, get_or, sym, ap, ◌∙◌, subst, arith, length-append}
+use Rattle.std.proofs.lemmas.Bool.{cases_lt}
 use Rattle.std.proofs.lemmas.List.{length-map, get_or-map, get_or_append_left}
 use Rattle.std.proofs.Math.Seq.{get_or-append_seam}
-use Rattle.chem_core.specs.declared.mol.Atom.{Atom}
-use Rattle.chem_core.specs.declared.mol.BondKind.{BondKind}
-use Rattle.chem_core.specs.Molecule.{Molecule, IsMolecule}
-use Rattle.exact_find.specs.Same.{HasBond, IsAlike}
-use Rattle.exact_find.specs.Pairs.{Extends, Has, IsPaired, flip, Carries, IsCarried, IsPartial}
+use Rattle.exact_find.specs.Pairs.{Has, IsPaired, flip}
 use Rattle.exact_find.proofs.Steps.{Turned}
 
 abbrev turn : ℕ × ℕ → ℕ × ℕ
@@ -41,8 +37,11 @@ none-paired_back ps a none has =
 
 -- one pair more
 pub has-old : (ps : List (ℕ × ℕ)) (a b c d : ℕ) → Has ps c d → Has (ps ++ (a, b) ∷ []) c d
-has-old ps a b c d has = (has.0, omega (arith, has.1, length-append ps ((a, b) ∷ [])),
-    get_or_append_left ps ((a, b) ∷ []) (0, 0) has.0 has.1 ∙ has.2)
+has-old ps a b c d has = (
+  has.0,
+  omega (arith, has.1, length-append ps ((a, b) ∷ [])),
+  get_or_append_left ps ((a, b) ∷ []) (0, 0) has.0 has.1 ∙ has.2,
+)
 
 pub last-at : (ps : List (ℕ × ℕ)) (a b : ℕ) → get_or (ps ++ (a, b) ∷ []) (length ps) (0, 0) ≡ (a, b)
 last-at ps a b = get_or-append_seam ps (a, b) [] (0, 0)

@@ -1,5 +1,5 @@
 -- One pair more: why it can be, and why it cannot.
-use Rattle.std.proofs.Common.{◌≡◌, ◌≢◌, ℕ, ◌+◌, ◌<◌, ◌≤◌, ◌⊎◌, inl, inr, List, [], ◌∷◌, ◌++◌, length, map, get_or, slice_get, Option, Some, None, is_some, IfSome, IfNone, true, false, refl, sym, ap, ◌∙◌, subst, arith, length-append}
+use Rattle.std.proofs.Common.{◌≡◌, ℕ, ◌<◌, inl, inr, List, [], ◌∷◌, ◌++◌, length, get_or, slice_get, Option, Some, None, is_some, IfSome, IfNone, true, false, sym, ap, ◌∙◌, subst, arith, length-append}
 use Rattle.std.proofs.lemmas.Bool.{cases_lt, false≢true}
 use Rattle.std.proofs.lemmas.List.{map-append, get_or_append_left}
 use Rattle.std.proofs.lemmas.Option.{slice_get-get_or, slice_get_within, get_or_from_slice_get}
@@ -48,9 +48,9 @@ no_loop m a kind is has =
     let at = lies m a a kind has in
     let none : ℕ × ℕ = (0, 0) in
     let stop : slice_get (ends_of m) at.0 ≡ Some (a, a) → ⊥ = λ read.
-        let same : get_or (ends_of m) at.0 none ≡ (a, a) = get_or_from_slice_get (ends_of m) at.0 (a, a) none read in
-        is.graph.distinct at.0 none (slice_get_within (ends_of m) at.0 (a, a) read)
-        (ap (λ (e : ℕ × ℕ). e.0) same ∙ sym (ap (λ (e : ℕ × ℕ). e.1) same)) in
+    let same : get_or (ends_of m) at.0 none ≡ (a, a) = get_or_from_slice_get (ends_of m) at.0 (a, a) none read in
+    is.graph.distinct at.0 none (slice_get_within (ends_of m) at.0 (a, a) read)
+    (ap (λ (e : ℕ × ℕ). e.0) same ∙ sym (ap (λ (e : ℕ × ℕ). e.1) same)) in
     elim (joins m at.0 a a kind at.1) [ inl one ↦ stop one | inr other ↦ stop other ]
 
 pub grow-carries : (m n : Molecule) (ps : List (ℕ × ℕ)) (a b : ℕ) (x y : Atom) → IsMolecule m
@@ -100,16 +100,16 @@ grow m n ps a b x y is too one two like free free_back carried carried_back old 
   apart = λ i j less within same.
       let long = length-append ps ((a, b) ∷ []) in
       let left : get_or (ps ++ (a, b) ∷ []) i (0, 0) ≡ get_or ps i (0, 0) =
-          get_or_append_left ps ((a, b) ∷ []) (0, 0) i (omega arith) in
+      get_or_append_left ps ((a, b) ∷ []) (0, 0) i (omega arith) in
       elim (cases_lt j (length ps)) [
         | inl inside ↦ old.apart i j less inside (ap (λ (p : ℕ × ℕ). p.0) (sym left) ∙ same
             ∙ ap (λ (p : ℕ × ℕ). p.0) (get_or_append_left ps ((a, b) ∷ []) (0, 0) j inside))
         | inr past ↦
             let at : j ≡ length ps = omega arith in
             let last : get_or (ps ++ (a, b) ∷ []) j (0, 0) ≡ (a, b) =
-                ap (λ k. get_or (ps ++ (a, b) ∷ []) k (0, 0)) at ∙ last-at ps a b in
+            ap (λ k. get_or (ps ++ (a, b) ∷ []) k (0, 0)) at ∙ last-at ps a b in
             let equal : (get_or ps i (0, 0)).0 ≡ a = ap (λ (p : ℕ × ℕ). p.0) (sym left) ∙ same
-                ∙ ap (λ (p : ℕ × ℕ). p.0) last in
+            ∙ ap (λ (p : ℕ × ℕ). p.0) last in
             let pair : ℕ × ℕ = get_or ps i (0, 0) in
             free (pair.1, (i, omega arith, ap (λ (z : ℕ). let p : ℕ × ℕ = (z, pair.1) in p) equal))
       ];

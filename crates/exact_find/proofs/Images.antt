@@ -1,17 +1,16 @@
 -- Lists of images as maps, and maps as lists of images.
-use Rattle.std.proofs.Common.{◌≡◌, ◌≢◌, ℕ, ◌+◌, ◌<◌, ◌≤◌, ◌⊎◌, inl, inr, List, length, map, get_or, slice_get, slice_index, Some, AllPairs, refl, sym, ap, ◌∙◌, subst, arith}
+use Rattle.std.proofs.Common.{◌≡◌, ℕ, ◌<◌, ◌≤◌, inl, inr, List, length, map, get_or, slice_get, slice_index, refl, sym, ap, ◌∙◌, subst, arith}
 use Rattle.std.specs.List.{range_with_len}
 use Rattle.std.proofs.lemmas.Bool.{cases_lt, cases_eq}
 use Rattle.std.proofs.lemmas.List.{get_or_past}
 use Rattle.std.proofs.lemmas.List.FromFn.{length-map-range_with_len, get_or-map-range_with_len}
 use Rattle.std.proofs.lemmas.Option.{slice_get-get_or, slice_get_within, slice_get_cases, get_or_from_slice_get}
-use Rattle.chem_core.specs.declared.mol.Atom.{Atom}
 use Rattle.chem_core.specs.declared.mol.BondKind.{BondKind}
 use Rattle.chem_core.specs.Molecule.{Molecule, IsMolecule, ends_of}
-use Rattle.exact_find.specs.Same.{HasBond, IsAlike, IsImage, IsSame}
+use Rattle.exact_find.specs.Same.{HasBond, IsImage, IsSame}
 use Rattle.exact_find.specs.Pairs.{IsMap}
 use Rattle.exact_find.proofs.Onto.{IsOneToOne, onto}
-use Rattle.exact_find.proofs.Maps.{Lies, lies, joins, some_one, turned}
+use Rattle.exact_find.proofs.Maps.{lies, joins, some_one, turned}
 
 -- the image of each atom; what is no atom stays
 pub image_map : List ℕ → ℕ → ℕ

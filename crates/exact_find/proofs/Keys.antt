@@ -1,5 +1,5 @@
 -- Molecules that are the same have equal keys.
-use Rattle.std.proofs.Common.{◌≡◌, ℕ, zero, suc, ◌+◌, ◌*◌, ◌<◌, ◌≤◌, ◌⊎◌, ◌||◌, eqb, Bool, true, false, cond, pos, inl, inr, List, length, map, take, get_or, slice_get, Some, sum, sum_by, refl, sym, ap, ◌∙◌, subst, arith}
+use Rattle.std.proofs.Common.{◌≡◌, ℕ, ◌+◌, ◌*◌, ◌<◌, ◌≤◌, ◌⊎◌, ◌||◌, eqb, Bool, true, false, cond, pos, inl, inr, List, length, map, get_or, slice_get, Some, sum, sym, ap, ◌∙◌, subst, arith}
 use Rattle.std.specs.List.{enumerate_from}
 use Rattle.std.proofs.Math.Nat.{mul-le-mul_left}
 use Rattle.std.proofs.Math.Seq.{take-length}
@@ -10,15 +10,14 @@ use Rattle.std.proofs.lemmas.List.Sums.{sum-map}
 use Rattle.std.proofs.lemmas.Option.{slice_get-get_or, slice_get_within, get_or_from_slice_get}
 use Rattle.chem_core.specs.declared.mol.Atom.{Atom}
 use Rattle.chem_core.specs.declared.mol.Bond.{Bond}
-use Rattle.chem_core.specs.declared.mol.BondKind.{BondKind}
 use Rattle.chem_core.specs.Graph.{Ends, degree}
 use Rattle.chem_core.specs.Molecule.{Molecule, IsMolecule, ends_of}
 use Rattle.exact_find.specs.declared.key.Key.{Key}
-use Rattle.exact_find.specs.Key.{IsKey, atom_code, charge_code, code, codes}
-use Rattle.exact_find.specs.Same.{HasBond, IsAlike, IsSame}
+use Rattle.exact_find.specs.Key.{IsKey, atom_code, code, codes}
+use Rattle.exact_find.specs.Same.{IsAlike, IsSame}
 use Rattle.exact_find.specs.Pairs.{IsMap}
 use Rattle.exact_find.proofs.Onto.{IsOneToOne, sum_below}
-use Rattle.exact_find.proofs.Maps.{Lies, Taken, taken, bonds-one, bond_at, map-back, joins}
+use Rattle.exact_find.proofs.Maps.{taken, bonds-one, bond_at, map-back, joins}
 use Rattle.exact_find.proofs.Images.{as_map}
 
 -- a sum is no less than one whose elements are no more than different ones of its own

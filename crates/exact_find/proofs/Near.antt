@@ -1,12 +1,11 @@
 -- The bonds of an atom, by its list of neighbours.
-use Rattle.std.proofs.Common.{◌≡◌, ◌≢◌, ℕ, ◌+◌, ◌<◌, ◌≤◌, ◌⊎◌, inl, inr, List, length, map, get_or, slice_get, Contains, Some, refl, sym, ap, ◌∙◌, subst, arith, below_more}
+use Rattle.std.proofs.Common.{◌≡◌, ℕ, ◌+◌, ◌<◌, inl, inr, List, length, get_or, slice_get, Some, sym, ap, ◌∙◌, subst, arith}
 use Rattle.std.proofs.lemmas.Bool.{cases_eq}
 use Rattle.std.proofs.lemmas.List.{length-map}
 use Rattle.std.proofs.lemmas.Option.{slice_get-get_or, slice_get_within}
 use Rattle.chem_core.specs.declared.mol.Bond.{Bond}
 use Rattle.chem_core.specs.declared.mol.BondKind.{BondKind}
-use Rattle.chem_core.specs.declared.mol.BondKind.TheVariants.{Single}
-use Rattle.chem_core.specs.Graph.{Ends, JoinsAt, AreNeighbours}
+use Rattle.chem_core.specs.Graph.{JoinsAt, AreNeighbours}
 use Rattle.chem_core.specs.Molecule.{Molecule, IsMolecule, ends_of}
 use Rattle.exact_find.specs.Same.{HasBond}
 use Rattle.exact_find.specs.Pairs.{Has, IsPaired, Carries, IsCarried}
@@ -37,8 +36,12 @@ pub near : (m : Molecule) (a : ℕ) (ns : List (ℕ × ℕ)) (k : ℕ) → AreNe
     → JoinsAt (ends_of m) (get_or ns k (0, 0)).1 a (get_or ns k (0, 0)).0
 near m a ns k are within =
     let pair : ℕ × ℕ = get_or ns k (0, 0) in
-    are.joined pair.0 pair.1 (k, within, some_one (get_or ns k pair) pair
-    (sym (slice_get-get_or ns k pair within) ∙ slice_get-get_or ns k (0, 0) within))
+    are.joined pair.0 pair.1 (
+      k,
+      within,
+      some_one (get_or ns k pair) pair
+          (sym (slice_get-get_or ns k pair within) ∙ slice_get-get_or ns k (0, 0) within),
+    )
 
 -- each neighbour is in the list
 pub near_each : (m : Molecule) (a c : ℕ) (kind : BondKind) (ns : List (ℕ × ℕ)) → AreNeighbours (ends_of m) a ns
@@ -48,7 +51,7 @@ near_each m a c kind ns are has =
     let pair : ℕ × ℕ = (c, at.0) in
     let in' = are.each c at.0 (joins m at.0 a c kind at.1) in
     let read : get_or ns in'.0 (0, 0) ≡ pair = some_one (get_or ns in'.0 (0, 0)) pair
-        (sym (slice_get-get_or ns in'.0 (0, 0) in'.1) ∙ slice_get-get_or ns in'.0 pair in'.1 ∙ ap Some in'.2) in
+    (sym (slice_get-get_or ns in'.0 (0, 0) in'.1) ∙ slice_get-get_or ns in'.0 pair in'.1 ∙ ap Some in'.2) in
     (in'.0, in'.1, ap (λ (p : ℕ × ℕ). p.0) read)
 
 -- the same of the neighbours below a place of the list
@@ -91,8 +94,8 @@ near_within m a ns k are within =
     let ends : Bond → ℕ × ℕ = λ e. (e.a, e.b) in
     let long : length (ends_of m) ≡ length m.bonds = length-map m.bonds ends in
     let inside : (e : ℕ × ℕ) → slice_get (ends_of m) (get_or ns k (0, 0)).1 ≡ Some e
-        → (get_or ns k (0, 0)).1 < length m.bonds = λ e read.
-        subst (λ n. (get_or ns k (0, 0)).1 < n) long (slice_get_within (ends_of m) (get_or ns k (0, 0)).1 e read) in
+    → (get_or ns k (0, 0)).1 < length m.bonds = λ e read.
+    subst (λ n. (get_or ns k (0, 0)).1 < n) long (slice_get_within (ends_of m) (get_or ns k (0, 0)).1 e read) in
     elim (near m a ns k are within) [ inl one ↦ inside _ one | inr other ↦ inside _ other ]
 
 -- the kind of the bond beside a neighbour
@@ -101,10 +104,10 @@ pub near_kind : (m : Molecule) (a c : ℕ) (ns : List (ℕ × ℕ)) (k : ℕ) (b
     → (get_or ns k (0, 0)).0 ≡ c → HasBond m a c (get_or bonds b none).kind
 near_kind m a c ns k bonds b none are within same at to =
     let read : slice_get m.bonds b ≡ Some (get_or bonds b none) =
-        slice_get-get_or m.bonds b none (subst (λ n. n < length m.bonds) (sym at) (near_within m a ns k are within))
-        ∙ ap (λ (xs : List Bond). Some (get_or xs b none)) (sym same) in
+    slice_get-get_or m.bonds b none (subst (λ n. n < length m.bonds) (sym at) (near_within m a ns k are within))
+    ∙ ap (λ (xs : List Bond). Some (get_or xs b none)) (sym same) in
     let joined : JoinsAt (ends_of m) b a c = subst (λ n. JoinsAt (ends_of m) n a c) (sym at)
-        (subst (λ n. JoinsAt (ends_of m) (get_or ns k (0, 0)).1 a n) to (near m a ns k are within)) in
+    (subst (λ n. JoinsAt (ends_of m) (get_or ns k (0, 0)).1 a n) to (near m a ns k are within)) in
     at_place m b a c (get_or bonds b none) joined read
 
 -- some bond joins an atom to its neighbour

@@ -1,11 +1,11 @@
 -- A map of numbers below a limit to different numbers below it meets each; and a sum is no less than one over different
 -- elements of its list.
-use Rattle.std.proofs.Common.{◌≡◌, ℕ, zero, suc, ◌+◌, ◌*◌, ◌<◌, ◌≤◌, Bool, true, false, eqb, List, length, take, set, get_or, replicate, sum, refl, sym, ap, ◌∙◌, subst, arith, inl, inr, ◌⊎◌}
+use Rattle.std.proofs.Common.{◌≡◌, ℕ, zero, suc, ◌+◌, ◌*◌, ◌<◌, ◌≤◌, List, length, take, set, get_or, replicate, sum, sym, ap, ◌∙◌, subst, arith, inl, inr, ◌⊎◌}
 use Rattle.std.proofs.Math.ListN.{length-set}
 use Rattle.std.proofs.Math.Seq.{take-length}
-use Rattle.std.proofs.lemmas.Bool.{cases_eq, cases_lt}
+use Rattle.std.proofs.lemmas.Bool.{cases_eq}
 use Rattle.std.proofs.lemmas.List.{get_or-set_other, get_or-replicate, take_more, length-replicate}
-use Rattle.std.proofs.lemmas.List.Sums.{sum_by-set, sum_by-append}
+use Rattle.std.proofs.lemmas.List.Sums.{sum_by-set}
 use Rattle.std.proofs.lemmas.List.Folds.{sum_by-replicate}
 use Rattle.exact_find.proofs.Sums.{sum_more}
 
@@ -87,10 +87,10 @@ one_to_one-le n m f one =
     let total : sum left ≡ n * 1 = sum_by-replicate (λ (x : ℕ). x) n 1 in
     let whole : sum right ≡ m * 1 = sum_by-replicate (λ (x : ℕ). x) m 1 in
     let below : (i : ℕ) → i < n → get_or left i 0 ≤ get_or right (f i) 0 = λ i h.
-        let here : get_or left i 0 ≡ 1 = get_or-replicate n i 1 0 h in
-        let there : get_or right (f i) 0 ≡ 1 = get_or-replicate m (f i) 1 0 (one.within i h) in
-        omega arith in
+    let here : get_or left i 0 ≡ 1 = get_or-replicate n i 1 0 h in
+    let there : get_or right (f i) 0 ≡ 1 = get_or-replicate m (f i) 1 0 (one.within i h) in
+    omega arith in
     let le : sum (take n left) ≤ sum right =
-        sum_below f left right n (omega arith) (subst (λ k. IsOneToOne n k f) (sym room) one) below in
+    sum_below f left right n (omega arith) (subst (λ k. IsOneToOne n k f) (sym room) one) below in
     let same : take n left ≡ left = ap (λ k. take k left) (sym long) ∙ take-length left in
     omega (arith, ap sum same)

@@ -1,14 +1,13 @@
 -- Pairs of whole components can stay: a map that goes on from the pairs before can be changed to one that goes on from
 -- them.
-use Rattle.std.proofs.Common.{◌≡◌, ℕ, ◌+◌, ◌<◌, ◌≤◌, ◌⊎◌, inl, inr, Bool, true, false, cond, pos, List, length, map, get_or, slice_get, Some, refl, sym, ap, ◌∙◌, subst, arith}
+use Rattle.std.proofs.Common.{◌≡◌, ℕ, ◌⊎◌, inl, inr, Bool, true, false, cond, pos, List, length, get_or, slice_get, Some, refl, sym, ap, ◌∙◌, subst}
 use Rattle.std.proofs.lemmas.Bool.{cases_Bool, false≢true}
-use Rattle.std.proofs.lemmas.List.{length-map, get_or-map}
 use Rattle.std.proofs.lemmas.Option.{slice_get-get_or, slice_get_within}
 use Rattle.chem_core.specs.declared.mol.Atom.{Atom}
 use Rattle.chem_core.specs.declared.mol.BondKind.{BondKind}
 use Rattle.chem_core.specs.Molecule.{Molecule, IsMolecule}
 use Rattle.exact_find.specs.Same.{HasBond, IsAlike}
-use Rattle.exact_find.specs.Pairs.{IsMap, Extends, Has, IsPaired, flip, Carries, IsPartial, IsLevel, IsPart}
+use Rattle.exact_find.specs.Pairs.{IsMap, Extends, Has, IsPaired, Carries, IsLevel, IsPart}
 use Rattle.exact_find.proofs.Onto.{find_below}
 use Rattle.exact_find.proofs.Exchange.{Parts, changed, changed-in, changed-met, changed-out, changed-back, changed-kept}
 use Rattle.exact_find.proofs.Maps.{turned, some_one, alike-along, map-back}
@@ -20,8 +19,10 @@ Decided A = A ⊎ (A → ⊥)
 pub find : (ps : List (ℕ × ℕ)) (a : ℕ) → Decided (IsPaired ps a)
 find ps a =
     elim (find_below (λ i. (get_or ps i (0, 0)).0) a (length ps)) [
-      | inl at ↦ inl ((get_or ps at.0 (0, 0)).1,
-          (at.0, at.1, ap (λ (x : ℕ). let p : ℕ × ℕ = (x, (get_or ps at.0 (0, 0)).1) in p) at.2))
+      | inl at ↦ inl (
+        (get_or ps at.0 (0, 0)).1,
+        (at.0, at.1, ap (λ (x : ℕ). let p : ℕ × ℕ = (x, (get_or ps at.0 (0, 0)).1) in p) at.2),
+      )
       | inr none ↦ inr (λ has. none has.1.0 has.1.1 (ap (λ (p : ℕ × ℕ). p.0) has.1.2))
     ]
 
@@ -97,8 +98,8 @@ pub record Sides (m n : Molecule) (ps qs sp sq : List (ℕ × ℕ)) (f g : ℕ �
 sides-back : (m n : Molecule) (ps qs sp sq : List (ℕ × ℕ)) (f g : ℕ → ℕ) → IsMap n m g f
     → Sides m n ps qs sp sq f g → Sides n m sp sq ps qs g f
 sides-back m n ps qs sp sq f g is s = record {
-  before = record { there = λ a b h. s.before.back b a h; back = λ a b h. s.before.there b a h; };
-  after = record { there = λ a b h. s.after.back b a h; back = λ a b h. s.after.there b a h; };
+  before = record { there = λ a b h. s.before.back b a h; back = λ a b h. s.before.there b a h };
+  after = record { there = λ a b h. s.after.back b a h; back = λ a b h. s.after.there b a h };
   carries = s.back;
   back = s.carries;
   is = is;
@@ -111,12 +112,15 @@ level-back : (m n : Molecule) (ps qs sp sq : List (ℕ × ℕ)) (f g : ℕ → �
 unfolding test
 level-back m n ps qs sp sq f g start all s left = λ x y kind bond one two.
     let free : (z : ℕ) → (IsPaired sp z → ⊥) → IsPaired ps (g z) → ⊥ = λ z none paired.
-        none (g z, s.before.there (g z) z
-        (subst (Has ps (g z)) (sym (s.goes (g z) paired.0 paired.1) ∙ (s.is).forth z) paired.1)) in
+    none (
+      g z,
+      s.before.there (g z) z
+          (subst (Has ps (g z)) (sym (s.goes (g z) paired.0 paired.1) ∙ (s.is).forth z) paired.1),
+    ) in
     let there : HasBond m (g x) (g y) kind = all.kept x y kind bond in
     let along : (u v : ℕ) → HasBond m u v kind → (IsPaired ps u → ⊥) → (IsPaired ps v → ⊥) → test ps qs u ≡ true
-        → test ps qs v ≡ true = λ u v b p q yes'.
-        new-is (find qs v) (find ps v) (left.closed u v kind (new-yes (find qs u) (find ps u) yes').0 p b) q in
+    → test ps qs v ≡ true = λ u v b p q yes'.
+    new-is (find qs v) (find ps v) (left.closed u v kind (new-yes (find qs u) (find ps u) yes').0 p b) q in
     elim (cases_Bool (test ps qs (g x))) [
       | inl yes' ↦ yes' ∙ sym (along (g x) (g y) there (free x one) (free y two) yes')
       | inr no' ↦ elim (cases_Bool (test ps qs (g y))) [
@@ -132,27 +136,29 @@ parts : (m n : Molecule) (ps qs sp sq : List (ℕ × ℕ)) (f g : ℕ → ℕ) (
 unfolding test
 parts m n ps qs sp sq f g start begin all s left right =
     let fresh : (x : ℕ) → test ps qs x ≡ true → IsPaired qs x × (IsPaired ps x → ⊥) =
-        λ x yes'. new-yes (find qs x) (find ps x) yes' in
+    λ x yes'. new-yes (find qs x) (find ps x) yes' in
     let has : (x : ℕ) → IsPaired qs x → Has qs x (partner qs x) = has_partner qs in
     -- pairs before are pairs after, and the map goes along them
     let old : (x : ℕ) → IsPaired ps x → Has qs x (f x) = λ x paired.
-        subst (Has qs x) (sym (s.goes x paired.0 paired.1)) (left.more x paired.0 paired.1) in
+    subst (Has qs x) (sym (s.goes x paired.0 paired.1)) (left.more x paired.0 paired.1) in
     let met : (x : ℕ) → IsPaired ps x → IsPaired sp (f x) = λ x paired.
-        (x, s.before.there x (f x) (subst (Has ps x) (sym (s.goes x paired.0 paired.1)) paired.1)) in
+    (x, s.before.there x (f x) (subst (Has ps x) (sym (s.goes x paired.0 paired.1)) paired.1)) in
     let level : IsLevel n sp (λ y. test ps qs (g y)) =
-        level-back m n ps qs sp sq f g start all s left in
+    level-back m n ps qs sp sq f g start all s left in
     record {
       back = (s.is).back;
       here = λ x yes'.
           let at = fresh x yes' in
           let there : Has qs x (partner qs x) = has x at.0 in
           new-is (find sq (partner qs x)) (find sp (partner qs x)) (x, s.after.there x (partner qs x) there)
-          (λ old'. at.1 (partner qs x,
-          subst (λ z. Has ps z (partner qs x))
-          (s.back.one (partner qs x) old'.0 x
-          (s.after.there old'.0 (partner qs x) (left.more old'.0 (partner qs x) (s.before.back old'.0 (partner qs x) old'.1)))
-          (s.after.there x (partner qs x) there))
-          (s.before.back old'.0 (partner qs x) old'.1)));
+          (λ old'. at.1 (
+            partner qs x,
+            subst (λ z. Has ps z (partner qs x))
+                (s.back.one (partner qs x) old'.0 x
+                (s.after.there old'.0 (partner qs x) (left.more old'.0 (partner qs x) (s.before.back old'.0 (partner qs x) old'.1)))
+                (s.after.there x (partner qs x) there))
+                (s.before.back old'.0 (partner qs x) old'.1),
+          ));
       home = λ x yes'.
           let there : Has sq (partner qs x) x = s.after.there x (partner qs x) (has x (fresh x yes').0) in
           s.back.one (partner qs x) (partner sq (partner qs x)) x (has_partner sq (partner qs x) (x, there)) there;
@@ -165,11 +171,11 @@ parts m n ps qs sp sq f g start begin all s left right =
                 let two = new-yes (find sq (f z)) (find sp (f z)) too in
                 let there : Has qs z (f x) = s.after.back z (f x) (has_partner sq (f x) one.0) in
                 let inside : test ps qs z ≡ true = new-is (find qs z) (find ps z) (f x, there)
-                    (λ paired. one.1 (subst (IsPaired sp) (s.carries.one z (f z) (f x) (old z paired) there)
-                    (met z paired))) in
+                (λ paired. one.1 (subst (IsPaired sp) (s.carries.one z (f z) (f x) (old z paired) there)
+                (met z paired))) in
                 let equal : test ps qs (g (f x)) ≡ test ps qs (g (f z)) =
-                    right.joined (λ y. test ps qs (g y)) level (f x) one.0 one.1
-                    ∙ sym (right.joined (λ y. test ps qs (g y)) level (f z) two.0 two.1) in
+                right.joined (λ y. test ps qs (g y)) level (f x) one.0 one.1
+                ∙ sym (right.joined (λ y. test ps qs (g y)) level (f z) two.0 two.1) in
                 absurd (false≢true (sym no' ∙ ap (test ps qs) (sym ((s.is).back x)) ∙ equal
                 ∙ ap (test ps qs) ((s.is).back z) ∙ inside))
           ];
@@ -195,34 +201,40 @@ unfolding test
 joined-back m n ps qs sp sq start begin before after carries back left first new s level b paired none =
     let t : ℕ → Bool = λ x. cond (test ps qs x) (s (partner qs x)) false in
     let at : (x : ℕ) → IsPaired qs x → (IsPaired ps x → ⊥) → (y : ℕ) → Has qs x y → t x ≡ s y =
-        λ x one two y has.
-        ap (λ c. cond c (s (partner qs x)) false) (new-is (find qs x) (find ps x) one two)
-        ∙ ap s (carries.one x (partner qs x) y (has_partner qs x one) has) in
+    λ x one two y has.
+    ap (λ c. cond c (s (partner qs x)) false) (new-is (find qs x) (find ps x) one two)
+    ∙ ap s (carries.one x (partner qs x) y (has_partner qs x one) has) in
     let free : (x y : ℕ) → Has qs x y → (IsPaired ps x → ⊥) → IsPaired sp y → ⊥ = λ x y has out in'.
-        out (y, subst (λ z. Has ps z y) (back.one y in'.0 x (after.there in'.0 y (left.more in'.0 y
-        (before.back in'.0 y in'.1))) (after.there x y has)) (before.back in'.0 y in'.1)) in
+    out (
+      y,
+      subst (λ z. Has ps z y) (back.one y in'.0 x (after.there in'.0 y (left.more in'.0 y
+          (before.back in'.0 y in'.1))) (after.there x y has)) (before.back in'.0 y in'.1),
+    ) in
     let along : (x y : ℕ) (kind : BondKind) → HasBond m x y kind → (IsPaired ps x → ⊥) → (IsPaired ps y → ⊥)
-        → IsPaired qs x → t x ≡ t y = λ x y kind bond p q one.
-        let two : IsPaired qs y = left.closed x y kind one p bond in
-        let u = has_partner qs x one in
-        let v = has_partner qs y two in
-        at x one p (partner qs x) u
-        ∙ level (partner qs x) (partner qs y) kind (carries.kept x (partner qs x) y (partner qs y) kind u v bond)
-        (free x (partner qs x) u p) (free y (partner qs y) v q)
-        ∙ sym (at y two q (partner qs y) v) in
+    → IsPaired qs x → t x ≡ t y = λ x y kind bond p q one.
+    let two : IsPaired qs y = left.closed x y kind one p bond in
+    let u = has_partner qs x one in
+    let v = has_partner qs y two in
+    at x one p (partner qs x) u
+    ∙ level (partner qs x) (partner qs y) kind (carries.kept x (partner qs x) y (partner qs y) kind u v bond)
+    (free x (partner qs x) u p) (free y (partner qs y) v q)
+    ∙ sym (at y two q (partner qs y) v) in
     let even : IsLevel m ps t = λ x y kind bond p q.
-        elim (find qs x) [
-          | inl one ↦ along x y kind bond p q one
-          | inr off ↦ elim (find qs y) [
-            | inl two ↦ sym (along y x kind (turned m x y kind bond) q p two)
-            | inr out ↦ ap (λ c. cond c (s (partner qs x)) false) (new-none (find qs x) (find ps x) off)
-                ∙ sym (ap (λ c. cond c (s (partner qs y)) false) (new-none (find qs y) (find ps y) out))
-          ]
-        ] in
+    elim (find qs x) [
+      | inl one ↦ along x y kind bond p q one
+      | inr off ↦ elim (find qs y) [
+        | inl two ↦ sym (along y x kind (turned m x y kind bond) q p two)
+        | inr out ↦ ap (λ c. cond c (s (partner qs x)) false) (new-none (find qs x) (find ps x) off)
+            ∙ sym (ap (λ c. cond c (s (partner qs y)) false) (new-none (find qs y) (find ps y) out))
+      ]
+    ] in
     let has : Has qs paired.0 b = after.back paired.0 b paired.1 in
     let out : IsPaired ps paired.0 → ⊥ = λ in'.
-        none (paired.0, before.there paired.0 b (subst (Has ps paired.0)
-        (carries.one paired.0 in'.0 b (left.more paired.0 in'.0 in'.1) has) in'.1)) in
+    none (
+      paired.0,
+      before.there paired.0 b (subst (Has ps paired.0)
+          (carries.one paired.0 in'.0 b (left.more paired.0 in'.0 in'.1) has) in'.1),
+    ) in
     sym (at paired.0 (b, has) out b has) ∙ left.joined t even paired.0 (b, has) out
     ∙ at start (begin, first) new begin first
 
@@ -247,11 +259,15 @@ changed-alike m n ps qs sp sq f g s t a x at =
         | inl met ↦
             let one = (s.is).alike a x at in
             let two = t.carries.alike (f a) (k (f a)) (has_partner sq (f a) (new-yes (find sq (f a)) (find sp (f a)) met).0)
-                in
+            in
             let same : two.0 ≡ one.0 = some_one two.0 one.0 (sym two.1 ∙ one.1) in
             let three = (s.is).alike (k (f a)) two.2 two.3 in
-            subst To (sym (changed-met f h k d e a no' met)) (three.0, three.1, alike-along x one.0 three.0 one.2
-            (alike-along one.0 two.2 three.0 (subst (λ z. IsAlike z two.2) same two.4) three.2))
+            subst To (sym (changed-met f h k d e a no' met)) (
+              three.0,
+              three.1,
+              alike-along x one.0 three.0 one.2
+                  (alike-along one.0 two.2 three.0 (subst (λ z. IsAlike z two.2) same two.4) three.2),
+            )
         | inr free ↦ subst To (sym (changed-out f h k d e a no' free)) ((s.is).alike a x at)
       ]
     ]
@@ -266,7 +282,12 @@ exchange m n ps qs sp sq start begin ok before after carries back left right ext
     let g : ℕ → ℕ = ext.g in
     let inverse : IsMap n m g f = map-back m n f g ok ext.is in
     let s : Sides m n ps qs sp sq f g = record {
-      before = before; after = after; carries = carries; back = back; is = ext.is; goes = ext.goes;
+      before = before;
+      after = after;
+      carries = carries;
+      back = back;
+      is = ext.is;
+      goes = ext.goes;
     } in
     let t : Sides n m sp sq ps qs g f = sides-back m n ps qs sp sq f g inverse s in
     let p = parts m n ps qs sp sq f g start begin inverse s left right in
@@ -287,13 +308,13 @@ exchange m n ps qs sp sq start begin ok before after carries back left right ext
             let none : Atom = record { number = 0; isotope = 0; charge = pos 0; hydrogens = 0; aromatic = false; valence = 0 }
             in
             let to = changed-alike m n ps qs sp sq f g s t a (get_or m.atoms a none)
-                (slice_get-get_or m.atoms a none in') in
+            (slice_get-get_or m.atoms a none in') in
             slice_get_within n.atoms (there a) to.0 to.1;
         within_back = λ b in'.
             let none : Atom = record { number = 0; isotope = 0; charge = pos 0; hydrogens = 0; aromatic = false; valence = 0 }
             in
             let to = changed-alike n m sp sq ps qs g f t s b (get_or n.atoms b none)
-                (slice_get-get_or n.atoms b none in') in
+            (slice_get-get_or n.atoms b none in') in
             slice_get_within m.atoms (home b) to.0 to.1;
         back = changed-back BondKind (HasBond m) (HasBond n) f g h k d e p q;
         forth = changed-back BondKind (HasBond n) (HasBond m) g f k h e d q p;
@@ -307,7 +328,7 @@ exchange m n ps qs sp sq start begin ok before after carries back left right ext
                 let paired : IsPaired ps a = new-no (find qs a) (find ps a) no' (b, has) in
                 let goes : f a ≡ paired.0 = ext.goes a paired.0 paired.1 in
                 let out : e (f a) ≡ false = new-old (find sq (f a)) (find sp (f a))
-                    (a, before.there a (f a) (subst (Has ps a) (sym goes) paired.1)) in
+                (a, before.there a (f a) (subst (Has ps a) (sym goes) paired.1)) in
                 changed-out f h k d e a no' out ∙ goes
                 ∙ carries.one a paired.0 b (left.more a paired.0 paired.1) has
           ];

@@ -1,11 +1,10 @@
 -- Sums over the atoms so far, and sums of which one is over distinct elements of the other's list. For private clauses
 -- and proofs alone.
-use Rattle.std.proofs.Common.{◌≡◌, ℕ, zero, suc, ◌+◌, ◌*◌, ◌^◌, ◌<◌, ◌≤◌, List, [], ◌∷◌, ◌++◌, length, take, get_or, set, map, sum, slice_get, Some, ap, sym, subst, ◌∙◌, refl, arith, inl, inr}
+use Rattle.std.proofs.Common.{◌≡◌, ℕ, ◌+◌, ◌*◌, ◌^◌, ◌<◌, ◌≤◌, List, [], ◌∷◌, ◌++◌, length, take, get_or, map, sum, slice_get, Some, ap, sym, subst, ◌∙◌, arith, inl, inr}
 use Rattle.std.specs.List.{enumerate_from}
-use Rattle.std.proofs.lemmas.List.{map-append, get_or-set_other, take_more}
+use Rattle.std.proofs.lemmas.List.{map-append}
 use Rattle.std.proofs.lemmas.List.Sums.{sum_by-append}
 use Rattle.std.proofs.lemmas.Option.{slice_get_cases}
-use Rattle.std.proofs.Math.ListN.{length-set}
 use Rattle.chem_core.specs.Enumerated.{mapped-more}
 
 pub record IsSummed (total squares i : ℕ) (codes : List ℕ) : Type 0 where

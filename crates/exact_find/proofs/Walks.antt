@@ -1,22 +1,21 @@
 -- How pairs are added to pairs.
-use Rattle.std.proofs.Common.{◌≡◌, ◌≢◌, ℕ, ◌+◌, ◌<◌, ◌≤◌, ◌⊎◌, inl, inr, Bool, true, false, List, [], ◌∷◌, ◌++◌, length, map, take, get_or, slice_get, Some, refl, sym, ap, ◌∙◌, subst, arith, length-append}
+use Rattle.std.proofs.Common.{◌≡◌, ◌≢◌, ℕ, ◌+◌, ◌<◌, ◌≤◌, inl, inr, Bool, List, [], ◌∷◌, ◌++◌, length, map, take, get_or, slice_get, refl, sym, ap, ◌∙◌, subst, arith}
 use Rattle.std.specs.List.{range_with_len}
-use Rattle.std.proofs.lemmas.Bool.{cases_lt, cases_eq, false≢true}
+use Rattle.std.proofs.lemmas.Bool.{cases_lt, cases_eq}
 use Rattle.std.proofs.lemmas.List.{get_or_append_left, take-take}
 use Rattle.std.proofs.lemmas.List.FromFn.{length-map-range_with_len, get_or-map-range_with_len}
-use Rattle.std.proofs.lemmas.Option.{slice_get_within, slice_get-get_or}
-use Rattle.chem_core.specs.declared.mol.Atom.{Atom}
+use Rattle.std.proofs.lemmas.Option.{slice_get_within}
 use Rattle.chem_core.specs.declared.mol.BondKind.{BondKind}
 use Rattle.chem_core.specs.Graph.{AreNeighbours}
 use Rattle.chem_core.specs.Molecule.{Molecule, IsMolecule, ends_of}
-use Rattle.exact_find.specs.Same.{HasBond, IsAlike, IsImage, IsSame}
-use Rattle.exact_find.specs.Pairs.{IsMap, Extends, Has, IsPaired, flip, Carries, IsPartial, IsLevel, IsPart, IsStep}
+use Rattle.exact_find.specs.Same.{HasBond, IsAlike, IsSame}
+use Rattle.exact_find.specs.Pairs.{IsMap, Extends, Has, IsPaired, flip, IsPartial, IsLevel, IsPart, IsStep}
 use Rattle.exact_find.proofs.Flips.{flipped, has-old, has-last, has-either, last-at}
 use Rattle.exact_find.proofs.Images.{as_map, bond_within}
 use Rattle.exact_find.proofs.Maps.{turned, some_one, map-back}
 use Rattle.exact_find.proofs.Near.{near_each}
 use Rattle.exact_find.proofs.Onto.{IsOneToOne, one_to_one-le}
-use Rattle.exact_find.proofs.Steps.{find, partner, has_partner, exchange, joined-back, Turned}
+use Rattle.exact_find.proofs.Steps.{find, partner, has_partner, exchange, joined-back}
 
 -- an atom in no pair leaves room for one
 pub room : (m n : Molecule) (ps : List (ℕ × ℕ)) (a : ℕ) → IsPartial m n ps → a < length m.atoms
@@ -25,17 +24,17 @@ room m n ps a partial within free =
     let qs : List (ℕ × ℕ) = ps ++ (a, 0) ∷ [] in
     let f : ℕ → ℕ = λ i. (get_or qs i (0, 0)).0 in
     let old : (i : ℕ) → i < length ps → f i ≡ (get_or ps i (0, 0)).0 = λ i h.
-        ap (λ (p : ℕ × ℕ). p.0) (get_or_append_left ps ((a, 0) ∷ []) (0, 0) i h) in
+    ap (λ (p : ℕ × ℕ). p.0) (get_or_append_left ps ((a, 0) ∷ []) (0, 0) i h) in
     let last : f (length ps) ≡ a = ap (λ (p : ℕ × ℕ). p.0) (last-at ps a 0) in
     let apart : (i j : ℕ) → i < j → j < length ps + 1 → f i ≡ f j → ⊥ = λ i j less h same.
-        elim (cases_lt j (length ps)) [
-          | inl inside ↦ partial.apart i j less inside (sym (old i (omega arith)) ∙ same ∙ old j inside)
-          | inr past ↦
-              let at : j ≡ length ps = omega arith in
-              let equal : (get_or ps i (0, 0)).0 ≡ a = sym (old i (omega arith)) ∙ same ∙ ap f at ∙ last in
-              let pair : ℕ × ℕ = get_or ps i (0, 0) in
-              free (pair.1, (i, omega arith, ap (λ (z : ℕ). let p : ℕ × ℕ = (z, pair.1) in p) equal))
-        ] in
+    elim (cases_lt j (length ps)) [
+      | inl inside ↦ partial.apart i j less inside (sym (old i (omega arith)) ∙ same ∙ old j inside)
+      | inr past ↦
+          let at : j ≡ length ps = omega arith in
+          let equal : (get_or ps i (0, 0)).0 ≡ a = sym (old i (omega arith)) ∙ same ∙ ap f at ∙ last in
+          let pair : ℕ × ℕ = get_or ps i (0, 0) in
+          free (pair.1, (i, omega arith, ap (λ (z : ℕ). let p : ℕ × ℕ = (z, pair.1) in p) equal))
+    ] in
     let one : IsOneToOne (length ps + 1) (length m.atoms) f = record {
       within = λ i h. elim (cases_lt i (length ps)) [
         | inl inside ↦
@@ -82,7 +81,7 @@ pub beside-none : (m n : Molecule) (ps ns : List (ℕ × ℕ)) (a c near : ℕ) 
     → ((k : ℕ) → k < length ns → Extends m n (ps ++ (a, (get_or ns k (0, 0)).0) ∷ []) → ⊥) → Extends m n ps → ⊥
 beside-none m n ps ns a c near kind has bond are none ext =
     let there : HasBond n near (ext.f a) kind =
-        subst (λ z. HasBond n z (ext.f a) kind) (ext.goes c near has) ((ext.is).kept c a kind bond) in
+    subst (λ z. HasBond n z (ext.f a) kind) (ext.goes c near has) ((ext.is).kept c a kind bond) in
     let at = near_each n near (ext.f a) kind ns are there in
     none at.0 at.1 (extend_more m n ps a (get_or ns at.0 (0, 0)).0 ext (sym at.2))
 
@@ -146,7 +145,7 @@ open-more m n ps qs rs a b x y kind fresh bond free way step =
         | inl old ↦ way.joined s level c old new
         | inr none ↦
             let weak : IsLevel m qs s = λ p q k at one two.
-                level p q k at (λ h. one (paired-more ps qs way.more p h)) (λ h. two (paired-more ps qs way.more q h)) in
+            level p q k at (λ h. one (paired-more ps qs way.more p h)) (λ h. two (paired-more ps qs way.more q h)) in
             (step.part).joined s weak c paired none
             ∙ sym (level a x kind bond fresh (λ h. free (paired-more ps qs way.more x h)))
       ];
@@ -213,7 +212,7 @@ partial-none m n = record {
 pub extends-none : (m n : Molecule) → IsMolecule m → IsSame m n → Extends m n []
 extends-none m n is same =
     let to = as_map m n is same in
-    record { f = to.0; g = to.1; is = to.2; goes = λ a b has. absurd (omega (arith, has.1)); }
+    record { f = to.0; g = to.1; is = to.2; goes = λ a b has. absurd (omega (arith, has.1)) }
 
 -- all atoms are in pairs
 pub all-paired : (m n : Molecule) (ps : List (ℕ × ℕ)) → IsMolecule m → length m.atoms ≡ length n.atoms
@@ -223,7 +222,7 @@ all-paired m n ps is atoms bonds partial all =
     let image : List ℕ = map f (range_with_len 0 (length m.atoms)) in
     let long : length image ≡ length m.atoms = length-map-range_with_len f 0 (length m.atoms) in
     let read : (a d : ℕ) → a < length m.atoms → get_or image a d ≡ f a = λ a d h.
-        get_or-map-range_with_len f 0 (length m.atoms) a a d h (omega arith) in
+    get_or-map-range_with_len f 0 (length m.atoms) a a d h (omega arith) in
     let has : (a : ℕ) → a < length m.atoms → Has ps a (f a) = λ a h. has_partner ps a (all a h) in
     record {
       atoms = atoms;
@@ -236,13 +235,15 @@ all-paired m n ps is atoms bonds partial all =
             let two : j < length m.atoms = omega (arith, long) in
             let equal : f i ≡ f j = sym (read i d one) ∙ same ∙ read j d two in
             let e : i ≡ j = (partial.back).one (f j) i j
-                ((flipped ps).there i (f j) (subst (Has ps i) equal (has i one))) ((flipped ps).there j (f j) (has j two)) in
+            ((flipped ps).there i (f j) (subst (Has ps i) equal (has i one))) ((flipped ps).there j (f j) (has j two)) in
             omega arith;
         alike = λ a x at.
             let inside : a < length m.atoms = slice_get_within m.atoms a x at in
-            let to = (partial.there).alike a (f a) (has a inside) in
-            (to.2, ap (slice_get n.atoms) (read a 0 inside) ∙ to.3,
-            subst (λ z. IsAlike z to.2) (some_one to.0 x (sym to.1 ∙ at)) to.4);
+            let to = (partial.there).alike a (f a) (has a inside) in (
+              to.2,
+              ap (slice_get n.atoms) (read a 0 inside) ∙ to.3,
+              subst (λ z. IsAlike z to.2) (some_one to.0 x (sym to.1 ∙ at)) to.4,
+            );
         bonds = λ x y kind bond.
             let one : x < length m.atoms = bond_within m x y kind is bond in
             let two : y < length m.atoms = bond_within m y x kind is (turned m x y kind bond) in

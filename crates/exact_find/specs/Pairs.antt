@@ -1,9 +1,9 @@
 -- Pairs of atoms on the way to a map. For private clauses alone.
-use Rattle.std.specs.Prelude.{◌≡◌, ◌⊎◌, ℕ, ◌<◌, Bool, List, length, map, slice_get, slice_index_or, Some}
+use Rattle.std.specs.Prelude.{◌≡◌, ℕ, ◌<◌, Bool, List, length, map, slice_get, slice_index_or, Some}
 use Rattle.chem_core.specs.declared.mol.Atom.{Atom}
 use Rattle.chem_core.specs.declared.mol.BondKind.{BondKind}
 use Rattle.chem_core.specs.Molecule.{Molecule}
-use Rattle.exact_find.specs.Same.{HasBond, IsAlike, IsSame}
+use Rattle.exact_find.specs.Same.{HasBond, IsAlike}
 
 -- f takes the atoms of m to those of n, and g back; beyond the atoms nothing is said of them but that
 pub record IsMap (m n : Molecule) (f g : ℕ → ℕ) : Type 0 where

@@ -1,7 +1,6 @@
 -- When two molecules are the same structure. For callers.
 use Rattle.std.specs.Prelude.{◌≡◌, ◌≢◌, ◌⊎◌, ℕ, List, length, slice_get, slice_index, Some, AllPairs, Contains}
 use Rattle.chem_core.specs.declared.mol.Atom.{Atom}
-use Rattle.chem_core.specs.declared.mol.Bond.{Bond}
 use Rattle.chem_core.specs.declared.mol.BondKind.{BondKind}
 use Rattle.chem_core.specs.Molecule.{Molecule}
 

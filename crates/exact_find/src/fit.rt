@@ -45,7 +45,10 @@ pub fn fits(left: &Mol, right: &Mol, pairs: &[(u16, u16)], a: u16, b: u16) -> bo
     if partner_back(pairs, b).is_some() {
         return false;
     }
-    if !is_alike(&left.atoms()[usize::from(a)], &right.atoms()[usize::from(b)]) {
+    if !is_alike(
+        &left.atoms()[usize::from(a)],
+        &right.atoms()[usize::from(b)],
+    ) {
         return false;
     }
     if !is_carried(left, right, pairs, a, b) {

@@ -1,7 +1,8 @@
 //! Whether two molecules are the same structure: a walk along bonds that pairs atoms.
 //!
-//! An atom is paired with one that is alike and joined alike to the atoms in pairs; then all that hangs on it is paired,
-//! neighbour by neighbour. Pairs of whole components stay: what is left can be paired beside them if it could before.
+//! An atom is paired with one that is alike and joined alike to the atoms in pairs; then all that hangs on it is
+//! paired, neighbour by neighbour. Pairs of whole components stay: what is left can be paired beside them if it could
+//! be before.
 ghost use Rattle.std.specs.Prelude.{◌≡◌, ◌<◌, ◌≤◌, ◌+◌, ◌-◌, ◌++◌, ◌∷◌, ◌↔◌, ℕ, [], length, take, vec_len, IsTrue, IfNone, IfSome};
 ghost use Rattle.chem_core.specs.declared.mol.BondKind.{BondKind};
 ghost use Rattle.chem_core.specs.declared.limits.TheConstants.{MOST_ATOMS};
@@ -62,13 +63,20 @@ fn pair_all(left: &Mol, right: &Mol, pairs: &mut [(u16, u16)]) -> bool
 }
 
 // Pairs an atom and all that hangs on it, if they can be.
-fn pair_anywhere(left: &Mol, right: &Mol, pairs: &mut [(u16, u16)], count: usize, a: u16) -> Option<usize>
+fn pair_anywhere(
+    left: &Mol,
+    right: &Mol,
+    pairs: &mut [(u16, u16)],
+    count: usize,
+    a: u16,
+) -> Option<usize>
     requires room { length left.now.atoms ≤ length pairs.old }
     requires partial { IsPartial left.now right.now (take count pairs.old) }
     requires few { count ≤ length pairs.old }
     requires in_range { a < length left.now.atoms }
     requires free { IsPaired (take count pairs.old) a → ⊥ }
-    ensures some { IfSome result (λ more. (b : ℕ) × IsStep left.now right.now (take count pairs.old) (take more pairs.new) a b) }
+    ensures some { IfSome result (λ more. (b : ℕ)
+        × IsStep left.now right.now (take count pairs.old) (take more pairs.new) a b) }
     ensures few { IfSome result (λ more. more ≤ length pairs.old) }
     ensures none { IfNone result (Extends left.now right.now (take count pairs.old) → ⊥) }
 {
@@ -82,7 +90,14 @@ fn pair_anywhere(left: &Mol, right: &Mol, pairs: &mut [(u16, u16)], count: usize
 
 // The same where a bond joins the atom to one whose partner is near.
 #[cycle(walk)]
-fn pair_beside(left: &Mol, right: &Mol, pairs: &mut [(u16, u16)], count: usize, a: u16, near: u16) -> Option<usize>
+fn pair_beside(
+    left: &Mol,
+    right: &Mol,
+    pairs: &mut [(u16, u16)],
+    count: usize,
+    a: u16,
+    near: u16,
+) -> Option<usize>
     requires room { length left.now.atoms ≤ length pairs.old }
     requires partial { IsPartial left.now right.now (take count pairs.old) }
     requires few { count ≤ length pairs.old }
@@ -91,7 +106,8 @@ fn pair_beside(left: &Mol, right: &Mol, pairs: &mut [(u16, u16)], count: usize, 
     requires near { (c : ℕ) × Has (take count pairs.old) c near
         × ((kind : BondKind) × HasBond left.now c a kind) }
     ensures kept { take count pairs.new ≡ take count pairs.old }
-    ensures some { IfSome result (λ more. (b : ℕ) × IsStep left.now right.now (take count pairs.old) (take more pairs.new) a b) }
+    ensures some { IfSome result (λ more. (b : ℕ)
+        × IsStep left.now right.now (take count pairs.old) (take more pairs.new) a b) }
     ensures few { IfSome result (λ more. (count ≤ more) × (more ≤ length pairs.old)) }
     ensures none { IfNone result (Extends left.now right.now (take count pairs.old) → ⊥) }
 {
@@ -106,7 +122,14 @@ fn pair_beside(left: &Mol, right: &Mol, pairs: &mut [(u16, u16)], count: usize, 
 
 // Pairs two atoms and all that hangs on them, if they can be.
 #[cycle(walk)]
-fn pair(left: &Mol, right: &Mol, pairs: &mut [(u16, u16)], count: usize, a: u16, b: u16) -> Option<usize>
+fn pair(
+    left: &Mol,
+    right: &Mol,
+    pairs: &mut [(u16, u16)],
+    count: usize,
+    a: u16,
+    b: u16,
+) -> Option<usize>
     requires room { length left.now.atoms ≤ length pairs.old }
     requires partial { IsPartial left.now right.now (take count pairs.old) }
     requires few { count ≤ length pairs.old }
@@ -114,7 +137,8 @@ fn pair(left: &Mol, right: &Mol, pairs: &mut [(u16, u16)], count: usize, a: u16,
     requires b_in_range { b < length right.now.atoms }
     requires free { IsPaired (take count pairs.old) a → ⊥ }
     ensures kept { take count pairs.new ≡ take count pairs.old }
-    ensures some { IfSome result (λ more. IsStep left.now right.now (take count pairs.old) (take more pairs.new) a b) }
+    ensures some { IfSome result (λ more.
+        IsStep left.now right.now (take count pairs.old) (take more pairs.new) a b) }
     ensures few { IfSome result (λ more. (count ≤ more) × (more ≤ length pairs.old)) }
     ensures none { IfNone result (Extends left.now right.now (take count pairs.old ++ (a, b) ∷ []) → ⊥) }
 {
@@ -127,7 +151,14 @@ fn pair(left: &Mol, right: &Mol, pairs: &mut [(u16, u16)], count: usize, a: u16,
 
 // Pairs all that hangs on the atoms of the last pair, if it can be.
 #[cycle(walk)]
-fn pair_neighbours(left: &Mol, right: &Mol, pairs: &mut [(u16, u16)], count: usize, a: u16, b: u16) -> Option<usize>
+fn pair_neighbours(
+    left: &Mol,
+    right: &Mol,
+    pairs: &mut [(u16, u16)],
+    count: usize,
+    a: u16,
+    b: u16,
+) -> Option<usize>
     requires room { length left.now.atoms ≤ length pairs.old }
     requires few { count < length pairs.old }
     requires last { take (count + 1) pairs.old ≡ take count pairs.old ++ (a, b) ∷ [] }
@@ -136,7 +167,8 @@ fn pair_neighbours(left: &Mol, right: &Mol, pairs: &mut [(u16, u16)], count: usi
     requires b_in_range { b < length right.now.atoms }
     requires free { IsPaired (take count pairs.old) a → ⊥ }
     ensures kept { take count pairs.new ≡ take count pairs.old }
-    ensures some { IfSome result (λ more. IsStep left.now right.now (take count pairs.old) (take more pairs.new) a b) }
+    ensures some { IfSome result (λ more.
+        IsStep left.now right.now (take count pairs.old) (take more pairs.new) a b) }
     ensures few { IfSome result (λ more. (count ≤ more) × (more ≤ length pairs.old)) }
     ensures none { IfNone result (Extends left.now right.now (take (count + 1) pairs.old) → ⊥) }
 {

@@ -1,6 +1,6 @@
-use Rattle.std.proofs.Common.{◌≡◌, false, true, ap, sym, ◌∙◌}
+use Rattle.std.proofs.Common.{sym, ◌∙◌}
 use Rattle.std.proofs.lemmas.Bool.{false≢true}
-use Rattle.exact_find.specs.Pairs.{Has, IsPaired, flip}
+use Rattle.exact_find.specs.Pairs.{Has, flip}
 use Rattle.exact_find.proofs.Grow.{grow, none_value, read_at, refuse-alike, refuse-back, refuse-carried, refuse-paired, some_value}
 use Rattle.exact_find.proofs.fit.fits.Goals as goal
 

@@ -1,4 +1,3 @@
-use Rattle.std.proofs.Common.{ℕ, ◌<◌, get_or}
 use Rattle.exact_find.proofs.Near.{IsCarriedBelow}
 use Rattle.exact_find.proofs.fit.is_carried.Given as goal
 

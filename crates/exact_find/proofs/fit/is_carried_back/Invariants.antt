@@ -1,4 +1,3 @@
-use Rattle.std.proofs.Common.{map}
 use Rattle.exact_find.proofs.Near.{IsCarriedBelow}
 use Rattle.exact_find.specs.Pairs.{flip}
 use Rattle.exact_find.proofs.fit.is_carried_back.Given as goal

@@ -1,4 +1,4 @@
-use Rattle.std.proofs.Common.{◌≡◌, ◌<◌, ◌≤◌, ◌+◌, ◌++◌, ◌∷◌, [], ℕ, List, get_or, length, take, set, IfNone, not, ap, sym, ◌∙◌, subst, refl, arith, rules, below_more}
+use Rattle.std.proofs.Common.{◌≡◌, ◌<◌, ◌+◌, ◌++◌, ◌∷◌, [], ℕ, List, get_or, length, take, set, IfNone, not, ap, sym, ◌∙◌, subst, arith, rules, below_more}
 use Rattle.std.proofs.Math.ListN.{length-set}
 use Rattle.std.proofs.lemmas.Bool.{false≢true}
 use Rattle.std.proofs.lemmas.List.{take-set, take_more_set, length-take-le}
@@ -16,9 +16,9 @@ pub pair-bounds-pairs-count : goal.pair-bounds-pairs-count
 pair-bounds-pairs-count t c =
     let few = c.requires.few in
     let size : length (take c.args.count c.args.pairs.now) ≡ c.args.count =
-        length-take-le c.args.count c.args.pairs.now few in
+    length-take-le c.args.count c.args.pairs.now few in
     let less = room c.args.left.now c.args.right.now (take c.args.count c.args.pairs.now) c.args.a c.requires.partial
-        c.requires.a_in_range c.requires.free in
+    c.requires.a_in_range c.requires.free in
     omega (arith, c.requires.room)
 
 pub pair-pair_neighbours-requires : goal.pair-pair_neighbours-requires
@@ -27,17 +27,33 @@ pair-pair_neighbours-requires t c =
     let few = c.requires.few in
     let size : length (take c.args.count pairs) ≡ c.args.count = length-take-le c.args.count pairs few in
     let less = room c.args.left.now c.args.right.now (take c.args.count pairs) c.args.a c.requires.partial
-        c.requires.a_in_range c.requires.free in
+    c.requires.a_in_range c.requires.free in
     let within : c.args.count < length pairs = omega (arith, c.requires.room) in
     let long : length (set pairs c.args.count (c.args.a, c.args.b)) ≡ length pairs =
-        length-set pairs c.args.count (c.args.a, c.args.b) in
+    length-set pairs c.args.count (c.args.a, c.args.b) in
     let more = take_more_set pairs c.args.count (c.args.a, c.args.b) within in
-    let same = take-set pairs c.args.count (c.args.a, c.args.b) in
-    (search (rules, long), (omega (arith, c.requires.room), (omega arith,
-    (more ∙ ap (λ (zs : List (ℕ × ℕ)). zs ++ (c.args.a, c.args.b) ∷ []) (sym same),
-    (subst (IsPartial c.args.left.now c.args.right.now) (sym more) (c.fits.ensures.fits c.if-not-fits.false),
-    (c.requires.a_in_range, (c.requires.b_in_range,
-    (λ h. c.requires.free (subst (λ zs. IsPaired zs c.args.a) same h)))))))))
+    let same = take-set pairs c.args.count (c.args.a, c.args.b) in (
+      search (rules, long),
+      (
+        omega (arith, c.requires.room),
+        (
+          omega arith,
+          (
+            more ∙ ap (λ (zs : List (ℕ × ℕ)). zs ++ (c.args.a, c.args.b) ∷ []) (sym same),
+            (
+              subst (IsPartial c.args.left.now c.args.right.now) (sym more) (c.fits.ensures.fits c.if-not-fits.false),
+              (
+                c.requires.a_in_range,
+                (
+                  c.requires.b_in_range,
+                  (λ h. c.requires.free (subst (λ zs. IsPaired zs c.args.a) same h)),
+                ),
+              ),
+            ),
+          ),
+        ),
+      ),
+    )
 
 pub pair-returns-clause-none : goal.pair-returns-clause-none
 pair-returns-clause-none t c =
@@ -45,7 +61,7 @@ pair-returns-clause-none t c =
     let few = c.requires.few in
     let size : length (take c.args.count pairs) ≡ c.args.count = length-take-le c.args.count pairs few in
     let less = room c.args.left.now c.args.right.now (take c.args.count pairs) c.args.a c.requires.partial
-        c.requires.a_in_range c.requires.free in
+    c.requires.a_in_range c.requires.free in
     let within : c.args.count < length pairs = omega (arith, c.requires.room) in
     subst (λ zs. IfNone c.pair_neighbours.result (Extends c.args.left.now c.args.right.now zs → ⊥))
     (take_more_set pairs c.args.count (c.args.a, c.args.b) within) c.pair_neighbours.ensures.none
@@ -58,14 +74,27 @@ pair_beside-neighbours-neighbours-requires t c =
 pub pair_beside-pair-requires : goal.pair_beside-pair-requires
 pair_beside-pair-requires t c =
     let bond = near_bond c.args.right.now c.args.near c.neighbours-neighbours.result.now c.loop-b.b-index
-        c.neighbours-neighbours.ensures.each c.loop-b-test.true in
-    let kept = c.loop-b.invariant.kept in
-    (search rules, (omega (arith, c.requires.room),
-    (subst (IsPartial c.args.left.now c.args.right.now) (sym kept) c.requires.partial,
-    (omega (arith, c.requires.few), (c.requires.in_range,
-    (bond_within c.args.right.now _ c.args.near bond.0 c.neighbours-neighbours.ensures.valid
-    (turned c.args.right.now c.args.near _ bond.0 bond.1),
-    (λ h. c.requires.free (subst (λ zs. IsPaired zs c.args.a) kept h))))))))
+    c.neighbours-neighbours.ensures.each c.loop-b-test.true in
+    let kept = c.loop-b.invariant.kept in (
+      search rules,
+      (
+        omega (arith, c.requires.room),
+        (
+          subst (IsPartial c.args.left.now c.args.right.now) (sym kept) c.requires.partial,
+          (
+            omega (arith, c.requires.few),
+            (
+              c.requires.in_range,
+              (
+                bond_within c.args.right.now _ c.args.near bond.0 c.neighbours-neighbours.ensures.valid
+                    (turned c.args.right.now c.args.near _ bond.0 bond.1),
+                (λ h. c.requires.free (subst (λ zs. IsPaired zs c.args.a) kept h)),
+              ),
+            ),
+          ),
+        ),
+      ),
+    )
 
 pub pair_beside-loop-b-preserved : goal.pair_beside-loop-b-preserved
 pair_beside-loop-b-preserved t c = record {
@@ -91,14 +120,27 @@ pair_neighbours-loop-neighbour-init t c =
 pub pair_neighbours-pair_beside-requires : goal.pair_neighbours-pair_beside-requires
 pair_neighbours-pair_beside-requires t c =
     let bond = near_bond c.args.left.now c.args.a c.neighbours-neighbours.result.now c.loop-neighbour.neighbour-index
-        c.neighbours-neighbours.ensures.each c.loop-neighbour-test.true in
-    let low = c.loop-neighbour.invariant.low in
-    (search rules, (omega (arith, c.requires.room), (c.loop-neighbour.invariant.way.partial,
-    (c.loop-neighbour.invariant.high,
-    (bond_within c.args.left.now _ c.args.a bond.0 c.neighbours-neighbours.ensures.valid
-    (turned c.args.left.now c.args.a _ bond.0 bond.1),
-    (none_value c.partner.result _ (c.is_none.ensures ∙ ap not c.if-is_none.true) c.partner.ensures.none,
-    (c.args.a, c.loop-neighbour.invariant.way.first, bond)))))))
+    c.neighbours-neighbours.ensures.each c.loop-neighbour-test.true in
+    let low = c.loop-neighbour.invariant.low in (
+      search rules,
+      (
+        omega (arith, c.requires.room),
+        (
+          c.loop-neighbour.invariant.way.partial,
+          (
+            c.loop-neighbour.invariant.high,
+            (
+              bond_within c.args.left.now _ c.args.a bond.0 c.neighbours-neighbours.ensures.valid
+                  (turned c.args.left.now c.args.a _ bond.0 bond.1),
+              (
+                none_value c.partner.result _ (c.is_none.ensures ∙ ap not c.if-is_none.true) c.partner.ensures.none,
+                (c.args.a, c.loop-neighbour.invariant.way.first, bond),
+              ),
+            ),
+          ),
+        ),
+      ),
+    )
 
 pub pair_neighbours-returns-in-None-clause-kept : goal.pair_neighbours-returns-in-None-clause-kept
 pair_neighbours-returns-in-None-clause-kept t c =
@@ -109,16 +151,16 @@ pair_neighbours-returns-in-None-clause-kept t c =
 pub pair_neighbours-loop-neighbour-preserved : goal.pair_neighbours-loop-neighbour-preserved
 pair_neighbours-loop-neighbour-preserved t c =
     let To = λ (more : ℕ) (pairs : List (ℕ × ℕ)). IsWalked c.args.left.now c.args.right.now c.args.a c.args.b
-        c.neighbours-neighbours.result.now c.args.count c.args.pairs.now (c.loop-neighbour.neighbour-index + 1) more pairs
-        in
+    c.neighbours-neighbours.result.now c.args.count c.args.pairs.now (c.loop-neighbour.neighbour-index + 1) more pairs
+    in
     elim c.if-is_none.branch [
       | pair_neighbours-then-is_none+in-Some w ↦
           let bond = near_bond c.args.left.now c.args.a c.neighbours-neighbours.result.now
-              c.loop-neighbour.neighbour-index c.neighbours-neighbours.ensures.each c.loop-neighbour-test.true in
+          c.loop-neighbour.neighbour-index c.neighbours-neighbours.ensures.each c.loop-neighbour-test.true in
           let free = none_value c.partner.result
-              (IsPaired (take c.loop-neighbour.more c.loop-neighbour.pairs)
-              (get_or c.neighbours-neighbours.result.now c.loop-neighbour.neighbour-index (0, 0)).0 → ⊥)
-              (c.is_none.ensures ∙ ap not w.if-is_none.true) c.partner.ensures.none in
+          (IsPaired (take c.loop-neighbour.more c.loop-neighbour.pairs)
+          (get_or c.neighbours-neighbours.result.now c.loop-neighbour.neighbour-index (0, 0)).0 → ⊥)
+          (c.is_none.ensures ∙ ap not w.if-is_none.true) c.partner.ensures.none in
           let step = w.in-Some.ensures.some in
           let few = w.in-Some.ensures.few in
           let same : length w.pair_beside.new.pairs ≡ length c.loop-neighbour.pairs = search rules in
@@ -129,8 +171,8 @@ pair_neighbours-loop-neighbour-preserved t c =
           w.pair_beside.ensures.kept few.0 (omega (arith, few.1)) step.1 c.loop-neighbour.invariant))
       | pair_neighbours-else-is_none w ↦
           let here = some_value c.partner.result (Has (take c.loop-neighbour.more c.loop-neighbour.pairs)
-              (get_or c.neighbours-neighbours.result.now c.loop-neighbour.neighbour-index (0, 0)).0)
-              (c.is_none.ensures ∙ ap not w.if-is_none.false) c.partner.ensures.some in
+          (get_or c.neighbours-neighbours.result.now c.loop-neighbour.neighbour-index (0, 0)).0)
+          (c.is_none.ensures ∙ ap not w.if-is_none.false) c.partner.ensures.some in
           subst (λ p. To c.if-is_none.more p) (sym w.pairs-is) (subst (λ k. To k c.loop-neighbour.pairs) (sym w.more-is)
           (walked-same c.args.left.now c.args.right.now c.args.a c.args.b c.neighbours-neighbours.result.now c.args.count
           c.args.pairs.now c.loop-neighbour.neighbour-index c.loop-neighbour.more c.loop-neighbour.pairs here

@@ -1,4 +1,4 @@
-use Rattle.std.proofs.Common.{◌≡◌, ◌<◌, ◌≤◌, ◌*◌, ◌+◌, ◌-◌, ◌++◌, ◌∷◌, [], ℕ, get_or, length, take}
+use Rattle.std.proofs.Common.{◌≡◌, ◌<◌, ◌*◌, ◌+◌, ◌-◌, ◌++◌, ◌∷◌, [], ℕ, get_or, length, take}
 use Rattle.exact_find.specs.Pairs.{Extends}
 use Rattle.exact_find.proofs.Walks.{IsWalked}
 use Rattle.exact_find.proofs.walk.+walk.Given as goal

@@ -1,4 +1,4 @@
-use Rattle.std.proofs.Common.{◌≡◌, ◌<◌, ◌≤◌, ◌++◌, ◌∷◌, [], ℕ, List, length, take, ap, sym, ◌∙◌, subst, refl, arith, below_more}
+use Rattle.std.proofs.Common.{◌++◌, ◌∷◌, [], ℕ, List, length, take, ap, sym, ◌∙◌, subst, refl, arith, below_more}
 use Rattle.exact_find.specs.Pairs.{Extends}
 use Rattle.exact_find.proofs.Walks.{extend_more}
 use Rattle.exact_find.proofs.walk.pair_anywhere.Goals as goal
