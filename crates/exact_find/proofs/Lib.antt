@@ -1,0 +1,11 @@
+pub mod Exchange
+pub mod Sums
+pub mod Onto
+pub mod Maps
+pub mod Images
+pub mod Keys
+pub mod Steps
+pub mod Near
+pub mod Flips
+pub mod Grow
+pub mod Walks
