@@ -3,8 +3,7 @@ ghost use Rattle.std.specs.Prelude.{◌≡◌, ◌<◌, length, IfOk};
 ghost use Rattle.chem_shell.specs.Words.{texts, Asks, AsksFor};
 ghost use Rattle.chem_shell.specs.declared.request.Plan.{Plan as ThePlan};
 
-use chem_shell::{End, Outcome, chemdb};
-use chem_shell::{PlanFault, plan};
+use chem_shell::{End, Outcome, PlanFault, chemdb, plan};
 use disk_edge::{Disk, MemDisk};
 use io_edge::{MemSink, MemSource};
 use std::alloc::{AllocError, Global};

@@ -3,8 +3,7 @@
 
 ghost use Rattle.std.specs.Prelude.{◌≡◌, IfOk, length};
 
-use chem_shell::status;
-use chem_shell::{End, PlanFault, Verb, chemdb, plan, word_fault};
+use chem_shell::{End, PlanFault, Verb, chemdb, plan, status, word_fault};
 use disk_edge::FileDisk;
 use io_edge::{StdSink, StdSource};
 use std::alloc::{AllocError, Global};
