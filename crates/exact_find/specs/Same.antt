@@ -9,7 +9,7 @@ abbrev pub HasBond : Molecule → ℕ → ℕ → BondKind → Type 0
 HasBond m x y kind = Contains m.bonds (record { a = x; b = y; kind = kind })
     ⊎ Contains m.bonds (record { a = y; b = x; kind = kind })
 
--- atoms of which the same is said but for their valence, which follows from their bonds
+-- atoms of which the same is said; their valences are not compared
 pub record IsAlike (x y : Atom) : Type 0 where
   pub number : x.number ≡ y.number
   pub isotope : x.isotope ≡ y.isotope

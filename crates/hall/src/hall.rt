@@ -47,8 +47,7 @@ impl<D: Disk> Hall<D> {
         }
     }
 
-    /// The root pass gives the next number to a new pass, which has seen what it had seen, and holds no pins. Takes no
-    /// memory.
+    /// The root pass gives the next number to a new pass, which has seen what it had seen. Takes no memory.
     pub fn split(&self, pass: &mut HallPass<D>) -> HallPass<D>
         requires of { IsOf self.now pass.old }
         requires root { IsRoot pass.old }
