@@ -21,7 +21,7 @@ use Rattle.exact_find.proofs.Maps.{taken, bonds-one, bond_at, map-back, joins}
 use Rattle.exact_find.proofs.Images.{as_map}
 
 -- a sum is no less than one whose elements are no more than different ones of its own
-sums-le : (h : ℕ → ℕ) (xs ys : List ℕ) → IsOneToOne (length xs) (length ys) h
+pub sums-le : (h : ℕ → ℕ) (xs ys : List ℕ) → IsOneToOne (length xs) (length ys) h
     → ((i : ℕ) → i < length xs → get_or xs i 0 ≤ get_or ys (h i) 0) → sum xs ≤ sum ys
 sums-le h xs ys one below =
     subst (λ zs. sum zs ≤ sum ys) (take-length xs) (sum_below h xs ys (length xs) (omega arith) one below)
@@ -110,7 +110,7 @@ codes-at m i x at =
     ∙ ap (code m) (get_or-enumerate_from 0 m.atoms i none within)
     ∙ ap (λ (k : ℕ). code m (k, get_or m.atoms i x)) (omega arith) ∙ ap (λ (y : Atom). code m (i, y)) same
 
-same_code : (x y : Atom) → IsAlike x y → atom_code x ≡ atom_code y
+pub same_code : (x y : Atom) → IsAlike x y → atom_code x ≡ atom_code y
 same_code x y like =
     let one = like.number in
     let two = like.isotope in

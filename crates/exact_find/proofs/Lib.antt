@@ -9,3 +9,7 @@ pub mod Near
 pub mod Flips
 pub mod Grow
 pub mod Walks
+pub mod Rounds
+pub mod Spread
+pub mod Reach
+pub mod Both

@@ -38,8 +38,8 @@ pub fn key_of(mol: &Mol) -> Key
     }
 }
 
-// What the atom at a place is and how many neighbours it has, as one number.
-fn code_of(mol: &Mol, place: usize) -> u64
+/// What the atom at a place is and how many neighbours it has, as one number.
+pub fn code_of(mol: &Mol, place: usize) -> u64
     requires { place < length mol.now.atoms }
     ensures value { (atom : Atom) → slice_get mol.now.atoms place ≡ Some atom
         → result ≡ code mol.now (place, atom) }

@@ -2,15 +2,17 @@
 //!
 //! An atom is paired with one that is alike and joined alike to the atoms in pairs; then all that hangs on it is
 //! paired, neighbour by neighbour. Pairs of whole components stay: what is left can be paired beside them if it could
-//! be before.
+//! be before. Where several atoms can be the partner, colours tell most of those apart that cannot.
 ghost use Rattle.std.specs.Prelude.{◌≡◌, ◌<◌, ◌≤◌, ◌+◌, ◌-◌, ◌++◌, ◌∷◌, ◌↔◌, ℕ, [], length, take, vec_len, IsTrue, IfNone, IfSome};
 ghost use Rattle.chem_core.specs.declared.mol.BondKind.{BondKind};
 ghost use Rattle.chem_core.specs.declared.limits.TheConstants.{MOST_ATOMS};
+ghost use Rattle.exact_find.specs.Colours.{IsRough};
 ghost use Rattle.exact_find.specs.Same.{HasBond, IsSame};
 ghost use Rattle.exact_find.specs.Pairs.{Extends, Has, IsPaired, IsPartial, IsStep, flip};
 
 use crate::fit::{fits, partner, partner_back};
 use crate::key::key_of;
+use crate::sides::{Rough, Work};
 use chem_core::{MOST_ATOMS, Mol};
 use std::alloc::{AllocError, Global};
 
@@ -18,6 +20,8 @@ use std::alloc::{AllocError, Global};
 #[derive(Debug, Drop)]
 pub struct SameScratch {
     pairs: Vec<(u16, u16)>,
+    rough: Rough,
+    work: Work,
     ghost room: { vec_len pairs ≡ MOST_ATOMS },
 }
 
@@ -26,6 +30,8 @@ impl SameScratch {
     pub fn reserve(alloc: Global) -> Result<SameScratch, AllocError> {
         Ok(SameScratch {
             pairs: vec![in alloc; (0, 0); MOST_ATOMS]?,
+            rough: Rough::reserve(alloc)?,
+            work: Work::reserve(alloc)?,
         })
     }
 }
@@ -33,27 +39,45 @@ impl SameScratch {
 /// Whether the molecules are the same structure: some one-to-one map of their atoms keeps element, isotope, charge,
 /// hydrogens and whether an atom is aromatic, and takes the bonds of one to the bonds of the other, with their kinds.
 ///
-/// Takes no memory. The worst case takes exponential time.
+/// Takes no memory. Where several atoms can be the partner of one, the colours of what hangs on them are compared: levels
+/// from that atom, then six rounds over neighbours. So most pairs fail at once that cannot be. The worst case still
+/// takes exponential time: graphs by Cai, Fürer and Immerman, and large symmetric graphs of which few bonds differ.
 pub fn same(left: &Mol, right: &Mol, scratch: &mut SameScratch) -> bool
     ensures { IsTrue result ↔ IsSame left.now right.now }
 {
     if key_of(left) != key_of(right) {
         return false;
     }
-    pair_all(left, right, &mut scratch.pairs)
+    if !scratch.work.start(left, right, &mut scratch.rough) {
+        return false;
+    }
+    pair_all(
+        left,
+        right,
+        &scratch.rough,
+        &mut scratch.work,
+        &mut scratch.pairs,
+    )
 }
 
 // Pairs all atoms, if they can be.
-fn pair_all(left: &Mol, right: &Mol, pairs: &mut [(u16, u16)]) -> bool
+fn pair_all(
+    left: &Mol,
+    right: &Mol,
+    rough: &Rough,
+    work: &mut Work,
+    pairs: &mut [(u16, u16)],
+) -> bool
     requires room { length left.now.atoms ≤ length pairs.old }
     requires atoms { length left.now.atoms ≡ length right.now.atoms }
     requires bonds { length left.now.bonds ≡ length right.now.bonds }
+    requires rough { IsRough left.now right.now rough.now.left.items rough.now.right.items }
     ensures { IsTrue result ↔ IsSame left.now right.now }
 {
     let mut count = 0;
     for atom in 0..left.atoms().len() as u16 {
         if partner(&pairs[..count], atom).is_none() {
-            match pair_anywhere(left, right, pairs, count, atom) {
+            match pair_anywhere(left, right, rough, work, pairs, count, atom) {
                 Some(more) => count = more,
                 None => return false,
             }
@@ -66,6 +90,8 @@ fn pair_all(left: &Mol, right: &Mol, pairs: &mut [(u16, u16)]) -> bool
 fn pair_anywhere(
     left: &Mol,
     right: &Mol,
+    rough: &Rough,
+    work: &mut Work,
     pairs: &mut [(u16, u16)],
     count: usize,
     a: u16,
@@ -75,13 +101,14 @@ fn pair_anywhere(
     requires few { count ≤ length pairs.old }
     requires in_range { a < length left.now.atoms }
     requires free { IsPaired (take count pairs.old) a → ⊥ }
+    requires rough { IsRough left.now right.now rough.now.left.items rough.now.right.items }
     ensures some { IfSome result (λ more. (b : ℕ)
         × IsStep left.now right.now (take count pairs.old) (take more pairs.new) a b) }
     ensures few { IfSome result (λ more. more ≤ length pairs.old) }
     ensures none { IfNone result (Extends left.now right.now (take count pairs.old) → ⊥) }
 {
     for b in 0..right.atoms().len() as u16 {
-        if let Some(more) = pair(left, right, pairs, count, a, b) {
+        if let Some(more) = pair(left, right, rough, work, pairs, count, a, b, true) {
             return Some(more);
         }
     }
@@ -93,6 +120,8 @@ fn pair_anywhere(
 fn pair_beside(
     left: &Mol,
     right: &Mol,
+    rough: &Rough,
+    work: &mut Work,
     pairs: &mut [(u16, u16)],
     count: usize,
     a: u16,
@@ -105,30 +134,35 @@ fn pair_beside(
     requires free { IsPaired (take count pairs.old) a → ⊥ }
     requires near { (c : ℕ) × Has (take count pairs.old) c near
         × ((kind : BondKind) × HasBond left.now c a kind) }
+    requires rough { IsRough left.now right.now rough.now.left.items rough.now.right.items }
     ensures kept { take count pairs.new ≡ take count pairs.old }
     ensures some { IfSome result (λ more. (b : ℕ)
         × IsStep left.now right.now (take count pairs.old) (take more pairs.new) a b) }
     ensures few { IfSome result (λ more. (count ≤ more) × (more ≤ length pairs.old)) }
     ensures none { IfNone result (Extends left.now right.now (take count pairs.old) → ⊥) }
 {
+    let several = are_several(right, rough, &pairs[..count], a, near);
     let neighbours = right.neighbours(near);
     for (b, _) in neighbours {
-        if let Some(more) = pair(left, right, pairs, count, a, *b) {
+        if let Some(more) = pair(left, right, rough, work, pairs, count, a, *b, several) {
             return Some(more);
         }
     }
     None
 }
 
-// Pairs two atoms and all that hangs on them, if they can be.
+// Pairs two atoms and all that hangs on them, if they can be. Compares colours where several atoms can be the partner.
 #[cycle(walk)]
 fn pair(
     left: &Mol,
     right: &Mol,
+    rough: &Rough,
+    work: &mut Work,
     pairs: &mut [(u16, u16)],
     count: usize,
     a: u16,
     b: u16,
+    several: bool,
 ) -> Option<usize>
     requires room { length left.now.atoms ≤ length pairs.old }
     requires partial { IsPartial left.now right.now (take count pairs.old) }
@@ -136,17 +170,24 @@ fn pair(
     requires a_in_range { a < length left.now.atoms }
     requires b_in_range { b < length right.now.atoms }
     requires free { IsPaired (take count pairs.old) a → ⊥ }
+    requires rough { IsRough left.now right.now rough.now.left.items rough.now.right.items }
     ensures kept { take count pairs.new ≡ take count pairs.old }
     ensures some { IfSome result (λ more.
         IsStep left.now right.now (take count pairs.old) (take more pairs.new) a b) }
     ensures few { IfSome result (λ more. (count ≤ more) × (more ≤ length pairs.old)) }
     ensures none { IfNone result (Extends left.now right.now (take count pairs.old ++ (a, b) ∷ []) → ⊥) }
 {
+    if rough.left[usize::from(a)] != rough.right[usize::from(b)] {
+        return None;
+    }
     if !fits(left, right, &pairs[..count], a, b) {
         return None;
     }
     pairs[count] = (a, b);
-    pair_neighbours(left, right, pairs, count, a, b)
+    if several && !work.agree(left, right, rough, &pairs[..count + 1]) {
+        return None;
+    }
+    pair_neighbours(left, right, rough, work, pairs, count, a, b)
 }
 
 // Pairs all that hangs on the atoms of the last pair, if it can be.
@@ -154,6 +195,8 @@ fn pair(
 fn pair_neighbours(
     left: &Mol,
     right: &Mol,
+    rough: &Rough,
+    work: &mut Work,
     pairs: &mut [(u16, u16)],
     count: usize,
     a: u16,
@@ -166,6 +209,7 @@ fn pair_neighbours(
     requires a_in_range { a < length left.now.atoms }
     requires b_in_range { b < length right.now.atoms }
     requires free { IsPaired (take count pairs.old) a → ⊥ }
+    requires rough { IsRough left.now right.now rough.now.left.items rough.now.right.items }
     ensures kept { take count pairs.new ≡ take count pairs.old }
     ensures some { IfSome result (λ more.
         IsStep left.now right.now (take count pairs.old) (take more pairs.new) a b) }
@@ -176,7 +220,7 @@ fn pair_neighbours(
     let neighbours = left.neighbours(a);
     for (neighbour, _) in neighbours {
         if partner(&pairs[..more], *neighbour).is_none() {
-            match pair_beside(left, right, pairs, more, *neighbour, b) {
+            match pair_beside(left, right, rough, work, pairs, more, *neighbour, b) {
                 Some(next) => more = next,
                 None => return None,
             }
@@ -187,6 +231,26 @@ fn pair_neighbours(
     } else {
         None
     }
+}
+
+// Whether several neighbours of the right atom are in no pair and have the left atom's colour.
+fn are_several(right: &Mol, rough: &Rough, pairs: &[(u16, u16)], a: u16, near: u16) -> bool
+    requires a_in_range { a < MOST_ATOMS }
+    requires near_in_range { near < length right.now.atoms }
+{
+    let mut one = false;
+    let neighbours = right.neighbours(near);
+    for (b, _) in neighbours {
+        if rough.left[usize::from(a)] == rough.right[usize::from(*b)]
+            && partner_back(pairs, *b).is_none()
+        {
+            if one {
+                return true;
+            }
+            one = true;
+        }
+    }
+    false
 }
 
 // Whether all neighbours of the right atom are in pairs.

@@ -1,9 +1,10 @@
-use Rattle.std.proofs.Common.{◌≡◌, ◌<◌, ◌+◌, ◌++◌, ◌∷◌, [], ℕ, List, get_or, length, take, set, IfNone, not, ap, sym, ◌∙◌, subst, arith, rules, below_more}
+use Rattle.std.proofs.Common.{◌≡◌, ◌<◌, ◌≤◌, ◌+◌, ◌++◌, ◌∷◌, [], ℕ, List, get_or, length, take, set, IfNone, not, ap, sym, ◌∙◌, subst, arith, rules, below_more}
 use Rattle.std.proofs.Math.ListN.{length-set}
 use Rattle.std.proofs.lemmas.Bool.{false≢true}
 use Rattle.std.proofs.lemmas.List.{take-set, take_more_set, length-take-le}
 use Rattle.std.proofs.lemmas.Option.{slice_get_within}
 use Rattle.exact_find.specs.Pairs.{Extends, Has, IsPaired, IsPartial}
+use Rattle.exact_find.proofs.Both.{rough-refused}
 use Rattle.exact_find.proofs.Grow.{none_value, some_value}
 use Rattle.exact_find.proofs.Images.{bond_within}
 use Rattle.exact_find.proofs.Maps.{turned}
@@ -46,7 +47,7 @@ pair-pair_neighbours-requires t c =
                 c.requires.a_in_range,
                 (
                   c.requires.b_in_range,
-                  (λ h. c.requires.free (subst (λ zs. IsPaired zs c.args.a) same h)),
+                  ((λ h. c.requires.free (subst (λ zs. IsPaired zs c.args.a) same h)), c.requires.rough),
                 ),
               ),
             ),
@@ -88,7 +89,7 @@ pair_beside-pair-requires t c =
               (
                 bond_within c.args.right.now _ c.args.near bond.0 c.neighbours-neighbours.ensures.valid
                     (turned c.args.right.now c.args.near _ bond.0 bond.1),
-                (λ h. c.requires.free (subst (λ zs. IsPaired zs c.args.a) kept h)),
+                ((λ h. c.requires.free (subst (λ zs. IsPaired zs c.args.a) kept h)), c.requires.rough),
               ),
             ),
           ),
@@ -134,7 +135,7 @@ pair_neighbours-pair_beside-requires t c =
                   (turned c.args.left.now c.args.a _ bond.0 bond.1),
               (
                 none_value c.partner.result _ (c.is_none.ensures ∙ ap not c.if-is_none.true) c.partner.ensures.none,
-                (c.args.a, c.loop-neighbour.invariant.way.first, bond),
+                ((c.args.a, c.loop-neighbour.invariant.way.first, bond), c.requires.rough),
               ),
             ),
           ),
@@ -194,3 +195,62 @@ pair_neighbours-returns-else-are_paired-clause-none t c = λ ext.
     c.loop-neighbour.invariant.way.first c.neighbours-neighbours.ensures.each
     (λ k h. c.loop-neighbour.invariant.done k (omega (arith, h, c.loop-neighbour-test.false)))
     (c.loop-neighbour.invariant.goes ext)))
+
+pub pair-returns-then-index-clause-none : goal.pair-returns-then-index-clause-none
+pair-returns-then-index-clause-none t c =
+    let rough = c.requires.rough in
+    let left = c.args.rough.now.left.items in
+    let right = c.args.rough.now.right.items in
+    let room : length c.args.left.now.atoms ≤ length left = search (rules, rough.sound.graph.few_atoms) in
+    let room_right : length c.args.right.now.atoms ≤ length right = search (rules, rough.sound_right.graph.few_atoms) in
+    rough-refused c.args.left.now c.args.right.now (take c.args.count c.args.pairs.now) c.args.a c.args.b left right
+    c.from.result c.from-2.result c.index.result.now c.index-2.result.now rough c.from.ensures c.from-2.ensures
+    c.requires.a_in_range c.requires.b_in_range room room_right c.index.ensures c.index-2.ensures c.if-index.true
+
+pub pair-slice_bounds-agree-end : goal.pair-slice_bounds-agree-end
+pair-slice_bounds-agree-end t c =
+    let pairs = c.args.pairs.now in
+    let few = c.requires.few in
+    let size : length (take c.args.count pairs) ≡ c.args.count = length-take-le c.args.count pairs few in
+    let less = room c.args.left.now c.args.right.now (take c.args.count pairs) c.args.a c.requires.partial
+    c.requires.a_in_range c.requires.free in
+    let long = length-set pairs c.args.count (c.args.a, c.args.b) in
+    omega (arith, c.requires.room)
+
+pub pair-slice_bounds-agree-end-then-several : goal.pair-slice_bounds-agree-end-then-several
+pair-slice_bounds-agree-end-then-several t c =
+    let pairs = c.args.pairs.now in
+    let few = c.requires.few in
+    let size : length (take c.args.count pairs) ≡ c.args.count = length-take-le c.args.count pairs few in
+    let less = room c.args.left.now c.args.right.now (take c.args.count pairs) c.args.a c.requires.partial
+    c.requires.a_in_range c.requires.free in
+    let long = length-set pairs c.args.count (c.args.a, c.args.b) in
+    sym (length-take-le (c.args.count + 1) (set pairs c.args.count (c.args.a, c.args.b)) (omega (arith, c.requires.room)))
+
+pub pair-agree-requires-clause-partial : goal.pair-agree-requires-clause-partial
+pair-agree-requires-clause-partial t c =
+    let pairs = c.args.pairs.now in
+    let few = c.requires.few in
+    let size : length (take c.args.count pairs) ≡ c.args.count = length-take-le c.args.count pairs few in
+    let less = room c.args.left.now c.args.right.now (take c.args.count pairs) c.args.a c.requires.partial
+    c.requires.a_in_range c.requires.free in
+    let within : c.args.count < length pairs = omega (arith, c.requires.room) in
+    subst (IsPartial c.args.left.now c.args.right.now)
+    (sym (take_more_set pairs c.args.count (c.args.a, c.args.b) within)) (c.fits.ensures.fits c.if-not-fits.false)
+
+pub pair-returns-then-not-agree-clause-none : goal.pair-returns-then-not-agree-clause-none
+pair-returns-then-not-agree-clause-none t c =
+    let pairs = c.args.pairs.now in
+    let few = c.requires.few in
+    let size : length (take c.args.count pairs) ≡ c.args.count = length-take-le c.args.count pairs few in
+    let less = room c.args.left.now c.args.right.now (take c.args.count pairs) c.args.a c.requires.partial
+    c.requires.a_in_range c.requires.free in
+    let within : c.args.count < length pairs = omega (arith, c.requires.room) in
+    λ ext.
+    c.agree.ensures c.if-not-agree.true (subst (Extends c.args.left.now c.args.right.now)
+    (sym (take_more_set pairs c.args.count (c.args.a, c.args.b) within)) ext)
+
+pub pair_beside-are_several-several-requires-clause-near_in_range : goal.pair_beside-are_several-several-requires-clause-near_in_range
+pair_beside-are_several-several-requires-clause-near_in_range t c =
+    let to = c.requires.partial.there.alike c.requires.near.0 c.args.near c.requires.near.1 in
+    slice_get_within c.args.right.now.atoms c.args.near to.2 to.3

@@ -1,5 +1,5 @@
 use Rattle.std.proofs.Common.{◌++◌, ◌∷◌, [], ℕ, List, length, take, ap, sym, ◌∙◌, subst, refl, arith, below_more}
-use Rattle.exact_find.specs.Pairs.{Extends}
+use Rattle.exact_find.specs.Pairs.{Extends, IsPaired}
 use Rattle.exact_find.proofs.Walks.{extend_more}
 use Rattle.exact_find.proofs.walk.pair_anywhere.Goals as goal
 
@@ -17,3 +17,7 @@ returns-clause-none c = λ ext.
     c.loop-b.invariant.none (ext.f c.args.a)
     (omega (arith, inside, c.loop-b-test.false, ap length c.atoms.ensures.value))
     (extend_more c.args.left.now c.args.right.now (take c.args.count c.args.pairs.now) c.args.a (ext.f c.args.a) ext refl)
+
+pub pair-requires-clause-free : goal.pair-requires-clause-free
+pair-requires-clause-free c = λ h.
+    c.requires.free (subst (λ zs. IsPaired zs c.args.a) c.loop-b.invariant.kept h)
