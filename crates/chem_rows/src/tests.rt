@@ -5,18 +5,22 @@ ghost use Rattle.chem_shell.specs.declared.request.Plan.{Plan as ThePlan};
 
 use chem_shell::{End, Outcome, PlanFault, chemdb, plan};
 use disk_edge::{Disk, MemDisk};
-use io_edge::{MemSink, MemSource};
+use io_edge::{MemSink, MemSource, Sink, Source};
+use par_search::NoMeter;
+use session_run::{EndStatus, Settings, session};
 use std::alloc::{AllocError, Global};
 use std::process::Abort;
 use std::sync::Wait;
 use std::test::Fail;
 use std::thread::Threads;
+use store_core::Store;
 
 mod bulk;
 mod cursors;
 mod disk;
 mod failing;
 mod patterns;
+mod prints;
 mod refused;
 mod structures;
 mod turns;
@@ -104,6 +108,23 @@ fn ends(
         })?;
     }
     Ok(ends)
+}
+
+// How a session over an empty store in memory ends that takes no more bytes than this.
+fn session_within<R: Threads + Sync, I: Source, O: Sink>(
+    rt: &R,
+    alloc: Global,
+    source: &mut I,
+    sink: &mut O,
+    input_limit: u64,
+) -> EndStatus {
+    let mut store = Store::fresh(alloc, 1);
+    let settings = Settings {
+        workers: 1,
+        page: 1,
+        input_limit,
+    };
+    session(rt, alloc, &mut store, source, sink, &settings, &NoMeter)
 }
 
 // What was put.

@@ -1,13 +1,17 @@
 -- Options, numbers and plans, in other words.
-use Rattle.std.proofs.Common.{◌≡◌, ◌≢◌, ◌<◌, ◌≤◌, ◌^◌, ◌∙◌, ℕ, List, [], ◌∷◌, Option, Some, None, Result, Ok, Err, refl, sym, ap, subst, inl, inr, arith, codes, decimal, option_map, get_or}
-use Rattle.std.specs.Prelude.{unwrap_or, OnErr}
+use Rattle.std.proofs.Common.{◌≡◌, ◌≢◌, ◌<◌, ◌≤◌, ◌^◌, ◌∙◌, ℕ, List, [], ◌∷◌, Option, Some, None, Result, Ok, Err, refl, sym, ap, subst, inl, inr, arith, codes, decimal, option_map, get_or, if◌then◌else◌, ◌==◌, length, map}
+use Rattle.std.specs.Prelude.{unwrap_or, IfErr, OnErr}
 use Rattle.std.proofs.lemmas.Fmt.{decimal_injective}
-use Rattle.clap.specs.Words.{Row, Text, fault_of, first_of, matches_of}
+use Rattle.std.proofs.lemmas.List.{length-map}
+use Rattle.std.specs.Borrow.{Bor}
+use Rattle.clap.specs.Words.{Row, Text, all_of, fault_of, first_of, matches_of}
 use Rattle.store_core.specs.declared.store.TheConstants.{MOST_COMMITS}
 use Rattle.chem_shell.specs.declared.request.Plan.{Plan}
-use Rattle.chem_shell.specs.declared.request.Verb.TheVariants.{Mem, Init, Run, Bulk}
+use Rattle.chem_shell.specs.declared.request.Verb.{Verb}
+use Rattle.chem_shell.specs.declared.request.Verb.TheVariants.{Mem, Init, Run, Serve, Bulk}
 use Rattle.chem_shell.specs.declared.words.TheConstants.{LAST_SEED, MOST_STRUCTURES}
-use Rattle.chem_shell.specs.Words.{Asks, AsksFor, IsBulk, IsInit, IsMem, IsNumber, IsRow, IsRunOf, IsSetting, IsWithinLimits, chemdb_app}
+use Rattle.chem_shell.specs.Done.{HasEnds}
+use Rattle.chem_shell.specs.Words.{AreSizes, Asks, AsksFor, HasScripts, IsBulk, IsInit, IsMem, IsNumber, IsRow, IsRunOf, IsServe, IsSetting, IsWithinLimits, chemdb_app, texts}
 
 pub none_of_image : {X Y : Type 0} (f : X → Y) (o : Option X) (v : Option Y) → option_map f o ≡ v → v ≡ None → o ≡ None
 none_of_image f None v same none = refl
@@ -22,6 +26,10 @@ image_of_none f (Some x) v same none = cc
 pub on_err : {X E A : Type 0} (r : Result X E) → A → OnErr r A
 on_err (Ok x) a = tt
 on_err (Err e) a = a
+
+pub if_err : {X E : Type 0} (r : Result X E) (P : E → Type 0) → ((e : E) → P e) → IfErr r P
+if_err (Ok x) P f = tt
+if_err (Err e) P f = f e
 
 pub some_same : {X : Type 0} (x y : X) → Some x ≡ Some y → x ≡ y
 some_same x y same = ap (λ o. unwrap_or o x) same
@@ -51,39 +59,48 @@ setting_within : (o : Option Text) (most default n : ℕ) → 1 ≤ default → 
 setting_within None most default n some few is = (omega (arith, some, is), omega (arith, few, is))
 setting_within (Some text) most default n some few is = (is.1, is.2)
 
-mem_within : (found : List Row) (p : Plan) → IsMem found p → IsWithinLimits p
-mem_within found p a =
-    let workers =
-    setting_within (first_of (codes "workers") found) 16 1 p.workers (omega arith) (omega arith) a.sizes.0 in
-    let page = setting_within (first_of (codes "page") found) 256 256 p.page (omega arith) (omega arith) a.sizes.1 in
-    let commits =
-    setting_within (first_of (codes "commits") found) MOST_COMMITS MOST_COMMITS p.commits (omega arith)
-    (omega arith) a.commits in
+-- the sizes and the commits that options give are within their limits
+within : (found : List Row) (p : Plan) → AreSizes found p.workers p.page
+    → IsSetting (first_of (codes "commits") found) MOST_COMMITS MOST_COMMITS p.commits → IsWithinLimits p
+within found p sizes commits =
+    let w = setting_within (first_of (codes "workers") found) 16 1 p.workers (omega arith) (omega arith) sizes.0 in
+    let r = setting_within (first_of (codes "page") found) 256 256 p.page (omega arith) (omega arith) sizes.1 in
+    let c =
+    setting_within (first_of (codes "commits") found) MOST_COMMITS MOST_COMMITS p.commits (omega arith) (omega arith)
+    commits in
     record {
-      some_workers = workers.0;
-      few_workers = workers.1;
-      some_records = page.0;
-      few_records = page.1;
-      some_commits = commits.0;
-      few_commits = commits.1;
+      some_workers = w.0;
+      few_workers = w.1;
+      some_records = r.0;
+      few_records = r.1;
+      some_commits = c.0;
+      few_commits = c.1;
     }
 
-bulk_within : (found : List Row) (p : Plan) → IsBulk found p → IsWithinLimits p
-bulk_within found p a =
-    let workers =
-    setting_within (first_of (codes "workers") found) 16 1 p.workers (omega arith) (omega arith) a.sizes.0 in
-    let page = setting_within (first_of (codes "page") found) 256 256 p.page (omega arith) (omega arith) a.sizes.1 in
+-- the row of a command
+abbrev pub IsOf : Verb → List Row → Plan → Type 0
+IsOf Mem found p = IsMem found p
+IsOf Init found p = IsInit found p
+IsOf Run found p = IsRunOf found p
+IsOf Serve found p = IsServe found p
+IsOf Bulk found p = IsBulk found p
+
+of_within : (verb : Verb) (found : List Row) (p : Plan) → IsOf verb found p → IsWithinLimits p
+of_within Mem found p a = within found p a.sizes a.commits
+of_within Run found p a = within found p a.sizes a.commits
+of_within Serve found p a = within found p a.sizes a.commits
+of_within Bulk found p a =
+    let w = setting_within (first_of (codes "workers") found) 16 1 p.workers (omega arith) (omega arith) a.sizes.0 in
+    let r = setting_within (first_of (codes "page") found) 256 256 p.page (omega arith) (omega arith) a.sizes.1 in
     record {
-      some_workers = workers.0;
-      few_workers = workers.1;
-      some_records = page.0;
-      few_records = page.1;
+      some_workers = w.0;
+      few_workers = w.1;
+      some_records = r.0;
+      few_records = r.1;
       some_commits = omega (arith, a.commits);
       few_commits = omega (arith, a.commits);
     }
-
-init_within : (found : List Row) (p : Plan) → IsInit found p → IsWithinLimits p
-init_within found p a = record {
+of_within Init found p a = record {
   some_workers = omega (arith, a.workers);
   few_workers = omega (arith, a.workers);
   some_records = omega (arith, a.page);
@@ -91,34 +108,6 @@ init_within found p a = record {
   some_commits = omega (arith, a.commits);
   few_commits = omega (arith, a.commits);
 }
-
-run_within : (found : List Row) (p : Plan) → IsRunOf found p → IsWithinLimits p
-run_within found p a =
-    let workers =
-    setting_within (first_of (codes "workers") found) 16 1 p.workers (omega arith) (omega arith) a.sizes.0 in
-    let page = setting_within (first_of (codes "page") found) 256 256 p.page (omega arith) (omega arith) a.sizes.1 in
-    let commits =
-    setting_within (first_of (codes "commits") found) MOST_COMMITS MOST_COMMITS p.commits (omega arith)
-    (omega arith) a.commits in
-    record {
-      some_workers = workers.0;
-      few_workers = workers.1;
-      some_records = page.0;
-      few_records = page.1;
-      some_commits = commits.0;
-      few_commits = commits.1;
-    }
-
-row_within : (command : Option Text) (found : List Row) (p : Plan) → IsRow command found p → IsWithinLimits p
-row_within command found p (inl a) = mem_within found p a.1
-row_within command found p (inr (inl a)) = init_within found p a.1
-row_within command found p (inr (inr (inl a))) = run_within found p a.1
-row_within command found p (inr (inr (inr a))) = bulk_within found p a.1
-
--- a plan's settings are within their limits
-pub plan_within : (words : List Text) (p : Plan) → AsksFor words p → IsWithinLimits p
-plan_within words p a =
-    row_within (first_of (codes "command") (matches_of chemdb_app words)) (matches_of chemdb_app words) p a.row
 
 -- two plans have the same command, and ask for the same of it
 pub record SamePlan (p q : Plan) : Type 0 where
@@ -129,19 +118,36 @@ pub record SamePlan (p q : Plan) : Type 0 where
   pub seed : p.seed ≡ q.seed
   pub count : p.count ≡ q.count
 
-one_mem : (found : List Row) (p q : Plan) → IsMem found p → IsMem found q → SamePlan p q
-one_mem found p q a b = record {
+pub firsts_same : (a b c d : Text) → Some (a ∷ b ∷ []) ≡ Some (c ∷ d ∷ []) → (a ≡ c) × (b ≡ d)
+firsts_same a b c d e = (cc, cc)
+
+rest_same : (a c : Text) (bs ds : List Text) → Some (a ∷ bs) ≡ Some (c ∷ ds) → bs ≡ ds
+rest_same a c bs ds e = cc
+
+-- as many scripts as words
+scripts_of : (args : Option (List Text)) (p : Plan) (h : HasScripts args p) → length p.scripts.items ≡ length h.words
+scripts_of args p h = sym (length-map p.scripts.items (λ (word : Bor Text). word.now)) ∙ ap length h.scripts
+
+one_commits : (found : List Row) (p q : Plan)
+    → IsSetting (first_of (codes "commits") found) MOST_COMMITS MOST_COMMITS p.commits
+    → IsSetting (first_of (codes "commits") found) MOST_COMMITS MOST_COMMITS q.commits → p.commits ≡ q.commits
+one_commits found p q a b =
+    one_setting (first_of (codes "commits") found) MOST_COMMITS MOST_COMMITS p.commits q.commits (omega arith) a b
+
+one_page : (found : List Row) (p q : Plan) → AreSizes found p.workers p.page → AreSizes found q.workers q.page
+    → p.page ≡ q.page
+one_page found p q a b = one_setting (first_of (codes "page") found) 256 256 p.page q.page (omega arith) a.1 b.1
+
+one_of : (verb : Verb) (found : List Row) (p q : Plan) → IsOf verb found p → IsOf verb found q → SamePlan p q
+one_of Mem found p q a b = record {
   command = a.command ∙ sym b.command;
   ends = a.ends ∙ sym b.ends;
-  commits = one_setting (first_of (codes "commits") found) MOST_COMMITS MOST_COMMITS p.commits q.commits
-      (omega arith) a.commits b.commits;
-  page = one_setting (first_of (codes "page") found) 256 256 p.page q.page (omega arith) a.sizes.1 b.sizes.1;
+  commits = one_commits found p q a.commits b.commits;
+  page = one_page found p q a.sizes b.sizes;
   seed = a.seed ∙ sym b.seed;
   count = a.count ∙ sym b.count;
 }
-
-one_init : (found : List Row) (p q : Plan) → IsInit found p → IsInit found q → SamePlan p q
-one_init found p q a b = record {
+one_of Init found p q a b = record {
   command = a.command ∙ sym b.command;
   ends = a.ends ∙ sym b.ends;
   commits = a.commits ∙ sym b.commits;
@@ -149,23 +155,27 @@ one_init found p q a b = record {
   seed = a.seed ∙ sym b.seed;
   count = a.count ∙ sym b.count;
 }
-
-one_run : (found : List Row) (p q : Plan) → IsRunOf found p → IsRunOf found q → SamePlan p q
-one_run found p q a b = record {
+one_of Run found p q a b = record {
   command = a.command ∙ sym b.command;
   ends = a.ends ∙ sym b.ends;
-  commits = one_setting (first_of (codes "commits") found) MOST_COMMITS MOST_COMMITS p.commits q.commits
-      (omega arith) a.commits b.commits;
-  page = one_setting (first_of (codes "page") found) 256 256 p.page q.page (omega arith) a.sizes.1 b.sizes.1;
+  commits = one_commits found p q a.commits b.commits;
+  page = one_page found p q a.sizes b.sizes;
   seed = a.seed ∙ sym b.seed;
   count = a.count ∙ sym b.count;
 }
-
-pub firsts_same : (a b c d : Text) → Some (a ∷ b ∷ []) ≡ Some (c ∷ d ∷ []) → (a ≡ c) × (b ≡ d)
-firsts_same a b c d e = (cc, cc)
-
-one_bulk : (found : List Row) (p q : Plan) → IsBulk found p → IsBulk found q → SamePlan p q
-one_bulk found p q a b =
+one_of Serve found p q a b =
+    let args = all_of (codes "args") found in
+    let words = rest_same a.args.word b.args.word a.args.words b.args.words (sym a.args.are.are ∙ b.args.are.are) in
+    record {
+      command = a.command ∙ sym b.command;
+      ends = a.ends ∙ (scripts_of args p a.args ∙ (ap length words
+          ∙ (sym (scripts_of args q b.args) ∙ sym b.ends)));
+      commits = one_commits found p q a.commits b.commits;
+      page = one_page found p q a.sizes b.sizes;
+      seed = a.seed ∙ sym b.seed;
+      count = a.count ∙ sym b.count;
+    }
+one_of Bulk found p q a b =
     let words =
     firsts_same a.args.seed_word a.args.count_word b.args.seed_word b.args.count_word
     (sym a.args.two ∙ b.args.two) in
@@ -173,118 +183,83 @@ one_bulk found p q a b =
       command = a.command ∙ sym b.command;
       ends = a.ends ∙ sym b.ends;
       commits = a.commits ∙ sym b.commits;
-      page = one_setting (first_of (codes "page") found) 256 256 p.page q.page (omega arith) a.sizes.1 b.sizes.1;
+      page = one_page found p q a.sizes b.sizes;
       seed = one_number a.args.seed_word b.args.seed_word 1 LAST_SEED p.seed q.seed
           (omega arith) words.0 a.args.seed_is b.args.seed_is;
       count = one_number a.args.count_word b.args.count_word 0 MOST_STRUCTURES p.count q.count
           (omega arith) words.1 a.args.count_is b.args.count_is;
     }
 
--- no word is two commands
-pub two_words : (o : Option Text) (v w : Text) → o ≡ Some v → o ≡ Some w → v ≢ w → ⊥
-two_words o v w a b apart = apart (some_same v w (sym a ∙ b))
+-- the words of the commands begin with different letters
+abbrev pub word_of : Verb → Text
+word_of Mem = codes "mem"
+word_of Init = codes "init"
+word_of Run = codes "run"
+word_of Serve = codes "serve"
+word_of Bulk = codes "bulk"
 
-pub mem_init : codes "mem" ≢ codes "init"
-mem_init same =
-    let bad : 109 ≡ 105 = ap (λ word. get_or word 0 0) same in
-    omega (arith, bad)
+abbrev verb_at : ℕ → Verb
+verb_at n =
+    if n == 109 then Mem else (if n == 105 then Init else (if n == 114 then Run else (if n == 115 then Serve else Bulk)))
 
-pub mem_run : codes "mem" ≢ codes "run"
-mem_run same =
-    let bad : 109 ≡ 114 = ap (λ word. get_or word 0 0) same in
-    omega (arith, bad)
+verb_of_word : (verb : Verb) → verb_at (get_or (word_of verb) 0 0) ≡ verb
+verb_of_word Mem = refl
+verb_of_word Init = refl
+verb_of_word Run = refl
+verb_of_word Serve = refl
+verb_of_word Bulk = refl
 
-pub mem_bulk : codes "mem" ≢ codes "bulk"
-mem_bulk same =
-    let bad : 109 ≡ 98 = ap (λ word. get_or word 0 0) same in
-    omega (arith, bad)
-
-pub init_run : codes "init" ≢ codes "run"
-init_run same =
-    let bad : 105 ≡ 114 = ap (λ word. get_or word 0 0) same in
-    omega (arith, bad)
-
-pub init_bulk : codes "init" ≢ codes "bulk"
-init_bulk same =
-    let bad : 105 ≡ 98 = ap (λ word. get_or word 0 0) same in
-    omega (arith, bad)
-
-pub run_bulk : codes "run" ≢ codes "bulk"
-run_bulk same =
-    let bad : 114 ≡ 98 = ap (λ word. get_or word 0 0) same in
-    omega (arith, bad)
+one_verb : (v w : Verb) → word_of v ≡ word_of w → v ≡ w
+one_verb v w e = sym (verb_of_word v) ∙ (ap (λ word. verb_at (get_or word 0 0)) e ∙ verb_of_word w)
 
 -- a row is that of its command
-pub row_of_mem : (o : Option Text) (found : List Row) (p : Plan) → o ≡ Some (codes "mem") → IsRow o found p
-    → IsMem found p
-row_of_mem o found p e (inl a) = a.1
-row_of_mem o found p e (inr (inl a)) = absurd (two_words o (codes "mem") (codes "init") e a.0 mem_init)
-row_of_mem o found p e (inr (inr (inl a))) = absurd (two_words o (codes "mem") (codes "run") e a.0 mem_run)
-row_of_mem o found p e (inr (inr (inr a))) = absurd (two_words o (codes "mem") (codes "bulk") e a.0 mem_bulk)
+verb_of : (o : Option Text) (found : List Row) (p : Plan) → IsRow o found p
+    → (verb : Verb) × (o ≡ Some (word_of verb)) × IsOf verb found p
+verb_of o found p (inl a) = (Mem, a.0, a.1)
+verb_of o found p (inr (inl a)) = (Init, a.0, a.1)
+verb_of o found p (inr (inr (inl a))) = (Run, a.0, a.1)
+verb_of o found p (inr (inr (inr (inl a)))) = (Serve, a.0, a.1)
+verb_of o found p (inr (inr (inr (inr a)))) = (Bulk, a.0, a.1)
 
-pub row_of_init : (o : Option Text) (found : List Row) (p : Plan) → o ≡ Some (codes "init") → IsRow o found p
-    → IsInit found p
-row_of_init o found p e (inl a) = absurd (two_words o (codes "mem") (codes "init") a.0 e mem_init)
-row_of_init o found p e (inr (inl a)) = a.1
-row_of_init o found p e (inr (inr (inl a))) = absurd (two_words o (codes "init") (codes "run") e a.0 init_run)
-row_of_init o found p e (inr (inr (inr a))) = absurd (two_words o (codes "init") (codes "bulk") e a.0 init_bulk)
+row_of : (verb : Verb) (o : Option Text) (found : List Row) (p : Plan) → o ≡ Some (word_of verb) → IsOf verb found p
+    → IsRow o found p
+row_of Mem o found p e a = inl (e, a)
+row_of Init o found p e a = inr (inl (e, a))
+row_of Run o found p e a = inr (inr (inl (e, a)))
+row_of Serve o found p e a = inr (inr (inr (inl (e, a))))
+row_of Bulk o found p e a = inr (inr (inr (inr (e, a))))
 
-pub row_of_run : (o : Option Text) (found : List Row) (p : Plan) → o ≡ Some (codes "run") → IsRow o found p
-    → IsRunOf found p
-row_of_run o found p e (inl a) = absurd (two_words o (codes "mem") (codes "run") a.0 e mem_run)
-row_of_run o found p e (inr (inl a)) = absurd (two_words o (codes "init") (codes "run") a.0 e init_run)
-row_of_run o found p e (inr (inr (inl a))) = a.1
-row_of_run o found p e (inr (inr (inr a))) = absurd (two_words o (codes "run") (codes "bulk") e a.0 run_bulk)
+of_row : (verb : Verb) (o : Option Text) (found : List Row) (p : Plan) → o ≡ Some (word_of verb) → IsRow o found p
+    → IsOf verb found p
+of_row verb o found p e row =
+    let v = verb_of o found p row in
+    subst (λ (x : Verb). IsOf x found p)
+    (one_verb v.0 verb (some_same (word_of v.0) (word_of verb) (sym v.1 ∙ e))) v.2
 
-pub row_of_bulk : (o : Option Text) (found : List Row) (p : Plan) → o ≡ Some (codes "bulk") → IsRow o found p
-    → IsBulk found p
-row_of_bulk o found p e (inl a) = absurd (two_words o (codes "mem") (codes "bulk") a.0 e mem_bulk)
-row_of_bulk o found p e (inr (inl a)) = absurd (two_words o (codes "init") (codes "bulk") a.0 e init_bulk)
-row_of_bulk o found p e (inr (inr (inl a))) = absurd (two_words o (codes "run") (codes "bulk") a.0 e run_bulk)
-row_of_bulk o found p e (inr (inr (inr a))) = a.1
+abbrev the_command : List Text → Option Text
+the_command words = first_of (codes "command") (matches_of chemdb_app words)
 
-one_row : (o : Option Text) (found : List Row) (p q : Plan) → IsRow o found p → IsRow o found q → SamePlan p q
-one_row o found p q (inl a) b = one_mem found p q a.1 (row_of_mem o found q a.0 b)
-one_row o found p q (inr (inl a)) b = one_init found p q a.1 (row_of_init o found q a.0 b)
-one_row o found p q (inr (inr (inl a))) b = one_run found p q a.1 (row_of_run o found q a.0 b)
-one_row o found p q (inr (inr (inr a))) b = one_bulk found p q a.1 (row_of_bulk o found q a.0 b)
+-- a plan's settings are within their limits
+pub plan_within : (words : List Text) (p : Plan) → AsksFor words p → IsWithinLimits p
+plan_within words p a =
+    let v = verb_of (the_command words) (matches_of chemdb_app words) p a.row in
+    of_within v.0 (matches_of chemdb_app words) p v.2
 
 -- words ask for one thing
 pub one_plan : (words : List Text) (p q : Plan) → AsksFor words p → AsksFor words q → SamePlan p q
 one_plan words p q a b =
-    one_row (first_of (codes "command") (matches_of chemdb_app words)) (matches_of chemdb_app words) p q a.row b.row
+    let v = verb_of (the_command words) (matches_of chemdb_app words) p a.row in
+    one_of v.0 (matches_of chemdb_app words) p q v.2
+    (of_row v.0 (the_command words) (matches_of chemdb_app words) q v.1 b.row)
 
 -- what the words ask for, and why they ask for nothing, by what `clap` found
-pub asks_mem : (words : List Text) (rows : List Row) (p : Plan) → fault_of chemdb_app words ≡ []
+pub asks : (verb : Verb) (words : List Text) (rows : List Row) (p : Plan) → fault_of chemdb_app words ≡ []
     → rows ≡ matches_of chemdb_app words
-    → first_of (codes "command") rows ≡ Some (codes "mem") → IsMem rows p → AsksFor words p
-asks_mem words rows p taken is command row = record {
+    → first_of (codes "command") rows ≡ Some (word_of verb) → IsOf verb rows p → AsksFor words p
+asks verb words rows p taken is command row = record {
   taken = taken;
-  row = inl (ap (first_of (codes "command")) (sym is) ∙ command, subst (λ found. IsMem found p) is row);
-}
-
-pub asks_init : (words : List Text) (rows : List Row) (p : Plan) → fault_of chemdb_app words ≡ []
-    → rows ≡ matches_of chemdb_app words
-    → first_of (codes "command") rows ≡ Some (codes "init") → IsInit rows p → AsksFor words p
-asks_init words rows p taken is command row = record {
-  taken = taken;
-  row = inr (inl (ap (first_of (codes "command")) (sym is) ∙ command, subst (λ found. IsInit found p) is row));
-}
-
-pub asks_run : (words : List Text) (rows : List Row) (p : Plan) → fault_of chemdb_app words ≡ []
-    → rows ≡ matches_of chemdb_app words
-    → first_of (codes "command") rows ≡ Some (codes "run") → IsRunOf rows p → AsksFor words p
-asks_run words rows p taken is command row = record {
-  taken = taken;
-  row = inr (inr (inl (ap (first_of (codes "command")) (sym is) ∙ command, subst (λ found. IsRunOf found p) is row)));
-}
-
-pub asks_bulk : (words : List Text) (rows : List Row) (p : Plan) → fault_of chemdb_app words ≡ []
-    → rows ≡ matches_of chemdb_app words
-    → first_of (codes "command") rows ≡ Some (codes "bulk") → IsBulk rows p → AsksFor words p
-asks_bulk words rows p taken is command row = record {
-  taken = taken;
-  row = inr (inr (inr (ap (first_of (codes "command")) (sym is) ∙ command, subst (λ found. IsBulk found p) is row)));
+  row = subst (λ found. IsRow (first_of (codes "command") found) found p) is
+      (row_of verb (first_of (codes "command") rows) rows p command row);
 }
 
 no_row : (words : List Text) (rows : List Row) → rows ≡ matches_of chemdb_app words
@@ -292,67 +267,57 @@ no_row : (words : List Text) (rows : List Row) → rows ≡ matches_of chemdb_ap
 no_row words rows is none asks =
     none asks.0 (subst (λ found. IsRow (first_of (codes "command") found) found asks.0) (sym is) asks.1.row)
 
-pub no_mem : (words : List Text) (rows : List Row) → rows ≡ matches_of chemdb_app words
-    → first_of (codes "command") rows ≡ Some (codes "mem")
-    → ((p : Plan) → ¬ IsMem rows p) → ¬ Asks words
-no_mem words rows is command none =
-    no_row words rows is (λ p row. none p (row_of_mem (first_of (codes "command") rows) rows p command row))
-
-pub no_init : (words : List Text) (rows : List Row) → rows ≡ matches_of chemdb_app words
-    → first_of (codes "command") rows ≡ Some (codes "init")
-    → ((p : Plan) → ¬ IsInit rows p) → ¬ Asks words
-no_init words rows is command none =
-    no_row words rows is (λ p row. none p (row_of_init (first_of (codes "command") rows) rows p command row))
-
-pub no_run : (words : List Text) (rows : List Row) → rows ≡ matches_of chemdb_app words
-    → first_of (codes "command") rows ≡ Some (codes "run")
-    → ((p : Plan) → ¬ IsRunOf rows p) → ¬ Asks words
-no_run words rows is command none =
-    no_row words rows is (λ p row. none p (row_of_run (first_of (codes "command") rows) rows p command row))
-
-pub no_bulk : (words : List Text) (rows : List Row) → rows ≡ matches_of chemdb_app words
-    → first_of (codes "command") rows ≡ Some (codes "bulk")
-    → ((p : Plan) → ¬ IsBulk rows p) → ¬ Asks words
-no_bulk words rows is command none =
-    no_row words rows is (λ p row. none p (row_of_bulk (first_of (codes "command") rows) rows p command row))
+pub asks_not : (verb : Verb) (words : List Text) (rows : List Row) → rows ≡ matches_of chemdb_app words
+    → first_of (codes "command") rows ≡ Some (word_of verb) → ((p : Plan) → ¬ IsOf verb rows p) → ¬ Asks words
+asks_not verb words rows is command none =
+    no_row words rows is (λ p row. none p (of_row verb (first_of (codes "command") rows) rows p command row))
 
 pub no_command : (words : List Text) (rows : List Row) → rows ≡ matches_of chemdb_app words
+    → ((verb : Verb) → first_of (codes "command") rows ≢ Some (word_of verb)) → ¬ Asks words
+no_command words rows is none = no_row words rows is (λ p row.
+    let v = verb_of (first_of (codes "command") rows) rows p row in
+    none v.0 v.1)
+
+-- the same, word for word
+pub no_word : (words : List Text) (rows : List Row) → rows ≡ matches_of chemdb_app words
     → first_of (codes "command") rows ≢ Some (codes "mem") → first_of (codes "command") rows ≢ Some (codes "init")
-    → first_of (codes "command") rows ≢ Some (codes "run") → first_of (codes "command") rows ≢ Some (codes "bulk")
-    → ¬ Asks words
-no_command words rows is mem init run bulk = no_row words rows is (λ p row. elim row [
-  | inl a ↦ mem a.0
-  | inr (inl a) ↦ init a.0
-  | inr (inr (inl a)) ↦ run a.0
-  | inr (inr (inr a)) ↦ bulk a.0
-])
-
--- a plan that makes a store has no end, and every other has one
-pub ends_of_plan : (words : List Text) (p : Plan) → AsksFor words p → p.command ≢ Init → p.ends ≡ 1
-ends_of_plan words p a serves = of_row (first_of (codes "command") (matches_of chemdb_app words))
-    (matches_of chemdb_app words) a.row
+    → first_of (codes "command") rows ≢ Some (codes "run") → first_of (codes "command") rows ≢ Some (codes "serve")
+    → first_of (codes "command") rows ≢ Some (codes "bulk") → ¬ Asks words
+no_word words rows is mem init run serve bulk = no_command words rows is each
   where
-    of_row : (o : Option Text) (found : List Row) → IsRow o found p → p.ends ≡ 1
-    of_row o found (inl r) = r.1.ends
-    of_row o found (inr (inl r)) = absurd (serves r.1.command)
-    of_row o found (inr (inr (inl r))) = r.1.ends
-    of_row o found (inr (inr (inr r))) = r.1.ends
+    each : (verb : Verb) → first_of (codes "command") rows ≢ Some (word_of verb)
+    each Mem = mem
+    each Init = init
+    each Run = run
+    each Serve = serve
+    each Bulk = bulk
 
-pub no_ends_of_plan : (words : List Text) (p : Plan) → AsksFor words p → p.command ≡ Init → p.ends ≡ 0
-no_ends_of_plan words p a makes = of_row (first_of (codes "command") (matches_of chemdb_app words))
-    (matches_of chemdb_app words) a.row
+-- a plan has as many ends as its command
+has_ends : (verb : Verb) (found : List Row) (p : Plan) → IsOf verb found p → HasEnds p.command p.ends
+has_ends Mem found p a = subst (λ (v : Verb). HasEnds v p.ends) (sym a.command) a.ends
+has_ends Init found p a = subst (λ (v : Verb). HasEnds v p.ends) (sym a.command) a.ends
+has_ends Run found p a = subst (λ (v : Verb). HasEnds v p.ends) (sym a.command) a.ends
+has_ends Bulk found p a = subst (λ (v : Verb). HasEnds v p.ends) (sym a.command) a.ends
+has_ends Serve found p a =
+    let count = a.ends ∙ scripts_of (all_of (codes "args") found) p a.args in
+    subst (λ (v : Verb). HasEnds v p.ends) (sym a.command)
+    (omega (arith, count, a.args.are.some), omega (arith, count, a.args.are.few))
+
+pub ends_of_plan : (words : List Text) (p : Plan) → AsksFor words p → HasEnds p.command p.ends
+ends_of_plan words p a =
+    let v = verb_of (the_command words) (matches_of chemdb_app words) p a.row in
+    has_ends v.0 (matches_of chemdb_app words) p v.2
+
+-- `serve` has an end for each script
+pub scripts_of_plan : (words : List Text) (p : Plan) → AsksFor words p → p.command ≡ Serve
+    → p.ends ≡ length p.scripts.items
+scripts_of_plan words p a serves =
+    let v = verb_of (the_command words) (matches_of chemdb_app words) p a.row in
+    go v.0 (matches_of chemdb_app words) v.2
   where
-    of_row : (o : Option Text) (found : List Row) → IsRow o found p → p.ends ≡ 0
-    of_row o found (inl r) = absurd (apart (sym r.1.command ∙ makes))
-      where
-        apart : Mem ≡ Init → ⊥
-        apart e = cc e
-    of_row o found (inr (inl r)) = r.1.ends
-    of_row o found (inr (inr (inl r))) = absurd (apart (sym r.1.command ∙ makes))
-      where
-        apart : Run ≡ Init → ⊥
-        apart e = cc e
-    of_row o found (inr (inr (inr r))) = absurd (apart (sym r.1.command ∙ makes))
-      where
-        apart : Bulk ≡ Init → ⊥
-        apart e = cc e
+    go : (verb : Verb) (found : List Row) → IsOf verb found p → p.ends ≡ length p.scripts.items
+    go Serve found b = b.ends
+    go Mem found b = absurd (cc (b.command, serves))
+    go Init found b = absurd (cc (b.command, serves))
+    go Run found b = absurd (cc (b.command, serves))
+    go Bulk found b = absurd (cc (b.command, serves))

@@ -1,19 +1,22 @@
--- Facts of each end, from what serving it leaves.
-use Rattle.std.proofs.Common.{◌≡◌, ◌⊎◌, ◌≤◌, ℕ, Option, List, [], ◌∷◌, length, map, refl, sym, ap, ◌∙◌, subst, inl, inr, arith}
+-- Facts of ends and of their statuses.
+use Rattle.std.proofs.Common.{◌≡◌, ◌⊎◌, ◌≤◌, ◌==◌, if◌then◌else◌, Bool, true, false, ℕ, Option, List, [], ◌∷◌, length, map, refl, sym, ap, ◌∙◌, subst, inl, inr, arith}
 use Rattle.disk_edge.specs.Disk.{DiskModel}
 use Rattle.std.specs.Prelude.{All}
 use Rattle.std.specs.List.{AllZip}
-use Rattle.std.proofs.lemmas.List.Elements.{All-nil, All-cons}
+use Rattle.std.proofs.lemmas.List.Elements.{All-nil, All-cons, All-head, All-tail}
 use Rattle.io_edge.specs.Faults.{Rose}
+use Rattle.journal_core.specs.Looks.{Narrows}
+use Rattle.serve_ends.specs.declared.end.End.{End}
+use Rattle.serve_ends.specs.declared.status.TheConstants.{SOURCE_FAULT, SINK_FAULT, INPUT_TOO_LONG, WORN}
+use Rattle.store_disk.specs.declared.disks.Disks.{Disks}
+use Rattle.chem_shell.specs.declared.outcome.Outcome.{Outcome}
 use Rattle.chem_shell.specs.declared.request.Plan.{Plan}
 use Rattle.chem_shell.specs.declared.request.Verb.{Verb}
-use Rattle.chem_shell.specs.declared.request.Verb.TheVariants.{Mem, Init, Run, Bulk}
-use Rattle.chem_shell.specs.declared.end.End.{End}
-use Rattle.chem_shell.specs.declared.status.TheConstants.{SOURCE_FAULT, SINK_FAULT, INPUT_TOO_LONG}
-use Rattle.chem_shell.specs.Status.{first_fault, IsCreationStatus, IsSinkStatus}
-use Rattle.chem_shell.specs.Ends.{with_status, ServesBulk, ServesMem}
-use Rattle.chem_shell.specs.Loading.{HasEndCauses, Serves}
-use Rattle.chem_shell.specs.OnDisk.{IsRefused, RunsOn}
+use Rattle.chem_shell.specs.Done.{Leaves}
+use Rattle.chem_shell.specs.Status.{first_fault, IsCreationStatus, IsEndStatus, IsLoadStatus, IsSinkStatus}
+use Rattle.chem_shell.specs.Ends.{with_status}
+use Rattle.chem_shell.specs.Loading.{HasCauses, HasEndCauses}
+use Rattle.chem_shell.specs.OnDisk.{IsRefused}
 
 pub zip_weaker : {A B : Type 0} (R Q : A → B → Type 0) → ((x : A) (y : B) → R x y → Q x y) → (xs : List A) (ys : List B)
     → AllZip R xs ys → AllZip Q xs ys
@@ -43,24 +46,29 @@ all_mapped {A = A} P f g xs ys e = subst (All P) (sym e) (go xs) where
   go [] = All-nil P
   go (x ∷ xs) = All-cons P (f x) (map f xs) (g x) (go xs)
 
--- the one status is the first that is not 0
-first_of_one : (n : ℕ) → first_fault (n ∷ []) ≡ n
-first_of_one n = grind (arith)
+-- where all ends have one status, it is the first that is not 0
+pub first_alike : {S K : Type 0} (ends : List (End S K)) (n : ℕ) → 1 ≤ length ends
+    → first_fault (map (λ end. end.status) (map (with_status n) ends)) ≡ n
+first_alike [] n some = absurd (omega (arith, some))
+first_alike (end ∷ []) n some = grind (arith)
+first_alike (end ∷ other ∷ rest) n some =
+    let more = first_alike (other ∷ rest) n (omega arith) in
+    grind (arith, more)
 
--- of one end the first fault is its status
-pub fault_of_one : {S K : Type 0} (ends : List (End S K)) (n : ℕ) → length ends ≡ 1
-    → ((end : End S K) (rest : List (End S K)) → ends ≡ end ∷ rest → end.status ≡ n)
-    → n ≡ first_fault (map (λ end. end.status) ends)
-fault_of_one [] n e f = absurd (omega arith)
-fault_of_one (end ∷ []) n e f = sym (f end [] refl) ∙ sym (first_of_one end.status)
-fault_of_one (end ∷ other ∷ rest) n e f = absurd (omega arith)
+pub first_of_alike : {S K : Type 0} (old new : List (End S K)) (n : ℕ) → 1 ≤ length old
+    → new ≡ map (with_status n) old → first_fault (map (λ end. end.status) new) ≡ n
+first_of_alike old new n some is =
+    ap (λ (ends : List (End _ _)). first_fault (map (λ end. end.status) ends)) is ∙ first_alike old n some
 
--- of one end with this status the first fault is that
-pub fault_of_all_alike : {S K : Type 0} (old new : List (End S K)) (n : ℕ) → length old ≡ 1
-    → new ≡ map (with_status n) old → n ≡ first_fault (map (λ end. end.status) new)
-fault_of_all_alike [] new n e f = absurd (omega arith)
-fault_of_all_alike (end ∷ []) new n e f = sym (ap (λ ends. first_fault (map (λ x. x.status) ends)) f ∙ first_of_one n)
-fault_of_all_alike (end ∷ other ∷ rest) new n e f = absurd (omega arith)
+-- the first fault is one of the statuses, or 0
+either : (P : ℕ → Type 0) (b : Bool) (x y : ℕ) → P x → P y → P (if b then x else y)
+either P true x y a b = a
+either P false x y a b = b
+
+pub first_is : (P : ℕ → Type 0) → P 0 → (statuses : List ℕ) → All P statuses → P (first_fault statuses)
+first_is P done [] all = done
+first_is P done (n ∷ ns) all =
+    either P (n == 0) (first_fault ns) n (first_is P done ns (All-tail P n ns all)) (All-head P n ns all)
 
 -- no status of an end from which nothing is taken is its source's
 no_source_fault : (n : ℕ) → IsSinkStatus n → n ≡ SOURCE_FAULT → ⊥
@@ -80,6 +88,42 @@ never_created_usage n (inr (inl a)) e = omega arith
 never_created_usage n (inr (inr (inl a))) e = omega arith
 never_created_usage n (inr (inr (inr a))) e = omega arith
 
+-- the statuses of a loading that is refused
+load_between : (n : ℕ) → IsLoadStatus n → (5 ≤ n) × (n ≤ 8)
+load_between n (inl a) = (omega arith, omega arith)
+load_between n (inr (inl a)) = (omega arith, omega arith)
+load_between n (inr (inr (inl a))) = (omega arith, omega arith)
+load_between n (inr (inr (inr a))) = (omega arith, omega arith)
+
+pub never_loaded_usage : (n : ℕ) → IsLoadStatus n → n ≡ 2 → ⊥
+never_loaded_usage n is e = omega (arith, load_between n is, e)
+
+-- a status that an end's session has
+abbrev pub IsOfEnd : ℕ → Type 0
+IsOfEnd n = IsEndStatus n ⊎ (n ≡ WORN)
+
+sink_is_of_end : (n : ℕ) → IsSinkStatus n → IsOfEnd n
+sink_is_of_end n (inl a) = inl (inl a)
+sink_is_of_end n (inr (inl a)) = inl (inr (inr (inl a)))
+sink_is_of_end n (inr (inr a)) = inl (inr (inr (inr (inl a))))
+
+-- it comes of no disk
+pub no_usage : (n : ℕ) → IsOfEnd n → n ≡ 2 → ⊥
+no_usage n (inl (inl a)) e = omega arith
+no_usage n (inl (inr (inl a))) e = omega arith
+no_usage n (inl (inr (inr (inl a)))) e = omega arith
+no_usage n (inl (inr (inr (inr (inl a))))) e = omega arith
+no_usage n (inl (inr (inr (inr (inr a))))) e = omega arith
+no_usage n (inr a) e = omega arith
+
+of_no_disk : (n : ℕ) → IsOfEnd n → 5 ≤ n → n ≤ 7 → ⊥
+of_no_disk n (inl (inl a)) least most = omega arith
+of_no_disk n (inl (inr (inl a))) least most = omega arith
+of_no_disk n (inl (inr (inr (inl a)))) least most = omega arith
+of_no_disk n (inl (inr (inr (inr (inl a))))) least most = omega arith
+of_no_disk n (inl (inr (inr (inr (inr a))))) least most = omega arith
+of_no_disk n (inr a) least most = omega arith
+
 -- the causes of an end's statuses, where nothing is taken from it
 pub sink_causes : {S K : Type 0} (left : S → Option (List ℕ)) (source_faults : S → ℕ) (sink_faults : K → ℕ)
     (old new : End S K) → IsSinkStatus new.status
@@ -91,26 +135,38 @@ sink_causes left source_faults sink_faults old new status fault = record {
   input_too_long = λ e. absurd (no_long_input new.status status e);
 }
 
-module _ {D S K : Type 0} (model : DiskModel D) (left : S → Option (List ℕ)) (written : K → Option (List ℕ))
-    (a a' b : D) where
-  abbrev Left : Verb → Plan → End S K → End S K → Type 0
-  Left verb plan old new = Serves verb model plan left written a a' b old new
+-- where the store was not loaded, no status of an end is its own objects'
+pub load_causes : {S K : Type 0} (left : S → Option (List ℕ)) (source_faults : S → ℕ) (sink_faults : K → ℕ)
+    (n : ℕ) → IsLoadStatus n → (end : End S K) → HasEndCauses left source_faults sink_faults end (with_status n end)
+load_causes left source_faults sink_faults n is end = record {
+  source_fault = λ e. absurd (omega (arith, load_between n is, e));
+  sink_fault = λ e. absurd (omega (arith, load_between n is, e));
+  input_too_long = λ e. absurd (omega (arith, load_between n is, e));
+}
 
-  pub mem_served : (verb : Verb) (plan : Plan) (old new : End S K) → verb ≡ Mem → Left verb plan old new
-      → (a' ≡ a) × ServesMem plan left written old new
-  mem_served verb plan old new e s = subst (λ v. Left v plan old new) e s
+-- statuses of ends alone say nothing of a disk
+pub no_disk_causes : {D : Type 0} (model : DiskModel D) (a a' : D) (n place : ℕ) → IsOfEnd n → place ≡ 0
+    → HasCauses model a a' n place
+no_disk_causes model a a' n place is none = record {
+  disk_fault = λ e. absurd (of_no_disk n is (omega (arith, e)) (omega (arith, e)));
+  not_a_store = λ e. absurd (of_no_disk n is (omega (arith, e)) (omega (arith, e)));
+  damaged = λ e. absurd (of_no_disk n is (omega (arith, e)) (omega (arith, e)));
+  undamaged = λ _. none;
+}
 
-  pub bulk_served : (verb : Verb) (plan : Plan) (old new : End S K) → verb ≡ Bulk → Left verb plan old new
-      → (a' ≡ a) × ServesBulk plan written old new
-  bulk_served verb plan old new e s = subst (λ v. Left v plan old new) e s
+module _ {D S K : Type 0} (model : DiskModel D) (left : S → Option (List ℕ)) (source_faults : S → ℕ)
+    (written : K → Option (List ℕ)) (sink_faults : K → ℕ) where
+  abbrev LeavesBy : Verb → Plan → Disks D → List (End S K) → Outcome D S K → Type 0
+  LeavesBy = Leaves model left source_faults written sink_faults
 
-  pub run_served : (verb : Verb) (plan : Plan) (old new : End S K) → verb ≡ Run → Left verb plan old new
-      → IsRefused model a a' old new ⊎ RunsOn model left written plan a a' b old new
-  run_served verb plan old new e s = subst (λ v. Left v plan old new) e s
+  -- what was left by a command
+  pub leaves_by : (v w : Verb) (plan : Plan) (disks : Disks D) (ends : List (End S K)) (r : Outcome D S K) → v ≡ w
+      → LeavesBy v plan disks ends r → LeavesBy w plan disks ends r
+  leaves_by v w plan disks ends r e l = subst (λ (x : Verb). LeavesBy x plan disks ends r) e l
 
--- a fact of every one of some ends
-pub of_one : {A : Type 0} (R : A → A → Type 0) (P : Type 0) → ((x y : A) → R x y → P) → (xs ys : List A)
-    → 1 ≤ length xs → AllZip R xs ys → P
-of_one R P f [] ys few h = absurd (omega (arith, few))
-of_one R P f (x ∷ xs) [] few h = absurd h
-of_one R P f (x ∷ xs) (y ∷ ys) few h = f x y h.0
+  -- where no end was served by `run` or `serve`
+  pub refused_all : (a a' : D) (n : ℕ) (old new : List (End S K)) → IsLoadStatus n → Narrows model a a'
+      → new ≡ map (with_status n) old → AllZip (IsRefused model a a') old new
+  refused_all a a' n old new status read is =
+      zip_mapped (IsRefused model a a') (with_status n)
+      (λ end. record { status = status; end = refl; disk = read }) old new is

@@ -8,3 +8,6 @@ pub mod EndCounts
 pub mod Untouched
 pub mod Crashes
 pub mod Unfailing
+pub mod Desks
+pub mod Done
+pub mod Opened

@@ -39,7 +39,7 @@ module _ (adds : RunsAdd) {D : Type 0} (model : DiskModel D)
     (read : Narrows model a old.journal.disk) where
   -- what calls leave of the disk
   on_disk : (calls : Calls) → (made : core.Calls (Stretches model) (λ _. true) old new s calls)
-      → (on : AreOnDisk model commits a new.journal.disk old.b calls) × (on.last ≡ made.after)
+      → (on : AreOnDisk model commits a new.journal.disk old.b calls) × (on.last ≡ made.after) × (on.steps ≡ made.steps)
   on_disk calls made = (
     record {
       first = s;
@@ -71,12 +71,14 @@ module _ (adds : RunsAdd) {D : Type 0} (model : DiskModel D)
           ∙ (λ i. record { a = model.faults new.journal.disk; b = model.faults (made.stands.other i) });
     },
     refl,
+    refl,
   )
 
   -- of a disk that is the store's
   pub on_this_disk : (calls : Calls) (disk : D) → disk ≡ new.journal.disk
       → (made : core.Calls (Stretches model) (λ _. true) old new s calls)
-      → (on : AreOnDisk model commits a disk old.b calls) × (on.last ≡ made.after)
+      → (on : AreOnDisk model commits a disk old.b calls) × (on.last ≡ made.after) × (on.steps ≡ made.steps)
   on_this_disk calls disk is made =
-      subst (λ x. (on : AreOnDisk model commits a x old.b calls) × (on.last ≡ made.after)) (sym is)
+      subst (λ x. (on : AreOnDisk model commits a x old.b calls) × (on.last ≡ made.after) × (on.steps ≡ made.steps))
+      (sym is)
       (on_disk calls made)

@@ -13,11 +13,12 @@ use Rattle.store_machine.specs.declared.machine.History.{History}
 use Rattle.chem_shell.specs.Ends.{ServesMem, ServesScript, with_status}
 use Rattle.chem_shell.specs.Runs.{AreOfRun, IsTranscriptBy, IsTranscriptPrefixBy}
 use Rattle.chem_shell.specs.Serving.{IsScriptServed}
-use Rattle.chem_shell.specs.Status.{IsEndStatus, IsInputStatus, IsStatusOf}
+use Rattle.chem_shell.specs.Status.{IsEndStatus, IsInputStatus}
+use Rattle.serve_ends.specs.Status.{IsStatusOf}
 use Rattle.chem_shell.specs.declared.request.Plan.{Plan}
-use Rattle.chem_shell.specs.declared.end.End.{End}
-use Rattle.chem_shell.specs.declared.end.TheConstants.{INPUT_LIMIT}
-use Rattle.chem_shell.specs.declared.status.TheConstants.{DONE}
+use Rattle.serve_ends.specs.declared.end.End.{End}
+use Rattle.chem_shell.specs.declared.settings.TheConstants.{INPUT_LIMIT}
+use Rattle.serve_ends.specs.declared.status.TheConstants.{DONE}
 
 -- requests that were answered whole are a beginning
 answered_begins : (page : ℕ) (lines : List TextLine) (calls : Calls) (text : List ℕ)
@@ -158,7 +159,7 @@ all_of : (ended : EndStatus) (status page : ℕ) (input before after : Option (L
     × IsTrueService ended h page (lines_of bytes) calls text))
     → IfSome input (λ bytes. Writes before after (IsTranscriptBy page bytes calls h))
 all_of Done status page input before after calls h is e s = s
-all_of Worn status page input before after calls h is e s = absurd is
+all_of Worn status page input before after calls h is e s = absurd (omega (arith, is, e))
 all_of SourceFault status page input before after calls h is e s = absurd (omega (arith, is, e))
 all_of SinkFault status page input before after calls h is e s = absurd (omega (arith, is, e))
 all_of NoMemory status page input before after calls h is e s = absurd (omega (arith, is, e))
@@ -167,20 +168,20 @@ all_of InputTooLong status page input before after calls h is e s = absurd (omeg
 -- status 0 comes where the session was done
 done_of : (ended : EndStatus) (status : ℕ) → IsStatusOf ended status → status ≡ DONE → ended ≡ Done
 done_of Done status is e = refl
-done_of Worn status is e = absurd is
+done_of Worn status is e = absurd (omega (arith, is, e))
 done_of SourceFault status is e = absurd (omega (arith, is, e))
 done_of SinkFault status is e = absurd (omega (arith, is, e))
 done_of NoMemory status is e = absurd (omega (arith, is, e))
 done_of InputTooLong status is e = absurd (omega (arith, is, e))
 
 -- a status of a session is one of an end
-pub end_of : (ended : EndStatus) (status : ℕ) → IsStatusOf ended status → IsEndStatus status
-end_of Done status is = inl is
-end_of SourceFault status is = inr (inl is)
-end_of SinkFault status is = inr (inr (inl is))
-end_of NoMemory status is = inr (inr (inr (inl is)))
-end_of InputTooLong status is = inr (inr (inr (inr is)))
-end_of Worn status is = absurd is
+pub end_of : (ended : EndStatus) (status : ℕ) → ended ≢ Worn → IsStatusOf ended status → IsEndStatus status
+end_of Done status fit is = inl is
+end_of SourceFault status fit is = inr (inl is)
+end_of SinkFault status fit is = inr (inr (inl is))
+end_of NoMemory status fit is = inr (inr (inr (inl is)))
+end_of InputTooLong status fit is = inr (inr (inr (inr is)))
+end_of Worn status fit is = absurd (fit refl)
 
 -- the statuses of a source's fault and of too many bytes are those of these ends of a session
 input_fault_of : (ended : EndStatus) (status : ℕ) → IsStatusOf ended status → IsInputStatus status
@@ -193,7 +194,8 @@ input_fault_of NoMemory status is (inl e) = absurd (omega (arith, is, e))
 input_fault_of NoMemory status is (inr e) = absurd (omega (arith, is, e))
 input_fault_of SourceFault status is e = tt
 input_fault_of InputTooLong status is e = tt
-input_fault_of Worn status is e = absurd is
+input_fault_of Worn status is (inl e) = absurd (omega (arith, is, e))
+input_fault_of Worn status is (inr e) = absurd (omega (arith, is, e))
 
 -- what a session leaves of an end
 pub script_of : {S K : Type 0} (left : S → Option (List ℕ)) (written : K → Option (List ℕ)) (ended : EndStatus)
@@ -203,7 +205,7 @@ pub script_of : {S K : Type 0} (left : S → Option (List ℕ)) (written : K →
     → TakesAtMost (left old.source) (left new.source) INPUT_LIMIT
     → ServesScript left written page calls h old new
 script_of left written ended page calls h old new fit is served done within = record {
-  status = end_of ended new.status is;
+  status = end_of ended new.status fit is;
   prefix = prefix_of ended page (left old.source) (written old.sink) (written new.sink) calls h fit served.script;
   all = λ e. all_of ended new.status page (left old.source) (written old.sink) (written new.sink) calls h is e
       served.script;

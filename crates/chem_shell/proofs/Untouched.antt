@@ -2,10 +2,12 @@
 use Rattle.std.proofs.Common.{◌≡◌, ◌⊎◌, ◌∙◌, List, Option, ℕ, arith, refl, sym, ap, subst, inl, inr}
 use Rattle.disk_edge.specs.Disk.{DiskModel, Same}
 use Rattle.journal_core.specs.Looks.{Narrows, Stays}
-use Rattle.chem_shell.specs.Ends.{ServesBulk, with_status}
-use Rattle.chem_shell.specs.OnDisk.{Creates, IsRefused, RunsOn}
+use Rattle.chem_shell.specs.Ends.{ServesBulk, ServesScript, with_status}
+use Rattle.session_run.specs.Cursors.{Calls}
+use Rattle.std.specs.List.{AllZip}
+use Rattle.chem_shell.specs.OnDisk.{AreAtDesks, AreOnDisk, Creates, IsRefused, RunsOn, ServesOn}
 use Rattle.chem_shell.specs.declared.request.Plan.{Plan}
-use Rattle.chem_shell.specs.declared.end.End.{End}
+use Rattle.serve_ends.specs.declared.end.End.{End}
 use Rattle.chem_shell.proofs.Asked.{SamePlan}
 use Rattle.chem_shell.proofs.Summaries as summaries
 
@@ -15,6 +17,38 @@ stays_same model a a' same = (
   subst (λ d. Same (model.images a) (model.images d)) (sym same)
       (record { no_more = λ c i. i; no_fewer = λ c i. i }),
 )
+
+-- the same run, by the commits of a plan that asks for the same
+abbrev on_same : {D : Type 0} (model : DiskModel D) (p q : Plan) (a a' b : D) (calls : Calls) → p.commits ≡ q.commits → AreOnDisk model q.commits a a' b calls
+    → AreOnDisk model p.commits a a' b calls
+on_same model p q a a' b calls commits on = record {
+  first = on.first;
+  steps = on.steps;
+  last = on.last;
+  opened = record {
+    serves = on.opened.serves;
+    limit = on.opened.limit ∙ sym commits;
+    pins = on.opened.pins;
+    doubt = on.opened.doubt;
+    kept = on.opened.kept;
+  };
+  sound = on.sound;
+  opens = on.opens;
+  run = on.run;
+  calm = on.calm;
+  all = on.all;
+  loaded = on.loaded;
+  ended = on.ended;
+  later = on.later;
+  clocked = on.clocked;
+  now = on.now;
+  loading = on.loading;
+  moments = on.moments;
+  left = on.left;
+  causes = on.causes;
+  begins = on.begins;
+  ends = on.ends;
+}
 
 module _ {D S K : Type 0} (model : DiskModel D) where
   pub refused_unmoved : (a a' : D) → Narrows model a a' → (end : End S K)
@@ -29,35 +63,22 @@ module _ {D S K : Type 0} (model : DiskModel D) where
   runs_same left written p q a a' b old new commits page (inl r) = inl r
   runs_same left written p q a a' b old new commits page (inr r) = inr (record {
     calls = r.calls;
-    on = record {
-      first = r.on.first;
-      steps = r.on.steps;
-      last = r.on.last;
-      opened = record {
-        serves = r.on.opened.serves;
-        limit = r.on.opened.limit ∙ sym commits;
-        pins = r.on.opened.pins;
-        doubt = r.on.opened.doubt;
-        kept = r.on.opened.kept;
-      };
-      sound = r.on.sound;
-      opens = r.on.opens;
-      run = r.on.run;
-      calm = r.on.calm;
-      all = r.on.all;
-      loaded = r.on.loaded;
-      ended = r.on.ended;
-      later = r.on.later;
-      clocked = r.on.clocked;
-      now = r.on.now;
-      loading = r.on.loading;
-      moments = r.on.moments;
-      left = r.on.left;
-      causes = r.on.causes;
-      begins = r.on.begins;
-      ends = r.on.ends;
-    };
-    script = rw page r.script;
+    on = on_same model p q a a' b r.calls commits r.on;
+    script = subst (λ (k : ℕ). ServesScript left written k r.calls r.on.last.history old new) (sym page) r.script;
+  })
+
+  pub serves_same : (left : S → Option (List ℕ)) (written : K → Option (List ℕ)) (p q : Plan) (a a' b : D)
+      (old new : List (End S K))
+      → p.commits ≡ q.commits → p.page ≡ q.page
+      → AllZip (IsRefused model a a') old new ⊎ ServesOn model left written q a a' b old new
+      → AllZip (IsRefused model a a') old new ⊎ ServesOn model left written p a a' b old new
+  serves_same left written p q a a' b old new commits page (inl r) = inl r
+  serves_same left written p q a a' b old new commits page (inr r) = inr (record {
+    calls = r.calls;
+    on = on_same model p q a a' b r.calls commits r.on;
+    each = subst (λ (k : ℕ). AreAtDesks left written k r.on.steps r.on.last.history 1 old new) (sym page) r.each;
+    owners = r.owners;
+    worn = r.worn;
   })
 
 -- where memory ran out before anything was done, `init` leaves the disk as it was

@@ -5,9 +5,9 @@ use Rattle.session_run.specs.Cursors.{Calls}
 use Rattle.session_run.specs.Served.{IsAllOfTaken, TakesAll, TakesAtMost, Writes, WritesForTaken}
 use Rattle.store_machine.specs.declared.machine.History.{History}
 use Rattle.chem_shell.specs.declared.request.Plan.{Plan}
-use Rattle.chem_shell.specs.declared.end.End.{End}
-use Rattle.chem_shell.specs.declared.end.TheConstants.{INPUT_LIMIT}
-use Rattle.chem_shell.specs.declared.status.TheConstants.{DONE, SINK_FAULT, NO_MEMORY}
+use Rattle.serve_ends.specs.declared.end.End.{End}
+use Rattle.chem_shell.specs.declared.settings.TheConstants.{INPUT_LIMIT}
+use Rattle.serve_ends.specs.declared.status.TheConstants.{DONE, SINK_FAULT, NO_MEMORY}
 use Rattle.chem_shell.specs.Runs.{AreOfRun, IsTranscriptBy, IsTranscriptPrefixBy}
 use Rattle.chem_shell.specs.Status.{IsEndStatus, IsInputStatus, IsSinkStatus}
 use Rattle.chem_shell.specs.Summed.{IsSummary, IsSummaryPrefix, WritesNothing}

@@ -7,3 +7,4 @@ pub mod Ends
 pub mod Crashes
 pub mod OnDisk
 pub mod Loading
+pub mod Done

@@ -1,4 +1,4 @@
--- For private clauses alone: what serving an end on disk `a` leaves, by the command.
+-- For private clauses alone: the causes of the statuses.
 use Rattle.std.specs.Prelude.{◌≡◌, ◌≢◌, ◌⊎◌, ℕ, List, Option}
 use Rattle.disk_edge.specs.Disk.{DiskModel, Faulted, IfTold}
 use Rattle.io_edge.specs.Faults.{Rose}
@@ -7,14 +7,10 @@ use Rattle.journal_core.specs.declared.faults.LoadFault.{LoadFault}
 use Rattle.journal_core.specs.declared.faults.LoadFault.TheVariants as fault
 use Rattle.session_run.specs.Served.{TakesExactly}
 use Rattle.store_disk.specs.Loads.{Damages}
-use Rattle.chem_shell.specs.Ends.{ServesBulk, ServesMem}
-use Rattle.chem_shell.specs.OnDisk.{IsRefused, RunsOn}
-use Rattle.chem_shell.specs.declared.request.Plan.{Plan}
-use Rattle.chem_shell.specs.declared.request.Verb.{Verb}
-use Rattle.chem_shell.specs.declared.request.Verb.TheVariants.{Mem, Init, Run, Bulk}
-use Rattle.chem_shell.specs.declared.end.End.{End}
-use Rattle.chem_shell.specs.declared.end.TheConstants.{INPUT_LIMIT}
-use Rattle.chem_shell.specs.declared.status.TheConstants.{DISK_FAULT, NOT_A_STORE, DAMAGED, NO_MEMORY, SOURCE_FAULT, SINK_FAULT, INPUT_TOO_LONG}
+use Rattle.serve_ends.specs.declared.end.End.{End}
+use Rattle.chem_shell.specs.declared.settings.TheConstants.{INPUT_LIMIT}
+use Rattle.serve_ends.specs.declared.status.TheConstants.{NO_MEMORY, SOURCE_FAULT, SINK_FAULT, INPUT_TOO_LONG}
+use Rattle.chem_shell.specs.declared.status.TheConstants.{DISK_FAULT, NOT_A_STORE, DAMAGED}
 
 -- the causes of the statuses that come of a disk
 pub record HasCauses {D : Type 0} (model : DiskModel D) (a a' : D) (status place : ℕ) : Type 0 where
@@ -36,12 +32,3 @@ pub record HasEndCauses {S K : Type 0} (left : S → Option (List ℕ)) (source_
   pub source_fault : new.status ≡ SOURCE_FAULT → Rose (source_faults old.source) (source_faults new.source)
   pub sink_fault : new.status ≡ SINK_FAULT → Rose (sink_faults old.sink) (sink_faults new.sink)
   pub input_too_long : new.status ≡ INPUT_TOO_LONG → TakesExactly (left old.source) (left new.source) INPUT_LIMIT
-
--- what the command of a plan leaves of an end and of disk `a`; `b` is the second disk
-abbrev pub Serves : {D S K : Type 0} → Verb → DiskModel D → Plan → (S → Option (List ℕ)) → (K → Option (List ℕ))
-    → D → D → D → End S K → End S K → Type 0
-Serves Mem model plan left written a a' b old new = (a' ≡ a) × ServesMem plan left written old new
-Serves Bulk model plan left written a a' b old new = (a' ≡ a) × ServesBulk plan written old new
-Serves Run model plan left written a a' b old new =
-    IsRefused model a a' old new ⊎ RunsOn model left written plan a a' b old new
-Serves Init model plan left written a a' b old new = ⊥

@@ -1,24 +1,32 @@
 -- For callers: what `init` and `run` leave of disk `a`.
-use Rattle.std.specs.Prelude.{◌≡◌, ◌⊎◌, ◌++◌, ◌≤◌, ℕ, List, [], ◌∷◌, length, Option, true}
+use Rattle.std.specs.Prelude.{◌≡◌, ◌≢◌, ◌⊎◌, ◌++◌, ◌^◌, ◌≤◌, ℕ, suc, All, IfSome, List, [], ◌∷◌, length, Option, true}
 use Rattle.std.specs.List.{AllByRecursion}
 use Rattle.disk_edge.specs.Disk.{DiskModel, IfTold}
 use Rattle.journal_core.specs.Journal.{IsEmptyJournal}
 use Rattle.journal_core.specs.Looks.{Narrows, Stays}
+use Rattle.io_edge.specs.Lines.{lines_of}
 use Rattle.session_run.specs.Cursors.{Calls}
+use Rattle.session_run.specs.Served.{TakesAtMost, Writes}
+use Rattle.session_run.specs.Transcript.{WornAt}
+use Rattle.session_run.specs.Truths.{IsTrueBeginning}
 use Rattle.store_disk.specs.Loads.{OpensAfter, OpensTo}
 use Rattle.store_disk.specs.Stored.{AreClocked, IsCaused}
 use Rattle.store_machine.specs.Laws.{IsSound}
 use Rattle.store_machine.specs.Openings.{IsOpened}
 use Rattle.store_machine.specs.Runs.{IsCalm, IsRun, calls_of}
+use Rattle.store_machine.specs.declared.machine.History.{History}
 use Rattle.store_machine.specs.declared.machine.State.{State}
 use Rattle.store_machine.specs.declared.machine.Step.{Step}
 use Rattle.store_machine.specs.declared.machine.Times.{Times}
+use Rattle.turn_gate.specs.Numbers.{has}
 use Rattle.chem_shell.specs.Crashes.{ShowsAt}
 use Rattle.chem_shell.specs.Ends.{ServesScript, with_status}
 use Rattle.chem_shell.specs.Status.{IsCreationStatus, IsLoadStatus}
 use Rattle.chem_shell.specs.declared.request.Plan.{Plan}
-use Rattle.chem_shell.specs.declared.end.End.{End}
-use Rattle.chem_shell.specs.declared.status.TheConstants.{DISK_FAULT, DONE, NO_MEMORY, NOT_EMPTY}
+use Rattle.chem_shell.specs.declared.settings.TheConstants.{INPUT_LIMIT}
+use Rattle.serve_ends.specs.declared.end.End.{End}
+use Rattle.serve_ends.specs.declared.status.TheConstants.{DONE, NO_MEMORY, WORN}
+use Rattle.chem_shell.specs.declared.status.TheConstants.{DISK_FAULT, NOT_EMPTY}
 
 -- `init`: where it is done, the disk was empty, and has the empty store. A disk that had bytes is as before, and so is
 -- any where memory ran out
@@ -65,6 +73,34 @@ pub record RunsOn {D S K : Type 0} (model : DiskModel D) (left : S → Option (L
   pub calls : Calls
   pub on : AreOnDisk model plan.commits a a' b calls
   pub script : ServesScript left written plan.page calls on.last.history old new
+
+-- What a session at a desk leaves of an end, by its calls and the history of their run. Where the hall had no turns left,
+-- the first replies of a transcript were written, and from the call that was not answered on nothing was
+pub record ServesAtDesk {S K : Type 0} (left : S → Option (List ℕ)) (written : K → Option (List ℕ)) (page : ℕ)
+    (calls : Calls) (history : History) (old new : End S K) : Type 0 where
+  pub served : new.status ≢ WORN → ServesScript left written page calls history old new
+  pub worn : new.status ≡ WORN → IfSome (left old.source) (λ script. Writes (written old.sink) (written new.sink)
+      (λ text. WornAt page (lines_of script) calls text × IsTrueBeginning history page (lines_of script) calls text))
+  pub within : TakesAtMost (left old.source) (left new.source) INPUT_LIMIT
+
+-- each end was served at a desk by the calls of an owner of its own, in their order from one on
+abbrev pub AreAtDesks : {S K : Type 0} → (S → Option (List ℕ)) → (K → Option (List ℕ)) → ℕ → List Step → History → ℕ
+    → List (End S K) → List (End S K) → Type 0
+AreAtDesks left written page steps history owner [] news = news ≡ []
+AreAtDesks left written page steps history owner (old ∷ olds) [] = ⊥
+AreAtDesks left written page steps history owner (old ∷ olds) (new ∷ news) =
+    ServesAtDesk left written page (calls_of (has (owner ∷ [])) steps) history old new
+    × AreAtDesks left written page steps history (suc owner) olds news
+
+-- `serve` after the store was loaded: there is one run on the disk, and each end has the steps of one owner, from 1 on;
+-- no step is of another. An end is worn only where the run has a step for each of the hall's turns
+pub record ServesOn {D S K : Type 0} (model : DiskModel D) (left : S → Option (List ℕ))
+    (written : K → Option (List ℕ)) (plan : Plan) (a a' b : D) (old new : List (End S K)) : Type 0 where
+  pub calls : Calls
+  pub on : AreOnDisk model plan.commits a a' b calls
+  pub each : AreAtDesks left written plan.page on.steps on.last.history 1 old new
+  pub owners : All (λ x. (1 ≤ x.owner) × (x.owner ≤ length old)) on.steps
+  pub worn : All (λ (end : End S K). end.status ≡ WORN → length on.steps ≡ 2 ^ 63) new
 
 -- `run` where the store was not loaded: nothing was taken or put, and the disk was only read
 pub record IsRefused {D S K : Type 0} (model : DiskModel D) (a a' : D) (old new : End S K) : Type 0 where

@@ -11,7 +11,7 @@ use Rattle.session_run.specs.Truths.{IsTrueService}
 use Rattle.session_run.specs.declared.settings.EndStatus.{EndStatus}
 use Rattle.store_machine.specs.declared.machine.History.{History}
 use Rattle.chem_shell.specs.Status.{IsSinkStatus}
-use Rattle.chem_shell.specs.declared.status.TheConstants.{DONE, SINK_FAULT, NO_MEMORY}
+use Rattle.serve_ends.specs.declared.status.TheConstants.{DONE, SINK_FAULT, NO_MEMORY}
 
 -- a session put this of a script by these calls, and the history is true of it
 pub record IsScriptServed (ended : EndStatus) (page : ℕ) (input left before after : Option (List ℕ)) (calls : Calls)

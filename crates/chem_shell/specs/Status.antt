@@ -1,8 +1,7 @@
 -- For callers: the status of an end and of the program.
 use Rattle.std.specs.Prelude.{◌≡◌, ◌⊎◌, ℕ, List, [], ◌∷◌, if◌then◌else◌, ◌==◌}
-use Rattle.session_run.specs.declared.settings.EndStatus.{EndStatus}
-use Rattle.session_run.specs.declared.settings.EndStatus.TheVariants.{Done, SourceFault, SinkFault, NoMemory, InputTooLong, Worn}
-use Rattle.chem_shell.specs.declared.status.TheConstants.{DONE, SOURCE_FAULT, SINK_FAULT, DISK_FAULT, NOT_A_STORE, DAMAGED, NO_MEMORY, INPUT_TOO_LONG, NOT_EMPTY}
+use Rattle.serve_ends.specs.declared.status.TheConstants.{DONE, SOURCE_FAULT, SINK_FAULT, NO_MEMORY, INPUT_TOO_LONG}
+use Rattle.chem_shell.specs.declared.status.TheConstants.{DISK_FAULT, NOT_A_STORE, DAMAGED, NOT_EMPTY}
 
 -- done, a fault of the source or of the sink, want of memory, an input that is too long
 abbrev pub IsEndStatus : ℕ → Type 0
@@ -32,12 +31,3 @@ IsLoadStatus status =
 abbrev pub first_fault : List ℕ → ℕ
 first_fault [] = DONE
 first_fault (status ∷ more) = if status == DONE then first_fault more else status
-
--- the status of an end whose session ended so; a store is never worn
-abbrev pub IsStatusOf : EndStatus → ℕ → Type 0
-IsStatusOf Done status = status ≡ DONE
-IsStatusOf SourceFault status = status ≡ SOURCE_FAULT
-IsStatusOf SinkFault status = status ≡ SINK_FAULT
-IsStatusOf NoMemory status = status ≡ NO_MEMORY
-IsStatusOf InputTooLong status = status ≡ INPUT_TOO_LONG
-IsStatusOf Worn status = ⊥

@@ -1,13 +1,16 @@
 -- For callers: what the words of the command line ask for.
-use Rattle.std.specs.Prelude.{◌≡◌, ◌≢◌, ◌⊎◌, ◌≤◌, ℕ, List, [], ◌∷◌, map, option_map, Option, Some, None, true, codes, decimal}
+use Rattle.std.specs.Prelude.{◌≡◌, ◌≢◌, ◌⊎◌, ◌≤◌, ℕ, List, [], ◌∷◌, map, option_map, Option, Some, None, true, codes, decimal, length, All}
 use Rattle.std.specs.Borrow.{Bor}
 use Rattle.clap.specs.Lexer.{usize_max}
 use Rattle.clap.specs.Simple.{new_shape}
 use Rattle.clap.specs.Words.{App, Row, Rule, Text, all_of, fault_of, first_of, matches_of, new_rule}
+use Rattle.serve_ends.specs.declared.serve.TheConstants.{MOST_ENDS}
+use Rattle.session_run.specs.declared.settings.Settings.{Settings}
 use Rattle.store_core.specs.declared.store.TheConstants.{MOST_COMMITS}
 use Rattle.chem_shell.specs.declared.request.Plan.{Plan}
 use Rattle.chem_shell.specs.declared.request.Verb.{Verb}
-use Rattle.chem_shell.specs.declared.request.Verb.TheVariants.{Mem, Init, Run, Bulk}
+use Rattle.chem_shell.specs.declared.request.Verb.TheVariants.{Mem, Init, Run, Serve, Bulk}
+use Rattle.chem_shell.specs.declared.settings.TheConstants.{INPUT_LIMIT}
 use Rattle.chem_shell.specs.declared.words.TheConstants.{LAST_SEED, MOST_STRUCTURES}
 
 -- the bytes of words
@@ -108,6 +111,32 @@ pub record IsRunOf (found : List Row) (plan : Plan) : Type 0 where
   pub seed : plan.seed ≡ 0
   pub count : plan.count ≡ 0
 
+-- the args are a file and 1 to 16 scripts, none of which is empty
+pub record AreFileAndScripts (args : Option (List Text)) (file : Text) (scripts : List Text) : Type 0 where
+  pub are : args ≡ Some (file ∷ scripts)
+  pub file_is : file ≢ []
+  pub some : 1 ≤ length scripts
+  pub few : length scripts ≤ MOST_ENDS
+  pub scripts_are : All (λ script. script ≢ []) scripts
+
+-- the plan names the file and the scripts that the args are
+pub record HasScripts (args : Option (List Text)) (plan : Plan) : Type 0 where
+  pub word : Text
+  pub words : List Text
+  pub are : AreFileAndScripts args word words
+  pub file : option_map (λ w. w.now) plan.file ≡ Some word
+  pub scripts : texts plan.scripts.items ≡ words
+
+-- `serve`: a file and scripts, 1 to 16,777,215 commits, an end for each script
+pub record IsServe (found : List Row) (plan : Plan) : Type 0 where
+  pub args : HasScripts (all_of (codes "args") found) plan
+  pub sizes : AreSizes found plan.workers plan.page
+  pub commits : IsSetting (first_of (codes "commits") found) MOST_COMMITS MOST_COMMITS plan.commits
+  pub command : plan.command ≡ Serve
+  pub ends : plan.ends ≡ length plan.scripts.items
+  pub seed : plan.seed ≡ 0
+  pub count : plan.count ≡ 0
+
 -- the args are a seed from 1 on and a count of structures
 pub record AreSeedAndCount (args : Option (List Text)) (seed count : ℕ) : Type 0 where
   pub seed_word : Text
@@ -133,7 +162,8 @@ IsRow command found plan =
     ((command ≡ Some (codes "mem")) × IsMem found plan)
     ⊎ (((command ≡ Some (codes "init")) × IsInit found plan)
     ⊎ (((command ≡ Some (codes "run")) × IsRunOf found plan)
-    ⊎ ((command ≡ Some (codes "bulk")) × IsBulk found plan)))
+    ⊎ (((command ≡ Some (codes "serve")) × IsServe found plan)
+    ⊎ ((command ≡ Some (codes "bulk")) × IsBulk found plan))))
 
 -- `clap` finds no fault in the words, and their match is a row of the table that has this plan
 pub record AsksFor (words : List Text) (plan : Plan) : Type 0 where
@@ -147,6 +177,10 @@ Asks words = (plan : Plan) × AsksFor words plan
 -- P holds of the plan of the words, where it has this command
 abbrev pub OnPlan : List Text → Verb → (Plan → Type 0) → Type 0
 OnPlan words verb P = (plan : Plan) → AsksFor words plan → plan.command ≡ verb → P plan
+
+-- the settings that a plan gives a session
+abbrev pub settings_of : Plan → Settings
+settings_of plan = record { workers = plan.workers; page = plan.page; input_limit = INPUT_LIMIT }
 
 -- the settings of a plan are within their limits
 pub record IsWithinLimits (plan : Plan) : Type 0 where

@@ -6,12 +6,12 @@ ghost use Rattle.chem_shell.specs.Serving.{Puts};
 ghost use Rattle.chem_shell.specs.Summed.{IsSummary};
 ghost use Rattle.chem_shell.specs.Words.{IsWithinLimits};
 
-use crate::end::End;
 use crate::mem::run_script;
 use crate::request::Plan;
 use crate::status::{DONE, NO_MEMORY, SINK_FAULT};
 use chem_gen::{script, summary};
 use io_edge::{MemSink, MemSource, PutFault, Sink};
+use serve_ends::End;
 use session_run::EndStatus;
 use std::alloc::{AllocError, Global};
 use std::thread::Threads;

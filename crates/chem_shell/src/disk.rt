@@ -11,16 +11,15 @@ ghost use Rattle.chem_shell.specs.OnDisk.{Creates, IsRefused, RunsOn};
 ghost use Rattle.chem_shell.specs.Status.{IsEndStatus};
 ghost use Rattle.chem_shell.specs.Words.{IsWithinLimits};
 
-use crate::end::{End, INPUT_LIMIT};
 use crate::request::Plan;
-use crate::status::{
-    DAMAGED, DISK_FAULT, DONE, NO_MEMORY, NOT_A_STORE, NOT_EMPTY, USAGE, end_status,
-};
+use crate::settings::settings;
+use crate::status::{DAMAGED, DISK_FAULT, DONE, NO_MEMORY, NOT_A_STORE, NOT_EMPTY, USAGE};
 use disk_edge::Disk;
 use io_edge::{Sink, Source};
 use journal_core::{CreateFault, Journal, LoadFault};
 use par_search::NoMeter;
-use session_run::{Settings, services_are_true, session};
+use serve_ends::{End, end_status};
+use session_run::{services_are_true, session};
 use std::alloc::Global;
 use std::thread::Threads;
 use store_disk::{Disks, Store, a_standing_store_opens};
@@ -88,26 +87,21 @@ fn serve_loaded<R: Threads + Sync, D: Disk + Drop, S: Source + Drop, K: Sink + D
     replies_tell();
     a_standing_store_opens::<D>();
     let mut store = store;
-    let settings = Settings {
-        workers: plan.workers,
-        page: plan.page,
-        input_limit: INPUT_LIMIT,
-    };
     let ended = session(
         rt,
         alloc,
         &mut store,
         &mut end.source,
         &mut end.sink,
-        &settings,
+        &settings(plan),
         &NoMeter,
     );
     end.status = end_status(ended);
     store.into_disks()
 }
 
-// The status of a loading that was refused, and the place of damage.
-fn refusal(fault: LoadFault) -> (u8, u64)
+/// The status of a loading that was refused, and the place of damage.
+pub(crate) fn refusal(fault: LoadFault) -> (u8, u64)
     ensures { IsCausedBy fault result.0 result.1 }
 {
     match fault {

@@ -9,12 +9,12 @@ ghost use Rattle.chem_shell.specs.Runs.{AreOfRun};
 ghost use Rattle.chem_shell.specs.Serving.{IsScriptServed};
 ghost use Rattle.chem_shell.specs.Words.{IsWithinLimits};
 
-use crate::end::{End, INPUT_LIMIT};
 use crate::request::Plan;
-use crate::status::end_status;
+use crate::settings::{INPUT_LIMIT, settings};
 use io_edge::{Sink, Source};
 use par_search::NoMeter;
-use session_run::{EndStatus, Settings, services_are_true, session};
+use serve_ends::{End, end_status};
+use session_run::{EndStatus, services_are_true, session};
 use std::alloc::Global;
 use std::thread::Threads;
 use store_disk::Store;
@@ -58,10 +58,13 @@ pub fn run_script<R: Threads + Sync, I: Source, O: Sink>(
     let Ok(mut store) = Store::fresh(alloc, plan.commits) else {
         return EndStatus::NoMemory;
     };
-    let settings = Settings {
-        workers: plan.workers,
-        page: plan.page,
-        input_limit: INPUT_LIMIT,
-    };
-    session(rt, alloc, &mut store, source, sink, &settings, &NoMeter)
+    session(
+        rt,
+        alloc,
+        &mut store,
+        source,
+        sink,
+        &settings(plan),
+        &NoMeter,
+    )
 }

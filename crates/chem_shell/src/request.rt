@@ -11,6 +11,8 @@ pub enum Verb {
     Init,
     /// One session over the store of disk `a`.
     Run,
+    /// Several sessions at a time over the store of disk `a`.
+    Serve,
     /// A generated script on a store in memory, and the summary of its transcript.
     Bulk,
 }

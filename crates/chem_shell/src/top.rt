@@ -3,47 +3,39 @@ ghost use Rattle.std.specs.Prelude.{◌≡◌, ◌≢◌, ◌≤◌, ◌⊎◌, 
 ghost use Rattle.std.specs.List.{AllZip};
 ghost use Rattle.disk_edge.specs.Disk.{Faulted, IfTold};
 ghost use Rattle.io_edge.specs.Faults.{Rose};
-ghost use Rattle.journal_core.specs.Looks.{Narrows};
 ghost use Rattle.journal_core.specs.Records.{IsNoJournal};
 ghost use Rattle.session_run.specs.Served.{TakesExactly};
 ghost use Rattle.store_disk.specs.Loads.{Damages};
 ghost use Rattle.chem_shell.specs.Ends.{ServesBulk, ServesMem, with_status};
-ghost use Rattle.chem_shell.specs.Loading.{HasCauses, HasEndCauses, Serves};
-ghost use Rattle.chem_shell.specs.OnDisk.{Creates, IsRefused, RunsOn};
+ghost use Rattle.chem_shell.specs.Done.{HasEnds, IsDone};
+ghost use Rattle.chem_shell.specs.OnDisk.{Creates, IsRefused, RunsOn, ServesOn};
 ghost use Rattle.chem_shell.specs.Status.{first_fault};
 ghost use Rattle.chem_shell.specs.declared.request.Plan.{Plan as ThePlan};
 ghost use Rattle.chem_shell.specs.Words.{texts, Asks, AsksFor, IsWithinLimits, OnPlan};
 
 use crate::bulk::serve_bulk;
 use crate::disk::{create, serve_run};
-use crate::end::{End, INPUT_LIMIT};
 use crate::mem::serve_mem;
+use crate::outcome::Outcome;
 use crate::request::{Plan, PlanFault, Verb};
+use crate::serve::serve_many;
+use crate::settings::INPUT_LIMIT;
 use crate::status::{
     DAMAGED, DISK_FAULT, INPUT_TOO_LONG, NO_MEMORY, NOT_A_STORE, SINK_FAULT, SOURCE_FAULT, USAGE,
 };
 use crate::words::plan;
 use disk_edge::Disk;
 use io_edge::{Sink, Source};
+use serve_ends::End;
 use std::alloc::Global;
 use std::sync::Wait;
 use std::thread::Threads;
 use store_disk::Disks;
 
-/// What the top call leaves: the overall status, the place of damage on a disk (0 where there is none), and what was
-/// handed in.
-#[derive(Drop)]
-pub struct Outcome<D, S, K> {
-    pub status: u8,
-    pub place: u64,
-    pub a: D,
-    pub b: D,
-    pub ends: Vec<End<S, K>>,
-}
-
 /// The program over the objects that it is handed: what the words ask for is done with the ends and the disks, and the
 /// statuses say how it ended. `mem` serves one end by a session over a store in memory, and `run` over the store of
-/// disk `a`; `bulk` puts a summary to one; `init` makes a store on disk `a`, and has no end. Disk `b` is not used yet.
+/// disk `a`; `serve` serves several at the same time over that store; `bulk` puts a summary to one; `init` makes a store
+/// on disk `a`, and has no end. Disk `b` is not used yet.
 pub fn chemdb<
     R: Threads + Wait + Sync,
     D: Disk + Send + Drop,
@@ -104,41 +96,57 @@ pub fn chemdb<
         ⊎ RunsOn D.model S.left K.written plan a result.a b old new)
         ends.items result.ends.items) }
 
+    // `serve`: where the store was not loaded, or memory ran out before any end was served, nothing was taken or put,
+    // and the disk was only read. Else there is one run on the disk, as for `run`. Each end has one owner's steps of it,
+    // numbered from 1 in the order of the ends, and no step is another's; what was written to an end is a prefix of a
+    // transcript by its steps.
+    ensures serve { OnPlan (texts words.now) Verb.Serve (λ plan.
+        AllZip (IsRefused D.model a result.a) ends.items result.ends.items
+        ⊎ ServesOn D.model S.left K.written plan a result.a b ends.items result.ends.items) }
+
     // `bulk`: nothing is taken. What was written is the summary of a transcript of the generated script, in such a run
     // as for `mem`; a prefix of one where the sink failed; nothing where memory ran out.
     ensures bulk { OnPlan (texts words.now) Verb.Bulk (λ plan. (result.a ≡ a)
         × AllZip (ServesBulk plan K.written) ends.items result.ends.items) }
 {
-    let plan = match plan(alloc, words) {
-        Err(PlanFault::Usage) => return unserved(USAGE, a, b, ends),
-        Err(PlanFault::NoMemory) => return unserved(NO_MEMORY, a, b, ends),
-        Ok(plan) => plan,
-    };
-    if makes_store(plan.command) {
-        created(a, b, ends)
-    } else {
-        serve_one(rt, alloc, &plan, Disks { a, b }, ends)
+    let disks = Disks { a, b };
+    match plan(alloc, words) {
+        Ok(plan) => carry_out(rt, alloc, &plan, disks, ends),
+        Err(PlanFault::Usage) => Outcome::unserved(USAGE, 0, disks, ends),
+        Err(PlanFault::NoMemory) => Outcome::unserved(NO_MEMORY, 0, disks, ends),
     }
 }
 
-// `init` makes a store, and has no end.
-fn makes_store(command: Verb) -> bool
-    ensures yes { result ≡ true → command ≡ Verb.Init }
-    ensures no { result ≡ false → command ≢ Verb.Init }
+// Does what a plan asks for.
+fn carry_out<
+    R: Threads + Wait + Sync,
+    D: Disk + Send + Drop,
+    S: Source + Send + Drop,
+    K: Sink + Send + Drop,
+>(rt: &R, alloc: Global, plan: &Plan<'_>, disks: Disks<D>, ends: Vec<End<S, K>>) -> Outcome<D, S, K>
+    requires plan { IsWithinLimits plan.now }
+    requires ends { HasEnds plan.now.command (length ends.items) }
+    ensures { IsDone D.model S.left S.faults K.written K.faults plan.now disks ends.items result }
 {
-    match command {
-        Verb::Init => true,
-        Verb::Mem | Verb::Run | Verb::Bulk => false,
+    match plan.command {
+        Verb::Mem => mem(rt, alloc, plan, disks, ends),
+        Verb::Init => init(disks, ends),
+        Verb::Run => run(rt, alloc, plan, disks, ends),
+        Verb::Serve => serve_many(rt, alloc, plan, disks, ends),
+        Verb::Bulk => bulk(rt, alloc, plan, disks, ends),
     }
 }
 
 // `init`: makes an empty store on disk `a`.
-fn created<D: Disk + Drop, S: Drop, K: Drop>(a: D, b: D, ends: Vec<End<S, K>>) -> Outcome<D, S, K>
-    ensures creates { Creates D.model a result.a result.status }
-    ensures causes { HasCauses D.model a result.a result.status result.place }
-    ensures other { result.b ≡ b }
-    ensures ends { result.ends.items ≡ ends.items }
+fn init<D: Disk + Drop, S: Source + Drop, K: Sink + Drop>(
+    disks: Disks<D>,
+    ends: Vec<End<S, K>>,
+) -> Outcome<D, S, K>
+    requires { length ends.items ≡ 0 }
+    ensures { (plan : ThePlan) → plan.command ≡ Verb.Init
+        → IsDone D.model S.left S.faults K.written K.faults plan disks ends.items result }
 {
+    let Disks { a, b } = disks;
     let (a, status) = create(a);
     Outcome {
         status,
@@ -149,98 +157,53 @@ fn created<D: Disk + Drop, S: Drop, K: Drop>(a: D, b: D, ends: Vec<End<S, K>>) -
     }
 }
 
-// Serves the one end.
-fn serve_one<R: Threads + Sync, D: Disk + Drop, S: Source + Drop, K: Sink + Drop>(
+// `mem`: serves the one end over a store in memory.
+fn mem<R: Threads + Sync, D: Disk + Drop, S: Source + Drop, K: Sink + Drop>(
     rt: &R,
     alloc: Global,
     plan: &Plan<'_>,
     disks: Disks<D>,
-    ends: Vec<End<S, K>>,
-) -> Outcome<D, S, K>
-    requires plan { IsWithinLimits plan.now }
-    requires end { plan.now.command ≢ Verb.Init }
-    requires one_end { length ends.items ≡ 1 }
-    ensures served { AllZip (Serves plan.now.command D.model plan.now S.left K.written disks.a result.a disks.b)
-        ends.items result.ends.items }
-    ensures ends { AllZip (HasEndCauses S.left S.faults K.faults) ends.items result.ends.items }
-    ensures causes { HasCauses D.model disks.a result.a result.status result.place }
-    ensures other { result.b ≡ disks.b }
-    ensures overall { result.status ≡ first_fault (map (λ end. end.status) result.ends.items) }
-    ensures status { result.status ≢ USAGE }
-{
-    let mut ends = ends;
-    let end = &mut ends[0];
-    let (disks, place) = serve(rt, alloc, plan, disks, end);
-    let status = end.status;
-    Outcome {
-        status,
-        place,
-        a: disks.a,
-        b: disks.b,
-        ends,
-    }
-}
-
-// Serves an end. The disks come back, with the place of damage on `a`.
-fn serve<R: Threads + Sync, D: Disk + Drop, S: Source + Drop, K: Sink + Drop>(
-    rt: &R,
-    alloc: Global,
-    plan: &Plan<'_>,
-    disks: Disks<D>,
-    end: &mut End<S, K>,
-) -> (Disks<D>, u64)
-    requires plan { IsWithinLimits plan.now }
-    requires end { plan.now.command ≢ Verb.Init }
-    ensures serves { Serves plan.now.command D.model plan.now S.left K.written disks.a result.0.a disks.b
-        end.old end.new }
-    ensures ends { HasEndCauses S.left S.faults K.faults end.old end.new }
-    ensures causes { HasCauses D.model disks.a result.0.a end.new.status result.1 }
-    ensures other { result.0.b ≡ disks.b }
-    ensures status { end.new.status ≢ USAGE }
-{
-    match plan.command {
-        Verb::Mem => {
-            serve_mem(rt, alloc, plan, end);
-            (disks, 0)
-        }
-        Verb::Bulk => {
-            serve_bulk(rt, alloc, plan, end);
-            (disks, 0)
-        }
-        Verb::Run => serve_run(rt, alloc, plan, disks, end),
-        Verb::Init => unreachable!(),
-    }
-}
-
-// The outcome where no end was served: each has the status, and nothing else changed.
-fn unserved<D: Disk + Drop, S: Drop, K: Drop>(
-    status: u8,
-    a: D,
-    b: D,
     mut ends: Vec<End<S, K>>,
 ) -> Outcome<D, S, K>
-    ensures status { result.status ≡ status }
-    ensures place { result.place ≡ 0 }
-    ensures disk_a { result.a ≡ a }
-    ensures disk_b { result.b ≡ b }
-    ensures read { Narrows D.model a result.a }
-    ensures ends { result.ends.items ≡ map (with_status status) ends.items }
+    requires plan { IsWithinLimits plan.now }
+    requires command { plan.now.command ≡ Verb.Mem }
+    requires one_end { length ends.items ≡ 1 }
+    ensures { IsDone D.model S.left S.faults K.written K.faults plan.now disks ends.items result }
 {
-    set_status(&mut ends, status);
-    Outcome {
-        status,
-        place: 0,
-        a,
-        b,
-        ends,
-    }
+    serve_mem(rt, alloc, plan, &mut ends[0]);
+    Outcome::served(0, disks, ends)
 }
 
-// Gives each end the status.
-fn set_status<S, K>(ends: &mut [End<S, K>], status: u8)
-    ensures { ends.new ≡ map (with_status status) ends.old }
+// `bulk`: puts a summary to the one end.
+fn bulk<R: Threads + Sync, D: Disk + Drop, S: Source + Drop, K: Sink + Drop>(
+    rt: &R,
+    alloc: Global,
+    plan: &Plan<'_>,
+    disks: Disks<D>,
+    mut ends: Vec<End<S, K>>,
+) -> Outcome<D, S, K>
+    requires plan { IsWithinLimits plan.now }
+    requires command { plan.now.command ≡ Verb.Bulk }
+    requires one_end { length ends.items ≡ 1 }
+    ensures { IsDone D.model S.left S.faults K.written K.faults plan.now disks ends.items result }
 {
-    for end in ends.iter_mut() {
-        end.status = status;
-    }
+    serve_bulk(rt, alloc, plan, &mut ends[0]);
+    Outcome::served(0, disks, ends)
+}
+
+// `run`: serves the one end over the store of disk `a`.
+fn run<R: Threads + Sync, D: Disk + Drop, S: Source + Drop, K: Sink + Drop>(
+    rt: &R,
+    alloc: Global,
+    plan: &Plan<'_>,
+    disks: Disks<D>,
+    mut ends: Vec<End<S, K>>,
+) -> Outcome<D, S, K>
+    requires plan { IsWithinLimits plan.now }
+    requires command { plan.now.command ≡ Verb.Run }
+    requires one_end { length ends.items ≡ 1 }
+    ensures { IsDone D.model S.left S.faults K.written K.faults plan.now disks ends.items result }
+{
+    let (disks, place) = serve_run(rt, alloc, plan, disks, &mut ends[0]);
+    Outcome::served(place, disks, ends)
 }

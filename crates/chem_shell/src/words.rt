@@ -1,14 +1,16 @@
 //! The words of the command line: what they ask for, or which of them is wrong.
-ghost use Rattle.std.specs.Prelude.{◌≡◌, ◌≢◌, ◌≤◌, ◌⊎◌, ℕ, [], None, Some, ◌∷◌, false, map, option_map, IfErr, IfOk, IsErrOf, IsNone, IsSome, OnErr, OnOk};
+ghost use Rattle.std.specs.Prelude.{◌≡◌, ◌≢◌, ◌≤◌, ◌⊎◌, ℕ, [], None, Some, ◌∷◌, false, map, option_map, IfErr, IfOk, IsErrOf, IsNone, IsSome, OnErr, OnOk, List, All, length};
 ghost use Rattle.clap.specs.Words.{Text, app_of, fault_of, found_of, kind_of, matches_of, rows_of, rule_of};
+ghost use Rattle.serve_ends.specs.declared.serve.TheConstants.{MOST_ENDS};
 ghost use Rattle.chem_shell.specs.declared.request.Plan.{Plan as ThePlan};
-ghost use Rattle.chem_shell.specs.Words.{args_of, chemdb_app, option_rule, texts, AreSizes, Asks, AsksFor, IsBulk, IsFile, IsInit, IsMem, IsNumber, IsRunOf, IsSetting};
+ghost use Rattle.chem_shell.specs.Words.{args_of, chemdb_app, option_rule, texts, AreSizes, Asks, AsksFor, IsBulk, IsFile, IsInit, IsMem, IsNumber, IsRunOf, IsServe, IsSetting, AreFileAndScripts};
 
 use crate::fault::WordFault;
 use crate::request::{Plan, PlanFault, Verb};
 use chem_text::decimal;
 use clap::error::ErrorKind;
 use clap::{Arg, ArgMatches, Command, Error};
+use serve_ends::MOST_ENDS;
 use std::alloc::{AllocError, Global};
 use store_core::MOST_COMMITS;
 
@@ -21,6 +23,7 @@ pub const MOST_STRUCTURES: u32 = 100_000;
 /// Reads the words: by `clap`, and then by the table of commands.
 pub fn plan<'w>(alloc: Global, words: &'w [&'w str]) -> Result<Plan<'w>, PlanFault>
     ensures ok { IfOk result (AsksFor (texts words.now)) }
+    ensures scripts { IfOk result (λ plan. plan.command ≡ Verb.Serve → plan.ends ≡ length plan.scripts.items) }
     ensures usage { IsErrOf result PlanFault.Usage → ¬ Asks (texts words.now) }
 {
     match read(alloc, words) {
@@ -53,6 +56,7 @@ fn read<'w>(alloc: Global, words: &'w [&'w str]) -> Result<Plan<'w>, WordFault<'
         Some("mem") => mem(alloc, &found),
         Some("init") => init(alloc, &found),
         Some("run") => run(alloc, &found),
+        Some("serve") => serve(alloc, &found),
         Some("bulk") => bulk(alloc, &found),
         Some(word) => Err(WordFault::UnknownCommand(word)),
         None => Err(WordFault::NoCommand),
@@ -191,6 +195,35 @@ fn run<'w>(alloc: Global, found: &ArgMatches<'w>) -> Result<Plan<'w>, WordFault<
     })
 }
 
+// The plan of `serve`, if the match is its row.
+fn serve<'w>(alloc: Global, found: &ArgMatches<'w>) -> Result<Plan<'w>, WordFault<'w>>
+    ensures ok { IfOk result (IsServe (rows_of (found_of found.now))) }
+    ensures err { IfErr result (λ fault. (fault ≡ WordFault.NoMemory)
+        ⊎ ((plan : ThePlan) → ¬ IsServe (rows_of (found_of found.now)) plan)) }
+{
+    let (file, words) = file_and_scripts(found.get_raw("args"))?;
+    let (workers, page) = sizes(found)?;
+    let commits = setting(
+        "--commits",
+        found.get_str("commits"),
+        MOST_COMMITS,
+        MOST_COMMITS,
+    )?;
+    let scripts = words.iter().copied().collect::<Vec<_>>(alloc)?;
+    let ends = scripts.len() as u32;
+    Ok(Plan {
+        command: Verb::Serve,
+        file: Some(file),
+        scripts,
+        ends,
+        workers,
+        page,
+        commits,
+        seed: 0,
+        count: 0,
+    })
+}
+
 // The plan of `bulk`, if the match is its row.
 fn bulk<'w>(alloc: Global, found: &ArgMatches<'w>) -> Result<Plan<'w>, WordFault<'w>>
     ensures ok { IfOk result (IsBulk (rows_of (found_of found.now))) }
@@ -258,6 +291,54 @@ fn one_file<'w>(command: &'static str, args: Option<&[&'w str]>) -> Result<&'w s
             command,
             name: "a FILE",
         }),
+    }
+}
+
+// The words of `serve`: a file, and 1 to 16 scripts.
+fn file_and_scripts<'a, 'w>(
+    args: Option<&'a [&'w str]>,
+) -> Result<(&'w str, &'a [&'w str]), WordFault<'w>>
+    ensures ok { IfOk result (λ words. AreFileAndScripts (args_of args.entry) words.0.now (texts words.1.now)) }
+    ensures err { OnErr result ((file : Text) (scripts : List Text)
+        → ¬ AreFileAndScripts (args_of args.entry) file scripts) }
+{
+    match args {
+        Some([file, scripts @ ..]) if !file.is_empty() => Ok((*file, are_scripts(scripts)?)),
+        _ => Err(WordFault::MissingWord {
+            command: "serve",
+            name: "a FILE",
+        }),
+    }
+}
+
+// The words, where they are 1 to 16 names of scripts.
+fn are_scripts<'a, 'w>(words: &'a [&'w str]) -> Result<&'a [&'w str], WordFault<'w>>
+    ensures ok { IfOk result (λ scripts. (scripts.now ≡ words.now)
+        × (1 ≤ length words.now) × (length words.now ≤ MOST_ENDS)
+        × All (λ script. script ≢ []) (texts words.now)) }
+    ensures err { OnErr result ((1 ≤ length words.now) → (length words.now ≤ MOST_ENDS)
+        → All (λ script. script ≢ []) (texts words.now) → ⊥) }
+{
+    for word in words {
+        if word.is_empty() {
+            return Err(no_script());
+        }
+    }
+    match words.get(MOST_ENDS) {
+        Some(word) => Err(WordFault::SurplusWord {
+            command: "serve",
+            word: *word,
+        }),
+        None if words.is_empty() => Err(no_script()),
+        None => Ok(words),
+    }
+}
+
+// `serve` wants a script's name where there is none.
+fn no_script<'w>() -> WordFault<'w> {
+    WordFault::MissingWord {
+        command: "serve",
+        name: "a SCRIPT",
     }
 }
 

@@ -3,6 +3,11 @@
 
 ghost use Rattle.std.specs.Prelude.{◌≡◌, IfOk, length};
 
+mod files;
+#[cfg(test)]
+mod tests;
+
+use crate::files::script_ends;
 use chem_shell::{End, PlanFault, Verb, chemdb, plan, status, word_fault};
 use disk_edge::FileDisk;
 use io_edge::{StdSink, StdSource};
@@ -23,13 +28,16 @@ commands
   mem              serve the script of standard input over a store in memory
   init FILE        make an empty store in a file that is not there or is empty
   run FILE         serve the script of standard input over the store in the file
+  serve FILE SCRIPT..
+                   serve 1 to 16 scripts at the same time over the store in the file; the
+                   replies to a script go to the file of its name with .out appended
   bulk SEED COUNT  run a generated script over a store in memory, and print its summary;
                    SEED is 1 to 2147483646, and COUNT, the structures to register, 0 to 100000
 
 options
   --workers N  threads for matching, 1 to 16; 1 if left out
   --page N     records in a page, 1 to 256; 256 if left out
-  --commits N  of mem and run: the most commits of the store, 1 to 16777215; 16777215 if left out
+  --commits N  of mem, run and serve: the most commits of the store, 1 to 16777215; 16777215 if left out
 
 Options, none for init, stand before or behind the command, as --page 3 or --page=3.
 example: printf 'register 1 CCO\\nsearch CO\\n' | chemdb mem --page=64";
@@ -78,8 +86,8 @@ where
     Ok(status)
 }
 
-/// The ends are standard input and output. The disk is the file that the words name: `init` makes it where it is not
-/// there, and `run` does not.
+/// The ends are the scripts that the words name, and their replies, or else standard input and output. The disk is the
+/// file that the words name: `init` makes it where it is not there.
 fn serve<R: AllocGlobal + Files<File = File> + Input + Print + Threads + Wait + Sync>(
     rt: &R,
     alloc: Global,
@@ -93,12 +101,21 @@ where
         Err(PlanFault::Usage) => return Ok(status::USAGE),
         Err(PlanFault::NoMemory) => return Err(AllocError),
     };
-    let ends = ends(rt, alloc, plan.ends)?;
     let a = match plan.file {
         Some(path) => FileDisk::at(rt, path, plan.command == Verb::Init),
         None => FileDisk::none(),
     };
-    Ok(chemdb(rt, alloc, words, a, FileDisk::none(), ends).status)
+    let b = FileDisk::none();
+    match plan.command {
+        Verb::Serve => {
+            let ends = script_ends(rt, alloc, &plan.scripts)?;
+            Ok(chemdb(rt, alloc, words, a, b, ends).status)
+        }
+        _ => {
+            let ends = ends(rt, alloc, plan.ends)?;
+            Ok(chemdb(rt, alloc, words, a, b, ends).status)
+        }
+    }
 }
 
 /// Prints why the words ask for nothing, and what they may be. The status says it too, where standard error is gone.

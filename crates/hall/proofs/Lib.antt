@@ -10,3 +10,4 @@ pub mod Turning
 pub mod Joining
 pub mod Holding
 pub mod Starting
+pub mod Lasting

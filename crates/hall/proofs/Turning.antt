@@ -1,6 +1,6 @@
 -- A turn of a pass is a part of the history with the one call of the pass at its end, or with none where all turns were
 -- taken.
-use Rattle.std.proofs.Common.{◌≡◌, ◌++◌, ◌&&◌, ◌∙◌, ap, append_assoc, arith, Bool, false, inl, inr, if◌then◌else◌, length, length-append, List, [], ◌∷◌, refl, subst, sym, true, ℕ}
+use Rattle.std.proofs.Common.{◌≡◌, ◌≤◌, ◌++◌, ◌&&◌, ◌∙◌, ap, append_assoc, arith, Bool, false, inl, inr, if◌then◌else◌, length, length-append, List, [], ◌∷◌, refl, subst, sym, true, ℕ}
 use Rattle.disk_edge.specs.Disk.{DiskModel}
 use Rattle.store_machine.specs.Laws.{PinsStay}
 use Rattle.store_machine.specs.Machine.{Holds}
@@ -27,7 +27,7 @@ use Rattle.hall.proofs.Numbers.{no-calls}
 use Rattle.hall.proofs.Pins.{held-before, took-one}
 use Rattle.hall.proofs.Runs.{call_of, calm-parts, run-parts}
 
-calls-append : (mine : ℕ → Bool) (xs ys : List Step) → calls_of mine (xs ++ ys) ≡ calls_of mine xs ++ calls_of mine ys
+pub calls-append : (mine : ℕ → Bool) (xs ys : List Step) → calls_of mine (xs ++ ys) ≡ calls_of mine xs ++ calls_of mine ys
 calls-append mine [] ys = refl
 calls-append mine (x ∷ xs) ys = chosen (is_call x.event && mine x.owner) (call_of x) (calls_of mine xs)
     (calls_of mine ys) (calls_of mine (xs ++ ys)) (calls-append mine xs ys)
@@ -148,8 +148,8 @@ module _ {D : Type 0} (model : DiskModel D) where
 
   stays-of : (h : Hall D) (p q : HallPass D) → IsOf h p → IsOf h q → (known q).origin ≡ (known p).origin
       → (known q).numbers ≡ (known p).numbers → (known q).given ≡ (known p).given
-      → (known q).turns ≡ (known p).turns → Stays p q
-  stays-of h p q a b origin numbers given turns = record {
+      → (known q).turns ≡ (known p).turns → length (known q).seen ≤ (known q).turns → Stays p q
+  stays-of h p q a b origin numbers given turns few = record {
     of = λ k is. record {
       same = b.same ∙ (sym a.same ∙ is.same);
       limit = turns ∙ is.limit;
@@ -163,6 +163,7 @@ module _ {D : Type 0} (model : DiskModel D) where
     numbers = numbers;
     given = given;
     turns = turns;
+    within = λ _. few;
   }
 
   -- all turns were taken
@@ -177,7 +178,9 @@ module _ {D : Type 0} (model : DiskModel D) where
         of = taken.of;
         seen = seen;
         stays = stays-of h p q a b (ap (λ (k : Seat). k.0.origin) taken.sees)
-            (ap (λ (k : Seat). k.0.numbers) taken.sees) (ap (λ (k : Seat). k.0.given) taken.sees) turns;
+            (ap (λ (k : Seat). k.0.numbers) taken.sees) (ap (λ (k : Seat). k.0.given) taken.sees) turns
+            (let full : length (known q).seen ≡ (known q).turns = ap length seen ∙ (taken.full ∙ sym b.limit) in
+            omega (arith, full));
         standing = taken.standing;
       } in
       let made : Made p q [] = made-of p q taken.more [] t (no-calls (known p).numbers taken.more taken.others) in
@@ -245,7 +248,10 @@ module _ {D : Type 0} (model : DiskModel D) where
         seen = ap (λ (k : Seat). k.0.seen) added.sees ∙ all;
         stays = stays-of h p q a b (ap (λ (k : Seat). k.0.origin) added.sees ∙ origin-n)
             (ap (λ (k : Seat). k.0.numbers) added.sees ∙ numbers-n)
-            (ap (λ (k : Seat). k.0.given) added.sees ∙ given-n) (ap (λ (k : Seat). k.0.turns) added.sees ∙ turns-n);
+            (ap (λ (k : Seat). k.0.given) added.sees ∙ given-n) (ap (λ (k : Seat). k.0.turns) added.sees ∙ turns-n)
+            (let long = ap length (ap (λ (k : Seat). k.0.seen) added.sees) in
+            let parts = length-append (gate.known n).seen (e ∷ []) in
+            omega (arith, long, parts, turn.counted, turn.room, b.limit));
         standing = subst (KeptFor model added.names.origin w) all added.names.standing;
       } in
       let calm : IsCalm xs = (calm-parts (known p).seen xs t.standing.stands.calm).1 in

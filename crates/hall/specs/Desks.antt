@@ -1,5 +1,5 @@
 -- For callers: the parts of a hall's history that a pass saw at a desk.
-use Rattle.std.specs.Prelude.{◌≡◌, ◌++◌, List, [], length, refl, ℕ}
+use Rattle.std.specs.Prelude.{◌≡◌, ◌≤◌, ◌++◌, List, [], length, refl, ℕ}
 use Rattle.std.proofs.Common.{◌∙◌, ap, append_assoc, sym}
 use Rattle.std.proofs.lemmas.List.{append-nil}
 use Rattle.store_machine.proofs.Joins.{calms-join, runs-join}
@@ -23,13 +23,14 @@ module _ {D : Type 0} where
   abbrev pub IsWorn : HallPass D → Type 0
   IsWorn p = length (known p).seen ≡ (known p).turns
 
-  -- a pass later: of each hall of which it was, with the same numbers
+  -- a pass later: of each hall of which it was, with the same numbers. It has not seen more events than there are turns
   pub record Stays (p q : HallPass D) : Type 0 where
     pub of : (h : Hall D) → IsOf h p → IsOf h q
     pub origin : (known q).origin ≡ (known p).origin
     pub numbers : (known q).numbers ≡ (known p).numbers
     pub given : (known q).given ≡ (known p).given
     pub turns : (known q).turns ≡ (known p).turns
+    pub within : length (known p).seen ≤ (known p).turns → length (known q).seen ≤ (known q).turns
 
   -- what it has seen more is a part of the one run of its hall
   pub record Stretches (p q : HallPass D) (s : State) (steps : List Step) (t : State) : Type 0 where
@@ -41,7 +42,14 @@ module _ {D : Type 0} where
     pub calm : IsCalm steps
 
   pub still : (p : HallPass D) → Stays p p
-  still p = record { of = λ h is. is; origin = refl; numbers = refl; given = refl; turns = refl }
+  still p = record {
+    of = λ h is. is;
+    origin = refl;
+    numbers = refl;
+    given = refl;
+    turns = refl;
+    within = λ few. few;
+  }
 
   pub later : (p q r : HallPass D) → Stays p q → Stays q r → Stays p r
   later p q r a b = record {
@@ -50,6 +58,7 @@ module _ {D : Type 0} where
     numbers = b.numbers ∙ a.numbers;
     given = b.given ∙ a.given;
     turns = b.turns ∙ a.turns;
+    within = λ few. b.within (a.within few);
   }
 
   pub stays : (p : HallPass D) (s : State) → IsAt p s → Stretches p p s [] s

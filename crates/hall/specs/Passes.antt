@@ -1,5 +1,5 @@
 -- For callers: passes of a hall, and what its calls tell of them.
-use Rattle.std.specs.Prelude.{◌≡◌, ◌⊎◌, ◌^◌, ◌↔◌, [], ◌∷◌, true, ℕ}
+use Rattle.std.specs.Prelude.{◌≡◌, ◌⊎◌, ◌≤◌, ◌^◌, ◌↔◌, [], ◌∷◌, length, true, ℕ}
 use Rattle.disk_edge.specs.Disk.{DiskModel}
 use Rattle.store_machine.specs.Machine.{Holds}
 use Rattle.store_machine.specs.Runs.{IsCalm, IsRun}
@@ -45,6 +45,15 @@ module _ {D : Type 0} where
     pub owner : ℕ
     pub own : has (known p).numbers owner ≡ true
     pub held : Holds (after origin.state (known p).seen) slot owner version
+
+  -- What the pass has seen is a run without a crash from where its hall's history begins, of no more events than the hall
+  -- has turns. It is so of the first pass, and stays so at desks, by splits and by joins
+  pub record Runs (p : HallPass D) : Type 0 where
+    pub origin : Origin D
+    pub of : IsFrom origin p
+    pub run : IsRun origin.state (known p).seen (after origin.state (known p).seen)
+    pub calm : IsCalm (known p).seen
+    pub within : length (known p).seen ≤ (known p).turns
 
 module _ {D : Type 0} (model : DiskModel D) where
   -- the first pass: the history begins with the store that was given, at a state without pins for which it stood

@@ -27,7 +27,7 @@ impl<D: Disk> Hall<D> {
     ghost use Rattle.store_machine.specs.declared.machine.State.{State};
     ghost use Rattle.store_disk.specs.OnDisk.{StandsFor};
     ghost use Rattle.turn_gate.specs.Steps.{giving, given_to};
-    ghost use Rattle.hall.specs.Passes.{Begins, Ends, HasBoth, IsOf, IsRoot, IsWhole, Merged, known};
+    ghost use Rattle.hall.specs.Passes.{Begins, Ends, HasBoth, IsOf, IsRoot, IsWhole, Merged, Runs, known};
 
     /// A hall of a store in which no pin is held, and its root pass, which is whole and has seen no event. The hall has
     /// 2^63 turns. Its history begins at one state for which the store stands. An error gives the store back.
@@ -39,6 +39,7 @@ impl<D: Disk> Hall<D> {
         ensures of { IfOk result (λ r. IsOf r.0 r.1) }
         ensures whole { IfOk result (λ r. IsWhole r.1) }
         ensures begins { IfOk result (λ r. Begins D.model store r.1) }
+        ensures runs { IfOk result (λ r. Runs r.1) }
         ensures back { IfErr result (λ e. e.1 ≡ store) }
     {
         match Gate::start(alloc, Kept::new(store), TURNS) {

@@ -5,8 +5,8 @@
 //! into pieces, one for each worker. That the pages of a pin are together the hits is a law of the machine.
 #![tactic(auto)]
 
+mod calls;
 mod fault;
-mod fetch;
 mod laws;
 mod meter;
 mod pieces;
@@ -14,6 +14,7 @@ mod room;
 mod search;
 mod worker;
 
+pub use calls::fetch;
 pub use fault::SearchFault;
 pub use laws::pages_are_hits;
 pub use meter::{Meter, NoMeter};

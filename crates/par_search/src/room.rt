@@ -14,7 +14,7 @@ ghost use Rattle.par_search.specs.Rooms.{HasNothing, IsRoom, SameRoom};
 ghost use Rattle.par_search.specs.declared.pieces.TheConstants.{MOST_WORKERS};
 ghost use Rattle.par_search.specs.declared.worker.TheConstants.{MOST_RECORDS};
 
-use crate::fetch::fetch;
+use crate::calls::fetch;
 use crate::meter::Meter;
 use crate::pieces::{list_hits, match_pieces};
 use crate::worker::Worker;

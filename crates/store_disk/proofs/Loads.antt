@@ -1,5 +1,5 @@
 -- A loading: what is read, made again, and opened.
-use Rattle.std.proofs.Common.{◌≡◌, ◌∙◌, ap, arith, Err, false, List, [], MatchOption, None, Ok, refl, Result, subst, sym, true, ℕ}
+use Rattle.std.proofs.Common.{◌≡◌, ◌∙◌, ap, arith, Err, false, List, [], MatchOption, None, Ok, refl, Result, Some, subst, sym, true, ℕ}
 use Rattle.std.proofs.lemmas.List.{length-map}
 use Rattle.std.specs.List.{AllByRecursion}
 use Rattle.commit_log.specs.Change.{Change as Logged}
@@ -7,6 +7,7 @@ use Rattle.commit_log.specs.Log.{IsLog, IsLogged, end_of, payloads as log_payloa
 use Rattle.disk_edge.specs.Disk.{DiskModel, IfTold}
 use Rattle.journal_core.specs.Answers.{OnDamaged}
 use Rattle.journal_core.specs.Journal.{Reads, Rests}
+use Rattle.journal_core.specs.Looks.{Looks}
 use Rattle.journal_core.specs.Records.{Opens, header}
 use Rattle.journal_core.specs.Standing.{Standing}
 use Rattle.journal_core.specs.declared.faults.LoadFault.{LoadFault}
@@ -136,6 +137,19 @@ module _ {D : Type 0} (model : DiskModel D) where
         },
         λ l is. x.opens (reads l is) l (first ∙ is),
       )
+
+  -- a crash after the reading leaves what is read
+  pub synced : (a : D) (old new : Standing D) → model.content old.disk ≡ model.content a
+      → Looks model old.disk new.disk → IfTold (model.content a) (λ _. Reads model old header [])
+      → IfTold (model.content new.disk) (model.images new.disk)
+  synced a old new first looks reads l is =
+      let was : model.content old.disk ≡ Some l = sym looks.narrows.same ∙ is in
+      let r = reads l (sym first ∙ was) in
+      let told : r.told ≡ l = some-same (sym r.is_told ∙ was) in
+      looks.no_fewer l (subst (model.images old.disk) told r.exactly.is)
+    where
+      some-same : {x y : List ℕ} → Some x ≡ Some y → x ≡ y
+      some-same e = cc e
 
 pub on-damaged : {T : Type 0} {P Q : ℕ → Type 0} (r : Result T LoadFault) → ((at : ℕ) → P at → Q at) → OnDamaged r P
     → OnDamaged r Q

@@ -80,6 +80,9 @@ impl<D: Disk> Store<D> {
 
         ensures opened { IfOk result (λ store. (s : State) × StandsFor D.model store s
             × IsOpened commits s × IfTold (D.model.content disks.a) (OpensTo s.history)) }
+        // A crash now may leave what a read gives.
+        ensures synced { IfOk result (λ store. IfTold (D.model.content store.journal.disk)
+            (D.model.images store.journal.disk)) }
         ensures not_a_store { IfErr result (λ e. e.0 ≡ LoadFault.NotAStore
             → IfTold (D.model.content disks.a) IsNoJournal) }
         ensures damaged { IfErr result (λ e. (at : ℕ) → e.0 ≡ LoadFault.Damaged at

@@ -1,13 +1,12 @@
 //! Sources and sinks that fail.
 ghost use Rattle.std.specs.Prelude.{◌<◌};
 
-use super::{PLAIN, Ways, call, put_by};
+use super::{PLAIN, Ways, call, put_by, session_within};
 use io_edge::{MemSink, MemSource};
-use par_search::NoMeter;
-use session_run::{EndStatus, Settings, session};
+use session_run::EndStatus;
 use std::alloc::{AllocError, Global};
 use std::test::Fail;
-use store_core::Store;
+use std::thread::Threads;
 
 // Lines with their replies: none, one, several, and those of a molfile.
 const TURNS: [(&str, &str); 8] = [
@@ -91,36 +90,31 @@ fn each_put_fails_in_turn(rt: HostRuntime) -> Result<(), Fail> {
     Ok(())
 }
 
+// How a session over two lines ends that takes no more bytes than this, and what it put.
+fn two_lines_within<R: Threads + Sync>(
+    rt: &R,
+    alloc: Global,
+    input_limit: u64,
+) -> Result<(EndStatus, MemSink), AllocError> {
+    let script = Vec::from_slice(alloc, b"stats\nstats\n")?;
+    let mut source = MemSource::new(script, 5, Vec::new(alloc));
+    let mut sink = MemSink::new(alloc, Vec::new(alloc));
+    let ended = session_within(rt, alloc, &mut source, &mut sink, input_limit);
+    Ok((ended, sink))
+}
+
 #[test]
 fn no_more_is_taken_than_may_be(rt: HostRuntime) -> Result<(), Fail> {
-    let alloc = rt.alloc();
     let counts = "stats version 0 live 0 withdrawn 0 kept 0 pins 0\n";
-    let once = format!(in alloc; "{counts}")?;
-    let twice = format!(in alloc; "{counts}{counts}")?;
+    let once = format!(in rt.alloc(); "{counts}")?;
+    let twice = format!(in rt.alloc(); "{counts}{counts}")?;
     let rows = [
         (6u64, EndStatus::InputTooLong, &once),
         (12, EndStatus::InputTooLong, &twice),
         (13, EndStatus::Done, &twice),
     ];
     for (input_limit, ended, replies) in rows {
-        let mut store = Store::fresh(alloc, 1);
-        let script = Vec::from_slice(alloc, b"stats\nstats\n")?;
-        let mut source = MemSource::new(script, 5, Vec::new(alloc));
-        let mut sink = MemSink::new(alloc, Vec::new(alloc));
-        let settings = Settings {
-            workers: 1,
-            page: 1,
-            input_limit,
-        };
-        let end = session(
-            &rt,
-            alloc,
-            &mut store,
-            &mut source,
-            &mut sink,
-            &settings,
-            &NoMeter,
-        );
+        let (end, sink) = two_lines_within(&rt, rt.alloc(), input_limit)?;
         assert_eq!(rt; end, ended, "at {input_limit}");
         assert_eq!(rt; sink.bytes(), replies.as_bytes(), "at {input_limit}");
     }

@@ -1,14 +1,13 @@
 //! A session puts the replies to a line before it takes more bytes for the next.
 ghost use Rattle.std.specs.Prelude.{◌<◌, ◌^◌, None};
 
+use super::session_within;
 use io_edge::{PutFault, Sink, Source, Take};
-use par_search::NoMeter;
-use session_run::{EndStatus, Settings, session};
+use session_run::EndStatus;
 use std::alloc::Global;
 use std::sync::Arc;
 use std::sync::atomic::{AtomicU64, Ordering};
 use std::test::Fail;
-use store_core::Store;
 
 // Gives one line at each take. From the second on, it fails where the other end has not got a reply to each line
 // before.
@@ -69,21 +68,7 @@ fn replies_are_put_before_more_is_taken(rt: HostRuntime) -> Result<(), Fail> {
     let mut sink = Teller {
         puts: Arc::try_clone(&puts)?,
     };
-    let mut store = Store::fresh(alloc, 1);
-    let settings = Settings {
-        workers: 1,
-        page: 1,
-        input_limit: 65_536,
-    };
-    let end = session(
-        &rt,
-        alloc,
-        &mut store,
-        &mut source,
-        &mut sink,
-        &settings,
-        &NoMeter,
-    );
+    let end = session_within(&rt, alloc, &mut source, &mut sink, 65_536);
     assert_eq!(rt; end, EndStatus::Done);
     assert_eq!(rt; puts.load(Ordering::SeqCst), 3);
     Ok(())

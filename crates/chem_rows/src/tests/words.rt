@@ -44,7 +44,7 @@ fn words_that_ask_for_nothing(rt: HostRuntime) -> Result<(), Fail> {
         (&["--page", "3"], "a command is missing"),
         (&[""], "there is no command \"\""),
         (&["Mem"], "there is no command \"Mem\""),
-        (&["serve", "f"], "there is no command \"serve\""),
+        (&["serve", "f"], "serve wants a SCRIPT"),
         (&["init"], "init wants a FILE"),
         (&["init", "f", "g"], "init takes no word \"g\""),
         (&["init", "f", "--page", "2"], "init takes no --page"),

@@ -1,5 +1,7 @@
 use Rattle.std.proofs.Common.{◌∙◌, rules, subst, sym}
+use Rattle.session_run.specs.Served.{IsServedBy, TakesAtMost}
 use Rattle.session_run.specs.Truths.{IsInRun}
+use Rattle.session_run.specs.declared.settings.Settings.{Settings}
 use Rattle.store_machine.specs.declared.machine.State.{State}
 use Rattle.chem_shell.specs.OnDisk.{RunsOn}
 use Rattle.chem_shell.proofs.Loaded.{in_run, on_this_disk}
@@ -21,8 +23,15 @@ returns-clause-runs g c = λ a s stands opened opens read.
           on.0.last.history _ _ c.session-ended.ensures.worn c.end_status-end.ensures
           (served_true c.services_are_true.ensures c.session-ended.result c.args.plan.now.page _ _ _ _ serves.0
           on.0.last.history (subst (λ (x : State). IsInRun serves.0 x.history) (sym on.1)
-          (in_run d s c.args.store c.session-ended.new.service serves.0 made)) serves.2)
-          c.session-ended.ensures.done c.session-ended.ensures.within;
+          (in_run d s c.args.store c.session-ended.new.service serves.0 made))
+          (subst (λ (settings : Settings). IsServedBy c.session-ended.result settings.page
+          (g.S.Source.left c.args.end.now.source) (g.S.Source.left c.session-ended.new.source)
+          (g.K.Sink.written c.args.end.now.sink) (g.K.Sink.written c.session-ended.new.sink) serves.0)
+          c.settings.ensures serves.2))
+          c.session-ended.ensures.done
+          (subst (λ (settings : Settings). TakesAtMost (g.S.Source.left c.args.end.now.source)
+          (g.S.Source.left c.session-ended.new.source) settings.input_limit) c.settings.ensures
+          c.session-ended.ensures.within);
     }
 
 pub returns-clause-ends : goal.returns-clause-ends

@@ -1,5 +1,7 @@
 use Rattle.std.proofs.Common.{subst, sym}
+use Rattle.session_run.specs.Served.{IsServedBy}
 use Rattle.session_run.specs.Truths.{IsInRun}
+use Rattle.session_run.specs.declared.settings.Settings.{Settings}
 use Rattle.store_core.specs.Stored.{empty}
 use Rattle.store_machine.specs.declared.machine.State.{State}
 use Rattle.store_disk.specs.Stored.{Stretches}
@@ -30,5 +32,8 @@ returns-clause-serves g c =
       served_true c.services_are_true.ensures c.session.result c.args.plan.now.page _ _ _ _ serves.0
           run.0.last.history
           (subst (λ (x : State). IsInRun serves.0 x.history) (sym run.1)
-          (in_run model (empty c.args.plan.now.commits) c.in-Ok.store c.session.new.service serves.0 made)) serves.2,
+          (in_run model (empty c.args.plan.now.commits) c.in-Ok.store c.session.new.service serves.0 made))
+          (subst (λ (settings : Settings). IsServedBy c.session.result settings.page (g.I.Source.left c.args.source.now)
+          (g.I.Source.left c.session.new.source) (g.O.Sink.written c.args.sink.now)
+          (g.O.Sink.written c.session.new.sink) serves.0) c.settings.ensures serves.2),
     )

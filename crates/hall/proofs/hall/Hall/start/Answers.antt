@@ -1,4 +1,5 @@
 -- The history begins at the state at which the store is.
+use Rattle.hall.proofs.Lasting.{runs-first}
 use Rattle.hall.proofs.Starting.{begins, may-start}
 use Rattle.hall.proofs.hall.Hall.start.Goals as goal
 
@@ -10,3 +11,8 @@ start-requires-clause-stands g c =
 pub returns-in-Ok-clause-begins : goal.returns-in-Ok-clause-begins
 returns-in-Ok-clause-begins g c =
     begins _ c.args.store c.new.result (record { pass = c.in-Ok.pass }) c.new.ensures.store c.in-Ok.ensures.begins
+
+pub returns-in-Ok-clause-runs : goal.returns-in-Ok-clause-runs
+returns-in-Ok-clause-runs g c =
+    runs-first _ c.args.store (record { pass = c.in-Ok.pass })
+    (begins _ c.args.store c.new.result (record { pass = c.in-Ok.pass }) c.new.ensures.store c.in-Ok.ensures.begins)

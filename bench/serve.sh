@@ -1,0 +1,106 @@
+#!/usr/bin/env bash
+# Serves scripts at the same time over one store, in a file of FOLDER (/dev/shm, a disk in memory, if left out), and prints:
+# searches a second of four ends, without and with a fifth end that commits durably, and how long each end waits for its
+# first reply after the store was loaded; searches with one and with four workers; registrations a second of one end and of
+# four; and the processor time that an end spends which waits for its turn behind commits.
+# Usage: bench/serve.sh [STRUCTURES [FOLDER]]
+set -euo pipefail
+cd "$(dirname "${BASH_SOURCE[0]}")/.."
+./build
+python3 - "${1:-100000}" "${2:-/dev/shm}" <<'PY'
+import os
+import random
+import resource
+import subprocess
+import sys
+import tempfile
+import time
+
+PROGRAM = os.path.abspath("crates/chemdb/out/chemdb")
+PATTERNS = """
+c1ccc2ccccc2c1  [$([CX4]);!$(C[!#6])]~[#6]~[$([#6]=[#6]),c]  [$([NX3;H2]),$([NX3;H1]);!$(NC=O);!$(NS(=O)=O)]  CCCCCCCCCCCC
+c1ccc(cc1)-c1ccccc1  c1ccccc1  *~*~*~*~*~*~*~*  C=O  C1CCC2C(C1)CCC1C2CCC2CCCC12  [$(C(=O)N)]  [r7]  c1ccncc1
+[!#6;!#1]1~*~*~*~1  [#6]  [#6]-[#6](=O)-[#8]-[#6]  [U]  [N;H1]  N1CCNCC1  [Cl,Br,I][CX4;CH,CH2]  [CX3](=O)[OX2H1]
+Clc1ccccc1Cl  F  [N+](=O)[O-]  S(=O)(=O)N  B(O)O  [Se]  [Na+]  OCC1OC(O)C(O)C(O)C1O  O=C1NC(=O)c2ccccc12  O=C1CC2SCCN12
+c1ccc2[nH]ccc2c1  C#N  c:1:c:c(:c(:c:c:1)-[#6]=[#7]-[#7])-[#8]  c1nc(N)nc(N)n1
+""".split()
+assert len(PATTERNS) == 34
+CORES = [
+    "CC(C)Cc1ccc(cc1)C(C)C(=O)N{}",
+    "Cc1ccc(NC(=O)c2ccc(CN3CCN({})CC3)cc2)cc1Nc1nccc(-c2cccnc2)n1",
+    "CCCc1nn(C)c2c1nc([nH]c2=O)-c1cc(ccc1OCC)S(=O)(=O)N1CCN({})CC1",
+    "CN({})CCCN1c2ccccc2Sc2ccc(Cl)cc21",
+    "COc1ccc2nc(S(=O)Cc3ncc(C)c(O{})c3C)[nH]c2c1",
+    "OC(=O)COCCN1CCN(CC1)C({})c1ccc(Cl)cc1",
+    "Fc1ccc(cc1)C(=O)C1CCN({})CC1",
+    "COc1cc(C{})cc(OC)c1OC",
+]
+PARTS = ["C", "CC", "CCO", "c1ccccc1", "CC(=O)O", "CCN(C)C", "C1CC1", "CC(F)(F)F", "Cc1ccncc1", "CCC#N", "CS(C)(=O)=O", "CCBr"]
+COUNT, FOLDER = int(sys.argv[1]), sys.argv[2]
+
+
+def texts(count, seed):
+    draw = random.Random(seed)
+    return [draw.choice(CORES).format(draw.choice(PARTS)) for _ in range(count)]
+
+
+def serve(folder, scripts, *words):
+    """Serves the scripts; gives the seconds from the first reply of any end to the exit, how long after it each end had its
+    first reply, and the program's processor seconds."""
+    names = []
+    for number, lines in enumerate(scripts):
+        name = f"{folder}/script{number}"
+        with open(name, "w", encoding="utf-8") as script:
+            script.write("".join(line + "\n" for line in lines))
+        names.append(name)
+        if os.path.exists(name + ".out"):
+            os.remove(name + ".out")
+    before = resource.getrusage(resource.RUSAGE_CHILDREN)
+    process = subprocess.Popen([PROGRAM, "serve", f"{folder}/store", *names, *words])
+    firsts = {}
+    while process.poll() is None:
+        for name in names:
+            if name not in firsts and os.path.exists(name + ".out") and os.path.getsize(name + ".out") > 0:
+                firsts[name] = time.monotonic()
+        time.sleep(0.001)
+    end = time.monotonic()
+    after = resource.getrusage(resource.RUSAGE_CHILDREN)
+    assert process.returncode == 0, process.returncode
+    begin = min(firsts.values())
+    used = after.ru_utime + after.ru_stime - before.ru_utime - before.ru_stime
+    return end - begin, [firsts[name] - begin for name in names], used
+
+
+def searches(rounds):
+    return ["stats"] + [f"search {pattern}" for pattern in PATTERNS] * rounds
+
+
+with tempfile.TemporaryDirectory(dir=FOLDER) as folder:
+    store = f"{folder}/store"
+    subprocess.run([PROGRAM, "init", store], check=True)
+    fill = "".join(f"register {i + 1} {text}\n" for i, text in enumerate(texts(COUNT, 1)))
+    start = time.monotonic()
+    subprocess.run([PROGRAM, "run", store], input=fill.encode(), stdout=subprocess.DEVNULL, check=True)
+    print(f"one end, loading {COUNT} structures: {COUNT / (time.monotonic() - start):,.0f} registrations a second")
+
+    one, _, _ = serve(folder, [searches(1)])
+    four, _, _ = serve(folder, [searches(1)], "--workers", "4")
+    print(f"34 searches, one end: {one:.2f} s with one worker, {four:.2f} s with four")
+
+    alone, firsts, _ = serve(folder, [searches(2)] * 4)
+    print(f"four ends: {4 * 2 * 34 / alone:,.0f} searches a second; first replies within {max(firsts) * 1000:.0f} ms")
+    writes = [f"register {COUNT + i + 1} {text}" for i, text in enumerate(texts(20000, 2))]
+    beside, firsts, _ = serve(folder, [searches(2)] * 4 + [writes])
+    print(f"beside an end that registers: {4 * 2 * 34 / beside:,.0f} searches a second and "
+          f"{len(writes) / beside:,.0f} registrations; first replies within {max(firsts) * 1000:.0f} ms")
+
+    os.remove(store)
+    subprocess.run([PROGRAM, "init", store], check=True)
+    lines = [f"register {i + 1} {text}" for i, text in enumerate(texts(40000, 3))]
+    one, _, _ = serve(folder, [lines])
+    os.remove(store)
+    subprocess.run([PROGRAM, "init", store], check=True)
+    four, _, used = serve(folder, [lines[part::4] for part in range(4)])
+    print(f"40,000 registrations: {40000 / one:,.0f} a second by one end, {40000 / four:,.0f} by four; "
+          f"these used {used / four:.1f} processors")
+PY

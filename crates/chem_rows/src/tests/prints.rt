@@ -1,0 +1,54 @@
+//! Fingerprints of structures and needs of patterns, with bonds, worked out by a program in another language.
+use chem_core::Print;
+use mol_finish::{Format, structure};
+use path_print::{need, print};
+use smarts_parse::parse;
+use std::alloc::Global;
+use std::process::Abort;
+use std::test::Fail;
+
+fn print_of(alloc: Global, smiles: &str) -> Result<Print, Fail> {
+    Ok(print(&structure(alloc, Format::Smiles, smiles.as_bytes())?))
+}
+
+fn need_of(alloc: Global, smarts: &str) -> Result<Print, Fail> {
+    Ok(need(&parse(alloc, smarts.as_bytes())?))
+}
+
+// The print has these bits and no others.
+fn assert_bits(rt: &impl Abort, text: &str, print: &Print, bits: &[u16]) {
+    assert_eq!(rt; print.count() as usize, bits.len(), "{text}");
+    for bit in bits {
+        assert!(rt; print.has(*bit), "{text}, bit {bit}");
+    }
+}
+
+#[test]
+fn bits_of_structures(rt: HostRuntime) -> Result<(), Fail> {
+    let rows: [(&str, &[u16]); 4] = [
+        ("CO", &[96, 98, 282, 358, 360, 486]),
+        ("CC", &[20, 96, 98, 224]),
+        ("CCO", &[20, 96, 98, 110, 224, 282, 358, 360, 486, 939]),
+        ("c1ccccc1", &[20, 82, 97, 98, 122, 251, 727, 782, 872, 965]),
+    ];
+    for (smiles, bits) in rows {
+        assert_bits(&rt, smiles, &print_of(rt.alloc(), smiles)?, bits);
+    }
+    Ok(())
+}
+
+#[test]
+fn bits_that_patterns_need(rt: HostRuntime) -> Result<(), Fail> {
+    let rows: [(&str, &[u16]); 6] = [
+        ("C=O", &[50, 96, 98, 239, 358, 360]),
+        ("[#6]~O", &[98, 358, 360]),
+        ("[#1]", &[467]),
+        ("[C,N]=O", &[358, 360]),
+        ("[$(C=O)]", &[]),
+        ("[!C]O", &[358, 360]),
+    ];
+    for (smarts, bits) in rows {
+        assert_bits(&rt, smarts, &need_of(rt.alloc(), smarts)?, bits);
+    }
+    Ok(())
+}

@@ -1,0 +1,305 @@
+-- What many ends at desks of one hall leave, in the words of the top call.
+use Rattle.std.proofs.Common.{◌≡◌, ◌≢◌, ◌⊎◌, ◌∙◌, ◌<◌, ◌≤◌, ◌^◌, ◌+◌, ◌++◌, ◌==◌, if◌then◌else◌, true, false, zero, suc, Bool, ℕ, List, [], ◌∷◌, Option, None, Some, IfSome, option_map, length, map, refl, sym, ap, subst, inl, inr, append-nil, arith}
+use Rattle.std.proofs.lemmas.Bool.{cases_lt}
+use Rattle.std.proofs.lemmas.List.Elements.{All-nil, All-cons}
+use Rattle.std.specs.Prelude.{All, Contains, slice_index_or}
+use Rattle.std.specs.List.{AllZip}
+use Rattle.disk_edge.specs.Disk.{DiskModel, IfTold}
+use Rattle.io_edge.specs.declared.sinks.Sink as put
+use Rattle.io_edge.specs.declared.sources.Source as taken
+use Rattle.session_run.specs.Cursors.{Calls}
+use Rattle.session_run.specs.Truths.{IsInRun, ServicesAreTrue}
+use Rattle.session_run.specs.declared.settings.EndStatus.{EndStatus}
+use Rattle.session_run.specs.declared.settings.EndStatus.TheVariants.{Done, SourceFault, SinkFault, NoMemory, InputTooLong, Worn}
+use Rattle.journal_core.specs.Looks.{Narrows}
+use Rattle.journal_core.specs.Standing.{Standing}
+use Rattle.store_disk.specs.Loads.{OpensAfter, OpensTo}
+use Rattle.store_disk.specs.OnDisk.{Has, StandsFor, StoreTerm}
+use Rattle.store_disk.specs.Payloads.{payload, payloads}
+use Rattle.store_disk.specs.Stored.{Stretches}
+use Rattle.store_machine.specs.Laws.{IsSound, KeptIsRead}
+use Rattle.store_machine.specs.Openings.{IsOpened}
+use Rattle.store_machine.specs.Told.{RunsAdd}
+use Rattle.store_machine.specs.Runs.{IsCalm, IsRun, calls_of}
+use Rattle.store_machine.specs.declared.machine.Change.{Change}
+use Rattle.store_machine.specs.declared.machine.State.{State}
+use Rattle.store_machine.specs.declared.machine.Step.{Step}
+use Rattle.turn_gate.proofs.Lists.{of_self}
+use Rattle.turn_gate.specs.Numbers.{has, own}
+use Rattle.hall.specs.Histories.{after}
+use Rattle.hall.specs.Passes.{Begins, Ends, by, known}
+use Rattle.hall.specs.declared.hall.HallPass.{HallPass}
+use Rattle.hall.specs.declared.kept.Origin.{Origin}
+use Rattle.serve_ends.specs.Serving.{Serving}
+use Rattle.serve_ends.specs.Ends.{EndServed}
+use Rattle.serve_ends.specs.Status.{IsStatusOf}
+use Rattle.serve_ends.specs.declared.end.End.{End}
+use Rattle.serve_ends.specs.declared.status.TheConstants.{SOURCE_FAULT, SINK_FAULT, INPUT_TOO_LONG, WORN}
+use Rattle.chem_shell.specs.Loading.{HasEndCauses}
+use Rattle.chem_shell.specs.Serving.{IsScriptServed}
+use Rattle.chem_shell.specs.OnDisk.{AreAtDesks, AreOnDisk, ServesAtDesk, ServesOn}
+use Rattle.chem_shell.specs.Words.{settings_of}
+use Rattle.chem_shell.specs.declared.request.Plan.{Plan}
+use Rattle.chem_shell.specs.Status.{IsEndStatus}
+use Rattle.chem_shell.proofs.Ends.{IsOfEnd}
+use Rattle.chem_shell.proofs.Loaded.{on_this_disk}
+use Rattle.chem_shell.proofs.Opened.{no_doubt, one_opened}
+use Rattle.chem_shell.proofs.Transcripts.{end_of, script_of, served_true}
+
+-- a store whose disk leaves what a read gives opens to the history of each state for which it stands
+pub opens_at : {D : Type 0} (model : DiskModel D) (store : StoreTerm D) (s t : State) → StandsFor model store s
+    → s.doubt ≡ None → StandsFor model store t
+    → IfTold (model.content store.journal.disk) (model.images store.journal.disk)
+    → IfTold (model.content store.journal.disk) (OpensTo t.history)
+opens_at model store s t stands doubt other image l told =
+    let has = subst (λ (d : Option Change). Has model store.journal (payloads t.history) (option_map payload d))
+    (no_doubt model store s t stands doubt other) other.journal in
+    record {
+      history = other.memory.sound.history;
+      few = omega (arith, other.memory.stands.version, other.memory.stands.within);
+      opens = (has.1 l told).each l (image l told);
+    }
+
+-- how a session ended, by the status of its end
+ended_worn : (ended : EndStatus) (status : ℕ) → IsStatusOf ended status → status ≡ WORN → ended ≡ Worn
+ended_worn Done status is e = absurd (omega (arith, is, e))
+ended_worn SourceFault status is e = absurd (omega (arith, is, e))
+ended_worn SinkFault status is e = absurd (omega (arith, is, e))
+ended_worn NoMemory status is e = absurd (omega (arith, is, e))
+ended_worn InputTooLong status is e = absurd (omega (arith, is, e))
+ended_worn Worn status is e = refl
+
+not_worn : (ended : EndStatus) (status : ℕ) → IsStatusOf ended status → status ≢ WORN → ended ≢ Worn
+not_worn ended status is fit e = fit (subst (λ (x : EndStatus). IsStatusOf x status) e is)
+
+ended_source : (ended : EndStatus) (status : ℕ) → IsStatusOf ended status → status ≡ SOURCE_FAULT
+    → ended ≡ SourceFault
+ended_source Done status is e = absurd (omega (arith, is, e))
+ended_source SourceFault status is e = refl
+ended_source SinkFault status is e = absurd (omega (arith, is, e))
+ended_source NoMemory status is e = absurd (omega (arith, is, e))
+ended_source InputTooLong status is e = absurd (omega (arith, is, e))
+ended_source Worn status is e = absurd (omega (arith, is, e))
+
+ended_sink : (ended : EndStatus) (status : ℕ) → IsStatusOf ended status → status ≡ SINK_FAULT → ended ≡ SinkFault
+ended_sink Done status is e = absurd (omega (arith, is, e))
+ended_sink SourceFault status is e = absurd (omega (arith, is, e))
+ended_sink SinkFault status is e = refl
+ended_sink NoMemory status is e = absurd (omega (arith, is, e))
+ended_sink InputTooLong status is e = absurd (omega (arith, is, e))
+ended_sink Worn status is e = absurd (omega (arith, is, e))
+
+ended_long : (ended : EndStatus) (status : ℕ) → IsStatusOf ended status → status ≡ INPUT_TOO_LONG
+    → ended ≡ InputTooLong
+ended_long Done status is e = absurd (omega (arith, is, e))
+ended_long SourceFault status is e = absurd (omega (arith, is, e))
+ended_long SinkFault status is e = absurd (omega (arith, is, e))
+ended_long NoMemory status is e = absurd (omega (arith, is, e))
+ended_long InputTooLong status is e = refl
+ended_long Worn status is e = absurd (omega (arith, is, e))
+
+status_of_end : (ended : EndStatus) (status : ℕ) → IsStatusOf ended status → IsOfEnd status
+status_of_end Worn status is = inr is
+status_of_end Done status is = inl (end_of Done status (λ e. cc e) is)
+status_of_end SourceFault status is = inl (end_of SourceFault status (λ e. cc e) is)
+status_of_end SinkFault status is = inl (end_of SinkFault status (λ e. cc e) is)
+status_of_end NoMemory status is = inl (end_of NoMemory status (λ e. cc e) is)
+status_of_end InputTooLong status is = inl (end_of InputTooLong status (λ e. cc e) is)
+
+-- every step of a part has a number that is an end's
+named : (x : Step) (xs : List Step) → own by (x.owner ∷ []) (x ∷ xs) ≡ [] → ⊥
+named x xs e =
+    let ys = own by (x.owner ∷ []) xs in
+    let some = ap length (subst (λ b. (if b then x ∷ ys else ys) ≡ []) (of_self x.owner) e) in
+    omega arith
+
+none_behind : (b : Bool) (x : Step) (ys : List Step) → (if b then x ∷ ys else ys) ≡ [] → ys ≡ []
+none_behind false x ys e = e
+none_behind true x ys e = let some = ap length e in absurd (omega arith)
+
+pub numbered : (n : ℕ) (steps : List Step)
+    → ((m : ℕ) → (m < 1) ⊎ (1 + n ≤ m) → own by (m ∷ []) steps ≡ [])
+    → All (λ (x : Step). (1 ≤ x.owner) × (x.owner ≤ n)) steps
+numbered n [] none = All-nil (λ (x : Step). (1 ≤ x.owner) × (x.owner ≤ n))
+numbered n (x ∷ xs) none = All-cons (λ (x : Step). (1 ≤ x.owner) × (x.owner ≤ n)) x xs
+    (elim (cases_lt x.owner 1) [
+      | inl low ↦ absurd (named x xs (none x.owner (inl low)))
+      | inr some ↦ elim (cases_lt n x.owner) [
+        | inl high ↦ absurd (named x xs (none x.owner (inr (let h = high in omega (arith, h)))))
+        | inr few ↦ (some, few)
+      ]
+    ])
+    (numbered n xs (λ m out. none_behind (has (m ∷ []) x.owner) x (own by (m ∷ []) xs) (none m out)))
+
+-- the causes of the ends' statuses
+pub end_causes : {S K : Type 0} (source : taken.Ghosts S) (sink : put.Ghosts K) (plan : Plan) (olds news : List (End S K)) → length news ≡ length olds
+    → ((i : ℕ) (d : End S K) → i < length olds
+    → (calls : Calls) × EndServed source sink (settings_of plan) (slice_index_or olds i d) (slice_index_or news i d) calls)
+    → AllZip (HasEndCauses source.left source.faults sink.faults) olds news
+    × All IsOfEnd (map (λ (end : End S K). end.status) news)
+end_causes source sink plan [] [] count each = (tt, All-nil IsOfEnd)
+end_causes source sink plan [] (new ∷ news) count each = absurd (omega (arith, count))
+end_causes source sink plan (old ∷ olds) [] count each = absurd (omega (arith, count))
+end_causes source sink plan (old ∷ olds) (new ∷ news) count each =
+    let end = (each 0 old (omega arith)).1 in
+    let rest = end_causes source sink plan olds news (omega (arith, count)) (λ i d less. each (suc i) d (omega (arith, less))) in (
+      (
+        record {
+          source_fault = λ e. end.source_fault (ended_source end.ended new.status end.status e);
+          sink_fault = λ e. end.sink_fault (ended_sink end.ended new.status end.status e);
+          input_too_long = λ e. end.too_long (ended_long end.ended new.status end.status e);
+        },
+        rest.0,
+      ),
+      All-cons IsOfEnd new.status (map (λ end. end.status) news)
+          (status_of_end end.ended new.status end.status) rest.1,
+    )
+
+module _ {S K : Type 0} (source : taken.Ghosts S) (sink : put.Ghosts K) (law : ServicesAreTrue) (plan : Plan)
+    (from to : State) (steps : List Step) (sound : IsSound from) (run : IsRun from steps to) (calm : IsCalm steps) where
+  -- the calls of one owner are in the run
+  calls_in_run : (owner : ℕ) → IsInRun (calls_of (has (owner ∷ [])) steps) to.history
+  calls_in_run owner = record {
+    before = from;
+    after = to;
+    steps = steps;
+    own = has (owner ∷ []);
+    more = [];
+    sound = sound;
+    run = run;
+    calm = calm;
+    made = sym (append-nil (calls_of (has (owner ∷ [])) steps));
+    is = refl;
+  }
+
+  at_desk : (owner : ℕ) (old new : End S K)
+      → EndServed source sink (settings_of plan) old new (calls_of (has (owner ∷ [])) steps)
+      → ServesAtDesk source.left sink.written plan.page (calls_of (has (owner ∷ [])) steps) to.history old new
+  at_desk owner old new end =
+      let calls = calls_of (has (owner ∷ [])) steps in
+      let served = served_true law end.ended plan.page (source.left old.source) (source.left new.source)
+      (sink.written old.sink) (sink.written new.sink) calls to.history (calls_in_run owner) end.served in
+      record {
+        served = λ fit. script_of source.left sink.written end.ended plan.page calls to.history old new
+            (not_worn end.ended new.status end.status fit) end.status served end.done end.within;
+        worn = λ e. (subst (λ (x : EndStatus). IsScriptServed x plan.page (source.left old.source)
+            (source.left new.source) (sink.written old.sink) (sink.written new.sink) calls to.history)
+            (ended_worn end.ended new.status end.status e) served).script;
+        within = end.within;
+      }
+
+  -- each end, from the first owner on
+  at_desks : (owner : ℕ) (olds news : List (End S K)) → length news ≡ length olds
+      → ((i : ℕ) (d : End S K) → i < length olds → EndServed source sink (settings_of plan) (slice_index_or olds i d)
+      (slice_index_or news i d) (calls_of (has ((owner + i) ∷ [])) steps))
+      → AreAtDesks source.left sink.written plan.page steps to.history owner olds news
+  at_desks owner [] [] count each = refl
+  at_desks owner [] (new ∷ news) count each = absurd (omega (arith, count))
+  at_desks owner (old ∷ olds) [] count each = absurd (omega (arith, count))
+  at_desks owner (old ∷ olds) (new ∷ news) count each = (
+    at_desk owner old new (subst (λ (k : ℕ). EndServed source sink (settings_of plan) old new
+        (calls_of (has (k ∷ [])) steps)) (omega arith) (each 0 old (omega arith))),
+    at_desks (suc owner) olds news (omega (arith, count)) (λ i d less.
+        subst (λ (k : ℕ). EndServed source sink (settings_of plan) (slice_index_or olds i d) (slice_index_or news i d)
+        (calls_of (has (k ∷ [])) steps)) (omega arith) (each (suc i) d (omega (arith, less)))),
+  )
+
+-- a fact of the ends by their places is one of each
+pub each_end : {S K : Type 0} (P : End S K → Type 0) (ends : List (End S K))
+    → ((i : ℕ) (d : End S K) → i < length ends → P (slice_index_or ends i d)) → All P ends
+each_end P [] each = All-nil P
+each_end P (end ∷ ends) each = All-cons P end ends (each 0 end (omega arith))
+    (each_end P ends (λ i d less. each (suc i) d (omega (arith, less))))
+
+one_origin : {O : Type 0} (x y : O) → x ∷ [] ≡ y ∷ [] → x ≡ y
+one_origin x y e = cc e
+
+module _ {D S K : Type 0} (model : DiskModel D) (source : taken.Ghosts S) (sink : put.Ghosts K)
+    (adds : RunsAdd) (kept_law : KeptIsRead) (true_of : ServicesAreTrue)
+    (standing : (store : StoreTerm D) (s : State) → StandsFor model store s
+    → IfTold (model.content store.journal.disk) (λ _. (image : List ℕ)
+    → model.images store.journal.disk image → OpensAfter s image))
+    (plan : Plan) (a : D) (store : StoreTerm D) (s : State) (stands : StandsFor model store s)
+    (opened : IsOpened plan.commits s)
+    (synced : IfTold (model.content store.journal.disk) (model.images store.journal.disk))
+    (read : Narrows model a store.journal.disk) (old : HallPass D) (begins : Begins model store old) where
+  -- what the run of a hall leaves of the disk, for all of its steps
+  hall_on_disk : (left : StoreTerm D) (new : HallPass D) (disk : D) (steps : List Step) → Ends model new left
+      → (known new).origin ≡ (known old).origin → (known new).seen ≡ (known old).seen ++ steps
+      → disk ≡ left.journal.disk
+      → (on : AreOnDisk model plan.commits a disk store.b (calls_of (λ _. true) steps))
+      × (on.steps ≡ steps) × (on.last ≡ after begins.origin.state steps)
+      × IsRun begins.origin.state steps (after begins.origin.state steps) × IsCalm steps
+  hall_on_disk left new disk steps ends origin seen is =
+      let same : ends.origin ≡ begins.origin =
+      one_origin ends.origin begins.origin (sym ends.of ∙ (origin ∙ begins.of)) in
+      let is_seen : (known new).seen ≡ steps = seen ∙ ap (λ (l : List Step). l ++ steps) begins.seen in
+      let from_origin : Stretches model begins.origin.store left begins.origin.state (known new).seen
+      (after begins.origin.state (known new).seen) =
+      subst (λ (o : Origin D). Stretches model o.store left o.state (known new).seen (after o.state (known new).seen))
+      same ends.stretch in
+      let from_store : Stretches model store left begins.origin.state (known new).seen
+      (after begins.origin.state (known new).seen) =
+      subst (λ (x : StoreTerm D). Stretches model x left begins.origin.state (known new).seen
+      (after begins.origin.state (known new).seen)) begins.store_is from_origin in
+      let stretch : Stretches model store left begins.origin.state steps (after begins.origin.state steps) =
+      subst (λ (xs : List Step). Stretches model store left begins.origin.state xs
+      (after begins.origin.state xs)) is_seen from_store in
+      let on = on_this_disk adds model standing plan.commits a begins.origin.state store left begins.stands
+      (one_opened kept_law model plan.commits store s begins.origin.state opened stands begins.stands begins.unpinned)
+      (λ l told. opens_at model store s begins.origin.state stands opened.doubt begins.stands synced l
+      (read.same ∙ told)) read (calls_of (λ _. true) steps) disk is
+      (record { steps = steps; after = after begins.origin.state steps; stands = stretch; own = refl }) in
+      (on.0, on.2, on.1, stretch.run, stretch.calm)
+
+  -- the ends in it
+  pub serves_on : (left : StoreTerm D) (new : HallPass D) (disk : D) (before ends : List (End S K))
+      → Ends model new left → (serving : Serving source sink (settings_of plan) old new before ends)
+      → disk ≡ left.journal.disk → ServesOn model source.left sink.written plan a disk store.b before ends
+  serves_on left new disk before ends closed serving is =
+      let first : (known old).given ≡ 1 = begins.given in
+      let on = hall_on_disk left new disk serving.steps closed serving.origin serving.seen is in
+      record {
+        calls = calls_of (λ _. true) serving.steps;
+        on = on.0;
+        each = subst (λ (x : State). AreAtDesks source.left sink.written plan.page on.0.steps x.history 1 before ends)
+            (sym on.2) (subst (λ (xs : List Step). AreAtDesks source.left sink.written plan.page xs
+            (after begins.origin.state serving.steps).history 1 before ends) (sym on.1)
+            (at_desks source sink true_of plan begins.origin.state (after begins.origin.state serving.steps)
+            serving.steps begins.stands.memory.sound on.3 on.4 1 before ends serving.count
+            (λ i d less. subst (λ (k : ℕ). EndServed source sink (settings_of plan) (slice_index_or before i d)
+            (slice_index_or ends i d) (calls_of (has ((k + i) ∷ [])) serving.steps)) first (serving.each i d less))));
+        owners = subst (All (λ (x : Step). (1 ≤ x.owner) × (x.owner ≤ length before))) (sym on.1)
+            (numbered (length before) serving.steps (λ m out. serving.others m
+            (subst (λ (k : ℕ). (m < k) ⊎ (k + length before ≤ m)) (sym first) out)));
+        worn = each_end (λ (end : End S K). end.status ≡ WORN → length on.0.steps ≡ 2 ^ 63) ends
+            (λ i d less e.
+            let full = serving.worn i d (omega (arith, less, serving.count)) e in
+            ap length on.1 ∙ (sym (ap length (serving.seen ∙ ap (λ (l : List Step). l ++ serving.steps) begins.seen))
+            ∙ (full ∙ (serving.turns ∙ begins.turns))));
+      }
+
+  -- where no end was served, the disk is as it was
+  pub unserved_disk : (left : StoreTerm D) (disk : D) → Ends model old left → disk ≡ left.journal.disk
+      → Narrows model a disk
+  unserved_disk left disk ends is =
+      let same : ends.origin ≡ begins.origin =
+      one_origin ends.origin begins.origin (sym ends.of ∙ begins.of) in
+      let from_origin : Stretches model begins.origin.store left begins.origin.state (known old).seen
+      (after begins.origin.state (known old).seen) =
+      subst (λ (o : Origin D). Stretches model o.store left o.state (known old).seen (after o.state (known old).seen))
+      same ends.stretch in
+      let stretch : Stretches model store left begins.origin.state [] begins.origin.state =
+      subst (λ (xs : List Step). Stretches model store left begins.origin.state xs
+      (after begins.origin.state xs)) begins.seen
+      (subst (λ (x : StoreTerm D). Stretches model x left begins.origin.state (known old).seen
+      (after begins.origin.state (known old).seen)) begins.store_is from_origin) in
+      subst (Narrows model a) (sym (is ∙ ap (λ (j : Standing D). j.disk) (stretch.untouched tt))) read
+
+  -- the other disk is as it was
+  pub other_disk : (left : StoreTerm D) (new : HallPass D) → Ends model new left
+      → (known new).origin ≡ (known old).origin → left.b ≡ store.b
+  other_disk left new ends origin =
+      let same : ends.origin ≡ begins.origin =
+      one_origin ends.origin begins.origin (sym ends.of ∙ (origin ∙ begins.of)) in
+      ends.stretch.other ∙ ap (λ (x : StoreTerm D). x.b) (ap (λ (o : Origin D). o.store) same ∙ begins.store_is)

@@ -1,0 +1,94 @@
+//! `serve`: many ends at a time over the store of disk `a`, each at a desk of one hall.
+ghost use Rattle.std.specs.Prelude.{◌≡◌, ◌≤◌, [], length};
+ghost use Rattle.disk_edge.specs.Disk.{IfTold};
+ghost use Rattle.journal_core.specs.Looks.{Narrows};
+ghost use Rattle.serve_ends.specs.declared.serve.TheConstants.{MOST_ENDS};
+ghost use Rattle.store_disk.specs.Loads.{OpensTo};
+ghost use Rattle.store_disk.specs.OnDisk.{StandsFor};
+ghost use Rattle.store_machine.specs.Openings.{IsOpened};
+ghost use Rattle.store_machine.specs.declared.machine.State.{State};
+ghost use Rattle.chem_shell.specs.Done.{IsDone};
+ghost use Rattle.chem_shell.specs.Words.{IsWithinLimits};
+ghost use Rattle.chem_shell.specs.declared.request.Verb.TheVariants as command;
+
+use crate::disk::refusal;
+use crate::outcome::Outcome;
+use crate::request::Plan;
+use crate::settings::settings;
+use crate::status::NO_MEMORY;
+use disk_edge::Disk;
+use hall::Hall;
+use io_edge::{Sink, Source};
+use par_search::NoMeter;
+use serve_ends::{End, serve_ends};
+use session_run::services_are_true;
+use std::alloc::Global;
+use std::sync::Wait;
+use std::thread::Threads;
+use store_disk::{Disks, Store, a_standing_store_opens};
+use store_machine::{kept_is_read, replies_tell};
+
+/// Serves ends at the same time over the store of disk `a`, each in a thread of its own.
+pub fn serve_many<
+    R: Threads + Wait + Sync,
+    D: Disk + Send + Drop,
+    S: Source + Send + Drop,
+    K: Sink + Send + Drop,
+>(rt: &R, alloc: Global, plan: &Plan<'_>, disks: Disks<D>, ends: Vec<End<S, K>>) -> Outcome<D, S, K>
+    requires plan { IsWithinLimits plan.now }
+    requires verb { plan.now.command ≡ command.Serve }
+    requires some { 1 ≤ length ends.items }
+    requires few { length ends.items ≤ MOST_ENDS }
+    ensures { IsDone D.model S.left S.faults K.written K.faults plan.now disks ends.items result }
+{
+    match Store::load(alloc, disks, plan.commits) {
+        Ok(store) => serve_loaded(rt, alloc, plan, store, ends),
+        Err((fault, disks)) => {
+            let (status, place) = refusal(fault);
+            Outcome::unserved(status, place, disks, ends)
+        }
+    }
+}
+
+// Serves them over a store that was loaded.
+fn serve_loaded<
+    R: Threads + Wait + Sync,
+    D: Disk + Send + Drop,
+    S: Source + Send + Drop,
+    K: Sink + Send + Drop,
+>(rt: &R, alloc: Global, plan: &Plan<'_>, store: Store<D>, ends: Vec<End<S, K>>) -> Outcome<D, S, K>
+    requires plan { IsWithinLimits plan.now }
+    requires verb { plan.now.command ≡ command.Serve }
+    requires some { 1 ≤ length ends.items }
+    requires few { length ends.items ≤ MOST_ENDS }
+    requires standing { (s : State) × StandsFor D.model store s × (s.pins ≡ []) }
+    ensures { (a : D) (s : State) → StandsFor D.model store s
+        → IsOpened plan.now.commits s → IfTold (D.model.content a) (OpensTo s.history)
+        → IfTold (D.model.content store.journal.disk) (D.model.images store.journal.disk)
+        → Narrows D.model a store.journal.disk
+        → IsDone D.model S.left S.faults K.written K.faults plan.now (record { a = a; b = store.b }) ends.items result }
+{
+    services_are_true();
+    replies_tell();
+    kept_is_read();
+    a_standing_store_opens::<D>();
+    match Hall::start(alloc, store) {
+        Ok((hall, mut pass)) => {
+            let (ends, served) = serve_ends(
+                rt,
+                alloc,
+                &hall,
+                &mut pass,
+                ends,
+                &settings(plan),
+                &NoMeter,
+            );
+            let disks = hall.close(pass).into_disks();
+            match served {
+                Ok(()) => Outcome::served(0, disks, ends),
+                Err(_) => Outcome::unserved(NO_MEMORY, 0, disks, ends),
+            }
+        }
+        Err((_, store)) => Outcome::unserved(NO_MEMORY, 0, store.into_disks(), ends),
+    }
+}

@@ -1,0 +1,158 @@
+//! The ends of `serve`: scripts in files, and files for their replies.
+ghost use Rattle.std.specs.Prelude.{◌<◌, ◌^◌, IfOk, length, ◌≡◌, None};
+
+use chem_shell::{End, status};
+use io_edge::{PutFault, Sink, Source, StdSink, StdSource, Take};
+use std::alloc::{AllocError, Global};
+use std::fs::{File, Files, OpenOptions};
+
+/// A script's file, under a lock that other readers may share. Each read of one that could not be opened, or that is
+/// written elsewhere, fails.
+#[derive(Drop)]
+pub struct Script {
+    file: Option<StdSource<File>>,
+    faults: u64,
+    ghost held: { faults < 2 ^ 64 },
+}
+
+impl Script {
+    fn open<R: Files<File = File>>(rt: &R, path: &str) -> Script {
+        Script {
+            file: readable(rt, path).map(StdSource::new),
+            faults: 0,
+        }
+    }
+}
+
+impl Source for Script {
+    ghost left = { λ _. None };
+
+    ghost faults = { λ s. s.faults };
+
+    fn take(&mut self, room: &mut [u8]) -> Take {
+        let taken = match &mut self.file {
+            Some(file) => file.take(room),
+            None => Take::Failed,
+        };
+        if taken == Take::Failed {
+            self.faults = self.faults.saturating_add(1);
+        }
+        taken
+    }
+}
+
+/// A file for replies, under an exclusive lock. Each write to one that could not be made, or that is read or written
+/// elsewhere, fails.
+#[derive(Drop)]
+pub struct Replies {
+    file: Option<StdSink<File>>,
+    faults: u64,
+    ghost held: { faults < 2 ^ 64 },
+}
+
+impl Replies {
+    // Nothing is open yet.
+    fn none() -> Replies {
+        Replies {
+            file: None,
+            faults: 0,
+        }
+    }
+
+    // What the file has goes.
+    fn create<R: Files<File = File>>(rt: &R, path: &str) -> Replies {
+        Replies {
+            file: emptied(rt, path).map(StdSink::new),
+            faults: 0,
+        }
+    }
+}
+
+impl Sink for Replies {
+    ghost written = { λ _. None };
+
+    ghost faults = { λ s. s.faults };
+
+    fn put(&mut self, bytes: &[u8]) -> Result<(), PutFault> {
+        let put = match &mut self.file {
+            Some(file) => file.put(bytes),
+            None => Err(PutFault::Failed),
+        };
+        if put == Err(PutFault::Failed) {
+            self.faults = self.faults.saturating_add(1);
+        }
+        put
+    }
+}
+
+/// An end for each script: it reads the file of that name, and its replies go to the file of that name with `.out`
+/// appended, which is made anew. All scripts are opened first, and what is locked is left as it is, so that no replies
+/// take the place of the store, of a script or of another's replies.
+pub fn script_ends<R: Files<File = File>>(
+    rt: &R,
+    alloc: Global,
+    scripts: &[&str],
+) -> Result<Vec<End<Script, Replies>>, AllocError>
+    ensures { IfOk result (λ ends. length ends.items ≡ length scripts.now) }
+{
+    let mut ends = open_scripts(rt, alloc, scripts)?;
+    create_replies(rt, alloc, scripts, &mut ends)?;
+    Ok(ends)
+}
+
+// An end for each script, without replies.
+fn open_scripts<R: Files<File = File>>(
+    rt: &R,
+    alloc: Global,
+    scripts: &[&str],
+) -> Result<Vec<End<Script, Replies>>, AllocError>
+    ensures { IfOk result (λ ends. length ends.items ≡ length scripts.now) }
+{
+    let mut ends = Vec::with_capacity(alloc, scripts.len())?;
+    for script in scripts {
+        ends.push(End {
+            source: Script::open(rt, script),
+            sink: Replies::none(),
+            status: status::DONE,
+        })?;
+    }
+    Ok(ends)
+}
+
+// Makes a file for the replies to each script.
+fn create_replies<R: Files<File = File>>(
+    rt: &R,
+    alloc: Global,
+    scripts: &[&str],
+    ends: &mut [End<Script, Replies>],
+) -> Result<(), AllocError>
+    ensures { length ends.new ≡ length ends.old }
+{
+    for (end, script) in ends.iter_mut().zip(scripts) {
+        let replies = format!(in alloc; "{script}.out")?;
+        end.sink = Replies::create(rt, replies.as_str());
+    }
+    Ok(())
+}
+
+// The file of this path for reading, where nothing else writes it.
+fn readable<R: Files<File = File>>(rt: &R, path: &str) -> Option<File> {
+    let file = File::open(rt, path).ok()?;
+    file.try_lock_shared().ok()?;
+    Some(file)
+}
+
+// The file of this path for writing, made where nothing is there, and emptied where nothing else reads or writes it. A
+// pipe or a terminal stays as it is.
+fn emptied<R: Files<File = File>>(rt: &R, path: &str) -> Option<File> {
+    let file = OpenOptions::new()
+        .write(true)
+        .create(true)
+        .open(rt, path)
+        .ok()?;
+    file.try_lock().ok()?;
+    if file.metadata().ok()?.is_file() {
+        file.set_len(0).ok()?;
+    }
+    Some(file)
+}

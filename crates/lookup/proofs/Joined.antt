@@ -1,0 +1,58 @@
+-- Calls of one caller in stretches that follow each other.
+use Rattle.std.proofs.Common.{◌≡◌, ◌&&◌, ◌++◌, ◌∙◌, ap, ap₂, Bool, false, if◌then◌else◌, List, [], ◌∷◌, refl, sym, true, ℕ}
+use Rattle.store_core.specs.Calls as core
+use Rattle.store_core.specs.declared.service.Service as meaning
+use Rattle.store_machine.specs.Runs.{IsCalm, IsRun, calls_of, is_call, is_own}
+use Rattle.store_machine.specs.declared.machine.Event.{Event}
+use Rattle.store_machine.specs.declared.machine.Reply.{Reply}
+use Rattle.store_machine.specs.declared.machine.State.{State}
+use Rattle.store_machine.specs.declared.machine.Step.{Step}
+use Rattle.lookup.specs.Fetches.{Calls, Makes}
+
+chosen : (b : Bool) (c : Event × Reply) (xs ys zs : Calls) → zs ≡ xs ++ ys
+    → (if b then c ∷ zs else zs) ≡ (if b then c ∷ xs else xs) ++ ys
+chosen true c xs ys zs e = ap (λ l. c ∷ l) e
+chosen false c xs ys zs e = e
+
+calls-append : (own : ℕ → Bool) (xs ys : List Step) → calls_of own (xs ++ ys) ≡ calls_of own xs ++ calls_of own ys
+calls-append own [] ys = refl
+calls-append own (x ∷ xs) ys =
+    chosen (is_own own x) (x.event, x.reply) (calls_of own xs) (calls_of own ys) (calls_of own (xs ++ ys))
+    (calls-append own xs ys)
+
+chosen_alike : (a b : Bool) (c : Event × Reply) (xs ys : Calls) → a ≡ b → xs ≡ ys
+    → (if a then c ∷ xs else xs) ≡ (if b then c ∷ ys else ys)
+chosen_alike a b c xs ys e f = ap₂ (λ (u : Bool) (l : Calls). if u then c ∷ l else l) e f
+
+calls-same : (own own' : ℕ → Bool) → ((n : ℕ) → own' n ≡ own n) → (xs : List Step) → calls_of own' xs ≡ calls_of own xs
+calls-same own own' h [] = refl
+calls-same own own' h (x ∷ xs) =
+    chosen_alike (is_own own' x) (is_own own x) (x.event, x.reply) (calls_of own' xs) (calls_of own xs)
+    (ap (λ b. is_call x.event && b) (h x.owner)) (calls-same own own' h xs)
+
+module _ {S : Type 0} {of : meaning.Ghosts S} where
+  -- no call
+  pub makes-none : ((a : S) (s : State) → of.at a s → of.stretch a a s [] s) → (a : S) → Makes of a a []
+  makes-none stays a = record {
+    made = λ s here. record { steps = []; after = s; stands = stays a s here; own = refl };
+  }
+
+  -- calls that follow calls
+  pub makes-more : ((a b c : S) (s t u : State) (xs ys : List Step) → of.stretch a b s xs t → of.stretch b c t ys u
+      → of.stretch a c s (xs ++ ys) u)
+      → ((a b : S) (s t : State) (xs : List Step) → of.stretch a b s xs t → of.at b t × IsRun s xs t × IsCalm xs)
+      → ((a b : S) (s t : State) (xs : List Step) (n : ℕ) → of.stretch a b s xs t → of.owns b n ≡ of.owns a n)
+      → {a b c : S} {calls more : Calls} → Makes of a b calls → Makes of b c more → Makes of a c (calls ++ more)
+  makes-more joins lands same {a} {b} {c} {calls} {more} first next = record {
+    made = λ s here.
+        let k = first.made s here in
+        let m = next.made k.after (lands a b s k.after k.steps k.stands).0 in
+        record {
+          steps = k.steps ++ m.steps;
+          after = m.after;
+          stands = joins a b c s k.after m.after k.steps m.steps k.stands m.stands;
+          own = calls-append (of.owns a) k.steps m.steps
+              ∙ ap₂ (λ xs ys. xs ++ ys) k.own
+              (calls-same (of.owns b) (of.owns a) (λ n. sym (same a b s k.after k.steps n k.stands)) m.steps ∙ m.own);
+        };
+  }

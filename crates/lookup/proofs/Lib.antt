@@ -1,0 +1,14 @@
+pub mod Held
+pub mod Joined
+pub mod Paged
+pub mod Seen
+pub mod Walking
+pub mod Looked
+pub mod Picked
+pub mod Offered
+pub mod Prints
+pub mod Parting
+pub mod Answers
+pub mod Scored
+pub mod Truth
+pub mod Atoms

@@ -1,0 +1,137 @@
+-- What a lookup did, by its parts: a pin, its pages, and the pin is given back.
+use Rattle.std.proofs.Common.{◌≡◌, ◌⊎◌, ◌↔◌, ◌++◌, append-nil, Bool, Err, length, List, [], ◌∷◌, Ok, Option, refl, Result, Some, subst, sym, ℕ}
+use Rattle.par_search.specs.Faults.{fault_of}
+use Rattle.par_search.specs.declared.fault.SearchFault.{SearchFault}
+use Rattle.par_search.specs.declared.fault.SearchFault.TheVariants as faults
+use Rattle.snap_registry.specs.declared.Pin.{Pin}
+use Rattle.store_core.specs.Calls.{NeedsNone, NotRaised, SameHeld}
+use Rattle.store_core.specs.Records.{RecordTerm}
+use Rattle.store_core.specs.Replies.{pin_calls, unpin_calls}
+use Rattle.store_core.specs.declared.service.Service as meaning
+use Rattle.store_core.specs.declared.words.CallFault.{CallFault}
+use Rattle.store_core.specs.declared.words.CallFault.TheVariants as call
+use Rattle.store_machine.specs.Searches.{End, Place, fetched, records_of}
+use Rattle.store_machine.specs.declared.machine.Found.{Found}
+use Rattle.lookup.specs.Fetches.{Calls, CutShort, Fetches, HeldBesides, Looks, Makes, begun_calls, lookup_calls}
+use Rattle.lookup.specs.Fetches.{CutShort, NoneFree, Unasked, Whole, WornAfter, WornBefore}
+use Rattle.lookup.specs.Walks.{Saw, Walked, Walks}
+use Rattle.lookup.specs.declared.pages.Seen.{Seen}
+use Rattle.lookup.proofs.Held.{held_on, kept_on, none_taken, returned}
+
+abbrev pub result_as : {X Y E : Type 0} → (X → Y) → Result X E → Result Y E
+result_as f (Ok x) = Ok (f x)
+result_as f (Err e) = Err e
+
+abbrev pub pin_of : CallFault → Result (Option Pin) CallFault
+pin_of fault = Err fault
+
+abbrev pub unpin_of : CallFault → Result (Unit {0}) CallFault
+unpin_of fault = Err fault
+
+-- the version, how many records there were, and that all were seen
+abbrev pub SeenAll : {V : Type 0} → (V → RecordTerm → V → List Found → Type 0) → RecordTerm → V → V → ℕ → List Found
+    → Seen → Type 0
+SeenAll has_seen given old new version records seen =
+    (seen.version ≡ version) × (seen.count ≡ length records) × Saw has_seen given old new records
+
+pub same-fault : {S X : Type 0} {of : meaning.Ghosts S} {old new : S} {size : ℕ} {want : List Bool}
+    {Is : ℕ → List Found → X → Type 0} (e e' : SearchFault) → e' ≡ e
+    → Looks of old new size want Is (Err e) → Looks of old new size want Is (Err e')
+same-fault {of = of} {old = old} {new = new} {size = size} {want = want} {Is = Is} e e' same l =
+    subst (λ (f : SearchFault). Looks of old new size want Is (Err f)) (sym same) l
+
+-- the same with another answer
+pub looks-as : {S X Y : Type 0} {of : meaning.Ghosts S} {old new : S} {size : ℕ} {want : List Bool}
+    {Is : ℕ → List Found → X → Type 0} {r : Result X SearchFault} → Looks of old new size want Is r
+    → (Is' : ℕ → List Found → Y → Type 0) (f : X → Y)
+    → ((version : ℕ) (records : List Found) (x : X) → Is version records x → Is' version records (f x))
+    → Looks of old new size want Is' (result_as f r)
+looks-as (Whole x k made held is) Is' f h = Whole (f x) k made held (h _ _ x is)
+looks-as (CutShort place k made held) Is' f h = CutShort place k made held
+looks-as (Unasked made held) Is' f h = Unasked made held
+looks-as (NoneFree made held) Is' f h = NoneFree made held
+looks-as (WornBefore made held worn) Is' f h = WornBefore made held worn
+looks-as (WornAfter place k made held worn) Is' f h = WornAfter place k made held worn
+
+-- where the fetches came to, whatever they gave
+pub any-walked : {S : Type 0} (of : meaning.Ghosts S) (mid then : S) (slot size : ℕ) (want : List Bool)
+    (Gives : List Found → ℕ → Type 0) (r : Result ℕ CallFault)
+    → Walks of mid then slot size want Gives r → (place : Place) × Walked of mid then slot size want place
+any-walked of mid then slot size want Gives (Ok n) w = (End, w.0)
+any-walked of mid then slot size want Gives (Err call.NoMemory) w = (w.0, w.1)
+any-walked of mid then slot size want Gives (Err call.Worn) w = (w.0, w.1)
+
+-- what is wanted, by another name
+pub looks-want : {S X : Type 0} {of : meaning.Ghosts S} {old new : S} {size : ℕ} {Is : ℕ → List Found → X → Type 0}
+    {r : Result X SearchFault} (w w' : List Bool) → w ≡ w' → Looks of old new size w Is r
+    → Looks of old new size w' Is r
+looks-want {of = of} {old = old} {new = new} {size = size} {Is = Is} {r = r} w w' e l =
+    subst (λ (v : List Bool). Looks of old new size v Is r) e l
+
+module _ {S X : Type 0} {of : meaning.Ghosts S} (size : ℕ) (want : List Bool) (Is : ℕ → List Found → X → Type 0) where
+  pub pin_failed : (old new : S) (fault : CallFault) → Makes of old new (pin_calls (Err fault))
+      → ((s v : ℕ) → of.holds new s v ↔ (of.holds old s v ⊎ ⊥)) → NeedsNone (pin_of fault)
+      → (fault ≡ call.Worn → of.worn new) → Looks of old new size want Is (Err (fault_of fault))
+  pin_failed old new call.Worn made held needs worn =
+      WornBefore made (none_taken (of.holds old) (of.holds new) held) (worn refl)
+  pin_failed old new call.NoMemory made held needs worn = absurd needs
+
+  module _ (joins : (a b c : S) (xs ys : Calls) → Makes of a b xs → Makes of b c ys → Makes of a c (xs ++ ys))
+      (old mid then new : S) (p : Pin) (made : Makes of old mid (pin_calls (Ok (Some p))))
+      (held : HeldBesides (of.holds old) p.slot p.version (of.holds mid))
+      (free : (other : ℕ) → of.holds old p.slot other → ⊥) where
+    whole_made : (pages : Calls) → Makes of mid then pages → Makes of then new (unpin_calls p.slot (Ok tt))
+        → Makes of old new (lookup_calls p.slot p.version pages)
+    whole_made pages walk unpin =
+        joins old mid new (pin_calls (Ok (Some p))) (pages ++ unpin_calls p.slot (Ok tt)) made
+        (joins mid then new pages (unpin_calls p.slot (Ok tt)) walk unpin)
+
+    begun_made : (pages : Calls) → Makes of mid then pages → Makes of then new []
+        → Makes of old new (begun_calls p.slot p.version pages)
+    begun_made pages walk none =
+        joins old mid new (pin_calls (Ok (Some p))) pages made
+        (subst (λ (l : Calls). Makes of mid new l) (append-nil pages) (joins mid then new pages [] walk none))
+
+    abbrev fetches_of : (place : Place) → Walked of mid then p.slot size want place
+        → Fetches (of.holds old) size want place
+    fetches_of place w = record { slot = p.slot; version = p.version; pages = w.pages; free = free; are = w.are }
+
+    back_as : (place : Place) → Walked of mid then p.slot size want place
+        → ((s v : ℕ) → of.holds new s v ↔ (of.holds then s v × ¬ (p.slot ≡ s))) → SameHeld (of.holds old) (of.holds new)
+    back_as place w back =
+        returned (of.holds old) (of.holds then) (of.holds new) p.slot p.version free
+        (held_on (of.holds old) (of.holds mid) (of.holds then) p.slot p.version held w.held) back
+
+    -- all pages, and the pin is given back
+    pub looked_all : (n : ℕ) (Gives : List Found → ℕ → Type 0) (x : X) → Walks of mid then p.slot size want Gives (Ok n)
+        → Makes of then new (unpin_calls p.slot (Ok tt))
+        → ((s v : ℕ) → of.holds new s v ↔ (of.holds then s v × ¬ (p.slot ≡ s)))
+        → ((records : List Found) → Gives records n → Is p.version records x)
+        → Looks of old new size want Is (Ok x)
+    looked_all n Gives x w unpin back is =
+        Whole x (fetches_of End w.0) (whole_made w.0.pages w.0.made unpin) (back_as End w.0 back)
+        (is (records_of (fetched p.slot w.0.pages)) w.1)
+
+    -- some pages, and the pin is given back
+    pub looked_short : (Gives : List Found → ℕ → Type 0) (fault : CallFault)
+        → Walks of mid then p.slot size want Gives (Err fault)
+        → Makes of then new (unpin_calls p.slot (Ok tt))
+        → ((s v : ℕ) → of.holds new s v ↔ (of.holds then s v × ¬ (p.slot ≡ s)))
+        → (of.worn then → ⊥) → Looks of old new size want Is (Err (fault_of fault))
+    looked_short Gives call.NoMemory w unpin back not_worn =
+        CutShort w.0 (fetches_of w.0 w.1) (whole_made w.1.pages w.1.made unpin) (back_as w.0 w.1 back)
+    looked_short Gives call.Worn w unpin back not_worn = absurd (not_worn w.2)
+
+    -- the service was worn when the pin was to be given back
+    pub looked_worn : (Gives : List Found → ℕ → Type 0) (r : Result ℕ CallFault)
+        → Walks of mid then p.slot size want Gives r → (fault : CallFault)
+        → Makes of then new (unpin_calls p.slot (Err fault)) → NeedsNone (unpin_of fault)
+        → ((s v : ℕ) → of.holds new s v ↔ (of.holds then s v × ¬ ⊥))
+        → (fault ≡ call.Worn → of.worn new) → Looks of old new size want Is (Err (fault_of fault))
+    looked_worn Gives r w call.NoMemory unpin needs kept worn = absurd needs
+    looked_worn Gives r w call.Worn unpin needs kept worn =
+        let any = any-walked of mid then p.slot size want Gives r w in
+        WornAfter any.0 (fetches_of any.0 any.1) (begun_made any.1.pages any.1.made unpin)
+        (kept_on (of.holds old) (of.holds then) (of.holds new) p.slot p.version
+        (held_on (of.holds old) (of.holds mid) (of.holds then) p.slot p.version held any.1.held) kept)
+        (worn refl)

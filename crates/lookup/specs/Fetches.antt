@@ -1,0 +1,73 @@
+-- For callers: the calls of a lookup, and its answers by them.
+use Rattle.std.specs.Prelude.{◌≡◌, ◌⊎◌, ◌↔◌, ◌++◌, ℕ, Bool, List, [], ◌∷◌, Result, Ok, Err, if◌then◌else◌}
+use Rattle.par_search.specs.declared.fault.SearchFault.{SearchFault}
+use Rattle.par_search.specs.declared.fault.SearchFault.TheVariants as faults
+use Rattle.store_core.specs.Calls as core
+use Rattle.store_core.specs.Calls.{SameHeld}
+use Rattle.store_core.specs.declared.service.Service as meaning
+use Rattle.store_machine.specs.Searches.{Place, At, End, fetched, past, records_of}
+use Rattle.store_machine.specs.declared.machine.Event.{Event}
+use Rattle.store_machine.specs.declared.machine.Event.TheVariants.{Fetch, Pin, Unpin}
+use Rattle.store_machine.specs.declared.machine.Found.{Found}
+use Rattle.store_machine.specs.declared.machine.Reply.{Reply}
+use Rattle.store_machine.specs.declared.machine.Reply.TheVariants.{NoMemory, NoPin, Page, Pinned, Unpinned}
+use Rattle.store_machine.specs.declared.machine.State.{State}
+
+-- calls of a service with their replies, in order
+abbrev pub Calls : Type 0
+Calls = List (Event × Reply)
+
+-- from one value of a service to a later one its caller's own calls are these
+pub record Makes {S : Type 0} (of : meaning.Ghosts S) (old new : S) (calls : Calls) : Type 0 where
+  pub made : (s : State) → of.at old s → core.Calls of.stretch (of.owns old) old new s calls
+
+-- Fetches of one pin by pages of a size, from one place of a search to another: each from where the one before it
+-- ended. One that found no memory is the last, and the search stands where it was
+abbrev pub AreFetches : ℕ → ℕ → List Bool → Place → Calls → Place → Type 0
+AreFetches slot size want place [] place' = place' ≡ place
+AreFetches slot size want place (c ∷ cs) place' = (from : ℕ) × (place ≡ At from) × (c.0 ≡ Fetch slot want from size)
+    × (((c.1 ≡ NoMemory) × (cs ≡ []) × (place' ≡ place))
+    ⊎ ((records : List Found) × (last : Bool) × (c.1 ≡ Page records last)
+    × AreFetches slot size want (if last then End else At (past from records)) cs place'))
+
+-- a pin that was taken in a slot that held none, and fetches of it, from the beginning to a place
+pub record Fetches (held : ℕ → ℕ → Type 0) (size : ℕ) (want : List Bool) (place : Place) : Type 0 where
+  pub slot : ℕ
+  pub version : ℕ
+  pub pages : Calls
+  pub free : (other : ℕ) → held slot other → ⊥
+  pub are : AreFetches slot size want (At 0) pages place
+
+-- the pin and the fetches
+abbrev pub begun_calls : ℕ → ℕ → Calls → Calls
+begun_calls slot version pages = (Pin, Pinned slot version) ∷ pages
+
+-- and the pin is given back
+abbrev pub lookup_calls : ℕ → ℕ → Calls → Calls
+lookup_calls slot version pages = (Pin, Pinned slot version) ∷ (pages ++ (Unpin slot, Unpinned) ∷ [])
+
+-- the same pins are held, and one more
+abbrev pub HeldBesides : (ℕ → ℕ → Type 0) → ℕ → ℕ → (ℕ → ℕ → Type 0) → Type 0
+HeldBesides old slot version new = (s v : ℕ) → new s v ↔ (old s v ⊎ ((s ≡ slot) × (v ≡ version)))
+
+-- A lookup by pages of a size of what is wanted, by its answer. It went to the end, and this is of the records of all
+-- pages; it was cut short by want of memory, or asked nothing; no pin was free; or the service was worn, before the
+-- pin or after it
+pub data Looks {S X : Type 0} (of : meaning.Ghosts S) (old new : S) (size : ℕ) (want : List Bool)
+    (Is : ℕ → List Found → X → Type 0) : Result X SearchFault → Type 0 where
+  Whole : (x : X) (f : Fetches (of.holds old) size want End)
+      (made : Makes of old new (lookup_calls f.slot f.version f.pages)) (held : SameHeld (of.holds old) (of.holds new))
+      (is : Is f.version (records_of (fetched f.slot f.pages)) x) → Looks of old new size want Is (Ok x)
+  CutShort : (place : Place) (f : Fetches (of.holds old) size want place)
+      (made : Makes of old new (lookup_calls f.slot f.version f.pages)) (held : SameHeld (of.holds old) (of.holds new))
+      → Looks of old new size want Is (Err faults.NoMemory)
+  Unasked : (made : Makes of old new []) (held : SameHeld (of.holds old) (of.holds new))
+      → Looks of old new size want Is (Err faults.NoMemory)
+  NoneFree : (made : Makes of old new ((Pin, NoPin) ∷ [])) (held : SameHeld (of.holds old) (of.holds new))
+      → Looks of old new size want Is (Err faults.Pins)
+  WornBefore : (made : Makes of old new []) (held : SameHeld (of.holds old) (of.holds new)) (worn : of.worn new)
+      → Looks of old new size want Is (Err faults.Worn)
+  WornAfter : (place : Place) (f : Fetches (of.holds old) size want place)
+      (made : Makes of old new (begun_calls f.slot f.version f.pages))
+      (held : HeldBesides (of.holds old) f.slot f.version (of.holds new)) (worn : of.worn new)
+      → Looks of old new size want Is (Err faults.Worn)

@@ -1,0 +1,5 @@
+pub mod Asked
+pub mod Fetches
+pub mod Lists
+pub mod Truths
+pub mod Walks

@@ -1,0 +1,27 @@
+-- For callers: the lists that lookups answer, by the records of their pages.
+use Rattle.std.specs.Prelude.{◌≡◌, Bool, List, length, ℕ}
+use Rattle.chem_core.specs.Molecule.{Molecule}
+use Rattle.lookup.specs.Asked.{ArePicked, AreScored, IsSameAs}
+use Rattle.lookup.specs.declared.same.SameList.{SameList}
+use Rattle.lookup.specs.declared.similar.SimilarList.{SimilarList}
+use Rattle.similar_find.specs.Board.{AreOffers, IsBest, Offer}
+use Rattle.store_machine.specs.declared.machine.Found.{Found}
+
+-- the version, how many records there were, and which of them are the same structure
+pub record IsSameList (m : Molecule) (version : ℕ) (records : List Found) (list : SameList) : Type 0 where
+  pub version_is : list.version ≡ version
+  pub tried : list.tried ≡ length records
+  pub hits : ArePicked (IsSameAs m) records list.hits.items
+
+-- The version, how many records there were, and the best of them: at most k that have at least p / q of the bits in
+-- common. Records of one identifier, or without a bit, are no offers, and the store has none
+pub record IsSimilarList (p q k : ℕ) (print : List Bool) (version : ℕ) (records : List Found) (list : SimilarList)
+    : Type 0 where
+  pub version_is : list.version ≡ version
+  pub scored : list.scored ≡ length records
+  pub p_is : list.best.p ≡ p
+  pub q_is : list.best.q ≡ q
+  pub most_is : list.best.most ≡ k
+  pub offers : List Offer
+  pub are : AreScored print records offers
+  pub best : AreOffers offers → IsBest offers list.best

@@ -1,0 +1,131 @@
+//! The pages of one pin, each record of which is shown to a visitor.
+ghost use Rattle.std.specs.Prelude.{◌≡◌, ◌≤◌, ◌∷◌, [], List, OnOk, length};
+ghost use Rattle.store_core.specs.Calls.{NotRaised};
+ghost use Rattle.store_core.specs.Records.{RecordTerm, found_of, founds};
+ghost use Rattle.store_machine.specs.Searches.{past};
+ghost use Rattle.store_machine.specs.declared.machine.Found.{Found};
+ghost use Rattle.lookup.specs.Fetches.{Looks};
+ghost use Rattle.lookup.specs.Walks.{Saw, Walks};
+
+use chem_core::Print;
+use par_search::{SearchFault, fetch};
+use snap_registry::Pin;
+use std::alloc::{AllocError, Global};
+use std::sync::Arc;
+use store_core::{CallFault, MOST_COMMITS, Page, Record, Service};
+
+/// What looks at records, one after another, beside a given one.
+pub trait Visit {
+    /// What it is once it has seen these, where it was the first of the two.
+    ghost has_seen: { Self → RecordTerm → Self → List Found → Type 0 };
+
+    /// Looks at one record more.
+    fn see(&mut self, given: &Record, other: &Record) -> Result<(), AllocError>
+        ensures { OnOk result (Saw has_seen given.now self.old self.new (found_of other.now ∷ [])) };
+}
+
+/// The version that was pinned, and how many records there were.
+#[derive(Clone, Copy, Debug, PartialEq, Eq)]
+pub struct Seen {
+    pub version: u32,
+    pub count: u32,
+}
+
+/// Shows a visitor all records of the head whose print holds what is wanted, ascending, by pages of a size: a pin,
+/// fetches, and the pin is given back. The page's memory is taken first.
+pub fn see_head<S: Service, V: Visit>(
+    alloc: Global,
+    service: &mut S,
+    given: &Record,
+    want: &Print,
+    size: u32,
+    visitor: &mut V,
+) -> Result<Seen, SearchFault>
+    requires some { 1 ≤ size }
+    requires few { size ≤ 256 }
+    ensures looks { Looks S.Service service.old service.new size want.now
+        (λ version records seen. (seen.version ≡ version) × (seen.count ≡ length records)
+        × Saw V.has_seen given.now visitor.old visitor.new records) result }
+    ensures bounds { NotRaised (S.bounds service.old) (S.bounds service.new) }
+{
+    let Ok(mut page) = Page::reserve(alloc, size) else {
+        return Err(SearchFault::NoMemory);
+    };
+    let pin = match service.pin() {
+        Ok(Some(pin)) => pin,
+        Ok(None) => return Err(SearchFault::Pins),
+        Err(fault) => return Err(SearchFault::from(fault)),
+    };
+    let version = pin.version;
+    let seen = see_pages(service, &pin, given, want, size, &mut page, visitor);
+    match service.unpin(pin) {
+        Ok(()) => {}
+        Err(fault) => return Err(SearchFault::from(fault)),
+    }
+    match seen {
+        Ok(count) => Ok(Seen { version, count }),
+        Err(fault) => Err(SearchFault::from(fault)),
+    }
+}
+
+// Shows the records of all pages, and answers how many there were. A store has no more pages than commits.
+fn see_pages<S: Service, V: Visit>(
+    service: &mut S,
+    pin: &Pin,
+    given: &Record,
+    want: &Print,
+    size: u32,
+    page: &mut Page,
+    visitor: &mut V,
+) -> Result<u32, CallFault>
+    requires held { S.holds service.old pin.now.slot pin.now.version }
+    requires some { 1 ≤ size }
+    requires few { size ≤ 256 }
+    requires room { size ≤ page.old.room }
+    ensures { Walks S.Service service.old service.new pin.now.slot size want.now
+        (λ records n. (n ≡ length records) × Saw V.has_seen given.now visitor.old visitor.new records)
+        result }
+{
+    let mut from = 0;
+    let mut count = 0;
+    for _turn in 0..MOST_COMMITS {
+        let last = match fetch(service, pin, want, from, size, page) {
+            Ok(last) => last,
+            Err(fault) => return Err(fault),
+        };
+        let records = page.records();
+        let Ok(()) = see_all(given, records, visitor) else {
+            return Err(CallFault::NoMemory);
+        };
+        count += records.len() as u32;
+        if last {
+            return Ok(count);
+        }
+        from = behind(from, records);
+    }
+    Err(CallFault::NoMemory)
+}
+
+// Shows the records of a page.
+fn see_all<V: Visit>(
+    given: &Record,
+    records: &[Arc<Record>],
+    visitor: &mut V,
+) -> Result<(), AllocError>
+    ensures { OnOk result (Saw V.has_seen given.now visitor.old visitor.new (founds records.now)) }
+{
+    for record in records {
+        visitor.see(given, record)?;
+    }
+    Ok(())
+}
+
+// Where a page that was fetched from an identifier on ends.
+fn behind(from: u32, records: &[Arc<Record>]) -> u32
+    ensures { result ≡ past from (founds records.now) }
+{
+    match records.last() {
+        None => from,
+        Some(record) => record.id() + 1,
+    }
+}

@@ -1,0 +1,119 @@
+//! The identifiers that are the same structure as a given one.
+ghost use Rattle.std.specs.Prelude.{◌≤◌, ◌↔◌, [], IfOk, IsTrue};
+ghost use Rattle.store_core.specs.Calls.{NotRaised};
+ghost use Rattle.lookup.specs.Fetches.{Looks};
+ghost use Rattle.lookup.specs.Lists.{IsSameList};
+ghost use Rattle.lookup.specs.Walks.{IsOneKey};
+
+use crate::pages::{Visit, see_head};
+use exact_find::{Key, SameScratch, key_of, same, same_have_equal_keys};
+use mol_finish::one_structure;
+use par_search::SearchFault;
+use std::alloc::{AllocError, Global};
+use store_core::{Record, Service};
+
+/// The identifiers that are the same structure as a given one, ascending, at a version, and how many had to be looked
+/// at: those whose print holds the given one's.
+#[derive(Debug, Drop)]
+pub struct SameList {
+    pub version: u32,
+    pub tried: u32,
+    pub hits: Vec<u32>,
+}
+
+/// Lists what is the same structure as that of a record, by pages of 1 to 256 records: a pin, fetches of all whose
+/// print holds the record's, and the pin is given back. On want of memory it is given back too.
+pub fn find_same<S: Service>(
+    alloc: Global,
+    service: &mut S,
+    given: &Record,
+    page_size: u32,
+) -> Result<SameList, SearchFault>
+    requires some { 1 ≤ page_size }
+    requires few { page_size ≤ 256 }
+    ensures looks { Looks S.Service service.old service.new page_size given.now.print
+        (IsSameList given.now.mol) result }
+    ensures bounds { NotRaised (S.bounds service.old) (S.bounds service.new) }
+{
+    let Ok(mut sames) = Sames::of(alloc, given) else {
+        return Err(SearchFault::NoMemory);
+    };
+    match see_head(alloc, service, given, given.print(), page_size, &mut sames) {
+        Ok(seen) => Ok(SameList {
+            version: seen.version,
+            tried: seen.count,
+            hits: sames.hits,
+        }),
+        Err(fault) => Err(fault),
+    }
+}
+
+// Those that are the same as a given record, whose key this is.
+#[derive(Drop)]
+struct Sames {
+    key: Key,
+    scratch: SameScratch,
+    hits: Vec<u32>,
+}
+
+impl Sames {
+    ghost use Rattle.std.specs.Prelude.{◌≡◌};
+    ghost use Rattle.chem_core.specs.Molecule.{IsMolecule};
+    ghost use Rattle.exact_find.specs.Key.{IsKey};
+    ghost use Rattle.exact_find.specs.Same.{IsSame};
+    ghost use Rattle.mol_finish.specs.Structure.{HasMolecule};
+    ghost use Rattle.lookup.specs.Walks.{HasPicked};
+
+    // None seen yet.
+    fn of(alloc: Global, given: &Record) -> Result<Sames, AllocError>
+        ensures none { IfOk result (λ sames. HasPicked given.now.mol sames.key [] sames.hits.items) }
+    {
+        Ok(Sames {
+            key: key_of(given.mol()),
+            scratch: SameScratch::reserve(alloc)?,
+            hits: Vec::new(alloc),
+        })
+    }
+
+    // Whether another record is the same as the given one. Keys are compared first.
+    fn is_same(&mut self, given: &Record, other: &Record) -> bool
+        ensures is { IsMolecule given.now.mol → IsKey given.now.mol self.old.key
+            → (IsTrue result ↔ IsSame given.now.mol other.now.mol) }
+        ensures structure { HasMolecule other.now.format other.now.text other.now.mol }
+        ensures key { self.new.key ≡ self.old.key }
+        ensures hits { self.new.hits ≡ self.old.hits }
+    {
+        same_have_equal_keys();
+        let mol = other.mol();
+        let key = key_of(mol);
+        if is_one(&key, &self.key) {
+            same(given.mol(), mol, &mut self.scratch)
+        } else {
+            false
+        }
+    }
+}
+
+impl Visit for Sames {
+    ghost use Rattle.lookup.specs.Walks.{HasPicked};
+
+    ghost has_seen = { λ _ given sames records. HasPicked given.mol sames.key records sames.hits.items };
+
+    fn see(&mut self, given: &Record, other: &Record) -> Result<(), AllocError> {
+        one_structure();
+        if self.is_same(given, other) {
+            self.hits.push(other.id())?;
+        }
+        Ok(())
+    }
+}
+
+// Whether two keys are one.
+fn is_one(left: &Key, right: &Key) -> bool
+    ensures { IsTrue result ↔ IsOneKey left.now right.now }
+{
+    left.atoms == right.atoms
+        && left.bonds == right.bonds
+        && left.sum == right.sum
+        && left.squares == right.squares
+}

@@ -1,0 +1,94 @@
+//! The structures that are most similar to a given one.
+ghost use Rattle.std.specs.Prelude.{◌≤◌, Bool, List};
+ghost use Rattle.similar_find.specs.declared.best.TheConstants.{MOST_HITS};
+ghost use Rattle.store_core.specs.Calls.{NotRaised};
+ghost use Rattle.lookup.specs.Asked.{IsEmptyPrint, IsScored};
+ghost use Rattle.lookup.specs.Fetches.{Looks};
+ghost use Rattle.lookup.specs.Lists.{IsSimilarList};
+
+use crate::pages::{Visit, see_head};
+use chem_core::Print;
+use par_search::SearchFault;
+use similar_find::{Best, score};
+use std::alloc::{AllocError, Global};
+use store_core::{Record, Service};
+
+/// The identifiers that are most similar to a given structure, the best first, at a version, and how many were scored:
+/// all that are live.
+#[derive(Debug, Drop)]
+pub struct SimilarList {
+    pub version: u32,
+    pub scored: u32,
+    pub best: Best,
+}
+
+/// Lists what is most similar to the structure of a record, by pages of 1 to 256 records: at most `k` hits, 1 to 256,
+/// that have at least `p / q` of the bits in common, `q` 1 to 1000 and `p` at most `q`. A pin, fetches of all that is
+/// live, and the pin is given back. On want of memory it is given back too.
+pub fn find_similar<S: Service>(
+    alloc: Global,
+    service: &mut S,
+    p: u32,
+    q: u32,
+    k: u32,
+    given: &Record,
+    page_size: u32,
+) -> Result<SimilarList, SearchFault>
+    requires whole { (1 ≤ q) × (q ≤ 1000) }
+    requires part { p ≤ q }
+    requires hits { (1 ≤ k) × (k ≤ MOST_HITS) }
+    requires some { 1 ≤ page_size }
+    requires few { page_size ≤ 256 }
+    ensures looks { (want : List Bool) × IsEmptyPrint want
+        × Looks S.Service service.old service.new page_size want
+        (IsSimilarList p q k given.now.print) result }
+    ensures bounds { NotRaised (S.bounds service.old) (S.bounds service.new) }
+{
+    let want = Print::empty();
+    let Ok(best) = Best::reserve(alloc, p, q, k) else {
+        return Err(SearchFault::NoMemory);
+    };
+    let mut likes = Likes { best };
+    match see_head(alloc, service, given, &want, page_size, &mut likes) {
+        Ok(seen) => Ok(SimilarList {
+            version: seen.version,
+            scored: seen.count,
+            best: likes.best,
+        }),
+        Err(fault) => Err(fault),
+    }
+}
+
+// The best of the records that were seen.
+#[derive(Drop)]
+struct Likes {
+    best: Best,
+}
+
+impl Visit for Likes {
+    ghost use Rattle.lookup.specs.Walks.{HasOffered};
+
+    ghost has_seen = { λ start given likes records. HasOffered start.best given.print records likes.best };
+
+    fn see(&mut self, given: &Record, other: &Record) -> Result<(), AllocError> {
+        let (c, u) = counts(given.print(), other);
+        // No structure is without bits.
+        if u == 0 {
+            return Ok(());
+        }
+        self.best.offer(other.id(), c, u);
+        Ok(())
+    }
+}
+
+// How many bits a print and that of a record have in common, and how many are in at least one.
+fn counts(given: &Print, other: &Record) -> (u32, u32)
+    ensures scored { IsScored given.now other.now.format other.now.text result.0 result.1 }
+    ensures part { result.0 ≤ result.1 }
+    ensures few { result.1 ≤ 1024 }
+{
+    let _ = other.id();
+    let print = other.print();
+    let _ = print.has(0);
+    score(given, print)
+}

@@ -1,0 +1,17 @@
+//! Several ends, each served by a session in a thread of its own at a desk of one hall.
+//!
+//! What is promised is one run: the part of the hall's history that the root pass gained. Each end has a number of its
+//! own, and what was put to it is a transcript of its source, or a beginning of one, by the calls of that number in the
+//! part, in which no other number has a step.
+#![tactic(auto)]
+
+mod end;
+mod serve;
+mod slot;
+mod status;
+#[cfg(test)]
+mod tests;
+
+pub use end::End;
+pub use serve::{MOST_ENDS, serve_ends};
+pub use status::{DONE, INPUT_TOO_LONG, NO_MEMORY, SINK_FAULT, SOURCE_FAULT, WORN, end_status};
