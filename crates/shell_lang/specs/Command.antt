@@ -3,7 +3,7 @@
 use Rattle.std.specs.Prelude.{◌≡◌, ◌≢◌, ◌⊎◌, ℕ, ◌≤◌, Result, Ok, Err, List, [], ◌∷◌, ◌++◌, length, All, Contains, codes}
 use Rattle.std.specs.Fmt.{decimal}
 use Rattle.store_machine.specs.History.{IsId}
-use Rattle.shell_lang.specs.declared.command.TheConstants.{LONGEST_NAME}
+use Rattle.shell_lang.specs.declared.command.TheConstants.{LARGEST_DENOMINATOR, LONGEST_NAME, MOST_SIMILAR}
 use Rattle.shell_lang.specs.declared.command.LineRefusal.{LineRefusal}
 use Rattle.shell_lang.specs.declared.command.LineRefusal.TheVariants as refusals
 use Rattle.shell_lang.specs.declared.command.MolfileChange.{MolfileChange}
@@ -12,12 +12,15 @@ use Rattle.shell_lang.specs.declared.command.MolfileChange.TheVariants as change
 pub data Command : Type 0 where
   Empty : Command
   Register : (id : ℕ) (text : List ℕ) → Command
+  RegisterNew : (id : ℕ) (text : List ℕ) → Command
   Revise : (id : ℕ) (text : List ℕ) → Command
   RegisterMol : (id : ℕ) → Command
   ReviseMol : (id : ℕ) → Command
   Withdraw : (id : ℕ) → Command
   Show : (id : ℕ) → Command
   Search : (pattern : List ℕ) → Command
+  Same : (text : List ℕ) → Command
+  Similar : (p q k : ℕ) (text : List ℕ) → Command
   Start : (name pattern : List ℕ) → Command
   Next : (name : List ℕ) → Command
   Close : (name : List ℕ) → Command
@@ -37,16 +40,27 @@ pub record IsName (name : List ℕ) : Type 0 where
   pub short : length name ≤ LONGEST_NAME
   pub bytes : All IsNameByte name
 
+-- what `similar` may ask for: a fraction p / q of at most 1, and at most k hits
+pub record IsSimilarity (p q k : ℕ) : Type 0 where
+  pub whole : (1 ≤ q) × (q ≤ LARGEST_DENOMINATOR)
+  pub part : p ≤ q
+  pub few : (1 ≤ k) × (k ≤ MOST_SIMILAR)
+
 -- the line is this command, written out
 abbrev pub Spells : List ℕ → Command → Type 0
 Spells line Empty = line ≡ []
 Spells line (Register id text) = IsId id × (line ≡ codes "register" ++ 32 ∷ (decimal id ++ 32 ∷ text))
+Spells line (RegisterNew id text) = IsId id × (line ≡ codes "register-new" ++ 32 ∷ (decimal id ++ 32 ∷ text))
 Spells line (Revise id text) = IsId id × (line ≡ codes "revise" ++ 32 ∷ (decimal id ++ 32 ∷ text))
 Spells line (RegisterMol id) = IsId id × (line ≡ codes "register-mol" ++ 32 ∷ decimal id)
 Spells line (ReviseMol id) = IsId id × (line ≡ codes "revise-mol" ++ 32 ∷ decimal id)
 Spells line (Withdraw id) = IsId id × (line ≡ codes "withdraw" ++ 32 ∷ decimal id)
 Spells line (Show id) = IsId id × (line ≡ codes "show" ++ 32 ∷ decimal id)
 Spells line (Search pattern) = line ≡ codes "search" ++ 32 ∷ pattern
+Spells line (Same text) = line ≡ codes "same" ++ 32 ∷ text
+Spells line (Similar p q k text) =
+    IsSimilarity p q k ×
+    (line ≡ codes "similar" ++ 32 ∷ (decimal p ++ 32 ∷ (decimal q ++ 32 ∷ (decimal k ++ 32 ∷ text))))
 Spells line (Start name pattern) = IsName name × (line ≡ codes "open" ++ 32 ∷ (name ++ 32 ∷ pattern))
 Spells line (Next name) = IsName name × (line ≡ codes "next" ++ 32 ∷ name)
 Spells line (Close name) = IsName name × (line ≡ codes "close" ++ 32 ∷ name)
@@ -61,9 +75,10 @@ abbrev pub HasIdentifierPart : List ℕ → List ℕ → Type 0
 HasIdentifierPart line part =
     HasNoSpace part ×
     (((text : List ℕ) × (line ≡ codes "register" ++ 32 ∷ (part ++ 32 ∷ text)))
+    ⊎ (((text : List ℕ) × (line ≡ codes "register-new" ++ 32 ∷ (part ++ 32 ∷ text)))
     ⊎ (((text : List ℕ) × (line ≡ codes "revise" ++ 32 ∷ (part ++ 32 ∷ text)))
     ⊎ ((line ≡ codes "register-mol" ++ 32 ∷ part) ⊎ ((line ≡ codes "revise-mol" ++ 32 ∷ part)
-    ⊎ ((line ≡ codes "withdraw" ++ 32 ∷ part) ⊎ (line ≡ codes "show" ++ 32 ∷ part))))))
+    ⊎ ((line ≡ codes "withdraw" ++ 32 ∷ part) ⊎ (line ≡ codes "show" ++ 32 ∷ part)))))))
 
 -- What a line is: a command; or `Id`, where the part for an identifier is none; or `Syntax`, where it is neither a
 -- command nor has such a part.

@@ -3,17 +3,20 @@ use Rattle.std.specs.Prelude.{Result, Ok, Err}
 use Rattle.shell_lang.specs.declared.command.LineRefusal.{LineRefusal}
 use Rattle.shell_lang.specs.declared.command.Command as read
 use Rattle.shell_lang.specs.declared.command.Command.TheVariants as variants
-use Rattle.shell_lang.specs.Command.{Command, Empty, Register, Revise, RegisterMol, ReviseMol, Withdraw, Show, Search, Start, Next, Close, Prune, Stats}
+use Rattle.shell_lang.specs.Command.{Command, Empty, Register, RegisterNew, Revise, RegisterMol, ReviseMol, Withdraw, Show, Search, Same, Similar, Start, Next, Close, Prune, Stats}
 
 abbrev pub command_of : read.Command → Command
 command_of variants.Empty = Empty
 command_of (variants.Register id text) = Register id text.now
+command_of (variants.RegisterNew id text) = RegisterNew id text.now
 command_of (variants.Revise id text) = Revise id text.now
 command_of (variants.RegisterMol id) = RegisterMol id
 command_of (variants.ReviseMol id) = ReviseMol id
 command_of (variants.Withdraw id) = Withdraw id
 command_of (variants.Show id) = Show id
 command_of (variants.Search pattern) = Search pattern.now
+command_of (variants.Same text) = Same text.now
+command_of (variants.Similar p q k text) = Similar p q k text.now
 command_of (variants.Start name pattern) = Start name.now pattern.now
 command_of (variants.Next name) = Next name.now
 command_of (variants.Close name) = Close name.now

@@ -6,17 +6,21 @@ use Rattle.shell_lang.specs.declared.word.Word.TheVariants as words
 use Rattle.shell_lang.specs.declared.command.LineRefusal.{LineRefusal}
 use Rattle.shell_lang.specs.declared.command.LineRefusal.TheVariants as refusals
 use Rattle.store_machine.specs.History.{IsId}
-use Rattle.shell_lang.specs.Command.{Command, Register, Revise, RegisterMol, ReviseMol, Withdraw, Show, Search, Start, Next, Close, IsNoIdentifier, IsName, HasNoSpace}
+use Rattle.shell_lang.specs.Command.{Command, Register, RegisterNew, Revise, RegisterMol, ReviseMol, Withdraw, Show, Search, Same, Similar, Start, Next, Close, IsNoIdentifier, IsName, IsSimilarity, HasNoSpace}
 
 -- a line with this first word and this rest is the command
 abbrev pub Follows : Word → List ℕ → Command → Type 0
 Follows words.Register rest (Register id text) = IsId id × (rest ≡ decimal id ++ 32 ∷ text)
+Follows words.RegisterNew rest (RegisterNew id text) = IsId id × (rest ≡ decimal id ++ 32 ∷ text)
 Follows words.Revise rest (Revise id text) = IsId id × (rest ≡ decimal id ++ 32 ∷ text)
 Follows words.RegisterMol rest (RegisterMol id) = IsId id × (rest ≡ decimal id)
 Follows words.ReviseMol rest (ReviseMol id) = IsId id × (rest ≡ decimal id)
 Follows words.Withdraw rest (Withdraw id) = IsId id × (rest ≡ decimal id)
 Follows words.Show rest (Show id) = IsId id × (rest ≡ decimal id)
 Follows words.Search rest (Search pattern) = rest ≡ pattern
+Follows words.Same rest (Same text) = rest ≡ text
+Follows words.Similar rest (Similar p q k text) =
+    IsSimilarity p q k × (rest ≡ decimal p ++ 32 ∷ (decimal q ++ 32 ∷ (decimal k ++ 32 ∷ text)))
 Follows words.Open rest (Start name pattern) = IsName name × (rest ≡ name ++ 32 ∷ pattern)
 Follows words.Next rest (Next name) = IsName name × (rest ≡ name)
 Follows words.Close rest (Close name) = IsName name × (rest ≡ name)
@@ -25,6 +29,7 @@ Follows word rest command = ⊥
 -- the rest is a part for an identifier, and a text behind it where the word has one
 abbrev pub IdentifierPart : Word → List ℕ → List ℕ → Type 0
 IdentifierPart words.Register rest part = HasNoSpace part × (text : List ℕ) × (rest ≡ part ++ 32 ∷ text)
+IdentifierPart words.RegisterNew rest part = HasNoSpace part × (text : List ℕ) × (rest ≡ part ++ 32 ∷ text)
 IdentifierPart words.Revise rest part = HasNoSpace part × (text : List ℕ) × (rest ≡ part ++ 32 ∷ text)
 IdentifierPart words.RegisterMol rest part = HasNoSpace part × (rest ≡ part)
 IdentifierPart words.ReviseMol rest part = HasNoSpace part × (rest ≡ part)

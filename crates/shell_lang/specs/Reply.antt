@@ -27,6 +27,8 @@ pub data Reply : Type 0 where
   Gone : (id version : ℕ) → Reply
   Hit : (id : ℕ) → Reply
   End : (version tried hits : ℕ) → Reply
+  Like : (id c u : ℕ) → Reply
+  Scored : (version scored hits : ℕ) → Reply
   Opened : (version : ℕ) → Reply
   More : Reply
   Closed : Reply
@@ -77,6 +79,7 @@ refusal_words (refusals.Line refusal) = line_words refusal
 refusal_words (refusals.Text fault) = text_words fault
 refusal_words (refusals.Pattern fault) = pattern_words fault
 refusal_words refusals.Cursor = codes "refused cursor"
+refusal_words (refusals.Same id) = codes "refused same " ++ decimal id
 refusal_words refusals.Known = codes "refused known"
 refusal_words refusals.Absent = codes "refused absent"
 refusal_words refusals.Withdrawn = codes "refused withdrawn"
@@ -110,6 +113,13 @@ abbrev pub record_words : ℕ → ℕ → Format → List ℕ → List ℕ
 record_words id version format text =
     codes "record " ++ (decimal id ++ (codes " version " ++ (decimal version ++ text_part format text)))
 
+abbrev pub like_words : ℕ → ℕ → ℕ → List ℕ
+like_words id c u = codes "like " ++ (decimal id ++ (codes " " ++ (decimal c ++ (codes " " ++ decimal u))))
+
+abbrev pub scored_words : ℕ → ℕ → ℕ → List ℕ
+scored_words version scored hits =
+    codes "end at " ++ (decimal version ++ (codes " scored " ++ (decimal scored ++ (codes " hits " ++ decimal hits))))
+
 abbrev pub live_words : ℕ → ℕ → List ℕ
 live_words version live = codes "stats version " ++ (decimal version ++ (codes " live " ++ decimal live))
 
@@ -131,6 +141,8 @@ reply_words (Gone id version) = codes "withdrawn " ++ (decimal id ++ (codes " ve
 reply_words (Hit id) = codes "hit " ++ decimal id
 reply_words (End version tried hits) =
     codes "end at " ++ (decimal version ++ (codes " tried " ++ (decimal tried ++ (codes " hits " ++ decimal hits))))
+reply_words (Like id c u) = like_words id c u
+reply_words (Scored version scored hits) = scored_words version scored hits
 reply_words (Opened version) = codes "opened " ++ decimal version
 reply_words More = codes "more"
 reply_words Closed = codes "closed"
@@ -155,6 +167,8 @@ reply_of (replies.Shown version entry) =
 reply_of (replies.Gone id version) = Gone id version
 reply_of (replies.Hit id) = Hit id
 reply_of (replies.End version tried hits) = End version tried hits
+reply_of (replies.Like id c u) = Like id c u
+reply_of (replies.Scored version scored hits) = Scored version scored hits
 reply_of (replies.Opened version) = Opened version
 reply_of replies.More = More
 reply_of replies.Closed = Closed

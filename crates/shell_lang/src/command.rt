@@ -1,11 +1,11 @@
 //! Reading a line of a script: which command it spells, or why it spells none.
-ghost use Rattle.std.specs.Prelude.{◌≡◌, ◌≢◌, ◌∷◌, ◌++◌, ℕ, List, All, Contains, codes, decimal, IfSome, IfNone, IfOk, IfErr, IsErrOf, IsTrue, Result, ◌↔◌};
+ghost use Rattle.std.specs.Prelude.{◌≡◌, ◌≢◌, ◌≤◌, ◌∷◌, ◌++◌, ℕ, List, All, Contains, codes, decimal, IfSome, IfNone, IfOk, IfErr, IsErrOf, IsTrue, Result, ◌↔◌};
 ghost use Rattle.store_machine.specs.History.{IsId};
 ghost use Rattle.shell_lang.specs.Command as spec;
 ghost use Rattle.shell_lang.specs.Command.{IsNoIdentifier, IsNameByte, IsName, Spells, HasNoSpace, HasIdentifierPart, IsLine, StartsMolfile, EndsMolfile, molfile_command};
-ghost use Rattle.shell_lang.specs.CommandView.{reading_of};
+ghost use Rattle.shell_lang.specs.CommandView.{command_of, reading_of};
 ghost use Rattle.shell_lang.specs.Word.{word_text};
-ghost use Rattle.shell_lang.specs.Cut.{IsRest};
+ghost use Rattle.shell_lang.specs.Cut.{Follows, IsRest};
 ghost use Rattle.shell_lang.specs.declared.word.Word.TheVariants as words;
 ghost use Rattle.shell_lang.specs.declared.command.LineRefusal.{LineRefusal};
 ghost use Rattle.shell_lang.specs.declared.command.LineRefusal.TheVariants.{Syntax};
@@ -17,6 +17,12 @@ use store_machine::LAST_IDENTIFIER;
 /// The most bytes of a cursor's name.
 pub const LONGEST_NAME: usize = 32;
 
+/// The greatest Q of `similar`.
+pub const LARGEST_DENOMINATOR: u32 = 1000;
+
+/// The greatest K of `similar`: the most structures that it lists.
+pub const MOST_SIMILAR: u32 = 256;
+
 /// A line of a script. An identifier is 1 to 999,999,999; a name has 1 to 32 letters of ASCII, digits or `_`.
 #[derive(Clone, Copy, Debug)]
 pub enum Command<'a> {
@@ -24,6 +30,8 @@ pub enum Command<'a> {
     Empty,
     /// `register ID SMILES`
     Register { id: u32, text: &'a [u8] },
+    /// `register-new ID SMILES`: where no live record has the same structure.
+    RegisterNew { id: u32, text: &'a [u8] },
     /// `revise ID SMILES`
     Revise { id: u32, text: &'a [u8] },
     /// `register-mol ID`; the lines of a molfile follow.
@@ -36,6 +44,16 @@ pub enum Command<'a> {
     Show { id: u32 },
     /// `search SMARTS`
     Search { pattern: &'a [u8] },
+    /// `same SMILES`
+    Same { text: &'a [u8] },
+    /// `similar P Q K SMILES`: the at most `k` structures that are most alike, those alike by `p / q` at least. `q` is 1
+    /// to 1000, `p` 0 to `q`, and `k` 1 to 256.
+    Similar {
+        p: u32,
+        q: u32,
+        k: u32,
+        text: &'a [u8],
+    },
     /// `open NAME SMARTS`
     Start { name: &'a [u8], pattern: &'a [u8] },
     /// `next NAME`
@@ -58,7 +76,8 @@ pub enum MolfileChange {
 /// Why a line spells no command.
 #[derive(Clone, Copy, Debug, PartialEq, Eq)]
 pub enum LineRefusal {
-    /// It is no line of the language: an unknown word, another number of parts, or a name that is none.
+    /// It is no line of the language: an unknown word, another number of parts, a name that is none, or a number of
+    /// `similar` that is none or out of range.
     Syntax,
     /// The part where an identifier stands is none.
     Id,
@@ -136,6 +155,10 @@ fn with_rest(word: Word, rest: &[u8]) -> Result<Command<'_>, LineRefusal>
             let (id, text) = identifier_and_text(rest)?;
             Ok(Command::Register { id, text })
         }
+        Word::RegisterNew => {
+            let (id, text) = identifier_and_text(rest)?;
+            Ok(Command::RegisterNew { id, text })
+        }
         Word::Revise => {
             let (id, text) = identifier_and_text(rest)?;
             Ok(Command::Revise { id, text })
@@ -153,6 +176,8 @@ fn with_rest(word: Word, rest: &[u8]) -> Result<Command<'_>, LineRefusal>
             id: identifier_alone(rest)?,
         }),
         Word::Search => Ok(Command::Search { pattern: rest }),
+        Word::Same => Ok(Command::Same { text: rest }),
+        Word::Similar => similar(rest).ok_or(LineRefusal::Syntax),
         Word::Open => {
             let (name, pattern) = name_and_text(rest)?;
             Ok(Command::Start { name, pattern })
@@ -188,6 +213,32 @@ fn identifier_alone(rest: &[u8]) -> Result<u32, LineRefusal>
         return Err(LineRefusal::Syntax);
     }
     identifier(rest).ok_or(LineRefusal::Id)
+}
+
+// What follows `similar`.
+fn similar(rest: &[u8]) -> Option<Command<'_>>
+    ensures some { IfSome result (λ command. Follows words.Similar rest.now (command_of command)) }
+    ensures none { IfNone result ((command : spec.Command) → ¬ Follows words.Similar rest.now command) }
+{
+    let (p, rest) = number_and_rest(rest, LARGEST_DENOMINATOR)?;
+    let (q, rest) = number_and_rest(rest, LARGEST_DENOMINATOR)?;
+    let (k, text) = number_and_rest(rest, MOST_SIMILAR)?;
+    if q >= 1 && p <= q && k >= 1 {
+        Some(Command::Similar { p, q, k, text })
+    } else {
+        None
+    }
+}
+
+// A number of at most `most`, a space, and what follows.
+fn number_and_rest(bytes: &[u8], most: u32) -> Option<(u32, &[u8])>
+    ensures some { IfSome result (λ r. (r.0 ≤ most) × (bytes.now ≡ decimal r.0 ++ 32 ∷ r.1.now)) }
+    ensures none { IfNone result ((n : ℕ) (rest : List ℕ)
+        → n ≤ most → bytes.now ≢ decimal n ++ 32 ∷ rest) }
+{
+    let (digits, rest) = split_at_space(bytes)?;
+    let number = decimal(digits, u64::from(most))?;
+    Some((number as u32, rest))
 }
 
 // A line without a space. Where it is the word of a molfile's line, the identifier is missing.

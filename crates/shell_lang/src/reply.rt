@@ -1,7 +1,7 @@
 //! Reply lines.
 ghost use Rattle.std.specs.Prelude.{◌≡◌, ◌==◌, ◌≤◌, ◌∷◌, [], ◌++◌, OnOk, OnErr, length, count_by, if◌then◌else◌};
 ghost use Rattle.std.specs.Fmt.{decimal};
-ghost use Rattle.shell_lang.specs.Reply.{ended, line_count, text_part, molfile_lines, record_words, live_words, kept_words, count_words, reply_of, reply_line, text_words, smiles_words, molfile_words, pattern_words};
+ghost use Rattle.shell_lang.specs.Reply.{ended, line_count, text_part, molfile_lines, record_words, like_words, scored_words, live_words, kept_words, count_words, reply_of, reply_line, text_words, smiles_words, molfile_words, pattern_words};
 ghost use Rattle.shell_lang.specs.Written.{Extends};
 
 use crate::command::LineRefusal;
@@ -28,6 +28,16 @@ pub enum Reply {
     /// The end of a search: the version that it saw, how many identifiers its prints let through, and how many it
     /// listed.
     End { version: u32, tried: u32, hits: u32 },
+    /// An identifier that a search for similar structures lists, and how many bits are set in both prints, and how many
+    /// in at least one.
+    Like { id: u32, c: u32, u: u32 },
+    /// The end of a search for similar structures: the version that it saw, how many identifiers are live there, and how
+    /// many it listed.
+    Scored {
+        version: u32,
+        scored: u32,
+        hits: u32,
+    },
     /// A cursor, and the version that it sees.
     Opened { version: u32 },
     /// The end of a page that others follow.
@@ -46,7 +56,8 @@ pub enum Reply {
     MemoryFault,
 }
 
-/// Why a command is refused, in the order of the checks. A `NoMemory` inside is written as `fault memory`.
+/// Why a command is refused, in the order of the checks; but a `register-new` takes its pin before it looks for the same
+/// structure, so that `Pins` may come before `Same` too. A `NoMemory` inside is written as `fault memory`.
 #[derive(Clone, Copy, Debug, PartialEq, Eq)]
 pub enum Refusal {
     /// The line, or a line of its molfile, exceeds 65,536 bytes.
@@ -59,6 +70,8 @@ pub enum Refusal {
     Pattern(SmartsFault),
     /// No cursor has the name, or one has it already.
     Cursor,
+    /// A live record has the structure already, and `id` is the least of them.
+    Same { id: u32 },
     /// The identifier was registered before.
     Known,
     /// The identifier was never registered.
@@ -122,6 +135,12 @@ impl Reply {
                 push_number(out, " tried ", *tried)?;
                 push_number(out, " hits ", *hits)
             }
+            Reply::Like { id, c, u } => push_like(*id, *c, *u, out),
+            Reply::Scored {
+                version,
+                scored,
+                hits,
+            } => push_scored(*version, *scored, *hits, out),
             Reply::Opened { version } => push_number(out, "opened ", *version),
             Reply::More => push(out, "more"),
             Reply::Closed => push(out, "closed"),
@@ -149,6 +168,7 @@ impl Refusal {
             Refusal::Text(fault) => push_text_fault(fault, out),
             Refusal::Pattern(fault) => push(out, pattern_fault(fault)),
             Refusal::Cursor => push(out, "refused cursor"),
+            Refusal::Same { id } => push_number(out, "refused same ", id),
             Refusal::Known => push(out, "refused known"),
             Refusal::Absent => push(out, "refused absent"),
             Refusal::Withdrawn => push(out, "refused withdrawn"),
@@ -156,6 +176,32 @@ impl Refusal {
             Refusal::Pins => push(out, "refused pins"),
         }
     }
+}
+
+// Appends a hit of a search for similar structures.
+fn push_like(id: u32, c: u32, u: u32, out: &mut Vec<u8>) -> Result<(), AllocError>
+    ensures ok { OnOk result (out.new.items ≡ out.old.items ++ like_words id c u) }
+    ensures err { OnErr result (Extends out.old.items out.new.items) }
+{
+    push_number(out, "like ", id)?;
+    push_number(out, " ", c)?;
+    push_number(out, " ", u)
+}
+
+// Appends the end of a search for similar structures.
+fn push_scored(
+    version: u32,
+    scored: u32,
+    hits: u32,
+    out: &mut Vec<u8>,
+) -> Result<(), AllocError>
+    ensures ok { OnOk result (out.new.items
+        ≡ out.old.items ++ scored_words version scored hits) }
+    ensures err { OnErr result (Extends out.old.items out.new.items) }
+{
+    push_number(out, "end at ", version)?;
+    push_number(out, " scored ", scored)?;
+    push_number(out, " hits ", hits)
 }
 
 // Appends the words of a live record, without the lines of a molfile.

@@ -8,25 +8,31 @@ ghost use Rattle.shell_lang.specs.Word.{word_text};
 #[derive(Clone, Copy, Debug, PartialEq, Eq)]
 pub(crate) enum Word {
     Register,
+    RegisterNew,
     Revise,
     RegisterMol,
     ReviseMol,
     Withdraw,
     Show,
     Search,
+    Same,
+    Similar,
     Open,
     Next,
     Close,
 }
 
-const WORDS: [Word; 10] = [
+const WORDS: [Word; 13] = [
     Word::Register,
+    Word::RegisterNew,
     Word::Revise,
     Word::RegisterMol,
     Word::ReviseMol,
     Word::Withdraw,
     Word::Show,
     Word::Search,
+    Word::Same,
+    Word::Similar,
     Word::Open,
     Word::Next,
     Word::Close,
@@ -59,12 +65,15 @@ impl Word {
     {
         match self {
             Word::Register => "register",
+            Word::RegisterNew => "register-new",
             Word::Revise => "revise",
             Word::RegisterMol => "register-mol",
             Word::ReviseMol => "revise-mol",
             Word::Withdraw => "withdraw",
             Word::Show => "show",
             Word::Search => "search",
+            Word::Same => "same",
+            Word::Similar => "similar",
             Word::Open => "open",
             Word::Next => "next",
             Word::Close => "close",

@@ -20,6 +20,13 @@ fn lines_are_read_by_their_parts(rt: HostRuntime) {
         ("register +1 C", Some(Id)),
         ("register 1000000000 C", Some(Id)),
         ("register 999999999 C", None),
+        ("register-new 1 C", None),
+        ("register-new 1 ", None),
+        ("register-new 1", Some(Syntax)),
+        ("register-new", Some(Syntax)),
+        ("register-new 0 C", Some(Id)),
+        ("register-new  1 C", Some(Id)),
+        ("register-news 1 C", Some(Syntax)),
         ("revise x C", Some(Id)),
         ("register-mol 1", None),
         ("register-mol", Some(Syntax)),
@@ -33,6 +40,37 @@ fn lines_are_read_by_their_parts(rt: HostRuntime) {
         ("show 1 ", Some(Syntax)),
         ("search ", None),
         ("search", Some(Syntax)),
+        ("same CCO", None),
+        ("same  C C", None),
+        ("same ", None),
+        ("same", Some(Syntax)),
+        ("same\tC", Some(Syntax)),
+        ("similar 1 2 10 CO", None),
+        ("similar 0 1 1 ", None),
+        ("similar 1000 1000 256 C", None),
+        ("similar 1 2 10", Some(Syntax)),
+        ("similar 1 2 CO", Some(Syntax)),
+        ("similar ", Some(Syntax)),
+        ("similar", Some(Syntax)),
+        ("similar  1 2 10 CO", Some(Syntax)),
+        ("similar 1  2 10 CO", Some(Syntax)),
+        ("similar 1 2  10 CO", Some(Syntax)),
+        ("similar 3 2 10 CO", Some(Syntax)),
+        ("similar 0 0 10 CO", Some(Syntax)),
+        ("similar 1 1001 10 CO", Some(Syntax)),
+        ("similar 1001 1001 10 CO", Some(Syntax)),
+        ("similar 1 2 0 CO", Some(Syntax)),
+        ("similar 1 2 257 CO", Some(Syntax)),
+        ("similar 01 2 10 CO", Some(Syntax)),
+        ("similar 1 02 10 CO", Some(Syntax)),
+        ("similar 1 2 010 CO", Some(Syntax)),
+        ("similar 00 2 10 CO", Some(Syntax)),
+        ("similar +1 2 10 CO", Some(Syntax)),
+        ("similar -1 2 10 CO", Some(Syntax)),
+        ("similar 0.5 1 10 CO", Some(Syntax)),
+        ("similar 4294967297 2 10 CO", Some(Syntax)),
+        ("similar 1 18446744073709551618 10 CO", Some(Syntax)),
+        ("similar 1 2 18446744073709551626 CO", Some(Syntax)),
         ("open s ", None),
         ("open  C", Some(Syntax)),
         ("open a-b C(", Some(Syntax)),
@@ -65,6 +103,27 @@ fn parts_are_given(rt: HostRuntime) {
             Ok(Command::Start {
                 name: b"s",
                 pattern: b"C C"
+            })
+        )
+    );
+    assert!(rt;
+        matches!(
+            read_command(b"register-new 7  C "),
+            Ok(Command::RegisterNew {
+                id: 7,
+                text: b" C "
+            })
+        )
+    );
+    assert!(rt; matches!(read_command(b"same  C C"), Ok(Command::Same { text: b" C C" })));
+    assert!(rt;
+        matches!(
+            read_command(b"similar 3 4 256  C "),
+            Ok(Command::Similar {
+                p: 3,
+                q: 4,
+                k: 256,
+                text: b" C "
             })
         )
     );

@@ -50,6 +50,15 @@ fn replies_are_written(rt: HostRuntime) -> Result<(), Fail> {
             },
             "end at 5 tried 3 hits 2\n",
         ),
+        (Reply::Like { id: 1, c: 6, u: 10 }, "like 1 6 10\n"),
+        (
+            Reply::Scored {
+                version: 4,
+                scored: 3,
+                hits: 2,
+            },
+            "end at 4 scored 3 hits 2\n",
+        ),
         (Reply::Opened { version: 5 }, "opened 5\n"),
         (Reply::More, "more\n"),
         (Reply::Closed, "closed\n"),
@@ -59,6 +68,7 @@ fn replies_are_written(rt: HostRuntime) -> Result<(), Fail> {
             "stats version 5 live 2 withdrawn 1 kept 4 pins 0\n",
         ),
         (Reply::Refused(Refusal::Cursor), "refused cursor\n"),
+        (Reply::Refused(Refusal::Same { id: 1 }), "refused same 1\n"),
         (Reply::Refused(Refusal::Absent), "refused absent\n"),
         (Reply::Refused(Refusal::Withdrawn), "refused withdrawn\n"),
         (Reply::Refused(Refusal::Pins), "refused pins\n"),
