@@ -19,6 +19,7 @@ mod bulk;
 mod cursors;
 mod disk;
 mod failing;
+mod lookups;
 mod patterns;
 mod prints;
 mod refused;

@@ -3,9 +3,16 @@
 -- Want of memory may take the place of a reply; the request has then done nothing, but a search may have listed some of
 -- its hits.
 use Rattle.std.specs.Prelude.{◌≡◌, ◌⊎◌, ℕ, ◌+◌, Bool, true, false, if◌then◌else◌, List, [], ◌∷◌, ◌++◌, length, map, Option, None, Some, Result, Ok, Err}
+use Rattle.chem_core.specs.Molecule.{Molecule}
 use Rattle.io_edge.specs.Lines.{Whole}
+use Rattle.lookup.specs.Asked.{IsEmptyPrint}
+use Rattle.lookup.specs.declared.same.SameList.{SameList}
+use Rattle.lookup.specs.declared.similar.SimilarList.{SimilarList}
+use Rattle.mol_finish.specs.Structure.{IsStructureOf}
 use Rattle.mol_finish.specs.declared.fault.Format.{Format}
 use Rattle.mol_finish.specs.declared.fault.Format.TheVariants.{Smiles, Molfile}
+use Rattle.path_print.specs.Prints.{IsPrint}
+use Rattle.similar_find.specs.Board.{Offer}
 use Rattle.smarts_parse.specs.Pattern.{PatternTerm}
 use Rattle.shell_lang.specs.declared.command.LineRefusal.{LineRefusal}
 use Rattle.shell_lang.specs.declared.reply.Refusal.{Refusal}
@@ -26,6 +33,7 @@ use Rattle.store_machine.specs.declared.machine.Reply.TheVariants as replies
 use Rattle.store_machine.specs.declared.machine.Status.{Status}
 use Rattle.store_machine.specs.declared.machine.Status.TheVariants as status
 use Rattle.session_run.specs.Cursors.{Calls, Cursor, IsNoName, IsSearched}
+use Rattle.session_run.specs.Lookups.{FindsSame, FindsSimilar, LooksUp}
 use Rattle.session_run.specs.Requests.{Request, IsLong, molfile_text}
 use Rattle.session_run.specs.Texts.{IsTextFault, IsPatternOf, IsPatternFault}
 
@@ -45,7 +53,7 @@ note_lines (Refused refusal) = line.Refused refusal ∷ []
 note_lines Fault = line.MemoryFault ∷ []
 
 -- the acts: a note alone; one call, of a change too; a search; a cursor that is opened, that turns a page, that is
--- closed
+-- closed; a lookup of the same structure, a registration behind one, and a lookup of similar prints
 pub data Act : Type 0 where
   Say : (note : Note) → Act
   Ask : (event : Event) → Act
@@ -53,6 +61,9 @@ pub data Act : Type 0 where
   Open : (name : List ℕ) (pattern : PatternTerm) → Act
   Turn : (name : List ℕ) → Act
   Close : (name : List ℕ) → Act
+  Same : (m : Molecule) (print : List Bool) → Act
+  RegisterNew : (change : Change) (m : Molecule) (print : List Bool) → Act
+  Similar : (p q k : ℕ) (print : List Bool) → Act
 
 -- what an identifier is, as `show` says it
 abbrev pub shown : ℕ → Option Status → line.Reply
@@ -136,6 +147,43 @@ pub data Advances (size : ℕ) (c : Cursor) : Calls → Lines → Cursor → Typ
   Lost : (from : ℕ) (at : c.place ≡ At from)
       → Advances size c ((events.Fetch c.slot c.want from size, replies.NoMemory) ∷ []) (line.MemoryFault ∷ []) c
 
+-- the lines of what is the same, and of what is similar
+abbrev pub same_lines : SameList → Lines
+same_lines list = map line.Hit list.hits.items ++ line.End list.version list.tried (length list.hits.items) ∷ []
+
+abbrev pub like_line : Offer → line.Reply
+like_line x = line.Like x.0 x.1 x.2
+
+abbrev pub similar_lines : SimilarList → Lines
+similar_lines list = map like_line list.best.hits ++ line.Scored list.version list.scored (length list.best.hits) ∷ []
+
+-- How `same` is answered: what was found is listed; or memory ran out, in a lookup that came so far, or for the lines
+pub data ListsSame (size : ℕ) (m : Molecule) (print : List Bool) : Calls → Lines → Type 0 where
+  AllSame : (calls : Calls) (list : SameList) (found : FindsSame size m print calls list)
+      → ListsSame size m print calls (same_lines list)
+  SameLost : (calls : Calls) (place : Place) (lookup : LooksUp size print place calls)
+      → ListsSame size m print calls (line.MemoryFault ∷ [])
+
+-- How `register-new` is answered: some structure is the same, the first of which is told, and nothing is committed; or
+-- none is, and the change is committed, as that of `register`; or memory ran out, and nothing is committed
+pub data RegistersNew (size : ℕ) (change : Change) (m : Molecule) (print : List Bool) : Calls → Lines → Type 0 where
+  NotNew : (calls : Calls) (list : SameList) (id : ℕ) (more : List ℕ) (found : FindsSame size m print calls list)
+      (first : list.hits.items ≡ id ∷ more)
+      → RegistersNew size change m print calls (line.Refused (refusals.Same id) ∷ [])
+  IsNew : (calls : Calls) (list : SameList) (reply : Reply) (said : line.Reply)
+      (found : FindsSame size m print calls list) (none : list.hits.items ≡ [])
+      (is : IsLineOf (events.Commit change) reply said)
+      → RegistersNew size change m print (calls ++ (events.Commit change, reply) ∷ []) (said ∷ [])
+  NewLost : (calls : Calls) (place : Place) (lookup : LooksUp size print place calls)
+      → RegistersNew size change m print calls (line.MemoryFault ∷ [])
+
+-- how `similar` is answered, as `same` is
+pub data ListsSimilar (size p q k : ℕ) (print : List Bool) : Calls → Lines → Type 0 where
+  AllSimilar : (calls : Calls) (list : SimilarList) (found : FindsSimilar size p q k print calls list)
+      → ListsSimilar size p q k print calls (similar_lines list)
+  SimilarLost : (calls : Calls) (want : List Bool) (place : Place) (none : IsEmptyPrint want)
+      (lookup : LooksUp size want place calls) → ListsSimilar size p q k print calls (line.MemoryFault ∷ [])
+
 -- the cursor of a name is in its place among the others
 pub record IsNamed (name : List ℕ) (cursors before : List Cursor) (c : Cursor) (after : List Cursor) : Type 0 where
   pub place : cursors ≡ before ++ c ∷ after
@@ -159,6 +207,14 @@ pub data Does (size : ℕ) (cursors : List Cursor) : Act → Calls → Lines →
   Closed : (name : List ℕ) (before after : List Cursor) (c : Cursor) (named : IsNamed name cursors before c after)
       → Does size cursors (Close name) ((events.Unpin c.slot, replies.Unpinned) ∷ []) (line.Closed ∷ [])
       (before ++ after)
+  ListedSame : (m : Molecule) (print : List Bool) (calls : Calls) (lines : Lines)
+      (lists : ListsSame size m print calls lines) → Does size cursors (Same m print) calls lines cursors
+  RegisteredNew : (change : Change) (m : Molecule) (print : List Bool) (calls : Calls) (lines : Lines)
+      (registers : RegistersNew size change m print calls lines)
+      → Does size cursors (RegisterNew change m print) calls lines cursors
+  ListedSimilar : (p q k : ℕ) (print : List Bool) (calls : Calls) (lines : Lines)
+      (lists : ListsSimilar size p q k print calls lines)
+      → Does size cursors (Similar p q k print) calls lines cursors
 
 -- The acts that a command allows. A call with no text to look at
 abbrev pub MayAsk : Event → Act → Type 0
@@ -204,6 +260,32 @@ MayClose cursors name (Say (Refused refusals.Cursor)) = IsNoName cursors name
 MayClose cursors name (Close own) = own ≡ name
 MayClose cursors name _ = ⊥
 
+-- what is the same as the structure of a text, where a pin is free
+abbrev pub MaySame : List ℕ → Act → Type 0
+MaySame text (Say Fault) = Unit {0}
+MaySame text (Say (Refused (refusals.Text fault))) = IsTextFault Smiles text fault
+MaySame text (Ask event) = (event ≡ events.Pin) × IsText Smiles text
+MaySame text (Same m print) = IsStructureOf text m × IsPrint m print
+MaySame text _ = ⊥
+
+-- a registration where nothing is
+abbrev pub MayRegisterNew : ℕ → List ℕ → Act → Type 0
+MayRegisterNew id text (Say Fault) = Unit {0}
+MayRegisterNew id text (Say (Refused (refusals.Text fault))) = IsTextFault Smiles text fault
+MayRegisterNew id text (Ask event) = (event ≡ events.Pin) × IsText Smiles text
+MayRegisterNew id text (RegisterNew change m print) =
+    (change ≡ changes.Register id Smiles text) × IsStructureOf text m × IsPrint m print
+MayRegisterNew id text _ = ⊥
+
+-- what is similar to the print of the structure of a text
+abbrev pub MaySimilar : ℕ → ℕ → ℕ → List ℕ → Act → Type 0
+MaySimilar p q k text (Say Fault) = Unit {0}
+MaySimilar p q k text (Say (Refused (refusals.Text fault))) = IsTextFault Smiles text fault
+MaySimilar p q k text (Ask event) = (event ≡ events.Pin) × IsText Smiles text
+MaySimilar p q k text (Similar own_p own_q own_k print) =
+    (own_p ≡ p) × (own_q ≡ q) × (own_k ≡ k) × (m : Molecule) × IsStructureOf text m × IsPrint m print
+MaySimilar p q k text _ = ⊥
+
 -- by what the line is read as, with the text of the molfile that it may take
 abbrev pub Allows : List Cursor → List ℕ → Result Command LineRefusal → Act → Type 0
 Allows cursors molfile (Err refusal) act = act ≡ Say (Refused (refusals.Line refusal))
@@ -217,7 +299,10 @@ Allows cursors molfile (Ok (command.ReviseMol id)) act =
     MayChange (changes.Revise id Molfile molfile) Molfile molfile act
 Allows cursors molfile (Ok (command.Withdraw id)) act = MayAsk (events.Commit (changes.Withdraw id)) act
 Allows cursors molfile (Ok (command.Show id)) act = MayAsk (events.Look id) act
+Allows cursors molfile (Ok (command.RegisterNew id text)) act = MayRegisterNew id text act
 Allows cursors molfile (Ok (command.Search text)) act = MaySearch text act
+Allows cursors molfile (Ok (command.Same text)) act = MaySame text act
+Allows cursors molfile (Ok (command.Similar p q k text)) act = MaySimilar p q k text act
 Allows cursors molfile (Ok (command.Start name text)) act = MayOpen cursors name text act
 Allows cursors molfile (Ok (command.Next name)) act = MayTurn cursors name act
 Allows cursors molfile (Ok (command.Close name)) act = MayClose cursors name act

@@ -1,15 +1,15 @@
 -- For callers: the calls of a session, and the cursors that are open in it.
-use Rattle.std.specs.Prelude.{◌≡◌, ◌≢◌, ◌⊎◌, ℕ, Bool, if◌then◌else◌, List, [], ◌∷◌, ◌++◌, length, map, All}
+use Rattle.std.specs.Prelude.{◌≡◌, ◌≢◌, ℕ, Bool, List, ◌∷◌, ◌++◌, length, map, All}
+use Rattle.lookup.specs.Fetches.{AreFetches}
 use Rattle.smarts_parse.specs.Pattern.{PatternTerm}
 use Rattle.store_core.specs.Calls as core
 use Rattle.store_machine.specs.Answers.{AreMatched}
-use Rattle.store_machine.specs.Searches.{Place, At, End, fetched, past, records_of}
+use Rattle.store_machine.specs.Searches.{Place, At, fetched, records_of}
 use Rattle.store_machine.specs.Structures.{IsNeedOf}
 use Rattle.store_machine.specs.declared.machine.Event.{Event}
-use Rattle.store_machine.specs.declared.machine.Event.TheVariants.{Fetch, Unpin}
-use Rattle.store_machine.specs.declared.machine.Found.{Found}
+use Rattle.store_machine.specs.declared.machine.Event.TheVariants.{Unpin}
 use Rattle.store_machine.specs.declared.machine.Reply.{Reply}
-use Rattle.store_machine.specs.declared.machine.Reply.TheVariants.{NoMemory, Page, Unpinned}
+use Rattle.store_machine.specs.declared.machine.Reply.TheVariants.{Unpinned}
 use Rattle.store_machine.specs.declared.machine.State.{State}
 use Rattle.store_machine.specs.declared.machine.Step.{Step}
 
@@ -41,15 +41,6 @@ IsNoName cursors name = All (λ c. c.name ≢ name) cursors
 -- the cursor stands among these
 abbrev pub IsAmong : List Cursor → List Cursor → Cursor → List Cursor → Type 0
 IsAmong cursors before c after = cursors ≡ before ++ c ∷ after
-
--- Fetches of one pin by pages of a size, from one place of a search to another: each from where the one before it
--- ended. One that found no memory is the last, and the search stands where it was
-abbrev pub AreFetches : ℕ → ℕ → List Bool → Place → Calls → Place → Type 0
-AreFetches slot size want place [] place' = place' ≡ place
-AreFetches slot size want place (c ∷ cs) place' = (from : ℕ) × (place ≡ At from) × (c.0 ≡ Fetch slot want from size)
-    × (((c.1 ≡ NoMemory) × (cs ≡ []) × (place' ≡ place))
-    ⊎ ((records : List Found) × (last : Bool) × (c.1 ≡ Page records last)
-    × AreFetches slot size want (if last then End else At (past from records)) cs place'))
 
 -- These calls are a search for a pattern by pages of a size, from the beginning to a place. So many identifiers were
 -- tried, and these are the hits.

@@ -5,6 +5,7 @@ use Rattle.shell_lang.specs.Command as command
 use Rattle.shell_lang.specs.Command.{Command, IsLine}
 use Rattle.shell_lang.specs.Reply as line
 use Rattle.shell_lang.specs.Reply.{text_of}
+use Rattle.similar_find.specs.Board.{Offer}
 use Rattle.session_run.specs.Acts.{Lines, RequestAnswer}
 use Rattle.session_run.specs.Cursors.{Calls, Cursor}
 use Rattle.session_run.specs.Requests.{Request}
@@ -40,6 +41,12 @@ hits_in [] = []
 hits_in (line.Hit id ∷ lines) = id ∷ hits_in lines
 hits_in (_ ∷ lines) = hits_in lines
 
+-- the identifiers that are listed as similar, with their two counts, in order
+abbrev pub likes_in : Lines → List Offer
+likes_in [] = []
+likes_in (line.Like id c u ∷ lines) = (id, c, u) ∷ likes_in lines
+likes_in (_ ∷ lines) = likes_in lines
+
 -- what a cursor listed: the hits in the replies to `next` with its name, in order. Other requests may stand between
 abbrev pub AreListed : List ℕ → List Exchange → List ℕ → Type 0
 AreListed name [] hits = hits ≡ []
@@ -73,6 +80,7 @@ ShowsVersion (line.Accepted version) v = v ≡ version
 ShowsVersion (line.Shown id version format text) v = v ≡ version
 ShowsVersion (line.Gone id version) v = v ≡ version
 ShowsVersion (line.End version tried hits) v = v ≡ version
+ShowsVersion (line.Scored version scored hits) v = v ≡ version
 ShowsVersion (line.Opened version) v = v ≡ version
 ShowsVersion (line.Counts version live withdrawn kept pins) v = v ≡ version
 ShowsVersion _ v = ⊥

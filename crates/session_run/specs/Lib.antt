@@ -1,6 +1,7 @@
 pub mod Requests
 pub mod Texts
 pub mod Cursors
+pub mod Lookups
 pub mod Acts
 pub mod Pins
 pub mod Transcript

@@ -1,5 +1,5 @@
 -- For private clauses alone: the calls that a part of an answer makes, and what it leaves.
-use Rattle.std.specs.Prelude.{◌≡◌, ℕ, Bool, true, List, [], ◌∷◌, ◌++◌, Result, Ok, Err}
+use Rattle.std.specs.Prelude.{◌≡◌, ◌⊎◌, ℕ, Bool, true, List, [], ◌∷◌, ◌++◌, Result, Ok, Err}
 use Rattle.shell_lang.specs.Reply as line
 use Rattle.shell_lang.specs.Reply.{text_of, reply_of}
 use Rattle.shell_lang.specs.declared.reply.Reply as written
@@ -58,6 +58,11 @@ abbrev pub Tells : line.Reply → List ℕ → List ℕ → Result (Unit {0}) St
 Tells said out out' (Ok _) = out' ≡ out ++ line.reply_line said
 Tells said out out' (Err stops.NoMemory) = Unit {0}
 Tells said out out' (Err stops.Worn) = ⊥
+
+-- all of these lines were written, or instead that memory ran out
+abbrev pub TellsAll : Lines → List ℕ → List ℕ → Result (Unit {0}) Stop → Type 0
+TellsAll lines out out' result =
+    ((result ≡ Ok tt) × (out' ≡ out ++ text_of lines)) ⊎ Tells line.MemoryFault out out' result
 
 -- a line was written, where the service gave one
 abbrev pub Writes : Result written.Reply Stop → List ℕ → List ℕ → Result (Unit {0}) Stop → Type 0

@@ -1,11 +1,18 @@
--- For callers: the laws of what a session lists. Its searches and cursors list the hits that the history has, whatever
--- others did meanwhile.
+-- For callers: the laws of what a session lists. Its searches and cursors list the hits that the history has, and its
+-- lookups the structures that are the same or most similar there, whatever others did meanwhile.
 use Rattle.std.specs.Prelude.{◌≡◌, ◌≤◌, ◌<◌, ◌↔◌, ◌*◌, ℕ, Bool, Contains, List, [], ◌∷◌, ◌++◌, drop, length, take}
+use Rattle.chem_core.specs.Molecule.{Molecule}
 use Rattle.io_edge.specs.Lines.{TextLine}
+use Rattle.lookup.specs.Asked.{IsSameAs}
+use Rattle.lookup.specs.Truths.{AreAllOffered}
+use Rattle.mol_finish.specs.Structure.{IsStructureOf}
+use Rattle.path_print.specs.Prints.{IsPrint}
 use Rattle.shell_lang.specs.Command as command
 use Rattle.shell_lang.specs.Reply as line
+use Rattle.shell_lang.specs.declared.reply.Refusal.TheVariants as refusals
+use Rattle.similar_find.specs.Board.{IsBest, Offer}
 use Rattle.smarts_parse.specs.Pattern.{PatternTerm}
-use Rattle.store_machine.specs.Answers.{AreFound, AreHits, AreMatched, AreTried}
+use Rattle.store_machine.specs.Answers.{AreAnswers, AreFound, AreHits, AreMatched, AreTried}
 use Rattle.store_machine.specs.History.{head, snapshot}
 use Rattle.store_machine.specs.Laws.{IsSound}
 use Rattle.store_machine.specs.Runs.{IsCalm, IsRun, calls_of}
@@ -18,7 +25,7 @@ use Rattle.store_machine.specs.declared.machine.Step.{Step}
 use Rattle.store_machine.specs.Told.{IsTold}
 use Rattle.session_run.specs.Acts.{Lines, Searches}
 use Rattle.session_run.specs.Cursors.{Calls, Cursor}
-use Rattle.session_run.specs.Dialogue.{AreExchanged, AreListed, AreTurned, Exchange, GivePage, IsCommand, IsShown, StaysOpen, hits_in}
+use Rattle.session_run.specs.Dialogue.{AreExchanged, AreListed, AreTurned, Exchange, GivePage, IsCommand, IsShown, StaysOpen, hits_in, likes_in}
 use Rattle.session_run.specs.Served.{IsServed}
 use Rattle.session_run.specs.Texts.{IsPatternOf}
 use Rattle.session_run.specs.Transcript.{IsDialogue, IsPrefixOf}
@@ -102,11 +109,80 @@ PagesAreTrue h size exchanges =
     → IsCommand y.request (command.Next name) → GivePage y.lines
     → IsTruePage h text version size k y.lines
 
--- every search and every cursor of the dialogue, by pages of a size, listed the hits of the history
+-- At a version of the history these are live with the same structure as that of a text, each once, ascending
+pub record AreSames (h : History) (text : List ℕ) (version : ℕ) (ids : List ℕ) : Type 0 where
+  pub molecule : Molecule
+  pub structure : IsStructureOf text molecule
+  pub are : AreAnswers (IsSameAs molecule) h version ids
+
+-- what was listed as the same as the structure of a text, with the numbers of its end: so many records have in their
+-- print that of the structure
+pub record IsTrueSameList (h : History) (text : List ℕ) (version tried count : ℕ) (hits : List ℕ) : Type 0 where
+  pub same : AreSames h text version hits
+  pub print : List Bool
+  pub print_is : IsPrint same.molecule print
+  pub screened : List ℕ
+  pub all : AreTried h version print screened
+  pub tried_is : tried ≡ length screened
+  pub length_is : count ≡ length hits
+
+-- each `same` that came to its end listed what is the same, at a version no older than any that a line before it shows
+abbrev pub SamesAreTrue : History → List Exchange → Type 0
+SamesAreTrue h exchanges =
+    (before after : List Exchange) (x : Exchange) (text : List ℕ) (version tried count : ℕ)
+    → exchanges ≡ before ++ x ∷ after
+    → IsCommand x.request (command.Same text) → Contains x.lines (line.End version tried count)
+    → IsTrueSameList h text version tried count (hits_in x.lines) × ((v : ℕ) → IsShown before v → v ≤ version)
+
+-- These were found to be the same as the structure of a text, at some version of the history that is no older than any
+-- that the lines before show
+pub record AreFoundSame (h : History) (before : List Exchange) (text : List ℕ) (ids : List ℕ) : Type 0 where
+  pub version : ℕ
+  pub within : version ≤ head h
+  pub no_older : (v : ℕ) → IsShown before v → v ≤ version
+  pub same : AreSames h text version ids
+
+-- Each `register-new` that was accepted found nothing that is the same, and each that was refused for what is the same
+-- named the least
+abbrev pub RegistrationsAreTrue : History → List Exchange → Type 0
+RegistrationsAreTrue h exchanges =
+    (before after : List Exchange) (x : Exchange) (id : ℕ) (text : List ℕ)
+    → exchanges ≡ before ++ x ∷ after → IsCommand x.request (command.RegisterNew id text)
+    → ((v : ℕ) → Contains x.lines (line.Accepted v) → AreFoundSame h before text [])
+    × ((same : ℕ) → Contains x.lines (line.Refused (refusals.Same same))
+    → (more : List ℕ) × AreFoundSame h before text (same ∷ more))
+
+-- what was listed as most similar to the print of the structure of a text, with the numbers of its end: the best of all
+-- that are live, each with the bits in both prints and those in at least one
+pub record IsTrueSimilarList (h : History) (p q k : ℕ) (text : List ℕ) (version scored count : ℕ) (likes : List Offer)
+    : Type 0 where
+  pub molecule : Molecule
+  pub structure : IsStructureOf text molecule
+  pub print : List Bool
+  pub print_is : IsPrint molecule print
+  pub offers : List Offer
+  pub all : AreAllOffered print h version offers
+  pub best : IsBest offers (record { p = p; q = q; most = k; hits = likes })
+  pub scored_is : scored ≡ length offers
+  pub length_is : count ≡ length likes
+
+-- each `similar` that came to its end listed the best, at a version no older than any that a line before it shows
+abbrev pub SimilarsAreTrue : History → List Exchange → Type 0
+SimilarsAreTrue h exchanges =
+    (before after : List Exchange) (x : Exchange) (p q k : ℕ) (text : List ℕ) (version scored count : ℕ)
+    → exchanges ≡ before ++ x ∷ after
+    → IsCommand x.request (command.Similar p q k text) → Contains x.lines (line.Scored version scored count)
+    → IsTrueSimilarList h p q k text version scored count (likes_in x.lines)
+    × ((v : ℕ) → IsShown before v → v ≤ version)
+
+-- every search, every cursor and every lookup of the dialogue, by pages of a size, told what the history has
 pub record AreTrue (h : History) (size : ℕ) (exchanges : List Exchange) : Type 0 where
   pub searches : SearchesAreTrue h exchanges
   pub cursors : CursorsAreTrue h exchanges
   pub pages : PagesAreTrue h size exchanges
+  pub sames : SamesAreTrue h exchanges
+  pub registrations : RegistrationsAreTrue h exchanges
+  pub similars : SimilarsAreTrue h exchanges
 
 -- a dialogue over a part of a run that begins at a sound state
 abbrev pub DialoguesAreTrue : Type 0

@@ -14,7 +14,7 @@ ghost use Rattle.session_run.specs.Responds.{IsTextRefusal, change_by};
 
 use crate::say::{say, say_given, say_long};
 use crate::stop::Stop;
-use crate::texts::text_is_sound;
+use crate::texts::record_is_sound;
 use mol_finish::{Format, TextFault};
 use shell_lang::{Refusal, Reply};
 use std::sync::Arc;
@@ -52,7 +52,7 @@ pub fn change_text<S: Service>(
         Ok(record) => record,
         Err(fault) => return say(&refuse_text(fault), out),
     };
-    text_is_sound(&record);
+    record_is_sound(&record);
     commit(service, change_to(change.verb, record), out)
 }
 
@@ -157,8 +157,8 @@ fn stats_line(answer: Result<Stats, CallFault>) -> Result<Reply, Stop>
     }
 }
 
-// The refusal of a text.
-fn refuse_text(fault: TextFault) -> Reply
+/// The refusal of a text.
+pub fn refuse_text(fault: TextFault) -> Reply
     ensures { IsTextRefusal fault (reply_of result) }
 {
     match fault {

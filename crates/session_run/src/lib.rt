@@ -9,6 +9,7 @@ mod commands;
 mod cursors;
 mod laws;
 mod listing;
+mod lookups;
 mod request;
 mod respond;
 mod run;

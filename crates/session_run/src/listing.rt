@@ -140,8 +140,8 @@ fn list_page<R: Threads + Sync, S: Service, M: Meter>(
     }
 }
 
-// Appends a line for each hit.
-fn push_hits(ids: &[u32], out: &mut Vec<u8>) -> Result<(), AllocError>
+/// Appends a line for each hit.
+pub fn push_hits(ids: &[u32], out: &mut Vec<u8>) -> Result<(), AllocError>
     ensures ok { OnOk result (out.new.items ≡ out.old.items ++ text_of (map line.Hit ids.now)) }
     ensures err { OnErr result (ArePartlyWritten ids.now out.old.items out.new.items) }
 {

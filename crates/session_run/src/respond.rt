@@ -16,6 +16,7 @@ ghost use Rattle.session_run.specs.declared.request.Next.TheVariants as next;
 use crate::commands::{TextChange, Verb, change_text, commit, prune, show, stats};
 use crate::cursors::Cursors;
 use crate::listing::ROOM;
+use crate::lookups::{Similarity, register_new, same, similar};
 use crate::request::{Molfile, Next};
 use crate::say::say;
 use crate::settings::Settings;
@@ -123,6 +124,32 @@ impl Responder {
             Command::Search { pattern } => {
                 self.cursors
                     .search(rt, service, meter, pattern, &mut self.out)
+            }
+            Command::Same { text } => same(
+                &mut self.recorder,
+                &self.cursors,
+                service,
+                text,
+                &mut self.out,
+            ),
+            Command::RegisterNew { id, text } => register_new(
+                &mut self.recorder,
+                &self.cursors,
+                service,
+                id,
+                text,
+                &mut self.out,
+            ),
+            Command::Similar { p, q, k, text } => {
+                let asked = Similarity { p, q, k };
+                similar(
+                    &mut self.recorder,
+                    &self.cursors,
+                    service,
+                    asked,
+                    text,
+                    &mut self.out,
+                )
             }
             Command::Start { name, pattern } => {
                 self.cursors.open(service, name, pattern, &mut self.out)

@@ -1,9 +1,10 @@
 //! Texts of a script: patterns, and the records of structures.
 ghost use Rattle.std.specs.Prelude.{◌≡◌, ◌≢◌, IfErr, IfOk};
+ghost use Rattle.path_print.specs.Prints.{IsPrint};
 ghost use Rattle.smarts_parse.specs.Pattern.{pattern_of};
 ghost use Rattle.smarts_parse.specs.Sound.{IsSoundPattern};
 ghost use Rattle.smarts_parse.specs.declared.fault.SmartsFault.TheVariants.{NoMemory};
-ghost use Rattle.store_machine.specs.Structures.{IsText};
+ghost use Rattle.store_core.specs.Records.{IsRecord};
 ghost use Rattle.session_run.specs.Texts.{IsPatternFault, IsPatternOf};
 
 use smarts_parse::{Pattern, SmartsFault, parse};
@@ -19,9 +20,11 @@ pub fn read_pattern(alloc: Global, text: &[u8]) -> Result<Pattern, SmartsFault>
     parse(alloc, text)
 }
 
-/// A law: the text of a record has a structure.
-pub fn text_is_sound(entry: &Record)
-    ensures { IsText entry.now.format entry.now.text }
+/// A law: a record has the structure of its text, and the structure's print.
+pub fn record_is_sound(entry: &Record)
+    ensures record { IsRecord entry.now }
+    ensures print { IsPrint entry.now.mol entry.now.print }
 {
-    entry.id();
+    let _ = entry.id();
+    let _ = entry.print().has(0);
 }

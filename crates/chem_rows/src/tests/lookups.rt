@@ -1,0 +1,240 @@
+//! Lookups: what is the same structure, and what is most similar.
+use super::{PLAIN, call, check, put_by};
+use std::test::Fail;
+
+const MEM: &[&str] = &["mem"];
+
+#[test]
+fn ethanol_written_in_two_ways_is_the_same(rt: HostRuntime) -> Result<(), Fail> {
+    let rows = "\
+        > register 1 OCC\n\
+        < ok 1\n\
+        > register 2 CCO\n\
+        < ok 2\n\
+        > register 3 CCN\n\
+        < ok 3\n\
+        > same C(C)O\n\
+        < hit 1\n\
+        < hit 2\n\
+        < end at 3 tried 2 hits 2\n\
+        > register-new 4 CCO\n\
+        < refused same 1\n\
+        > register-new 4 CO\n\
+        < ok 4\n\
+        > same CO\n\
+        < hit 4\n\
+        < end at 4 tried 3 hits 1\n\
+        > stats\n\
+        < stats version 4 live 4 withdrawn 0 kept 4 pins 0\n\
+        ";
+    check(&rt, rt.alloc(), MEM, rows)?;
+    check(&rt, rt.alloc(), &["mem", "--page", "1"], rows)
+}
+
+#[test]
+fn benzene_written_in_two_ways_is_the_same(rt: HostRuntime) -> Result<(), Fail> {
+    check(
+        &rt,
+        rt.alloc(),
+        MEM,
+        "\
+        > register 1 C1=CC=CC=C1\n\
+        < ok 1\n\
+        > same c1ccccc1\n\
+        < hit 1\n\
+        < end at 1 tried 1 hits 1\n\
+        ",
+    )
+}
+
+#[test]
+fn ethanol_is_more_similar_to_methanol_than_methane_is(rt: HostRuntime) -> Result<(), Fail> {
+    let rows = "\
+        > register 1 CCO\n\
+        < ok 1\n\
+        > register 2 CO\n\
+        < ok 2\n\
+        > register 3 C\n\
+        < ok 3\n\
+        > similar 1 2 10 CO\n\
+        < like 2 6 6\n\
+        < like 1 6 10\n\
+        < end at 3 scored 3 hits 2\n\
+        > register 4 OC\n\
+        < ok 4\n\
+        > similar 0 1 2 CO\n\
+        < like 2 6 6\n\
+        < like 4 6 6\n\
+        < end at 4 scored 4 hits 2\n\
+        > similar 1 1 256 CO\n\
+        < like 2 6 6\n\
+        < like 4 6 6\n\
+        < end at 4 scored 4 hits 2\n\
+        > similar 0 1 0 CO\n\
+        < refused syntax\n\
+        > stats\n\
+        < stats version 4 live 4 withdrawn 0 kept 4 pins 0\n\
+        ";
+    check(&rt, rt.alloc(), MEM, rows)?;
+    check(&rt, rt.alloc(), &["mem", "--page", "1"], rows)
+}
+
+#[test]
+fn nothing_is_the_same_or_similar_in_an_empty_store(rt: HostRuntime) -> Result<(), Fail> {
+    check(
+        &rt,
+        rt.alloc(),
+        MEM,
+        "\
+        > same C\n\
+        < end at 0 tried 0 hits 0\n\
+        > similar 0 1 256 C\n\
+        < end at 0 scored 0 hits 0\n\
+        > register-new 1 C\n\
+        < ok 1\n\
+        > withdraw 1\n\
+        < ok 2\n\
+        > same C\n\
+        < end at 2 tried 0 hits 0\n\
+        > similar 0 1 256 C\n\
+        < end at 2 scored 0 hits 0\n\
+        ",
+    )
+}
+
+#[test]
+fn lookups_are_refused_in_order(rt: HostRuntime) -> Result<(), Fail> {
+    check(
+        &rt,
+        rt.alloc(),
+        &["mem", "--commits", "3"],
+        "\
+        > same\n\
+        < refused syntax\n\
+        > same C(\n\
+        < refused smiles syntax\n\
+        > same C1\n\
+        < refused smiles ring\n\
+        > same c1cccc1\n\
+        < refused smiles aromatic 0\n\
+        > similar 2 1 1 C(\n\
+        < refused syntax\n\
+        > similar 1 1 1 C(\n\
+        < refused smiles syntax\n\
+        > register-new 0 C(\n\
+        < refused id\n\
+        > register-new 1 C(\n\
+        < refused smiles syntax\n\
+        > register-new 1 C\n\
+        < ok 1\n\
+        > register-new 1 C\n\
+        < refused same 1\n\
+        > register-new 1 CO\n\
+        < refused known\n\
+        > register-new 2 CO\n\
+        < ok 2\n\
+        > withdraw 1\n\
+        < ok 3\n\
+        > register-new 1 C\n\
+        < refused known\n\
+        > register-new 3 OC\n\
+        < refused same 2\n\
+        > register-new 3 C\n\
+        < refused full\n\
+        > stats\n\
+        < stats version 3 live 1 withdrawn 1 kept 3 pins 0\n\
+        ",
+    )
+}
+
+// What is the same is named by the least identifier, in the order of identifiers and not of registration, whatever the
+// format of its text.
+#[test]
+fn the_least_that_is_the_same_is_named(rt: HostRuntime) -> Result<(), Fail> {
+    check(
+        &rt,
+        rt.alloc(),
+        MEM,
+        "\
+        > register 9 C\n\
+        < ok 1\n\
+        > register-mol 7\n\
+        > \n\
+        > \n\
+        > \n\
+        >   1  0  0     0  0              1 V2000\n\
+        >     0.0000    0.0000    0.0000 C   0  0\n\
+        > M  END\n\
+        < ok 2\n\
+        > register-new 8 [CH4]\n\
+        < refused same 7\n\
+        > same [CH4]\n\
+        < hit 7\n\
+        < hit 9\n\
+        < end at 2 tried 2 hits 2\n\
+        > same [13CH4]\n\
+        < end at 2 tried 2 hits 0\n\
+        > register-new 8 [13CH4]\n\
+        < ok 3\n\
+        > similar 1 1 2 [14CH4]\n\
+        < like 7 2 2\n\
+        < like 8 2 2\n\
+        < end at 3 scored 3 hits 2\n\
+        ",
+    )
+}
+
+// A cursor is where it was, and lists what its version has, whatever is looked up between its pages.
+#[test]
+fn no_cursor_is_moved_by_a_lookup(rt: HostRuntime) -> Result<(), Fail> {
+    check(
+        &rt,
+        rt.alloc(),
+        &["mem", "--page", "1"],
+        "\
+        > register 1 CO\n\
+        < ok 1\n\
+        > register 2 OC\n\
+        < ok 2\n\
+        > open s CO\n\
+        < opened 2\n\
+        > next s\n\
+        < hit 1\n\
+        < more\n\
+        > same CO\n\
+        < hit 1\n\
+        < hit 2\n\
+        < end at 2 tried 2 hits 2\n\
+        > register-new 3 CCO\n\
+        < ok 3\n\
+        > similar 1 1 9 CCO\n\
+        < like 3 10 10\n\
+        < end at 3 scored 3 hits 1\n\
+        > next s\n\
+        < hit 2\n\
+        < end at 2 tried 2 hits 2\n\
+        ",
+    )
+}
+
+// A lookup takes a pin, and 64 are held.
+#[test]
+fn no_pin_is_free_for_a_lookup(rt: HostRuntime) -> Result<(), Fail> {
+    let alloc = rt.alloc();
+    let mut script = String::from_str(alloc, "register 1 C\n")?;
+    let mut replies = String::from_str(alloc, "ok 1\n")?;
+    for number in 0..64u32 {
+        write!(script, "open s{number} C\n")?;
+        replies.push_str("opened 1\n")?;
+    }
+    script.push_str("same C\nsame C(\nregister-new 1 C\nregister-new 2 CO\nsimilar 0 1 1 C\n")?;
+    replies.push_str("refused pins\nrefused smiles syntax\n")?;
+    replies.push_str("refused pins\nrefused pins\nrefused pins\n")?;
+    script.push_str("close s7\nsame C\nstats\n")?;
+    replies.push_str("closed\nhit 1\nend at 1 tried 1 hits 1\n")?;
+    replies.push_str("stats version 1 live 1 withdrawn 0 kept 1 pins 63\n")?;
+    let answer = call(&rt, alloc, MEM, script.as_bytes(), PLAIN)?;
+    assert_eq!(rt; answer.status, 0);
+    assert_eq!(rt; put_by(&answer), replies.as_bytes());
+    Ok(())
+}

@@ -1,0 +1,185 @@
+//! Lookups of a session: what is the same structure as that of a text, and what is most similar to it.
+ghost use Rattle.std.specs.Prelude.{◌≡◌, ◌++◌, IfOk, List, OnErr, OnOk, map, ℕ};
+ghost use Rattle.mol_finish.specs.declared.fault.Format.TheVariants.{Smiles};
+ghost use Rattle.shell_lang.specs.Command.{IsSimilarity};
+ghost use Rattle.shell_lang.specs.Reply.{text_of};
+ghost use Rattle.shell_lang.specs.Written.{Extends};
+ghost use Rattle.store_machine.specs.History.{IsId};
+ghost use Rattle.store_machine.specs.declared.machine.Change.TheVariants as change;
+ghost use Rattle.session_run.specs.Acts.{Answers, MayRegisterNew, MaySame, MaySimilar, like_line, same_lines, similar_lines};
+ghost use Rattle.session_run.specs.Cursors.{Cursor};
+ghost use Rattle.session_run.specs.Made.{AnsweredBy, TellsAll};
+ghost use Rattle.session_run.specs.Responds.{IsFit};
+
+use crate::commands::{commit, refuse_text};
+use crate::cursors::Cursors;
+use crate::listing::push_hits;
+use crate::say::{say, say_given};
+use crate::search::fault_line;
+use crate::stop::Stop;
+use crate::texts::record_is_sound;
+use lookup::{SameList, SimilarList, find_same, find_similar};
+use mol_finish::Format;
+use shell_lang::{Refusal, Reply, reply_text};
+use std::alloc::AllocError;
+use store_core::{Change, Recorder, Service};
+
+/// What `similar` asks for: at most `k` hits, that have at least `p / q` of the bits in common.
+#[derive(Clone, Copy, Debug, PartialEq, Eq)]
+pub struct Similarity {
+    pub p: u32,
+    pub q: u32,
+    pub k: u32,
+}
+
+/// Lists what is the same structure as that of a text.
+pub fn same<S: Service>(
+    recorder: &mut Recorder,
+    cursors: &Cursors,
+    service: &mut S,
+    text: &[u8],
+    out: &mut Vec<u8>,
+) -> Result<(), Stop>
+    requires { IsFit cursors.now }
+    ensures { (open : List Cursor) → AnsweredBy S.Service service.old service.new
+        (Answers cursors.now.settings.page (MaySame text.now) open) out.old.items out.new.items open result }
+{
+    let record = match recorder.record(1, Format::Smiles, text) {
+        Ok(record) => record,
+        Err(fault) => return say(&refuse_text(fault), out),
+    };
+    record_is_sound(&record);
+    match find_same(cursors.alloc, service, &record, cursors.settings.page) {
+        Ok(list) => say_same(&list, out),
+        Err(fault) => say_given(fault_line(fault), out),
+    }
+}
+
+/// Registers a text, unless a live record has the same structure.
+pub fn register_new<S: Service>(
+    recorder: &mut Recorder,
+    cursors: &Cursors,
+    service: &mut S,
+    id: u32,
+    text: &[u8],
+    out: &mut Vec<u8>,
+) -> Result<(), Stop>
+    requires fit { IsFit cursors.now }
+    requires id { IsId id }
+    ensures { (open : List Cursor) → AnsweredBy S.Service service.old service.new
+        (Answers cursors.now.settings.page (MayRegisterNew id text.now) open)
+        out.old.items out.new.items open result }
+{
+    let record = match recorder.record(id, Format::Smiles, text) {
+        Ok(record) => record,
+        Err(fault) => return say(&refuse_text(fault), out),
+    };
+    record_is_sound(&record);
+    match find_same(cursors.alloc, service, &record, cursors.settings.page) {
+        Ok(list) => match list.hits.first() {
+            Some(id) => say(&Reply::Refused(Refusal::Same { id: *id }), out),
+            None => commit(service, Change::Register(record), out),
+        },
+        Err(fault) => say_given(fault_line(fault), out),
+    }
+}
+
+/// Lists what is most similar to the structure of a text.
+pub fn similar<S: Service>(
+    recorder: &mut Recorder,
+    cursors: &Cursors,
+    service: &mut S,
+    asked: Similarity,
+    text: &[u8],
+    out: &mut Vec<u8>,
+) -> Result<(), Stop>
+    requires fit { IsFit cursors.now }
+    requires asked { IsSimilarity asked.p asked.q asked.k }
+    ensures { (open : List Cursor) → AnsweredBy S.Service service.old service.new
+        (Answers cursors.now.settings.page (MaySimilar asked.p asked.q asked.k text.now) open)
+        out.old.items out.new.items open result }
+{
+    let record = match recorder.record(1, Format::Smiles, text) {
+        Ok(record) => record,
+        Err(fault) => return say(&refuse_text(fault), out),
+    };
+    record_is_sound(&record);
+    let Similarity { p, q, k } = asked;
+    match find_similar(cursors.alloc, service, p, q, k, &record, cursors.settings.page) {
+        Ok(list) => say_similar(&list, out),
+        Err(fault) => say_given(fault_line(fault), out),
+    }
+}
+
+// Writes what is the same, or that memory ran out.
+fn say_same(list: &SameList, out: &mut Vec<u8>) -> Result<(), Stop>
+    ensures { TellsAll (same_lines list.now) out.old.items out.new.items result }
+{
+    let len = out.len();
+    if push_same(list, out).is_ok() {
+        return Ok(());
+    }
+    out.truncate(len);
+    say(&Reply::MemoryFault, out)
+}
+
+fn push_same(list: &SameList, out: &mut Vec<u8>) -> Result<(), AllocError>
+    ensures ok { OnOk result (out.new.items ≡ out.old.items ++ text_of (same_lines list.now)) }
+    ensures err { OnErr result (Extends out.old.items out.new.items) }
+{
+    push_hits(&list.hits, out)?;
+    let end = Reply::End {
+        version: list.version,
+        tried: list.tried,
+        hits: count(list.hits.len())?,
+    };
+    reply_text(&end, out)
+}
+
+// Writes what is similar, or that memory ran out.
+fn say_similar(list: &SimilarList, out: &mut Vec<u8>) -> Result<(), Stop>
+    ensures { TellsAll (similar_lines list.now) out.old.items out.new.items result }
+{
+    let len = out.len();
+    if push_similar(list, out).is_ok() {
+        return Ok(());
+    }
+    out.truncate(len);
+    say(&Reply::MemoryFault, out)
+}
+
+fn push_similar(list: &SimilarList, out: &mut Vec<u8>) -> Result<(), AllocError>
+    ensures ok { OnOk result (out.new.items ≡ out.old.items ++ text_of (similar_lines list.now)) }
+    ensures err { OnErr result (Extends out.old.items out.new.items) }
+{
+    let likes = list.best.list();
+    push_likes(likes, out)?;
+    let end = Reply::Scored {
+        version: list.version,
+        scored: list.scored,
+        hits: count(likes.len())?,
+    };
+    reply_text(&end, out)
+}
+
+// Appends a line for each hit.
+fn push_likes(likes: &[(u32, u32, u32)], out: &mut Vec<u8>) -> Result<(), AllocError>
+    ensures ok { OnOk result (out.new.items ≡ out.old.items ++ text_of (map like_line likes.now)) }
+    ensures err { OnErr result (Extends out.old.items out.new.items) }
+{
+    for like in likes {
+        let (id, c, u) = *like;
+        reply_text(&Reply::Like { id, c, u }, out)?;
+    }
+    Ok(())
+}
+
+// A count as a line has it. No store has so many records that it has none.
+fn count(len: usize) -> Result<u32, AllocError>
+    ensures { IfOk result (λ n. n ≡ len) }
+{
+    match u32::try_from(len) {
+        Ok(n) => Ok(n),
+        Err(_) => Err(AllocError),
+    }
+}
