@@ -2,43 +2,20 @@
 use Rattle.std.proofs.Common.{◌++◌, ap, Bool, cond, inl, inr, List, [], ◌∷◌, subst, sym, ℕ}
 use Rattle.smarts_parse.specs.Pattern.{PatternTerm}
 use Rattle.store_core.specs.Calls.{SameHeld}
-use Rattle.store_machine.specs.Searches.{At, End, Place, past}
-use Rattle.store_machine.specs.declared.machine.Event.{Event}
-use Rattle.store_machine.specs.declared.machine.Event.TheVariants as events
-use Rattle.store_machine.specs.declared.machine.Reply.TheVariants as replies
-use Rattle.session_run.specs.Acts.{Act, Asks, Closed, Does, Lines, Opened, Says, Searched, Searches, Turned}
-use Rattle.session_run.specs.Cursors.{AreFetches, Calls, Cursor}
+use Rattle.session_run.specs.Acts.{Act, Asks, Closed, Does, Lines, ListedSame, ListedSimilar, Opened, RegisteredNew, Says, Searched, Searches, Turned}
+use Rattle.session_run.specs.Cursors.{Calls, Cursor}
 use Rattle.session_run.specs.Dialogue.{AreExchanged, Exchange}
-use Rattle.session_run.specs.Pins.{AreApart, AreHeld, HeldAfter, HeldBy, Returns, SameOthers, Takes, effect}
+use Rattle.session_run.specs.Pins.{AreApart, AreHeld, HeldAfter, HeldBy, Returns, SameOthers}
 use Rattle.session_run.proofs.Acts.{quiet_ask}
-use Rattle.session_run.proofs.Held.{Leave, after-append, apart-parts, held-added, held-moved, held-same, held-without, leave-same, others-added, others-moved, others-without, same_held, same_others, same_others-more}
+use Rattle.session_run.proofs.Held.{after-append, apart-parts, held-added, held-moved, held-same, held-without, leave-same, others-added, others-moved, others-without, same_held, same_others, same_others-more}
+use Rattle.session_run.proofs.LookedUp.{fetches_leave, looked_held, new_looks, pin_returned, same_looks, similar_looks}
 use Rattle.session_run.proofs.Passing.{advances_fetch, advances_same}
-
-pub fetches_leave : (slot size : ℕ) (want : List Bool) (place place' : Place) (cs : Calls)
-    → AreFetches slot size want place cs place' → Leave cs
-fetches_leave slot size want place place' [] h = tt
-fetches_leave slot size want place place' (c ∷ cs) (from, at, is, inl k) =
-    (ap (λ (e : Event). effect e c.1) is, subst Leave (sym k.1) tt)
-fetches_leave slot size want place place' (c ∷ cs) (from, at, is, inr k) =
-    (ap (λ (e : Event). effect e c.1) is, fetches_leave slot size want (cond k.1 End (At (past from k.0))) place' cs k.3)
 
 -- a search gives its pin back
 search_same : (a : ℕ → ℕ → Type 0) (size : ℕ) (pattern : PatternTerm) (calls : Calls) (lines : Lines)
     → Searches size pattern calls lines → AreApart a calls → SameHeld a (HeldAfter a calls)
 search_same a size pattern calls lines s apart =
-    let taken : ℕ → ℕ → Type 0 = HeldBy a (Takes s.slot s.version) in
-    let unpin : Calls = (events.Unpin s.slot, replies.Unpinned) ∷ [] in
-    let free = subst (AreApart a) s.made apart in
-    let leave = leave-same taken s.pages
-    (fetches_leave s.slot size s.searched.want (At 0) s.place s.pages s.searched.fetches) in
-    subst (λ (cs : Calls). SameHeld a (HeldAfter a cs)) (sym s.made)
-    (subst (λ (f : ℕ → ℕ → Type 0). SameHeld a f) (sym (after-append taken s.pages unpin)) (λ slot version. (
-      λ x. elim ((leave slot version).0 x.0) [ inl h ↦ h | inr e ↦ absurd (x.1 (sym e.0)) ],
-      λ x. (
-        (leave slot version).1 (inl x),
-        λ e. free.0 version (subst (λ (n : ℕ). a n version) (sym e) x),
-      ),
-    )))
+    pin_returned a s.slot s.version size s.searched.want s.place calls s.pages s.made s.searched.fetches apart
 
 -- the cursors' pins
 pub act_held : {size : ℕ} {cursors cursors' : List Cursor} {act : Act} {calls : Calls} {lines : Lines}
@@ -50,6 +27,12 @@ act_held {cursors = cursors} a (Asks event reply said is) apart h =
     held-same a (HeldAfter a calls) cursors (leave-same a calls (quiet_ask event reply said is).leave) h
 act_held {size} {cursors} a (Searched pattern calls lines found) apart h =
     held-same a (HeldAfter a calls) cursors (search_same a size pattern calls lines found apart) h
+act_held {cursors = cursors} a (ListedSame m print calls lines s) apart h =
+    held-same a (HeldAfter a calls) cursors (looked_held a (same_looks s) apart) h
+act_held {cursors = cursors} a (RegisteredNew change m print calls lines s) apart h =
+    held-same a (HeldAfter a calls) cursors (looked_held a (new_looks s) apart) h
+act_held {cursors = cursors} a (ListedSimilar p q k print calls lines s) apart h =
+    held-same a (HeldAfter a calls) cursors (looked_held a (similar_looks s) apart) h
 act_held {cursors = cursors} a (Opened name pattern want slot version new need) apart h =
     held-added a cursors _ apart.0 h
 act_held {size} {cursors} a (Turned name before after c c' calls lines named advances) apart h =
@@ -71,6 +54,12 @@ act_others {cursors = cursors} a (Asks event reply said is) apart =
     same_others a (HeldAfter a calls) cursors (leave-same a calls (quiet_ask event reply said is).leave)
 act_others {size} {cursors} a (Searched pattern calls lines found) apart =
     same_others a (HeldAfter a calls) cursors (search_same a size pattern calls lines found apart)
+act_others {cursors = cursors} a (ListedSame m print calls lines s) apart =
+    same_others a (HeldAfter a calls) cursors (looked_held a (same_looks s) apart)
+act_others {cursors = cursors} a (RegisteredNew change m print calls lines s) apart =
+    same_others a (HeldAfter a calls) cursors (looked_held a (new_looks s) apart)
+act_others {cursors = cursors} a (ListedSimilar p q k print calls lines s) apart =
+    same_others a (HeldAfter a calls) cursors (looked_held a (similar_looks s) apart)
 act_others {cursors = cursors} a (Opened name pattern want slot version new need) apart =
     others-added a cursors _ apart.0
 act_others {size} {cursors} a (Turned name before after c c' calls lines named advances) apart =

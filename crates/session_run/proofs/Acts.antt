@@ -20,10 +20,12 @@ use Rattle.session_run.specs.Pins.{Leaves, effect}
 use Rattle.session_run.proofs.Held.{Leave}
 use Rattle.session_run.proofs.Passing.{PassBy, none_in, one_in}
 
--- lines that are of no search and no cursor
+-- lines that are of no search, no cursor and no lookup of what is similar
 abbrev pub IsPlainLine : line.Reply → Type 0
 IsPlainLine (line.Hit id) = ⊥
 IsPlainLine (line.End version tried hits) = ⊥
+IsPlainLine (line.Like id c u) = ⊥
+IsPlainLine (line.Scored version scored hits) = ⊥
 IsPlainLine (line.Opened version) = ⊥
 IsPlainLine line.More = ⊥
 IsPlainLine _ = Unit {0}

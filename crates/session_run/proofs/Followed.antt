@@ -10,12 +10,13 @@ use Rattle.store_machine.specs.Searches.{At, Place}
 use Rattle.store_machine.specs.Structures.{IsNeedOf}
 use Rattle.store_machine.specs.declared.machine.Event.TheVariants as events
 use Rattle.store_machine.specs.declared.machine.Reply.TheVariants as replies
-use Rattle.session_run.specs.Acts.{Act, Advances, Allows, Asks, Close, Closed, Does, Lines, Opened, RequestAllows, Says, Searched, Searches, Turn, Turned, new_cursor}
+use Rattle.session_run.specs.Acts.{Act, Advances, Allows, Asks, Close, Closed, Does, Lines, ListedSame, ListedSimilar, Opened, RegisteredNew, RequestAllows, Says, Searched, Searches, Turn, Turned, new_cursor}
 use Rattle.session_run.specs.Cursors.{Calls, Cursor, IsNoName}
 use Rattle.session_run.specs.Dialogue.{AreExchanged, AreListed, AreTurned, Exchange, IsCommand, StaysOpen, hits_in}
 use Rattle.session_run.specs.Pins.{AreHeld, HeldAfter}
 use Rattle.session_run.specs.Requests.{Request, molfile_text}
 use Rattle.session_run.proofs.Acts.{OneReading, fits, quiet_ask, quiet_note}
+use Rattle.session_run.proofs.LookedUp.{IsLookup, looked_first, looked_pass, new_looks, same_looks, similar_looks}
 use Rattle.session_run.proofs.Passing.{IsOpen, IsTurn, PassBy, advances_fetch, advances_same, fetches_pass, open_advances, open_passes, passes-append}
 use Rattle.session_run.proofs.Pinned.{AreFree, IsPinned, grouped, new_slot, next_calls, none, pinned}
 
@@ -275,6 +276,17 @@ module _ (reading : OneReading) (whole : Calls) (free : AreFree whole) (size : �
   at_name own [] ys c n = All-head (λ (x : Cursor). x.name ≢ own) c ys n
   at_name own (x ∷ xs) ys c n = at_name own xs ys c (All-tail (λ (y : Cursor). y.name ≢ own) x (xs ++ c ∷ ys) n)
 
+  -- a lookup
+  looked : (calls its later : Calls) {cursors : List Cursor} (request : Request) (lines : Lines) (hits more : List ℕ)
+      → whole ≡ calls ++ (its ++ later) → ¬ IsCommand request (command.Next name) → IsLookup size its
+      → Adds name request lines more → (f : Follows size calls cursors name pattern version hits)
+      → Goes (calls ++ its) cursors request lines (hits ++ more) f.turned f.c.place
+  looked calls its later {cursors} request lines hits more w other l adds f =
+      let first : whole ≡ calls ++ (events.Pin, replies.Pinned l.lookup.slot l.lookup.version) ∷ _ =
+      w ∙ ap (λ (cs : Calls). calls ++ (cs ++ later)) (looked_first l).1 in
+      passed its cursors request lines more f f.front f.back f.among f.left f.right adds other
+      (looked_pass f.c.slot l (new_slot _ _ free first (pinned_so f.open_since)))
+
   -- after an act that does not close it
   follow : (calls its later : Calls) (cursors cursors' : List Cursor) (request : Request) (lines : Lines)
       (hits more : List ℕ) (act : Act) → whole ≡ calls ++ (its ++ later) → RequestAllows cursors request act
@@ -295,6 +307,17 @@ module _ (reading : OneReading) (whole : Calls) (free : AreFree whole) (size : �
       passed its cursors request lines more f f.front f.back f.among f.left f.right adds
       (fits reading cursors request act (command.Next name) a)
       (search_passes size f.c.slot p its lines s (new_slot _ _ free first (pinned_so f.open_since)))
+  follow calls its later cursors cursors' request lines hits more act w a (ListedSame m print own said s) close adds f =
+      looked calls its later request lines hits more w (fits reading cursors request act (command.Next name) a)
+      (same_looks s) adds f
+  follow calls its later cursors cursors' request lines hits more act w a (RegisteredNew change m print own said s)
+      close adds f =
+      looked calls its later request lines hits more w (fits reading cursors request act (command.Next name) a)
+      (new_looks s) adds f
+  follow calls its later cursors cursors' request lines hits more act w a (ListedSimilar p q n print own said s)
+      close adds f =
+      looked calls its later request lines hits more w (fits reading cursors request act (command.Next name) a)
+      (similar_looks s) adds f
   follow calls its later cursors cursors' request lines hits more act w a (Opened own p want slot v new need) close
       adds f =
       let d = new_cursor own p want slot v in

@@ -61,7 +61,7 @@ after-apart a b (c ∷ cs) u f = (
   after-apart (HeldBy a (effect c.0 c.1)) (HeldBy b (effect c.0 c.1)) cs (by-under a b (effect c.0 c.1) u) f.1,
 )
 
-apart-more : (a : ℕ → ℕ → Type 0) (xs ys : Calls) → AreApart a xs → AreApart (HeldAfter a xs) ys
+pub apart-more : (a : ℕ → ℕ → Type 0) (xs ys : Calls) → AreApart a xs → AreApart (HeldAfter a xs) ys
     → AreApart a (xs ++ ys)
 apart-more a [] ys f g = g
 apart-more a (x ∷ xs) ys f g = (f.0, apart-more (HeldBy a (effect x.0 x.1)) xs ys f.1 g)
@@ -92,7 +92,7 @@ leave-same a [] l = same_held a
 leave-same a (c ∷ cs) l =
     subst (λ (e : Effect). SameHeld a (HeldAfter (HeldBy a e) cs)) (sym l.0) (leave-same a cs l.1)
 
-leave-apart : (a : ℕ → ℕ → Type 0) (cs : Calls) → Leave cs → AreApart a cs
+pub leave-apart : (a : ℕ → ℕ → Type 0) (cs : Calls) → Leave cs → AreApart a cs
 leave-apart a [] l = tt
 leave-apart a (c ∷ cs) l =
     subst (λ (e : Effect). IsApart a e × AreApart (HeldBy a e) cs) (sym l.0) (tt, leave-apart a cs l.1)

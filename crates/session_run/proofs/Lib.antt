@@ -18,10 +18,13 @@ pub mod Closing
 pub mod Parting
 pub mod Passing
 pub mod Acts
+pub mod LookedUp
 pub mod ActPins
 pub mod Pinned
 pub mod Followed
+pub mod Found
 pub mod Truth
 pub mod Told
 pub mod Endings
 pub mod Requested
+pub mod Looked

@@ -1,11 +1,13 @@
 -- Answers by their lines: what was said, what a call's reply gave, and answers told in other words.
-use Rattle.std.proofs.Common.{◌≡◌, ◌≢◌, IfErr, IfOk, ◌++◌, ◌∙◌, ap, append-nil, Bool, Err, inr, List, [], ◌∷◌, Ok, OnErr, refl, Result, subst, sym, true, ℕ}
+use Rattle.std.proofs.Common.{◌≡◌, ◌≢◌, IfErr, IfOk, ◌++◌, ◌∙◌, ap, append-nil, Bool, Err, inr, length, List, [], ◌∷◌, Ok, OnErr, refl, Result, subst, sym, true, ℕ}
+use Rattle.chem_core.specs.Molecule.{Molecule}
 use Rattle.mol_finish.specs.Structure.{IsAnswer}
 use Rattle.mol_finish.specs.declared.fault.Format.{Format}
 use Rattle.mol_finish.specs.declared.fault.TextFault.{TextFault}
 use Rattle.mol_finish.specs.declared.fault.TextFault.TheVariants as faults
 use Rattle.par_search.specs.declared.fault.SearchFault.{SearchFault}
 use Rattle.par_search.specs.declared.fault.SearchFault.TheVariants as searches
+use Rattle.path_print.specs.Prints.{IsPrint}
 use Rattle.shell_lang.specs.Reply as line
 use Rattle.shell_lang.specs.Reply.{reply_line, reply_of}
 use Rattle.shell_lang.specs.declared.reply.Refusal.TheVariants as refusals
@@ -19,7 +21,7 @@ use Rattle.store_core.specs.Calls as core
 use Rattle.store_core.specs.Calls.{NotRaised, SameHeld}
 use Rattle.store_core.specs.Records.{IsRecord, RecordTerm}
 use Rattle.store_core.specs.declared.service.Service as meaning
-use Rattle.store_machine.specs.Structures.{IsText}
+use Rattle.store_machine.specs.Structures.{IsPrintOf, IsText}
 use Rattle.store_machine.specs.declared.machine.Change.{Change}
 use Rattle.store_machine.specs.declared.machine.Event.{Event}
 use Rattle.store_machine.specs.declared.machine.Event.TheVariants as events
@@ -200,3 +202,8 @@ on_err (Err e) P p = p
 
 pub text_is : (r : RecordTerm) → IsRecord r → IsText r.format r.text
 text_is r is = (r.mol, is.structure)
+
+pub printed : (m : Molecule) (print other : List Bool) → other ≡ print → length other ≡ 1024 → IsPrintOf m other
+    → IsPrint m print
+printed m print other e size bits =
+    subst (λ (p : List Bool). IsPrint m p) e (record { size = size; bits = bits })

@@ -21,8 +21,8 @@ use Rattle.session_run.specs.Made.{Uses}
 use Rattle.session_run.specs.Walks.{ArePartlyWritten, AreWritten, IsLost, IsNoPage, IsPage, Listed, Listing, Pages, Part, Whole}
 use Rattle.session_run.specs.declared.listing.Shown.{Shown}
 use Rattle.session_run.specs.declared.listing.Walk.{Walk}
-use Rattle.session_run.proofs.ActPins.{fetches_leave}
 use Rattle.session_run.proofs.Held.{leave-same}
+use Rattle.session_run.proofs.LookedUp.{fetches_leave}
 use Rattle.session_run.proofs.Listings.{pages_more, searched_lost, searched_none, searched_page}
 use Rattle.session_run.proofs.Pages.{moved_to}
 

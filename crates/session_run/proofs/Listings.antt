@@ -3,6 +3,7 @@ use Rattle.std.proofs.Common.{◌≡◌, ◌++◌, ◌+◌, ◌==◌, ◌∙◌,
 use Rattle.std.proofs.lemmas.Bool.{cond-true}
 use Rattle.std.proofs.lemmas.List.Elements.{filter_map-append}
 use Rattle.std.specs.List.{cons_option}
+use Rattle.lookup.specs.Fetches.{AreFetches}
 use Rattle.smarts_parse.specs.Pattern.{PatternTerm}
 use Rattle.store_machine.specs.Answers.{AreMatched}
 use Rattle.store_machine.specs.Searches.{At, End, Fetched, IsSearch, Place, fetched, page_in, past, place_after, records_of}
@@ -12,7 +13,7 @@ use Rattle.store_machine.specs.declared.machine.Found.{Found}
 use Rattle.store_machine.specs.declared.machine.Reply.{Reply}
 use Rattle.store_machine.specs.declared.machine.Reply.TheVariants as replies
 use Rattle.store_machine.specs.Structures.{IsNeedOf}
-use Rattle.session_run.specs.Cursors.{AreFetches, Calls, IsSearched}
+use Rattle.session_run.specs.Cursors.{Calls, IsSearched}
 use Rattle.session_run.specs.Walks.{ArePages}
 
 pub matched-append : (p : PatternTerm) (rs ss : List Found) (hits more : List ℕ) → AreMatched p rs hits

@@ -3,6 +3,7 @@ use Rattle.std.proofs.Common.{◌≡◌, ◌≢◌, ◌⊎◌, ◌++◌, ◌+◌
 use Rattle.std.proofs.lemmas.Bool.{cond-false, cond-true}
 use Rattle.std.proofs.lemmas.List.Elements.{Contains-append_cases, Contains-push_cases}
 use Rattle.std.specs.List.{AllByRecursion, cons_option}
+use Rattle.lookup.specs.Fetches.{AreFetches}
 use Rattle.shell_lang.specs.Reply as line
 use Rattle.store_machine.specs.Answers.{AreMatched}
 use Rattle.store_machine.specs.Searches.{At, End, Fetched, IsSearch, KeepsPin, Place, fetched, page_in, past, records_of, unpins}
@@ -13,7 +14,7 @@ use Rattle.store_machine.specs.declared.machine.Found.{Found}
 use Rattle.store_machine.specs.declared.machine.Reply.{Reply}
 use Rattle.store_machine.specs.declared.machine.Reply.TheVariants as replies
 use Rattle.session_run.specs.Acts.{Advances, Ended, Lines, Lost, Paged, after_page, page_end}
-use Rattle.session_run.specs.Cursors.{AreFetches, Calls, Cursor}
+use Rattle.session_run.specs.Cursors.{Calls, Cursor}
 use Rattle.session_run.specs.Dialogue.{hits_in}
 use Rattle.session_run.proofs.Listings.{fetched-append, matched-append, records-append, search-append}
 

@@ -1,15 +1,19 @@
 -- Pins by the calls of a run so far, and the versions that lines show: each was told before.
 use Rattle.std.proofs.Common.{◌≡◌, ◌++◌, ◌∙◌, ap, append-nil, append_assoc, Bool, false, inl, inr, length, List, [], ◌∷◌, map, ne_eqb, refl, subst, sym, true, ℕ}
+use Rattle.chem_core.specs.Molecule.{Molecule}
 use Rattle.shell_lang.specs.Reply as line
+use Rattle.similar_find.specs.Board.{Offer}
 use Rattle.store_machine.specs.Searches.{At, End, KeepsPin, Place}
+use Rattle.store_machine.specs.declared.machine.Change.{Change}
 use Rattle.store_machine.specs.declared.machine.Event.{Event}
 use Rattle.store_machine.specs.declared.machine.Event.TheVariants as events
 use Rattle.store_machine.specs.declared.machine.Reply.{Reply}
 use Rattle.store_machine.specs.declared.machine.Reply.TheVariants as replies
 use Rattle.store_machine.specs.Told.{IsTold}
-use Rattle.session_run.specs.Acts.{Act, Advances, Asks, Closed, Does, Ended, IsCutShort, Lines, Lists, Lost, Opened, Paged, Says, Searched, Turned, after_page, page_end}
+use Rattle.session_run.specs.Acts.{Act, Advances, AllSame, AllSimilar, Asks, Closed, Does, Ended, IsCutShort, IsNew, Lines, ListedSame, ListedSimilar, Lists, ListsSame, ListsSimilar, Lost, NewLost, NotNew, Opened, Paged, RegisteredNew, RegistersNew, SameLost, Says, Searched, SimilarLost, Turned, after_page, like_line, page_end}
 use Rattle.session_run.specs.Cursors.{Calls, Cursor}
 use Rattle.session_run.specs.Dialogue.{AreExchanged, Exchange, IsShown, IsShownIn}
+use Rattle.session_run.specs.Lookups.{LooksUp}
 use Rattle.session_run.specs.Pins.{AreApart, AreHeld, HeldAfter, HeldBy, IsApart, effect}
 use Rattle.session_run.proofs.ActPins.{act_held}
 use Rattle.session_run.proofs.Acts.{quiet_ask, quiet_note}
@@ -144,6 +148,42 @@ lists_shown End version tried hits lines v (inl e) k =
 lists_shown End version tried hits lines v (inr c) k = absurd (cut_shown hits lines v c k)
 lists_shown (At from) version tried hits lines v c k = absurd (cut_shown hits lines v c k)
 
+-- a version that a lookup's lines show was told
+likes_shown : (likes : List Offer) (lines : Lines) (v : ℕ) → IsShownIn (map like_line likes ++ lines) v → IsShownIn lines v
+likes_shown [] lines v k = k
+likes_shown (x ∷ xs) lines v (inl k) = absurd k
+likes_shown (x ∷ xs) lines v (inr k) = likes_shown xs lines v k
+
+looked_told : {size : ℕ} {want : List Bool} {place : Place} {calls : Calls} (l : LooksUp size want place calls)
+    (version v : ℕ) → version ≡ l.version → v ≡ version → IsTold calls v
+looked_told l version v e f = subst (λ (cs : Calls). IsTold cs v) (sym l.made) (inl (f ∙ e))
+
+same_shown : {size : ℕ} {m : Molecule} {print : List Bool} {calls : Calls} {lines : Lines} (v : ℕ)
+    → ListsSame size m print calls lines → IsShownIn lines v → IsTold calls v
+same_shown v (AllSame calls list found) k =
+    elim (hits_shown list.hits.items _ v k) [
+      | inl e ↦ looked_told found.lookup list.version v found.is.version_is e
+      | inr n ↦ absurd n
+    ]
+same_shown v (SameLost calls place lookup) k = absurd (nothing_shown v k)
+
+new_shown : {size : ℕ} {change : Change} {m : Molecule} {print : List Bool} {calls : Calls} {lines : Lines} (v : ℕ)
+    → RegistersNew size change m print calls lines → IsShownIn lines v → IsTold calls v
+new_shown v (NotNew calls list id more found first) (inl n) = absurd n
+new_shown v (NotNew calls list id more found first) (inr n) = absurd n
+new_shown {change = change} v (IsNew calls list reply said found none is) k =
+    told_right calls _ v ((quiet_ask (events.Commit change) reply said is).shows v k)
+new_shown v (NewLost calls place lookup) k = absurd (nothing_shown v k)
+
+similar_shown : {size p q k : ℕ} {print : List Bool} {calls : Calls} {lines : Lines} (v : ℕ)
+    → ListsSimilar size p q k print calls lines → IsShownIn lines v → IsTold calls v
+similar_shown v (AllSimilar calls list found) k =
+    elim (likes_shown list.best.hits _ v k) [
+      | inl e ↦ looked_told found.lookup list.version v found.is.version_is e
+      | inr n ↦ absurd n
+    ]
+similar_shown v (SimilarLost calls want place none lookup) k = absurd (nothing_shown v k)
+
 -- the versions that an act's lines show were told
 shown_then : {size : ℕ} {cursors cursors' : List Cursor} {act : Act} (calls : Calls) {its : Calls} {lines : Lines} (v : ℕ)
     → Does size cursors act its lines cursors' → AreHeld (HeldAfter none calls) cursors → IsShownIn lines v
@@ -154,6 +194,9 @@ shown_then calls v (Searched pattern its lines s) h k =
     told_right calls its v
     (subst (λ (l : Calls). IsTold l v) (sym s.made)
     (inl (lists_shown s.place s.version s.tried s.hits lines v s.lists k)))
+shown_then calls v (ListedSame m print its lines s) h k = told_right calls its v (same_shown v s k)
+shown_then calls v (RegisteredNew change m print its lines s) h k = told_right calls its v (new_shown v s k)
+shown_then calls v (ListedSimilar p q n print its lines s) h k = told_right calls its v (similar_shown v s k)
 shown_then calls v (Opened name pattern want slot version new need) h (inl n) = told_right calls _ v (inl n)
 shown_then calls v (Opened name pattern want slot version new need) h (inr n) = absurd n
 shown_then calls v (Turned name before after c c' its lines named advances) h k =

@@ -1,9 +1,18 @@
 -- Dialogues over a run: what their searches and cursors listed is the history's answer.
 use Rattle.std.proofs.Common.{◌≡◌, ◌++◌, ◌+◌, ◌*◌, ◌≤◌, ◌∙◌, ap, append-nil, append_assoc, arith, Bool, cond, Contains, drop, nat_le, take, inl, inr, length, List, [], ◌∷◌, refl, subst, sym, ℕ}
+use Rattle.chem_core.specs.Molecule.{IsMolecule, Molecule}
+use Rattle.lookup.specs.Asked.{IsSameAs}
+use Rattle.lookup.specs.Truths.{AreAllOffered, AreAllSame, InRun, SamesAreAnswers, SimilarsAreAnswers}
+use Rattle.lookup.specs.declared.same.SameList.{SameList}
+use Rattle.mol_finish.specs.Structure.{HasMolecule}
+use Rattle.mol_finish.specs.declared.fault.Format.{Format}
+use Rattle.mol_finish.specs.declared.fault.Format.TheVariants.{Smiles}
 use Rattle.shell_lang.specs.Command as command
 use Rattle.shell_lang.specs.Reply as line
+use Rattle.shell_lang.specs.declared.reply.Refusal.TheVariants as refusals
+use Rattle.similar_find.specs.Board.{Board, IsBest, Offer}
 use Rattle.smarts_parse.specs.Pattern.{PatternTerm}
-use Rattle.store_machine.specs.Answers.{AreFound, AreMatched}
+use Rattle.store_machine.specs.Answers.{AreAnswers, AreFound, AreMatched, AreTried}
 use Rattle.store_machine.specs.History.{snapshot}
 use Rattle.store_machine.specs.Laws.{IsSound}
 use Rattle.store_machine.specs.Runs.{IsCalm, IsRun, calls_of}
@@ -17,15 +26,17 @@ use Rattle.store_machine.specs.declared.machine.Reply.{Reply}
 use Rattle.store_machine.specs.declared.machine.Reply.TheVariants as replies
 use Rattle.store_machine.specs.declared.machine.State.{State}
 use Rattle.store_machine.specs.declared.machine.Step.{Step}
-use Rattle.session_run.specs.Acts.{Act, Advances, Asks, Closed, Does, Ended, Lines, Lost, Opened, Paged, RequestAllows, RequestAnswer, Says, Searched, Searches, Turned, after_page, new_cursor, note_lines, page_end}
+use Rattle.session_run.specs.Acts.{Act, Advances, Asks, Closed, Does, Ended, Lines, ListedSame, ListedSimilar, Lost, Opened, Paged, RegisteredNew, RequestAllows, RequestAnswer, Says, Searched, Searches, Turned, after_page, new_cursor, note_lines, page_end}
 use Rattle.session_run.specs.Cursors.{Calls, Cursor, IsNoName}
-use Rattle.session_run.specs.Dialogue.{AreExchanged, AreListed, Exchange, GivePage, IsCommand, IsShown, StaysOpen, hits_in}
+use Rattle.session_run.specs.Dialogue.{AreExchanged, AreListed, Exchange, GivePage, IsCommand, IsShown, StaysOpen, hits_in, likes_in}
+use Rattle.session_run.specs.Lookups.{FindsSame, LooksUp}
 use Rattle.session_run.specs.Requests.{Request}
 use Rattle.session_run.specs.Texts.{IsPatternOf}
-use Rattle.session_run.specs.Truths.{AreAllHits, CursorsAreTrue, DialoguesAreTrue, IsPageOf, IsUpToDate, PagesAreTrue, SearchesAreHits, SearchesAreTrue}
+use Rattle.session_run.specs.Truths.{AreAllHits, AreFoundSame, CursorsAreTrue, DialoguesAreTrue, IsPageOf, IsUpToDate, PagesAreTrue, RegistrationsAreTrue, SamesAreTrue, SearchesAreHits, SearchesAreTrue, SimilarsAreTrue}
 use Rattle.session_run.proofs.ActPins.{dialogue_held}
 use Rattle.session_run.proofs.Acts.{OneReading, fits, quiet_ask, quiet_note}
 use Rattle.session_run.proofs.Endings.{SameEnd, advance_end, fault_or_end, no_page_said, says_more, search_end}
+use Rattle.session_run.proofs.Found.{IsPrinted, NewFound, accepted_found, new_by, refused_found, same_by, same_found, similar_by, similar_found}
 use Rattle.session_run.proofs.Followed.{Follows, follow_all, follow_new, places, turn_all}
 use Rattle.session_run.proofs.Parting.{Laws, last_piece, pieces_so_far, whole_pages}
 use Rattle.session_run.proofs.Passing.{IsOpen, advances_same, fault_or_more, fetches_keep, fetches_search, hits_listed, no_hit, one_in, open_advances, page_more, page_of}
@@ -95,6 +106,16 @@ same_hits h version version' tried tried' pattern pattern' hits hits' a b c d al
     (subst (λ (p : PatternTerm). AreAllHits h version p tried hits') c
     (subst (λ (l : List ℕ). AreAllHits h version pattern tried l) d all)))
 
+-- the laws of lookups
+pub record Finds : Type 0 where
+  pub sames : SamesAreAnswers
+  pub similars : SimilarsAreAnswers
+  pub molecules : (format : Format) (text : List ℕ) (m : Molecule) → HasMolecule format text m → IsMolecule m
+
+same_board : (b : Board) (p q k : ℕ) (likes : List Offer) → b.p ≡ p → b.q ≡ q → b.most ≡ k → b.hits ≡ likes
+    → b ≡ record { p = p; q = q; most = k; hits = likes }
+same_board b p q k likes e f g h = rw (sym e, sym f, sym g, sym h) refl
+
 -- What a request did, by its command and a line of its reply: a search with an end
 searched_by : OneReading → {size : ℕ} {cursors cursors' : List Cursor} {act : Act} {its : Calls} {lines : Lines}
     (request : Request) (text : List ℕ) (version tried count : ℕ) → RequestAllows cursors request act
@@ -113,6 +134,13 @@ searched_by reading {cursors = cursors} {act = act} request text version tried c
     absurd (fits reading cursors request act (command.Search text) a is)
 searched_by reading {cursors = cursors} {act = act} request text version tried count a
     (Closed name before after c named) is k = absurd (fits reading cursors request act (command.Search text) a is)
+searched_by reading {cursors = cursors} {act = act} request text version tried count a (ListedSame m print its lines s)
+    is k = absurd (fits reading cursors request act (command.Search text) a is)
+searched_by reading {cursors = cursors} {act = act} request text version tried count a
+    (RegisteredNew change m print its lines s) is k =
+    absurd (fits reading cursors request act (command.Search text) a is)
+searched_by reading {cursors = cursors} {act = act} request text version tried count a
+    (ListedSimilar p q n print its lines s) is k = absurd (fits reading cursors request act (command.Search text) a is)
 
 -- a cursor that was opened
 record IsOpening (cursors : List Cursor) (its : Calls) (cursors' : List Cursor) (name text : List ℕ) (version : ℕ)
@@ -158,6 +186,13 @@ opened_by reading {cursors = cursors} {act = act} request name text version a
     absurd (fits reading cursors request act (command.Start name text) a is)
 opened_by reading {cursors = cursors} {act = act} request name text version a (Closed own before after c named) is k =
     absurd (fits reading cursors request act (command.Start name text) a is)
+opened_by reading {cursors = cursors} {act = act} request name text version a (ListedSame m print its lines s) is k =
+    absurd (fits reading cursors request act (command.Start name text) a is)
+opened_by reading {cursors = cursors} {act = act} request name text version a
+    (RegisteredNew change m print its lines s) is k =
+    absurd (fits reading cursors request act (command.Start name text) a is)
+opened_by reading {cursors = cursors} {act = act} request name text version a (ListedSimilar p q n print its lines s) is
+    k = absurd (fits reading cursors request act (command.Start name text) a is)
 
 -- a page of the cursor of a name
 turned_by : OneReading → {size : ℕ} {calls : Calls} {cursors cursors' : List Cursor} {act : Act} {its : Calls}
@@ -183,8 +218,14 @@ turned_by reading {size} {cursors = cursors} {act = act} {name = name} request a
     ]
 turned_by reading {cursors = cursors} {act = act} {name = name} request a (Closed own before after c at) is gives f =
     absurd (fits reading cursors request act (command.Next name) a is)
+turned_by reading {cursors = cursors} {act = act} {name = name} request a (ListedSame m print its lines s) is gives f =
+    absurd (fits reading cursors request act (command.Next name) a is)
+turned_by reading {cursors = cursors} {act = act} {name = name} request a (RegisteredNew change m print its lines s) is
+    gives f = absurd (fits reading cursors request act (command.Next name) a is)
+turned_by reading {cursors = cursors} {act = act} {name = name} request a (ListedSimilar p q n print its lines s) is
+    gives f = absurd (fits reading cursors request act (command.Next name) a is)
 
-module _ (laws : Laws) (reading : OneReading) (s t : State) (steps : List Step) (own : ℕ
+module _ (laws : Laws) (finds : Finds) (reading : OneReading) (s t : State) (steps : List Step) (own : ℕ
     → Bool) (size : ℕ) (exchanges : List Exchange) (calls more : Calls) (cursors : List Cursor)
     (sound : IsSound s) (run : IsRun s steps t) (calm : IsCalm steps) (made : calls_of own steps ≡ calls ++ more)
     (said : AreExchanged size [] exchanges calls cursors) where
@@ -377,9 +418,133 @@ module _ (laws : Laws) (reading : OneReading) (s t : State) (steps : List Step) 
       (subst (λ (q : PatternTerm). TruePage q g.1.c.version g.1.turned y.lines) g.1.pattern_is page)) in
       record { pattern = opening.pattern; is = opening.reads; want = r.0; need = r.1; page = r.2 }
 
-pub dialogues-are-true : Laws → OneReading → DialoguesAreTrue
-dialogues-are-true laws reading s t steps own size exchanges calls more cursors sound run calm made said = record {
-  searches = searches_true laws reading s t steps own size exchanges calls more cursors sound run calm made said;
-  cursors = cursors_true laws reading s t steps own size exchanges calls more cursors sound run calm made said;
-  pages = pages_true laws reading s t steps own size exchanges calls more cursors sound run calm made said;
+  -- a lookup of a request, in the run
+  in_run : (first its rest : Calls) {want : List Bool} → calls_of own steps ≡ first ++ (its ++ rest)
+      → (l : LooksUp size want End its) → InRun s t size want l.slot l.version l.pages
+  in_run first its rest w l = record {
+    steps = steps;
+    own = own;
+    before = first;
+    after = rest;
+    sound = sound;
+    run = run;
+    calm = calm;
+    made = w ∙ ap (λ (cs : Calls). first ++ (cs ++ rest)) l.made;
+    fetches = l.fetches;
+  }
+
+  -- its version is no older than any that was told
+  up_to_date : (first its rest : Calls) {want : List Bool} → calls_of own steps ≡ first ++ (its ++ rest)
+      → (l : LooksUp size want End its) → IsUpToDate t.history first l.version
+  up_to_date first its rest w l =
+      laws.pins s t steps own l.slot l.version first ((l.pages ++ (events.Unpin l.slot, replies.Unpinned) ∷ []) ++ rest)
+      sound run calm (w ∙ ap (λ (cs : Calls). first ++ (cs ++ rest)) l.made)
+
+  -- what is the same as a structure, by what a lookup listed
+  all_same : (first its rest : Calls) {text : List ℕ} {m : Molecule} {print : List Bool} {list : SameList}
+      → calls_of own steps ≡ first ++ (its ++ rest) → IsPrinted text m print → FindsSame size m print its list
+      → AreAllSame t.history m print list
+  all_same first its rest {text} {m} {print} {list} w p found =
+      let l = found.lookup in
+      finds.sames s t size l.slot l.version l.pages m print list (in_run first its rest w l)
+      (finds.molecules Smiles text m p.structure) p.print_is.bits found.is
+
+  sames_true : SamesAreTrue t.history exchanges
+  sames_true before after x text version tried count e is k =
+      let a = spot before after x e in
+      let did = same_by reading x.request text version tried count a.did.allowed a.did.does is k in
+      let r = same_found version tried count did.3 k in
+      let l = r.found.lookup in
+      let all = all_same a.first a.its (a.rest ++ more) a.calls_are did.2 r.found in
+      let version_is : l.version ≡ version = sym r.found.is.version_is ∙ r.numbers.version_is in
+      let fresh = up_to_date a.first a.its (a.rest ++ more) a.calls_are l in (
+        record {
+          same = record {
+            molecule = did.0;
+            structure = did.2.structure;
+            are = subst (λ (v : ℕ). AreAnswers (IsSameAs did.0) t.history v (hits_in x.lines)) r.numbers.version_is
+                (subst (λ (ids : List ℕ). AreAnswers (IsSameAs did.0) t.history r.list.version ids) (sym r.listed)
+                all.are);
+          };
+          print = did.1;
+          print_is = did.2.print_is;
+          screened = all.screened;
+          all = subst (λ (v : ℕ). AreTried t.history v did.1 all.screened) r.numbers.version_is all.all;
+          tried_is = sym r.numbers.tried_is ∙ all.count;
+          length_is = sym r.numbers.hits_is ∙ ap (λ (ids : List ℕ). length ids) (sym r.listed);
+        },
+        no_older before after x a version (subst (λ (v : ℕ). IsUpToDate t.history a.first v) version_is fresh),
+      )
+
+  -- what a `register-new` found
+  found_same : (before after : List Exchange) (x : Exchange) (a : Spot before after x) {text ids : List ℕ} {m : Molecule}
+      {print : List Bool} → IsPrinted text m print → NewFound size m print a.its ids
+      → AreFoundSame t.history before text ids
+  found_same before after x a {text} {ids} {m} {print} p n =
+      let l = n.found.lookup in
+      let rest : Calls = n.rest ++ (a.rest ++ more) in
+      let w : calls_of own steps ≡ a.first ++ (n.first ++ rest) =
+      a.calls_are ∙ (ap (λ (cs : Calls). a.first ++ (cs ++ (a.rest ++ more))) n.made
+      ∙ ap (λ (cs : Calls). a.first ++ cs) (append_assoc n.first n.rest (a.rest ++ more))) in
+      let all = all_same a.first n.first rest w p n.found in
+      let fresh = up_to_date a.first n.first rest w l in
+      record {
+        version = l.version;
+        within = fresh.0;
+        no_older = no_older before after x a l.version fresh;
+        same = record {
+          molecule = m;
+          structure = p.structure;
+          are = subst (λ (v : ℕ). AreAnswers (IsSameAs m) t.history v ids) n.found.is.version_is
+              (subst (λ (is : List ℕ). AreAnswers (IsSameAs m) t.history n.list.version is) (sym n.listed) all.are);
+        };
+      }
+
+  registrations_true : RegistrationsAreTrue t.history exchanges
+  registrations_true before after x id text e is =
+      let a = spot before after x e in (
+        λ v k.
+            let did = new_by reading x.request id text (line.Accepted v) a.did.allowed a.did.does is k tt in
+            found_same before after x a did.3 (accepted_found v did.4 k),
+        λ same k.
+            let did = new_by reading x.request id text (line.Refused (refusals.Same same)) a.did.allowed a.did.does is k tt
+            in
+            let n = refused_found same did.4 k in
+            (n.0, found_same before after x a did.3 n.1),
+      )
+
+  similars_true : SimilarsAreTrue t.history exchanges
+  similars_true before after x p q n text version scored count e is k =
+      let a = spot before after x e in
+      let did = similar_by reading x.request p q n text version scored count a.did.allowed a.did.does is k in
+      let r = similar_found version scored count did.3 k in
+      let l = r.found.lookup in
+      let all = finds.similars s t size l.slot l.version p q n l.pages r.found.want text did.0 did.1 r.list
+      (in_run a.first a.its (a.rest ++ more) a.calls_are l) r.found.none did.2.structure did.2.print_is r.found.is in
+      let version_is : l.version ≡ version = sym r.found.is.version_is ∙ r.numbers.version_is in
+      let fresh = up_to_date a.first a.its (a.rest ++ more) a.calls_are l in (
+        record {
+          molecule = did.0;
+          structure = did.2.structure;
+          print = did.1;
+          print_is = did.2.print_is;
+          offers = all.offers;
+          all = subst (λ (v : ℕ). AreAllOffered did.1 t.history v all.offers) r.numbers.version_is all.are;
+          best = subst (λ (b : Board). IsBest all.offers b)
+              (same_board r.list.best p q n (likes_in x.lines) all.p_is all.q_is all.most_is (sym r.listed)) all.best;
+          scored_is = sym r.numbers.tried_is ∙ all.count;
+          length_is = sym r.numbers.hits_is ∙ ap (λ (o : List Offer). length o) (sym r.listed);
+        },
+        no_older before after x a version (subst (λ (v : ℕ). IsUpToDate t.history a.first v) version_is fresh),
+      )
+
+pub dialogues-are-true : Laws → Finds → OneReading → DialoguesAreTrue
+dialogues-are-true laws finds reading s t steps own size exchanges calls more cursors sound run calm made said = record {
+  searches = searches_true laws finds reading s t steps own size exchanges calls more cursors sound run calm made said;
+  cursors = cursors_true laws finds reading s t steps own size exchanges calls more cursors sound run calm made said;
+  pages = pages_true laws finds reading s t steps own size exchanges calls more cursors sound run calm made said;
+  sames = sames_true laws finds reading s t steps own size exchanges calls more cursors sound run calm made said;
+  registrations = registrations_true laws finds reading s t steps own size exchanges calls more cursors sound run calm
+      made said;
+  similars = similars_true laws finds reading s t steps own size exchanges calls more cursors sound run calm made said;
 }

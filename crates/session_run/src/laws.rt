@@ -1,6 +1,8 @@
-//! The laws of what a session lists: joined with a run of the store's machine, its hits are the history's.
+//! The laws of what a session lists: joined with a run of the store's machine, what it lists is the history's.
 ghost use Rattle.session_run.specs.Truths.{DialoguesAreTrue, SearchesAreHits, ServicesAreTrue};
 
+use lookup::{sames_are_answers, similars_are_answers};
+use mol_finish::structures_are_molecules;
 use shell_lang::one_reading;
 use store_machine::{calls_give_pages, needs_screen, replies_tell, runs_grow, snapshots_stay};
 
@@ -16,7 +18,8 @@ pub fn searches_are_hits()
     needs_screen();
 }
 
-/// In a dialogue, each search and each cursor that came to its end listed exactly the hits of its pattern.
+/// In a dialogue, each search and each cursor that came to its end listed exactly the hits of its pattern, and each
+/// lookup exactly what is the same or most similar.
 pub fn dialogues_are_true()
     ensures { DialoguesAreTrue }
 {
@@ -26,6 +29,9 @@ pub fn dialogues_are_true()
     calls_give_pages();
     needs_screen();
     one_reading();
+    sames_are_answers();
+    similars_are_answers();
+    structures_are_molecules();
 }
 
 /// What a session served of a script, the contract of `session`, is the replies of such a dialogue.

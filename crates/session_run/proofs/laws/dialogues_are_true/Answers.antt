@@ -9,4 +9,8 @@ returns c = dialogues-are-true (record {
   pins = c.replies_tell.ensures.pins;
   pages = c.calls_give_pages.ensures;
   needs = c.needs_screen.ensures;
+}) (record {
+  sames = c.sames_are_answers.ensures;
+  similars = c.similars_are_answers.ensures;
+  molecules = c.structures_are_molecules.ensures;
 }) c.one_reading.ensures

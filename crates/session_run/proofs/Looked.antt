@@ -1,0 +1,237 @@
+-- Answers behind a lookup: what was found is listed, or a change is committed, or memory ran out.
+use Rattle.std.proofs.Common.{◌≡◌, ◌++◌, ◌∙◌, append-nil, append_assoc, ap, Bool, Err, inl, inr, List, [], ◌∷◌, Ok, refl, Result, subst, sym, ℕ}
+use Rattle.chem_core.specs.Molecule.{Molecule}
+use Rattle.lookup.specs.Asked.{IsEmptyPrint}
+use Rattle.lookup.specs.Fetches as fetches
+use Rattle.lookup.specs.Fetches.{CutShort, Fetches, HeldBesides, Looks, NoneFree, Unasked, Whole, WornAfter, WornBefore, begun_calls, lookup_calls}
+use Rattle.lookup.specs.declared.same.SameList.{SameList}
+use Rattle.lookup.specs.declared.similar.SimilarList.{SimilarList}
+use Rattle.mol_finish.specs.Structure.{HasMolecule, IsAnswer, IsStructureOf}
+use Rattle.mol_finish.specs.declared.fault.Format.{Format}
+use Rattle.mol_finish.specs.declared.fault.Format.TheVariants.{Smiles}
+use Rattle.mol_finish.specs.declared.fault.TextFault.{TextFault}
+use Rattle.mol_finish.specs.declared.fault.TextFault.TheVariants as texts
+use Rattle.par_search.specs.declared.fault.SearchFault.{SearchFault}
+use Rattle.par_search.specs.declared.fault.SearchFault.TheVariants as faults
+use Rattle.shell_lang.specs.Reply as line
+use Rattle.shell_lang.specs.declared.reply.Refusal.TheVariants as refusals
+use Rattle.shell_lang.specs.declared.reply.Reply as written
+use Rattle.store_core.specs.Calls.{NotRaised, SameHeld}
+use Rattle.store_core.specs.declared.service.Service as meaning
+use Rattle.store_machine.specs.Searches.{End, Place, fetched, records_of}
+use Rattle.store_machine.specs.declared.machine.Change.{Change}
+use Rattle.store_machine.specs.declared.machine.Event.TheVariants as events
+use Rattle.store_machine.specs.declared.machine.Found.{Found}
+use Rattle.store_machine.specs.declared.machine.Reply.TheVariants as replies
+use Rattle.session_run.specs.Acts.{Act, AllSame, AllSimilar, Answers, Ask, Asks, Closed, Does, Fault, IsNew, Lines, ListedSame, ListedSimilar, MayAsk, NewLost, NotNew, Opened, Refused, RegisterNew, RegisteredNew, Same, SameLost, Say, Says, Searched, Silence, Similar, SimilarLost, Turned, same_lines, similar_lines}
+use Rattle.session_run.specs.Cursors.{Calls, Cursor}
+use Rattle.session_run.specs.Lookups.{FindsSame, FindsSimilar, LooksUp}
+use Rattle.session_run.specs.Made.{Answered, AnsweredBy, Broken, Said, TellsAll, Unsaid, Uses, Writes}
+use Rattle.session_run.specs.Pins.{HeldAfter, HeldBy, MovePins, Takes}
+use Rattle.session_run.specs.Responds.{IsTextRefusal}
+use Rattle.session_run.specs.Searched.{IsFaultLine}
+use Rattle.session_run.specs.Texts.{IsTextFault}
+use Rattle.session_run.specs.declared.stop.Stop.{Stop}
+use Rattle.session_run.specs.declared.stop.Stop.TheVariants as stops
+use Rattle.session_run.proofs.Held.{apart-more, leave-apart, leave-moves}
+use Rattle.session_run.proofs.Joined.{uses-kept}
+use Rattle.session_run.proofs.Lines.{broken, noted, said}
+use Rattle.session_run.proofs.LookedUp.{fetches_leave, pin_returned}
+
+-- a text that is refused
+pub text_unread : {size : ℕ} {cursors : List Cursor} (Allowed : Act → Type 0) (format : Format) (text : List ℕ)
+    (fault : TextFault) (one : line.Reply) → Allowed (Say Fault)
+    → ((f : TextFault) → IsTextFault format text f → Allowed (Say (Refused (refusals.Text f))))
+    → IsAnswer format text (Err fault) → IsTextRefusal fault one
+    → Answers size Allowed cursors [] (one ∷ []) cursors
+text_unread {size} {cursors} Allowed format text texts.NoMemory one lacks may is e =
+    subst (λ (l : line.Reply). Answers size Allowed cursors [] (l ∷ []) cursors) (sym e) (noted Fault lacks)
+text_unread {size} {cursors} Allowed format text fault one lacks may is e =
+    subst (λ (l : line.Reply). Answers size Allowed cursors [] (l ∷ []) cursors) (sym e)
+    (noted (Refused (refusals.Text fault)) (may fault is))
+
+-- What a lookup does to the pins: to its end, and up to where its pin is held
+given_back : (a b : ℕ → ℕ → Type 0) (size : ℕ) (want : List Bool) (place : Place) (f : Fetches a size want place)
+    → SameHeld a b → MovePins (lookup_calls f.slot f.version f.pages) a b
+given_back a b size want place f held =
+    let taken : ℕ → ℕ → Type 0 = HeldBy a (Takes f.slot f.version) in
+    let leave = fetches_leave f.slot size want _ place f.pages f.are in
+    let unpin : Calls = (events.Unpin f.slot, replies.Unpinned) ∷ [] in
+    let apart = (f.free, apart-more taken f.pages unpin (leave-apart taken f.pages leave) (tt, tt)) in
+    let same = pin_returned a f.slot f.version size want place (lookup_calls f.slot f.version f.pages) f.pages refl f.are apart
+    in
+    record {
+      now = λ s v. (
+        λ x. (same s v).1 ((held s v).0 x),
+        λ x. (held s v).1 ((same s v).0 x),
+      );
+      apart = apart;
+    }
+
+kept_on : (a b : ℕ → ℕ → Type 0) (size : ℕ) (want : List Bool) (place : Place) (f : Fetches a size want place)
+    → HeldBesides a f.slot f.version b → MovePins (begun_calls f.slot f.version f.pages) a b
+kept_on a b size want place f held =
+    let m = leave-moves (HeldBy a (Takes f.slot f.version)) b f.pages
+    (fetches_leave f.slot size want _ place f.pages f.are) held in
+    record { now = m.now; apart = (f.free, m.apart) }
+
+module _ {S : Type 0} {of : meaning.Ghosts S} {old new : S} {size : ℕ} {want : List Bool} where
+  -- as a session counts them
+  looked_uses : (place : Place) (f : Fetches (of.holds old) size want place)
+      → fetches.Makes of old new (lookup_calls f.slot f.version f.pages) → SameHeld (of.holds old) (of.holds new)
+      → NotRaised (of.bounds old) (of.bounds new) → Uses of old new (lookup_calls f.slot f.version f.pages)
+  looked_uses place f made held bounds = record {
+    makes = record { made = made.made };
+    pins = given_back (of.holds old) (of.holds new) size want place f held;
+    bounds = bounds;
+  }
+
+  looks_up : (place : Place) (f : Fetches (of.holds old) size want place)
+      → LooksUp size want place (lookup_calls f.slot f.version f.pages)
+  looks_up place f =
+      record { slot = f.slot; version = f.version; pages = f.pages; made = refl; fetches = f.are }
+
+  -- a lookup to its end
+  pub looked_whole : {X : Type 0} {Is : ℕ → List Found → X → Type 0} (x : X) → Looks of old new size want Is (Ok x)
+      → NotRaised (of.bounds old) (of.bounds new)
+      → (calls : Calls) × Uses of old new calls × (l : LooksUp size want End calls)
+      × Is l.version (records_of (fetched l.slot l.pages)) x
+  looked_whole x (Whole _ f made held is) bounds = (
+    lookup_calls f.slot f.version f.pages,
+    looked_uses End f made held bounds,
+    looks_up End f,
+    is,
+  )
+
+  -- one that found no memory, or no pin, or the service worn
+  module _ {X : Type 0} {Is : ℕ → List Found → X → Type 0} {Allowed : Act → Type 0} {cursors : List Cursor}
+      {out out' : List ℕ} (pin : Allowed (Ask events.Pin)) (lacks : Allowed (Say Fault)) (act : Act) (may : Allowed act)
+      (lost : (place : Place) (calls : Calls) → LooksUp size want place calls
+      → Does size cursors act calls (line.MemoryFault ∷ []) cursors) where
+    pub looked_in_vain : (fault : SearchFault) (given : Result written.Reply Stop) (result : Result (Unit {0}) Stop)
+        → Looks of old new size want Is (Err fault) → NotRaised (of.bounds old) (of.bounds new)
+        → IsFaultLine fault given → Writes given out out' result
+        → AnsweredBy of old new (Answers size Allowed cursors) out out' cursors result
+    looked_in_vain _ given result (CutShort place f made held) bounds is w =
+        said (lookup_calls f.slot f.version f.pages) line.MemoryFault result (looked_uses place f made held bounds)
+        (record { act = act; allowed = may; does = lost place _ (looks_up place f) })
+        (subst (λ (g : Result written.Reply Stop). Writes g out out' result) is w)
+    looked_in_vain _ given result (Unasked made held) bounds is w =
+        said [] line.MemoryFault result (uses-kept [] made.made tt held bounds) (noted Fault lacks)
+        (subst (λ (g : Result written.Reply Stop). Writes g out out' result) is w)
+    looked_in_vain _ given result (NoneFree made held) bounds is w =
+        said ((events.Pin, replies.NoPin) ∷ []) (line.Refused refusals.Pins) result
+        (uses-kept ((events.Pin, replies.NoPin) ∷ []) made.made (refl, tt) held bounds)
+        (record { act = Ask events.Pin; allowed = pin; does = Asks events.Pin replies.NoPin _ refl })
+        (subst (λ (g : Result written.Reply Stop). Writes g out out' result) is w)
+    looked_in_vain _ given result (WornBefore made held worn) bounds is w =
+        broken [] (line.MemoryFault ∷ []) cursors result (uses-kept [] made.made tt held bounds) worn (noted Fault lacks)
+        (subst (λ (g : Result written.Reply Stop). Writes g out out' result) is w)
+    looked_in_vain _ given result (WornAfter place f made held worn) bounds is w =
+        let e : result ≡ Err stops.Worn = subst (λ (g : Result written.Reply Stop). Writes g out out' result) is w in
+        subst (λ (r : Result (Unit {0}) Stop). AnsweredBy of old new (Answers size Allowed cursors) out out' cursors r)
+        (sym e) (Broken (record {
+          calls = begun_calls f.slot f.version f.pages;
+          whole = lookup_calls f.slot f.version f.pages;
+          lines = line.MemoryFault ∷ [];
+          after = cursors;
+          made = record {
+            makes = record { made = made.made };
+            pins = kept_on (of.holds old) (of.holds new) size want place f held;
+            bounds = bounds;
+          };
+          begins = ((events.Unpin f.slot, replies.Unpinned) ∷ [], refl);
+          is = record { act = act; allowed = may; does = lost place _ (looks_up place f) };
+          worn = worn;
+        }))
+
+-- What was found is listed
+module _ {Made : Calls → Type 0} {IsWorn : Type 0} {size : ℕ} {Allowed : Act → Type 0} {cursors : List Cursor}
+    {out out' : List ℕ} where
+  listed : (act : Act) (calls : Calls) (lines : Lines) (result : Result (Unit {0}) Stop) → Made calls → Allowed act
+      → Does size cursors act calls lines cursors → Does size cursors act calls (line.MemoryFault ∷ []) cursors
+      → TellsAll lines out out' result → Answered Made IsWorn (Answers size Allowed cursors) out out' cursors result
+  listed act calls lines result made may does lost (inl e) =
+      subst (λ (r : Result (Unit {0}) Stop). Answered Made IsWorn (Answers size Allowed cursors) out out' cursors r)
+      (sym e.0) (Said tt (record {
+        calls = calls;
+        lines = lines;
+        made = made;
+        is = record { act = act; allowed = may; does = does };
+      }) e.1)
+  listed act calls lines result made may does lost (inr t) =
+      said calls line.MemoryFault result made (record { act = act; allowed = may; does = lost }) t
+
+  pub same_listed : (m : Molecule) (print : List Bool) (calls : Calls) (list : SameList)
+      (result : Result (Unit {0}) Stop) → Made calls → Allowed (Same m print) → FindsSame size m print calls list
+      → TellsAll (same_lines list) out out' result
+      → Answered Made IsWorn (Answers size Allowed cursors) out out' cursors result
+  same_listed m print calls list result made may found t =
+      listed (Same m print) calls (same_lines list) result made may (ListedSame m print calls _ (AllSame calls list found))
+      (ListedSame m print calls _ (SameLost calls End found.lookup)) t
+
+  pub similar_listed : (p q k : ℕ) (print : List Bool) (calls : Calls) (list : SimilarList)
+      (result : Result (Unit {0}) Stop) → Made calls → Allowed (Similar p q k print)
+      → FindsSimilar size p q k print calls list → TellsAll (similar_lines list) out out' result
+      → Answered Made IsWorn (Answers size Allowed cursors) out out' cursors result
+  similar_listed p q k print calls list result made may found t =
+      listed (Similar p q k print) calls (similar_lines list) result made may
+      (ListedSimilar p q k print calls _ (AllSimilar calls list found))
+      (ListedSimilar p q k print calls _ (SimilarLost calls found.want End found.none found.lookup)) t
+
+-- a change is committed behind a lookup that found nothing
+module _ {size : ℕ} {Allowed : Act → Type 0} {cursors : List Cursor} (change : Change) (m : Molecule) (print : List Bool)
+    (calls : Calls) (list : SameList) (found : FindsSame size m print calls list) (none : list.hits.items ≡ [])
+    (may : Allowed (RegisterNew change m print)) where
+  committed : {cursors' : List Cursor} {act : Act} {its : Calls} {lines : Lines} → MayAsk (events.Commit change) act
+      → Does size cursors act its lines cursors' → Answers size Allowed cursors (calls ++ its) lines cursors
+  committed a (Says Silence) = absurd a
+  committed a (Says (Refused refusal)) = absurd a
+  committed a (Says Fault) = record {
+    act = RegisterNew change m print;
+    allowed = may;
+    does = subst (λ (cs : Calls). Does size cursors (RegisterNew change m print) cs (line.MemoryFault ∷ []) cursors)
+        (sym (append-nil calls)) (RegisteredNew change m print calls _ (NewLost calls End found.lookup));
+  }
+  committed a (Asks event reply one is) = record {
+    act = RegisterNew change m print;
+    allowed = may;
+    does = rw a (RegisteredNew change m print _ _ (IsNew calls list reply one found none (rw a at is)));
+  }
+  committed a (Searched pattern its lines s) = absurd a
+  committed a (Opened name pattern want slot v new need) = absurd a
+  committed a (Turned name before after c c' its lines named advances) = absurd a
+  committed a (Closed name before after c named) = absurd a
+  committed a (ListedSame n other its lines s) = absurd a
+  committed a (RegisteredNew change n other its lines s) = absurd a
+  committed a (ListedSimilar p q k other its lines s) = absurd a
+
+  pub registered_from : {First Next All : Calls → Type 0} {IsWorn : Type 0} {out out' : List ℕ}
+      {result : Result (Unit {0}) Stop} → ((xs ys : Calls) → First xs → Next ys → All (xs ++ ys)) → First calls
+      → Answered Next IsWorn (Answers size (MayAsk (events.Commit change)) cursors) out out' cursors result
+      → Answered All IsWorn (Answers size Allowed cursors) out out' cursors result
+  registered_from joins first (Said u did e) = Said u (record {
+    calls = calls ++ did.calls;
+    lines = did.lines;
+    made = joins calls did.calls first did.made;
+    is = committed did.is.allowed did.is.does;
+  }) e
+  registered_from joins first (Unsaid did) = Unsaid (record {
+    calls = calls ++ did.calls;
+    lines = did.lines;
+    made = joins calls did.calls first did.made;
+    is = committed did.is.allowed did.is.does;
+  })
+  registered_from joins first (Broken w) = Broken (record {
+    calls = calls ++ w.calls;
+    whole = calls ++ w.whole;
+    lines = w.lines;
+    after = cursors;
+    made = joins calls w.calls first w.made;
+    begins = (
+      w.begins.0,
+      append_assoc calls w.calls w.begins.0 ∙ ap (λ (cs : Calls). calls ++ cs) w.begins.1,
+    );
+    is = committed w.is.allowed w.is.does;
+    worn = w.worn;
+  })
