@@ -1,5 +1,6 @@
 -- Answers behind a lookup: what was found is listed, or a change is committed, or memory ran out.
-use Rattle.std.proofs.Common.{◌≡◌, ◌++◌, ◌∙◌, append-nil, append_assoc, ap, Bool, Err, inl, inr, List, [], ◌∷◌, Ok, refl, Result, subst, sym, ℕ}
+use Rattle.std.proofs.Common.{◌≡◌, ◌++◌, ◌∙◌, append-nil, append_assoc, ap, arith, Bool, Err, inl, inr, List, [], ◌∷◌, None, Ok, refl, Result, slice_get, Some, subst, sym, ℕ}
+use Rattle.std.proofs.lemmas.Option.{get_or_from_slice_get, slice_get-get_or, slice_get_within}
 use Rattle.chem_core.specs.Molecule.{Molecule}
 use Rattle.lookup.specs.Asked.{IsEmptyPrint}
 use Rattle.lookup.specs.Fetches as fetches
@@ -16,7 +17,9 @@ use Rattle.par_search.specs.declared.fault.SearchFault.TheVariants as faults
 use Rattle.shell_lang.specs.Reply as line
 use Rattle.shell_lang.specs.declared.reply.Refusal.TheVariants as refusals
 use Rattle.shell_lang.specs.declared.reply.Reply as written
+use Rattle.path_print.specs.Prints.{IsPrint}
 use Rattle.store_core.specs.Calls.{NotRaised, SameHeld}
+use Rattle.store_core.specs.Records.{IsRecord, RecordTerm}
 use Rattle.store_core.specs.declared.service.Service as meaning
 use Rattle.store_machine.specs.Searches.{End, Place, fetched, records_of}
 use Rattle.store_machine.specs.declared.machine.Change.{Change}
@@ -33,6 +36,7 @@ use Rattle.session_run.specs.Searched.{IsFaultLine}
 use Rattle.session_run.specs.Texts.{IsTextFault}
 use Rattle.session_run.specs.declared.stop.Stop.{Stop}
 use Rattle.session_run.specs.declared.stop.Stop.TheVariants as stops
+use Rattle.session_run.proofs.Found.{IsPrinted}
 use Rattle.session_run.proofs.Held.{apart-more, leave-apart, leave-moves}
 use Rattle.session_run.proofs.Joined.{uses-kept}
 use Rattle.session_run.proofs.Lines.{broken, noted, said}
@@ -49,6 +53,34 @@ text_unread {size} {cursors} Allowed format text texts.NoMemory one lacks may is
 text_unread {size} {cursors} Allowed format text fault one lacks may is e =
     subst (λ (l : line.Reply). Answers size Allowed cursors [] (l ∷ []) cursors) (sym e)
     (noted (Refused (refusals.Text fault)) (may fault is))
+
+-- the structure of a text, as its record has it
+pub printed_of : (text : List ℕ) (a b r : RecordTerm) → a ≡ r → b ≡ r → IsRecord a → IsPrint a.mol a.print
+    → r.format ≡ Smiles → r.text ≡ text → IsPrinted text b.mol b.print
+printed_of text a b r e f is print format text_is =
+    subst (λ (x : RecordTerm). IsPrinted text x.mol x.print) (e ∙ sym f) (record {
+      structure = subst (λ (k : Format). HasMolecule k text a.mol) (ap (λ (x : RecordTerm). x.format) e ∙ format)
+          (subst (λ (t : List ℕ). HasMolecule a.format t a.mol) (ap (λ (x : RecordTerm). x.text) e ∙ text_is)
+          is.structure);
+      print_is = print;
+    })
+
+-- the first of a list, or none
+pub first_some : (items read : List ℕ) (x : ℕ) → read ≡ items → Some x ≡ slice_get read 0
+    → (more : List ℕ) × (items ≡ x ∷ more)
+first_some items read x e is = by items (subst (λ (l : List ℕ). slice_get l 0 ≡ Some x) e (sym is)) where
+  by : (l : List ℕ) → slice_get l 0 ≡ Some x → (more : List ℕ) × (l ≡ x ∷ more)
+  by [] h = absurd (omega (arith, slice_get_within [] 0 x h))
+  by (y ∷ ys) h = (ys, ap (λ (n : ℕ). n ∷ ys) (get_or_from_slice_get (y ∷ ys) 0 x x h))
+
+pub first_none : (items read : List ℕ) → read ≡ items → None ≡ slice_get read 0 → items ≡ []
+first_none items read e is = by items (subst (λ (l : List ℕ). slice_get l 0 ≡ None) e (sym is)) where
+  some_or_none : (y : ℕ) → Some y ≡ None → ⊥
+  some_or_none y h = cc
+
+  by : (l : List ℕ) → slice_get l 0 ≡ None → l ≡ []
+  by [] h = refl
+  by (y ∷ ys) h = absurd (some_or_none _ (sym (slice_get-get_or (y ∷ ys) 0 y (omega arith)) ∙ h))
 
 -- What a lookup does to the pins: to its end, and up to where its pin is held
 given_back : (a b : ℕ → ℕ → Type 0) (size : ℕ) (want : List Bool) (place : Place) (f : Fetches a size want place)

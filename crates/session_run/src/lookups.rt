@@ -41,8 +41,8 @@ pub fn same<S: Service>(
     out: &mut Vec<u8>,
 ) -> Result<(), Stop>
     requires { IsFit cursors.now }
-    ensures { (open : List Cursor) → AnsweredBy S.Service service.old service.new
-        (Answers cursors.now.settings.page (MaySame text.now) open) out.old.items out.new.items open result }
+    ensures { (here : List Cursor) → AnsweredBy S.Service service.old service.new
+        (Answers cursors.now.settings.page (MaySame text.now) here) out.old.items out.new.items here result }
 {
     let record = match recorder.record(1, Format::Smiles, text) {
         Ok(record) => record,
@@ -66,9 +66,9 @@ pub fn register_new<S: Service>(
 ) -> Result<(), Stop>
     requires fit { IsFit cursors.now }
     requires id { IsId id }
-    ensures { (open : List Cursor) → AnsweredBy S.Service service.old service.new
-        (Answers cursors.now.settings.page (MayRegisterNew id text.now) open)
-        out.old.items out.new.items open result }
+    ensures { (here : List Cursor) → AnsweredBy S.Service service.old service.new
+        (Answers cursors.now.settings.page (MayRegisterNew id text.now) here)
+        out.old.items out.new.items here result }
 {
     let record = match recorder.record(id, Format::Smiles, text) {
         Ok(record) => record,
@@ -95,9 +95,9 @@ pub fn similar<S: Service>(
 ) -> Result<(), Stop>
     requires fit { IsFit cursors.now }
     requires asked { IsSimilarity asked.p asked.q asked.k }
-    ensures { (open : List Cursor) → AnsweredBy S.Service service.old service.new
-        (Answers cursors.now.settings.page (MaySimilar asked.p asked.q asked.k text.now) open)
-        out.old.items out.new.items open result }
+    ensures { (here : List Cursor) → AnsweredBy S.Service service.old service.new
+        (Answers cursors.now.settings.page (MaySimilar asked.p asked.q asked.k text.now) here)
+        out.old.items out.new.items here result }
 {
     let record = match recorder.record(1, Format::Smiles, text) {
         Ok(record) => record,

@@ -36,6 +36,15 @@ returns-in-Stats-clause-answered g c molfile = rw c.in-Stats.is (c.stats.ensures
 pub returns-in-Search-clause-answered : goal.returns-in-Search-clause-answered
 returns-in-Search-clause-answered g c molfile = rw c.in-Search.is (c.search.ensures _)
 
+pub returns-in-Same-clause-answered : goal.returns-in-Same-clause-answered
+returns-in-Same-clause-answered g c molfile = rw c.in-Same.is (c.same.ensures _)
+
+pub returns-in-RegisterNew-clause-answered : goal.returns-in-RegisterNew-clause-answered
+returns-in-RegisterNew-clause-answered g c molfile = rw c.in-RegisterNew.is (c.register_new.ensures _)
+
+pub returns-in-Similar-clause-answered : goal.returns-in-Similar-clause-answered
+returns-in-Similar-clause-answered g c molfile = rw c.in-Similar.is (c.similar.ensures _)
+
 pub returns-in-Start-clause-answered : goal.returns-in-Start-clause-answered
 returns-in-Start-clause-answered g c molfile = rw c.in-Start.is c.open.ensures.answered
 
@@ -58,3 +67,9 @@ unreachable-requires g c =
 pub unreachable-requires-in-ReviseMol : goal.unreachable-requires-in-ReviseMol
 unreachable-requires-in-ReviseMol g c =
     spells_revise_mol c.requires.line.0 c.args.command _ c.in-ReviseMol.is c.requires.line.1 c.requires.line.2
+
+pub register_new-requires-clause-id : goal.register_new-requires-clause-id
+register_new-requires-clause-id g c _ _ = let s = rw c.in-RegisterNew.is at c.requires.line.1 in s.0
+
+pub similar-requires-clause-asked : goal.similar-requires-clause-asked
+similar-requires-clause-asked g c _ _ = let s = rw c.in-Similar.is at c.requires.line.1 in s.0

@@ -1,0 +1,39 @@
+use Rattle.std.proofs.Common.{[], refl}
+use Rattle.std.specs.Arc.{arc_value}
+use Rattle.mol_finish.specs.declared.fault.Format.TheVariants.{Smiles}
+use Rattle.shell_lang.specs.Reply.{reply_of}
+use Rattle.session_run.specs.Acts.{ListedSame, MaySame, Same, SameLost}
+use Rattle.session_run.proofs.Joined.{uses-none}
+use Rattle.session_run.proofs.Lines.{said}
+use Rattle.session_run.proofs.Looked.{looked_in_vain, looked_whole, printed_of, same_listed, text_unread}
+use Rattle.session_run.proofs.lookups.same.Goals as goal
+
+pub returns-in-Err : goal.returns-in-Err
+returns-in-Err g c here =
+    said [] (reply_of c.refuse_text.result) c.say.result (uses-none g.met.S.Service.stays c.args.service.now)
+    (text_unread (MaySame c.args.text.now) Smiles c.args.text.now c.in-Err.fault _ tt
+    (λ f h. h) c.in-Err.ensures.fault c.refuse_text.ensures) c.say.ensures
+
+pub returns-in-Ok-find_same : goal.returns-in-Ok-find_same
+returns-in-Ok-find_same g c here =
+    let p = printed_of c.args.text.now c.deref.result.now c.deref-2.result.now (arc_value c.in-Ok.record) c.deref.ensures
+    c.deref-2.ensures c.record_is_sound.ensures.record c.record_is_sound.ensures.print c.in-Ok.ensures.format
+    c.in-Ok.ensures.text in
+    let m = c.deref-2.result.now.mol in
+    let print = c.deref-2.result.now.print in
+    let list = c.in-Ok-find_same.list in
+    let l = looked_whole list c.in-Ok-find_same.ensures.looks c.find_same.ensures.bounds in
+    same_listed m print l.0 list c.say_same.result l.1 (p.structure, p.print_is) (record { lookup = l.2; is = l.3 })
+    c.say_same.ensures
+
+pub returns : goal.returns
+returns g c here =
+    let p = printed_of c.args.text.now c.deref.result.now c.deref-2.result.now (arc_value c.in-Ok.record) c.deref.ensures
+    c.deref-2.ensures c.record_is_sound.ensures.record c.record_is_sound.ensures.print c.in-Ok.ensures.format
+    c.in-Ok.ensures.text in
+    let m = c.deref-2.result.now.mol in
+    let print = c.deref-2.result.now.print in
+    looked_in_vain (refl, (m, p.structure)) tt (Same m print) (p.structure, p.print_is)
+    (λ place calls l. ListedSame m print calls _ (SameLost calls place l)) c.in-Err-find_same.fault c.fault_line.result
+    c.say_given.result c.in-Err-find_same.ensures.looks c.find_same.ensures.bounds c.fault_line.ensures
+    c.say_given.ensures

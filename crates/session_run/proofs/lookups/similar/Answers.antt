@@ -1,0 +1,47 @@
+use Rattle.std.proofs.Common.{[], refl}
+use Rattle.std.specs.Arc.{arc_value}
+use Rattle.mol_finish.specs.declared.fault.Format.TheVariants.{Smiles}
+use Rattle.shell_lang.specs.Reply.{reply_of}
+use Rattle.session_run.specs.Acts.{ListedSimilar, MaySimilar, Similar, SimilarLost}
+use Rattle.session_run.proofs.Joined.{uses-none}
+use Rattle.session_run.proofs.Lines.{said}
+use Rattle.session_run.proofs.Looked.{looked_in_vain, looked_whole, printed_of, similar_listed, text_unread}
+use Rattle.session_run.proofs.lookups.similar.Goals as goal
+
+pub returns-in-Err : goal.returns-in-Err
+returns-in-Err g c here =
+    said [] (reply_of c.refuse_text.result) c.say.result (uses-none g.met.S.Service.stays c.args.service.now)
+    (text_unread (MaySimilar c.args.asked.p c.args.asked.q c.args.asked.k c.args.text.now) Smiles c.args.text.now c.in-Err.fault _ tt
+    (λ f h. h) c.in-Err.ensures.fault c.refuse_text.ensures) c.say.ensures
+
+pub returns-in-Ok-find_similar : goal.returns-in-Ok-find_similar
+returns-in-Ok-find_similar g c here =
+    let of = printed_of c.args.text.now c.deref.result.now c.deref-2.result.now (arc_value c.in-Ok.record) c.deref.ensures
+    c.deref-2.ensures c.record_is_sound.ensures.record c.record_is_sound.ensures.print c.in-Ok.ensures.format
+    c.in-Ok.ensures.text in
+    let m = c.deref-2.result.now.mol in
+    let print = c.deref-2.result.now.print in
+    let p = c.args.asked.p in
+    let q = c.args.asked.q in
+    let k = c.args.asked.k in
+    let list = c.in-Ok-find_similar.list in
+    let looks = c.in-Ok-find_similar.ensures.looks in
+    let l = looked_whole list looks.2 c.find_similar.ensures.bounds in
+    similar_listed p q k print l.0 list c.say_similar.result l.1 (refl, refl, refl, m, of.structure, of.print_is)
+    (record { want = looks.0; none = looks.1; lookup = l.2; is = l.3 }) c.say_similar.ensures
+
+pub returns : goal.returns
+returns g c here =
+    let of = printed_of c.args.text.now c.deref.result.now c.deref-2.result.now (arc_value c.in-Ok.record) c.deref.ensures
+    c.deref-2.ensures c.record_is_sound.ensures.record c.record_is_sound.ensures.print c.in-Ok.ensures.format
+    c.in-Ok.ensures.text in
+    let m = c.deref-2.result.now.mol in
+    let print = c.deref-2.result.now.print in
+    let p = c.args.asked.p in
+    let q = c.args.asked.q in
+    let k = c.args.asked.k in
+    let looks = c.in-Err-find_similar.ensures.looks in
+    looked_in_vain (refl, (m, of.structure)) tt (Similar p q k print) (refl, refl, refl, m, of.structure, of.print_is)
+    (λ place calls l. ListedSimilar p q k print calls _ (SimilarLost calls looks.0 place looks.1 l))
+    c.in-Err-find_similar.fault c.fault_line.result c.say_given.result looks.2 c.find_similar.ensures.bounds
+    c.fault_line.ensures c.say_given.ensures
