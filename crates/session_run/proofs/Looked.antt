@@ -30,7 +30,7 @@ use Rattle.session_run.specs.Acts.{Act, AllSame, AllSimilar, Answers, Ask, Asks,
 use Rattle.session_run.specs.Cursors.{Calls, Cursor}
 use Rattle.session_run.specs.Lookups.{FindsSame, FindsSimilar, LooksUp}
 use Rattle.session_run.specs.Made.{Answered, AnsweredBy, Broken, Said, TellsAll, Unsaid, Uses, Writes}
-use Rattle.session_run.specs.Pins.{HeldAfter, HeldBy, MovePins, Takes}
+use Rattle.session_run.specs.Pins.{AreApart, HeldAfter, HeldBy, MovePins, Takes}
 use Rattle.session_run.specs.Responds.{IsTextRefusal}
 use Rattle.session_run.specs.Searched.{IsFaultLine}
 use Rattle.session_run.specs.Texts.{IsTextFault}
@@ -89,7 +89,8 @@ given_back a b size want place f held =
     let taken : ℕ → ℕ → Type 0 = HeldBy a (Takes f.slot f.version) in
     let leave = fetches_leave f.slot size want _ place f.pages f.are in
     let unpin : Calls = (events.Unpin f.slot, replies.Unpinned) ∷ [] in
-    let apart = (f.free, apart-more taken f.pages unpin (leave-apart taken f.pages leave) (tt, tt)) in
+    let apart : AreApart a (lookup_calls f.slot f.version f.pages) =
+    (f.free, apart-more taken f.pages unpin (leave-apart taken f.pages leave) (tt, tt)) in
     let same = pin_returned a f.slot f.version size want place (lookup_calls f.slot f.version f.pages) f.pages refl f.are apart
     in
     record {
@@ -107,6 +108,10 @@ kept_on a b size want place f held =
     (fetches_leave f.slot size want _ place f.pages f.are) held in
     record { now = m.now; apart = (f.free, m.apart) }
 
+looks_up : {held : ℕ → ℕ → Type 0} {size : ℕ} {want : List Bool} {place : Place} (f : Fetches held size want place)
+    → LooksUp size want place (lookup_calls f.slot f.version f.pages)
+looks_up f = record { slot = f.slot; version = f.version; pages = f.pages; made = refl; fetches = f.are }
+
 module _ {S : Type 0} {of : meaning.Ghosts S} {old new : S} {size : ℕ} {want : List Bool} where
   -- as a session counts them
   looked_uses : (place : Place) (f : Fetches (of.holds old) size want place)
@@ -118,11 +123,6 @@ module _ {S : Type 0} {of : meaning.Ghosts S} {old new : S} {size : ℕ} {want :
     bounds = bounds;
   }
 
-  looks_up : (place : Place) (f : Fetches (of.holds old) size want place)
-      → LooksUp size want place (lookup_calls f.slot f.version f.pages)
-  looks_up place f =
-      record { slot = f.slot; version = f.version; pages = f.pages; made = refl; fetches = f.are }
-
   -- a lookup to its end
   pub looked_whole : {X : Type 0} {Is : ℕ → List Found → X → Type 0} (x : X) → Looks of old new size want Is (Ok x)
       → NotRaised (of.bounds old) (of.bounds new)
@@ -131,7 +131,7 @@ module _ {S : Type 0} {of : meaning.Ghosts S} {old new : S} {size : ℕ} {want :
   looked_whole x (Whole _ f made held is) bounds = (
     lookup_calls f.slot f.version f.pages,
     looked_uses End f made held bounds,
-    looks_up End f,
+    record { slot = f.slot; version = f.version; pages = f.pages; made = refl; fetches = f.are },
     is,
   )
 
@@ -146,7 +146,7 @@ module _ {S : Type 0} {of : meaning.Ghosts S} {old new : S} {size : ℕ} {want :
         → AnsweredBy of old new (Answers size Allowed cursors) out out' cursors result
     looked_in_vain _ given result (CutShort place f made held) bounds is w =
         said (lookup_calls f.slot f.version f.pages) line.MemoryFault result (looked_uses place f made held bounds)
-        (record { act = act; allowed = may; does = lost place _ (looks_up place f) })
+        (record { act = act; allowed = may; does = lost place _ (looks_up f) })
         (subst (λ (g : Result written.Reply Stop). Writes g out out' result) is w)
     looked_in_vain _ given result (Unasked made held) bounds is w =
         said [] line.MemoryFault result (uses-kept [] made.made tt held bounds) (noted Fault lacks)
@@ -173,7 +173,7 @@ module _ {S : Type 0} {of : meaning.Ghosts S} {old new : S} {size : ℕ} {want :
             bounds = bounds;
           };
           begins = ((events.Unpin f.slot, replies.Unpinned) ∷ [], refl);
-          is = record { act = act; allowed = may; does = lost place _ (looks_up place f) };
+          is = record { act = act; allowed = may; does = lost place _ (looks_up f) };
           worn = worn;
         }))
 

@@ -69,7 +69,7 @@ unreachable-requires-in-ReviseMol g c =
     spells_revise_mol c.requires.line.0 c.args.command _ c.in-ReviseMol.is c.requires.line.1 c.requires.line.2
 
 pub register_new-requires-clause-id : goal.register_new-requires-clause-id
-register_new-requires-clause-id g c _ _ = let s = rw c.in-RegisterNew.is at c.requires.line.1 in s.0
+register_new-requires-clause-id g c = let s = rw c.in-RegisterNew.is at c.requires.line.1 in s.0
 
 pub similar-requires-clause-asked : goal.similar-requires-clause-asked
-similar-requires-clause-asked g c _ _ = let s = rw c.in-Similar.is at c.requires.line.1 in s.0
+similar-requires-clause-asked g c = let s = rw c.in-Similar.is at c.requires.line.1 in s.0
