@@ -2,16 +2,17 @@
 use Rattle.std.proofs.Common.{◌≡◌, ◌≢◌, ◌⊎◌, inl, inr, ℕ, zero, suc, ◌+◌, ◌*◌, ◌-◌, ◌^◌, ◌<◌, ◌≤◌, List, [], ◌∷◌, ◌++◌, Ok, Err, Result, length, refl, sym, ◌∙◌, ap, subst, arith, decimal, codes, slice_index}
 use Rattle.std.specs.List.{All, Contains}
 use Rattle.std.specs.Str.Parse.{AllDigits, digits_value}
-use Rattle.std.proofs.lemmas.Fmt.{digits_decimal}
+use Rattle.std.proofs.lemmas.Fmt.{decimal_injective, digits_decimal}
 use Rattle.std.proofs.lemmas.Str.Parse.{IsNumeralModel, numerals_by_value, tells_digits, not_in_digits}
 use Rattle.std.proofs.lemmas.List.Elements.{All-from_get_or, All-contains, Contains-append_right}
 use Rattle.shell_lang.specs.declared.word.Word.{Word}
 use Rattle.shell_lang.specs.declared.word.Word.TheVariants as words
 use Rattle.shell_lang.specs.declared.command.LineRefusal.{LineRefusal}
 use Rattle.shell_lang.specs.declared.command.LineRefusal.TheVariants as refusals
+use Rattle.shell_lang.specs.declared.command.TheConstants.{LARGEST_DENOMINATOR, MOST_SIMILAR}
 use Rattle.shell_lang.specs.Word.{word_text}
 use Rattle.store_machine.specs.History.{IsId}
-use Rattle.shell_lang.specs.Command.{Command, Empty, Register, RegisterNew, Revise, RegisterMol, ReviseMol, Withdraw, Show, Search, Same, Similar, Start, Next, Close, Prune, Stats, IsNoIdentifier, IsNameByte, IsName, Spells, HasNoSpace, HasIdentifierPart, IsLine, StartsWith, StartsMolfile}
+use Rattle.shell_lang.specs.Command.{Command, Empty, Register, RegisterNew, Revise, RegisterMol, ReviseMol, Withdraw, Show, Search, Same, Similar, Start, Next, Close, Prune, Stats, IsNoIdentifier, IsNameByte, IsName, IsSimilarity, Spells, HasNoSpace, HasIdentifierPart, IsLine, StartsWith, StartsMolfile}
 use Rattle.shell_lang.specs.Cut.{Follows, IdentifierPart, IsRest}
 
 own : IsNumeralModel (AllDigits 10) (digits_value 10)
@@ -364,6 +365,59 @@ pub other_number : (bytes first text : List ℕ) (most : ℕ) → bytes ≡ firs
 other_number bytes first text most cut none small other n rest within e =
     other n within
     (one_split first (decimal n) text rest none (no_space_in_number n (omega (arith, within, small))) (sym cut ∙ e)).0
+
+-- a number and what follows it are read in one way
+pub same_number : (m n : ℕ) (rest more : List ℕ) → m < 2 ^ 64 → n < 2 ^ 64 →
+    decimal m ++ 32 ∷ rest ≡ decimal n ++ 32 ∷ more → (m ≡ n) × (rest ≡ more)
+same_number m n rest more p q e =
+    let same =
+    one_split (decimal m) (decimal n) rest more (no_space_in_number m p) (no_space_in_number n q) e in
+    (decimal_injective m n p q same.0, same.1)
+
+-- what follows `similar`, where the second number is none
+pub no_second : (bytes rest : List ℕ) (p : ℕ) → p ≤ LARGEST_DENOMINATOR → bytes ≡ decimal p ++ 32 ∷ rest →
+    ((n : ℕ) (more : List ℕ) → n ≤ LARGEST_DENOMINATOR → rest ≢ decimal n ++ 32 ∷ more) →
+    (c : Command) → ¬ Follows words.Similar bytes c
+no_second bytes rest p small cut none (Similar a b d text) h =
+    let first =
+    same_number p a rest (decimal b ++ 32 ∷ (decimal d ++ 32 ∷ text)) (omega (arith, small))
+    (omega (arith, h.0.part, h.0.whole.1)) (sym cut ∙ h.1) in
+    none b (decimal d ++ 32 ∷ text) h.0.whole.1 first.1
+no_second bytes rest p small cut none c h = h
+
+-- or the third
+pub no_third : (bytes rest more : List ℕ) (p q : ℕ) → p ≤ LARGEST_DENOMINATOR → q ≤ LARGEST_DENOMINATOR →
+    bytes ≡ decimal p ++ 32 ∷ rest → rest ≡ decimal q ++ 32 ∷ more →
+    ((n : ℕ) (text : List ℕ) → n ≤ MOST_SIMILAR → more ≢ decimal n ++ 32 ∷ text) →
+    (c : Command) → ¬ Follows words.Similar bytes c
+no_third bytes rest more p q small little cut again none (Similar a b d text) h =
+    let first =
+    same_number p a rest (decimal b ++ 32 ∷ (decimal d ++ 32 ∷ text)) (omega (arith, small))
+    (omega (arith, h.0.part, h.0.whole.1)) (sym cut ∙ h.1) in
+    let second =
+    same_number q b more (decimal d ++ 32 ∷ text) (omega (arith, little)) (omega (arith, h.0.whole.1))
+    (sym again ∙ first.1) in
+    none d text h.0.few.1 second.1
+no_third bytes rest more p q small little cut again none c h = h
+
+-- the three numbers behind `similar` are those of the command
+pub are_similar : (bytes rest more text : List ℕ) (p q k : ℕ) → p ≤ LARGEST_DENOMINATOR → q ≤ LARGEST_DENOMINATOR →
+    k ≤ MOST_SIMILAR → bytes ≡ decimal p ++ 32 ∷ rest → rest ≡ decimal q ++ 32 ∷ more →
+    more ≡ decimal k ++ 32 ∷ text → (c : Command) → Follows words.Similar bytes c → IsSimilarity p q k
+are_similar bytes rest more text p q k small little few cut again last (Similar a b d other) h =
+    let first =
+    same_number p a rest (decimal b ++ 32 ∷ (decimal d ++ 32 ∷ other)) (omega (arith, small))
+    (omega (arith, h.0.part, h.0.whole.1)) (sym cut ∙ h.1) in
+    let second =
+    same_number q b more (decimal d ++ 32 ∷ other) (omega (arith, little)) (omega (arith, h.0.whole.1))
+    (sym again ∙ first.1) in
+    let third = same_number k d text other (omega (arith, few)) (omega (arith, h.0.few.1)) (sym last ∙ second.1) in
+    record {
+      whole = (omega (arith, second.0, h.0.whole.0), little);
+      part = omega (arith, first.0, second.0, h.0.part);
+      few = (omega (arith, third.0, h.0.few.0), few);
+    }
+are_similar bytes rest more text p q k small little few cut again last c h = absurd h
 
 -- a line that begins with another word
 other_word : (word line : List ℕ) → word ≢ line → HasNoSpace line → ¬ StartsWith line word

@@ -10,7 +10,7 @@ use Rattle.shell_lang.specs.Word.{word_text}
 use Rattle.store_machine.specs.History.{IsId}
 use Rattle.shell_lang.specs.Command.{Command, Empty, Register, RegisterNew, Revise, RegisterMol, ReviseMol, Withdraw, Show, Search, Same, Similar, Start, Next, Close, Prune, Stats, IsNoIdentifier, IsSimilarity, HasNoSpace, Spells, HasIdentifierPart, IsLine}
 use Rattle.shell_lang.specs.Cut.{Follows, IdentifierPart}
-use Rattle.shell_lang.proofs.Cuts.{no_space_in_number, no_space, no_space_named, one_split, one_cut, one_word, word_space, cut_of, part_cut_of, spelled_after, has_space, not_alone}
+use Rattle.shell_lang.proofs.Cuts.{same_number, no_space, no_space_named, one_split, one_cut, one_word, word_space, cut_of, part_cut_of, spelled_after, has_space, not_alone}
 
 -- which of the commands it is
 abbrev kind : Command → ℕ
@@ -103,13 +103,6 @@ same_kind line c d p q =
       ]
     ]
 
--- a number and a text behind the same word
-same_number : (m n : ℕ) (t u : List ℕ) → m < 2 ^ 64 → n < 2 ^ 64 →
-    decimal m ++ 32 ∷ t ≡ decimal n ++ 32 ∷ u → (m ≡ n) × (t ≡ u)
-same_number m n t u p q e =
-    let same = one_split (decimal m) (decimal n) t u (no_space_in_number m p) (no_space_in_number n q) e in
-    (decimal_injective m n p q same.0, same.1)
-
 -- an identifier and a text behind the same word
 same_registration : (m n : ℕ) (t u : List ℕ) → IsId m → IsId n →
     decimal m ++ 32 ∷ t ≡ decimal n ++ 32 ∷ u → (m ≡ n) × (t ≡ u)
@@ -155,7 +148,8 @@ same_command line (Show m) (Show n) p q = ap Show (same_identifier m n p.0 q.0 (
 same_command line (Search t) (Search u) p q = ap Search (behind (codes "search") line _ _ p q)
 same_command line (Same t) (Same u) p q = ap Same (behind (codes "same") line _ _ p q)
 same_command line (Similar a b c t) (Similar d e f u) p q =
-    let first = same_number a d _ _ (similar_part a b c p.0) (similar_part d e f q.0) (behind (codes "similar") line _ _ p.1 q.1) in
+    let first =
+    same_number a d _ _ (similar_part a b c p.0) (similar_part d e f q.0) (behind (codes "similar") line _ _ p.1 q.1) in
     let second = same_number b e _ _ (similar_whole a b c p.0) (similar_whole d e f q.0) first.1 in
     let third = same_number c f t u (similar_few a b c p.0) (similar_few d e f q.0) second.1 in
     let x : a ≡ d = first.0 in

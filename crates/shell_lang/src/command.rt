@@ -46,8 +46,8 @@ pub enum Command<'a> {
     Search { pattern: &'a [u8] },
     /// `same SMILES`
     Same { text: &'a [u8] },
-    /// `similar P Q K SMILES`: the at most `k` structures that are most alike, those alike by `p / q` at least. `q` is 1
-    /// to 1000, `p` 0 to `q`, and `k` 1 to 256.
+    /// `similar P Q K SMILES`, which asks for structures that are alike by `p / q` at least, and for the `k` best of
+    /// them. `q` is 1 to 1000, `p` 0 to `q`, and `k` 1 to 256.
     Similar {
         p: u32,
         q: u32,

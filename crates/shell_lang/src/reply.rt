@@ -31,8 +31,8 @@ pub enum Reply {
     /// An identifier that a search for similar structures lists, and how many bits are set in both prints, and how many
     /// in at least one.
     Like { id: u32, c: u32, u: u32 },
-    /// The end of a search for similar structures: the version that it saw, how many identifiers are live there, and how
-    /// many it listed.
+    /// The end of a search for similar structures: the version that it saw, how many identifiers are live there, and
+    /// how many it listed.
     Scored {
         version: u32,
         scored: u32,
@@ -56,8 +56,8 @@ pub enum Reply {
     MemoryFault,
 }
 
-/// Why a command is refused, in the order of the checks; but a `register-new` takes its pin before it looks for the same
-/// structure, so that `Pins` may come before `Same` too. A `NoMemory` inside is written as `fault memory`.
+/// Why a command is refused, in the order of the checks. A `register-new` pins a version before it looks for the same
+/// structure there, so there `Pins` comes before `Same`. A `NoMemory` inside is written as `fault memory`.
 #[derive(Clone, Copy, Debug, PartialEq, Eq)]
 pub enum Refusal {
     /// The line, or a line of its molfile, exceeds 65,536 bytes.
