@@ -1,30 +1,34 @@
 -- A line is cut in one way: the first part has no space, and the first words differ.
-use Rattle.std.proofs.Common.{◌≡◌, ◌≢◌, ◌⊎◌, inl, inr, ℕ, zero, suc, ◌+◌, ◌*◌, List, [], ◌∷◌, ◌++◌, Ok, Err, Result, length, refl, sym, ◌∙◌, ap, subst, arith, decimal, codes, slice_index}
+use Rattle.std.proofs.Common.{◌≡◌, ◌≢◌, ◌⊎◌, inl, inr, ℕ, zero, suc, ◌+◌, ◌*◌, ◌-◌, ◌^◌, ◌<◌, ◌≤◌, List, [], ◌∷◌, ◌++◌, Ok, Err, Result, length, refl, sym, ◌∙◌, ap, subst, arith, decimal, codes, slice_index}
 use Rattle.std.specs.List.{All, Contains}
 use Rattle.std.specs.Str.Parse.{AllDigits, digits_value}
-use Rattle.std.proofs.lemmas.Fmt.{digits_decimal}
+use Rattle.std.proofs.lemmas.Fmt.{decimal_injective, digits_decimal}
 use Rattle.std.proofs.lemmas.Str.Parse.{IsNumeralModel, numerals_by_value, tells_digits, not_in_digits}
 use Rattle.std.proofs.lemmas.List.Elements.{All-from_get_or, All-contains, Contains-append_right}
 use Rattle.shell_lang.specs.declared.word.Word.{Word}
 use Rattle.shell_lang.specs.declared.word.Word.TheVariants as words
 use Rattle.shell_lang.specs.declared.command.LineRefusal.{LineRefusal}
 use Rattle.shell_lang.specs.declared.command.LineRefusal.TheVariants as refusals
+use Rattle.shell_lang.specs.declared.command.TheConstants.{LARGEST_DENOMINATOR, MOST_SIMILAR}
 use Rattle.shell_lang.specs.Word.{word_text}
 use Rattle.store_machine.specs.History.{IsId}
-use Rattle.shell_lang.specs.Command.{Command, Empty, Register, Revise, RegisterMol, ReviseMol, Withdraw, Show, Search, Start, Next, Close, Prune, Stats, IsNoIdentifier, IsNameByte, IsName, Spells, HasNoSpace, HasIdentifierPart, IsLine, StartsWith, StartsMolfile}
+use Rattle.shell_lang.specs.Command.{Command, Empty, Register, RegisterNew, Revise, RegisterMol, ReviseMol, Withdraw, Show, Search, Same, Similar, Start, Next, Close, Prune, Stats, IsNoIdentifier, IsNameByte, IsName, IsSimilarity, Spells, HasNoSpace, HasIdentifierPart, IsLine, StartsWith, StartsMolfile}
 use Rattle.shell_lang.specs.Cut.{Follows, IdentifierPart, IsRest}
 
 own : IsNumeralModel (AllDigits 10) (digits_value 10)
 own = numerals_by_value (AllDigits 10) tells_digits
 
 -- no space is a digit
+pub no_space_in_number : (n : ℕ) → n < 2 ^ 64 → HasNoSpace (decimal n)
+no_space_in_number n small held =
+    let digits = digits_decimal own n small in
+    let none : All (λ b. b ≢ 32) (decimal n) =
+    All-from_get_or (λ b. b ≢ 32) (decimal n) 0
+    (λ i l. not_in_digits own (decimal n) 32 digits (λ r. omega (arith, r.0)) i l) in
+    All-contains (λ b. b ≢ 32) (decimal n) 32 none held refl
+
 pub no_space : (id : ℕ) → IsId id → HasNoSpace (decimal id)
-no_space id is held =
-    let digits = digits_decimal own id (omega arith) in
-    let none : All (λ b. b ≢ 32) (decimal id) =
-    All-from_get_or (λ b. b ≢ 32) (decimal id) 0
-    (λ i l. not_in_digits own (decimal id) 32 digits (λ r. omega (arith, r.0)) i l) in
-    All-contains (λ b. b ≢ 32) (decimal id) 32 none held refl
+no_space id is = no_space_in_number id (omega arith)
 
 name_byte : (b : ℕ) → b ≡ 32 → IsNameByte b → ⊥
 name_byte b e (inl x) = omega arith
@@ -58,19 +62,22 @@ one_split (x ∷ a) (y ∷ c) b d p q e =
     let tail : a ≡ c = same.0 in
     (cc, same.1)
 
--- a number that tells the words apart: the first byte and the length
+-- a number that tells the words apart: the last byte, the first, and the length
 key : List ℕ → ℕ
-key bytes = 16 * slice_index bytes 0 + length bytes
+key bytes = 4096 * slice_index bytes (length bytes - 1) + 16 * slice_index bytes 0 + length bytes
 
 pub one_word : (w v : Word) → word_text w ≡ word_text v → w ≡ v
 unfolding key
 one_word words.Register words.Register e = refl
+one_word words.RegisterNew words.RegisterNew e = refl
 one_word words.Revise words.Revise e = refl
 one_word words.RegisterMol words.RegisterMol e = refl
 one_word words.ReviseMol words.ReviseMol e = refl
 one_word words.Withdraw words.Withdraw e = refl
 one_word words.Show words.Show e = refl
 one_word words.Search words.Search e = refl
+one_word words.Same words.Same e = refl
+one_word words.Similar words.Similar e = refl
 one_word words.Open words.Open e = refl
 one_word words.Next words.Next e = refl
 one_word words.Close words.Close e = refl
@@ -93,12 +100,15 @@ word_space w = spaceless (word_text w) (search arith)
 -- a line with such a rest is the command
 pub follows : (w : Word) (rest : List ℕ) (c : Command) → Follows w rest c → Spells (word_text w ++ 32 ∷ rest) c
 follows words.Register rest (Register id text) h = (h.0, ap (λ (r : List ℕ). codes "register" ++ 32 ∷ r) h.1)
+follows words.RegisterNew rest (RegisterNew id text) h = (h.0, ap (λ (r : List ℕ). codes "register-new" ++ 32 ∷ r) h.1)
 follows words.Revise rest (Revise id text) h = (h.0, ap (λ (r : List ℕ). codes "revise" ++ 32 ∷ r) h.1)
 follows words.RegisterMol rest (RegisterMol id) h = (h.0, ap (λ (r : List ℕ). codes "register-mol" ++ 32 ∷ r) h.1)
 follows words.ReviseMol rest (ReviseMol id) h = (h.0, ap (λ (r : List ℕ). codes "revise-mol" ++ 32 ∷ r) h.1)
 follows words.Withdraw rest (Withdraw id) h = (h.0, ap (λ (r : List ℕ). codes "withdraw" ++ 32 ∷ r) h.1)
 follows words.Show rest (Show id) h = (h.0, ap (λ (r : List ℕ). codes "show" ++ 32 ∷ r) h.1)
 follows words.Search rest (Search pattern) h = ap (λ (r : List ℕ). codes "search" ++ 32 ∷ r) h
+follows words.Same rest (Same text) h = ap (λ (r : List ℕ). codes "same" ++ 32 ∷ r) h
+follows words.Similar rest (Similar p q k text) h = (h.0, ap (λ (r : List ℕ). codes "similar" ++ 32 ∷ r) h.1)
 follows words.Open rest (Start name pattern) h = (h.0, ap (λ (r : List ℕ). codes "open" ++ 32 ∷ r) h.1)
 follows words.Next rest (Next name) h = (h.0, ap (λ (r : List ℕ). codes "next" ++ 32 ∷ r) h.1)
 follows words.Close rest (Close name) h = (h.0, ap (λ (r : List ℕ). codes "close" ++ 32 ∷ r) h.1)
@@ -107,15 +117,18 @@ follows w rest c h = absurd h
 pub part_follows : (w : Word) (rest part : List ℕ) → IdentifierPart w rest part →
     HasIdentifierPart (word_text w ++ 32 ∷ rest) part
 part_follows words.Register rest part h = (h.0, inl (h.1, ap (λ (r : List ℕ). codes "register" ++ 32 ∷ r) h.2))
-part_follows words.Revise rest part h = (h.0, inr (inl (h.1, ap (λ (r : List ℕ). codes "revise" ++ 32 ∷ r) h.2)))
+part_follows words.RegisterNew rest part h =
+    (h.0, inr (inl (h.1, ap (λ (r : List ℕ). codes "register-new" ++ 32 ∷ r) h.2)))
+part_follows words.Revise rest part h =
+    (h.0, inr (inr (inl (h.1, ap (λ (r : List ℕ). codes "revise" ++ 32 ∷ r) h.2))))
 part_follows words.RegisterMol rest part h =
-    (h.0, inr (inr (inl (ap (λ (r : List ℕ). codes "register-mol" ++ 32 ∷ r) h.1))))
+    (h.0, inr (inr (inr (inl (ap (λ (r : List ℕ). codes "register-mol" ++ 32 ∷ r) h.1)))))
 part_follows words.ReviseMol rest part h =
-    (h.0, inr (inr (inr (inl (ap (λ (r : List ℕ). codes "revise-mol" ++ 32 ∷ r) h.1)))))
+    (h.0, inr (inr (inr (inr (inl (ap (λ (r : List ℕ). codes "revise-mol" ++ 32 ∷ r) h.1))))))
 part_follows words.Withdraw rest part h =
-    (h.0, inr (inr (inr (inr (inl (ap (λ (r : List ℕ). codes "withdraw" ++ 32 ∷ r) h.1))))))
+    (h.0, inr (inr (inr (inr (inr (inl (ap (λ (r : List ℕ). codes "withdraw" ++ 32 ∷ r) h.1)))))))
 part_follows words.Show rest part h =
-    (h.0, inr (inr (inr (inr (inr (ap (λ (r : List ℕ). codes "show" ++ 32 ∷ r) h.1))))))
+    (h.0, inr (inr (inr (inr (inr (inr (ap (λ (r : List ℕ). codes "show" ++ 32 ∷ r) h.1)))))))
 part_follows w rest part h = absurd h
 
 -- a line of a word and a rest that is this command
@@ -132,6 +145,8 @@ cut_of line Prune h = inl (inr (inl h))
 cut_of line Stats h = inl (inr (inr h))
 cut_of line (Register id text) h =
     inr (record { word = words.Register; rest = decimal id ++ 32 ∷ text; is = h.1; follows = (h.0, refl) })
+cut_of line (RegisterNew id text) h =
+    inr (record { word = words.RegisterNew; rest = decimal id ++ 32 ∷ text; is = h.1; follows = (h.0, refl) })
 cut_of line (Revise id text) h =
     inr (record { word = words.Revise; rest = decimal id ++ 32 ∷ text; is = h.1; follows = (h.0, refl) })
 cut_of line (RegisterMol id) h =
@@ -141,6 +156,13 @@ cut_of line (ReviseMol id) h =
 cut_of line (Withdraw id) h = inr (record { word = words.Withdraw; rest = decimal id; is = h.1; follows = (h.0, refl) })
 cut_of line (Show id) h = inr (record { word = words.Show; rest = decimal id; is = h.1; follows = (h.0, refl) })
 cut_of line (Search pattern) h = inr (record { word = words.Search; rest = pattern; is = h; follows = refl })
+cut_of line (Same text) h = inr (record { word = words.Same; rest = text; is = h; follows = refl })
+cut_of line (Similar p q k text) h = inr (record {
+  word = words.Similar;
+  rest = decimal p ++ 32 ∷ (decimal q ++ 32 ∷ (decimal k ++ 32 ∷ text));
+  is = h.1;
+  follows = (h.0, refl);
+})
 cut_of line (Start name pattern) h =
     inr (record { word = words.Open; rest = name ++ 32 ∷ pattern; is = h.1; follows = (h.0, refl) })
 cut_of line (Next name) h = inr (record { word = words.Next; rest = name; is = h.1; follows = (h.0, refl) })
@@ -156,14 +178,16 @@ pub part_cut_of : (line part : List ℕ) → HasIdentifierPart line part → IsP
 part_cut_of line part (n, inl (text, e)) =
     record { word = words.Register; rest = part ++ 32 ∷ text; is = e; follows = (n, text, refl) }
 part_cut_of line part (n, inr (inl (text, e))) =
+    record { word = words.RegisterNew; rest = part ++ 32 ∷ text; is = e; follows = (n, text, refl) }
+part_cut_of line part (n, inr (inr (inl (text, e)))) =
     record { word = words.Revise; rest = part ++ 32 ∷ text; is = e; follows = (n, text, refl) }
-part_cut_of line part (n, inr (inr (inl e))) =
-    record { word = words.RegisterMol; rest = part; is = e; follows = (n, refl) }
 part_cut_of line part (n, inr (inr (inr (inl e)))) =
-    record { word = words.ReviseMol; rest = part; is = e; follows = (n, refl) }
+    record { word = words.RegisterMol; rest = part; is = e; follows = (n, refl) }
 part_cut_of line part (n, inr (inr (inr (inr (inl e))))) =
+    record { word = words.ReviseMol; rest = part; is = e; follows = (n, refl) }
+part_cut_of line part (n, inr (inr (inr (inr (inr (inl e)))))) =
     record { word = words.Withdraw; rest = part; is = e; follows = (n, refl) }
-part_cut_of line part (n, inr (inr (inr (inr (inr e))))) =
+part_cut_of line part (n, inr (inr (inr (inr (inr (inr e)))))) =
     record { word = words.Show; rest = part; is = e; follows = (n, refl) }
 
 -- a line is cut into one word and one rest
@@ -252,6 +276,18 @@ registration_refused rest refusals.Syntax id syntax =
     no_registration rest n (Register id text) h = n (has_space rest (decimal id) text h.1)
     no_registration rest n c h = h
 
+pub new_refused : (rest : List ℕ) (e : LineRefusal) →
+    (e ≡ refusals.Id →
+    (part : List ℕ) × HasNoSpace part × ((text : List ℕ) × (rest ≡ part ++ 32 ∷ text)) × IsNoIdentifier part) →
+    (e ≡ refusals.Syntax → HasNoSpace rest) → IsRest words.RegisterNew rest (Err e)
+new_refused rest refusals.Id id syntax = let h = id refl in (h.0, (h.1, h.2.0, h.2.1), h.3)
+new_refused rest refusals.Syntax id syntax =
+    (λ c h. no_new rest (syntax refl) c h, λ part h. syntax refl (has_space rest part h.1 h.2))
+  where
+    no_new : (rest : List ℕ) → HasNoSpace rest → (c : Command) → Follows words.RegisterNew rest c → ⊥
+    no_new rest n (RegisterNew id text) h = n (has_space rest (decimal id) text h.1)
+    no_new rest n c h = h
+
 pub revision_refused : (rest : List ℕ) (e : LineRefusal) →
     (e ≡ refusals.Id →
     (part : List ℕ) × HasNoSpace part × ((text : List ℕ) × (rest ≡ part ++ 32 ∷ text)) × IsNoIdentifier part) →
@@ -318,6 +354,70 @@ pub other_name : (rest first text : List ℕ) → rest ≡ first ++ 32 ∷ text 
     (name more : List ℕ) → IsName name → rest ≢ name ++ 32 ∷ more
 other_name rest first text cut n none name more is e =
     none (subst IsName (one_split name first more text (no_space_named name is) n (sym e ∙ cut)).0 is)
+
+-- a number and what follows it, where there is no space, or what stands before it is no number
+pub no_number : (bytes : List ℕ) → HasNoSpace bytes → (n : ℕ) (rest : List ℕ) → bytes ≢ decimal n ++ 32 ∷ rest
+no_number bytes none n rest e = none (has_space bytes (decimal n) rest e)
+
+pub other_number : (bytes first text : List ℕ) (most : ℕ) → bytes ≡ first ++ 32 ∷ text → HasNoSpace first →
+    most < 2 ^ 64 → ((n : ℕ) → n ≤ most → first ≢ decimal n) →
+    (n : ℕ) (rest : List ℕ) → n ≤ most → bytes ≢ decimal n ++ 32 ∷ rest
+other_number bytes first text most cut none small other n rest within e =
+    other n within
+    (one_split first (decimal n) text rest none (no_space_in_number n (omega (arith, within, small))) (sym cut ∙ e)).0
+
+-- a number and what follows it are read in one way
+pub same_number : (m n : ℕ) (rest more : List ℕ) → m < 2 ^ 64 → n < 2 ^ 64 →
+    decimal m ++ 32 ∷ rest ≡ decimal n ++ 32 ∷ more → (m ≡ n) × (rest ≡ more)
+same_number m n rest more p q e =
+    let same =
+    one_split (decimal m) (decimal n) rest more (no_space_in_number m p) (no_space_in_number n q) e in
+    (decimal_injective m n p q same.0, same.1)
+
+-- what follows `similar`, where the second number is none
+pub no_second : (bytes rest : List ℕ) (p : ℕ) → p ≤ LARGEST_DENOMINATOR → bytes ≡ decimal p ++ 32 ∷ rest →
+    ((n : ℕ) (more : List ℕ) → n ≤ LARGEST_DENOMINATOR → rest ≢ decimal n ++ 32 ∷ more) →
+    (c : Command) → ¬ Follows words.Similar bytes c
+no_second bytes rest p small cut none (Similar a b d text) h =
+    let first =
+    same_number p a rest (decimal b ++ 32 ∷ (decimal d ++ 32 ∷ text)) (omega (arith, small))
+    (omega (arith, h.0.part, h.0.whole.1)) (sym cut ∙ h.1) in
+    none b (decimal d ++ 32 ∷ text) h.0.whole.1 first.1
+no_second bytes rest p small cut none c h = h
+
+-- or the third
+pub no_third : (bytes rest more : List ℕ) (p q : ℕ) → p ≤ LARGEST_DENOMINATOR → q ≤ LARGEST_DENOMINATOR →
+    bytes ≡ decimal p ++ 32 ∷ rest → rest ≡ decimal q ++ 32 ∷ more →
+    ((n : ℕ) (text : List ℕ) → n ≤ MOST_SIMILAR → more ≢ decimal n ++ 32 ∷ text) →
+    (c : Command) → ¬ Follows words.Similar bytes c
+no_third bytes rest more p q small little cut again none (Similar a b d text) h =
+    let first =
+    same_number p a rest (decimal b ++ 32 ∷ (decimal d ++ 32 ∷ text)) (omega (arith, small))
+    (omega (arith, h.0.part, h.0.whole.1)) (sym cut ∙ h.1) in
+    let second =
+    same_number q b more (decimal d ++ 32 ∷ text) (omega (arith, little)) (omega (arith, h.0.whole.1))
+    (sym again ∙ first.1) in
+    none d text h.0.few.1 second.1
+no_third bytes rest more p q small little cut again none c h = h
+
+-- the three numbers behind `similar` are those of the command
+pub are_similar : (bytes rest more text : List ℕ) (p q k : ℕ) → p ≤ LARGEST_DENOMINATOR → q ≤ LARGEST_DENOMINATOR →
+    k ≤ MOST_SIMILAR → bytes ≡ decimal p ++ 32 ∷ rest → rest ≡ decimal q ++ 32 ∷ more →
+    more ≡ decimal k ++ 32 ∷ text → (c : Command) → Follows words.Similar bytes c → IsSimilarity p q k
+are_similar bytes rest more text p q k small little few cut again last (Similar a b d other) h =
+    let first =
+    same_number p a rest (decimal b ++ 32 ∷ (decimal d ++ 32 ∷ other)) (omega (arith, small))
+    (omega (arith, h.0.part, h.0.whole.1)) (sym cut ∙ h.1) in
+    let second =
+    same_number q b more (decimal d ++ 32 ∷ other) (omega (arith, little)) (omega (arith, h.0.whole.1))
+    (sym again ∙ first.1) in
+    let third = same_number k d text other (omega (arith, few)) (omega (arith, h.0.few.1)) (sym last ∙ second.1) in
+    record {
+      whole = (omega (arith, second.0, h.0.whole.0), little);
+      part = omega (arith, first.0, second.0, h.0.part);
+      few = (omega (arith, third.0, h.0.few.0), few);
+    }
+are_similar bytes rest more text p q k small little few cut again last c h = absurd h
 
 -- a line that begins with another word
 other_word : (word line : List ℕ) → word ≢ line → HasNoSpace line → ¬ StartsWith line word

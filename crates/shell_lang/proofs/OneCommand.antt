@@ -1,5 +1,5 @@
 -- A line is read in one way.
-use Rattle.std.proofs.Common.{◌≡◌, ◌⊎◌, inl, inr, ℕ, List, [], ◌∷◌, ◌++◌, refl, sym, ◌∙◌, ap, subst, arith, decimal, codes, Result, Ok, Err, ◌==◌, if◌then◌else◌}
+use Rattle.std.proofs.Common.{◌≡◌, ◌⊎◌, inl, inr, ℕ, ◌^◌, ◌<◌, List, [], ◌∷◌, ◌++◌, refl, sym, ◌∙◌, ap, subst, arith, decimal, codes, Result, Ok, Err, ◌==◌, if◌then◌else◌}
 use Rattle.std.proofs.lemmas.Fmt.{decimal_injective}
 use Rattle.std.proofs.lemmas.List.{append_cancel_left}
 use Rattle.shell_lang.specs.declared.word.Word.{Word}
@@ -8,11 +8,11 @@ use Rattle.shell_lang.specs.declared.command.LineRefusal.{LineRefusal}
 use Rattle.shell_lang.specs.declared.command.LineRefusal.TheVariants as refusals
 use Rattle.shell_lang.specs.Word.{word_text}
 use Rattle.store_machine.specs.History.{IsId}
-use Rattle.shell_lang.specs.Command.{Command, Empty, Register, Revise, RegisterMol, ReviseMol, Withdraw, Show, Search, Start, Next, Close, Prune, Stats, IsNoIdentifier, HasNoSpace, Spells, HasIdentifierPart, IsLine}
+use Rattle.shell_lang.specs.Command.{Command, Empty, Register, RegisterNew, Revise, RegisterMol, ReviseMol, Withdraw, Show, Search, Same, Similar, Start, Next, Close, Prune, Stats, IsNoIdentifier, IsSimilarity, HasNoSpace, Spells, HasIdentifierPart, IsLine}
 use Rattle.shell_lang.specs.Cut.{Follows, IdentifierPart}
-use Rattle.shell_lang.proofs.Cuts.{no_space, no_space_named, one_split, one_cut, one_word, word_space, cut_of, part_cut_of, spelled_after, has_space, not_alone}
+use Rattle.shell_lang.proofs.Cuts.{same_number, no_space, no_space_named, one_split, one_cut, one_word, word_space, cut_of, part_cut_of, spelled_after, has_space, not_alone}
 
--- which of the thirteen it is
+-- which of the commands it is
 abbrev kind : Command → ℕ
 kind Empty = 0
 kind (Register id text) = 1
@@ -27,6 +27,9 @@ kind (Next name) = 9
 kind (Close name) = 10
 kind Prune = 11
 kind Stats = 12
+kind (RegisterNew id text) = 13
+kind (Same text) = 14
+kind (Similar p q k text) = 15
 
 abbrev kind_after : Word → ℕ
 kind_after words.Register = 1
@@ -39,15 +42,21 @@ kind_after words.Search = 7
 kind_after words.Open = 8
 kind_after words.Next = 9
 kind_after words.Close = 10
+kind_after words.RegisterNew = 13
+kind_after words.Same = 14
+kind_after words.Similar = 15
 
 follow_kind : (w : Word) (rest : List ℕ) (c : Command) → Follows w rest c → kind c ≡ kind_after w
 follow_kind words.Register rest (Register id text) h = refl
+follow_kind words.RegisterNew rest (RegisterNew id text) h = refl
 follow_kind words.Revise rest (Revise id text) h = refl
 follow_kind words.RegisterMol rest (RegisterMol id) h = refl
 follow_kind words.ReviseMol rest (ReviseMol id) h = refl
 follow_kind words.Withdraw rest (Withdraw id) h = refl
 follow_kind words.Show rest (Show id) h = refl
 follow_kind words.Search rest (Search pattern) h = refl
+follow_kind words.Same rest (Same text) h = refl
+follow_kind words.Similar rest (Similar p q k text) h = refl
 follow_kind words.Open rest (Start name pattern) h = refl
 follow_kind words.Next rest (Next name) h = refl
 follow_kind words.Close rest (Close name) h = refl
@@ -64,6 +73,8 @@ kind_without_space line Prune n h = ap kind_alone (sym h)
 kind_without_space line Stats n h = ap kind_alone (sym h)
 kind_without_space line (Register id text) n h =
     absurd (n (has_space line (codes "register") (decimal id ++ 32 ∷ text) h.1))
+kind_without_space line (RegisterNew id text) n h =
+    absurd (n (has_space line (codes "register-new") (decimal id ++ 32 ∷ text) h.1))
 kind_without_space line (Revise id text) n h =
     absurd (n (has_space line (codes "revise") (decimal id ++ 32 ∷ text) h.1))
 kind_without_space line (RegisterMol id) n h = absurd (n (has_space line (codes "register-mol") (decimal id) h.1))
@@ -71,6 +82,8 @@ kind_without_space line (ReviseMol id) n h = absurd (n (has_space line (codes "r
 kind_without_space line (Withdraw id) n h = absurd (n (has_space line (codes "withdraw") (decimal id) h.1))
 kind_without_space line (Show id) n h = absurd (n (has_space line (codes "show") (decimal id) h.1))
 kind_without_space line (Search pattern) n h = absurd (n (has_space line (codes "search") pattern h))
+kind_without_space line (Same text) n h = absurd (n (has_space line (codes "same") text h))
+kind_without_space line (Similar p q k text) n h = absurd (n (has_space line (codes "similar") _ h.1))
 kind_without_space line (Start name pattern) n h = absurd (n (has_space line (codes "open") (name ++ 32 ∷ pattern) h.1))
 kind_without_space line (Next name) n h = absurd (n (has_space line (codes "next") name h.1))
 kind_without_space line (Close name) n h = absurd (n (has_space line (codes "close") name h.1))
@@ -93,9 +106,7 @@ same_kind line c d p q =
 -- an identifier and a text behind the same word
 same_registration : (m n : ℕ) (t u : List ℕ) → IsId m → IsId n →
     decimal m ++ 32 ∷ t ≡ decimal n ++ 32 ∷ u → (m ≡ n) × (t ≡ u)
-same_registration m n t u p q e =
-    let same = one_split (decimal m) (decimal n) t u (no_space m p) (no_space n q) e in
-    (decimal_injective m n (omega arith) (omega arith) same.0, same.1)
+same_registration m n t u p q e = same_number m n t u (omega arith) (omega arith) e
 
 same_identifier : (m n : ℕ) → IsId m → IsId n → decimal m ≡ decimal n → m ≡ n
 same_identifier m n p q e = decimal_injective m n (omega arith) (omega arith) e
@@ -104,6 +115,16 @@ same_identifier m n p q e = decimal_injective m n (omega arith) (omega arith) e
 behind : (word : List ℕ) (line r s : List ℕ) → line ≡ word ++ 32 ∷ r → line ≡ word ++ 32 ∷ s → r ≡ s
 behind word line r s e f = let h : 32 ∷ r ≡ 32 ∷ s = append_cancel_left word (32 ∷ r) (32 ∷ s) (sym e ∙ f) in cc
 
+-- the three numbers of `similar` are small
+similar_part : (p q k : ℕ) → IsSimilarity p q k → p < 2 ^ 64
+similar_part p q k is = omega (arith, is.part, is.whole.1)
+
+similar_whole : (p q k : ℕ) → IsSimilarity p q k → q < 2 ^ 64
+similar_whole p q k is = omega (arith, is.whole.1)
+
+similar_few : (p q k : ℕ) → IsSimilarity p q k → k < 2 ^ 64
+similar_few p q k is = omega (arith, is.few.1)
+
 pub same_command : (line : List ℕ) (c d : Command) → Spells line c → Spells line d → c ≡ d
 same_command line Empty Empty p q = refl
 same_command line Prune Prune p q = refl
@@ -111,6 +132,9 @@ same_command line Stats Stats p q = refl
 same_command line (Register m t) (Register n u) p q =
     let same = same_registration m n t u p.0 q.0 (behind (codes "register") line _ _ p.1 q.1) in
     ap (λ i. Register i t) same.0 ∙ ap (λ (w : List ℕ). Register n w) same.1
+same_command line (RegisterNew m t) (RegisterNew n u) p q =
+    let same = same_registration m n t u p.0 q.0 (behind (codes "register-new") line _ _ p.1 q.1) in
+    ap (λ i. RegisterNew i t) same.0 ∙ ap (λ (w : List ℕ). RegisterNew n w) same.1
 same_command line (Revise m t) (Revise n u) p q =
     let same = same_registration m n t u p.0 q.0 (behind (codes "revise") line _ _ p.1 q.1) in
     ap (λ i. Revise i t) same.0 ∙ ap (λ (w : List ℕ). Revise n w) same.1
@@ -122,6 +146,17 @@ same_command line (Withdraw m) (Withdraw n) p q =
     ap Withdraw (same_identifier m n p.0 q.0 (behind (codes "withdraw") line _ _ p.1 q.1))
 same_command line (Show m) (Show n) p q = ap Show (same_identifier m n p.0 q.0 (behind (codes "show") line _ _ p.1 q.1))
 same_command line (Search t) (Search u) p q = ap Search (behind (codes "search") line _ _ p q)
+same_command line (Same t) (Same u) p q = ap Same (behind (codes "same") line _ _ p q)
+same_command line (Similar a b c t) (Similar d e f u) p q =
+    let first =
+    same_number a d _ _ (similar_part a b c p.0) (similar_part d e f q.0) (behind (codes "similar") line _ _ p.1 q.1) in
+    let second = same_number b e _ _ (similar_whole a b c p.0) (similar_whole d e f q.0) first.1 in
+    let third = same_number c f t u (similar_few a b c p.0) (similar_few d e f q.0) second.1 in
+    let x : a ≡ d = first.0 in
+    let y : b ≡ e = second.0 in
+    let z : c ≡ f = third.0 in
+    let w : t ≡ u = third.1 in
+    cc
 same_command line (Next t) (Next u) p q = ap Next (behind (codes "next") line _ _ p.1 q.1)
 same_command line (Close t) (Close u) p q = ap Close (behind (codes "close") line _ _ p.1 q.1)
 same_command line (Start a t) (Start b u) p q =
@@ -135,6 +170,8 @@ no_part : (w : Word) (rest part : List ℕ) (c : Command) → Follows w rest c �
     IsNoIdentifier part → ⊥
 no_part words.Register rest part (Register id text) h p none =
     none id h.0 (one_split part (decimal id) p.1 text p.0 (no_space id h.0) (sym p.2 ∙ h.1)).0
+no_part words.RegisterNew rest part (RegisterNew id text) h p none =
+    none id h.0 (one_split part (decimal id) p.1 text p.0 (no_space id h.0) (sym p.2 ∙ h.1)).0
 no_part words.Revise rest part (Revise id text) h p none =
     none id h.0 (one_split part (decimal id) p.1 text p.0 (no_space id h.0) (sym p.2 ∙ h.1)).0
 no_part words.RegisterMol rest part (RegisterMol id) h p none = none id h.0 (sym p.1 ∙ h.1)
@@ -142,6 +179,8 @@ no_part words.ReviseMol rest part (ReviseMol id) h p none = none id h.0 (sym p.1
 no_part words.Withdraw rest part (Withdraw id) h p none = none id h.0 (sym p.1 ∙ h.1)
 no_part words.Show rest part (Show id) h p none = none id h.0 (sym p.1 ∙ h.1)
 no_part words.Search rest part c h p none = p
+no_part words.Same rest part c h p none = p
+no_part words.Similar rest part c h p none = p
 no_part words.Open rest part c h p none = p
 no_part words.Next rest part c h p none = p
 no_part words.Close rest part c h p none = p

@@ -29,25 +29,46 @@ pub enum Command<'a> {
     /// An empty line, which has no reply.
     Empty,
     /// `register ID SMILES`
-    Register { id: u32, text: &'a [u8] },
+    Register {
+        id: u32,
+        text: &'a [u8],
+    },
     /// `register-new ID SMILES`: where no live record has the same structure.
-    RegisterNew { id: u32, text: &'a [u8] },
+    RegisterNew {
+        id: u32,
+        text: &'a [u8],
+    },
     /// `revise ID SMILES`
-    Revise { id: u32, text: &'a [u8] },
+    Revise {
+        id: u32,
+        text: &'a [u8],
+    },
     /// `register-mol ID`; the lines of a molfile follow.
-    RegisterMol { id: u32 },
+    RegisterMol {
+        id: u32,
+    },
     /// `revise-mol ID`; the lines of a molfile follow.
-    ReviseMol { id: u32 },
+    ReviseMol {
+        id: u32,
+    },
     /// `withdraw ID`
-    Withdraw { id: u32 },
+    Withdraw {
+        id: u32,
+    },
     /// `show ID`
-    Show { id: u32 },
+    Show {
+        id: u32,
+    },
     /// `search SMARTS`
-    Search { pattern: &'a [u8] },
+    Search {
+        pattern: &'a [u8],
+    },
     /// `same SMILES`
-    Same { text: &'a [u8] },
-    /// `similar P Q K SMILES`: the at most `k` structures that are most alike, those alike by `p / q` at least. `q` is 1
-    /// to 1000, `p` 0 to `q`, and `k` 1 to 256.
+    Same {
+        text: &'a [u8],
+    },
+    /// `similar P Q K SMILES`, which asks for structures that are alike by `p / q` at least, and for the `k` best of
+    /// them. `q` is 1 to 1000, `p` 0 to `q`, and `k` 1 to 256.
     Similar {
         p: u32,
         q: u32,
@@ -55,11 +76,18 @@ pub enum Command<'a> {
         text: &'a [u8],
     },
     /// `open NAME SMARTS`
-    Start { name: &'a [u8], pattern: &'a [u8] },
+    Start {
+        name: &'a [u8],
+        pattern: &'a [u8],
+    },
     /// `next NAME`
-    Next { name: &'a [u8] },
+    Next {
+        name: &'a [u8],
+    },
     /// `close NAME`
-    Close { name: &'a [u8] },
+    Close {
+        name: &'a [u8],
+    },
     /// `prune`
     Prune,
     /// `stats`

@@ -18,46 +18,70 @@ use store_core::{Record, Stats};
 #[derive(Drop)]
 pub enum Reply {
     /// A commit, and the version that it made.
-    Accepted { version: u32 },
+    Accepted {
+        version: u32,
+    },
     /// A live record, and the version of the commit that made it so. The lines of a molfile follow.
-    Shown { version: u32, entry: Arc<Record> },
+    Shown {
+        version: u32,
+        entry: Arc<Record>,
+    },
     /// An identifier that is withdrawn, and the version of the commit that withdrew it.
-    Gone { id: u32, version: u32 },
+    Gone {
+        id: u32,
+        version: u32,
+    },
     /// An identifier that a search lists.
-    Hit { id: u32 },
+    Hit {
+        id: u32,
+    },
     /// The end of a search: the version that it saw, how many identifiers its prints let through, and how many it
     /// listed.
-    End { version: u32, tried: u32, hits: u32 },
+    End {
+        version: u32,
+        tried: u32,
+        hits: u32,
+    },
     /// An identifier that a search for similar structures lists, and how many bits are set in both prints, and how many
     /// in at least one.
-    Like { id: u32, c: u32, u: u32 },
-    /// The end of a search for similar structures: the version that it saw, how many identifiers are live there, and how
-    /// many it listed.
+    Like {
+        id: u32,
+        c: u32,
+        u: u32,
+    },
+    /// The end of a search for similar structures: the version that it saw, how many identifiers are live there, and
+    /// how many it listed.
     Scored {
         version: u32,
         scored: u32,
         hits: u32,
     },
     /// A cursor, and the version that it sees.
-    Opened { version: u32 },
+    Opened {
+        version: u32,
+    },
     /// The end of a page that others follow.
     More,
     /// The cursor is closed.
     Closed,
     /// How many entries a prune dropped.
-    Pruned { count: u32 },
+    Pruned {
+        count: u32,
+    },
     /// Counts of the store.
     Counts(Stats),
     /// The command is refused, and nothing is done.
     Refused(Refusal),
     /// A disk failed in a commit. With `doubt` a crash may yet show the change committed.
-    DiskFault { doubt: bool },
+    DiskFault {
+        doubt: bool,
+    },
     /// Memory ran out, and the command did nothing; a search may have listed some hits.
     MemoryFault,
 }
 
-/// Why a command is refused, in the order of the checks; but a `register-new` takes its pin before it looks for the same
-/// structure, so that `Pins` may come before `Same` too. A `NoMemory` inside is written as `fault memory`.
+/// Why a command is refused, in the order of the checks. A `register-new` pins a version before it looks for the same
+/// structure there, so there `Pins` comes before `Same`. A `NoMemory` inside is written as `fault memory`.
 #[derive(Clone, Copy, Debug, PartialEq, Eq)]
 pub enum Refusal {
     /// The line, or a line of its molfile, exceeds 65,536 bytes.
@@ -189,12 +213,7 @@ fn push_like(id: u32, c: u32, u: u32, out: &mut Vec<u8>) -> Result<(), AllocErro
 }
 
 // Appends the end of a search for similar structures.
-fn push_scored(
-    version: u32,
-    scored: u32,
-    hits: u32,
-    out: &mut Vec<u8>,
-) -> Result<(), AllocError>
+fn push_scored(version: u32, scored: u32, hits: u32, out: &mut Vec<u8>) -> Result<(), AllocError>
     ensures ok { OnOk result (out.new.items
         ≡ out.old.items ++ scored_words version scored hits) }
     ensures err { OnErr result (Extends out.old.items out.new.items) }

@@ -115,7 +115,12 @@ fn parts_are_given(rt: HostRuntime) {
             })
         )
     );
-    assert!(rt; matches!(read_command(b"same  C C"), Ok(Command::Same { text: b" C C" })));
+    assert!(rt;
+        matches!(
+            read_command(b"same  C C"),
+            Ok(Command::Same { text: b" C C" })
+        )
+    );
     assert!(rt;
         matches!(
             read_command(b"similar 3 4 256  C "),

@@ -1,6 +1,6 @@
 use Rattle.std.proofs.Common.{Err, ap, sym, ◌∙◌}
 use Rattle.std.proofs.lemmas.Result.{err_from_is_err_and}
-use Rattle.shell_lang.proofs.Cuts.{registration_refused, revision_refused, register_mol_refused, revise_mol_refused, withdraw_refused, show_refused}
+use Rattle.shell_lang.proofs.Cuts.{registration_refused, new_refused, revision_refused, register_mol_refused, revise_mol_refused, withdraw_refused, show_refused}
 use Rattle.shell_lang.proofs.command.with_rest.Goals as goal
 
 pub returns-in_err-id-in-Register : goal.returns-in_err-id-in-Register
@@ -9,6 +9,15 @@ returns-in_err-id-in-Register c =
     let p = err_from_is_err_and c.from_residual.result c.from_residual.ensures.1 in
     rw (c.in-Register.is, p.1)
     (registration_refused _ p.0 (λ e. found.id (ap (λ x. Err x) (sym p.2 ∙ e)))
+    (λ e. found.syntax (ap (λ x. Err x) (sym p.2 ∙ e))))
+
+pub returns-in_err-id-in-RegisterNew : goal.returns-in_err-id-in-RegisterNew
+returns-in_err-id-in-RegisterNew c =
+    let found = c.in_err-id-in-RegisterNew.ensures in
+    let p = err_from_is_err_and c.from_residual-in_err-id-in-RegisterNew.result
+    c.from_residual-in_err-id-in-RegisterNew.ensures.1 in
+    rw (c.in-RegisterNew.is, p.1)
+    (new_refused _ p.0 (λ e. found.id (ap (λ x. Err x) (sym p.2 ∙ e)))
     (λ e. found.syntax (ap (λ x. Err x) (sym p.2 ∙ e))))
 
 pub returns-in_err-id-in-Revise : goal.returns-in_err-id-in-Revise
