@@ -1,10 +1,12 @@
-//! Ends that are served at the same time over one store in memory.
-ghost use Rattle.std.specs.Prelude.{◌≡◌, ◌≤◌, IfOk, length};
+//! Scripts that are served at the same time over one store in memory.
+//!
+//! Ends and searches wait for each other by how much has happened so far: each reply that was put and each search that
+//! began to match counts one. A wait gives up after 10,000,000 turns, which fails the test.
 
-use crate::{DONE, End, serve_ends};
+use crate::{DONE, End, MOST_ENDS, serve_ends};
 use hall::Hall;
 use io_edge::{MemSink, MemSource, PutFault, Sink, Source, Take};
-use par_search::NoMeter;
+use par_search::Meter;
 use session_run::Settings;
 use std::alloc::{AllocError, Global};
 use std::sync::atomic::{AtomicU32, Ordering};
@@ -14,28 +16,59 @@ use std::thread;
 use std::thread::Threads;
 use store_disk::Store;
 
-// How many replies were put, and how many sources did not wait long enough for two of them.
+// How much has happened so far, and how many waits gave up.
 #[derive(Drop)]
 struct Meeting {
-    replies: AtomicU32,
-    alone: AtomicU32,
+    happened: AtomicU32,
+    gave_up: AtomicU32,
+    // How much has to have happened before a search that began to match goes on.
+    search_until: u32,
 }
 
-// Waits until two replies were put, up to a limit of turns.
-fn meet(meeting: &Meeting) {
-    for _turn in 0..10_000_000 {
-        if meeting.replies.load(Ordering::SeqCst) >= 2 {
-            return;
+impl Meeting {
+    fn new(search_until: u32) -> Meeting {
+        Meeting {
+            happened: AtomicU32::new(0),
+            gave_up: AtomicU32::new(0),
+            search_until,
         }
-        thread::yield_now();
     }
-    meeting.alone.fetch_add(1, Ordering::SeqCst);
+
+    // Waits until so much has happened, up to a limit of turns.
+    fn wait_until(&self, count: u32) {
+        for _turn in 0..10_000_000 {
+            if self.happened.load(Ordering::SeqCst) >= count {
+                return;
+            }
+            thread::yield_now();
+        }
+        self.gave_up.fetch_add(1, Ordering::SeqCst);
+    }
 }
 
-// Gives its first line at once, and the others after the meeting.
+// Tells that a search began to match, and holds it.
+impl Meter for Meeting {
+    fn begin(&self, _piece: u32) {
+        self.happened.fetch_add(1, Ordering::SeqCst);
+        self.wait_until(self.search_until);
+    }
+}
+
+// What an end asks: its first lines once so much has happened, and the rest once more has.
+#[derive(Clone, Copy)]
+struct Script<'a> {
+    lines_after: u32,
+    lines: &'a str,
+    rest_after: u32,
+    rest: &'a str,
+}
+
+// Gives the lines of a script.
 #[derive(Drop)]
 struct Asker {
-    lines: MemSource,
+    bytes: MemSource,
+    lines_after: u32,
+    rest_after: u32,
     begun: bool,
     meeting: Arc<Meeting, Global>,
 }
@@ -43,16 +76,19 @@ struct Asker {
 impl Source for Asker {
     ghost use Rattle.std.specs.Prelude.{Some};
 
-    ghost left = { λ s. Some s.lines.left };
+    ghost left = { λ s. Some s.bytes.left };
 
-    ghost faults = { λ s. s.lines.faults };
+    ghost faults = { λ s. s.bytes.faults };
 
     fn take(&mut self, room: &mut [u8]) -> Take {
-        if self.begun {
-            meet(&self.meeting);
-        }
+        let after = if self.begun {
+            self.rest_after
+        } else {
+            self.lines_after
+        };
+        self.meeting.wait_until(after);
         self.begun = true;
-        self.lines.take(room)
+        self.bytes.take(room)
     }
 }
 
@@ -72,28 +108,25 @@ impl Sink for Teller {
 
     fn put(&mut self, bytes: &[u8]) -> Result<(), PutFault> {
         let answer = self.text.put(bytes);
-        self.meeting.replies.fetch_add(1, Ordering::SeqCst);
+        self.meeting.happened.fetch_add(1, Ordering::SeqCst);
         answer
     }
 }
 
-// The first line of an end has as many bytes as this.
-const LINE: usize = 14;
-
-// An end that registers methane under an identifier of two digits and shows it.
+// An end with a script, of which no take gives more than the first lines.
 fn end(
     alloc: Global,
-    id: u32,
+    script: Script<'_>,
     meeting: &Arc<Meeting, Global>,
 ) -> Result<End<Asker, Teller>, AllocError> {
-    let script = format!(in alloc; "register {id} C\nshow {id}\n")?;
+    let text = format!(in alloc; "{}{}", script.lines, script.rest)?;
+    let bytes = Vec::from_slice(alloc, text.as_bytes())?;
+    let piece = script.lines.len().max(1);
     Ok(End {
         source: Asker {
-            lines: MemSource::new(
-                Vec::from_slice(alloc, script.as_bytes())?,
-                LINE,
-                Vec::new(alloc),
-            ),
+            bytes: MemSource::new(bytes, piece, Vec::new(alloc)),
+            lines_after: script.lines_after,
+            rest_after: script.rest_after,
             begun: false,
             meeting: Arc::try_clone(meeting)?,
         },
@@ -105,82 +138,182 @@ fn end(
     })
 }
 
-// As many ends, with the identifiers from 10 on.
-fn ends(
-    alloc: Global,
-    count: u32,
-    meeting: &Arc<Meeting, Global>,
-) -> Result<Vec<End<Asker, Teller>>, AllocError>
-    requires { count ≤ 16 }
-    ensures { IfOk result (λ ends. length ends.items ≡ count) }
-{
-    let mut ends = Vec::new(alloc);
-    for number in 0..count {
-        ends.push(end(alloc, 10 + number, meeting)?)?;
-    }
-    Ok(ends)
-}
-
-// Whether an end is done, and was told that the identifier was registered at some version, and then shown it so.
-fn is_served(alloc: Global, end: &End<Asker, Teller>, id: u32) -> Result<bool, AllocError> {
-    let Ok(text) = std::str::from_utf8(end.sink.text.bytes()) else {
-        return Ok(false);
-    };
-    let Some((registered, shown)) = text.split_once("\n") else {
-        return Ok(false);
-    };
-    let Some(version) = registered.strip_prefix("ok ") else {
-        return Ok(false);
-    };
-    let record = format!(in alloc; "record {id} version {version} smiles C\n")?;
-    Ok(end.status == DONE && shown == record.as_str())
-}
-
-// Serves so many ends over an empty store. It answers how many commits the store has then.
+// Serves ends over an empty store. Answers them, and how many commits the store has then.
 fn serve<R: Threads + Wait + Sync>(
     rt: &R,
     alloc: Global,
-    count: u32,
-    meeting: &Arc<Meeting, Global>,
-) -> Result<(u32, Vec<End<Asker, Teller>>), AllocError>
-    requires some { 1 ≤ count }
-    requires few { count ≤ 16 }
-{
-    let ends = ends(alloc, count, meeting)?;
-    let store = Store::fresh(alloc, 100)?;
+    ends: Vec<End<Asker, Teller>>,
+    meeting: &Meeting,
+) -> Result<(Vec<End<Asker, Teller>>, u32), Fail> {
+    if ends.is_empty() || ends.len() > MOST_ENDS {
+        return Err(Fail::new("not so many ends"));
+    }
+    let store = Store::fresh(alloc, 1_000)?;
     let (hall, mut pass) = match Hall::start(alloc, store) {
         Ok(made) => made,
-        Err((failed, _)) => return Err(failed),
+        Err((failed, _)) => return Err(Fail::from(failed)),
     };
     let settings = Settings {
         workers: 1,
         page: 8,
-        input_limit: 1_000,
+        input_limit: 10_000,
     };
-    let (ends, answer) = serve_ends(rt, alloc, &hall, &mut pass, ends, &settings, &NoMeter);
-    let version = hall.close(pass).version();
+    let (ends, answer) = serve_ends(rt, alloc, &hall, &mut pass, ends, &settings, meeting);
+    let commits = hall.close(pass).version();
     answer?;
-    Ok((version, ends))
+    Ok((ends, commits))
 }
 
+// An end that registers methane under identifiers from a first to a last, and then shows the last. It gives its second
+// line once as many replies were put as there are ends.
+fn registering(
+    alloc: Global,
+    first: u32,
+    last: u32,
+    count: u16,
+    meeting: &Arc<Meeting, Global>,
+) -> Result<End<Asker, Teller>, AllocError> {
+    let lines = format!(in alloc; "register {first} C\n")?;
+    let mut rest = String::new(alloc);
+    for id in first.saturating_add(1)..last.saturating_add(1) {
+        rest.push_str(format!(in alloc; "register {id} C\n")?.as_str())?;
+    }
+    rest.push_str(format!(in alloc; "show {last}\n")?.as_str())?;
+    let script = Script {
+        lines_after: 0,
+        lines: lines.as_str(),
+        rest_after: u32::from(count),
+        rest: rest.as_str(),
+    };
+    end(alloc, script, meeting)
+}
+
+// How many versions were told, and the last of them, where each is greater than the one before.
+fn rising(told: &str) -> Option<(u16, u32)> {
+    let mut count = 0_u16;
+    let mut last = 0;
+    for line in told.lines() {
+        let version = line.strip_prefix("ok ")?.parse::<u32>().ok()?;
+        if version <= last {
+            return None;
+        }
+        count = count.saturating_add(1);
+        last = version;
+    }
+    Some((count, last))
+}
+
+// Whether an end is done, and was told a greater version for each of its identifiers, and shown the last so.
+fn has_registered(
+    alloc: Global,
+    end: &End<Asker, Teller>,
+    each: u16,
+    last: u32,
+) -> Result<bool, AllocError> {
+    let Ok(text) = std::str::from_utf8(end.sink.text.bytes()) else {
+        return Ok(false);
+    };
+    let Some((told, shown)) = text.split_once("\nrecord ") else {
+        return Ok(false);
+    };
+    let Some((count, version)) = rising(told) else {
+        return Ok(false);
+    };
+    let record = format!(in alloc; "{last} version {version} smiles C\n")?;
+    Ok(end.status == DONE && count == each && shown == record.as_str())
+}
+
+// The first and the last identifier of an end.
+fn identifiers(number: u16, each: u16) -> (u32, u32) {
+    let first = 1_000 * u32::from(number) + 1;
+    (first, first + u32::from(each.saturating_sub(1)))
+}
+
+// Each end waits after its first line until all have been answered.
 #[test]
 fn ends_are_served_at_the_same_time(rt: HostRuntime) -> Result<(), Fail> {
     let alloc = rt.alloc();
-    for count in 2..17 {
-        let meeting = Arc::new(
-            alloc,
-            Meeting {
-                replies: AtomicU32::new(0),
-                alone: AtomicU32::new(0),
-            },
-        )?;
-        let (commits, ends) = serve(&rt, alloc, count, &meeting)?;
-        assert_eq!(rt; meeting.alone.load(Ordering::SeqCst), 0);
-        assert_eq!(rt; commits, count);
-        let mut id = 10;
-        for end in &ends {
-            assert!(rt; is_served(alloc, end, id)?, "at {id}");
-            id = id.saturating_add(1);
+    for (count, each, commits) in [(2, 100, 200), (3, 10, 30), (16, 2, 32)] {
+        let meeting = Arc::new(alloc, Meeting::new(0))?;
+        let mut ends = Vec::new(alloc);
+        for number in 0..count {
+            let (first, last) = identifiers(number, each);
+            ends.push(registering(alloc, first, last, count, &meeting)?)?;
+        }
+        let (ends, version) = serve(&rt, alloc, ends, &meeting)?;
+        assert_eq!(rt; meeting.gave_up.load(Ordering::SeqCst), 0, "{count} ends");
+        assert_eq!(rt; version, commits, "{count} ends");
+        for (number, end) in (0..count).zip(&ends) {
+            let (_, last) = identifiers(number, each);
+            assert!(rt;
+                has_registered(alloc, end, each, last)?,
+                "{number} of {count} ends"
+            );
+        }
+    }
+    Ok(())
+}
+
+// A search that began to match is held until another end has committed: it holds no turn. A cursor lists what was
+// there at its opening, though another end has revised that and pruned.
+#[test]
+fn an_end_sees_its_version_while_another_commits(rt: HostRuntime) -> Result<(), Fail> {
+    let alloc = rt.alloc();
+    let rows = [
+        (
+            4,
+            [
+                Script {
+                    lines_after: 0,
+                    lines: "register 10 C\n",
+                    rest_after: 2,
+                    rest: "search C\n",
+                },
+                Script {
+                    lines_after: 1,
+                    lines: "register 20 C\n",
+                    rest_after: 3,
+                    rest: "register 30 C\n",
+                },
+            ],
+            [
+                "ok 1\nhit 10\nhit 20\nend at 2 tried 2 hits 2\n",
+                "ok 2\nok 3\n",
+            ],
+        ),
+        (
+            0,
+            [
+                Script {
+                    lines_after: 0,
+                    lines: "register 10 C\nopen s C\n",
+                    rest_after: 4,
+                    rest: "next s\nshow 10\nclose s\n",
+                },
+                Script {
+                    lines_after: 2,
+                    lines: "revise 10 N\nprune\n",
+                    rest_after: 8,
+                    rest: "prune\n",
+                },
+            ],
+            [
+                "ok 1\nopened 1\nhit 10\nend at 1 tried 1 hits 1\nrecord 10 version 2 smiles N\nclosed\n",
+                "ok 2\npruned 0\npruned 1\n",
+            ],
+        ),
+    ];
+    for (search_until, scripts, replies) in rows {
+        let meeting = Arc::new(alloc, Meeting::new(search_until))?;
+        let mut ends = Vec::new(alloc);
+        for script in scripts {
+            ends.push(end(alloc, script, &meeting)?)?;
+        }
+        let (ends, _) = serve(&rt, alloc, ends, &meeting)?;
+        assert_eq!(rt; meeting.gave_up.load(Ordering::SeqCst), 0);
+        for (end, text) in ends.iter().zip(replies) {
+            assert_eq!(rt; end.sink.text.bytes(), text.as_bytes(), "{text}");
+            assert_eq!(rt; end.status, DONE, "{text}");
         }
     }
     Ok(())
