@@ -1,0 +1,29 @@
+-- What a world stands for, and what a reopening makes of it. Reopens is for callers.
+use Rattle.std.specs.Prelude.{◌≡◌, ◌≤◌, List, length, ℕ}
+use Rattle.disk_edge.specs.Medium.{Medium}
+use Rattle.store_machine.specs.Machine.{Recovers}
+use Rattle.store_machine.specs.Openings.{IsOpened, reopening}
+use Rattle.store_machine.specs.Runs.{IsRun}
+use Rattle.store_machine.specs.declared.machine.State.{State}
+use Rattle.store_machine.specs.declared.machine.Times.{Times}
+use Rattle.store_disk.specs.InMemory.{StandsInMemory}
+use Rattle.store_disk.specs.Loads.{OpensTo}
+use Rattle.store_disk.specs.OnDisk.{StoreTerm}
+
+-- From a state, a crash that leaves these bytes on disk `a`, and an opening, lead to a state for which this store stands,
+-- which has so many commits.
+pub record Reopens (s : State) (bytes : List ℕ) (store : StoreTerm Medium) (commits : ℕ) : Type 0 where
+  pub after : State
+  pub stands : StandsInMemory store after
+  -- the history is one that a crash may leave, and the one that the bytes open to
+  pub recovers : Recovers s after.history
+  pub opens : OpensTo after.history bytes
+  pub commits : commits ≡ length after.history.commits
+  -- nothing is pinned or in doubt, and the limit is as before
+  pub opened : IsOpened s.limit after
+  -- a Crash and an Open are a run, whatever their times
+  pub run : (at begin end : Times) → IsRun s (reopening s after at begin end) after
+
+-- The store stands for some state, with this limit. For private clauses alone.
+abbrev pub IsWorld : StoreTerm Medium → ℕ → Type 0
+IsWorld store commits = (1 ≤ commits) × ((s : State) × StandsInMemory store s × (s.limit ≡ commits))
