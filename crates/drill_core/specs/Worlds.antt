@@ -11,14 +11,14 @@ use Rattle.store_disk.specs.Loads.{OpensTo}
 use Rattle.store_disk.specs.OnDisk.{StoreTerm}
 
 -- From a state, a crash that leaves these bytes on disk `a`, and an opening, lead to a state for which this store stands,
--- which has so many commits.
-pub record Reopens (s : State) (bytes : List ℕ) (store : StoreTerm Medium) (commits : ℕ) : Type 0 where
+-- with so many commits.
+pub record Reopens (s : State) (bytes : List ℕ) (store : StoreTerm Medium) (count : ℕ) : Type 0 where
   pub after : State
   pub stands : StandsInMemory store after
   -- the history is one that a crash may leave, and the one that the bytes open to
   pub recovers : Recovers s after.history
   pub opens : OpensTo after.history bytes
-  pub commits : commits ≡ length after.history.commits
+  pub commits : count ≡ length after.history.commits
   -- nothing is pinned or in doubt, and the limit is as before
   pub opened : IsOpened s.limit after
   -- a Crash and an Open are a run, whatever their times

@@ -142,9 +142,9 @@ impl World {
                 ))
             }
             Err((LoadFault::NoMemory, _)) => Err(AllocError),
-            Err((LoadFault::Disk | LoadFault::NotAStore | LoadFault::Damaged(_), _)) => {
-                unreachable!()
-            }
+            Err((LoadFault::Disk, _)) => unreachable!(),
+            Err((LoadFault::NotAStore, _)) => unreachable!(),
+            Err((LoadFault::Damaged(_), _)) => unreachable!(),
         }
     }
 }
