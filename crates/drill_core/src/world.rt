@@ -1,7 +1,7 @@
 //! A store on disks in memory that may be stopped at any call of its disk, and opened again. All that a crash leaves is
 //! what the disks hold; the store in memory is made anew.
 
-ghost use Rattle.std.specs.Prelude.{◌≡◌, ◌≤◌, ◌+◌, All, IfOk, IfSome, IsSomeAnd, length, None, OnErr, Some, true};
+ghost use Rattle.std.specs.Prelude.{◌≡◌, ◌≤◌, ◌+◌, [], All, IfOk, IfSome, IsSomeAnd, length, None, OnErr, Some, true};
 ghost use Rattle.std.specs.Arc.{arc_value};
 ghost use Rattle.disk_edge.specs.Failures.{bound_of};
 ghost use Rattle.disk_edge.specs.Fresh.{fresh};
