@@ -25,35 +25,12 @@ use Rattle.store_disk.specs.Stored.{Stretches}
 use Rattle.drill_core.proofs.Limits.{limits-stay}
 use Rattle.drill_core.specs.Worlds.{IsWorld, Reopens}
 
-pub made : (store : StoreTerm Medium) (commits : ℕ) → 1 ≤ commits → StandsInMemory store (empty commits)
-    → IsWorld store commits
-made store commits some at = (some, (empty commits, at, refl))
-
 pub still : (old new : StoreTerm Medium) (commits : ℕ) (calls : List (Event × Reply)) → IsWorld old commits
     → ((s : State) → StandsInMemory old s → Calls (Stretches model) (λ _. true) old new s calls) → IsWorld new commits
 still old new commits calls w c =
     let s : State = w.1.0 in
     let k = c s w.1.1 in
     (w.0, (k.after, k.stands.ends, limits-stay s k.after k.steps k.stands.run ∙ w.1.2))
-
-pub still-stands : (old new : StoreTerm Medium) (commits : ℕ) → IsWorld old commits
-    → ((s : State) → StandsInMemory old s → StandsInMemory new s) → IsWorld new commits
-still-stands old new commits w f = (w.0, (w.1.0, f w.1.0 w.1.1, w.1.2))
-
-pub opened-world : (store : StoreTerm Medium) (commits : ℕ) (s : State) → 1 ≤ commits → StandsInMemory store s
-    → IsOpened commits s → IsWorld store commits
-opened-world store commits s some at opened = (some, (s, at, opened.limit))
-
--- one more failure
-raised-from : (passes once : Option ℕ) (count call : ℕ) → IfSome (bound_from passes once count)
-    (λ n. IsSomeAnd (bound_from passes (Some call) count) (λ m. m ≤ n + 1))
-raised-from None None count call = omega arith
-raised-from None (Some k) count call = omega arith
-raised-from (Some p) once count call = tt
-
-pub raised : (f : Failures) (call : ℕ) → IfSome (bound_of f)
-    (λ n. IsSomeAnd (bound_of (record f { once = Some call })) (λ m. m ≤ n + 1))
-raised f call = raised-from f.passes f.once f.count call
 
 -- the limit of each state for which it stands
 pub limit-of : (store : StoreTerm Medium) (commits : ℕ) (s : State) → IsWorld store commits → StandsInMemory store s
@@ -100,7 +77,7 @@ none-set old new is still =
     let none : h.0 ≡ 0 = omega (arith, h.2) in h.1 ∙ ap Some none
 
 -- so no call of its disk fails
-pub still-unset : (d a : Medium) (bytes : List ℕ) → d ≡ fresh bytes → Narrows model d a
+still-unset : (d a : Medium) (bytes : List ℕ) → d ≡ fresh bytes → Narrows model d a
     → bound_of a.failures ≡ Some 0
 still-unset d a bytes is n = none-set _ _ (unset d bytes is) n.count.bound
 
@@ -109,13 +86,6 @@ pub no-fault : (d a : Medium) (bytes : List ℕ) → d ≡ fresh bytes → Narro
 no-fault d a bytes is n rose =
     let few = within a 0 (still-unset d a bytes is n) in
     elim rose [ inl less ↦ omega (arith, few, less) | inr end ↦ omega (arith, few, end) ]
-
-pub still-told : (d a : Medium) (bytes : List ℕ) → d ≡ fresh bytes → Narrows model d a
-    → replay a.first a.calls ≡ bytes
-still-told d a bytes is n = one (n.same ∙ told d bytes is)
-  where
-    one : {x y : List ℕ} → Some x ≡ Some y → x ≡ y
-    one e = cc e
 
 -- a crash and an opening are a run to the state that was loaded
 pub reopens : CrashOpens → ((h k : History) (bytes : List ℕ) → OpensTo h bytes → OpensTo k bytes → h ≡ k)
