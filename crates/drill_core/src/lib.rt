@@ -5,8 +5,10 @@
 //! adds a crash and an opening, so that all of it together is one run of the machine.
 #![tactic(auto)]
 
+mod laws;
 #[cfg(test)]
 mod tests;
 mod world;
 
+pub use laws::disk_faults_are_counted;
 pub use world::World;
