@@ -32,16 +32,18 @@ one-more (DiskFault doubt) old new more rest fault le up few =
     elim (fault tt) [ inl less ↦ omega (arith, less, up) | inr end ↦ absurd (omega (arith, end, up, few)) ]
 one-more _ old new more rest fault le up few = omega (arith, le, up)
 
+abbrev fault-of : Step → ℕ
+fault-of x = cond (is_disk_fault x.reply) 1 0
+
 counted : (s t : State) (steps : List Step) → IsRun s steps t → IsCalm steps → AllByRecursion IsCaused steps
     → t.faults.a + 1 < 2 ^ 64 → s.faults.a + disk_faults steps ≤ t.faults.a
 counted s t [] run calm causes few = let same = ap (λ (x : State). x.faults.a) run in omega (arith, same)
 counted s t (x ∷ xs) run calm causes few =
     let rest = counted x.after t xs run.2 calm.1 causes.1 few in
     let le = none-fell x.before x.owner x.event x.reply x.after calm.0 run.1 in
-    let f = λ (y : Step). cond (is_disk_fault y.reply) 1 0 in
     let up = one-more x.reply x.before.faults.a x.after.faults.a (disk_faults xs) t.faults.a causes.0.fault le rest few in
     let at = ap (λ (y : State). y.faults.a) run.0 in
-    omega (arith, up, sum_by-cons f x xs, at)
+    omega (arith, up, sum_by-cons fault-of x xs, at)
 
 pub faults-are-counted : FaultsAreCounted
 faults-are-counted old new s t steps r few =
