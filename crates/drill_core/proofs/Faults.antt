@@ -32,7 +32,7 @@ one-more (DiskFault doubt) old new more rest fault le up few =
     elim (fault tt) [ inl less ↦ omega (arith, less, up) | inr end ↦ absurd (omega (arith, end, up, few)) ]
 one-more _ old new more rest fault le up few = omega (arith, le, up)
 
-abbrev fault-of : Step → ℕ
+abbrev pub fault-of : Step → ℕ
 fault-of x = cond (is_disk_fault x.reply) 1 0
 
 counted : (s t : State) (steps : List Step) → IsRun s steps t → IsCalm steps → AllByRecursion IsCaused steps

@@ -1,6 +1,7 @@
--- What a world stands for, and what a reopening makes of it. Reopens is for callers.
-use Rattle.std.specs.Prelude.{◌≡◌, ◌≤◌, List, length, ℕ}
+-- What is set on a world's disk, what a reopening makes of it, and what it always is. For callers but for the last.
+use Rattle.std.specs.Prelude.{◌≡◌, ◌≤◌, List, length, Some, ℕ}
 use Rattle.disk_edge.specs.Medium.{Medium}
+use Rattle.disk_edge.specs.declared.failures.Failures.{Failures}
 use Rattle.store_machine.specs.Machine.{Recovers}
 use Rattle.store_machine.specs.Openings.{IsOpened, reopening}
 use Rattle.store_machine.specs.Runs.{IsRun}
@@ -9,6 +10,17 @@ use Rattle.store_machine.specs.declared.machine.Times.{Times}
 use Rattle.store_disk.specs.InMemory.{StandsInMemory}
 use Rattle.store_disk.specs.Loads.{OpensTo}
 use Rattle.store_disk.specs.OnDisk.{StoreTerm}
+
+-- with other failures set on disk `a`: one that fails once, and a stop
+abbrev pub with_failures : StoreTerm Medium → Failures → StoreTerm Medium
+with_failures store failures =
+    record store { journal = record store.journal { disk = record store.journal.disk { failures = failures } } }
+
+abbrev pub failing : StoreTerm Medium → ℕ → StoreTerm Medium
+failing store call = with_failures store (record store.journal.disk.failures { once = Some call })
+
+abbrev pub stopping : StoreTerm Medium → ℕ → StoreTerm Medium
+stopping store calls = with_failures store (record store.journal.disk.failures { passes = Some calls })
 
 -- From a state, a crash that leaves these bytes on disk `a`, and an opening, lead to a state for which this store stands,
 -- with so many commits.

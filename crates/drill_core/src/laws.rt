@@ -1,8 +1,24 @@
-//! What the answers of a world say of its disk's faults.
+//! Laws of what is done with a world.
+ghost use Rattle.drill_core.specs.Drills.{DrillsBegin, DrillsCall, DrillsFail, DrillsReopen, DrillsStop, FaultsAreSet};
 ghost use Rattle.drill_core.specs.Faults.{FaultsAreCounted};
 
-/// Each call that is answered that the disk failed stands for a call of the disk that failed. So after some failures
-/// that were set, and no stop, there are at most that many such answers.
+use store_machine::runs_join;
+
+/// Each call that is answered that the disk failed stands for a call of the disk that failed.
 pub fn disk_faults_are_counted()
     ensures { FaultsAreCounted }
 {}
+
+/// All that is done with a world, reopenings included, is one run. Between two of them the disk fails no more often than
+/// failures were set, where no stop was.
+pub fn drills_are_runs()
+    ensures begins { DrillsBegin }
+    ensures calls { DrillsCall }
+    ensures fails { DrillsFail }
+    ensures stops { DrillsStop }
+    ensures reopens { DrillsReopen }
+    ensures faults { FaultsAreSet }
+{
+    disk_faults_are_counted();
+    runs_join();
+}

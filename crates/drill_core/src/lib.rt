@@ -10,5 +10,5 @@ mod laws;
 mod tests;
 mod world;
 
-pub use laws::disk_faults_are_counted;
+pub use laws::{disk_faults_are_counted, drills_are_runs};
 pub use world::World;

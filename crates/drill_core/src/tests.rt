@@ -7,12 +7,7 @@ use std::test::Fail;
 use store_core::{Change, CommitFault, Look, Record, Service};
 
 // Registers a SMILES under an identifier.
-fn register(
-    alloc: Global,
-    world: &mut World,
-    id: u32,
-    text: &[u8],
-) -> Result<u32, CommitFault> {
+fn register(alloc: Global, world: &mut World, id: u32, text: &[u8]) -> Result<u32, CommitFault> {
     if id == 0 || id > 999_999_999 {
         return Err(CommitFault::NoMemory);
     }

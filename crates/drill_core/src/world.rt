@@ -18,7 +18,7 @@ ghost use Rattle.store_machine.specs.Openings.{IsOpened};
 ghost use Rattle.store_machine.specs.declared.machine.State.{State};
 ghost use Rattle.store_disk.specs.InMemory.{StandsInMemory};
 ghost use Rattle.store_disk.specs.Stored.{Stretches};
-ghost use Rattle.drill_core.specs.Worlds.{Reopens};
+ghost use Rattle.drill_core.specs.Worlds.{Reopens, failing, stopping};
 
 use chem_core::Print;
 use disk_edge::MemDisk;
@@ -27,9 +27,7 @@ use snap_registry::Pin;
 use std::alloc::{AllocError, Global};
 use std::marker::Model;
 use std::sync::ledger::Ledger;
-use store_core::{
-    CallFault, Change, CommitFault, Look, MOST_COMMITS, Page, Service, Stats, Steps,
-};
+use store_core::{CallFault, Change, CommitFault, Look, MOST_COMMITS, Page, Service, Stats, Steps};
 use store_disk::{Disks, Store, a_standing_store_opens, a_store_opens_one_way};
 use store_machine::crash_opens;
 
@@ -78,13 +76,7 @@ impl World {
     /// tells no bound of its faults. Takes no memory.
     pub fn stop_after(&mut self, calls: u64)
         ensures stands { (s : State) → StandsInMemory self.old s → StandsInMemory self.new s }
-        ensures only { self.new ≡ record self.old {
-          journal = record self.old.journal {
-            disk = record self.old.journal.disk {
-              failures = record self.old.journal.disk.failures { passes = Some calls };
-            };
-          };
-        } }
+        ensures only { self.new ≡ stopping self.old calls }
         ensures bound { bound_of self.new.journal.disk.failures ≡ None }
     {
         self.store.stop_after(calls);
@@ -94,13 +86,7 @@ impl World {
     /// has not failed yet. It raises the bound of the disk's faults by at most one. Takes no memory.
     pub fn fail_once(&mut self, call: u64)
         ensures stands { (s : State) → StandsInMemory self.old s → StandsInMemory self.new s }
-        ensures only { self.new ≡ record self.old {
-          journal = record self.old.journal {
-            disk = record self.old.journal.disk {
-              failures = record self.old.journal.disk.failures { once = Some call };
-            };
-          };
-        } }
+        ensures only { self.new ≡ failing self.old call }
         ensures bound { IfSome (bound_of self.old.journal.disk.failures)
             (λ n. IsSomeAnd (bound_of self.new.journal.disk.failures) (λ m. m ≤ n + 1)) }
     {
