@@ -1,5 +1,5 @@
 -- What is done with a world goes on as one run.
-use Rattle.std.proofs.Common.{◌≡◌, ◌+◌, ◌<◌, ◌≤◌, ◌∙◌, ap, arith, false, None, Option, refl, Some, sym, true, ℕ}
+use Rattle.std.proofs.Common.{◌≡◌, ◌+◌, ◌≤◌, arith, None, Option, refl, Some, ℕ}
 use Rattle.std.proofs.lemmas.Bool.{true≢false}
 use Rattle.std.proofs.lemmas.List.Sums.{sum_by-append}
 use Rattle.std.specs.Prelude.{IfSome, IsSomeAnd}
@@ -25,7 +25,8 @@ still-bounded more None new n fails is le h = absurd (none is)
     none : {x : ℕ} → None ≡ Some x → ⊥
     none e = cc e
 still-bounded more (Some k) None n fails is le h = absurd h
-still-bounded more (Some k) (Some m) n fails is le h = let same : k ≡ n = one is in (m, refl, omega (arith, h, le, same))
+still-bounded more (Some k) (Some m) n fails is le h =
+    let same : k ≡ n = one is in (m, refl, omega (arith, h, le, same))
   where
     one : {x y : ℕ} → Some x ≡ Some y → x ≡ y
     one e = cc e

@@ -1,5 +1,5 @@
 -- Each answer that the disk failed raised its count.
-use Rattle.std.proofs.Common.{◌≡◌, ◌∙◌, ◌+◌, ◌<◌, ◌≤◌, ◌^◌, ap, arith, cond, inl, inr, List, [], ◌∷◌, sym, true, ℕ}
+use Rattle.std.proofs.Common.{◌≡◌, ◌+◌, ◌<◌, ◌≤◌, ◌^◌, ap, arith, cond, inl, inr, List, [], ◌∷◌, sym, true, ℕ}
 use Rattle.std.proofs.lemmas.Bool.{true≢false}
 use Rattle.std.proofs.lemmas.List.Sums.{sum_by-cons}
 use Rattle.std.specs.List.{AllByRecursion}
@@ -41,7 +41,8 @@ counted s t [] run calm causes few = let same = ap (λ (x : State). x.faults.a) 
 counted s t (x ∷ xs) run calm causes few =
     let rest = counted x.after t xs run.2 calm.1 causes.1 few in
     let le = none-fell x.before x.owner x.event x.reply x.after calm.0 run.1 in
-    let up = one-more x.reply x.before.faults.a x.after.faults.a (disk_faults xs) t.faults.a causes.0.fault le rest few in
+    let up =
+    one-more x.reply x.before.faults.a x.after.faults.a (disk_faults xs) t.faults.a causes.0.fault le rest few in
     let at = ap (λ (y : State). y.faults.a) run.0 in
     omega (arith, up, sum_by-cons fault-of x xs, at)
 

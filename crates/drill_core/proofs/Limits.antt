@@ -1,5 +1,5 @@
 -- No step changes the limit of commits.
-use Rattle.std.proofs.Common.{◌≡◌, ◌∙◌, ap, Bool, false, inl, inr, List, [], ◌∷◌, None, refl, Some, true, ℕ}
+use Rattle.std.proofs.Common.{◌≡◌, ◌∙◌, ap, Bool, false, inl, inr, List, [], ◌∷◌, None, Some, true, ℕ}
 use Rattle.store_machine.specs.Machine.{Becomes, CommitGives, CrashGives, DoubtAfter, EndsDoubt, FetchGives, Gives, LookGives, OpenGives, PinGives, PruneGives, StatsGives, UnpinGives}
 use Rattle.store_machine.specs.Runs.{IsRun}
 use Rattle.store_machine.specs.declared.machine.Change.{Change}

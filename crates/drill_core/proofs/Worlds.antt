@@ -1,16 +1,13 @@
 -- A world stands for some state with its limit, whatever is called; and a loading of what a crash leaves never fails.
-use Rattle.std.proofs.Common.{◌≡◌, ◌+◌, ◌∙◌, ◌≤◌, ap, arith, inl, inr, List, None, Option, refl, Some, subst, sym, true, ℕ}
-use Rattle.std.specs.Prelude.{IfSome, IsSomeAnd}
+use Rattle.std.proofs.Common.{◌≡◌, ◌∙◌, ap, arith, inl, inr, List, Option, refl, Some, subst, sym, true, ℕ}
 use Rattle.disk_edge.specs.Disk.{Bounded, IfTold, Rose}
-use Rattle.disk_edge.specs.Failures.{bound_from, bound_of}
+use Rattle.disk_edge.specs.Failures.{bound_of}
 use Rattle.disk_edge.specs.Fresh.{fresh}
 use Rattle.disk_edge.specs.Medium.{Medium, model, replay}
 use Rattle.disk_edge.specs.MediumLaws.{within}
-use Rattle.disk_edge.specs.declared.failures.Failures.{Failures}
 use Rattle.journal_core.specs.Looks.{Narrows}
 use Rattle.journal_core.specs.Records.{IsNoJournal}
 use Rattle.store_core.specs.Calls.{Calls}
-use Rattle.store_core.specs.Stored.{empty}
 use Rattle.store_machine.specs.History.{head}
 use Rattle.store_machine.specs.Machine.{Recovers}
 use Rattle.store_machine.specs.Openings.{CrashOpens, IsOpened}
@@ -40,9 +37,6 @@ limit-of store commits s w h = sym h.memory.stands.limit ∙ (w.1.1.memory.stand
 -- what a disk holds that a crash has left
 pub told : (d : Medium) (bytes : List ℕ) → d ≡ fresh bytes → model.content d ≡ Some bytes
 told d bytes is = ap (λ (m : Medium). Some (replay m.first m.calls)) is
-
-unset : (d : Medium) (bytes : List ℕ) → d ≡ fresh bytes → bound_of d.failures ≡ Some 0
-unset d bytes is = ap (λ (m : Medium). bound_of m.failures) is
 
 -- what an image of the disk opens to
 module _ (law : (store : StoreTerm Medium) (s : State) → StandsFor model store s
@@ -77,14 +71,11 @@ none-set old new is still =
     let none : h.0 ≡ 0 = omega (arith, h.2) in h.1 ∙ ap Some none
 
 -- so no call of its disk fails
-still-unset : (d a : Medium) (bytes : List ℕ) → d ≡ fresh bytes → Narrows model d a
-    → bound_of a.failures ≡ Some 0
-still-unset d a bytes is n = none-set _ _ (unset d bytes is) n.count.bound
-
 pub no-fault : (d a : Medium) (bytes : List ℕ) → d ≡ fresh bytes → Narrows model d a
     → Rose d.failures.count a.failures.count → ⊥
 no-fault d a bytes is n rose =
-    let few = within a 0 (still-unset d a bytes is n) in
+    let unset : bound_of d.failures ≡ Some 0 = ap (λ (m : Medium). bound_of m.failures) is in
+    let few = within a 0 (none-set _ _ unset n.count.bound) in
     elim rose [ inl less ↦ omega (arith, few, less) | inr end ↦ omega (arith, few, end) ]
 
 -- a crash and an opening are a run to the state that was loaded

@@ -15,7 +15,8 @@ use Rattle.drill_core.specs.Faults.{disk_faults, failed}
 use Rattle.drill_core.specs.Worlds.{Reopens, failing, stopping}
 
 -- All steps so far are a run, to a state for which the world stands. In the last part of them, since the making or the
--- last reopening, a stop was set or none, and so many failures; each answer that the disk failed stands for a failed call.
+-- last reopening, a stop was set or none, and so many failures; each answer that the disk failed stands for a call of
+-- the disk that failed.
 pub record IsDrill (world : StoreTerm Medium) (first now : State) (steps part : List Step) (stopped : Bool) (fails : ℕ)
     : Type 0 where
   pub run : IsRun first steps now
@@ -30,7 +31,8 @@ DrillsBegin = (world : StoreTerm Medium) (s : State) → StandsInMemory world s
 
 -- it goes on by calls
 abbrev pub DrillsCall : Type 0
-DrillsCall = (old new : StoreTerm Medium) (first s t : State) (steps part more : List Step) (stopped : Bool) (fails : ℕ)
+DrillsCall = (old new : StoreTerm Medium) (first s t : State) (steps part more : List Step) (stopped : Bool)
+    (fails : ℕ)
     → IsDrill old first s steps part stopped fails → Stretches model old new s more t
     → NotAbove (bound_of old.journal.disk.failures) (bound_of new.journal.disk.failures)
     → IsDrill new first t (steps ++ more) (part ++ more) stopped fails

@@ -1,5 +1,7 @@
 -- What is set on a world's disk, what a reopening makes of it, and what it always is. For callers but for the last.
 use Rattle.std.specs.Prelude.{◌≡◌, ◌≤◌, List, length, Some, ℕ}
+use Rattle.disk_edge.specs.Failures.{bound_of}
+use Rattle.disk_edge.specs.Image.{image_of}
 use Rattle.disk_edge.specs.Medium.{Medium}
 use Rattle.disk_edge.specs.declared.failures.Failures.{Failures}
 use Rattle.store_machine.specs.Machine.{Recovers}
@@ -22,8 +24,16 @@ failing store call = with_failures store (record store.journal.disk.failures { o
 abbrev pub stopping : StoreTerm Medium → ℕ → StoreTerm Medium
 stopping store calls = with_failures store (record store.journal.disk.failures { passes = Some calls })
 
--- From a state, a crash that leaves these bytes on disk `a`, and an opening, lead to a state for which this store stands,
--- with so many commits.
+-- none is set on either disk, and none ever came
+abbrev pub HasNoFailures : StoreTerm Medium → Type 0
+HasNoFailures store = (bound_of store.journal.disk.failures ≡ Some 0) × (bound_of store.b.failures ≡ Some 0)
+
+-- the bytes that a crash leaves on a disk: the image of this number
+abbrev pub left_on : Medium → ℕ → List ℕ
+left_on disk image = image_of image disk.first disk.calls
+
+-- From a state, a crash that leaves these bytes on disk `a`, and an opening, lead to a state for which this store
+-- stands, with so many commits.
 pub record Reopens (s : State) (bytes : List ℕ) (store : StoreTerm Medium) (count : ℕ) : Type 0 where
   pub after : State
   pub stands : StandsInMemory store after

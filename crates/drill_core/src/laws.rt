@@ -9,8 +9,8 @@ pub fn disk_faults_are_counted()
     ensures { FaultsAreCounted }
 {}
 
-/// All that is done with a world, reopenings included, is one run. Between two of them the disk fails no more often than
-/// failures were set, where no stop was.
+/// All that is done with a world, reopenings included, is one run. Since the last of these no more calls were answered
+/// that the disk failed than failures were set, where no stop was.
 pub fn drills_are_runs()
     ensures begins { DrillsBegin }
     ensures calls { DrillsCall }

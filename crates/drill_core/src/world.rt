@@ -1,12 +1,11 @@
-//! A store on disks in memory that may be stopped at any call of its disk, and opened again. All that a crash leaves is
-//! what the disks hold; the store in memory is made anew.
+//! A store on disks in memory that may be stopped at any call of its disk, and opened again. All that a crash leaves
+//! is what the disks hold; the store in memory is made anew.
 
 ghost use Rattle.std.specs.Prelude.{◌≡◌, ◌≤◌, ◌+◌, [], All, IfOk, IfSome, IsSomeAnd, length, None, OnErr, Some, true};
 ghost use Rattle.std.specs.Arc.{arc_value};
 ghost use Rattle.disk_edge.specs.Failures.{bound_of};
 ghost use Rattle.disk_edge.specs.Fresh.{fresh};
-ghost use Rattle.disk_edge.specs.Image.{image_of};
-ghost use Rattle.disk_edge.specs.Medium.{model, replay};
+ghost use Rattle.disk_edge.specs.Medium.{model};
 ghost use Rattle.store_core.specs.Calls.{Calls, NotRaised, SameHeld, WornAs, is_worn};
 ghost use Rattle.store_core.specs.Records.{Shared};
 ghost use Rattle.store_core.specs.Replies.{fetch_calls};
@@ -18,7 +17,7 @@ ghost use Rattle.store_machine.specs.Openings.{IsOpened};
 ghost use Rattle.store_machine.specs.declared.machine.State.{State};
 ghost use Rattle.store_disk.specs.InMemory.{StandsInMemory};
 ghost use Rattle.store_disk.specs.Stored.{Stretches};
-ghost use Rattle.drill_core.specs.Worlds.{Reopens, failing, stopping};
+ghost use Rattle.drill_core.specs.Worlds.{HasNoFailures, Reopens, failing, left_on, stopping};
 
 use chem_core::Print;
 use disk_edge::MemDisk;
@@ -53,16 +52,15 @@ impl Model for World {
 }
 
 impl World {
-    /// A store that was created on empty disks, with nothing committed and no failure set. It takes `commits` commits in
-    /// all, 1 to `MOST_COMMITS`. Fails where memory runs out.
+    /// A store that was created on empty disks, with nothing committed and no failure set. It takes `commits` commits
+    /// in all, 1 to `MOST_COMMITS`. Fails where memory runs out.
     pub fn new(alloc: Global, commits: u32) -> Result<World, AllocError>
         requires some { 1 ≤ commits }
         requires few { commits ≤ MOST_COMMITS }
-        ensures opened { IfOk result (λ world. (s : State) × StandsInMemory world s × IsOpened commits s
-            × (s.history ≡ begun)) }
+        ensures opened { IfOk result (λ world. (s : State) × StandsInMemory world s
+            × IsOpened commits s × (s.history ≡ begun)) }
         ensures empty { IfOk result (λ world. StandsInMemory world (empty commits)) }
-        ensures no_failures { IfOk result (λ world. (bound_of world.journal.disk.failures ≡ Some 0)
-            × (bound_of world.b.failures ≡ Some 0)) }
+        ensures no_failures { IfOk result HasNoFailures }
     {
         let store = Store::fresh(alloc, commits)?;
         Ok(World {
@@ -99,12 +97,11 @@ impl World {
     /// the crash, or this and the commit in doubt. Fails where memory runs out, and only there.
     pub fn reopen(self, image: u32) -> Result<(World, u32), AllocError>
         ensures opens { IfOk result (λ r. (s : State) → StandsInMemory self s
-            → Reopens s (image_of image self.journal.disk.first self.journal.disk.calls) r.0 r.1) }
-        ensures a { IfOk result (λ r. replay r.0.journal.disk.first r.0.journal.disk.calls
-            ≡ image_of image self.journal.disk.first self.journal.disk.calls) }
-        ensures b { IfOk result (λ r. r.0.b ≡ fresh (image_of image self.b.first self.b.calls)) }
-        ensures no_failures { IfOk result (λ r. (bound_of r.0.journal.disk.failures ≡ Some 0)
-            × (bound_of r.0.b.failures ≡ Some 0)) }
+            → Reopens s (left_on self.journal.disk image) r.0 r.1) }
+        ensures a { IfOk result (λ r. model.content r.0.journal.disk
+            ≡ Some (left_on self.journal.disk image)) }
+        ensures b { IfOk result (λ r. r.0.b ≡ fresh (left_on self.b image)) }
+        ensures no_failures { IfOk result (λ r. HasNoFailures r.0) }
     {
         a_standing_store_opens::<MemDisk>();
         a_store_opens_one_way();
@@ -137,9 +134,9 @@ impl World {
 
 // What a crash leaves of both disks.
 fn after_crash(disks: Disks<MemDisk>, image: u32) -> Disks<MemDisk>
-    ensures a { result.a ≡ fresh (image_of image disks.a.first disks.a.calls) }
-    ensures b { result.b ≡ fresh (image_of image disks.b.first disks.b.calls) }
-    ensures left { model.images disks.a (image_of image disks.a.first disks.a.calls) }
+    ensures a { result.a ≡ fresh (left_on disks.a image) }
+    ensures b { result.b ≡ fresh (left_on disks.b image) }
+    ensures image { model.images disks.a (left_on disks.a image) }
 {
     let Disks { a, b } = disks;
     Disks {
