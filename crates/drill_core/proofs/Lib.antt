@@ -1,0 +1,4 @@
+pub mod Limits
+pub mod Worlds
+pub mod Faults
+pub mod Drills

@@ -1,0 +1,51 @@
+-- What is set on a world's disk, what a reopening makes of it, and what it always is. For callers but for the last.
+use Rattle.std.specs.Prelude.{◌≡◌, ◌≤◌, List, length, Some, ℕ}
+use Rattle.disk_edge.specs.Failures.{bound_of}
+use Rattle.disk_edge.specs.Image.{image_of}
+use Rattle.disk_edge.specs.Medium.{Medium}
+use Rattle.disk_edge.specs.declared.failures.Failures.{Failures}
+use Rattle.store_machine.specs.Machine.{Recovers}
+use Rattle.store_machine.specs.Openings.{IsOpened, reopening}
+use Rattle.store_machine.specs.Runs.{IsRun}
+use Rattle.store_machine.specs.declared.machine.State.{State}
+use Rattle.store_machine.specs.declared.machine.Times.{Times}
+use Rattle.store_disk.specs.InMemory.{StandsInMemory}
+use Rattle.store_disk.specs.Loads.{OpensTo}
+use Rattle.store_disk.specs.OnDisk.{StoreTerm}
+
+-- with other failures set on disk `a`: one that fails once, and a stop
+abbrev pub with_failures : StoreTerm Medium → Failures → StoreTerm Medium
+with_failures store failures =
+    record store { journal = record store.journal { disk = record store.journal.disk { failures = failures } } }
+
+abbrev pub failing : StoreTerm Medium → ℕ → StoreTerm Medium
+failing store call = with_failures store (record store.journal.disk.failures { once = Some call })
+
+abbrev pub stopping : StoreTerm Medium → ℕ → StoreTerm Medium
+stopping store calls = with_failures store (record store.journal.disk.failures { passes = Some calls })
+
+-- none is set on either disk, and none ever came
+abbrev pub HasNoFailures : StoreTerm Medium → Type 0
+HasNoFailures store = (bound_of store.journal.disk.failures ≡ Some 0) × (bound_of store.b.failures ≡ Some 0)
+
+-- the bytes that a crash leaves on a disk: the image of this number
+abbrev pub left_on : Medium → ℕ → List ℕ
+left_on disk image = image_of image disk.first disk.calls
+
+-- From a state, a crash that leaves these bytes on disk `a`, and an opening, lead to a state for which this store
+-- stands, with so many commits.
+pub record Reopens (s : State) (bytes : List ℕ) (store : StoreTerm Medium) (count : ℕ) : Type 0 where
+  pub after : State
+  pub stands : StandsInMemory store after
+  -- the history is one that a crash may leave, and the one that the bytes open to
+  pub recovers : Recovers s after.history
+  pub opens : OpensTo after.history bytes
+  pub commits : count ≡ length after.history.commits
+  -- nothing is pinned or in doubt, and the limit is as before
+  pub opened : IsOpened s.limit after
+  -- a Crash and an Open are a run, whatever their times
+  pub run : (at begin end : Times) → IsRun s (reopening s after at begin end) after
+
+-- The store stands for some state, with this limit. For private clauses alone.
+abbrev pub IsWorld : StoreTerm Medium → ℕ → Type 0
+IsWorld store commits = (1 ≤ commits) × ((s : State) × StandsInMemory store s × (s.limit ≡ commits))

@@ -1,0 +1,91 @@
+//! A world is stopped or failed at each call of its disk, and opened again at images of it.
+
+use crate::World;
+use mol_finish::Format;
+use std::alloc::Global;
+use std::test::Fail;
+use store_core::{Change, CommitFault, Look, Record, Service};
+
+// Registers a SMILES under an identifier.
+fn register(alloc: Global, world: &mut World, id: u32, text: &[u8]) -> Result<u32, CommitFault> {
+    if id == 0 || id > 999_999_999 {
+        return Err(CommitFault::NoMemory);
+    }
+    match Record::make(alloc, id, Format::Smiles, text) {
+        Ok(record) => world.commit(Change::Register(record)),
+        Err(_) => Err(CommitFault::NoMemory),
+    }
+}
+
+// The number of pins.
+fn pins(world: &mut World) -> Option<u32> {
+    match world.stats() {
+        Ok(stats) => Some(stats.pins),
+        Err(_) => None,
+    }
+}
+
+// The version that made an identifier what it is.
+fn version(world: &mut World, id: u32) -> Option<u32> {
+    match world.look(id) {
+        Ok(Look::Live { version, .. } | Look::Withdrawn { version }) => Some(version),
+        Ok(Look::Absent) | Err(_) => None,
+    }
+}
+
+#[test]
+fn a_stop_leaves_the_commit_or_not(rt: HostRuntime) -> Result<(), Fail> {
+    let alloc = rt.alloc();
+    let sure = Err(CommitFault::DiskFault { doubt: false });
+    let doubt = Err(CommitFault::DiskFault { doubt: true });
+    let rows: [(u64, Result<u32, CommitFault>, [u32; 4]); 5] = [
+        (0, sure, [1, 1, 1, 1]),
+        (1, sure, [1, 1, 1, 1]),
+        (2, doubt, [1, 1, 2, 1]),
+        (3, doubt, [2, 1, 2, 1]),
+        (4, Ok(2), [2, 2, 2, 2]),
+    ];
+    for (calls, answer, left) in rows {
+        for image in 0..4 {
+            let mut world = World::new(alloc, 10)?;
+            assert_eq!(rt; register(alloc, &mut world, 1, b"CCO"), Ok(1));
+            world.stop_after(calls);
+            assert_eq!(rt; register(alloc, &mut world, 2, b"CC=O"), answer, "{calls}");
+            let (_, commits) = world.reopen(image)?;
+            assert_eq!(rt; commits, left[image as usize], "{calls} {image}");
+        }
+    }
+    Ok(())
+}
+
+#[test]
+fn a_later_commit_ends_a_doubt(rt: HostRuntime) -> Result<(), Fail> {
+    let alloc = rt.alloc();
+    let mut world = World::new(alloc, 10)?;
+    assert_eq!(rt; register(alloc, &mut world, 1, b"CCO"), Ok(1));
+    world.fail_once(4);
+    assert_eq!(rt;
+        register(alloc, &mut world, 2, b"CC=O"),
+        Err(CommitFault::DiskFault { doubt: true })
+    );
+    assert_eq!(rt; register(alloc, &mut world, 3, b"C"), Ok(2));
+    let (mut world, commits) = world.reopen(0)?;
+    assert_eq!(rt; commits, 2);
+    assert_eq!(rt; version(&mut world, 2), None);
+    assert_eq!(rt; version(&mut world, 3), Some(2));
+    Ok(())
+}
+
+#[test]
+fn a_crash_leaves_no_pins(rt: HostRuntime) -> Result<(), Fail> {
+    let alloc = rt.alloc();
+    let mut world = World::new(alloc, 10)?;
+    assert!(rt; matches!(world.pin(), Ok(Some(_))));
+    assert_eq!(rt; pins(&mut world), Some(1));
+    world.stop_after(0);
+    let (mut world, commits) = world.reopen(1)?;
+    assert_eq!(rt; commits, 0);
+    assert_eq!(rt; pins(&mut world), Some(0));
+    assert_eq!(rt; register(alloc, &mut world, 1, b"C"), Ok(1));
+    Ok(())
+}

@@ -1,0 +1,226 @@
+//! A store on disks in memory that may be stopped at any call of its disk, and opened again. All that a crash leaves
+//! is what the disks hold; the store in memory is made anew.
+
+ghost use Rattle.std.specs.Prelude.{◌≡◌, ◌≤◌, ◌+◌, [], All, IfOk, IfSome, IsSomeAnd, length, None, OnErr, Some, true};
+ghost use Rattle.std.specs.Arc.{arc_value};
+ghost use Rattle.disk_edge.specs.Failures.{bound_of};
+ghost use Rattle.disk_edge.specs.Fresh.{fresh};
+ghost use Rattle.disk_edge.specs.Medium.{model};
+ghost use Rattle.store_core.specs.Calls.{Calls, NotRaised, SameHeld, WornAs, is_worn};
+ghost use Rattle.store_core.specs.Records.{Shared};
+ghost use Rattle.store_core.specs.Replies.{fetch_calls};
+ghost use Rattle.store_core.specs.Steps.{AreSteps};
+ghost use Rattle.store_core.specs.Stored.{HoldsPin, empty};
+ghost use Rattle.store_core.specs.declared.page.TheConstants.{MOST_RECORDS};
+ghost use Rattle.store_machine.specs.History.{IsId, begun};
+ghost use Rattle.store_machine.specs.Openings.{IsOpened};
+ghost use Rattle.store_machine.specs.declared.machine.State.{State};
+ghost use Rattle.store_disk.specs.InMemory.{StandsInMemory};
+ghost use Rattle.store_disk.specs.Stored.{Stretches};
+ghost use Rattle.drill_core.specs.Worlds.{HasNoFailures, Reopens, failing, left_on, stopping};
+
+use chem_core::Print;
+use disk_edge::MemDisk;
+use journal_core::LoadFault;
+use snap_registry::Pin;
+use std::alloc::{AllocError, Global};
+use std::marker::Model;
+use std::sync::ledger::Ledger;
+use store_core::{CallFault, Change, CommitFault, Look, MOST_COMMITS, Page, Service, Stats, Steps};
+use store_disk::{Disks, Store, a_standing_store_opens, a_store_opens_one_way};
+use store_machine::crash_opens;
+
+/// A store on disks in memory, with any number of callers. Contracts see its store.
+#[derive(Drop)]
+pub struct World {
+    alloc: Global,
+    store: Store<MemDisk>,
+    commits: u32,
+}
+
+impl Model for World {
+    ghost use Rattle.disk_edge.specs.Medium.{Medium};
+    ghost use Rattle.store_disk.specs.OnDisk.{StoreTerm};
+
+    ghost Value = { StoreTerm Medium };
+
+    ghost use Rattle.drill_core.specs.Worlds.{IsWorld};
+
+    ghost view = { λ w. w.store };
+
+    ghost invariant = { λ w. IsWorld w.store w.commits };
+}
+
+impl World {
+    /// A store that was created on empty disks, with nothing committed and no failure set. It takes `commits` commits
+    /// in all, 1 to `MOST_COMMITS`. Fails where memory runs out.
+    pub fn new(alloc: Global, commits: u32) -> Result<World, AllocError>
+        requires some { 1 ≤ commits }
+        requires few { commits ≤ MOST_COMMITS }
+        ensures opened { IfOk result (λ world. (s : State) × StandsInMemory world s
+            × IsOpened commits s × (s.history ≡ begun)) }
+        ensures empty { IfOk result (λ world. StandsInMemory world (empty commits)) }
+        ensures no_failures { IfOk result HasNoFailures }
+    {
+        let store = Store::fresh(alloc, commits)?;
+        Ok(World {
+            alloc,
+            store,
+            commits,
+        })
+    }
+
+    /// `calls` calls of disk `a` pass, and then each fails, in the place of a stop that was set before. The disk then
+    /// tells no bound of its faults. Takes no memory.
+    pub fn stop_after(&mut self, calls: u64)
+        ensures stands { (s : State) → StandsInMemory self.old s → StandsInMemory self.new s }
+        ensures only { self.new ≡ stopping self.old calls }
+        ensures bound { bound_of self.new.journal.disk.failures ≡ None }
+    {
+        self.store.stop_after(calls);
+    }
+
+    /// The call of disk `a` of this number from now, counted from 1, fails, in the place of one that was set before and
+    /// has not failed yet. It raises the bound of the disk's faults by at most one. Takes no memory.
+    pub fn fail_once(&mut self, call: u64)
+        ensures stands { (s : State) → StandsInMemory self.old s → StandsInMemory self.new s }
+        ensures only { self.new ≡ failing self.old call }
+        ensures bound { IfSome (bound_of self.old.journal.disk.failures)
+            (λ n. IsSomeAnd (bound_of self.new.journal.disk.failures) (λ m. m ≤ n + 1)) }
+    {
+        self.store.fail_once(call);
+    }
+
+    /// A crash that leaves the image of this number of each disk, and a loading. What a disk holds is then what
+    /// `MemDisk::image` of that number gives; no failure is set, nothing is pinned, and nothing is in doubt. Answers the
+    /// number of commits beside the world. The history is the one that the image of disk `a` opens to: that from before
+    /// the crash, or this and the commit in doubt. Fails where memory runs out, and only there.
+    pub fn reopen(self, image: u32) -> Result<(World, u32), AllocError>
+        ensures opens { IfOk result (λ r. (s : State) → StandsInMemory self s
+            → Reopens s (left_on self.journal.disk image) r.0 r.1) }
+        ensures a { IfOk result (λ r. model.content r.0.journal.disk
+            ≡ Some (left_on self.journal.disk image)) }
+        ensures b { IfOk result (λ r. r.0.b ≡ fresh (left_on self.b image)) }
+        ensures no_failures { IfOk result (λ r. HasNoFailures r.0) }
+    {
+        a_standing_store_opens::<MemDisk>();
+        a_store_opens_one_way();
+        crash_opens();
+        let World {
+            alloc,
+            store,
+            commits,
+        } = self;
+        let disks = after_crash(store.into_disks(), image);
+        match Store::load(alloc, disks, commits) {
+            Ok(store) => {
+                let version = store.version();
+                Ok((
+                    World {
+                        alloc,
+                        store,
+                        commits,
+                    },
+                    version,
+                ))
+            }
+            Err((LoadFault::NoMemory, _)) => Err(AllocError),
+            Err((LoadFault::Disk, _)) => unreachable!(),
+            Err((LoadFault::NotAStore, _)) => unreachable!(),
+            Err((LoadFault::Damaged(_), _)) => unreachable!(),
+        }
+    }
+}
+
+// What a crash leaves of both disks.
+fn after_crash(disks: Disks<MemDisk>, image: u32) -> Disks<MemDisk>
+    ensures a { result.a ≡ fresh (left_on disks.a image) }
+    ensures b { result.b ≡ fresh (left_on disks.b image) }
+    ensures image { model.images disks.a (left_on disks.a image) }
+{
+    let Disks { a, b } = disks;
+    Disks {
+        a: a.image(image),
+        b: b.image(image),
+    }
+}
+
+impl Service for World {
+    ghost use Rattle.disk_edge.specs.Medium.{model};
+    ghost use Rattle.store_disk.specs.Stored.{joins, lands, same, stays};
+
+    ghost at = { StandsInMemory };
+
+    ghost owns = { λ _ _. true };
+
+    ghost stretch = { Stretches model };
+
+    ghost worn = { λ _. ⊥ };
+
+    ghost holds = { λ world. HoldsPin world.memory };
+
+    ghost bounds = { λ world. (bound_of world.journal.disk.failures, bound_of world.b.failures) };
+
+    fn commit(&mut self, change: Change) -> Result<u32, CommitFault> {
+        self.store.commit(change)
+    }
+
+    fn pin(&mut self) -> Result<Option<Pin>, CallFault> {
+        self.store.pin()
+    }
+
+    fn fetch<L: Ledger>(
+        &mut self,
+        pin: &Pin,
+        want: &Print,
+        from: u32,
+        limit: u32,
+        page: &mut Page,
+        steps: &mut Steps<L>,
+    ) -> Result<bool, CallFault>
+        requires held { HoldsPin self.old.memory pin.now.slot pin.now.version }
+        requires some { 1 ≤ limit }
+        requires few { limit ≤ MOST_RECORDS }
+        requires room { limit ≤ page.old.room }
+        ensures call { (s : State) → StandsInMemory self.old s
+            → Calls (Stretches model) (λ _. true) self.old self.new s
+            (fetch_calls pin.now.slot want.now from limit page.new.records result) }
+        ensures few { length page.new.records ≤ limit }
+        ensures in_range { All (λ (r : Shared). IsId (arc_value r).id) page.new.records }
+        ensures err { OnErr result (page.new.records ≡ []) }
+        ensures room { page.new.room ≡ page.old.room }
+        ensures steps { (s : State) → StandsInMemory self.new s
+            → AreSteps s from want.now steps.old steps.new }
+        ensures worn { WornAs ⊥ ⊥ (is_worn result) }
+        ensures held { SameHeld (HoldsPin self.old.memory) (HoldsPin self.new.memory) }
+        ensures bounds { NotRaised
+            (bound_of self.old.journal.disk.failures, bound_of self.old.b.failures)
+            (bound_of self.new.journal.disk.failures, bound_of self.new.b.failures) }
+    {
+        self.store.fetch(pin, want, from, limit, page, steps)
+    }
+
+    fn unpin(&mut self, pin: Pin) -> Result<(), CallFault> {
+        self.store.unpin(pin)
+    }
+
+    fn prune(&mut self) -> Result<u32, CallFault> {
+        self.store.prune()
+    }
+
+    fn look(&mut self, id: u32) -> Result<Look, CallFault> {
+        self.store.look(id)
+    }
+
+    fn stats(&mut self) -> Result<Stats, CallFault> {
+        self.store.stats()
+    }
+
+    ghost stays = { stays model };
+
+    ghost joins = { joins model };
+
+    ghost lands = { lands model };
+
+    ghost same = { same model };
+}
