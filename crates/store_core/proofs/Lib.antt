@@ -12,7 +12,6 @@ mod Indexed
 mod Limits
 mod Listed
 mod OneCall
-mod Only
 mod Owners
 mod PruneRow
 mod Rows

@@ -1,6 +1,5 @@
 pub mod Calls
 pub mod Kept
-pub mod Only
 pub mod Prepared
 pub mod Records
 pub mod Replies
