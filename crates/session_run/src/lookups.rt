@@ -105,7 +105,15 @@ pub fn similar<S: Service>(
     };
     record_is_sound(&record);
     let Similarity { p, q, k } = asked;
-    match find_similar(cursors.alloc, service, p, q, k, &record, cursors.settings.page) {
+    match find_similar(
+        cursors.alloc,
+        service,
+        p,
+        q,
+        k,
+        &record,
+        cursors.settings.page,
+    ) {
         Ok(list) => say_similar(&list, out),
         Err(fault) => say_given(fault_line(fault), out),
     }
