@@ -42,7 +42,8 @@ pub fn same<S: Service>(
 ) -> Result<(), Stop>
     requires { IsFit cursors.now }
     ensures { (here : List Cursor) → AnsweredBy S.Service service.old service.new
-        (Answers cursors.now.settings.page (MaySame text.now) here) out.old.items out.new.items here result }
+        (Answers cursors.now.settings.page (MaySame text.now) here)
+        out.old.items out.new.items here result }
 {
     let record = match recorder.record(1, Format::Smiles, text) {
         Ok(record) => record,
