@@ -1,5 +1,5 @@
 -- What an act does to the pins of the open cursors, and leaves of others.
-use Rattle.std.proofs.Common.{◌++◌, ap, Bool, cond, inl, inr, List, [], ◌∷◌, subst, sym, ℕ}
+use Rattle.std.proofs.Common.{◌++◌, List, [], ◌∷◌, subst, sym, ℕ}
 use Rattle.smarts_parse.specs.Pattern.{PatternTerm}
 use Rattle.store_core.specs.Calls.{SameHeld}
 use Rattle.session_run.specs.Acts.{Act, Asks, Closed, Does, Lines, ListedSame, ListedSimilar, Opened, RegisteredNew, Says, Searched, Searches, Turned}

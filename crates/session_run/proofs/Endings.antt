@@ -1,5 +1,5 @@
 -- The end of a search among reply lines, and what a page says.
-use Rattle.std.proofs.Common.{◌≡◌, ◌++◌, ◌+◌, ◌<◌, ◌≤◌, ◌↔◌, ◌∙◌, ap, arith, Bool, cond, Contains, false, leb-false, leb-true, nat_le, inl, inr, length, List, [], ◌∷◌, map, refl, subst, sym, true, ℕ}
+use Rattle.std.proofs.Common.{◌≡◌, ◌++◌, ◌<◌, ◌≤◌, ◌↔◌, ◌∙◌, ap, arith, Bool, cond, Contains, false, leb-false, leb-true, nat_le, inl, inr, length, List, [], ◌∷◌, map, refl, subst, sym, true, ℕ}
 use Rattle.std.proofs.lemmas.Bool.{true≢false}
 use Rattle.std.proofs.lemmas.List.Elements.{Contains-append_right}
 use Rattle.shell_lang.specs.Reply as line

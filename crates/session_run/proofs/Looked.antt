@@ -2,18 +2,16 @@
 use Rattle.std.proofs.Common.{◌≡◌, ◌++◌, ◌∙◌, append-nil, append_assoc, ap, arith, Bool, Err, inl, inr, List, [], ◌∷◌, None, Ok, refl, Result, slice_get, Some, subst, sym, ℕ}
 use Rattle.std.proofs.lemmas.Option.{get_or_from_slice_get, slice_get-get_or, slice_get_within}
 use Rattle.chem_core.specs.Molecule.{Molecule}
-use Rattle.lookup.specs.Asked.{IsEmptyPrint}
 use Rattle.lookup.specs.Fetches as fetches
 use Rattle.lookup.specs.Fetches.{CutShort, Fetches, HeldBesides, Looks, NoneFree, Unasked, Whole, WornAfter, WornBefore, begun_calls, lookup_calls}
 use Rattle.lookup.specs.declared.same.SameList.{SameList}
 use Rattle.lookup.specs.declared.similar.SimilarList.{SimilarList}
-use Rattle.mol_finish.specs.Structure.{HasMolecule, IsAnswer, IsStructureOf}
+use Rattle.mol_finish.specs.Structure.{HasMolecule, IsAnswer}
 use Rattle.mol_finish.specs.declared.fault.Format.{Format}
 use Rattle.mol_finish.specs.declared.fault.Format.TheVariants.{Smiles}
 use Rattle.mol_finish.specs.declared.fault.TextFault.{TextFault}
 use Rattle.mol_finish.specs.declared.fault.TextFault.TheVariants as texts
 use Rattle.par_search.specs.declared.fault.SearchFault.{SearchFault}
-use Rattle.par_search.specs.declared.fault.SearchFault.TheVariants as faults
 use Rattle.shell_lang.specs.Reply as line
 use Rattle.shell_lang.specs.declared.reply.Refusal.TheVariants as refusals
 use Rattle.shell_lang.specs.declared.reply.Reply as written
@@ -26,11 +24,11 @@ use Rattle.store_machine.specs.declared.machine.Change.{Change}
 use Rattle.store_machine.specs.declared.machine.Event.TheVariants as events
 use Rattle.store_machine.specs.declared.machine.Found.{Found}
 use Rattle.store_machine.specs.declared.machine.Reply.TheVariants as replies
-use Rattle.session_run.specs.Acts.{Act, AllSame, AllSimilar, Answers, Ask, Asks, Closed, Does, Fault, IsNew, Lines, ListedSame, ListedSimilar, MayAsk, NewLost, NotNew, Opened, Refused, RegisterNew, RegisteredNew, Same, SameLost, Say, Says, Searched, Silence, Similar, SimilarLost, Turned, same_lines, similar_lines}
+use Rattle.session_run.specs.Acts.{Act, AllSame, AllSimilar, Answers, Ask, Asks, Closed, Does, Fault, IsNew, Lines, ListedSame, ListedSimilar, MayAsk, NewLost, Opened, Refused, RegisterNew, RegisteredNew, Same, SameLost, Say, Says, Searched, Silence, Similar, SimilarLost, Turned, same_lines, similar_lines}
 use Rattle.session_run.specs.Cursors.{Calls, Cursor}
 use Rattle.session_run.specs.Lookups.{FindsSame, FindsSimilar, LooksUp}
 use Rattle.session_run.specs.Made.{Answered, AnsweredBy, Broken, Said, TellsAll, Unsaid, Uses, Writes}
-use Rattle.session_run.specs.Pins.{AreApart, HeldAfter, HeldBy, MovePins, Takes}
+use Rattle.session_run.specs.Pins.{AreApart, HeldBy, MovePins, Takes}
 use Rattle.session_run.specs.Responds.{IsTextRefusal}
 use Rattle.session_run.specs.Searched.{IsFaultLine}
 use Rattle.session_run.specs.Texts.{IsTextFault}

@@ -1,5 +1,5 @@
 -- Cursors by their places.
-use Rattle.std.proofs.Common.{◌≡◌, ◌+◌, ◌++◌, ◌<◌, ◌∙◌, ap, arith, drop, drop-cons, get_or, length, List, [], ◌∷◌, map, refl, set, subst, suc, sym, take, zero, ℕ}
+use Rattle.std.proofs.Common.{◌≡◌, ◌++◌, ◌<◌, ◌∙◌, ap, arith, drop, drop-cons, get_or, length, List, [], ◌∷◌, map, refl, set, subst, suc, sym, take, zero, ℕ}
 use Rattle.std.proofs.lemmas.List.{map-append, take-append-drop}
 use Rattle.std.specs.List.{remove}
 use Rattle.session_run.specs.Cursors.{Cursor, IsNoName}

@@ -1,5 +1,5 @@
 -- The pages of a search: one by one, and together.
-use Rattle.std.proofs.Common.{◌≡◌, ◌≢◌, ◌≤◌, ◌++◌, ◌+◌, ◌∙◌, ap, append-nil, arith, Bool, Err, false, inl, inr, length, List, [], ◌∷◌, map, Ok, OnErr, OnOk, refl, Result, subst, suc, sym, true, ℕ}
+use Rattle.std.proofs.Common.{◌≡◌, ◌≢◌, ◌≤◌, ◌++◌, ◌∙◌, ap, append-nil, arith, Bool, Err, false, inl, inr, length, List, [], ◌∷◌, map, Ok, OnErr, OnOk, refl, Result, subst, suc, sym, true, ℕ}
 use Rattle.std.specs.Prelude.{is_ok}
 use Rattle.std.specs.declared.alloc.AllocError.{AllocError}
 use Rattle.par_search.specs.Moves.{IsEnded, after, place_behind}

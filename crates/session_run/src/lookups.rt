@@ -42,7 +42,8 @@ pub fn same<S: Service>(
 ) -> Result<(), Stop>
     requires { IsFit cursors.now }
     ensures { (here : List Cursor) → AnsweredBy S.Service service.old service.new
-        (Answers cursors.now.settings.page (MaySame text.now) here) out.old.items out.new.items here result }
+        (Answers cursors.now.settings.page (MaySame text.now) here)
+        out.old.items out.new.items here result }
 {
     let record = match recorder.record(1, Format::Smiles, text) {
         Ok(record) => record,
@@ -105,7 +106,15 @@ pub fn similar<S: Service>(
     };
     record_is_sound(&record);
     let Similarity { p, q, k } = asked;
-    match find_similar(cursors.alloc, service, p, q, k, &record, cursors.settings.page) {
+    match find_similar(
+        cursors.alloc,
+        service,
+        p,
+        q,
+        k,
+        &record,
+        cursors.settings.page,
+    ) {
         Ok(list) => say_similar(&list, out),
         Err(fault) => say_given(fault_line(fault), out),
     }

@@ -1,4 +1,4 @@
-use Rattle.std.proofs.Common.{◌≡◌, ap, ◌∙◌, [], List, refl, slice_get, subst, sym, ℕ}
+use Rattle.std.proofs.Common.{◌≡◌, [], refl, subst}
 use Rattle.std.specs.Arc.{arc_value}
 use Rattle.mol_finish.specs.declared.fault.Format.TheVariants.{Smiles}
 use Rattle.shell_lang.specs.Reply.{reply_of}
