@@ -107,6 +107,9 @@ nothing_is_true h page lines = record {
         absurd (nothing_inside before x (between ++ y ∷ after) e);
     pages = λ before between after x y name text version k e first begun stays turned last gives.
         absurd (nothing_inside before x (between ++ y ∷ after) e);
+    sames = λ before after x text version tried count e is ends. absurd (nothing_inside before x after e);
+    registrations = λ before after x id text e is. absurd (nothing_inside before x after e);
+    similars = λ before after x p q k text version scored count e is ends. absurd (nothing_inside before x after e);
   };
 }
 
