@@ -24,11 +24,11 @@ DRUGS = [
     "COc1ccc2nc(S(=O)Cc3ncc(C)c(OC)c3C)[nH]c2c1",
     "CC1(C)SC2C(NC(=O)C(N)c3ccccc3)C(=O)N2C1C(=O)O",
     "OC(=O)COCCN1CCN(CC1)C(c1ccccc1)c1ccc(Cl)cc1",
-    "Fc1ccc(cc1)C(=O)C1CCN(CCN2C(=O)Nc3ccccc3C2=O)CC1",
+    "CC(=O)c1ccc(F)cc1C1CCN(CCN2C(=O)Nc3ccccc3C2=O)CC1",
 ]
 COUNT = int(sys.argv[1])
 # one bromine in each block of the index
-TEXTS = [DRUGS[i % len(DRUGS)] + ("Br" if i % 256 == 0 else "C") for i in range(COUNT)]
+TEXTS = [("Br" if i % 256 == 0 else "C") + DRUGS[i % len(DRUGS)] for i in range(COUNT)]
 
 
 class Session:
