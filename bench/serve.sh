@@ -35,7 +35,7 @@ CORES = [
     "Fc1ccc(cc1)C(=O)C1CCN({})CC1",
     "COc1cc(C{})cc(OC)c1OC",
 ]
-PARTS = ["C", "CC", "CCO", "c1ccccc1", "CC(=O)O", "CCN(C)C", "C1CC1", "CC(F)(F)F", "Cc1ccncc1", "CCC#N", "CS(C)(=O)=O", "CCBr"]
+PARTS = ["C", "CC", "CCO", "c9ccccc9", "CC(=O)O", "CCN(C)C", "C9CC9", "CC(F)(F)F", "Cc9ccncc9", "CCC#N", "CS(C)(=O)=O", "CCBr"]
 COUNT, FOLDER = int(sys.argv[1]), sys.argv[2]
 
 
@@ -80,7 +80,8 @@ with tempfile.TemporaryDirectory(dir=FOLDER) as folder:
     subprocess.run([PROGRAM, "init", store], check=True)
     fill = "".join(f"register {i + 1} {text}\n" for i, text in enumerate(texts(COUNT, 1)))
     start = time.monotonic()
-    subprocess.run([PROGRAM, "run", store], input=fill.encode(), stdout=subprocess.DEVNULL, check=True)
+    loaded = subprocess.run([PROGRAM, "run", store], input=fill.encode(), stdout=subprocess.PIPE, check=True)
+    assert loaded.stdout.endswith(f"ok {COUNT}\n".encode()), "a text was refused"
     print(f"one end, loading {COUNT} structures: {COUNT / (time.monotonic() - start):,.0f} registrations a second")
 
     one, _, _ = serve(folder, [searches(1)])
