@@ -1,5 +1,5 @@
 -- What is done with a world goes on as one run.
-use Rattle.std.proofs.Common.{◌≡◌, ◌+◌, ◌≤◌, arith, None, Option, refl, Some, ℕ}
+use Rattle.std.proofs.Common.{List, None, Option, Some, [], ap, append-nil, append_assoc, arith, refl, sym, ℕ, ◌++◌, ◌+◌, ◌∙◌, ◌≡◌, ◌≤◌}
 use Rattle.std.proofs.lemmas.Bool.{true≢false}
 use Rattle.std.proofs.lemmas.List.Sums.{sum_by-append}
 use Rattle.std.specs.Prelude.{IfSome, IsSomeAnd}
@@ -7,6 +7,7 @@ use Rattle.disk_edge.specs.Failures.{bound_from}
 use Rattle.disk_edge.specs.MediumLaws.{within}
 use Rattle.store_machine.specs.Openings.{reopening}
 use Rattle.store_machine.specs.Runs.{RunsJoin}
+use Rattle.store_machine.specs.declared.machine.Step.{Step}
 use Rattle.drill_core.specs.Drills.{DrillsBegin, DrillsCall, DrillsFail, DrillsReopen, DrillsStop, FaultsAreSet}
 use Rattle.drill_core.specs.Faults.{FaultsAreCounted}
 use Rattle.drill_core.proofs.Faults.{fault-of}
@@ -40,6 +41,7 @@ not-above (Some n) (Some m) h = omega (arith, h)
 pub drills-begin : DrillsBegin
 drills-begin world s stands bound = record {
   run = refl;
+  last = ([], refl);
   stands = stands;
   counted = λ few. omega arith;
   bounded = λ e. (0, bound, omega arith);
@@ -48,6 +50,7 @@ drills-begin world s stands bound = record {
 pub drills-call : RunsJoin → FaultsAreCounted → DrillsCall
 drills-call join law old new first s t steps part more stopped fails d r above = record {
   run = join steps more first s t d.run r.run;
+  last = (d.last.0, ap (λ (xs : List Step). xs ++ more) d.last.1 ∙ append_assoc d.last.0 part more);
   stands = r.ends;
   counted = λ few.
       let now = law old new s t more r few in
@@ -62,6 +65,7 @@ drills-call join law old new first s t steps part more stopped fails d r above =
 pub drills-fail : DrillsFail
 drills-fail world first s steps part stopped fails call d stands = record {
   run = d.run;
+  last = d.last;
   stands = stands;
   counted = d.counted;
   bounded = λ e.
@@ -73,6 +77,7 @@ drills-fail world first s steps part stopped fails call d stands = record {
 pub drills-stop : DrillsStop
 drills-stop world first s steps part stopped fails calls d stands = record {
   run = d.run;
+  last = d.last;
   stands = stands;
   counted = d.counted;
   bounded = λ e. absurd (true≢false e);
@@ -81,6 +86,7 @@ drills-stop world first s steps part stopped fails calls d stands = record {
 pub drills-reopen : RunsJoin → DrillsReopen
 drills-reopen join old new first s steps part stopped fails bytes count at begin end d r bound = record {
   run = join steps (reopening s r.after at begin end) first s r.after d.run (r.run at begin end);
+  last = (steps ++ reopening s r.after at begin end, sym (append-nil (steps ++ reopening s r.after at begin end)));
   stands = r.stands;
   counted = λ few. omega arith;
   bounded = λ e. (0, bound, omega arith);

@@ -20,6 +20,7 @@ use Rattle.drill_core.specs.Worlds.{Reopens, failing, stopping}
 pub record IsDrill (world : StoreTerm Medium) (first now : State) (steps part : List Step) (stopped : Bool) (fails : ℕ)
     : Type 0 where
   pub run : IsRun first steps now
+  pub last : (before : List Step) × (steps ≡ before ++ part)
   pub stands : StandsInMemory world now
   pub counted : failed world < 2 ^ 64 - 1 → disk_faults part ≤ failed world
   pub bounded : stopped ≡ false → (n : ℕ) × (bound_of world.journal.disk.failures ≡ Some n) × (n ≤ fails)
