@@ -1,7 +1,8 @@
 #!/usr/bin/env bash
 # Registers some drug-like structures and hydrocarbons in memory and searches them many times for one pattern each; prints
 # nanoseconds for each pair of a pattern and a structure, more than the same script takes without the searches, and how
-# many structures are hits. The last patterns are the hopeless ones: more places than atoms, in many parts that no bond joins.
+# many structures are hits. Then come hopeless patterns, of more places than atoms in many parts that no bond joins, and at
+# last patterns with groups, in structures of many components that are alike.
 # Usage: bench/match.sh [SEARCHES]
 set -euo pipefail
 cd "$(dirname "${BASH_SOURCE[0]}")/.."
@@ -60,6 +61,13 @@ HOPELESS = [
     (parts("CC", 29) + ".CF", ["C" * 60]),
 ]
 
+GROUPED = [
+    (parts("([C])", 20), [parts("C", 30)]),
+    (parts("([C])", 21), [parts("CC", 20)]),
+    (parts("(CC)", 20), [parts("CCC", 30)]),
+    (parts("(C.C)", 12) + ".(O)", [parts("CCO", 12)]),
+]
+
 
 def seconds(structures, pattern, searches):
     script = "".join(f"register {i + 1} {text}\n" for i, text in enumerate(structures)) + f"search {pattern}\n" * searches
@@ -82,6 +90,6 @@ searches = int(sys.argv[1])
 copies = [DRUGS[i % len(DRUGS)] for i in range(1200)]
 for pattern in GROUPS:
     measure(copies, pattern, searches)
-for pattern, structures in HOPELESS:
+for pattern, structures in HOPELESS + GROUPED:
     measure(structures * 10, pattern, max(2, searches // 10))
 PY

@@ -5,4 +5,5 @@ pub mod Elements
 pub mod Neighbours
 pub mod Prints
 pub mod Shared
+pub mod Components
 pub mod InTurn

@@ -30,7 +30,7 @@ slice_get-push_last : {X : Type 0} (xs : List X) (y : X) → slice_get (xs ++ y 
 slice_get-push_last [] y = refl
 slice_get-push_last (x ∷ xs) y = slice_get-push_last xs y
 
-slice_get-take : {X : Type 0} (n : ℕ) (xs : List X) (i : ℕ) (v : X) → slice_get (take n xs) i ≡ Some v → slice_get xs i
+pub slice_get-take : {X : Type 0} (n : ℕ) (xs : List X) (i : ℕ) (v : X) → slice_get (take n xs) i ≡ Some v → slice_get xs i
     ≡ Some v
 slice_get-take zero xs i v h = absurd (none-some v h)
 slice_get-take (suc n) [] i v h = h
@@ -38,18 +38,22 @@ slice_get-take (suc n) (x ∷ xs) zero v h = h
 slice_get-take (suc n) (x ∷ xs) (suc i) v h = slice_get-take n xs i v h
 
 -- a bond that joins two atoms does so when one more bond has come
-JoinsAt-push : (ends : Ends) (e : ℕ × ℕ) (b x y : ℕ) → JoinsAt ends b x y → JoinsAt (ends ++ e ∷ []) b x y
+pub JoinsAt-push : (ends : Ends) (e : ℕ × ℕ) (b x y : ℕ) → JoinsAt ends b x y → JoinsAt (ends ++ e ∷ []) b x y
 JoinsAt-push ends e b x y h =
     elim h [ inl q ↦ inl (slice_get-push ends e b _ q) | inr q ↦ inr (slice_get-push ends e b _ q) ]
 
 -- the bond is one of those before, or it is the one that came
-JoinsAt-push_cases : (ends : Ends) (e : ℕ × ℕ) (b x y : ℕ) → JoinsAt (ends ++ e ∷ []) b x y → JoinsAt ends b x y
+pub JoinsAt-push_cases : (ends : Ends) (e : ℕ × ℕ) (b x y : ℕ) → JoinsAt (ends ++ e ∷ []) b x y → JoinsAt ends b x y
     ⊎ ((b ≡ length ends) × ((e ≡ (x, y)) ⊎ (e ≡ (y, x))))
 JoinsAt-push_cases ends e b x y h =
     elim h [
       | inl q ↦ elim (slice_get-push_cases ends e b _ q) [ inl r ↦ inl (inl r) | inr r ↦ inr (r.0, inl r.1) ]
       | inr q ↦ elim (slice_get-push_cases ends e b _ q) [ inl r ↦ inl (inr r) | inr r ↦ inr (r.0, inr r.1) ]
     ]
+
+-- the bond that came joins its ends
+pub JoinsAt-push_last : (ends : Ends) (e : ℕ × ℕ) → JoinsAt (ends ++ e ∷ []) (length ends) e.0 e.1
+JoinsAt-push_last ends e = inl (slice_get-push_last ends e)
 
 -- an atom that the new bond does not end at keeps its neighbours
 pub AreNeighbours-other : (ends : Ends) (e : ℕ × ℕ) (a : ℕ) (pairs : List (ℕ × ℕ)) → AreNeighbours ends a pairs

@@ -9,3 +9,4 @@ pub mod Organic
 pub mod Inside
 pub mod Words
 pub mod RingFacts
+pub mod Component

@@ -1,10 +1,11 @@
-//! Molecules: atoms and bonds as they are meant, each atom's neighbours, and what lies on rings.
+//! Molecules: atoms and bonds as they are meant, each atom's neighbours, what lies on rings, and components.
 ghost use Rattle.std.specs.Prelude.{◌≡◌, ◌↔◌, ◌+◌, ◌<◌, ◌≤◌, ◌∷◌, ℕ, All, List, [], length, map, replicate, take, Contains, IsPermutation, IsTrue, nat_lt, position, unwrap_or, IfOk, OnOk};
 ghost use Rattle.std.specs.List.Sorted.{IsStrictlyIncreasing};
 ghost use Rattle.chem_core.specs.Graph.{Ends, IsSimpleGraph, AreNeighbours, AreNeighbourLists, IsRingBond, IsSmallestRing, degree};
 ghost use Rattle.chem_core.specs.Molecule.{IsMolecule, bond_ends, ends_of};
 ghost use Rattle.chem_core.specs.Inside.{AreInTurn};
 ghost use Rattle.chem_core.specs.RingFacts.{AreRingBonds, AreSmallestRings};
+ghost use Rattle.chem_core.specs.Component.{Reaches, IsComponent, AreComponents};
 
 use crate::limits::{MOST_ATOMS, MOST_NEIGHBOURS};
 use smallvec::SmallVec;
@@ -49,7 +50,8 @@ pub struct Bond {
 // The neighbours of an atom, each with the bond to it, while they are gathered.
 type Neighbours = SmallVec<(u16, u16), 4>;
 
-/// A molecule: atoms and bonds as they are meant, for each atom its neighbours, and what lies on rings.
+/// A molecule: atoms and bonds as they are meant, for each atom its neighbours and its component, and what lies on
+/// rings.
 ///
 /// It has at most `MOST_ATOMS` atoms and `MOST_BONDS` bonds, and at most `MOST_NEIGHBOURS` neighbours at an atom. No
 /// two bonds join the same atoms, and none joins an atom to itself. Atoms and bonds are named by their places, from 0.
@@ -66,6 +68,8 @@ pub struct Mol {
     bond_in_ring: Vec<bool>,
     // for each atom the length of its smallest ring, 0 where it is in none
     atom_small: Vec<u16>,
+    // for each atom the least atom of its component
+    component: Vec<u16>,
 }
 
 impl Model for Mol {
@@ -78,22 +82,25 @@ impl Model for Mol {
     ghost use Rattle.chem_core.specs.Inside.{IsSoundInside};
 
     ghost invariant = { λ m. IsSoundInside m.atoms.items m.bonds.items m.neighbours.items m.starts.items
-        m.bond_in_ring.items m.atom_small.items };
+        m.bond_in_ring.items m.atom_small.items m.component.items };
 }
 
 impl Mol {
     /// The molecule of these atoms and bonds, of which it is known for each bond whether it is a ring bond, and for
-    /// each atom the length of its smallest ring, 0 where it is in none. Fails only for want of memory.
+    /// each atom the length of its smallest ring, 0 where it is in none, and the least atom of its component. Fails
+    /// only for want of memory.
     pub fn make(
         alloc: Global,
         atoms: Vec<Atom>,
         bonds: Vec<Bond>,
         bond_in_ring: Vec<bool>,
         atom_small: Vec<u16>,
+        component: Vec<u16>,
     ) -> Result<Mol, AllocError>
         requires molecule { IsMolecule (record { atoms = atoms.items; bonds = bonds.items }) }
         requires ring_bonds { AreRingBonds (bond_ends bonds.items) bond_in_ring.items }
         requires smallest { AreSmallestRings (length atoms.items) (bond_ends bonds.items) atom_small.items }
+        requires components { AreComponents (length atoms.items) (bond_ends bonds.items) component.items }
         ensures { IfOk result (λ mol. mol ≡ record { atoms = atoms.items; bonds = bonds.items }) }
     {
         let lists = neighbour_lists(alloc, atoms.len(), &bonds)?;
@@ -105,6 +112,7 @@ impl Mol {
             starts,
             bond_in_ring,
             atom_small,
+            component,
         })
     }
 
@@ -152,12 +160,26 @@ impl Mol {
     {
         self.atom_small[usize::from(atom)]
     }
+
+    /// The component of the atom at a place, named by its least atom: the least to which a walk along bonds leads.
+    pub fn component(&self, atom: u16) -> u16
+        requires { atom < length self.now.atoms }
+        ensures { IsComponent (ends_of self.now) atom result }
+    {
+        self.component[usize::from(atom)]
+    }
 }
 
 /// A law: an atom has one list of neighbours.
 pub fn one_neighbour_list()
     ensures { (ends : Ends) (a : ℕ) (xs ys : List (ℕ × ℕ))
         → AreNeighbours ends a xs → AreNeighbours ends a ys → xs ≡ ys }
+{}
+
+/// A law: atoms have the same component exactly where a walk leads from one to the other.
+pub fn same_component()
+    ensures { (ends : Ends) (a b c d : ℕ) → IsComponent ends a c → IsComponent ends b d
+        → (c ≡ d) ↔ Reaches ends a b }
 {}
 
 // For each atom its neighbours, found in one pass over the bonds.

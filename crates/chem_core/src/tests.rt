@@ -15,17 +15,20 @@ fn methane(rt: HostRuntime) -> Result<(), Fail> {
     };
     let atoms = [carbon].to_vec(rt.alloc())?;
     let smallest = [0].to_vec(rt.alloc())?;
+    let component = [0].to_vec(rt.alloc())?;
     let mol = Mol::make(
         rt.alloc(),
         atoms,
         Vec::new(rt.alloc()),
         Vec::new(rt.alloc()),
         smallest,
+        component,
     )?;
     assert_eq!(rt; mol.atoms(), [carbon].as_slice());
     assert_eq!(rt; mol.bonds().len(), 0);
     assert_eq!(rt; mol.neighbours(0).len(), 0);
     assert_eq!(rt; mol.small(0), 0);
+    assert_eq!(rt; mol.component(0), 0);
     Ok(())
 }
 

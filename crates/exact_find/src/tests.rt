@@ -20,7 +20,15 @@ fn alone(alloc: Global, number: u8) -> Result<Mol, AllocError>
     };
     let atoms = [atom].to_vec(alloc)?;
     let smallest = [0].to_vec(alloc)?;
-    Mol::make(alloc, atoms, Vec::new(alloc), Vec::new(alloc), smallest)
+    let component = [0].to_vec(alloc)?;
+    Mol::make(
+        alloc,
+        atoms,
+        Vec::new(alloc),
+        Vec::new(alloc),
+        smallest,
+        component,
+    )
 }
 
 #[test]

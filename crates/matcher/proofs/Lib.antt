@@ -17,3 +17,5 @@ pub mod Narrowings
 pub mod Classes
 pub mod Hunts
 pub mod Rings
+pub mod Groups
+pub mod Removals

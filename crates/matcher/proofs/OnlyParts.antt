@@ -1,15 +1,16 @@
 -- A pattern that asks for one recursive part at one atom matches where the part has an embedding.
-use Rattle.std.proofs.Common.{◌≡◌, ◌≢◌, ◌↔◌, ◌+◌, ◌<◌, ℕ, zero, suc, List, [], ◌∷◌, length, map, get_or, slice_get, slice_index, Some, All, sym, ap, subst, arith}
+use Rattle.std.proofs.Common.{◌≡◌, ◌≢◌, ◌↔◌, ◌+◌, ◌<◌, ℕ, zero, suc, List, [], ◌∷◌, length, map, get_or, slice_get, slice_index, Some, All, refl, sym, ap, subst, arith}
 use Rattle.std.proofs.lemmas.List.{get_or-map, length-map}
 use Rattle.std.proofs.lemmas.Option.{none-some, same_Some, slice_get-get_or}
-use Rattle.chem_core.specs.Molecule.{Molecule}
+use Rattle.chem_core.specs.Molecule.{Molecule, ends_of}
+use Rattle.chem_core.proofs.Components.{reaches_self}
 use Rattle.smarts_mean.specs.Table.{HoldsIn, Table}
 use Rattle.smarts_parse.specs.declared.pattern.AtomPrim.{AtomPrim}
 use Rattle.smarts_parse.specs.declared.pattern.AtomPrim.TheVariants as atoms
 use Rattle.smarts_parse.specs.Pattern.{BondTerm, Term, Prim, GraphTerm, PatternTerm}
 use Rattle.smarts_parse.specs.Sound.{IsSoundGraph, IsSoundPattern}
 use Rattle.smarts_parse.specs.Truth.{AtomTrue}
-use Rattle.smarts_parse.specs.Embedding.{Matches, PartsHold}
+use Rattle.smarts_parse.specs.Embedding.{AreGrouped, Matches, PartsHold}
 use Rattle.matcher.specs.Partial.{CanComplete, Parts}
 use Rattle.matcher.specs.Parts.{AreNoted}
 use Rattle.matcher.specs.Wanted.{AreWanted}
@@ -35,6 +36,12 @@ one_true : (parts : Parts) (m : Molecule) (a i : ℕ) (t e : Term AtomPrim) → 
     → slice_get (t ∷ []) i ≡ Some e → AtomTrue parts e m (slice_index (a ∷ []) i)
 one_true parts m a zero t e h get = subst (λ x. AtomTrue parts x m a) (same_Some t e get) h
 one_true parts m a (suc i) t e h get = absurd (none-some e get)
+
+-- one atom keeps to any groups
+one_grouped : (groups : List ℕ) (m : Molecule) (a : ℕ) → AreGrouped groups m (a ∷ [])
+one_grouped groups m a zero zero l k n o = (λ _. reaches_self (ends_of m) a, λ _. refl)
+one_grouped groups m a zero (suc j) l k n o = absurd (omega arith)
+one_grouped groups m a (suc i) j l k n o = absurd (omega arith)
 
 -- a graph of one atom has no bond
 no_bonds : (n : ℕ) (g : GraphTerm) → IsSoundGraph n g → length g.atoms ≡ 1 → (k : ℕ) (d : BondTerm) → k < length g.bonds
@@ -74,6 +81,7 @@ only_part_holds p m wanted k g table sound asked last is get noted =
                   (get_or m.atoms a no_element, slice_get-get_or m.atoms a no_element first.1, here)
                   (subst (λ xs. slice_get xs i ≡ Some e) is at);
               bonds = λ i d l. absurd (no_bonds n p.top sound.top one i d l);
+              groups = one_grouped p.top.groups m a;
             },
           ),
       λ w.

@@ -1,5 +1,5 @@
 -- Atoms of a graph placed in turn: one more, and all.
-use Rattle.std.proofs.Common.{◌≡◌, ◌≢◌, ℕ, ◌<◌, ◌≤◌, List, [], ◌∷◌, ◌++◌, length, map, max, min, take, slice_get, slice_index, get_or, Some, All, Contains, refl, sym, ap, ◌∙◌, subst, ⊎_elim, append_assoc, arith, length-append, ◌↔◌}
+use Rattle.std.proofs.Common.{◌≡◌, ◌≢◌, ℕ, ◌<◌, ◌≤◌, List, [], ◌∷◌, ◌++◌, length, map, max, min, take, slice_get, slice_index, get_or, Some, All, Contains, refl, sym, ap, ◌∙◌, inl, inr, subst, ⊎_elim, append_assoc, arith, length-append, ◌↔◌}
 use Rattle.std.proofs.lemmas.Bool.{cases_lt}
 use Rattle.std.proofs.Math.ListN.{get_or-append}
 use Rattle.std.proofs.Math.Seq.{get_or-append_seam}
@@ -9,11 +9,13 @@ use Rattle.std.proofs.lemmas.List.Quantifiers.{all_pairs_push}
 use Rattle.std.proofs.lemmas.Option.{slice_get_within}
 use Rattle.chem_core.specs.Graph.{JoinsAt}
 use Rattle.chem_core.specs.Molecule.{Molecule, ends_of}
+use Rattle.chem_core.specs.Component.{Reaches}
+use Rattle.chem_core.proofs.Components.{reaches_back, reaches_self}
 use Rattle.smarts_parse.specs.declared.pattern.AtomPrim.{AtomPrim}
 use Rattle.smarts_parse.specs.Pattern.{Term, BondTerm, GraphTerm}
 use Rattle.smarts_parse.specs.Sound.{pattern_ends}
 use Rattle.smarts_parse.specs.Truth.{AtomTrue, BondTrue}
-use Rattle.smarts_parse.specs.Embedding.{BondEmbeds, IsEmbedding}
+use Rattle.smarts_parse.specs.Embedding.{AreGrouped, BondEmbeds, IsEmbedding}
 use Rattle.matcher.specs.Candidates.{IsTrueIn}
 use Rattle.matcher.specs.Partial.{CanComplete, IsPartial, Parts}
 use Rattle.matcher.proofs.Joins.{joined_back}
@@ -43,6 +45,80 @@ bond_front m front rest bond l h = (
   h.2,
 )
 
+-- where two atoms stand, seen from others that stand there
+same_groups : (P : Type 0) (m : Molecule) (x y u v : ℕ) → x ≡ u → y ≡ v → P ↔ Reaches (ends_of m) x y
+    → P ↔ Reaches (ends_of m) u v
+same_groups P m x y u v e f h = subst (λ w. P ↔ Reaches (ends_of m) w v) e
+    (subst (λ w. P ↔ Reaches (ends_of m) x w) f h)
+
+-- the groups of the front
+grouped_front : (groups : List ℕ) (m : Molecule) (front rest : List ℕ) → AreGrouped groups m (front ++ rest)
+    → AreGrouped groups m front
+grouped_front groups m front rest h i j li lj ni nj =
+    same_groups (slice_index groups i ≡ slice_index groups j) m (slice_index (front ++ rest) i)
+    (slice_index (front ++ rest) j) (slice_index front i) (slice_index front j) (index_front front rest i li)
+    (index_front front rest j lj)
+    (h i j (omega (arith, length-append front rest)) (omega (arith, length-append front rest)) ni nj)
+
+-- what the place of an atom more keeps of groups
+abbrev pub KeepsNext : List ℕ → Molecule → List ℕ → ℕ → Type 0
+KeepsNext groups m front atom = (q : ℕ) → q < length front → slice_index groups q ≢ 0
+    → slice_index groups (length front) ≢ 0
+    → (slice_index groups q ≡ slice_index groups (length front)) ↔ Reaches (ends_of m) (slice_index front q) atom
+
+grouped_push : (groups : List ℕ) (m : Molecule) (front : List ℕ) (atom : ℕ) → AreGrouped groups m front
+    → KeepsNext groups m front atom → AreGrouped groups m (front ++ atom ∷ [])
+grouped_push groups m front atom h keeps i j li lj ni nj =
+    let ends = ends_of m in
+    let all = front ++ atom ∷ [] in
+    let P : Type 0 = slice_index groups i ≡ slice_index groups j in
+    elim (cases_lt i (length front)) [
+      | inl bi ↦
+          let here : slice_index front i ≡ slice_index all i = sym (index_front front (atom ∷ []) i bi) in
+          elim (cases_lt j (length front)) [
+            | inl bj ↦
+                same_groups P m (slice_index front i) (slice_index front j) (slice_index all i) (slice_index all j) here
+                (sym (index_front front (atom ∷ []) j bj)) (h i j bi bj ni nj)
+            | inr aj ↦
+                let last : j ≡ length front = omega (arith, length_push front atom) in
+                let there : atom ≡ slice_index all j = sym (get_or_push front atom 0 j (sym last)) in
+                let k = keeps i bi ni (subst (λ q. slice_index groups q ≢ 0) last nj) in
+                same_groups P m (slice_index front i) atom (slice_index all i) (slice_index all j) here there
+                (subst (λ q. (slice_index groups i ≡ slice_index groups q) ↔ Reaches ends (slice_index front i) atom)
+                (sym last) k)
+          ]
+      | inr ai ↦
+          let last : i ≡ length front = omega (arith, length_push front atom) in
+          let here : atom ≡ slice_index all i = sym (get_or_push front atom 0 i (sym last)) in
+          elim (cases_lt j (length front)) [
+            | inl bj ↦
+                let k = keeps j bj nj (subst (λ q. slice_index groups q ≢ 0) last ni) in
+                let turned : (slice_index groups (length front) ≡ slice_index groups j)
+                ↔ Reaches ends atom (slice_index front j) = (
+                  λ e. reaches_back ends (slice_index front j) atom (k.0 (sym e)),
+                  λ r. sym (k.1 (reaches_back ends atom (slice_index front j) r)),
+                ) in
+                same_groups P m atom (slice_index front j) (slice_index all i) (slice_index all j) here
+                (sym (index_front front (atom ∷ []) j bj))
+                (subst (λ q. (slice_index groups q ≡ slice_index groups j) ↔ Reaches ends atom (slice_index front j))
+                (sym last) turned)
+            | inr aj ↦
+                let same : i ≡ j = omega (arith, length_push front atom) in (
+                  λ _. subst (λ q. Reaches ends (slice_index all i) (slice_index all q)) same
+                      (reaches_self ends (slice_index all i)),
+                  λ _. ap (λ q. slice_index groups q) same,
+                )
+          ]
+    ]
+
+grouped_last : (groups : List ℕ) (m : Molecule) (front : List ℕ) (atom : ℕ)
+    → AreGrouped groups m (front ++ atom ∷ []) → KeepsNext groups m front atom
+grouped_last groups m front atom h q l nq nl =
+    same_groups (slice_index groups q ≡ slice_index groups (length front)) m (slice_index (front ++ atom ∷ []) q)
+    (slice_index (front ++ atom ∷ []) (length front)) (slice_index front q) atom (index_front front (atom ∷ []) q l)
+    (get_or_push front atom 0 (length front) refl)
+    (h q (length front) (omega (arith, length_push front atom)) (omega (arith, length_push front atom)) nq nl)
+
 -- what an embedding begins with
 pub IsPartial-front : (parts : Parts) (g : GraphTerm) (m : Molecule) (front rest : List ℕ)
     → IsEmbedding parts g m (front ++ rest) → IsPartial parts g m front
@@ -55,6 +131,7 @@ IsPartial-front parts g m front rest h = record {
       (h.distinct i j d l (omega (arith, length-append front rest))));
   atoms = λ k e l get. subst (AtomTrue parts e m) (index_front front rest k l) (h.atoms k e get);
   bonds = λ k d l within. bond_front m front rest (get_or g.bonds k d) within (h.bonds k d l);
+  groups = grouped_front g.groups m front rest h.groups;
 }
 
 -- all atoms are placed
@@ -65,6 +142,7 @@ IsPartial-whole parts g m image ends full h = record {
   one_each = full;
   in_range = h.in_range;
   distinct = h.distinct;
+  groups = h.groups;
   atoms = λ k e get. h.atoms k e (omega (arith, slice_get_within g.atoms k e get)) get;
   bonds = λ k d l. h.bonds k d l (placed (get_or g.bonds k d)
       (subst (λ (e : ℕ × ℕ). (e.0 < length g.atoms) × (e.1 < length g.atoms))
@@ -81,8 +159,9 @@ pub IsPartial-push : (parts : Parts) (g : GraphTerm) (m : Molecule) (front : Lis
     → IsPartial parts g m front → length front < length g.atoms → atom < length m.atoms → (Contains front atom → ⊥)
     → IsTrueIn parts g m (length front) atom
     → All (λ bond. max bond.a bond.b ≡ length front → BondEmbeds m (front ++ atom ∷ []) bond) g.bonds
-    → IsPartial parts g m (front ++ atom ∷ [])
-IsPartial-push parts g m front atom h left lt new true' bonds = record {
+    → KeepsNext g.groups m front atom → IsPartial parts g m (front ++ atom ∷ [])
+IsPartial-push parts g m front atom h left lt new true' bonds keeps = record {
+  groups = grouped_push g.groups m front atom h.groups keeps;
   few = omega (arith, left, length-append front (atom ∷ []));
   in_range = All-push (λ a. a < length m.atoms) front atom h.in_range lt;
   distinct = all_pairs_push ◌≢◌ front atom h.distinct
@@ -105,6 +184,7 @@ pub IsPartial-last : (parts : Parts) (g : GraphTerm) (m : Molecule) (front : Lis
     → IsPartial parts g m (front ++ atom ∷ []) → (Contains front atom → ⊥)
     × IsTrueIn parts g m (length front) atom
     × All (λ bond. max bond.a bond.b ≡ length front → BondEmbeds m (front ++ atom ∷ []) bond) g.bonds
+    × KeepsNext g.groups m front atom
 IsPartial-last parts g m front atom h = (
   λ w. h.distinct w.0 (length front) 0 w.1 (omega (arith, length_push front atom))
       (get_or-append front (atom ∷ []) 0 w.0 w.1 ∙ get_or_default front w.0 0 atom w.1 ∙ w.2
@@ -112,6 +192,7 @@ IsPartial-last parts g m front atom h = (
   λ e get. subst (AtomTrue parts e m) (get_or_push front atom 0 (length front) refl)
       (h.atoms (length front) e (omega (arith, length_push front atom)) get),
   λ k d l at. h.bonds k d l (omega (arith, length_push front atom)),
+  grouped_last g.groups m front atom h.groups,
 )
 
 -- a bond from an earlier atom to the next embeds where a bond of the molecule joins the two and is as asked

@@ -91,6 +91,7 @@ parts_embedding P Q n wanted g m image names asked same h = record {
       (subst (NamesBelow n) here (names k e few)) (subst (IsAsked wanted) here (asked k e few))
       (slice_get-get_or m.atoms (slice_index image k) no_element within) same (h.atoms k e get);
   bonds = h.bonds;
+  groups = h.groups;
 }
 
 -- where a part of the last number holds
@@ -197,6 +198,7 @@ searchable_part recs j g sound get =
       apart = graph.distinct;
       once = graph.once;
       names = λ k d l. names_more j 64 (omega arith) (slice_index_or g.atoms k d) (graph.names k d l);
+      groups = graph.groups;
     }
 
 pub row_more : (recs : List GraphTerm) (m : Molecule) (wanted : List ℕ) (n k : ℕ) (g : GraphTerm) (old new : Table)
@@ -265,6 +267,7 @@ searchable_top p sound =
       once = sound.top.once;
       names = λ k d l. names_more (length p.recs) 64 sound.few_parts (slice_index_or p.top.atoms k d)
           (sound.top.names k d l);
+      groups = sound.top.groups;
     }
 
 -- an embedding of the pattern is one by the table

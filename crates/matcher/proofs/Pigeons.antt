@@ -1,5 +1,5 @@
 -- More places than atoms: two places would share one.
-use Rattle.std.proofs.Common.{◌≡◌, ℕ, zero, suc, ◌+◌, ◌<◌, ◌≤◌, Bool, true, false, List, [], ◌∷◌, length, map, take, set, get_or, count_by, cond, refl, sym, ap, ◌∙◌, subst, arith, inl, inr}
+use Rattle.std.proofs.Common.{◌≡◌, ℕ, zero, suc, ◌+◌, ◌<◌, ◌≤◌, Bool, true, false, List, [], ◌∷◌, ◌++◌, length, map, take, set, get_or, count_by, cond, refl, sym, ap, ◌∙◌, subst, arith, inl, inr}
 use Rattle.std.proofs.lemmas.Bool.{cases_Bool, false≢true}
 use Rattle.std.proofs.lemmas.List.{get_or-set_other}
 use Rattle.std.proofs.lemmas.List.Recursion.{is_count_by}
@@ -30,8 +30,28 @@ counted_set (true ∷ xs) (suc i) h = let rest = counted_set xs i h in omega ari
 counted_set (false ∷ xs) (suc i) h = counted_set xs i h
 
 -- a mark taken away
-marks_set : (xs : List Bool) (i : ℕ) → get_or xs i false ≡ true → marks (set xs i false) + 1 ≡ marks xs
+pub marks_set : (xs : List Bool) (i : ℕ) → get_or xs i false ≡ true → marks (set xs i false) + 1 ≡ marks xs
 marks_set xs i h = ap (λ n. n + 1) (sym (counted-marks (set xs i false))) ∙ counted_set xs i h ∙ counted-marks xs
+
+-- a mark more
+counted_push_yes : (xs : List Bool) → counted (xs ++ true ∷ []) ≡ counted xs + 1
+unfolding counted
+counted_push_yes [] = refl
+counted_push_yes (true ∷ xs) = let rest = counted_push_yes xs in omega arith
+counted_push_yes (false ∷ xs) = counted_push_yes xs
+
+pub marks_push_yes : (xs : List Bool) → marks (xs ++ true ∷ []) ≡ marks xs + 1
+marks_push_yes xs = sym (counted-marks (xs ++ true ∷ [])) ∙ counted_push_yes xs ∙ ap (λ n. n + 1) (counted-marks xs)
+
+-- and an element that is not marked
+counted_push_no : (xs : List Bool) → counted (xs ++ false ∷ []) ≡ counted xs
+unfolding counted
+counted_push_no [] = refl
+counted_push_no (true ∷ xs) = ap (λ n. 1 + n) (counted_push_no xs)
+counted_push_no (false ∷ xs) = counted_push_no xs
+
+pub marks_push_no : (xs : List Bool) → marks (xs ++ false ∷ []) ≡ marks xs
+marks_push_no xs = sym (counted-marks (xs ++ false ∷ [])) ∙ counted_push_no xs ∙ counted-marks xs
 
 -- the elements of which a test is true, as marks
 pub marks_map : {X : Type 0} (p : X → Bool) (xs : List X) → marks (map p xs) ≡ count_by p xs

@@ -9,4 +9,5 @@ pub mod Parts
 pub mod Prepared
 pub mod Ring
 pub mod Task
+pub mod Group
 pub mod Wanted

@@ -6,7 +6,7 @@ use Rattle.smarts_parse.specs.declared.pattern.AtomPrim.{AtomPrim}
 use Rattle.smarts_parse.specs.Pattern.{Term, GraphTerm}
 use Rattle.smarts_parse.specs.Sound.{NamesBelow, pattern_ends}
 use Rattle.smarts_parse.specs.Truth.{AtomTrue}
-use Rattle.smarts_parse.specs.Embedding.{BondEmbeds, IsEmbedding}
+use Rattle.smarts_parse.specs.Embedding.{AreGrouped, BondEmbeds, IsEmbedding}
 use Rattle.matcher.specs.Least.{Precedes}
 
 -- where recursive parts hold: number, atom
@@ -20,8 +20,9 @@ pub record IsSearchable (g : GraphTerm) : Type 0 where
   pub apart : All (λ e. e.0 ≢ e.1) (pattern_ends g)
   pub once : (b c x y : ℕ) → JoinsAt (pattern_ends g) b x y → JoinsAt (pattern_ends g) c x y → b ≡ c
   pub names : All (NamesBelow 64) g.atoms
+  pub groups : length g.groups ≡ length g.atoms
 
--- an embedding of the graph's first atoms, and of the bonds between these
+-- an embedding of the graph's first atoms, of the bonds between these, and of their groups
 pub record IsPartial (parts : Parts) (g : GraphTerm) (m : Molecule) (image : List ℕ) : Type 0 where
   pub few : length image ≤ length g.atoms
   pub in_range : All (λ a. a < length m.atoms) image
@@ -29,6 +30,7 @@ pub record IsPartial (parts : Parts) (g : GraphTerm) (m : Molecule) (image : Lis
   pub atoms : (k : ℕ) (e : Term AtomPrim) → k < length image → slice_get g.atoms k ≡ Some e
       → AtomTrue parts e m (slice_index image k)
   pub bonds : All (λ bond. max bond.a bond.b < length image → BondEmbeds m image bond) g.bonds
+  pub groups : AreGrouped g.groups m image
 
 -- some embedding begins so
 abbrev pub CanComplete : Parts → GraphTerm → Molecule → List ℕ → Type 0

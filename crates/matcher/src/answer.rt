@@ -14,6 +14,7 @@ ghost use Rattle.matcher.specs.Task.{Completes, IsReadyTask};
 use crate::candidates::Candidates;
 use crate::choices::Choices;
 use crate::fit::Task;
+use crate::grouping::Grouping;
 use crate::hunt::{is_whole, may_continue};
 use crate::lay::{Placement, is_rare, lay, start_at};
 use crate::narrow::Narrowing;
@@ -127,6 +128,7 @@ fn exists(
         &task,
         candidates,
         &mut memory.narrowing,
+        &mut memory.grouping,
         &mut memory.choices,
     ) {
         return false;
@@ -245,6 +247,7 @@ fn find(pattern: &Pattern, prepared: &Prepared, mol: &Mol, memory: &mut Memory) 
         &task,
         candidates,
         &mut memory.narrowing,
+        &mut memory.grouping,
         &mut memory.choices,
     ) {
         return false;
@@ -259,6 +262,7 @@ fn is_refused(
     task: &Task,
     candidates: &mut Candidates,
     narrowing: &mut Narrowing,
+    grouping: &mut Grouping,
     choices: &mut Choices,
 ) -> bool
     requires { IsReadyTask task.now }
@@ -278,6 +282,10 @@ fn is_refused(
     if lacks_bond(task, candidates) {
         return true;
     }
+    if grouping.refuse(task, candidates) {
+        return true;
+    }
+    choices.begin_search();
     is_loose(task.steps) && choices.refuse(task, candidates, &[])
 }
 

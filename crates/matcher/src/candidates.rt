@@ -57,6 +57,22 @@ impl Candidates {
             None => false,
         }
     }
+
+    /// Takes an atom away from the candidates of a place.
+    pub fn remove(&mut self, place: usize, atom: u16)
+        requires { place < MOST_PLACES }
+        ensures others { (p a : ℕ) → p < MOST_PLACES → (p ≡ place → a ≡ atom → ⊥)
+            → IsCandidate self.old.words.items p a → IsCandidate self.new.words.items p a }
+        ensures fewer { (p a : ℕ) → IsCandidate self.new.words.items p a
+            → IsCandidate self.old.words.items p a }
+    {
+        if let Some(word) = self
+            .words
+            .get_mut(MOST_PLACES * usize::from(atom / 64) + place)
+        {
+            *word &= !(1 << (atom % 64));
+        }
+    }
 }
 
 // Finds at which atoms the expression of each place is true.

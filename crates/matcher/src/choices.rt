@@ -1,5 +1,6 @@
 //! A choice of different atoms for the places of a graph that are left, each where its place may stand: places choose
-//! in turn, and one that finds all its atoms chosen lets earlier places choose anew, along a shortest chain.
+//! in turn, and one that finds all its atoms chosen lets earlier places choose anew, along a shortest chain. In the
+//! same way the groups that are left choose different components.
 //!
 //! Nothing is promised of a choice. Where none is found, the places and atoms that the last try reached show why.
 ghost use Rattle.std.specs.Prelude.{◌≡◌, ◌<◌, length, IsTrue};
@@ -8,9 +9,12 @@ ghost use Rattle.matcher.specs.Task.{Completes, IsReadyTask};
 
 use crate::candidates::Candidates;
 use crate::fit::Task;
+use crate::group::begins_group;
+use crate::grouping::has_groups;
 use crate::planned::MOST_PLACES;
-use crate::refusal::{excludes, may_stand};
+use crate::refusal::{excludes, excludes_groups, may_stand};
 use chem_core::MOST_ATOMS;
+use smarts_parse::Pattern;
 use std::alloc::{AllocError, Global};
 
 /// No place, no atom.
@@ -22,6 +26,17 @@ pub struct Choices {
     assignment: Assignment,
     // how many searches found no place for an atom that no bond joins to an earlier one
     failures: u64,
+    // how many had when the search began
+    begun: u64,
+    // whether the pattern has two groups at least
+    grouped: bool,
+}
+
+// What places choose: an atom each; or each the component of an atom, which its least atom stands for.
+#[derive(Clone, Copy)]
+enum Seats {
+    Atoms,
+    Components,
 }
 
 impl Choices {
@@ -30,7 +45,19 @@ impl Choices {
         Ok(Choices {
             assignment: Assignment::reserve(alloc)?,
             failures: 0,
+            begun: 0,
+            grouped: false,
         })
+    }
+
+    /// Begins anew, for another pattern.
+    pub fn begin(&mut self, pattern: &Pattern) {
+        self.grouped = has_groups(pattern);
+    }
+
+    /// Begins a search.
+    pub fn begin_search(&mut self) {
+        self.begun = self.failures;
     }
 
     /// How many failures were counted, modulo 2^64.
@@ -49,10 +76,49 @@ impl Choices {
         requires candidates { AreCandidates task.now candidates.now.words.items }
         ensures { IsTrue result → ¬ Completes task.now front.now }
     {
-        self.assignment.refuse(task, candidates, front)
+        if self.assignment.refuse(task, candidates, front) {
+            return true;
+        }
+        if !self.grouped {
+            return false;
+        }
+        self.assignment.refuse_groups(task, candidates, front)
     }
 
-    /// The same, which is tried only if failures were counted since they were as many as these.
+    /// The same where the last atom in front begins a group, and as far as groups show. It is tried only after a
+    /// failure of the search.
+    #[inline(always)]
+    pub fn refuse_group(&mut self, task: &Task, candidates: &Candidates, front: &[u16]) -> bool
+        requires ready { IsReadyTask task.now }
+        requires candidates { AreCandidates task.now candidates.now.words.items }
+        ensures { IsTrue result → ¬ Completes task.now front.now }
+    {
+        if !self.grouped {
+            return false;
+        }
+        self.refuse_begun(task, candidates, front)
+    }
+
+    // The same of a pattern with groups.
+    #[cold]
+    fn refuse_begun(&mut self, task: &Task, candidates: &Candidates, front: &[u16]) -> bool
+        requires ready { IsReadyTask task.now }
+        requires candidates { AreCandidates task.now candidates.now.words.items }
+        ensures { IsTrue result → ¬ Completes task.now front.now }
+    {
+        if self.failures == self.begun {
+            return false;
+        }
+        if front.is_empty() || front.len() > task.graph.atoms.len() {
+            return false;
+        }
+        if !begins_group(task, front.len() - 1) {
+            return false;
+        }
+        self.assignment.refuse_groups(task, candidates, front)
+    }
+
+    /// The same as `refuse`, which is tried only if failures were counted since they were as many as these.
     pub fn refuse_since(
         &mut self,
         failures: u64,
@@ -104,19 +170,42 @@ impl Assignment {
         ensures { IsTrue result → ¬ Completes task.now front.now }
     {
         let places = task.graph.atoms.len();
-        let atoms = task.mol.atoms().len();
-        for chosen in self.chosen.iter_mut().take(places) {
-            *chosen = NONE;
-        }
-        for holder in self.holder.iter_mut().take(atoms) {
-            *holder = NONE;
-        }
+        self.forget(task);
         for place in front.len()..places {
-            if !self.choose(task, candidates, front, place) {
+            if !self.choose(task, candidates, front, place, Seats::Atoms) {
                 return self.shows_why(task, candidates, front);
             }
         }
         false
+    }
+
+    // The same as far as groups show that do not begin in front.
+    fn refuse_groups(&mut self, task: &Task, candidates: &Candidates, front: &[u16]) -> bool
+        requires ready { IsReadyTask task.now }
+        requires candidates { AreCandidates task.now candidates.now.words.items }
+        ensures { IsTrue result → ¬ Completes task.now front.now }
+    {
+        let places = task.graph.atoms.len();
+        self.forget(task);
+        for place in front.len()..places {
+            if !begins_group(task, place) {
+                continue;
+            }
+            if !self.choose(task, candidates, front, place, Seats::Components) {
+                return self.shows_why_groups(task, candidates, front);
+            }
+        }
+        false
+    }
+
+    // Forgets what was chosen.
+    fn forget(&mut self, task: &Task) {
+        for chosen in self.chosen.iter_mut().take(task.graph.atoms.len()) {
+            *chosen = NONE;
+        }
+        for holder in self.holder.iter_mut().take(task.mol.atoms().len()) {
+            *holder = NONE;
+        }
     }
 
     // Whether the places and atoms that the last try reached show that the graph cannot be completed.
@@ -139,8 +228,35 @@ impl Assignment {
         )
     }
 
-    // Gives the place an atom, if it can have one.
-    fn choose(&mut self, task: &Task, candidates: &Candidates, front: &[u16], place: usize) -> bool
+    // The same of the groups and components.
+    fn shows_why_groups(&self, task: &Task, candidates: &Candidates, front: &[u16]) -> bool
+        requires ready { IsReadyTask task.now }
+        requires candidates { AreCandidates task.now candidates.now.words.items }
+        ensures { IsTrue result → ¬ Completes task.now front.now }
+    {
+        let places = task.graph.atoms.len();
+        let atoms = task.mol.atoms().len();
+        if self.reached.len() < places || self.seen.len() < atoms {
+            return false;
+        }
+        excludes_groups(
+            task,
+            candidates,
+            front,
+            &self.reached[..places],
+            &self.seen[..atoms],
+        )
+    }
+
+    // Gives the place a seat, if it can have one.
+    fn choose(
+        &mut self,
+        task: &Task,
+        candidates: &Candidates,
+        front: &[u16],
+        place: usize,
+        seats: Seats,
+    ) -> bool
         requires ready { IsReadyTask task.now }
         requires candidates { AreCandidates task.now candidates.now.words.items }
         requires place { place < length task.now.graph.now.atoms.items }
@@ -159,7 +275,7 @@ impl Assignment {
             if next >= last || usize::from(from) >= places {
                 return false;
             }
-            match self.step(task, candidates, front, from, last) {
+            match self.step(task, candidates, front, from, last, seats) {
                 Some(more) => last = more,
                 None => return true,
             }
@@ -167,7 +283,7 @@ impl Assignment {
         false
     }
 
-    // Reaches the atoms where the place may stand, and from each the place that holds it. `None` where one was free,
+    // Reaches the seats where the place may stand, and from each the place that holds it. `None` where one was free,
     // so that it was chosen.
     fn step(
         &mut self,
@@ -176,6 +292,7 @@ impl Assignment {
         front: &[u16],
         place: u16,
         queued: usize,
+        seats: Seats,
     ) -> Option<usize>
         requires ready { IsReadyTask task.now }
         requires candidates { AreCandidates task.now candidates.now.words.items }
@@ -183,12 +300,16 @@ impl Assignment {
     {
         let mut last = queued;
         for atom in 0..task.mol.atoms().len() as u16 {
-            if self.is_seen(atom) || !may_stand(task, candidates, front, usize::from(place), atom) {
+            let seat = match seats {
+                Seats::Atoms => atom,
+                Seats::Components => task.mol.component(atom),
+            };
+            if self.is_seen(seat) || !may_stand(task, candidates, front, usize::from(place), atom) {
                 continue;
             }
-            let holder = self.see(atom, place);
+            let holder = self.see(seat, place);
             if holder == NONE {
-                self.exchange(atom);
+                self.exchange(seat);
                 return None;
             }
             last = self.reach(holder, last);

@@ -8,6 +8,7 @@ ghost use Rattle.smarts_parse.specs.Truth.{BondTrue};
 ghost use Rattle.matcher.specs.Candidates.{IsTrueAt};
 ghost use Rattle.matcher.specs.Task.{FirstEmbeds, IsPlaced, IsReadyTask};
 
+use crate::group::keeps_groups;
 use crate::plan::EarlierBonds;
 use chem_core::Mol;
 use smarts_mean::{RecTable, bond_true};
@@ -36,6 +37,9 @@ pub fn fits(task: &Task, front: &[u16], atom: u16) -> bool
     let step = task.steps[front.len()];
     let others = step.others(&task.graph.bonds);
     if !is_new(front, atom) {
+        return false;
+    }
+    if !keeps_groups(task, front, front.len(), atom) {
         return false;
     }
     bonds_embed(others, task.mol, front, atom)

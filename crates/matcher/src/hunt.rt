@@ -9,8 +9,8 @@ ghost use Rattle.matcher.specs.Task.{Completes, IsPlaced, IsReadyTask};
 
 use crate::candidates::Candidates;
 use crate::fit::{Task, are_joined_by, first_embeds, fits, is_new};
+use crate::group::keeps_groups;
 use crate::lay::{NO_BOND, Placement};
-use crate::refusal::may_stand;
 use smarts_mean::bond_true;
 use smarts_parse::PatBond;
 
@@ -134,7 +134,7 @@ fn continues_at(
         → slice_index whole (stop_at stops.now placed).place ≡ atom → ⊥ }
 {
     let stop = stops[placed];
-    if !may_take(task, candidates, image, stop, atom) {
+    if !may_take(task, image, stop, atom) {
         return false;
     }
     let place = usize::from(stop.place);
@@ -147,22 +147,21 @@ fn continues_at(
     false
 }
 
-// Whether the place of a stop may stand at that atom.
-fn may_take(task: &Task, candidates: &Candidates, image: &[u16], stop: Placement, atom: u16) -> bool
+// Whether the place of a stop, of which the atom is a candidate, may stand there.
+fn may_take(task: &Task, image: &[u16], stop: Placement, atom: u16) -> bool
     requires ready { IsReadyTask task.now }
     requires room { length task.now.graph.now.atoms.items ≤ length image.now }
     requires place { stop.place < length task.now.graph.now.atoms.items }
     requires free { length task.now.mol.now.atoms ≤ slice_index image.now stop.place }
     requires atom { atom < length task.now.mol.now.atoms }
-    requires candidates { AreCandidates task.now candidates.now.words.items }
     ensures { result ≡ false → (whole : List ℕ) → Continues task.now image.now whole
         → slice_index whole stop.place ≡ atom → ⊥ }
 {
-    if !may_stand(task, candidates, &[], usize::from(stop.place), atom) {
-        return false;
-    }
     let places = task.graph.atoms.len();
     if !is_new(&image[..places], atom) {
+        return false;
+    }
+    if !keeps_groups(task, &image[..places], usize::from(stop.place), atom) {
         return false;
     }
     stop.bond == NO_BOND || closes(task, image, stop, atom)

@@ -4,7 +4,8 @@
 //! refused at once. Then the pattern's atoms are placed in turn. One that a bond joins to an earlier one goes along the
 //! bonds of the molecule from there; any other goes anywhere. Where any embedding serves, the first placed is one that
 //! few atoms can take, and components of several atoms are first searched for by themselves. Each expression is asked
-//! once at each atom before a graph is searched for. The number of tries is not bounded.
+//! once at each atom before a graph is searched for. Of a pattern with groups it is first found out in which components
+//! each group can be placed, and whether there are different ones for all. The number of tries is not bounded.
 //!
 //! What depends on the pattern alone is worked out once, by `Scratch::prepare`, for searches in any number of
 //! molecules.
@@ -15,6 +16,8 @@ mod candidates;
 mod choices;
 mod class;
 mod fit;
+mod group;
+mod grouping;
 mod hunt;
 mod lay;
 mod narrow;

@@ -7,12 +7,14 @@ ghost use Rattle.smarts_parse.specs.Pattern.{graph_of, pattern_of, term_of};
 ghost use Rattle.smarts_parse.specs.Truth.{BondTrue};
 ghost use Rattle.matcher.specs.Class.{is_among, is_within};
 ghost use Rattle.matcher.specs.Candidates.{AreCandidates};
+ghost use Rattle.matcher.specs.Group.{IsInMarked};
 ghost use Rattle.matcher.specs.Plan.{IsReady};
 ghost use Rattle.matcher.specs.Task.{Completes, Embeds, IsReadyTask};
 
 use crate::candidates::Candidates;
 use crate::class::{classes_in, may_be};
 use crate::fit::{Task, is_new};
+use crate::group::{begins_group, keeps_groups};
 use crate::plan::EarlierBonds;
 use chem_core::{Atom, Mol};
 use smarts_mean::bond_true;
@@ -56,6 +58,38 @@ pub fn excludes(
             continue;
         }
         if !stays_within(task, candidates, front, atoms, place) {
+            return false;
+        }
+    }
+    true
+}
+
+/// The same of components: whether the places that are marked, each the first of a group, are more than the components
+/// that are marked, by their least atoms, and can stand in these alone. Then the graph cannot be completed.
+pub fn excludes_groups(
+    task: &Task,
+    candidates: &Candidates,
+    front: &[u16],
+    places: &[bool],
+    components: &[bool],
+) -> bool
+    requires ready { IsReadyTask task.now }
+    requires places { length places.now ≤ length task.now.graph.now.atoms.items }
+    requires components { length components.now ≡ length task.now.mol.now.atoms }
+    requires candidates { AreCandidates task.now candidates.now.words.items }
+    ensures { IsTrue result → ¬ Completes task.now front.now }
+{
+    if marked(places) <= marked(components) {
+        return false;
+    }
+    for place in 0..places.len() {
+        if !places[place] {
+            continue;
+        }
+        if !begins_group(task, place) {
+            return false;
+        }
+        if !stays_in(task, candidates, front, components, place) {
             return false;
         }
     }
@@ -140,6 +174,35 @@ fn stays_within(
     true
 }
 
+// Whether the place, which is not in front, can stand only in marked components.
+fn stays_in(
+    task: &Task,
+    candidates: &Candidates,
+    front: &[u16],
+    components: &[bool],
+    place: usize,
+) -> bool
+    requires ready { IsReadyTask task.now }
+    requires place { place < length task.now.graph.now.atoms.items }
+    requires components { length components.now ≡ length task.now.mol.now.atoms }
+    requires candidates { AreCandidates task.now candidates.now.words.items }
+    ensures { IsTrue result → (rest : List ℕ) → Embeds task.now (front.now ++ rest)
+        → IsInMarked task.now.mol.now components.now (slice_index (front.now ++ rest) place) }
+{
+    if place < front.len() {
+        return false;
+    }
+    for atom in 0..task.mol.atoms().len() as u16 {
+        if components[usize::from(task.mol.component(atom))] {
+            continue;
+        }
+        if may_stand(task, candidates, front, place, atom) {
+            return false;
+        }
+    }
+    true
+}
+
 /// Whether a bond of the graph may lie at some bond with both its ends. If not, the graph has no embedding.
 pub fn has_bond(task: &Task, candidates: &Candidates, place: usize) -> bool
     requires ready { IsReadyTask task.now }
@@ -212,5 +275,8 @@ pub fn may_stand(
     if !candidates.has(place, atom) {
         return false;
     }
-    is_new(front, atom)
+    if !is_new(front, atom) {
+        return false;
+    }
+    keeps_groups(task, front, place, atom)
 }

@@ -3,6 +3,7 @@ ghost use Rattle.std.specs.Prelude.{◌≤◌, vec_len};
 
 use crate::candidates::Candidates;
 use crate::choices::Choices;
+use crate::grouping::Grouping;
 use crate::lay::{NO_PLACEMENT, Placement};
 use crate::narrow::Narrowing;
 use crate::planned::MOST_PLACES;
@@ -28,6 +29,7 @@ pub struct Memory {
     pub choices: Choices,
     pub candidates: Candidates,
     pub narrowing: Narrowing,
+    pub grouping: Grouping,
     pub stops: Vec<Placement>,
     ghost image_room: { 256 ≤ vec_len image },
 }
@@ -52,6 +54,8 @@ impl Scratch {
     {
         self.prepared.prepare(pattern);
         self.memory.narrowing.begin();
+        self.memory.grouping.begin(pattern);
+        self.memory.choices.begin(pattern);
     }
 }
 
@@ -63,6 +67,7 @@ impl Memory {
             choices: Choices::reserve(alloc)?,
             candidates: Candidates::reserve(alloc)?,
             narrowing: Narrowing::reserve(alloc)?,
+            grouping: Grouping::reserve(alloc)?,
             stops: vec![in alloc; NO_PLACEMENT; MOST_PLACES]?,
         })
     }

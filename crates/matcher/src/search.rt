@@ -140,5 +140,8 @@ pub fn extend_at(
         return false;
     }
     image[placed] = atom;
+    if choices.refuse_group(task, candidates, &image[..placed + 1]) {
+        return false;
+    }
     extend(task, candidates, image, choices, placed + 1)
 }

@@ -2,6 +2,7 @@
 #![tactic(auto)]
 
 mod answer;
+mod components;
 mod fault;
 mod laws;
 mod molecule;

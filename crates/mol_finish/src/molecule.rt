@@ -4,6 +4,7 @@ ghost use Rattle.chem_core.specs.Sound.{IsSound, sketch_ends};
 ghost use Rattle.chem_core.specs.RingFacts.{AreRingBonds, AreSmallestRings};
 ghost use Rattle.mol_finish.specs.Meant.{written_kind, meant_kind, meant_atom, meant_bond, meant_atoms, meant_bonds, meant};
 
+use crate::components::components;
 use aromatic::Arom;
 use bumpalo::Bump;
 use chem_core::{Atom, Bond, BondKind, Mol, Sketch, SketchAtom, SketchBond, SketchKind};
@@ -29,7 +30,15 @@ pub(crate) fn molecule(
 {
     let atoms = atoms(alloc, &sketch.atoms, &found.atoms, &found.valences)?;
     let bonds = bonds(alloc, &sketch.bonds, &found.bonds)?;
-    Mol::make(alloc, atoms, bonds, rings.bond_in_ring, rings.atom_small)
+    let components = components(alloc, atoms.len(), &bonds)?;
+    Mol::make(
+        alloc,
+        atoms,
+        bonds,
+        rings.bond_in_ring,
+        rings.atom_small,
+        components,
+    )
 }
 
 // The kind of a bond that is not aromatic.

@@ -28,6 +28,7 @@ fn atoms_have_two_bits(rt: HostRuntime) -> Result<(), Fail> {
             Vec::new(rt.alloc()),
             Vec::new(rt.alloc()),
             [0].to_vec(rt.alloc())?,
+            [0].to_vec(rt.alloc())?,
         )?;
         assert_bits(&rt, &print(&mol), &bits);
     }
@@ -42,6 +43,7 @@ fn a_number_needs_one_bit(rt: HostRuntime) -> Result<(), Fail> {
         top: Graph {
             atoms,
             bonds: Vec::new(rt.alloc()),
+            groups: [0].to_vec(rt.alloc())?,
         },
         recs: Vec::new(rt.alloc()),
     };

@@ -70,7 +70,6 @@ pattern_words patterns.Stereo = codes "refused smarts stereo"
 pattern_words patterns.RingSet = codes "refused smarts ringset"
 pattern_words patterns.Ring = codes "refused smarts ring"
 pattern_words patterns.Limit = codes "refused smarts limit"
-pattern_words patterns.Grouping = codes "refused smarts grouping"
 pattern_words patterns.NoMemory = codes "fault memory"
 
 abbrev pub refusal_words : Refusal → List ℕ

@@ -382,7 +382,6 @@ fn pattern_fault(fault: SmartsFault) -> &'static str
         SmartsFault::RingSet => "refused smarts ringset",
         SmartsFault::Ring => "refused smarts ring",
         SmartsFault::Limit => "refused smarts limit",
-        SmartsFault::Grouping => "refused smarts grouping",
         SmartsFault::NoMemory => "fault memory",
     }
 }

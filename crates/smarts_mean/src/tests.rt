@@ -19,7 +19,15 @@ fn primitives_at_one_atom(rt: HostRuntime) -> Result<(), Fail> {
     };
     let atoms = [nitrogen].to_vec(alloc)?;
     let smallest = [0].to_vec(alloc)?;
-    let mol = Mol::make(alloc, atoms, Vec::new(alloc), Vec::new(alloc), smallest)?;
+    let component = [0].to_vec(alloc)?;
+    let mol = Mol::make(
+        alloc,
+        atoms,
+        Vec::new(alloc),
+        Vec::new(alloc),
+        smallest,
+        component,
+    )?;
     let mut table = RecTable::reserve(alloc)?;
     let upper = AtomPrim::Symbol {
         number: 7,

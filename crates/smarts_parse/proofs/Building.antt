@@ -1,6 +1,6 @@
 -- Building goes on: each recursive part takes the numbers of its own parts, and leaves one.
-use Rattle.std.proofs.Common.{◌≡◌, ℕ, zero, suc, ◌+◌, ◌<◌, ◌≤◌, Bool, false, List, [], ◌∷◌, ◌++◌, length, map, take, drop, get_or, refl, sym, ◌∙◌, ap, subst, arith, append_assoc, length-append, length-drop}
-use Rattle.std.proofs.lemmas.List.{append-nil, map-append, drop_more, take_more}
+use Rattle.std.proofs.Common.{◌≡◌, ℕ, zero, suc, ◌+◌, ◌<◌, ◌≤◌, Bool, false, List, [], ◌∷◌, ◌++◌, length, map, take, drop, replicate, get_or, refl, sym, ◌∙◌, ap, subst, arith, append_assoc, length-append, length-drop}
+use Rattle.std.proofs.lemmas.List.{append-nil, length-map, map-append, drop_more, take_more}
 use Rattle.std.specs.List.{list_any, AllByRecursion}
 use Rattle.line_walk.specs.Places.{placed_nodes, atoms_by}
 use Rattle.smarts_words.specs.declared.word.Step.{Step}
@@ -12,7 +12,7 @@ use Rattle.smarts_parse.specs.declared.pattern.Expr.{Expr}
 use Rattle.smarts_parse.specs.declared.close.Closed.{Closed}
 use Rattle.smarts_parse.specs.Pattern.{GraphTerm, term_of}
 use Rattle.smarts_parse.specs.Whole.{Tree, Nodes, Parts, none, part, part_texts, tree_atoms, top_atoms, parts_atoms, Whole, nodes_of, count_of}
-use Rattle.smarts_parse.specs.Meaning.{postfix, atom_steps, atoms_steps, numbers_from, ArePartTerms, IsGraphTerm, IsPatternOf}
+use Rattle.smarts_parse.specs.Meaning.{postfix, atom_steps, atoms_steps, numbers_from, for_each, groups_of, ArePartTerms, IsGraphTerm, IsPatternOf}
 use Rattle.smarts_parse.specs.Reading.{is_stereo}
 use Rattle.smarts_parse.specs.Steps.{LeaveOne, parts_in, IsValue, AreAtomSteps}
 use Rattle.smarts_parse.specs.Draft.{WalkGraph, join, Close, AreGraphs}
@@ -64,7 +64,8 @@ pub record Next (all : Parts) (graph : WalkGraph) (left : List WalkGraph) (open_
   pub numbers : List ℕ
   pub ready : IsReady nodes front numbers graph open_numbers
   pub number : length recs < 64
-  pub after : (g : GraphTerm) (k : ℕ) → IsGraphTerm nodes numbers g → k ≡ length recs
+  pub after : (g : GraphTerm) (k : ℕ) (size : ℕ) → size ≡ length graph.atoms.items
+      → IsGraphTerm nodes numbers (replicate size 0) g → k ≡ length recs
       → IsBuilt all left (front ++ k ∷ []) (recs ++ g ∷ [])
 
 module _ (all : Parts) (graph : WalkGraph) (left : List WalkGraph) (open_numbers : List ℕ) (recs : List GraphTerm)
@@ -103,7 +104,7 @@ module _ (all : Parts) (graph : WalkGraph) (left : List WalkGraph) (open_numbers
       let f : k ≡ at + count_of inner = omega (arith, recs_count) in
       ap (λ v. numbers_from 0 before ++ v ∷ []) f ∙ sym (numbers-join 0 before one)
 
-  put_terms : (g : GraphTerm) → IsGraphTerm (placed_nodes tree) (numbers_from at inner) g
+  put_terms : (g : GraphTerm) → IsGraphTerm (placed_nodes tree) (numbers_from at inner) (for_each tree 0) g
       → ArePartTerms 0 (join before one) (recs ++ g ∷ [])
   put_terms g is =
       let s = split_terms in
@@ -130,7 +131,7 @@ module _ (all : Parts) (graph : WalkGraph) (left : List WalkGraph) (open_numbers
           few = omega arith;
         };
         number = omega (arith, count-join before inner);
-        after = λ g k is e. record {
+        after = λ g k size h is e. record {
           parts = join before one;
           trees = trees;
           closing = c.4;
@@ -138,7 +139,9 @@ module _ (all : Parts) (graph : WalkGraph) (left : List WalkGraph) (open_numbers
           fit = fit.1;
           few = few;
           numbered = put_numbers k e;
-          terms = put_terms g is;
+          terms = put_terms g (subst (λ (w : ℕ). IsGraphTerm (placed_nodes tree) (numbers_from at inner) (replicate w 0)
+              g) (h ∙ ap length graphs.0.atoms ∙ length-map (placed_nodes tree) (λ x. smarts_words.atom_of x.node.atom))
+              is);
         };
       }
 
@@ -211,7 +214,8 @@ module _ (whole : Whole) (closed : Closed) (open_numbers : List ℕ) (recs : Lis
         few = omega arith;
       }
 
-  pub pattern_built : (top : GraphTerm) → IsGraphTerm (nodes_of whole) (numbers_from 0 whole.parts) top
+  pub pattern_built : (top : GraphTerm)
+      → IsGraphTerm (nodes_of whole) (numbers_from 0 whole.parts) (groups_of whole) top
       → IsPatternOf whole (record { top = top; recs = recs })
   pattern_built top is = (built.terms_are, is)
 

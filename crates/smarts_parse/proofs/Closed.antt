@@ -8,7 +8,7 @@ use Rattle.line_walk.specs.declared.fault.Fault.{Fault}
 use Rattle.line_walk.specs.declared.fault.Fault.TheVariants as walk
 use Rattle.smarts_words.specs.Words.{smarts_words}
 use Rattle.smarts_parse.specs.declared.fault.SmartsFault.{SmartsFault}
-use Rattle.smarts_parse.specs.declared.fault.SmartsFault.TheVariants.{Reaction, Syntax, Stereo, RingSet, Ring, Limit, Grouping, NoMemory}
+use Rattle.smarts_parse.specs.declared.fault.SmartsFault.TheVariants.{Reaction, Syntax, Stereo, RingSet, Ring, Limit, NoMemory}
 use Rattle.smarts_parse.specs.declared.draft.Draft.{Draft}
 use Rattle.smarts_parse.specs.declared.close.Closed.{Closed}
 use Rattle.smarts_parse.specs.Faults.{fault_of}
@@ -133,7 +133,6 @@ parts_open whole d Syntax is h = absurd h
 parts_open whole d Stereo is h = absurd h
 parts_open whole d RingSet is h = absurd h
 parts_open whole d Limit is h = absurd h
-parts_open whole d Grouping is h = absurd h
 
 -- the ring numbers of what is closed pair
 graphs_pair : (trees : List Tree) (graphs : List WalkGraph) → AreGraphs trees graphs

@@ -1,5 +1,6 @@
 -- What holds of all recursive parts, by the trees after which their parentheses close.
 use Rattle.std.proofs.Common.{◌≡◌, ℕ, ◌+◌, ◌≤◌, Bool, true, false, ◌||◌, List, [], ◌∷◌, ◌++◌, length, reverse, refl, sym, ◌∙◌, ap, subst, arith}
+use Rattle.std.proofs.Math.Bool.{or-false}
 use Rattle.std.proofs.lemmas.List.{length-append, reverse-append}
 use Rattle.std.proofs.lemmas.List.Folds.{list_any-append}
 use Rattle.std.specs.List.{list_any, AllByRecursion}
@@ -9,7 +10,6 @@ use Rattle.smarts_parse.specs.Whole.{Tree, Parts, none, part, tree_atoms, parts_
 use Rattle.smarts_parse.specs.Reading.{is_stereo, DoPair, DoPartsPair}
 use Rattle.smarts_parse.specs.Draft.{Read, join, Close, AreRead}
 use Rattle.smarts_parse.specs.Build.{AreFit}
-use Rattle.smarts_parse.proofs.ItemsRead.{or_false}
 use Rattle.smarts_parse.proofs.Parts.{count-join, atoms-join, pair-join}
 use Rattle.smarts_parse.proofs.Joined.{pair_both}
 
@@ -44,7 +44,7 @@ or_swap false false a = refl
 
 pub any_closed : (P : AtomValue → Bool) (p : Parts) (trees : List Tree) (all : Parts) → Close p trees all
     → list_any P (parts_atoms all) ≡ (list_any P (parts_atoms p) || list_any (λ t. list_any P (tree_atoms t)) trees)
-any_closed P p [] all e = ap (λ v. list_any P (parts_atoms v)) (sym e) ∙ sym (or_false (list_any P (parts_atoms p)))
+any_closed P p [] all e = ap (λ v. list_any P (parts_atoms v)) (sym e) ∙ sym (or-false (list_any P (parts_atoms p)))
 any_closed P p (tree ∷ trees) all c =
     let q = c.0 in
     let r = c.1 in
@@ -139,7 +139,7 @@ any_reversed : (f : Read → Bool) (xs : List Read) → list_any f (reverse xs) 
 any_reversed f [] = refl
 any_reversed f (x ∷ xs) =
     ap (list_any f) (reverse-append (x ∷ []) xs) ∙ list_any-append f (reverse xs) (x ∷ [])
-    ∙ or_turned (list_any f (reverse xs)) (f x || false) ∙ ap (λ v. v || list_any f (reverse xs)) (or_false (f x))
+    ∙ or_turned (list_any f (reverse xs)) (f x || false) ∙ ap (λ v. v || list_any f (reverse xs)) (or-false (f x))
     ∙ ap (λ v. f x || v) (any_reversed f xs)
 
 pub any_read : (P : AtomValue → Bool) (trees : List Tree) (all : Parts) (readers : List Read) → Close none trees all

@@ -188,7 +188,7 @@ module _ (c : ℕ) where
   tree_below : (n : ℕ) (tree : Tree) → n + 1 + size_of tree.tail ≤ c → AllByRecursion Below (placed_at n tree)
   tree_below n tree h = (tt, tail_below n (n + 1) tree.tail (omega arith) h)
 
-tail_size : (at n : ℕ) (tail : Tail Atom (Expression BondPrim)) → length (placed_from at n tail) ≡ size_of tail
+pub tail_size : (at n : ℕ) (tail : Tail Atom (Expression BondPrim)) → length (placed_from at n tail) ≡ size_of tail
 tail_size at n stop = refl
 tail_size at n (next joint node tail) = let e = tail_size n (n + 1) tail in omega arith
 tail_size at n (branch joint node inner tail) =

@@ -1,11 +1,11 @@
 -- A text has one answer: the fault of the first test that it fails, or its pattern.
 use Rattle.std.proofs.Common.{◌≡◌, ◌≢◌, ◌⊎◌, inl, inr, ℕ, ◌≤◌, List, length, Contains, Result, Ok, Err, refl, sym, ◌∙◌, ap, subst, arith}
 use Rattle.smarts_parse.specs.declared.fault.SmartsFault.{SmartsFault}
-use Rattle.smarts_parse.specs.declared.fault.SmartsFault.TheVariants.{Reaction, Syntax, Stereo, RingSet, Ring, Limit, Grouping, NoMemory}
+use Rattle.smarts_parse.specs.declared.fault.SmartsFault.TheVariants.{Reaction, Syntax, Stereo, RingSet, Ring, Limit, NoMemory}
 use Rattle.smarts_parse.specs.Pattern.{PatternTerm}
 use Rattle.smarts_parse.specs.Whole.{Whole, IsWholeOf}
 use Rattle.smarts_parse.specs.Meaning.{IsPatternOf}
-use Rattle.smarts_parse.specs.Reading.{most_bytes, HasStereo, HasRingSet, DoRingsPair, IsWithinLimits, HasGroup, IsRead, NoStereo, NoRingSet, NoRing, NoLimit, IsReading}
+use Rattle.smarts_parse.specs.Reading.{most_bytes, HasStereo, HasRingSet, DoRingsPair, IsWithinLimits, IsRead, NoStereo, NoRingSet, NoRing, NoLimit, IsReading}
 use Rattle.smarts_parse.proofs.OneWhole.{one_whole}
 use Rattle.smarts_parse.proofs.OnePattern.{one_pattern}
 
@@ -49,11 +49,8 @@ module _ (text : List ℕ) where
       h.answer ∙ ap F e ∙ sym k.answer
 
   -- the tests that are left, from the last to the first
-  abbrev FromGroup : Answer → Type 0
-  FromGroup = Choice (OfWhole (λ w. ¬ HasGroup w)) Grouping IsPattern
-
   abbrev FromLimit : Answer → Type 0
-  FromLimit = Choice (OfWhole IsWithinLimits) Limit FromGroup
+  FromLimit = Choice (OfWhole IsWithinLimits) Limit IsPattern
 
   abbrev FromRing : Answer → Type 0
   FromRing = Choice (OfWhole DoRingsPair) Ring FromLimit
@@ -76,7 +73,7 @@ module _ (text : List ℕ) where
   one_stereo : AreOne FromStereo
   one_stereo = one_choice _ Stereo FromRingSet
       (one_choice _ RingSet FromRing (one_choice _ Ring FromLimit
-      (one_choice _ Limit FromGroup (one_choice _ Grouping IsPattern one_meaning))))
+      (one_choice _ Limit IsPattern one_meaning)))
 
   one_length : AreOne FromLength
   one_length = one_choice _ Limit FromReaction (one_choice _ Reaction FromSyntax
@@ -95,17 +92,14 @@ module _ (text : List ℕ) where
   no_ring : (r : Answer) (w : Whole) → NoRing text w → FromLimit r → FromLength r
   no_ring r w h rest = no_ring_set r w h.0 (inr (of_whole DoRingsPair w h.0.0.0.is h.1, rest))
 
-  no_limit : (r : Answer) (w : Whole) → NoLimit text w → FromGroup r → FromLength r
+  no_limit : (r : Answer) (w : Whole) → NoLimit text w → IsPattern r → FromLength r
   no_limit r w h rest = no_ring r w h.0 (inr (of_whole IsWithinLimits w h.0.0.0.0.is h.1, rest))
 
   by_tests : (r : Answer) → IsReading text r → r ≢ Err NoMemory → FromLength r
   by_tests (Ok p) h n =
       let w = h.0 in
-      no_limit (Ok p) w h.1 (inr (
-        of_whole (λ v. ¬ HasGroup v) w h.1.0.0.0.0.is h.2,
-        record
-            { whole = w; is = h.1.0.0.0.0.is; pattern = p; means = h.3; answer = refl },
-      ))
+      no_limit (Ok p) w h.1
+      (record { whole = w; is = h.1.0.0.0.0.is; pattern = p; means = h.2; answer = refl })
   by_tests (Err Reaction) h n = inr (h.0, inl (λ k. k h.1, refl))
   by_tests (Err Syntax) h n = inr (h.0, inr (h.1, inl (λ k. h.2 k.0 k.1, refl)))
   by_tests (Err Stereo) h n = is_read (Err Stereo) h.0 h.1 (inl (λ k. k h.0 h.1.is h.2, refl))
@@ -113,7 +107,6 @@ module _ (text : List ℕ) where
   by_tests (Err Ring) h n = no_ring_set (Err Ring) h.0 h.1 (inl (λ k. h.2 (k h.0 h.1.0.0.is), refl))
   by_tests (Err Limit) (inl l) n = inl (λ k. absurd (omega arith), refl)
   by_tests (Err Limit) (inr h) n = no_ring (Err Limit) h.0 h.1 (inl (λ k. h.2 (k h.0 h.1.0.0.0.is), refl))
-  by_tests (Err Grouping) h n = no_limit (Err Grouping) h.0 h.1 (inl (λ k. k h.0 h.1.0.0.0.0.is h.2, refl))
   by_tests (Err NoMemory) h n = absurd (n refl)
 
 pub one_answer : (text : List ℕ) (r s : Answer) → IsReading text r → IsReading text s → r ≢ Err NoMemory

@@ -4,16 +4,16 @@ use Rattle.std.proofs.lemmas.List.Folds.{list_any-append}
 use Rattle.std.specs.List.{list_any}
 use Rattle.smarts_words.specs.Bracket.{AtomValue}
 use Rattle.smarts_parse.specs.declared.fault.SmartsFault.{SmartsFault}
-use Rattle.smarts_parse.specs.declared.fault.SmartsFault.TheVariants.{Reaction, Syntax, Stereo, RingSet, Ring, Limit, Grouping, NoMemory}
+use Rattle.smarts_parse.specs.declared.fault.SmartsFault.TheVariants.{Reaction, Syntax, Stereo, RingSet, Ring, Limit, NoMemory}
 use Rattle.smarts_parse.specs.declared.draft.Draft.{Draft}
 use Rattle.smarts_parse.specs.declared.draft.Sizes.{Sizes}
 use Rattle.smarts_parse.specs.declared.close.Closed.{Closed}
 use Rattle.smarts_parse.specs.Pattern.{PatternTerm}
 use Rattle.smarts_parse.specs.Sound.{IsSoundPattern}
-use Rattle.smarts_parse.specs.Whole.{Item, plain, group, Whole, IsWholeOf, top_atoms, parts_atoms, all_atoms}
+use Rattle.smarts_parse.specs.Whole.{Whole, IsWholeOf, top_atoms, parts_atoms, all_atoms}
 use Rattle.smarts_parse.specs.Meaning.{IsPatternOf}
-use Rattle.smarts_parse.specs.Reading.{is_group, is_stereo, is_ring_set, HasStereo, HasRingSet, IsWithinLimits, HasGroup, IsRead, NoStereo, NoRingSet, NoRing, NoLimit, IsReading}
-use Rattle.smarts_parse.specs.Draft.{groups_of, IsDraftOf, AreClosed, IsOpenBy, any_atom}
+use Rattle.smarts_parse.specs.Reading.{is_stereo, is_ring_set, HasStereo, HasRingSet, IsWithinLimits, IsRead, NoStereo, NoRingSet, NoRing, NoLimit, IsReading}
+use Rattle.smarts_parse.specs.Draft.{IsDraftOf, AreClosed, IsOpenBy, any_atom}
 use Rattle.smarts_parse.specs.Build.{IsBuildable}
 use Rattle.smarts_parse.proofs.Closing.{any_read}
 use Rattle.smarts_parse.proofs.Closed.{closed_pairs}
@@ -47,16 +47,6 @@ HasMark text d = (any_atom Configured d ≡ true) ⊎ Contains text 47 ⊎ Conta
 -- what is within limits
 abbrev pub AreWithin : Sizes → Type 0
 AreWithin s = (s.atoms ≤ 256) × (s.parts ≤ 64) × (s.nesting ≤ 8) × (s.depth ≤ 256)
-
-some_group : (items : List Item) → 0 < groups_of items → list_any is_group items ≡ true
-some_group [] h = absurd (omega arith)
-some_group (plain tree ∷ items) h = some_group items h
-some_group (group tree ∷ items) h = refl
-
-group_some : (items : List Item) → list_any is_group items ≡ true → 0 < groups_of items
-group_some [] h = absurd (cc)
-group_some (plain tree ∷ items) h = group_some items h
-group_some (group tree ∷ items) h = omega arith
 
 not_true : (b : Bool) → ¬ (b ≡ true) → b ≡ false
 not_true true n = absurd (n refl)
@@ -97,7 +87,6 @@ module _ (text : List ℕ) (d : Draft) (l : Looked text d) where
   open_reading n f Stereo h = absurd h
   open_reading n f RingSet h = absurd h
   open_reading n f Limit h = absurd h
-  open_reading n f Grouping h = absurd h
 
   pub within : AreWithin d.sizes → IsWithinLimits l.whole
   within h = let a = l.draft.atoms in let p = l.draft.count in let n = l.draft.nesting in let k = l.draft.depth
@@ -114,15 +103,6 @@ module _ (text : List ℕ) (d : Draft) (l : Looked text d) where
       let m = h.nesting in
       let o = h.depth in
       (omega arith, omega arith, omega arith, omega arith)
-
-  pub has_group : 0 < d.groups → HasGroup l.whole
-  has_group few = let e = l.draft.groups in some_group (l.whole.first ∷ l.whole.others) (omega arith)
-
-  pub no_group : d.groups ≤ 0 → ¬ HasGroup l.whole
-  no_group none h =
-      let e = l.draft.groups in
-      let k = group_some (l.whole.first ∷ l.whole.others) h in
-      absurd (omega arith)
 
   -- the draft is closed
   module _ (closed : Closed) (c : (whole : Whole) → IsDraftOf whole d → AreClosed whole closed)

@@ -71,11 +71,12 @@ module _ (nodes : Nodes) (front numbers : List ℕ) (written : WalkGraph) (open_
       All-from_recursion (λ (x : Link (List (Step BondWord))). (x.a < 65536) × (x.b < 65536)) written.links.items
       (few_ends (length written.atoms.items) (omega arith) written.links.items r.is.ends)
 
-  pub term_is : (g : GraphTerm) → map postfix g.atoms ≡ atoms_steps numbers written.atoms.items
-      → AreBondTerms written.links.items g.bonds → IsGraphTerm nodes numbers g
-  term_is g e f = record {
+  pub term_is : (g : GraphTerm) (groups : List ℕ) → map postfix g.atoms ≡ atoms_steps numbers written.atoms.items
+      → AreBondTerms written.links.items g.bonds → g.groups ≡ groups → IsGraphTerm nodes numbers groups g
+  term_is g groups e f k = record {
     atoms = e ∙ ap (atoms_steps numbers) r.is.atoms;
     links = written.links.items;
     pair = r.is.links;
     bonds = f;
+    grouped = k;
   }

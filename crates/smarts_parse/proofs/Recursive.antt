@@ -49,6 +49,7 @@ module _ (P Q : ℕ → ℕ → Type 0) (n : ℕ) (m : Molecule) (same : (k a : 
         let few = slice_get_within g.atoms k e get in
         (term_alike e (slice_index image k) (subst (NamesBelow n) here (names k e few))).0 (h.atoms k e get);
     bonds = h.bonds;
+    groups = h.groups;
   }
 
 module _ (recs : List GraphTerm) (m : Molecule) where

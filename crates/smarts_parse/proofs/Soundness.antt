@@ -1,6 +1,6 @@
 -- The pattern of a text within limits is sound.
 use Rattle.std.proofs.Common.{◌≡◌, ◌≢◌, ◌⊎◌, inl, inr, ℕ, zero, suc, ◌+◌, ◌<◌, ◌≤◌, List, [], ◌∷◌, ◌++◌, length, map, drop, sum_by, slice_get, Option, None, Some, refl, sym, ◌∙◌, ap, subst, arith, length-append, length-drop}
-use Rattle.std.proofs.lemmas.List.{length-map}
+use Rattle.std.proofs.lemmas.List.{length-map, length-replicate}
 use Rattle.std.proofs.lemmas.List.Sums.{sum_by-cons, sum_by-append}
 use Rattle.std.proofs.lemmas.List.Elements.{All-from_recursion}
 use Rattle.std.specs.List.{AllByRecursion}
@@ -20,13 +20,14 @@ use Rattle.smarts_words.specs.Words.{smarts_words}
 use Rattle.smarts_parse.specs.declared.pattern.AtomPrim.{AtomPrim}
 use Rattle.smarts_parse.specs.Pattern.{Term, Prim, Not, And, Or, BondTerm, GraphTerm, PatternTerm}
 use Rattle.smarts_parse.specs.Whole.{Nodes, Parts, none, part, part_texts, tree_atoms, AreParts, parts_atoms, Whole, IsWholeOf, nodes_of, top_atoms, count_of}
-use Rattle.smarts_parse.specs.Meaning.{postfix, count_prim, atom_steps, atoms_steps, IsBondTerm, AreBondTerms, IsGraphTerm, numbers_from, ArePartTerms, IsPatternOf}
+use Rattle.smarts_parse.specs.Meaning.{postfix, count_prim, atom_steps, atoms_steps, IsBondTerm, AreBondTerms, for_each, groups_of, IsGraphTerm, numbers_from, ArePartTerms, IsPatternOf}
 use Rattle.smarts_parse.specs.Reading.{IsWithinLimits}
 use Rattle.smarts_parse.specs.Sound.{pattern_ends, PrimNamesBelow, NamesBelow, IsSoundGraph, IsSoundPattern}
 use Rattle.smarts_parse.specs.Steps.{part_count, parts_in, IsValue}
 use Rattle.smarts_parse.proofs.Links.{Below, ends_all, nodes_below, placed_below}
 use Rattle.smarts_parse.proofs.Parts.{terms_count, numbers_count, plain_step, steps_plain}
 use Rattle.smarts_parse.proofs.Building.{values_all}
+use Rattle.smarts_parse.proofs.ItemsRead.{groups_count}
 
 -- what holds of two lists together holds of each
 all_split : {X : Type 0} (Q : X → Type 0) (xs ys : List X) → AllByRecursion Q (xs ++ ys)
@@ -219,19 +220,20 @@ atoms_count : (ns : List ℕ) (values : List AtomValue) → length (atoms_steps 
 atoms_count ns [] = refl
 atoms_count ns (x ∷ values) = let e = atoms_count (drop (length x.parts) ns) values in omega arith
 
-graph_count : (nodes : Nodes) (ns : List ℕ) (g : GraphTerm) → IsGraphTerm nodes ns g
+graph_count : (nodes : Nodes) (ns groups : List ℕ) (g : GraphTerm) → IsGraphTerm nodes ns groups g
     → length g.atoms ≡ length (atoms_by smarts_words nodes)
-graph_count nodes ns g is = sym (length-map g.atoms postfix) ∙ ap (λ w. length w) is.atoms
+graph_count nodes ns groups g is = sym (length-map g.atoms postfix) ∙ ap (λ w. length w) is.atoms
     ∙ atoms_count ns (atoms_by smarts_words nodes)
 
 -- the graph of nodes, the first of whose recursive parts has the number n
-graph_sound : (nodes : Nodes) (n c : ℕ) (p : Parts) (g : GraphTerm) → 0 < length nodes
+graph_sound : (nodes : Nodes) (n c : ℕ) (p : Parts) (groups : List ℕ) (g : GraphTerm) → 0 < length nodes
+    → length groups ≡ length nodes
     → AllByRecursion (Below (length nodes)) nodes → AreParts (part_texts (atoms_by smarts_words nodes)) p
-    → n + count_of p ≤ c → IsGraphTerm nodes (numbers_from n p) g → IsSoundGraph c g
-graph_sound nodes n c p g some below parts few is =
+    → n + count_of p ≤ c → IsGraphTerm nodes (numbers_from n p) groups g → IsSoundGraph c g
+graph_sound nodes n c p groups g some each below parts few is =
     let ns = numbers_from n p in
     let values = atoms_by smarts_words nodes in
-    let count : length g.atoms ≡ length nodes = graph_count nodes ns g is
+    let count : length g.atoms ≡ length nodes = graph_count nodes ns groups g is
     ∙ length-map nodes (λ x. smarts_words.atom_of x.node.atom) in
     let ends = ends_in (length nodes) is.links g.bonds is.bonds
     (ends_all (length nodes) nodes is.links below (omega arith) is.pair) in
@@ -248,6 +250,7 @@ graph_sound nodes n c p g some below parts few is =
           (names_all c g.atoms
           (subst (λ (w : List (List (Step AtomPrim))). AllByRecursion (λ ss. AllByRecursion (StepBelow c) ss) w)
           (sym is.atoms) names));
+      groups = ap length is.grouped ∙ each ∙ sym count;
     }
 
 -- graphs, of which the k-th names parts below n + k alone
@@ -279,8 +282,8 @@ parts_sound n (text ∷ texts) (part tree inner others) gs are h =
     let nodes = placed_nodes tree in
     let count = terms_count n inner h.0 h.4 in
     let at : n + length h.0 ≡ n + count_of inner = omega arith in
-    let top = graph_sound nodes n (n + length h.0) inner h.1 (omega arith)
-    (placed_below (length nodes) tree (omega arith)) are.1 (omega arith) h.5 in
+    let top = graph_sound nodes n (n + length h.0) inner (for_each tree 0) h.1 (omega arith)
+    (length-replicate (length nodes) 0) (placed_below (length nodes) tree (omega arith)) are.1 (omega arith) h.5 in
     let rest = parts_sound (n + count_of inner + 1) texts others h.2 are.2 h.6 in
     let e : n + count_of inner + 1 ≡ n + length h.0 + 1 = omega arith in
     subst (λ (w : List GraphTerm). SoundFrom n w) (sym h.3)
@@ -295,7 +298,7 @@ terms_atoms n (part tree inner others) gs h =
     let size : GraphTerm → ℕ = λ g. length g.atoms in
     let a = terms_atoms n inner h.0 h.4 in
     let b = terms_atoms (n + count_of inner + 1) others h.2 h.6 in
-    let c = graph_count (placed_nodes tree) (numbers_from n inner) h.1 h.5 in
+    let c = graph_count (placed_nodes tree) (numbers_from n inner) (for_each tree 0) h.1 h.5 in
     let d = ap (λ w. sum_by size w) h.3 ∙ sum_by-append size h.0 (h.1 ∷ h.2) in
     let e = sum_by-cons size h.1 h.2 in
     let f = length-append (tree_atoms tree) (parts_atoms inner ++ parts_atoms others) in
@@ -312,11 +315,12 @@ sound_pattern text whole p is limits means =
     let nodes = nodes_of whole in
     let count = terms_count 0 whole.parts p.recs means.0 in
     let some : 0 < length nodes = some_nodes whole in
-    let top = graph_sound nodes 0 (length p.recs) whole.parts p.top some
+    let top = graph_sound nodes 0 (length p.recs) whole.parts (groups_of whole) p.top some
+    (groups_count 0 0 (whole.first ∷ whole.others))
     (nodes_below (length nodes) 0 (whole.first ∷ whole.others) (omega arith)) is.parts (omega arith) means.1 in
     let recs = parts_sound 0 (part_texts (top_atoms whole)) whole.parts p.recs is.parts means.0 in
     let a = terms_atoms 0 whole.parts p.recs means.0 in
-    let b = graph_count nodes (numbers_from 0 whole.parts) p.top means.1 in
+    let b = graph_count nodes (numbers_from 0 whole.parts) (groups_of whole) p.top means.1 in
     let c = length-append (top_atoms whole) (parts_atoms whole.parts) in
     let d = limits.atoms in
     let e = limits.parts in

@@ -9,7 +9,8 @@ use Rattle.smarts_words.specs.Words.{smarts_words}
 use Rattle.smarts_parse.specs.declared.draft.Sizes.{Sizes}
 use Rattle.smarts_parse.specs.declared.draft.Draft.{Draft}
 use Rattle.smarts_parse.specs.Whole.{Tree, Item, item_text, others_text, AreItems, Parts, none, part, part_texts, tree_atoms, AreParts, Whole, IsWholeOf, nodes_of, nodes_from, items_depth, all_atoms, parts_atoms, count_of, nesting_of, parts_depth, whole_depth}
-use Rattle.smarts_parse.specs.Draft.{Read, groups_of, join, Close, AreRead, IsDraftOf, IsTaken, Left, at_level}
+use Rattle.smarts_parse.specs.Meaning.{groups_from, groups_of}
+use Rattle.smarts_parse.specs.Draft.{Read, join, Close, AreRead, IsDraftOf, IsTaken, Left, at_level}
 use Rattle.smarts_parse.proofs.OneWhole.{same_tree, same_items, same_list}
 use Rattle.smarts_parse.proofs.Weights.{weight, weight-append, text_weight, items_weight}
 use Rattle.smarts_parse.proofs.Parts.{split, count-join, atoms-join}
@@ -29,26 +30,26 @@ top_level [] = 0
 top_level (x ∷ xs) = max x.level (top_level xs)
 
 -- what was read, and of the recursive parts that are left
-pub record IsSoFar (whole : Whole) (top : Read) (g : ℕ) (s : Sizes) (left : List Left) (p : Parts)
+pub record IsSoFar (whole : Whole) (top : Read) (g : List ℕ) (s : Sizes) (left : List Left) (p : Parts)
     (trees : List Tree) : Type 0 where
   pub top_is : Holds smarts_words (nodes_of whole) top
   pub closing : Close p trees whole.parts
-  pub groups : g ≡ groups_of (whole.first ∷ whole.others)
+  pub groups : g ≡ groups_of whole
   pub atoms : length (all_atoms whole) ≡ s.atoms + length (parts_atoms p)
   pub parts : count_of whole.parts ≡ s.parts + count_of p
   pub nesting : nesting_of whole.parts ≡ max s.nesting (nesting_at left p)
   pub depth : whole_depth whole ≡ max s.depth (parts_depth p)
 
 -- what is left, with what was read, is the whole text
-pub record Worklist (text : List ℕ) (top : Read) (g : ℕ) (s : Sizes) (parts : List Read) (left : List Left) : Type 0
-  where
-    pub trees : List Tree
-    pub read : AreRead trees (reverse parts)
-    pub found : (p : Parts) → AreParts (texts_of left) p
-        → (whole : Whole) × IsWholeOf text whole × IsSoFar whole top g s left p trees
-    pub only : (whole : Whole) → IsWholeOf text whole → (p : Parts) × AreParts (texts_of left) p
-    pub fits : s.atoms + s.parts + weight (texts_of left) ≤ length text
-    pub level : top_level left ≤ s.parts + 1
+pub record Worklist (text : List ℕ) (top : Read) (g : List ℕ) (s : Sizes) (parts : List Read) (left : List Left)
+    : Type 0 where
+  pub trees : List Tree
+  pub read : AreRead trees (reverse parts)
+  pub found : (p : Parts) → AreParts (texts_of left) p
+      → (whole : Whole) × IsWholeOf text whole × IsSoFar whole top g s left p trees
+  pub only : (whole : Whole) → IsWholeOf text whole → (p : Parts) × AreParts (texts_of left) p
+  pub fits : s.atoms + s.parts + weight (texts_of left) ≤ length text
+  pub level : top_level left ≤ s.parts + 1
 
 texts-level : (k : ℕ) (ts : List (List ℕ)) → texts_of (at_level k ts) ≡ ts
 texts-level k [] = refl
@@ -82,7 +83,7 @@ blank = record { atoms = 0; parts = 0; nesting = 0; depth = 0 }
 
 module _ (text : List ℕ) (first : Item) (others : List Item) (are : AreItems first others)
     (spelled : text ≡ item_text first ++ others_text others)
-    (g : ℕ) (groups : g ≡ groups_of (first ∷ others)) (s : Sizes) (top : Read)
+    (g : List ℕ) (groups : g ≡ groups_from 0 (first ∷ others)) (s : Sizes) (top : Read)
     (deep_is : top.depth ≡ items_depth (first ∷ others))
     (holds : Holds smarts_words (nodes_from 0 (first ∷ others)) top)
     (taken : IsTaken blank s (length top.atoms.items) top.depth 0) where
@@ -133,7 +134,7 @@ module _ (text : List ℕ) (first : Item) (others : List Item) (are : AreItems f
       }
 
 -- nothing is left
-pub all_read : (text : List ℕ) (d : Draft) → Worklist text d.top d.groups d.sizes d.parts.items []
+pub all_read : (text : List ℕ) (d : Draft) → Worklist text d.top d.groups.items d.sizes d.parts.items []
     → (whole : Whole) × IsWholeOf text whole × IsDraftOf whole d
 all_read text d w =
     let f = w.found none tt in
@@ -158,7 +159,7 @@ all_read text d w =
     )
 
 -- one of them is read
-module _ (text : List ℕ) (top : Read) (g : ℕ) (s t : Sizes) (parts : List Read) (init : List Left) (x : Left)
+module _ (text : List ℕ) (top : Read) (g : List ℕ) (s t : Sizes) (parts : List Read) (init : List Left) (x : Left)
     (tree : Tree) (reader : Read) (is : walk.IsTreeOf smarts_words x.text tree)
     (deep_is : reader.depth ≡ walk.depth_of tree.tail) (holds : Holds smarts_words (placed_nodes tree) reader)
     (taken : IsTaken s t (length reader.atoms.items) reader.depth x.level)
@@ -271,7 +272,7 @@ module _ (text : List ℕ) (top : Read) (g : ℕ) (s t : Sizes) (parts : List Re
         level = omega arith;
       }
 
-module _ (text : List ℕ) (top : Read) (g : ℕ) (s : Sizes) (parts : List Read) (init : List Left) (x : Left)
+module _ (text : List ℕ) (top : Read) (g : List ℕ) (s : Sizes) (parts : List Read) (init : List Left) (x : Left)
     (w : Worklist text top g s parts (init ++ x ∷ [])) where
   last_texts : texts_of (init ++ x ∷ []) ≡ texts_of init ++ x.text ∷ []
   last_texts = map-append (λ y. y.text) init (x ∷ [])

@@ -1,5 +1,5 @@
 -- What is read of a text and of its recursive parts: for private clauses only.
-use Rattle.std.specs.Prelude.{◌≡◌, ℕ, ◌+◌, max, Bool, ◌||◌, List, [], ◌∷◌, ◌++◌, length, map, reverse}
+use Rattle.std.specs.Prelude.{◌≡◌, ℕ, ◌+◌, max, Bool, true, false, ◌||◌, List, [], ◌∷◌, ◌++◌, length, map, reverse}
 use Rattle.std.specs.List.{list_any, AllByRecursion}
 use Rattle.line_walk.specs.Tree as walk
 use Rattle.line_walk.specs.Places.{placed_at, placed_nodes}
@@ -16,7 +16,8 @@ use Rattle.smarts_parse.specs.declared.draft.Part.{Part}
 use Rattle.smarts_parse.specs.declared.draft.Draft.{Draft}
 use Rattle.smarts_parse.specs.declared.close.Closed.{Closed}
 use Rattle.smarts_parse.specs.Whole.{Tree, Nodes, Item, plain, group, tree_of, item_text, others_text, AreItems, nodes_from, items_depth, Parts, none, part, part_texts, tree_atoms, AreParts, Whole, nodes_of, all_atoms, count_of, nesting_of, whole_depth}
-use Rattle.smarts_parse.specs.Reading.{is_group, DoPair, DoRingsPair}
+use Rattle.smarts_parse.specs.Meaning.{groups_from, groups_of}
+use Rattle.smarts_parse.specs.Reading.{DoPair, DoRingsPair}
 use Rattle.smarts_parse.specs.declared.fault.SmartsFault.{SmartsFault}
 use Rattle.smarts_parse.specs.declared.fault.SmartsFault.TheVariants.{Ring, NoMemory}
 
@@ -39,6 +40,11 @@ pub record IsItemOf (bytes : List ℕ) (item : Item) (rest : List ℕ) : Type 0 
   pub spelled : bytes ≡ item_text item ++ rest
   pub stops : StopsAfter item rest
 
+-- the item stands in parentheses
+abbrev pub is_group : Item → Bool
+is_group (plain tree) = false
+is_group (group tree) = true
+
 -- an item was read: the reader held the nodes of `front`, and holds those of the item too
 pub record IsItemRead (front : Nodes) (old new : Read) (bytes : List ℕ) (is_grouped : Bool) (rest : List ℕ) : Type 0
   where
@@ -48,21 +54,15 @@ pub record IsItemRead (front : Nodes) (old new : Read) (bytes : List ℕ) (is_gr
     pub depth : new.depth ≡ max old.depth (walk.depth_of (tree_of item).tail)
     pub grouped : is_grouped ≡ is_group item
 
--- how many items stand in parentheses
-abbrev pub groups_of : List Item → ℕ
-groups_of [] = 0
-groups_of (plain tree ∷ items) = groups_of items
-groups_of (group tree ∷ items) = groups_of items + 1
-
 -- the items of a text were read
-pub record AreItemsRead (text : List ℕ) (reader : Read) (groups : ℕ) : Type 0 where
+pub record AreItemsRead (text : List ℕ) (reader : Read) (groups : List ℕ) : Type 0 where
   pub first : Item
   pub others : List Item
   pub are : AreItems first others
   pub spelled : text ≡ item_text first ++ others_text others
   pub holds : Holds smarts_words (nodes_from 0 (first ∷ others)) reader
   pub depth : reader.depth ≡ items_depth (first ∷ others)
-  pub count : groups ≡ groups_of (first ∷ others)
+  pub grouped : groups ≡ groups_from 0 (first ∷ others)
 
 -- recursive parts and then others
 abbrev pub join : Parts → Parts → Parts
@@ -95,18 +95,20 @@ pub record IsDraftOf (whole : Whole) (d : Draft) : Type 0 where
   pub trees : List Tree
   pub closing : Close none trees whole.parts
   pub parts : AreRead trees (reverse d.parts.items)
-  pub groups : d.groups ≡ groups_of (whole.first ∷ whole.others)
+  pub groups : d.groups.items ≡ groups_of whole
   pub atoms : d.sizes.atoms ≡ length (all_atoms whole)
   pub count : d.sizes.parts ≡ count_of whole.parts
   pub nesting : d.sizes.nesting ≡ nesting_of whole.parts
   pub depth : d.sizes.depth ≡ whole_depth whole
 
--- the graphs of a text, those of its recursive parts in the order in which their parentheses close
+-- the graphs of a text, those of its recursive parts in the order in which their parentheses close, and the groups of
+-- its atoms
 pub record AreClosed (whole : Whole) (closed : Closed) : Type 0 where
   pub top : IsGraphBy smarts_words (nodes_of whole) closed.top
   pub trees : List Tree
   pub closing : Close none trees whole.parts
   pub parts : AreGraphs trees closed.parts.items
+  pub groups : closed.groups.items ≡ groups_of whole
 
 -- why a draft is not closed: some ring numbers do not pair, or memory ran out
 abbrev pub IsOpenBy : Whole → SmartsFault → Type 0

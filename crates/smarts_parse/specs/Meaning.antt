@@ -1,6 +1,6 @@
 -- What a pattern's text means: its graphs, with the numbers of recursive parts and the numbers that are not written.
 -- For callers.
-use Rattle.std.specs.Prelude.{◌≡◌, ℕ, zero, suc, ◌+◌, List, [], ◌∷◌, ◌++◌, length, map, drop, Option, None, Some, unwrap_or}
+use Rattle.std.specs.Prelude.{◌≡◌, ℕ, zero, suc, ◌+◌, List, [], ◌∷◌, ◌++◌, length, map, drop, replicate, Option, None, Some, unwrap_or}
 use Rattle.line_walk.specs.Places.{placed_nodes, entries_from, atoms_by}
 use Rattle.line_walk.specs.Partners.{IsGraph}
 use Rattle.line_walk.specs.declared.pairs.Link.{Link}
@@ -19,7 +19,7 @@ use Rattle.smarts_parse.specs.declared.pattern.AtomPrim.TheVariants as atoms
 use Rattle.smarts_parse.specs.declared.pattern.BondPrim.{BondPrim}
 use Rattle.smarts_parse.specs.declared.pattern.BondPrim.TheVariants as bonds
 use Rattle.smarts_parse.specs.Pattern.{Term, Prim, Not, And, Or, BondTerm, GraphTerm, PatternTerm}
-use Rattle.smarts_parse.specs.Whole.{Nodes, Parts, none, part, Whole, nodes_of, count_of}
+use Rattle.smarts_parse.specs.Whole.{Tree, Nodes, Item, plain, group, Parts, none, part, Whole, nodes_of, count_of}
 
 -- an expression in postfix order
 abbrev pub postfix : {P : Type 0} → Term P → List (Step P)
@@ -103,28 +103,43 @@ AreBondTerms [] [] = Unit {0}
 AreBondTerms (x ∷ xs) (y ∷ ys) = IsBondTerm x y × AreBondTerms xs ys
 AreBondTerms _ _ = ⊥
 
--- The graph of nodes, whose recursive parts have these numbers: their atoms, and the bonds of the chain and of ring
--- numbers
-pub record IsGraphTerm (nodes : Nodes) (numbers : List ℕ) (g : GraphTerm) : Type 0 where
+-- the number for each atom of a tree
+abbrev pub for_each : Tree → ℕ → List ℕ
+for_each tree n = replicate (length (placed_nodes tree)) n
+
+-- The group of each atom: the number of its parentheses, of which n stood before, counted from 1 in order, or 0
+-- outside of them (Daylight Theory Manual, section 4.5).
+abbrev pub groups_from : ℕ → List Item → List ℕ
+groups_from n [] = []
+groups_from n (plain tree ∷ items) = for_each tree 0 ++ groups_from n items
+groups_from n (group tree ∷ items) = for_each tree (n + 1) ++ groups_from (n + 1) items
+
+abbrev pub groups_of : Whole → List ℕ
+groups_of whole = groups_from 0 (whole.first ∷ whole.others)
+
+-- The graph of nodes, whose recursive parts have these numbers: their atoms, the bonds of the chain and of ring
+-- numbers, and these groups
+pub record IsGraphTerm (nodes : Nodes) (numbers groups : List ℕ) (g : GraphTerm) : Type 0 where
   pub atoms : map postfix g.atoms ≡ atoms_steps numbers (atoms_by smarts_words nodes)
   pub links : List (Link (List (Step BondWord)))
   pub pair : IsGraph smarts_words.agreed (entries_from smarts_words 0 nodes) links
   pub bonds : AreBondTerms links g.bonds
+  pub grouped : g.groups ≡ groups
 
 -- Recursive parts are numbered as their parentheses close, the first of them the n-th: inner ones before outer ones
 abbrev pub numbers_from : ℕ → Parts → List ℕ
 numbers_from n none = []
 numbers_from n (part tree inner others) = (n + count_of inner) ∷ numbers_from (n + count_of inner + 1) others
 
--- the graphs of recursive parts in that order
+-- the graphs of recursive parts in that order, which have no groups
 abbrev pub ArePartTerms : ℕ → Parts → List GraphTerm → Type 0
 ArePartTerms n none gs = gs ≡ []
 ArePartTerms n (part tree inner others) gs =
     (before : List GraphTerm) × (g : GraphTerm) × (after : List GraphTerm) × (gs ≡ before ++ g ∷ after)
-    × ArePartTerms n inner before × IsGraphTerm (placed_nodes tree) (numbers_from n inner) g
+    × ArePartTerms n inner before × IsGraphTerm (placed_nodes tree) (numbers_from n inner) (for_each tree 0) g
     × ArePartTerms (n + count_of inner + 1) others after
 
 -- the pattern of a whole text
 abbrev pub IsPatternOf : Whole → PatternTerm → Type 0
 IsPatternOf whole p = ArePartTerms 0 whole.parts p.recs × IsGraphTerm (nodes_of whole)
-    (numbers_from 0 whole.parts) p.top
+    (numbers_from 0 whole.parts) (groups_of whole) p.top

@@ -21,10 +21,11 @@ pub record BondTerm : Type 0 where
   pub b : ℕ
   pub expr : Term BondPrim
 
--- an expression for each atom, and bonds between them
+-- an expression for each atom, bonds between them, and the group of each atom: from 1 on, or 0 in none
 pub record GraphTerm : Type 0 where
   pub atoms : List (Term AtomPrim)
   pub bonds : List BondTerm
+  pub groups : List ℕ
 
 pub record PatternTerm : Type 0 where
   pub top : GraphTerm
@@ -40,7 +41,8 @@ abbrev pub bond_of : pat_bond.PatBond → BondTerm
 bond_of b = record { a = b.a; b = b.b; expr = term_of b.expr }
 
 abbrev pub graph_of : graph.Graph → GraphTerm
-graph_of g = record { atoms = map term_of g.atoms.items; bonds = map bond_of g.bonds.items }
+graph_of g =
+    record { atoms = map term_of g.atoms.items; bonds = map bond_of g.bonds.items; groups = g.groups.items }
 
 abbrev pub pattern_of : pattern.Pattern → PatternTerm
 pattern_of p = record { top = graph_of p.top; recs = map graph_of p.recs.items }

@@ -13,10 +13,10 @@ use Rattle.smarts_words.specs.declared.word.AtomWord.TheVariants as words
 use Rattle.smarts_words.specs.declared.word.BondWord.{BondWord}
 use Rattle.smarts_words.specs.Words.{smarts_words}
 use Rattle.smarts_parse.specs.declared.fault.SmartsFault.{SmartsFault}
-use Rattle.smarts_parse.specs.declared.fault.SmartsFault.TheVariants.{Reaction, Syntax, Stereo, RingSet, Ring, Limit, Grouping, NoMemory}
+use Rattle.smarts_parse.specs.declared.fault.SmartsFault.TheVariants.{Reaction, Syntax, Stereo, RingSet, Ring, Limit, NoMemory}
 use Rattle.smarts_parse.specs.declared.pattern.Pattern as pattern
 use Rattle.smarts_parse.specs.Pattern.{PatternTerm, pattern_of}
-use Rattle.smarts_parse.specs.Whole.{Nodes, Item, plain, group, Parts, none, part, Whole, IsWholeOf, nodes_of, all_atoms, count_of, nesting_of, whole_depth}
+use Rattle.smarts_parse.specs.Whole.{Nodes, Parts, none, part, Whole, IsWholeOf, nodes_of, all_atoms, count_of, nesting_of, whole_depth}
 use Rattle.smarts_parse.specs.Meaning.{IsPatternOf}
 
 -- the longest text that is looked at
@@ -62,14 +62,6 @@ pub record IsWithinLimits (whole : Whole) : Type 0 where
   pub nesting : nesting_of whole.parts ≤ 8
   pub depth : whole_depth whole ≤ 256
 
--- parentheses round an item
-abbrev pub is_group : Item → Bool
-is_group (plain tree) = false
-is_group (group tree) = true
-
-abbrev pub HasGroup : Whole → Type 0
-HasGroup whole = list_any is_group (whole.first ∷ whole.others) ≡ true
-
 -- the text is one that is looked at, and has this tree
 pub record IsRead (text : List ℕ) (whole : Whole) : Type 0 where
   pub short : length text ≤ most_bytes
@@ -90,7 +82,7 @@ abbrev pub NoLimit : List ℕ → Whole → Type 0
 NoLimit text whole = NoRing text whole × IsWithinLimits whole
 
 abbrev pub IsReading : List ℕ → Result PatternTerm SmartsFault → Type 0
-IsReading text (Ok pattern) = (whole : Whole) × NoLimit text whole × ¬ HasGroup whole × IsPatternOf whole pattern
+IsReading text (Ok pattern) = (whole : Whole) × NoLimit text whole × IsPatternOf whole pattern
 IsReading text (Err Reaction) = (length text ≤ most_bytes) × Contains text 62
 IsReading text (Err Syntax) = (length text ≤ most_bytes) × ¬ Contains text 62
     × ((whole : Whole) → IsWholeOf text whole → ⊥)
@@ -98,7 +90,6 @@ IsReading text (Err Stereo) = (whole : Whole) × IsRead text whole × HasStereo 
 IsReading text (Err RingSet) = (whole : Whole) × NoStereo text whole × HasRingSet whole
 IsReading text (Err Ring) = (whole : Whole) × NoRingSet text whole × ¬ DoRingsPair whole
 IsReading text (Err Limit) = (most_bytes < length text) ⊎ ((whole : Whole) × NoRing text whole × ¬ IsWithinLimits whole)
-IsReading text (Err Grouping) = (whole : Whole) × NoLimit text whole × HasGroup whole
 IsReading text (Err NoMemory) = Unit {0}
 
 -- the answer in terms of plain patterns

@@ -21,14 +21,15 @@ NamesBelow n (Not e) = NamesBelow n e
 NamesBelow n (And e f) = NamesBelow n e × NamesBelow n f
 NamesBelow n (Or e f) = NamesBelow n e × NamesBelow n f
 
--- a graph has an atom, its bonds' ends are distinct and in range, no two bonds join the same atoms, and it names parts
--- below n alone
+-- a graph has an atom, its bonds' ends are distinct and in range, no two bonds join the same atoms, it names parts
+-- below n alone, and each atom has a group or 0
 pub record IsSoundGraph (n : ℕ) (g : GraphTerm) : Type 0 where
   pub some : 0 < length g.atoms
   pub in_range : All (λ e. (e.0 < length g.atoms) × (e.1 < length g.atoms)) (pattern_ends g)
   pub distinct : All (λ e. e.0 ≢ e.1) (pattern_ends g)
   pub once : (b c x y : ℕ) → JoinsAt (pattern_ends g) b x y → JoinsAt (pattern_ends g) c x y → b ≡ c
   pub names : All (NamesBelow n) g.atoms
+  pub groups : length g.groups ≡ length g.atoms
 
 -- at most 256 atoms in all parts together and 64 recursive parts, each of which names parts of smaller number alone
 pub record IsSoundPattern (p : PatternTerm) : Type 0 where

@@ -18,17 +18,18 @@ use smarts_words::{PatternAtom, PatternBond};
 use std::alloc::{AllocError, Global};
 
 /// The pattern of what is written. Recursive parts are numbered in the order in which their parentheses close.
-pub fn pattern(alloc: Global, closed: &Closed<'_>) -> Result<Pattern, AllocError>
-    requires { (whole : Whole) × IsBuildable whole closed.now }
-    ensures { IfOk result (λ p. (whole : Whole) → IsBuildable whole closed.now
+pub fn pattern(alloc: Global, closed: Closed<'_>) -> Result<Pattern, AllocError>
+    requires { (whole : Whole) × IsBuildable whole closed }
+    ensures { IfOk result (λ p. (whole : Whole) → IsBuildable whole closed.entry
         → IsPatternOf whole (pattern_of p)) }
 {
+    let Closed { top, parts, groups } = closed;
     let mut recs = Vec::new(alloc);
     let mut unplaced = Vec::new(alloc);
-    for part in &closed.parts {
+    for part in &parts {
         put_graph(alloc, part, &mut unplaced, &mut recs)?;
     }
-    let top = graph(alloc, &closed.top, &mut unplaced)?;
+    let top = graph(alloc, &top, groups, &mut unplaced)?;
     Ok(Pattern { top, recs })
 }
 
@@ -45,25 +46,36 @@ fn put_graph(
         → IsBuilt all (part.now ∷ left) unplaced.old.items (map graph_of recs.old.items)
         → IsBuilt all left unplaced.new.items (map graph_of recs.new.items)) }
 {
-    let graph = graph(alloc, part, unplaced)?;
+    let groups = vec![in alloc; 0; part.atoms.len()]?;
+    let graph = graph(alloc, part, groups, unplaced)?;
     unplaced.push(recs.len() as u16)?;
     recs.push(graph)?;
     Ok(())
 }
 
-// The graph of what is written. Its recursive parts are those that were opened last, whose numbers it takes.
-fn graph(alloc: Global, written: &Written<'_>, unplaced: &mut Vec<u16>) -> Result<Graph, AllocError>
+// The graph of what is written, with these groups. Its recursive parts are those that were opened last, whose numbers
+// it takes.
+fn graph(
+    alloc: Global,
+    written: &Written<'_>,
+    groups: Vec<u16>,
+    unplaced: &mut Vec<u16>,
+) -> Result<Graph, AllocError>
     requires { (nodes : Nodes) × (front : List ℕ) × (numbers : List ℕ)
         × IsReady nodes front numbers written.now unplaced.old.items }
     ensures { IfOk result (λ g. (nodes : Nodes) (front numbers : List ℕ)
         → IsReady nodes front numbers written.now unplaced.old.items
-        → IsGraphTerm nodes numbers (graph_of g) × (unplaced.new.items ≡ front)) }
+        → IsGraphTerm nodes numbers groups.items (graph_of g) × (unplaced.new.items ≡ front)) }
 {
     let first = unplaced.len() - part_count(&written.atoms);
     let atoms = atoms(alloc, &written.atoms, after(unplaced, first))?;
     unplaced.truncate(first);
     let bonds = bonds(alloc, &written.links)?;
-    Ok(Graph { atoms, bonds })
+    Ok(Graph {
+        atoms,
+        bonds,
+        groups,
+    })
 }
 
 // How many recursive parts atoms have.

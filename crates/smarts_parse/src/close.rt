@@ -20,6 +20,8 @@ pub type Written<'a> = Graph<'a, PatternAtom, PatternBond>;
 pub struct Closed<'a> {
     pub top: Written<'a>,
     pub parts: Vec<Written<'a>>,
+    /// For each atom of the text the number of its zero-level parentheses, from 1 on, or 0 outside of them.
+    pub groups: Vec<u16>,
 }
 
 /// Pairs the ring numbers of a draft. `Ring` is the answer where those of one part do not pair.
@@ -32,12 +34,12 @@ pub fn close<'a>(alloc: Global, draft: Draft<'a>) -> Result<Closed<'a>, SmartsFa
     let Draft {
         top,
         parts,
-        groups: _,
+        groups,
         sizes: _,
     } = draft;
     let top = finish::<Smarts>(top)?;
     let parts = close_parts(alloc, parts)?;
-    Ok(Closed { top, parts })
+    Ok(Closed { top, parts, groups })
 }
 
 // Pairs the ring numbers of recursive parts, the last one first.

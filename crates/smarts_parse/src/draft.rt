@@ -3,7 +3,7 @@
 ghost use Rattle.std.specs.Prelude.{◌≡◌, ◌⊎◌, ℕ, ◌+◌, ◌^◌, ◌<◌, ◌≤◌, ◌++◌, ◌↔◌, max, length, map, List, IsTrue, IfOk, IfErr, OnOk, IsErrOf};
 ghost use Rattle.std.specs.List.{list_any};
 ghost use Rattle.smarts_parse.specs.Whole.{Whole, IsWholeOf, part_texts};
-ghost use Rattle.smarts_parse.specs.Reading.{is_stereo, is_ring_set};
+ghost use Rattle.smarts_parse.specs.Reading.{most_bytes, is_stereo, is_ring_set};
 ghost use Rattle.smarts_parse.specs.Draft.{IsDraftOf, any_atom, IsTaken, left_of, at_level};
 ghost use Rattle.smarts_parse.specs.declared.fault.SmartsFault.TheVariants.{Syntax, NoMemory};
 
@@ -33,8 +33,8 @@ pub struct Draft<'a> {
     /// The recursive parts: each before the parts in it, and a right one before those to the left of it. So their
     /// parentheses close in the opposite order.
     pub parts: Vec<Read<'a>>,
-    /// How many items stand in parentheses.
-    pub groups: usize,
+    /// For each atom of its items the number of its zero-level parentheses, from 1 on, or 0 outside of them.
+    pub groups: Vec<u16>,
     pub sizes: Sizes,
 }
 
@@ -83,6 +83,7 @@ struct Part {
 
 /// Reads a text and all its recursive parts, each once. `Syntax` is the answer where one of them has no tree.
 pub fn read_draft<'a>(alloc: Global, arena: &'a Bump, text: &[u8]) -> Result<Draft<'a>, SmartsFault>
+    requires { length text.now ≤ most_bytes }
     ensures found { IfOk result (λ d. (whole : Whole) × IsWholeOf text.now whole
         × IsDraftOf whole d) }
     ensures only { IsErrOf result SmartsFault.Syntax → (whole : Whole)

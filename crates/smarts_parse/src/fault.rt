@@ -30,9 +30,6 @@ pub enum SmartsFault {
     /// branches open at once.
     #[error("above a limit")]
     Limit,
-    /// Parentheses round components: which molecule of several an atom is in is not asked.
-    #[error("parentheses round a component")]
-    Grouping,
     /// Memory ran out.
     #[error("out of memory")]
     NoMemory,

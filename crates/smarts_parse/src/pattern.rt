@@ -77,11 +77,14 @@ pub struct PatBond {
     pub expr: Expr<BondPrim>,
 }
 
-/// A pattern without its recursive parts, or one of these: an expression for each atom, and bonds between them.
+/// A pattern without its recursive parts, or one of these: an expression for each atom, bonds between them, and groups.
 #[derive(Debug, Drop)]
 pub struct Graph {
     pub atoms: Vec<Expr<AtomPrim>>,
     pub bonds: Vec<PatBond>,
+    /// For each atom the number of the zero-level parentheses that it stands in, from 1 on, or 0 where it stands in
+    /// none. Atoms of one group lie in one component of a molecule, those of different groups in different ones.
+    pub groups: Vec<u16>,
 }
 
 /// A SMARTS pattern. `Rec(k)` names `recs[k]`.

@@ -4,7 +4,7 @@ ghost use Rattle.std.specs.Prelude.{◌≡◌, ◌≢◌, ◌⊎◌, ◌↔◌, 
 ghost use Rattle.smarts_parse.specs.Pattern.{pattern_of, PatternTerm};
 ghost use Rattle.smarts_parse.specs.Sound.{IsSoundPattern};
 ghost use Rattle.smarts_parse.specs.Whole.{Whole, IsWholeOf};
-ghost use Rattle.smarts_parse.specs.Reading.{is_stereo, HasGroup, NoLimit, IsReading, answer_of};
+ghost use Rattle.smarts_parse.specs.Reading.{is_stereo, NoLimit, IsReading, answer_of};
 ghost use Rattle.smarts_parse.specs.Draft.{any_atom};
 ghost use Rattle.std.specs.List.{list_any};
 ghost use Rattle.smarts_parse.specs.declared.fault.SmartsFault.{SmartsFault};
@@ -26,7 +26,7 @@ const MOST_BYTES: usize = 4096;
 /// Of several faults the first of this order is answered: more than 4,096 bytes is `Limit`; a `>` is `Reaction`; a text
 /// that is not in the grammar is `Syntax`; a configuration is `Stereo`; `R` with a number above 0 is `RingSet`; ring
 /// numbers that do not pair are `Ring`; more than 256 atoms, 64 recursive parts, 8 of these within one another, or 256
-/// branches open at once is `Limit`; parentheses round an item are `Grouping`. `NoMemory` may come at any text.
+/// branches open at once is `Limit`. `NoMemory` may come at any text.
 pub fn parse(alloc: Global, text: &[u8]) -> Result<Pattern, SmartsFault>
     ensures reading { IsReading text.now (answer_of result) }
     ensures sound { IfOk result (λ p. IsSoundPattern (pattern_of p)) }
@@ -46,15 +46,11 @@ pub fn parse(alloc: Global, text: &[u8]) -> Result<Pattern, SmartsFault>
         return Err(SmartsFault::RingSet);
     }
     let sizes = draft.sizes;
-    let groups = draft.groups;
     let closed = close(alloc, draft)?;
     if !sizes.are_within_limits() {
         return Err(SmartsFault::Limit);
     }
-    if groups > 0 {
-        return Err(SmartsFault::Grouping);
-    }
-    Ok(pattern(alloc, &closed)?)
+    Ok(pattern(alloc, closed)?)
 }
 
 /// A law: a text has at most one tree.
@@ -68,11 +64,11 @@ pub fn one_answer()
         → r ≢ Err NoMemory → s ≢ Err NoMemory → r ≡ s }
 {}
 
-/// A law: a text that has a tree, no configuration and no count of a ring set, whose ring numbers pair, that is within
-/// the limits and has no parentheses round an item, is refused only for want of memory.
+/// A law: a text that has a tree, no configuration and no count of a ring set, whose ring numbers pair, and that is
+/// within the limits, is refused only for want of memory.
 pub fn is_complete()
     ensures { (text : List ℕ) (whole : Whole) (r : Result PatternTerm SmartsFault)
-        → NoLimit text whole → ¬ HasGroup whole → IsReading text r
+        → NoLimit text whole → IsReading text r
         → (r ≡ Err NoMemory) ⊎ ((p : PatternTerm) × (r ≡ Ok p)) }
 {}
 

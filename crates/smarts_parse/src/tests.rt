@@ -15,6 +15,12 @@ fn the_first_fault_is_answered(rt: HostRuntime) -> Result<(), Fail> {
         ("[$((C))]", SmartsFault::Syntax),
         ("(C)(C)", SmartsFault::Syntax),
         ("C.(C", SmartsFault::Syntax),
+        ("()", SmartsFault::Syntax),
+        ("C.().C", SmartsFault::Syntax),
+        ("((C))", SmartsFault::Syntax),
+        ("((C).(C))", SmartsFault::Syntax),
+        ("(C).", SmartsFault::Syntax),
+        ("(C)N", SmartsFault::Syntax),
         ("F/C=C/F", SmartsFault::Stereo),
         ("[$([C@H])]", SmartsFault::Stereo),
         ("[R2@]", SmartsFault::Stereo),
@@ -22,8 +28,6 @@ fn the_first_fault_is_answered(rt: HostRuntime) -> Result<(), Fail> {
         ("C1CC", SmartsFault::Ring),
         ("[$(C-1CC=1)]", SmartsFault::Ring),
         ("(C1).(C)", SmartsFault::Ring),
-        ("(C1).C1", SmartsFault::Grouping),
-        ("C.(C.C).N", SmartsFault::Grouping),
     ];
     for (text, fault) in texts {
         match parse(rt.alloc(), text.as_bytes()) {
@@ -56,6 +60,48 @@ fn patterns_are_read(rt: HostRuntime) -> Result<(), Fail> {
             }
             Err(_) => assert!(rt; false, "at {text}"),
         }
+    }
+    Ok(())
+}
+
+// The group of each atom. Ring numbers pair across groups.
+#[test]
+fn groups_are_numbered(rt: HostRuntime) -> Result<(), Fail> {
+    let texts: [(&str, &[u16]); 8] = [
+        ("C.N", &[0, 0]),
+        ("(C)", &[1]),
+        ("(C).(C)", &[1, 2]),
+        ("(C.C)", &[1, 1]),
+        ("(C).C", &[1, 0]),
+        (
+            "C.(CO.N(C.F)).(P).OC.S.(C)",
+            &[0, 1, 1, 1, 1, 1, 2, 0, 0, 0, 3],
+        ),
+        ("(C1.O).N1", &[1, 1, 0]),
+        ("([$(C.C)]O).([$([$(C)])])", &[1, 1, 2]),
+    ];
+    for (text, groups) in texts {
+        match parse(rt.alloc(), text.as_bytes()) {
+            Ok(pattern) => {
+                assert_eq!(rt; pattern.top.groups.as_slice(), groups, "at {text}");
+                for part in &pattern.recs {
+                    assert_eq!(rt; part.groups.len(), part.atoms.len(), "at {text}");
+                    assert!(rt; part.groups.iter().all(|group| *group == 0), "at {text}");
+                }
+            }
+            Err(_) => assert!(rt; false, "at {text}"),
+        }
+    }
+    let mut text = String::new(rt.alloc());
+    text.push_str("(C)")?;
+    for _ in 1..256 {
+        text.push_str(".(C)")?;
+    }
+    match parse(rt.alloc(), text.as_bytes()) {
+        Ok(pattern) => {
+            assert!(rt; pattern.top.groups.iter().copied().eq(1..=256));
+        }
+        Err(_) => assert!(rt; false, "256 groups"),
     }
     Ok(())
 }

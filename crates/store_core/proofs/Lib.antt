@@ -12,6 +12,7 @@ mod Indexed
 mod Limits
 mod Listed
 mod OneCall
+mod Only
 mod Owners
 mod PruneRow
 mod Rows

@@ -1,5 +1,6 @@
 pub mod Calls
 pub mod Kept
+pub mod Only
 pub mod Prepared
 pub mod Records
 pub mod Replies

@@ -19,3 +19,6 @@ pub use record_versions::Steps;
 pub use service::Service;
 pub use store::{MOST_COMMITS, Store};
 pub use words::{CallFault, Change, CommitFault, Look, Stats};
+
+#[cfg(test)]
+mod tests;

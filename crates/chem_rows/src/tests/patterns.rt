@@ -177,6 +177,130 @@ fn patterns_and_hits(rt: HostRuntime) -> Result<(), Fail> {
     )
 }
 
+// Groups: in one component, in different ones, and beside atoms of no group.
+#[test]
+fn groups_lie_in_components(rt: HostRuntime) -> Result<(), Fail> {
+    let alloc = rt.alloc();
+    check(
+        &rt,
+        alloc,
+        MEM,
+        "\
+        > register 1 [Na+].[Cl-]\n\
+        < ok 1\n\
+        > register 2 CCO\n\
+        < ok 2\n\
+        > register 3 CO.CN\n\
+        < ok 3\n\
+        > search (C).(C)\n\
+        < hit 3\n\
+        < end at 3 tried 2 hits 1\n\
+        > search (C.C)\n\
+        < hit 2\n\
+        < end at 3 tried 2 hits 1\n\
+        > search (C).C\n\
+        < hit 2\n\
+        < hit 3\n\
+        < end at 3 tried 2 hits 2\n\
+        > search C.C\n\
+        < hit 2\n\
+        < hit 3\n\
+        < end at 3 tried 2 hits 2\n\
+        > search ([Na+]).([Cl-])\n\
+        < hit 1\n\
+        < end at 3 tried 1 hits 1\n\
+        > search ([Na+].[Cl-])\n\
+        < end at 3 tried 1 hits 0\n\
+        > search ([#6,#7,#8,#11,#17]).([#6,#7,#8,#11,#17])\n\
+        < hit 1\n\
+        < hit 3\n\
+        < end at 3 tried 3 hits 2\n\
+        > search (C1).C1\n\
+        < hit 2\n\
+        < end at 3 tried 1 hits 1\n\
+        > search (C1).(C1)\n\
+        < end at 3 tried 1 hits 0\n\
+        > search ([$(C.O)]).(N)\n\
+        < hit 3\n\
+        < end at 3 tried 1 hits 1\n\
+        ",
+    )?;
+    // salts and mixtures
+    check(
+        &rt,
+        alloc,
+        MEM,
+        "\
+        > register 1 CC(=O)[O-].[Na+]\n\
+        < ok 1\n\
+        > register 2 CC(=O)[O-].CC[NH3+]\n\
+        < ok 2\n\
+        > register 3 [NH3+]CC(=O)[O-]\n\
+        < ok 3\n\
+        > register 4 OC(=O)CN.OC(=O)CN\n\
+        < ok 4\n\
+        > search [#7].C(=O)[#8]\n\
+        < hit 2\n\
+        < hit 3\n\
+        < hit 4\n\
+        < end at 4 tried 3 hits 3\n\
+        > search ([#7].C(=O)[#8])\n\
+        < hit 3\n\
+        < hit 4\n\
+        < end at 4 tried 3 hits 2\n\
+        > search ([#7]).(C(=O)[#8])\n\
+        < hit 2\n\
+        < hit 4\n\
+        < end at 4 tried 3 hits 2\n\
+        > search ([#7].C(=O)[#8]).([#7].C(=O)[#8])\n\
+        < hit 4\n\
+        < end at 4 tried 3 hits 1\n\
+        > search ([#7].C(=O)[#8]).([#7].C(=O)[#8]).(*)\n\
+        < end at 4 tried 3 hits 0\n\
+        ",
+    )
+}
+
+// Many components, and many groups: no order of them is tried after another.
+#[test]
+fn many_groups_are_searched_for(rt: HostRuntime) -> Result<(), Fail> {
+    let rows = [
+        ("([C])", 20, "C", 30, 1),
+        ("([C])", 21, "C", 20, 0),
+        ("(C)", 21, "CC", 20, 0),
+        ("(C)", 64, "C", 300, 1),
+        ("(CC)", 21, "CCC", 20, 0),
+        ("(C.C)", 20, "CCO", 21, 1),
+        ("(C.C.C)", 8, "CC(C)C", 7, 0),
+    ];
+    for (group, groups, part, parts, hits) in rows {
+        let mut script = String::new(rt.alloc());
+        script.push_str("> register 1 ")?;
+        push_dotted(&mut script, part, parts)?;
+        script.push_str("\n< ok 1\n> search ")?;
+        push_dotted(&mut script, group, groups)?;
+        script.push_str("\n")?;
+        if hits > 0 {
+            script.push_str("< hit 1\n")?;
+        }
+        script.push_str("< end at 1 tried 1 hits ")?;
+        script.push_str(if hits > 0 { "1\n" } else { "0\n" })?;
+        check(&rt, rt.alloc(), MEM, &script)?;
+    }
+    Ok(())
+}
+
+// Appends a text so many times, with dots between.
+fn push_dotted(out: &mut String, text: &str, count: usize) -> Result<(), Fail> {
+    for place in 0..count {
+        if place > 0 {
+            out.push_str(".")?;
+        }
+        out.push_str(text)?;
+    }
+    Ok(())
+}
+
 #[test]
 fn refused_patterns(rt: HostRuntime) -> Result<(), Fail> {
     check(
@@ -199,7 +323,13 @@ fn refused_patterns(rt: HostRuntime) -> Result<(), Fail> {
         > search C1CC\n\
         < refused smarts ring\n\
         > search (C).(C)\n\
-        < refused smarts grouping\n\
+        < end at 1 tried 0 hits 0\n\
+        > search ((C))\n\
+        < refused smarts syntax\n\
+        > search (C)(C)\n\
+        < refused smarts syntax\n\
+        > search [$((C))]\n\
+        < refused smarts syntax\n\
         > search ()\n\
         < refused smarts syntax\n\
         > search &\n\

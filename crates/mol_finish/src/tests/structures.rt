@@ -134,6 +134,52 @@ fn examples(rt: HostRuntime) -> Result<(), Fail> {
     Ok(())
 }
 
+// Whether these are the components of the molecule's atoms.
+fn components_are(mol: &Mol, components: &[u16]) -> bool {
+    let mut right = mol.atoms().len() == components.len();
+    for (place, _) in mol.atoms().iter().enumerate() {
+        right = right && components.get(place) == Some(&mol.component(place as u16));
+    }
+    right
+}
+
+// In whatever order atoms and bonds are written.
+#[test]
+fn components_are_named_by_their_least_atom(rt: HostRuntime) -> Result<(), Fail> {
+    let texts: [(&str, &[u16]); 7] = [
+        ("C", &[0]),
+        ("CCO", &[0, 0, 0]),
+        ("[Na+].[Cl-]", &[0, 1]),
+        ("CO.CN.C", &[0, 0, 2, 2, 4]),
+        ("C1.O.C1", &[0, 1, 0]),
+        ("C1.C2.C3.C12.C3", &[0, 0, 2, 0, 2]),
+        ("C(.O)(C)(.N)C1CC1", &[0, 1, 0, 3, 0, 0, 0]),
+    ];
+    for (text, components) in texts {
+        let mol = structure(rt.alloc(), Format::Smiles, text.as_bytes())?;
+        assert!(rt;
+            components_are(&mol, components),
+            "the components of {text}"
+        );
+    }
+    Ok(())
+}
+
+#[test]
+fn a_structure_has_three_hundred_components(rt: HostRuntime) -> Result<(), Fail> {
+    let mut text = String::new(rt.alloc());
+    let mut components = Vec::new(rt.alloc());
+    text.push_str("C")?;
+    components.push(0)?;
+    for atom in 1..300 {
+        text.push_str(".C")?;
+        components.push(atom)?;
+    }
+    let mol = structure(rt.alloc(), Format::Smiles, text.as_bytes())?;
+    assert!(rt; components_are(&mol, &components));
+    Ok(())
+}
+
 #[test]
 fn refusals(rt: HostRuntime) -> Result<(), Fail> {
     let kekule = structure(rt.alloc(), Format::Smiles, b"C1=CC=CC=C1")?;

@@ -4,6 +4,7 @@ use Rattle.std.proofs.lemmas.List.{length-map}
 use Rattle.smarts_mean.specs.Table.{HoldsIn}
 use Rattle.smarts_parse.specs.Embedding.{BondEmbeds}
 use Rattle.smarts_parse.specs.Pattern.{graph_of, term_of}
+use Rattle.matcher.proofs.Groups.{keeps_next, next_keeps}
 use Rattle.matcher.proofs.Partials.{IsPartial-last, IsPartial-push}
 use Rattle.matcher.proofs.Plans.{all_of_step, step_of_all}
 use Rattle.matcher.proofs.Places.{all_apart}
@@ -26,6 +27,17 @@ returns-then-not-is_new c = (
       absurd (cc),
 )
 
+pub returns-then-not-keeps_groups : goal.returns-then-not-keeps_groups
+returns-then-not-keeps_groups c = (
+  λ t. absurd (cc),
+  λ p.
+      let task = c.args.task.now in
+      let last = IsPartial-last (HoldsIn task.table.now) (graph_of task.graph.now) task.mol.now c.args.front.now
+      c.args.atom p in
+      let keeps = c.keeps_groups.ensures.1 (next_keeps task c.args.front.now c.args.atom last.3) in
+      absurd (cc),
+)
+
 pub returns : goal.returns
 returns c =
     let task = c.args.task.now in
@@ -39,7 +51,9 @@ returns c =
       λ t. IsPartial-push parts g m front c.args.atom c.requires.partial left c.requires.in_range
           (c.is_new.ensures.0 c.if-not-is_new.false) c.requires.holds
           (all_of_step bonds g task.steps.now (length front) (BondEmbeds m (front ++ c.args.atom ∷ [])) refl
-          c.requires.ready (rw rest at (c.bonds_embed.ensures.0 t)) c.requires.first),
+          c.requires.ready (rw rest at (c.bonds_embed.ensures.0 t)) c.requires.first)
+          (keeps_next task front c.args.atom c.requires.partial
+          (c.keeps_groups.ensures.0 c.if-not-keeps_groups.false)),
       λ p.
           let last = IsPartial-last parts g m front c.args.atom p in
           c.bonds_embed.ensures.1 (rw rest (step_of_all bonds g (λ bond. max bond.a bond.b ≡ length front

@@ -5,7 +5,7 @@ use Rattle.std.proofs.lemmas.List.{length-map, set-get_or, set-set}
 use Rattle.smarts_parse.specs.Pattern.{term_of}
 use Rattle.matcher.specs.Hunt.{IsFree, stop_at}
 use Rattle.matcher.proofs.Standing.{cannot_stand}
-use Rattle.matcher.proofs.Hunts.{not_near, nowhere_near}
+use Rattle.matcher.proofs.Hunts.{not_near, nowhere_near, taken_more}
 use Rattle.matcher.proofs.Joins.{joins_in_range, neighbour_joined}
 use Rattle.matcher.proofs.hunt.+hunt.Goals as goal
 
@@ -16,6 +16,14 @@ continues_at-returns-clause-kept t c = λ _.
     let same = c.may_continue.ensures.kept c.if-may_continue.false in
     ap (λ xs. set xs place (get_or old place 0)) same ∙ set-set old place c.args.atom (get_or old place 0)
     ∙ set-get_or old place 0
+
+pub continues_at-returns-clause-none : goal.continues_at-returns-clause-none
+continues_at-returns-clause-none t c = λ _ whole h e.
+    let at = c.requires.free.place in
+    let place = c.from-place.result in
+    c.may_continue.ensures.none c.if-may_continue.false whole
+    (taken_more c.args.task.now c.args.image.now whole place c.args.atom
+    (omega (arith, at, c.requires.room, c.from-place.ensures)) h (ap (λ p. get_or whole p 0) c.from-place.ensures ∙ e))
 
 pub continues_anywhere-loop-atom-preserved-then-not-has :
     goal.continues_anywhere-loop-atom-preserved-then-not-has

@@ -1,13 +1,14 @@
 -- Each atom is tried in turn.
 use Rattle.std.proofs.Common.{◌≡◌, ◌++◌, ◌∷◌, ◌∙◌, ◌<◌, ◌≤◌, [], ap, arith, below_more, get_or, length, map, refl, rules, slice_index_or, subst, sym, take}
 use Rattle.std.proofs.lemmas.Bool.{iff_false}
-use Rattle.std.proofs.lemmas.List.{length-map, length-take-le}
+use Rattle.std.proofs.lemmas.List.{length-map, length-take-le, take_more_set}
 use Rattle.smarts_mean.specs.Table.{HoldsIn}
 use Rattle.smarts_parse.specs.Embedding.{BondEmbeds}
 use Rattle.smarts_parse.specs.Pattern.{BondTerm, bond_of, graph_of, term_of}
 use Rattle.matcher.specs.Candidates.{IsTrueAt}
 use Rattle.matcher.specs.Partial.{IsLeastFrom, IsPartial}
 use Rattle.matcher.specs.Plan.{step_at}
+use Rattle.matcher.specs.Task.{Completes}
 use Rattle.matcher.proofs.Standing.{cannot_begin}
 use Rattle.matcher.proofs.Joins.{joins_in_range, neighbour_joined}
 use Rattle.matcher.proofs.Leasts.{found_next, least_whole}
@@ -138,6 +139,13 @@ extend_at-returns-then-not-fits-clause-none t c = λ _ w.
     (graph_of c.args.task.now.graph.now) c.args.task.now.mol.now
     (take c.args.placed c.args.image.now ++ c.args.atom ∷ []) w) in
     absurd (cc)
+
+pub extend_at-returns-then-refuse_group-clause-none : goal.extend_at-returns-then-refuse_group-clause-none
+extend_at-returns-then-refuse_group-clause-none t c = λ _ w.
+    let room : c.args.placed < length c.args.image.now = let r = c.requires.room in let f = c.requires.few
+    in omega arith in
+    c.refuse_group.ensures c.if-refuse_group.true
+    (subst (Completes c.args.task.now) (sym (take_more_set c.args.image.now c.args.placed c.args.atom room)) w)
 
 pub extend_near-bounds-image-from : goal.extend_near-bounds-image-from
 extend_near-bounds-image-from t c =

@@ -1,4 +1,4 @@
-use Rattle.std.proofs.Common.{◌≡◌, ◌-◌, ◌<◌, List, false, length, map, drop, All, sym, ◌∙◌, ap, subst, arith}
+use Rattle.std.proofs.Common.{◌≡◌, ◌-◌, ◌<◌, List, false, length, map, drop, All, refl, sym, ◌∙◌, ap, subst, arith}
 use Rattle.std.specs.List.{list_any, AllByRecursion}
 use Rattle.line_walk.specs.declared.pairs.Link.{Link}
 use Rattle.smarts_words.specs.Bracket.{AtomValue}
@@ -81,9 +81,9 @@ returns c = λ nodes front numbers r.
     ∙ numbers_are nodes front numbers written numbers_open r first n in
     let F : List (Link (List (Step BondWord))) → Type 0 = λ v.
     AreBondTerms v (map bond_of c.in_ok-bonds.bonds.items) in (
-      term_is nodes front numbers written numbers_open r _
+      term_is nodes front numbers written numbers_open r _ _
           (c.in_ok-atoms.ensures ∙ ap (λ v. atoms_steps v c.deref-2.result.now) own
           ∙ ap (λ v. atoms_steps numbers v) c.deref-2.ensures.value)
-          (subst F c.deref-4.ensures.value c.in_ok-bonds.ensures),
+          (subst F c.deref-4.ensures.value c.in_ok-bonds.ensures) refl,
       c.truncate.ensures.items ∙ front_is nodes front numbers written numbers_open r first n,
     )

@@ -3,7 +3,7 @@ use Rattle.std.proofs.lemmas.List.{drop_all}
 use Rattle.smarts_parse.specs.declared.pattern.Graph.{Graph}
 use Rattle.smarts_parse.specs.Pattern.{graph_of}
 use Rattle.smarts_parse.specs.Whole.{nodes_of}
-use Rattle.smarts_parse.specs.Meaning.{numbers_from}
+use Rattle.smarts_parse.specs.Meaning.{numbers_from, IsGraphTerm}
 use Rattle.smarts_parse.specs.Draft.{WalkGraph}
 use Rattle.smarts_parse.specs.Build.{IsBuilt}
 use Rattle.smarts_parse.proofs.Building.{none_built, drop_at, top_ready, pattern_built}
@@ -11,16 +11,16 @@ use Rattle.smarts_parse.proofs.build.pattern.Goals as goal
 
 pub loop-part-init : goal.loop-part-init
 loop-part-init c = λ whole b.
-    let F : List ℕ → Type 0 = λ v. IsBuilt whole.parts c.args.closed.now.parts.items v
+    let F : List ℕ → Type 0 = λ v. IsBuilt whole.parts c.args.closed.parts.items v
     (map graph_of c.new-recs.result.items) in
-    let G : List Graph → Type 0 = λ v. IsBuilt whole.parts c.args.closed.now.parts.items [] (map graph_of v) in
+    let G : List Graph → Type 0 = λ v. IsBuilt whole.parts c.args.closed.parts.items [] (map graph_of v) in
     subst F (sym c.new-unplaced.ensures.items) (subst G (sym c.new-recs.ensures.items)
-    (none_built whole c.args.closed.now b))
+    (none_built whole c.args.closed b))
 
 pub put_graph-requires : goal.put_graph-requires
 put_graph-requires c =
     let whole = c.requires.0 in
-    let items = c.args.closed.now.parts.items in
+    let items = c.args.closed.parts.items in
     let i = c.loop-part.part-index in
     let x = c.part-item.result in
     let value = c.deref-part-items.ensures.value in
@@ -35,7 +35,7 @@ put_graph-requires c =
 
 pub loop-part-preserved : goal.loop-part-preserved
 loop-part-preserved c = λ whole b.
-    let items = c.args.closed.now.parts.items in
+    let items = c.args.closed.parts.items in
     let i = c.loop-part.part-index in
     let x = c.part-item.result in
     let value = c.deref-part-items.ensures.value in
@@ -49,7 +49,7 @@ loop-part-preserved c = λ whole b.
 pub graph-requires : goal.graph-requires
 graph-requires c =
     let whole = c.requires.0 in
-    let items = c.args.closed.now.parts.items in
+    let items = c.args.closed.parts.items in
     let F : List WalkGraph → Type 0 = λ v.
     IsBuilt whole.parts v c.loop-part.unplaced.items (map graph_of c.loop-part.recs.items) in
     let k = ap length c.deref-part-items.ensures.value in
@@ -58,16 +58,18 @@ graph-requires c =
       nodes_of whole,
       [],
       numbers_from 0 whole.parts,
-      top_ready whole c.args.closed.now c.loop-part.unplaced.items (map graph_of c.loop-part.recs.items) c.requires.1 done,
+      top_ready whole c.args.closed c.loop-part.unplaced.items (map graph_of c.loop-part.recs.items) c.requires.1 done,
     )
 
 pub returns : goal.returns
 returns c = λ whole b.
-    let items = c.args.closed.now.parts.items in
+    let items = c.args.closed.parts.items in
     let recs = map graph_of c.loop-part.recs.items in
     let F : List WalkGraph → Type 0 = λ v. IsBuilt whole.parts v c.loop-part.unplaced.items recs in
     let k = ap length c.deref-part-items.ensures.value in
     let done = subst F (drop_all c.loop-part.part-index items (omega arith)) (c.loop-part.invariant whole b) in
-    let ready = top_ready whole c.args.closed.now c.loop-part.unplaced.items recs b done in
-    pattern_built whole c.args.closed.now c.loop-part.unplaced.items recs b done (graph_of c.in_ok-top.top)
-    (c.in_ok-top.ensures (nodes_of whole) [] (numbers_from 0 whole.parts) ready).0
+    let ready = top_ready whole c.args.closed c.loop-part.unplaced.items recs b done in
+    let G : List ℕ → Type 0 = λ v.
+    IsGraphTerm (nodes_of whole) (numbers_from 0 whole.parts) v (graph_of c.in_ok-top.top) in
+    pattern_built whole c.args.closed c.loop-part.unplaced.items recs b done (graph_of c.in_ok-top.top)
+    (subst G b.are.groups (c.in_ok-top.ensures (nodes_of whole) [] (numbers_from 0 whole.parts) ready).0)

@@ -30,4 +30,5 @@ returns-clause-found c = λ whole d. record {
   trees = d.trees;
   closing = d.closing;
   parts = c.in_ok-parts.ensures.found d.trees d.parts;
+  groups = d.groups;
 }

@@ -3,7 +3,7 @@ use Rattle.std.proofs.lemmas.Result.{err_from_is_err_and}
 use Rattle.smarts_parse.specs.declared.fault.SmartsFault.{SmartsFault}
 use Rattle.smarts_parse.specs.declared.pattern.Pattern.{Pattern}
 use Rattle.smarts_parse.specs.Reading.{IsReading, answer_of}
-use Rattle.smarts_parse.proofs.Readings.{looked, not_by, has_stereo, no_stereo, has_ring_set, open_reading, no_ring, no_limit, has_group, no_group, within_only, buildable, sound}
+use Rattle.smarts_parse.proofs.Readings.{looked, not_by, has_stereo, no_stereo, has_ring_set, open_reading, no_ring, no_limit, within_only, buildable, sound}
 use Rattle.smarts_parse.proofs.read.parse.Goals as goal
 
 pub returns-then-has_stereo-clause-reading : goal.returns-then-has_stereo-clause-reading
@@ -52,20 +52,6 @@ returns-then-not-are_within_limits-clause-reading c =
           c.are_within_limits.ensures (within_only text d l h),
     )
 
-pub returns-then-groups-gt0-clause-reading : goal.returns-then-groups-gt0-clause-reading
-returns-then-groups-gt0-clause-reading c =
-    let text = c.args.text.now in
-    let d = c.in_ok-draft.draft in
-    let l = looked text d (omega arith) (not_by _ _ c.if-has_byte.false c.has_byte.ensures) c.in_ok-draft.ensures.found
-    in
-    let marks = not_by _ _ c.if-has_stereo.false c.has_stereo.ensures in
-    let counts = sym c.any_ring_set.ensures ∙ c.if-any_ring_set.false in
-    let within = c.are_within_limits.ensures.0 c.if-not-are_within_limits.false in (
-      l.whole,
-      no_limit text d l c.in_ok-closed.closed c.in_ok-closed.ensures.found marks counts within,
-      has_group text d l c.if-groups-gt0.true,
-    )
-
 pub pattern-requires : goal.pattern-requires
 pattern-requires c =
     let text = c.args.text.now in
@@ -89,7 +75,6 @@ returns-clause-reading c =
     let ready = buildable text d l c.in_ok-closed.closed c.in_ok-closed.ensures.found marks counts within in (
       l.whole,
       no_limit text d l c.in_ok-closed.closed c.in_ok-closed.ensures.found marks counts within,
-      no_group text d l c.if-groups-gt0.false,
       c.in_ok-pattern.ensures l.whole ready,
     )
 

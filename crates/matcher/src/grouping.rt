@@ -1,0 +1,170 @@
+//! Fewer candidates of the first place of each group: only atoms from which the whole group can be placed in their
+//! component. So what is left to find is a different component for each group.
+ghost use Rattle.std.specs.Prelude.{◌≡◌, ◌<◌, ◌≤◌, [], ℕ, false, length, vec_len, IsTrue};
+ghost use Rattle.matcher.specs.Candidates.{AreCandidates};
+ghost use Rattle.matcher.specs.Group.{IsNowhere};
+ghost use Rattle.matcher.specs.Task.{Completes, IsReadyTask};
+
+use crate::candidates::Candidates;
+use crate::fit::Task;
+use crate::group::{begins_group, lacks_room};
+use crate::hunt::may_continue;
+use crate::lay::{NO_BOND, NO_PLACEMENT, Placement};
+use crate::plan::EarlierBonds;
+use crate::planned::MOST_PLACES;
+use smarts_parse::Pattern;
+use std::alloc::{AllocError, Global};
+
+/// As many pieces of a group, which no bond joins, are searched for together: with more of them a search may take long.
+const MOST_PIECES: usize = 4;
+
+/// Memory for searches for one group.
+#[derive(Debug, Drop)]
+pub struct Grouping {
+    // a stop for each place in turn
+    stops: Vec<Placement>,
+    image: Vec<u16>,
+    // whether the pattern has two groups at least
+    grouped: bool,
+    ghost stops_room: { vec_len stops ≡ 256 },
+    ghost image_room: { vec_len image ≡ 256 },
+}
+
+/// Whether a pattern has two groups at least.
+pub fn has_groups(pattern: &Pattern) -> bool {
+    pattern.top.groups.iter().any(|group| *group > 1)
+}
+
+impl Grouping {
+    /// Takes the memory.
+    pub fn reserve(alloc: Global) -> Result<Grouping, AllocError> {
+        Ok(Grouping {
+            stops: vec![in alloc; NO_PLACEMENT; MOST_PLACES]?,
+            image: vec![in alloc; 0; MOST_PLACES]?,
+            grouped: false,
+        })
+    }
+
+    /// Begins anew, for another pattern.
+    pub fn begin(&mut self, pattern: &Pattern) {
+        self.grouped = has_groups(pattern);
+    }
+
+    /// Takes away candidates of the first places of groups, if the pattern has two groups at least. Whether it is found
+    /// that the graph has no embedding.
+    pub fn refuse(&mut self, task: &Task, candidates: &mut Candidates) -> bool
+        requires ready { IsReadyTask task.now }
+        requires candidates { AreCandidates task.now candidates.old.words.items }
+        ensures refused { IsTrue result → ¬ Completes task.now [] }
+        ensures candidates { AreCandidates task.now candidates.new.words.items }
+    {
+        if !self.grouped {
+            return false;
+        }
+        lay_in_turn(task.steps, &mut self.stops);
+        for place in 0..task.graph.atoms.len() {
+            if !begins_group(task, place) {
+                continue;
+            }
+            if self.narrow(task, candidates, place) {
+                return true;
+            }
+        }
+        false
+    }
+
+    // Takes away candidates of the first place of a group. Whether it has none left.
+    fn narrow(&mut self, task: &Task, candidates: &mut Candidates, place: usize) -> bool
+        requires ready { IsReadyTask task.now }
+        requires place { place < length task.now.graph.now.atoms.items }
+        requires candidates { AreCandidates task.now candidates.old.words.items }
+        ensures refused { IsTrue result → ¬ Completes task.now [] }
+        ensures candidates { AreCandidates task.now candidates.new.words.items }
+    {
+        let end = end_of_group(task, place);
+        let mut none = true;
+        for atom in 0..task.mol.atoms().len() as u16 {
+            if !candidates.has(place, atom) {
+                continue;
+            }
+            if self.may_begin(task, candidates, place, end, atom) {
+                none = false;
+                continue;
+            }
+            candidates.remove(place, atom);
+        }
+        none
+    }
+
+    // Whether the group that begins at a place, and as far as is searched ends before another, may be placed with its
+    // first place at an atom.
+    fn may_begin(
+        &mut self,
+        task: &Task,
+        candidates: &Candidates,
+        place: usize,
+        end: usize,
+        atom: u16,
+    ) -> bool
+        requires ready { IsReadyTask task.now }
+        requires place { place < length task.now.graph.now.atoms.items }
+        requires atom { atom < length task.now.mol.now.atoms }
+        requires candidates { AreCandidates task.now candidates.now.words.items }
+        ensures { result ≡ false → IsNowhere task.now place atom }
+    {
+        if end <= place + 1 || end > MOST_PLACES {
+            return true;
+        }
+        if lacks_room(task, place, atom) {
+            return false;
+        }
+        let no_atom = task.mol.atoms().len() as u16;
+        for other in 0..task.graph.atoms.len() {
+            self.image[other] = no_atom;
+        }
+        self.image[place] = atom;
+        may_continue(
+            task,
+            candidates,
+            &self.stops[place + 1..end],
+            &mut self.image,
+            0,
+        )
+    }
+}
+
+// Lays each place in turn, after an earlier one to which a bond joins it.
+fn lay_in_turn(steps: &[EarlierBonds], stops: &mut [Placement]) {
+    for (place, stop) in stops.iter_mut().enumerate() {
+        let bond = match steps.get(place) {
+            Some(step) if step.from < step.to => u16::try_from(step.from).unwrap_or(NO_BOND),
+            _ => NO_BOND,
+        };
+        *stop = Placement {
+            place: u16::try_from(place).unwrap_or(0),
+            bond,
+        };
+    }
+}
+
+// Where a group ends that begins at the place, or its first few pieces.
+fn end_of_group(task: &Task, place: usize) -> usize
+    requires ready { IsReadyTask task.now }
+    requires place { place < length task.now.graph.now.atoms.items }
+{
+    let group = task.graph.groups[place];
+    let mut pieces: usize = 0;
+    for next in place..task.graph.atoms.len() {
+        if task.graph.groups[next] != group {
+            return next;
+        }
+        let step = task.steps[next];
+        if step.from >= step.to {
+            pieces = pieces.saturating_add(1);
+        }
+        if pieces > MOST_PIECES {
+            return next;
+        }
+    }
+    task.graph.atoms.len()
+}

@@ -1,0 +1,213 @@
+//! Worked stores in memory: a fetch reads no entry that lacks what it wants, and a pin reads its version.
+ghost use Rattle.std.specs.Prelude.{◌≡◌, ◌+◌, ◌<◌, ◌≤◌, ◌⊎◌, Bool, IfOk, IsTrue, List, Some, ℕ};
+ghost use Rattle.std.specs.Arc.{arc_value};
+ghost use Rattle.store_machine.specs.History.{IsId};
+ghost use Rattle.store_core.specs.Kept.{HasPrint};
+ghost use Rattle.store_core.specs.Only.{HasOnly, KeepsPins};
+ghost use Rattle.store_core.specs.Records.{IsRecord};
+ghost use Rattle.store_core.specs.Stored.{HoldsPin};
+
+use crate::laws::laws;
+use crate::{Change, Page, Record, Service, Steps, Store};
+use chem_core::Print;
+use mol_finish::{Format, one_structure};
+use snap_registry::Pin;
+use std::alloc::Global;
+use std::marker::Brand;
+use std::sync::Arc;
+use std::sync::ledger::{Blank, Ledger};
+use std::test::Fail;
+
+// A record of a SMILES.
+fn record(alloc: Global, id: u32, text: &[u8]) -> Result<Arc<Record>, Fail>
+    requires { IsId id }
+{
+    Ok(Record::make(alloc, id, Format::Smiles, text)?)
+}
+
+// Commits a change. Each pin is held on.
+fn commit(store: &mut Store, change: Change) -> Result<(), Fail>
+    ensures { IfOk result (λ _. KeepsPins store.old store.new) }
+{
+    store.commit(change)?;
+    Ok(())
+}
+
+// A pin of the head.
+fn pin(store: &mut Store) -> Result<Pin, Fail>
+    ensures held { IfOk result (λ p. HoldsPin store.new p.slot p.version) }
+    ensures only { IfOk result (λ _. (want : List Bool) (id : ℕ)
+        → HasOnly store.old want id → HasOnly store.new want id) }
+{
+    match store.pin()? {
+        Some(pin) => Ok(pin),
+        None => Err(Fail::new("no pin")),
+    }
+}
+
+// An empty store, in which nothing is to be found.
+fn empty(alloc: Global, want: &Print, only: u32) -> Store
+    ensures { HasOnly result want.now only }
+{
+    Store::fresh(alloc, 400)
+}
+
+// Whether a record is of this identifier, or lacks what is wanted.
+fn may_come(entry: &Arc<Record>, want: &Print, only: u32) -> bool
+    ensures sound { IsRecord (arc_value entry.now) }
+    ensures lacks { IsTrue result
+        → ((arc_value entry.now).id ≡ only) ⊎ ¬ HasPrint want.now (Some entry.now) }
+{
+    entry.id() == only || !entry.print().holds(want)
+}
+
+// Registers such a record.
+fn register(store: &mut Store, entry: Arc<Record>, want: &Print, only: u32) -> Result<(), Fail>
+    requires { HasOnly store.old want.now only }
+    ensures { IfOk result (λ _. HasOnly store.new want.now only) }
+{
+    laws();
+    one_structure();
+    if !may_come(&entry, want, only) {
+        return Err(Fail::new("it has what is wanted"));
+    }
+    store.commit(Change::Register(entry))?;
+    Ok(())
+}
+
+// Registers methane under 1 to 300.
+fn register_methanes(alloc: Global, store: &mut Store, want: &Print, only: u32) -> Result<(), Fail>
+    requires { HasOnly store.old want.now only }
+    ensures { IfOk result (λ _. HasOnly store.new want.now only) }
+{
+    for id in 1..301 {
+        register(store, record(alloc, id, b"C")?, want, only)?;
+    }
+    Ok(())
+}
+
+// A store of 300 methanes, and one record that differs from them.
+fn store_with(alloc: Global, one: Arc<Record>, want: &Print, only: u32) -> Result<Store, Fail>
+    ensures { IfOk result (λ store. HasOnly store want.now only) }
+{
+    let mut store = empty(alloc, want, only);
+    register_methanes(alloc, &mut store, want, only)?;
+    register(&mut store, one, want, only)?;
+    Ok(store)
+}
+
+// The page of a pin from 1 on, and whether no other follows. At most one entry is read.
+fn fetch_one<L: Ledger>(
+    store: &mut Store,
+    pin: &Pin,
+    want: &Print,
+    only: u32,
+    page: &mut Page,
+    steps: &mut Steps<L>,
+) -> Result<bool, Fail>
+    requires held { HoldsPin store.old pin.now.slot pin.now.version }
+    requires room { 256 ≤ page.old.room }
+    requires only { HasOnly store.old want.now only }
+    ensures { IfOk result (λ _. steps.new ≤ steps.old + 1) }
+{
+    Ok(store.fetch(pin, want, 1, 256, page, steps)?)
+}
+
+// Whether what has all that is wanted is one record, of this identifier.
+fn is_found_alone(alloc: Global, store: &mut Store, want: &Print, only: u32) -> Result<bool, Fail>
+    requires { HasOnly store.old want.now only }
+{
+    is_found_alone_by::<Brand>(alloc, store, want, only, Blank::new(1))
+}
+
+fn is_found_alone_by<L: Ledger>(
+    alloc: Global,
+    store: &mut Store,
+    want: &Print,
+    only: u32,
+    blank: Blank,
+) -> Result<bool, Fail>
+    requires name { blank.name ≡ L.name }
+    requires parts { blank.parts ≡ L.parts }
+    requires some { 0 < blank.parts }
+    requires only { HasOnly store.old want.now only }
+{
+    let mut page = Page::reserve(alloc, 256)?;
+    let mut steps = Steps::<L>::open(blank);
+    let pin = pin(store)?;
+    let last = fetch_one(store, &pin, want, only, &mut page, &mut steps)?;
+    Ok(last && page.records().len() == 1 && page.records()[0].id() == only)
+}
+
+#[test]
+fn one_of_many_has_what_is_wanted(rt: HostRuntime) -> Result<(), Fail> {
+    let alloc = rt.alloc();
+    let ammonia = record(alloc, 301, b"N")?;
+    let want = ammonia.print();
+    let mut store = store_with(alloc, Arc::try_clone(&ammonia)?, want, 301)?;
+    assert!(rt; is_found_alone(alloc, &mut store, want, 301)?);
+    Ok(())
+}
+
+// Registers methane under 1 and ammonia under 2.
+fn register_two(alloc: Global, store: &mut Store) -> Result<(), Fail> {
+    commit(store, Change::Register(record(alloc, 1, b"C")?))?;
+    commit(store, Change::Register(record(alloc, 2, b"N")?))
+}
+
+// Revises 1 twice, withdraws 2 and prunes. Answers how many entries were dropped.
+fn change_and_prune(alloc: Global, store: &mut Store) -> Result<u32, Fail>
+    ensures { IfOk result (λ _. KeepsPins store.old store.new) }
+{
+    commit(store, Change::Revise(record(alloc, 1, b"CC")?))?;
+    commit(store, Change::Revise(record(alloc, 1, b"CCC")?))?;
+    commit(store, Change::Withdraw(2))?;
+    Ok(store.prune()?)
+}
+
+// Whether the pin has methane and ammonia, and no others.
+fn has_both(alloc: Global, store: &mut Store, pin: &Pin) -> Result<bool, Fail>
+    requires { HoldsPin store.old pin.now.slot pin.now.version }
+    ensures { IfOk result (λ _. KeepsPins store.old store.new) }
+{
+    has_both_by::<Brand>(alloc, store, pin, Blank::new(1))
+}
+
+fn has_both_by<L: Ledger>(
+    alloc: Global,
+    store: &mut Store,
+    pin: &Pin,
+    blank: Blank,
+) -> Result<bool, Fail>
+    requires name { blank.name ≡ L.name }
+    requires parts { blank.parts ≡ L.parts }
+    requires some { 0 < blank.parts }
+    requires held { HoldsPin store.old pin.now.slot pin.now.version }
+    ensures { IfOk result (λ _. KeepsPins store.old store.new) }
+{
+    let mut page = Page::reserve(alloc, 256)?;
+    let mut steps = Steps::<L>::open(blank);
+    let last = store.fetch(pin, &Print::empty(), 1, 256, &mut page, &mut steps)?;
+    Ok(last && are_both(&page))
+}
+
+fn are_both(page: &Page) -> bool {
+    match page.records() {
+        [first, second] => first.text() == b"C".as_slice() && second.text() == b"N".as_slice(),
+        _ => false,
+    }
+}
+
+#[test]
+fn a_pin_reads_its_version_and_a_prune_drops_the_rest(rt: HostRuntime) -> Result<(), Fail> {
+    let alloc = rt.alloc();
+    let mut store = Store::fresh(alloc, 5);
+    register_two(alloc, &mut store)?;
+    let pin = pin(&mut store)?;
+    // the first revision is read by nobody
+    assert_eq!(rt; change_and_prune(alloc, &mut store)?, 1);
+    assert!(rt; has_both(alloc, &mut store, &pin)?);
+    store.unpin(pin)?;
+    assert_eq!(rt; store.prune()?, 2);
+    Ok(())
+}
