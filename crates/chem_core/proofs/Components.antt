@@ -1,12 +1,12 @@
 -- Walks along bonds, and the components of a molecule of which one bond more is known.
-use Rattle.std.proofs.Common.{ℕ, ◌+◌, ◌<◌, ◌≤◌, ◌↔◌, ◌≡◌, ◌⊎◌, inl, inr, Some, List, [], ◌∷◌, ◌++◌, length, map, take, get_or, max, min, slice_index, refl, sym, ap, subst, ◌∙◌, arith}
+use Rattle.std.proofs.Common.{ℕ, ◌+◌, ◌<◌, ◌≤◌, ◌↔◌, ◌≡◌, inl, inr, Some, List, [], ◌∷◌, ◌++◌, length, take, get_or, max, min, slice_index, refl, sym, ap, subst, ◌∙◌, arith}
 use Rattle.std.specs.List.{All, slice_get}
 use Rattle.std.proofs.lemmas.Bool.{cases_eq}
 use Rattle.std.proofs.lemmas.List.{get_or-map, length-map, take_more}
 use Rattle.std.proofs.lemmas.Option.{get_or_from_slice_get, slice_get_within}
 use Rattle.chem_core.specs.declared.mol.Bond.{Bond}
 use Rattle.chem_core.specs.Molecule.{bond_ends}
-use Rattle.chem_core.specs.Graph.{Ends, IsSimpleGraph, JoinsAt, Joined}
+use Rattle.chem_core.specs.Graph.{Ends, IsSimpleGraph, Joined}
 use Rattle.chem_core.specs.Component.{IsWalk, Reaches, IsComponent, AreComponents}
 use Rattle.chem_core.proofs.Neighbours.{JoinsAt-push, JoinsAt-push_cases, JoinsAt-push_last, bond_in_range, slice_get-take}
 

@@ -7,8 +7,6 @@ mod memory;
 mod sinks;
 mod sources;
 mod standard;
-#[cfg(test)]
-mod tests;
 
 pub use lines::{LONGEST_LINE, Line, LineFault, Lines};
 pub use memory::{MemSink, MemSource};

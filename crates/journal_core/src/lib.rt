@@ -10,8 +10,6 @@ mod laws;
 mod open;
 mod record;
 mod synced;
-#[cfg(test)]
-mod tests;
 mod window;
 
 pub use faults::{AppendFault, CreateFault, LoadFault};

@@ -7,7 +7,7 @@ use Rattle.std.proofs.lemmas.List.{get_or_default, get_or_push, get_or-map, get_
 use Rattle.std.proofs.lemmas.List.Sums.{count_by_more_no, count_by_more_yes}
 use Rattle.chem_core.specs.Graph.{Ends}
 use Rattle.chem_core.specs.Component.{IsComponent, Reaches}
-use Rattle.chem_core.specs.Molecule.{Molecule, ends_of}
+use Rattle.chem_core.specs.Molecule.{ends_of}
 use Rattle.chem_core.proofs.Components.{component_same}
 use Rattle.smarts_parse.specs.Pattern.{graph_of, term_of}
 use Rattle.matcher.specs.declared.fit.Task.{Task}

@@ -19,6 +19,3 @@ mod symbol;
 pub use fault::MolfileFault;
 pub use laws::readings_are_sound;
 pub use read::{one_reading, read_molfile, read_molfile_in};
-
-#[cfg(test)]
-mod tests;

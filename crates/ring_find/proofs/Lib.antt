@@ -6,6 +6,5 @@ pub mod Visits
 pub mod Labels
 pub mod Leasts
 pub mod Ringed
-pub mod Drawn
 pub mod Strips
 pub mod Beside

@@ -75,6 +75,3 @@ fn nonzero(alloc: Global, lengths: &[u16]) -> Result<Vec<bool>, AllocError>
 {
     lengths.iter().map(|length| *length != 0).collect(alloc)
 }
-
-#[cfg(test)]
-mod tests;

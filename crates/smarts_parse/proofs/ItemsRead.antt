@@ -2,7 +2,7 @@
 use Rattle.std.proofs.Common.{◌≡◌, ◌≢◌, ℕ, ◌+◌, ◌-◌, ◌≤◌, get_or, max, inl, inr, Bool, true, false, cond, List, [], ◌∷◌, ◌++◌, length, replicate, refl, sym, ◌∙◌, ap, subst, arith, append_assoc}
 use Rattle.std.proofs.lemmas.List.{append-nil, length-append, length-map, length-replicate, nil_from_length}
 use Rattle.line_walk.specs.Tree as walk
-use Rattle.line_walk.specs.Places.{placed_at, placed_nodes, atoms_by}
+use Rattle.line_walk.specs.Places.{placed_at, placed_nodes}
 use Rattle.line_walk.specs.Walk.{Holds, IsBetween}
 use Rattle.line_walk.proofs.Follow.{begins_clash}
 use Rattle.line_walk.proofs.Unique.{tails}

@@ -1,6 +1,6 @@
 -- The answer to a text: the pattern that it means, or the first of its faults in this order. Want of memory may come at
 -- any text. For callers.
-use Rattle.std.specs.Prelude.{◌≡◌, ◌⊎◌, ℕ, zero, suc, ◌<◌, ◌≤◌, Bool, true, false, List, ◌∷◌, length, Contains, Some, Result, Ok, Err}
+use Rattle.std.specs.Prelude.{◌≡◌, ◌⊎◌, ℕ, zero, suc, ◌<◌, ◌≤◌, Bool, true, false, List, length, Contains, Some, Result, Ok, Err}
 use Rattle.std.specs.List.{list_any}
 use Rattle.line_walk.specs.Places.{placed_nodes, entries_from}
 use Rattle.line_walk.specs.Partners.{IsGraph}

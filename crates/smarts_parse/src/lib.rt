@@ -21,6 +21,3 @@ pub use fault::SmartsFault;
 pub use law::parts_hold;
 pub use pattern::{AtomPrim, BondPrim, Expr, Graph, PatBond, Pattern};
 pub use read::{is_complete, one_answer, one_tree, parse};
-
-#[cfg(test)]
-mod tests;

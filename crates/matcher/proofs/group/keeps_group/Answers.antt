@@ -1,4 +1,4 @@
-use Rattle.std.proofs.Common.{◌≡◌, ◌≢◌, ◌∙◌, ◌<◌, ℕ, ap, arith, below_more, length, slice_index, subst, sym}
+use Rattle.std.proofs.Common.{◌≡◌, ◌∙◌, ◌<◌, ap, arith, below_more, length, slice_index, sym}
 use Rattle.chem_core.specs.Molecule.{ends_of}
 use Rattle.matcher.specs.Group.{group_at}
 use Rattle.matcher.proofs.Groups.{group_read, named_walks, walks_named}

@@ -1,4 +1,4 @@
-use Rattle.std.proofs.Common.{◌≡◌, ◌∙◌, subst, sym}
+use Rattle.std.proofs.Common.{◌∙◌, subst, sym}
 use Rattle.matcher.specs.Group.{KeepsGroup}
 use Rattle.matcher.proofs.Groups.{group_read, groups_room}
 use Rattle.matcher.proofs.group.keeps_groups.Goals as goal

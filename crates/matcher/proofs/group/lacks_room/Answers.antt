@@ -1,4 +1,4 @@
-use Rattle.std.proofs.Common.{◌≡◌, ◌∙◌, ap, count_by}
+use Rattle.std.proofs.Common.{◌∙◌, ap, count_by}
 use Rattle.std.proofs.lemmas.List.{length-map}
 use Rattle.smarts_parse.specs.Pattern.{term_of}
 use Rattle.matcher.specs.Group.{is_of_group}

@@ -1,4 +1,4 @@
-use Rattle.std.proofs.Common.{◌≡◌, ◌<◌, ◌++◌, ◌∙◌, ap, arith, below_more, false, get_or, length, refl, slice_index, sym}
+use Rattle.std.proofs.Common.{◌<◌, ◌++◌, ◌∙◌, ap, arith, below_more, false, get_or, length, refl, slice_index, sym}
 use Rattle.std.proofs.lemmas.List.{length-map}
 use Rattle.chem_core.specs.Molecule.{ends_of}
 use Rattle.chem_core.proofs.Components.{reaches_self}

@@ -1,4 +1,4 @@
-use Rattle.std.proofs.Common.{◌≡◌, ◌∙◌, ◌<◌, arith, below_more, length, set, slice_index, subst, sym}
+use Rattle.std.proofs.Common.{◌≡◌, ◌∙◌, ◌<◌, arith, below_more, length, subst, sym}
 use Rattle.std.proofs.lemmas.List.{get_or-set_other, get_or-set_same, length-map}
 use Rattle.smarts_parse.specs.Pattern.{term_of}
 use Rattle.matcher.specs.Hunt.{Continues}

@@ -1,6 +1,6 @@
 use Rattle.std.proofs.Common.{◌<◌, length, arith}
-use Rattle.ring_find.proofs.Drawn.{drawn_more}
-use Rattle.ring_find.proofs.tests.add.Goals as goal
+use Rattle.reading_rows.proofs.Drawn.{drawn_more}
+use Rattle.reading_rows.proofs.tests.rings.add.Goals as goal
 
 pub returns : goal.returns
 returns c =

@@ -2,8 +2,8 @@
 
 ghost use Rattle.std.specs.Prelude.{◌≡◌, true, false, IfOk};
 
-use crate::{AppendFault, CreateFault, Journal, LoadFault};
 use disk_edge::{Disk, FileDisk, MemDisk};
+use journal_core::{AppendFault, CreateFault, Journal, LoadFault};
 use std::alloc::Global;
 use std::fs;
 use std::test::Fail;

@@ -1,7 +1,6 @@
 //! Texts and what they are read as.
 
-use crate::fault::SmartsFault;
-use crate::read::parse;
+use smarts_parse::{SmartsFault, parse};
 use std::alloc::Global;
 use std::test::Fail;
 

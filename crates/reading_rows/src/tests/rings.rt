@@ -5,8 +5,8 @@ ghost use Rattle.chem_core.specs.Graph.{JoinsAt, IsSimpleGraph};
 ghost use Rattle.chem_core.specs.Sound.{IsSound, ends_among};
 ghost use Rattle.chem_core.specs.declared.limits.TheConstants.{MOST_ATOMS};
 
-use crate::rings;
 use chem_core::{Fill, MOST_ATOMS, MOST_NEIGHBOURS, Sketch, SketchAtom, SketchBond, SketchKind};
+use ring_find::rings;
 use std::alloc::{AllocError, Global};
 
 const CARBON: SketchAtom = SketchAtom {

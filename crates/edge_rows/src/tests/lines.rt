@@ -1,5 +1,5 @@
 //! Worked cases of lines, sources and sinks.
-use crate::{
+use io_edge::{
     Line, LineFault, Lines, MemSink, MemSource, PutFault, Sink, Source, StdSink, StdSource, Take,
 };
 use std::alloc::{AllocError, Global};

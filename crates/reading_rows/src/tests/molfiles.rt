@@ -1,7 +1,7 @@
 //! Texts with their answers, by hand.
 
-use crate::{MolfileFault, read_molfile};
 use chem_core::{Fill, SketchAtom, SketchBond, SketchKind};
+use molfile_read::{MolfileFault, read_molfile};
 use std::alloc::{AllocError, Global};
 use std::test::Fail;
 
