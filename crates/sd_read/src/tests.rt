@@ -84,8 +84,11 @@ any
 ";
 
 const CUT: TextFault = TextFault::Molfile(MolfileFault::Cut);
+
 const HEADER: TextFault = TextFault::Molfile(MolfileFault::Header);
+
 const LIMIT: TextFault = TextFault::Molfile(MolfileFault::Limit);
+
 const STRAY: TextFault = TextFault::Molfile(MolfileFault::Columns(6));
 
 /// The two parts of a text, and the atoms of its structure or why it has none.
@@ -108,8 +111,11 @@ const TEXTS: &[Made] = &[
 ];
 
 /// How long a text is made by blank lines at its end, and what comes of it.
-const LONG: &[(usize, Result<usize, TextFault>)] =
-    &[(262_144, Ok(1)), (262_145, Err(LIMIT)), (262_144, Ok(1))];
+const LONG: &[(usize, Result<usize, TextFault>)] = &[
+    (262_144, Ok(1)),
+    (262_145, Err(LIMIT)),
+    (262_144, Ok(1)),
+];
 
 #[test]
 fn a_line_of_four_dollars_ends_a_record(rt: HostRuntime) {
