@@ -1,0 +1,4 @@
+mod Found
+mod Numbered
+mod TextLines
+mod Within

@@ -1,0 +1,15 @@
+//! SD files (CTfile formats, SDfile): the records of their texts, and the data items behind a record's molfile.
+//!
+//! An item is found in the text that a record keeps, without memory. Records are made of many texts at the same time,
+//! each as `Record::make` makes it.
+#![tactic(auto)]
+
+mod items;
+mod lines;
+mod records;
+
+pub use items::{is_record_end, item};
+pub use records::read_records;
+
+#[cfg(test)]
+mod tests;
