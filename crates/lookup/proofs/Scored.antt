@@ -21,12 +21,7 @@ first-le true b = omega arith
 first-le false true = omega arith
 first-le false false = omega arith
 
-second-le : (a b : Bool) → cond b 1 0 ≤ cond (a || b) 1 0
-second-le true true = omega arith
-second-le true false = omega arith
-second-le false b = omega arith
-
--- the bits of each are among those of either
+-- the bits of the first are among those of either
 pub set-le-all : (xs ys : List Bool) → length xs ≡ length ys → set_bits xs ≤ all_bits xs ys
 set-le-all [] [] e = omega arith
 set-le-all [] (y ∷ ys) e = absurd (omega (arith, e))
@@ -35,15 +30,6 @@ set-le-all (x ∷ xs) (y ∷ ys) e =
     let mine = sum_by-cons (λ (b : Bool). cond b 1 0) x xs in
     let all = sum_by-cons (λ (p : Bool × Bool). cond (p.0 || p.1) 1 0) (x, y) (zip xs ys) in
     omega (arith, mine, all, set-le-all xs ys (omega (arith, e)), first-le x y)
-
-pub own-le-all : (xs ys : List Bool) → length xs ≡ length ys → set_bits ys ≤ all_bits xs ys
-own-le-all [] [] e = omega arith
-own-le-all [] (y ∷ ys) e = absurd (omega (arith, e))
-own-le-all (x ∷ xs) [] e = absurd (omega (arith, e))
-own-le-all (x ∷ xs) (y ∷ ys) e =
-    let mine = sum_by-cons (λ (b : Bool). cond b 1 0) y ys in
-    let all = sum_by-cons (λ (p : Bool × Bool). cond (p.0 || p.1) 1 0) (x, y) (zip xs ys) in
-    omega (arith, mine, all, own-le-all xs ys (omega (arith, e)), second-le x y)
 
 -- a print with a bit
 pub some-bits : (xs : List Bool) (bit : ℕ) → HasBit xs bit → 1 ≤ set_bits xs

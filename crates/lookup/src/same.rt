@@ -1,11 +1,12 @@
 //! The identifiers that are the same structure as a given one.
-ghost use Rattle.std.specs.Prelude.{◌≤◌, ◌↔◌, [], IfOk, IsTrue};
+ghost use Rattle.std.specs.Prelude.{◌≡◌, ◌≤◌, ◌↔◌, [], IfOk, IsTrue, length};
 ghost use Rattle.store_core.specs.Calls.{NotRaised};
 ghost use Rattle.lookup.specs.Fetches.{Looks};
 ghost use Rattle.lookup.specs.Lists.{IsSameList};
 ghost use Rattle.lookup.specs.Walks.{IsOneKey};
 
 use crate::pages::{Visit, see_head};
+use chem_core::Mol;
 use exact_find::{Key, SameScratch, key_of, same, same_have_equal_keys};
 use mol_finish::one_structure;
 use par_search::SearchFault;
@@ -57,7 +58,6 @@ struct Sames {
 }
 
 impl Sames {
-    ghost use Rattle.std.specs.Prelude.{◌≡◌};
     ghost use Rattle.chem_core.specs.Molecule.{IsMolecule};
     ghost use Rattle.exact_find.specs.Key.{IsKey};
     ghost use Rattle.exact_find.specs.Same.{IsSame};
@@ -75,7 +75,7 @@ impl Sames {
         })
     }
 
-    // Whether another record is the same as the given one. Keys are compared first.
+    // Whether another record is the same as the given one. Counts of atoms and bonds are compared first, then keys.
     fn is_same(&mut self, given: &Record, other: &Record) -> bool
         ensures is { IsMolecule given.now.mol → IsKey given.now.mol self.old.key
             → (IsTrue result ↔ IsSame given.now.mol other.now.mol) }
@@ -85,6 +85,9 @@ impl Sames {
     {
         same_have_equal_keys();
         let mol = other.mol();
+        if !has_counts(&self.key, mol) {
+            return false;
+        }
         let key = key_of(mol);
         if is_one(&key, &self.key) {
             same(given.mol(), mol, &mut self.scratch)
@@ -106,6 +109,13 @@ impl Visit for Sames {
         }
         Ok(())
     }
+}
+
+// Whether a molecule has as many atoms and bonds as a key says.
+fn has_counts(key: &Key, mol: &Mol) -> bool
+    ensures { IsTrue result ↔ (key.now.atoms ≡ length mol.now.atoms) × (key.now.bonds ≡ length mol.now.bonds) }
+{
+    usize::from(key.atoms) == mol.atoms().len() && usize::from(key.bonds) == mol.bonds().len()
 }
 
 // Whether two keys are one.

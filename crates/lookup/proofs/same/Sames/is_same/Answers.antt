@@ -20,3 +20,13 @@ returns-else-is_one-clause-is c = λ molecule key.
             squares = ap (λ (k : Key). k.squares) e;
           }))),
     )
+
+pub returns-then-not-has_counts-clause-is : goal.returns-then-not-has_counts-clause-is
+returns-then-not-has_counts-clause-is c = λ molecule key. (
+  λ no. absurd (false≢true no),
+  λ same.
+      let like = subst (IsSame c.args.given.now.mol) (sym c.mol-mol.ensures.mol) same in
+      let yes = c.has_counts.ensures.1 (key.atoms ∙ like.atoms, key.bonds ∙ like.bonds) in
+      let no = c.if-not-has_counts.true in
+      absurd (cc (yes, no)),
+)
