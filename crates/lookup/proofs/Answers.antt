@@ -1,11 +1,10 @@
 -- What is picked of all that is found at a version are the answers there; and so with what is scored.
-use Rattle.std.proofs.Common.{◌≡◌, ◌≢◌, ◌+◌, ◌++◌, ◌<◌, ◌≤◌, ◌∙◌, add-one, ap, arith, Bool, Contains, inl, inr, length, List, [], ◌∷◌, map, refl, slice_index, Some, subst, suc, sym, zero, ℕ}
+use Rattle.std.proofs.Common.{◌≡◌, ◌+◌, ◌<◌, ◌≤◌, add-one, ap, arith, Bool, Contains, inl, inr, length, List, [], ◌∷◌, refl, slice_index, Some, subst, suc, sym, zero, ℕ}
 use Rattle.std.specs.FinMap.{get}
-use Rattle.std.specs.List.{AllByRecursion}
 use Rattle.std.specs.List.Sorted.{IsStrictlyIncreasing}
 use Rattle.mol_finish.specs.declared.fault.Format.{Format}
 use Rattle.store_machine.proofs.Members.{contains-here, contains-split, contains-there}
-use Rattle.store_machine.specs.Answers.{AreAnswers, AreFound, AreTried, IsAnswer, ids}
+use Rattle.store_machine.specs.Answers.{AreAnswers, AreFound, AreTried, ids}
 use Rattle.store_machine.specs.History.{snapshot}
 use Rattle.store_machine.specs.Structures.{IsScreened}
 use Rattle.store_machine.specs.declared.machine.Found.{Found}

@@ -1,5 +1,5 @@
 -- The structure of a SMILES has an atom, and so a bit in its print.
-use Rattle.std.proofs.Common.{◌≡◌, ◌+◌, ◌<◌, ◌≤◌, ◌==◌, ◌&&◌, ◌||◌, ◌∙◌, ap, arith, Bool, drop, Err, false, inl, inr, length, length-drop, length-take, List, [], ◌∷◌, not, None, Ok, option_map, Option, refl, Result, slice_get, slice_index, slice_index_or, Some, subst, suc, sym, take, true, unwrap_or, zero, ℕ}
+use Rattle.std.proofs.Common.{◌≡◌, ◌<◌, ◌≤◌, ◌==◌, ◌&&◌, ◌||◌, ◌∙◌, ap, arith, Bool, false, inl, inr, length, List, [], ◌∷◌, not, None, Ok, option_map, Option, refl, slice_get, slice_index, slice_index_or, Some, subst, sym, true, unwrap_or, ℕ}
 use Rattle.std.specs.List.{enumerate_from, list_any}
 use Rattle.std.proofs.lemmas.Bool.{and_parts, false≢true, or_cases}
 use Rattle.std.proofs.lemmas.List.{length-map}
@@ -19,7 +19,7 @@ use Rattle.smiles_read.specs.Reading as smiles
 use Rattle.smiles_read.specs.Sketch.{numbered}
 use Rattle.valence.specs.Filled.{filled, filled_atom}
 use Rattle.valence.specs.Valence.{bond_sum}
-use Rattle.valence.specs.Suppressed.{atom_is, gained, is_heavy, is_plain_hydrogen, is_single_kind, is_suppressed, leads_to_heavy, new_place, suppressed}
+use Rattle.valence.specs.Suppressed.{atom_is, gained, is_heavy, is_plain_hydrogen, is_single_kind, is_suppressed, leads_to_heavy, suppressed}
 use Rattle.valence.proofs.Renumbering.{new_place-lt}
 use Rattle.valence.proofs.Staying.{length-staying}
 use Rattle.mol_finish.specs.Meant.{meant, meant_atom}

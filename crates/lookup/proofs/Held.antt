@@ -1,5 +1,5 @@
 -- Pins and bounds along calls that follow each other.
-use Rattle.std.proofs.Common.{◌≡◌, ◌≤◌, ◌⊎◌, ◌↔◌, arith, inl, inr, None, Option, refl, Some, subst, sym, ℕ}
+use Rattle.std.proofs.Common.{◌≡◌, ◌⊎◌, ◌↔◌, arith, inl, inr, None, Option, Some, subst, sym, ℕ}
 use Rattle.store_core.specs.Calls.{NotAbove, NotRaised, SameHeld}
 use Rattle.lookup.specs.Fetches.{HeldBesides}
 

@@ -1,6 +1,5 @@
 -- Calls of one caller in stretches that follow each other.
 use Rattle.std.proofs.Common.{◌≡◌, ◌&&◌, ◌++◌, ◌∙◌, ap, ap₂, Bool, false, if◌then◌else◌, List, [], ◌∷◌, refl, sym, true, ℕ}
-use Rattle.store_core.specs.Calls as core
 use Rattle.store_core.specs.declared.service.Service as meaning
 use Rattle.store_machine.specs.Runs.{IsCalm, IsRun, calls_of, is_call, is_own}
 use Rattle.store_machine.specs.declared.machine.Event.{Event}

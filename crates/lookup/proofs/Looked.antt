@@ -1,10 +1,9 @@
 -- What a lookup did, by its parts: a pin, its pages, and the pin is given back.
-use Rattle.std.proofs.Common.{◌≡◌, ◌⊎◌, ◌↔◌, ◌++◌, append-nil, Bool, Err, length, List, [], ◌∷◌, Ok, Option, refl, Result, Some, subst, sym, ℕ}
+use Rattle.std.proofs.Common.{◌≡◌, ◌⊎◌, ◌↔◌, ◌++◌, append-nil, Bool, Err, length, List, [], Ok, Option, refl, Result, Some, subst, sym, ℕ}
 use Rattle.par_search.specs.Faults.{fault_of}
 use Rattle.par_search.specs.declared.fault.SearchFault.{SearchFault}
-use Rattle.par_search.specs.declared.fault.SearchFault.TheVariants as faults
 use Rattle.snap_registry.specs.declared.Pin.{Pin}
-use Rattle.store_core.specs.Calls.{NeedsNone, NotRaised, SameHeld}
+use Rattle.store_core.specs.Calls.{NeedsNone, SameHeld}
 use Rattle.store_core.specs.Records.{RecordTerm}
 use Rattle.store_core.specs.Replies.{pin_calls, unpin_calls}
 use Rattle.store_core.specs.declared.service.Service as meaning

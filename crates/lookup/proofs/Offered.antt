@@ -1,5 +1,5 @@
 -- Offers of records, one more at a time: a board knows them in any order.
-use Rattle.std.proofs.Common.{◌≡◌, ◌≢◌, ◌⊎◌, ◌++◌, ◌+◌, ◌<◌, ◌≤◌, ◌&&◌, ◌∙◌, ap, arith, Bool, cond, count_by, inl, inr, length, List, [], ◌∷◌, refl, subst, sym, true, ℕ, Contains}
+use Rattle.std.proofs.Common.{◌≡◌, ◌≢◌, ◌++◌, ◌<◌, ◌&&◌, ◌∙◌, ap, arith, Bool, cond, count_by, inl, inr, length, List, [], ◌∷◌, refl, subst, sym, ℕ, Contains}
 use Rattle.std.proofs.lemmas.List.Elements.{Contains-append_left, Contains-push}
 use Rattle.std.proofs.lemmas.List.Sums.{sum_by-append, sum_by-cons}
 use Rattle.std.specs.List.{AllByRecursion}

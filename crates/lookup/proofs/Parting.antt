@@ -5,13 +5,12 @@ use Rattle.std.specs.List.{cons_option}
 use Rattle.store_machine.specs.Answers.{AreFound}
 use Rattle.store_machine.specs.ByCalls.{CallsGivePages, Pages}
 use Rattle.store_machine.specs.History.{Snapshot, snapshot}
-use Rattle.store_machine.specs.Laws.{IsSound, RunsGrow, SnapshotsStay}
+use Rattle.store_machine.specs.Laws.{RunsGrow, SnapshotsStay}
 use Rattle.store_machine.specs.Runs.{IsCalm, IsRun, calls_of, is_own}
 use Rattle.store_machine.specs.Searches.{At, End, Fetched, IsSearch, KeepsPin, Place, fetched, page_in, past, records_of, unpins}
 use Rattle.store_machine.specs.Structures.{IsScreened}
 use Rattle.store_machine.specs.declared.machine.Event.{Event}
-use Rattle.store_machine.specs.declared.machine.Event.TheVariants.{Fetch, Pin, Unpin}
-use Rattle.store_machine.specs.declared.machine.Found.{Found}
+use Rattle.store_machine.specs.declared.machine.Event.TheVariants.{Pin, Unpin}
 use Rattle.store_machine.specs.declared.machine.History.{History}
 use Rattle.store_machine.specs.declared.machine.Reply.{Reply}
 use Rattle.store_machine.specs.declared.machine.Reply.TheVariants as replies

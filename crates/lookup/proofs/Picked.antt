@@ -5,7 +5,7 @@ use Rattle.exact_find.specs.Key.{IsKey}
 use Rattle.exact_find.specs.Same.{IsSame}
 use Rattle.mol_finish.specs.Structure.{HasMolecule}
 use Rattle.mol_finish.specs.declared.fault.Format.{Format}
-use Rattle.store_core.specs.Records.{IsRecord, RecordTerm, found_of}
+use Rattle.store_core.specs.Records.{RecordTerm, found_of}
 use Rattle.store_machine.specs.declared.machine.Found.{Found}
 use Rattle.exact_find.specs.declared.key.Key.{Key}
 use Rattle.lookup.specs.Asked.{ArePicked, IsSameAs}

@@ -1,23 +1,20 @@
 -- Molecules that are the same have the same paths, and so equal prints.
-use Rattle.std.proofs.Common.{ℕ, ◌++◌, ◌<◌, ◌≡◌, ◌≢◌, ◌⊎◌, ◌∙◌, ap, arith, Bool, List, [], ◌∷◌, length, get_or, map, reverse, refl, sym, subst, inl, inr, Option}
-use Rattle.std.specs.Prelude.{Some, option_map, option_and_then, find, true, AllPairs}
+use Rattle.std.proofs.Common.{ℕ, ◌++◌, ◌<◌, ◌≡◌, ◌∙◌, ap, arith, List, [], ◌∷◌, length, get_or, map, reverse, refl, sym, inl, inr}
+use Rattle.std.specs.Prelude.{Some, option_map, find}
 use Rattle.std.specs.List.{slice_get}
 use Rattle.std.proofs.lemmas.Bool.{cases_lt, cases_eq}
 use Rattle.std.proofs.lemmas.List.{get_or-map, length-map, map-append}
 use Rattle.std.proofs.lemmas.Grind.{reverse_onto}
 use Rattle.std.proofs.lemmas.Option.{slice_get_within}
-use Rattle.chem_core.specs.Bits.{HasBit}
 use Rattle.chem_core.specs.declared.mol.Atom.{Atom}
-use Rattle.chem_core.specs.declared.mol.Bond.{Bond}
 use Rattle.chem_core.specs.declared.mol.BondKind.{BondKind}
-use Rattle.chem_core.specs.Graph.{JoinsAt}
-use Rattle.chem_core.specs.Molecule.{Molecule, IsMolecule, ends_of}
+use Rattle.chem_core.specs.Molecule.{Molecule, IsMolecule}
 use Rattle.exact_find.specs.Same.{HasBond, IsAlike, IsSame}
-use Rattle.exact_find.proofs.Maps.{joins, lies, has_bond}
-use Rattle.exact_find.proofs.Near.{at_place, one_kind}
+use Rattle.exact_find.proofs.Maps.{joins, lies}
+use Rattle.exact_find.proofs.Near.{at_place}
 use Rattle.store_machine.specs.Structures.{HasPrintBit}
 use Rattle.path_print.specs.Path.{Family, exact, plain, label_of, IsPath, string_of}
-use Rattle.path_print.specs.Prints.{IsPrint, are_ends, kind_byte, known_of, molecule_view}
+use Rattle.path_print.specs.Prints.{are_ends, kind_byte, known_of, molecule_view}
 use Rattle.path_print.proofs.Options.{and_then_some, map_some, find_there}
 use Rattle.path_print.proofs.Carries.{found_bond, joins_from_ends, labels_in, string_carried}
 

@@ -1,5 +1,5 @@
 -- Records that are scored: each once, with one score.
-use Rattle.std.proofs.Common.{◌≡◌, ◌≢◌, ◌+◌, ◌<◌, ◌≤◌, ◌||◌, ◌↔◌, ◌∙◌, ap, ap₂, arith, Bool, cond, Contains, count_by, false, inl, inr, length, List, [], ◌∷◌, map, refl, slice_index_or, subst, suc, sym, true, zero, zip, ℕ}
+use Rattle.std.proofs.Common.{◌≡◌, ◌≢◌, ◌+◌, ◌<◌, ◌≤◌, ◌||◌, ◌↔◌, ◌∙◌, ap, ap₂, arith, Bool, cond, Contains, false, inl, inr, length, List, [], ◌∷◌, map, refl, subst, suc, sym, true, zero, zip, ℕ}
 use Rattle.std.proofs.lemmas.Bool.{false≢true}
 use Rattle.std.proofs.lemmas.List.Sums.{sum_by-cons}
 use Rattle.std.specs.List.{AllByRecursion}

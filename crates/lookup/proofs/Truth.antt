@@ -1,5 +1,5 @@
 -- What lookups list is what the history has.
-use Rattle.std.proofs.Common.{◌≡◌, ◌≤◌, ◌↔◌, ◌∙◌, Bool, Contains, List, map, Some, subst, sym, ℕ}
+use Rattle.std.proofs.Common.{◌≡◌, ◌≤◌, ◌↔◌, ◌∙◌, Bool, List, map, Some, subst, sym, ℕ}
 use Rattle.std.specs.FinMap.{get}
 use Rattle.std.specs.List.Sorted.{IsStrictlyIncreasing}
 use Rattle.chem_core.specs.Bits.{HasBit, set_bits}
@@ -17,7 +17,7 @@ use Rattle.store_machine.specs.declared.machine.Found.{Found}
 use Rattle.store_machine.specs.declared.machine.History.{History}
 use Rattle.store_machine.specs.declared.machine.Status.TheVariants.{Live}
 use Rattle.lookup.specs.Asked.{AreScored, IsSameAs}
-use Rattle.lookup.specs.Truths.{AreAllOffered, IsOffered, SamesAreAnswers, SimilarsAreAnswers}
+use Rattle.lookup.specs.Truths.{AreAllOffered, SamesAreAnswers, SimilarsAreAnswers}
 use Rattle.lookup.proofs.Answers.{found-tried, ids-length, picked-answers, rising-from}
 use Rattle.lookup.proofs.Parting.{Laws, all_found}
 use Rattle.lookup.proofs.Picked.{OneStructure}

@@ -1,5 +1,5 @@
 -- Fetches of a pin under way, and what a visitor saw of their pages.
-use Rattle.std.proofs.Common.{◌≡◌, ◌++◌, ◌+◌, ◌*◌, ◌≤◌, ◌∙◌, ap, append-nil, arith, Bool, cond, Err, false, length, length-append, List, [], ◌∷◌, Ok, refl, Result, subst, sym, true, ℕ}
+use Rattle.std.proofs.Common.{◌≡◌, ◌++◌, ◌+◌, ◌∙◌, ap, append-nil, arith, Bool, cond, Err, false, length, length-append, List, [], ◌∷◌, Ok, refl, subst, sym, true, ℕ}
 use Rattle.std.proofs.lemmas.List.{length-map}
 use Rattle.std.specs.Arc.{arc_value}
 use Rattle.store_core.specs.Calls.{NotRaised, SameHeld, is_worn}
@@ -15,7 +15,7 @@ use Rattle.store_machine.specs.declared.machine.Found.{Found}
 use Rattle.store_machine.specs.declared.machine.Reply.{Reply}
 use Rattle.store_machine.specs.declared.machine.Reply.TheVariants as replies
 use Rattle.lookup.specs.Fetches.{AreFetches, Calls, Makes}
-use Rattle.lookup.specs.Walks.{Saw, Walked, Walks}
+use Rattle.lookup.specs.Walks.{Saw, Walks}
 use Rattle.lookup.proofs.Held.{held-more, held-same, not_raised-more, not_raised-same}
 use Rattle.lookup.proofs.Paged.{ArePages, fetches_lost, fetches_page, pages_more, records_page}
 use Rattle.lookup.proofs.Seen.{saw-more, saw-none}

@@ -1,4 +1,4 @@
-use Rattle.std.proofs.Common.{◌≡◌, ◌∙◌, ap, arith, Bool, length, List, subst}
+use Rattle.std.proofs.Common.{◌∙◌, ap, arith, Bool, length, List, subst}
 use Rattle.store_core.specs.Records.{Shared, founds}
 use Rattle.store_machine.specs.Searches.{past}
 use Rattle.lookup.specs.Walks.{Saw}

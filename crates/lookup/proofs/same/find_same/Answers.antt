@@ -1,8 +1,6 @@
-use Rattle.std.proofs.Common.{[], List}
-use Rattle.store_machine.specs.declared.machine.Found.{Found}
+use Rattle.std.proofs.Common.{[]}
 use Rattle.lookup.specs.Fetches.{Unasked}
 use Rattle.lookup.specs.Lists.{IsSameList}
-use Rattle.lookup.specs.Walks.{HasPicked}
 use Rattle.lookup.specs.declared.pages.Seen.{Seen}
 use Rattle.lookup.specs.declared.same.SameList.{SameList}
 use Rattle.lookup.proofs.Held.{held-same}

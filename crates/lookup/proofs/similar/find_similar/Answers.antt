@@ -1,4 +1,4 @@
-use Rattle.std.proofs.Common.{[], refl}
+use Rattle.std.proofs.Common.{[]}
 use Rattle.lookup.specs.Fetches.{Unasked}
 use Rattle.lookup.specs.Lists.{IsSimilarList}
 use Rattle.lookup.specs.declared.pages.Seen.{Seen}
