@@ -43,6 +43,7 @@ use Rattle.drill_run.specs.Numbers.{numbered}
 use Rattle.drill_run.specs.Turns as turns
 use Rattle.drill_run.specs.Turns.{AnswersOwn, AreReady, Breaks, Goes, IsSessionOf, IsSmall, IsTallied, Uses, WorldTerm, all_of}
 use Rattle.drill_run.specs.Views.{cursors_in}
+use Rattle.drill_run.specs.declared.line.TheConstants.{SESSIONS}
 use Rattle.drill_run.specs.declared.sessions.Sessions.{Sessions}
 use Rattle.drill_run.proofs.Events.{calm-events, same-faults}
 use Rattle.drill_run.proofs.Turning.{cut_off}
@@ -364,10 +365,10 @@ module _ (a b : Sessions) (old : WorldTerm) (line : TextLine) (image : ℕ) (rea
   }
 
 -- a session's line
-module _ (a b : Sessions) (old new : WorldTerm) (number : ℕ) (own : List ℕ) (r r' : Responder)
-    (ready : AreReady old a) (counted : FaultsAreCounted) (some : 1 ≤ number) (few : number ≤ 16)
-    (is : r ≡ get_or a.responders.items (number - 1) r) (written : b.responders.items ≡ set a.responders.items (number - 1) r')
-    (settings : b.settings ≡ a.settings) (fit : IsFit r'.cursors) (same : r'.cursors.settings ≡ r.cursors.settings)
+module _ (a : Sessions) (rs : List Responder) (old new : WorldTerm) (number : ℕ) (own : List ℕ) (r r' : Responder)
+    (ready : AreReady old a) (counted : FaultsAreCounted) (some : 1 ≤ number) (few : number ≤ SESSIONS)
+    (is : r ≡ get_or a.responders.items (number - 1) r) (written : rs ≡ set a.responders.items (number - 1) r')
+    (fit : IsFit r'.cursors) (same : r'.cursors.settings ≡ r.cursors.settings)
     (sized : AnswersOwn a.settings.page own old new (cursors_of (opened r.cursors)) (cursors_of (opened r'.cursors)))
   where
     within : number - 1 < length a.responders.items
@@ -380,13 +381,14 @@ module _ (a b : Sessions) (old new : WorldTerm) (number : ℕ) (own : List ℕ) 
     of-session = all-at (IsSessionOf a.settings) place.before place.after r
         (subst (AllByRecursion (IsSessionOf a.settings)) place.place ready.fit)
 
-    left : b.responders.items ≡ place.before ++ r' ∷ place.after
+    left : rs ≡ place.before ++ r' ∷ place.after
     left = written ∙ place.changed r'
 
-    before : cursors_in a.responders.items ≡ cursors_in place.before ++ cursors_of (opened r.cursors) ∷ cursors_in place.after
+    before : cursors_in a.responders.items
+        ≡ cursors_in place.before ++ cursors_of (opened r.cursors) ∷ cursors_in place.after
     before = ap cursors_in place.place ∙ cursors-append place.before (r ∷ place.after)
 
-    after : cursors_in b.responders.items ≡ cursors_in place.before ++ cursors_of (opened r'.cursors) ∷ cursors_in place.after
+    after : cursors_in rs ≡ cursors_in place.before ++ cursors_of (opened r'.cursors) ∷ cursors_in place.after
     after = ap cursors_in left ∙ cursors-append place.before (r' ∷ place.after)
 
     number-at : (xs : List Responder) → length (cursors_in xs) ≡ length xs
@@ -394,56 +396,71 @@ module _ (a b : Sessions) (old new : WorldTerm) (number : ℕ) (own : List ℕ) 
     number-at (x ∷ xs) = ap suc (number-at xs)
 
     goes-asked : (line : TextLine) → Reads line (Some (Session number own))
-        → Goes a.settings.page line old new (cursors_in a.responders.items) (cursors_in b.responders.items)
+        → Goes a.settings.page line old new (cursors_in a.responders.items) (cursors_in rs)
         (numbered number (text_of sized.lines))
-    goes-asked line reads = goes-session sized line number (cursors_in place.before) (cursors_in place.after)
-        (cursors_in a.responders.items) (cursors_in b.responders.items) counted ready.state ready.stands reads before
+    goes-asked line reads =
+        goes-session sized line number (cursors_in place.before) (cursors_in place.after)
+        (cursors_in a.responders.items) (cursors_in rs) counted ready.state ready.stands reads before
         (omega (arith, some, place.number, number-at place.before)) after
 
-    ready-asked : AreReady new b
-    ready-asked =
+    length-changed : (xs ys : List Responder) → length (xs ++ r' ∷ ys) ≡ length (xs ++ r ∷ ys)
+    length-changed [] ys = refl
+    length-changed (x ∷ xs) ys = ap suc (length-changed xs ys)
+
+    held-before : AreHeld (HoldsPin old.memory)
+        (all_of (cursors_in place.before ++ cursors_of (opened r.cursors) ∷ cursors_in place.after))
+    held-before = subst (λ (c : AllCursors). AreHeld (HoldsPin old.memory) (all_of c)) before ready.held
+
+    held-own : AreHeld (HoldsPin old.memory) (cursors_of (opened r.cursors))
+    held-own = session-held (HoldsPin old.memory) (cursors_in place.before) (cursors_in place.after)
+        (cursors_of (opened r.cursors)) held-before
+
+    held-after : AreHeld (HoldsPin new.memory) (all_of (cursors_in rs))
+    held-after = subst (λ (c : AllCursors). AreHeld (HoldsPin new.memory) (all_of c)) (sym after)
+        (sessions-held (HoldsPin old.memory) (HoldsPin new.memory) (cursors_in place.before) (cursors_in place.after)
+        (cursors_of (opened r.cursors)) (cursors_of (opened r'.cursors)) (own-keeps sized held-own) held-before)
+
+    fit-after : AllByRecursion (IsSessionOf a.settings) rs
+    fit-after = subst (AllByRecursion (IsSessionOf a.settings)) (sym left)
+        (all-set (IsSessionOf a.settings) place.before place.after r r'
+        (subst (AllByRecursion (IsSessionOf a.settings)) place.place ready.fit) (fit, same ∙ of-session.1))
+
+    number-after : length rs ≡ SESSIONS
+    number-after =
+        ap length left
+        ∙ (length-changed place.before place.after ∙ (sym (ap length place.place) ∙ ready.number))
+
+    ready-asked : (b : Sessions) → b.responders.items ≡ rs → b.settings ≡ a.settings → AreReady new b
+    ready-asked b is settings =
         let k = sized.uses.makes.made ready.state ready.stands in record {
           state = k.after;
           stands = k.stands.ends;
-          number = ap length left ∙ (length-changed place.before place.after ∙ (sym (ap length place.place) ∙ ready.number));
-          fit = subst (λ (xs : List Responder). AllByRecursion (IsSessionOf b.settings) xs) (sym left)
-              (subst (λ (k : Settings). AllByRecursion (IsSessionOf k) (place.before ++ r' ∷ place.after)) (sym settings)
-              (all-set (IsSessionOf a.settings) place.before place.after r r'
-              (subst (AllByRecursion (IsSessionOf a.settings)) place.place ready.fit) (fit, same ∙ of-session.1)));
-          held = subst (λ (c : AllCursors). AreHeld (HoldsPin new.memory) (all_of c)) (sym after)
-              (sessions-held (HoldsPin old.memory) (HoldsPin new.memory) (cursors_in place.before)
-              (cursors_in place.after) (cursors_of (opened r.cursors)) (cursors_of (opened r'.cursors))
-              (own-keeps sized held-own) held-before);
-        } where
-          length-changed : (xs ys : List Responder) → length (xs ++ r' ∷ ys) ≡ length (xs ++ r ∷ ys)
-          length-changed [] ys = refl
-          length-changed (x ∷ xs) ys = ap suc (length-changed xs ys)
+          number = ap length is ∙ number-after;
+          fit = subst (λ (xs : List Responder). AllByRecursion (IsSessionOf b.settings) xs) (sym is)
+              (subst (λ (k : Settings). AllByRecursion (IsSessionOf k) rs) (sym settings) fit-after);
+          held = subst (λ (xs : List Responder). AreHeld (HoldsPin new.memory) (all_of (cursors_in xs))) (sym is)
+              held-after;
+        }
 
-          held-before : AreHeld (HoldsPin old.memory)
-              (all_of (cursors_in place.before ++ cursors_of (opened r.cursors) ∷ cursors_in place.after))
-          held-before = subst (λ (c : AllCursors). AreHeld (HoldsPin old.memory) (all_of c)) before ready.held
-
-          held-own : AreHeld (HoldsPin old.memory) (cursors_of (opened r.cursors))
-          held-own = session-held (HoldsPin old.memory) (cursors_in place.before) (cursors_in place.after)
-              (cursors_of (opened r.cursors)) held-before
-
-    pub asked : (line : TextLine) → Reads line (Some (Session number own)) → a.out.items ≡ [] → (out : List ℕ)
-        → out ≡ text_of sized.lines → b.out.items ≡ a.out.items ++ numbered number out
-        → turns.Answered a b old line (Ok new)
-    asked line reads empty out said wrote = (
+    pub asked : (b : Sessions) (line : TextLine) → b.responders.items ≡ rs → b.settings ≡ a.settings
+        → Reads line (Some (Session number own)) → a.out.items ≡ [] → (out : List ℕ) → out ≡ text_of sized.lines
+        → b.out.items ≡ a.out.items ++ numbered number out → turns.Answered a b old line (Ok new)
+    asked b line is settings reads empty out said wrote = (
       goes-as (wrote ∙ (ap (λ (l : List ℕ). l ++ numbered number out) empty ∙ ap (numbered number) said))
-          (goes-asked line reads),
-      ready-asked,
+          (subst (λ (xs : List Responder). Goes a.settings.page line old new (cursors_in a.responders.items)
+          (cursors_in xs) (numbered number (text_of sized.lines))) (sym is) (goes-asked line reads)),
+      ready-asked b is settings,
       settings,
     )
 
-    pub asked-lost : (line : TextLine) → Reads line (Some (Session number own)) → (fault : AllocError)
+    -- memory ran out for the reply
+    pub asked-lost : (b : Sessions) (line : TextLine) → Reads line (Some (Session number own)) → (fault : AllocError)
         → turns.Answered a b old line (Err fault)
-    asked-lost line reads fault = lost (goes-asked line reads)
+    asked-lost b line reads fault = lost (goes-asked line reads)
 
 -- the session that is asked
 pub asks-settings : (a : Sessions) (old : WorldTerm) (number : ℕ) (r : Responder) → AreReady old a → 1 ≤ number
-    → number ≤ 16 → r ≡ get_or a.responders.items (number - 1) r → a.settings.page ≡ r.cursors.settings.page
+    → number ≤ SESSIONS → r ≡ get_or a.responders.items (number - 1) r → a.settings.page ≡ r.cursors.settings.page
 asks-settings a old number r ready some few is =
     let less : number - 1 < length a.responders.items = omega (arith, ready.number, some, few) in
     let p = subst (IsAt a.responders.items (number - 1)) (sym is) (at-place a.responders.items (number - 1) r less) in
@@ -451,7 +468,7 @@ asks-settings a old number r ready some few is =
     (subst (AllByRecursion (IsSessionOf a.settings)) p.place ready.fit)).1)
 
 pub asks-fit : (a : Sessions) (old : WorldTerm) (number : ℕ) (r : Responder) → AreReady old a → 1 ≤ number
-    → number ≤ 16 → r ≡ get_or a.responders.items (number - 1) r
+    → number ≤ SESSIONS → r ≡ get_or a.responders.items (number - 1) r
     → IsFit r.cursors × AreHeld (HoldsPin old.memory) (cursors_of (opened r.cursors))
 asks-fit a old number r ready some few is =
     let less : number - 1 < length a.responders.items = omega (arith, ready.number, some, few) in

@@ -21,7 +21,7 @@ ghost use Rattle.drill_run.specs.Views.{cursors_in};
 use crate::line::{DrillLine, SESSIONS, drill_line};
 use crate::numbers::push_numbered;
 use chem_text::push_decimal;
-use drill_core::World;
+use drill_core::{World, disk_faults_are_counted};
 use io_edge::Line;
 use par_search::Meter;
 use session_run::{Responder, Settings, Stop};
@@ -208,6 +208,7 @@ impl Sessions {
         ensures { (of : TextLine) → Reads of (Some (lines.Session number line.now))
             → Answered self.old self.new world of result }
     {
+        disk_faults_are_counted();
         let responder = &mut self.responders[number as usize - 1];
         answer_alone(responder, rt, &mut world, meter, line)?;
         push_numbered(number, &responder.out, &mut self.out)?;
