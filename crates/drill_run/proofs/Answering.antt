@@ -13,7 +13,7 @@ use Rattle.io_edge.specs.Lines.{TextLine, Whole}
 use Rattle.session_run.specs.Acts.{Lines, RequestAnswer}
 use Rattle.session_run.specs.Cursors.{Calls, Cursor}
 use Rattle.session_run.specs.Made as made
-use Rattle.session_run.specs.Made.{Answered, Did, Said, Unsaid}
+use Rattle.session_run.specs.Made.{Answered, AnsweredBy, Broken, Did, Said, Unsaid}
 use Rattle.session_run.specs.Pins.{AreHeld, HeldAfter, MovePins}
 use Rattle.session_run.specs.Requests.{Request}
 use Rattle.session_run.specs.Opened.{opened}
@@ -21,6 +21,7 @@ use Rattle.session_run.specs.Responds.{IsFit, KeepsPins}
 use Rattle.session_run.specs.Walks.{cursors_of}
 use Rattle.session_run.specs.declared.respond.Responder.{Responder}
 use Rattle.session_run.specs.declared.settings.Settings.{Settings}
+use Rattle.session_run.specs.declared.stop.Stop.{Stop}
 use Rattle.session_run.specs.declared.stop.Stop.TheVariants as stops
 use Rattle.session_run.proofs.ActPins.{act_held, act_others}
 use Rattle.session_run.proofs.Held.{held-same, moves-none, not_raised-same, same_others, same_others-more}
@@ -28,6 +29,7 @@ use Rattle.shell_lang.specs.Command.{StartsMolfile}
 use Rattle.shell_lang.specs.Reply.{text_of}
 use Rattle.store_core.specs.Calls.{SameHeld}
 use Rattle.store_core.specs.Stored.{HoldsPin}
+use Rattle.store_core.specs.declared.service.Service as meaning
 use Rattle.store_machine.specs.Openings.{reopening}
 use Rattle.store_machine.specs.declared.machine.Event.TheVariants.{Crash, Open}
 use Rattle.store_machine.specs.declared.machine.Reply.TheVariants.{Crashed, Opened}
@@ -88,11 +90,15 @@ ready-same old new a b h stands memory responders settings = record {
   held = rw (responders, memory) h.held;
 }
 
--- a session's line was answered, as a session answers it
+-- a session's line was answered, as a session answers it, by the service of a world
 module _ {size : ℕ} {own : List ℕ} {old new : WorldTerm} {cursors cursors' : List Cursor}
-    (uses : Calls → Type 0) (worn : Type 0) (convert : (calls : Calls) → uses calls → Uses old new calls)
+    (of : meaning.Ghosts WorldTerm) (convert : (calls : Calls) → made.Uses of old new calls → Uses old new calls)
     (other : ¬ StartsMolfile own) where
-  of-did : Did uses (RequestAnswer size cursors (record { line = Whole own; molfile = [] })) cursors'
+  abbrev IsAnswered : List ℕ → Result (Unit {0}) Stop → Type 0
+  IsAnswered out result =
+      AnsweredBy of old new (RequestAnswer size cursors (record { line = Whole own; molfile = [] })) [] out cursors' result
+
+  of-did : Did (made.Uses of old new) (RequestAnswer size cursors (record { line = Whole own; molfile = [] })) cursors'
       → AnswersOwn size own old new cursors cursors'
   of-did d = record {
     calls = d.calls;
@@ -101,16 +107,18 @@ module _ {size : ℕ} {own : List ℕ} {old new : WorldTerm} {cursors cursors' :
     uses = convert d.calls d.made;
   }
 
-  pub own-said : (out : List ℕ)
-      → Answered uses worn (RequestAnswer size cursors (record { line = Whole own; molfile = [] })) [] out cursors' (Ok tt)
+  pub own-said : (out : List ℕ) → IsAnswered out (Ok tt)
       → (a : AnswersOwn size own old new cursors cursors') × (out ≡ text_of a.lines)
   unfolding of-did
   own-said out (Said u did e) = (of-did did, e)
 
-  pub own-unsaid : (out : List ℕ)
-      → Answered uses worn (RequestAnswer size cursors (record { line = Whole own; molfile = [] })) [] out cursors'
-      (Err stops.NoMemory) → AnswersOwn size own old new cursors cursors'
+  pub own-unsaid : (out : List ℕ) → IsAnswered out (Err stops.NoMemory) → AnswersOwn size own old new cursors cursors'
   own-unsaid out (Unsaid did) = of-did did
+
+-- a service that is never worn
+pub never-worn : {Made : Calls → Type 0} {IsWorn : Type 0} {Is : Calls → Lines → List Cursor → Type 0}
+    {out out' : List ℕ} {after : List Cursor} → ¬ IsWorn → Answered Made IsWorn Is out out' after (Err stops.Worn) → ⊥
+never-worn not (Broken w) = not w.worn
 
 -- it was refused
 uses-none : (world : WorldTerm) → Uses world world []

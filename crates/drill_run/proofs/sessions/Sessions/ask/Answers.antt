@@ -1,4 +1,5 @@
-use Rattle.std.proofs.Common.{ap, arith, refl}
+use Rattle.std.proofs.Common.{◌∙◌, ap, arith, refl}
+use Rattle.drill_run.specs.Numbers.{numbered}
 use Rattle.drill_run.proofs.Answering.{asked, asked-lost, asks-fit, asks-settings}
 use Rattle.drill_run.proofs.sessions.Sessions.ask.Goals as goal
 
@@ -15,5 +16,5 @@ answer_alone-requires-clause-held g c =
     (asks-fit c.args.self.now c.args.world c.args.number c.index_mut-responder.result.now c.requires.ready
     c.requires.some c.requires.few c.index_mut-responder.ensures.value).1
 
-pub returns : goal.returns
-returns g c = let h = c in ?
+pub returns-in_ok-push_numbered : goal.returns-in_ok-push_numbered
+returns-in_ok-push_numbered g c = let h = c in ?
