@@ -462,9 +462,9 @@ module _ (a : Sessions) (rs : List Responder) (old new : WorldTerm) (number : �
     )
 
     -- memory ran out for the reply
-    pub asked-lost : (b : Sessions) (line : TextLine) → Reads line (Some (Session number own)) → (fault : AllocError)
-        → turns.Answered a b old line (Err fault)
-    asked-lost b line reads fault = lost (goes-asked line reads)
+    pub asked-lost : (line : TextLine) → Reads line (Some (Session number own))
+        → Breaks a.settings.page line old (cursors_in a.responders.items) []
+    asked-lost line reads = lost (goes-asked line reads)
 
 -- the session that is asked
 pub asks-settings : (a : Sessions) (old : WorldTerm) (number : ℕ) (r : Responder) → AreReady old a → 1 ≤ number
