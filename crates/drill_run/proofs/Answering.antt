@@ -96,7 +96,8 @@ module _ {size : ℕ} {own : List ℕ} {old new : WorldTerm} {cursors cursors' :
     (other : ¬ StartsMolfile own) where
   abbrev IsAnswered : List ℕ → Result (Unit {0}) Stop → Type 0
   IsAnswered out result =
-      AnsweredBy of old new (RequestAnswer size cursors (record { line = Whole own; molfile = [] })) [] out cursors' result
+      AnsweredBy of old new (RequestAnswer size cursors (record { line = Whole own; molfile = [] })) [] out cursors'
+      result
 
   of-did : Did (made.Uses of old new) (RequestAnswer size cursors (record { line = Whole own; molfile = [] })) cursors'
       → AnswersOwn size own old new cursors cursors'

@@ -17,8 +17,8 @@ answer_alone-requires-clause-held g c =
 
 pub returns-in_err-answer_alone : goal.returns-in_err-answer_alone
 returns-in_err-answer_alone g c = λ of reads.
-    let same = (asks-settings c.args.self.now c.args.world c.args.number c.index_mut-responder.result.now c.requires.ready
-    c.requires.some c.requires.few c.index_mut-responder.ensures.value) in
+    let same = asks-settings c.args.self.now c.args.world c.args.number c.index_mut-responder.result.now
+    c.requires.ready c.requires.some c.requires.few c.index_mut-responder.ensures.value in
     asked-lost c.args.self.now
     (set c.args.self.now.responders.items (c.args.number - 1) c.answer_alone.new.responder) c.args.world
     c.answer_alone.new.world c.args.number c.args.line.now c.index_mut-responder.result.now
@@ -28,8 +28,8 @@ returns-in_err-answer_alone g c = λ of reads.
 
 pub returns-in_err-push_numbered : goal.returns-in_err-push_numbered
 returns-in_err-push_numbered g c = λ of reads.
-    let same = (asks-settings c.args.self.now c.args.world c.args.number c.index_mut-responder.result.now c.requires.ready
-    c.requires.some c.requires.few c.index_mut-responder.ensures.value) in
+    let same = asks-settings c.args.self.now c.args.world c.args.number c.index_mut-responder.result.now
+    c.requires.ready c.requires.some c.requires.few c.index_mut-responder.ensures.value in
     let sized = c.in_ok-answer_alone.ensures.ok c.args.self.now.settings.page same in
     asked-lost c.args.self.now
     (set c.args.self.now.responders.items (c.args.number - 1) c.answer_alone.new.responder) c.args.world
@@ -40,8 +40,8 @@ returns-in_err-push_numbered g c = λ of reads.
 
 pub returns-in_ok-push_numbered : goal.returns-in_ok-push_numbered
 returns-in_ok-push_numbered g c = λ of reads.
-    let same = (asks-settings c.args.self.now c.args.world c.args.number c.index_mut-responder.result.now c.requires.ready
-    c.requires.some c.requires.few c.index_mut-responder.ensures.value) in
+    let same = asks-settings c.args.self.now c.args.world c.args.number c.index_mut-responder.result.now
+    c.requires.ready c.requires.some c.requires.few c.index_mut-responder.ensures.value in
     let sized = c.in_ok-answer_alone.ensures.ok c.args.self.now.settings.page same in
     asked c.args.self.now
     (set c.args.self.now.responders.items (c.args.number - 1) c.answer_alone.new.responder) c.args.world
