@@ -1,12 +1,10 @@
-use Rattle.std.proofs.Common.{[], Err, inl, Ok, refl}
-use Rattle.shell_lang.specs.CommandView.{command_of}
+use Rattle.std.proofs.Common.{[], inl, refl}
 use Rattle.shell_lang.specs.Reply as line
 use Rattle.shell_lang.specs.declared.reply.Refusal.TheVariants as refusals
-use Rattle.session_run.specs.Acts.{Refused, Say}
-use Rattle.session_run.specs.Requests.{molfile_text}
+use Rattle.session_run.specs.Acts.{Refused}
 use Rattle.session_run.proofs.Joined.{uses-none}
-use Rattle.session_run.proofs.Lines.{allowed_as, noted, said}
-use Rattle.session_run.proofs.Requested.{behind_nothing, line_allows}
+use Rattle.session_run.proofs.Lines.{noted, said}
+use Rattle.session_run.proofs.Requested.{behind_nothing}
 use Rattle.session_run.proofs.respond.Responder.answer.Goals as goal
 
 pub answer_line-requires-clause-ready : goal.answer_line-requires-clause-ready
