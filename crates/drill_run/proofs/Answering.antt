@@ -1,8 +1,9 @@
 -- What lines do to a world and to the sessions.
 use Rattle.std.proofs.Common.{◌≡◌, ◌≤◌, ◌<◌, ◌+◌, ◌-◌, ◌^◌, ◌++◌, ◌∙◌, ap, append-nil, arith, Err, get_or, inl, inr, length, List, [], ◌∷◌, map, None, Ok, Option, refl, Result, set, Some, subst, suc, sym, true, zero, ℕ}
 use Rattle.std.specs.List.{AllByRecursion}
-use Rattle.std.specs.Prelude.{IfOk, OnErr, OnOk, Vec}
+use Rattle.std.specs.Prelude.{IfOk, IsErr, OnErr, OnOk, Vec}
 use Rattle.std.specs.declared.alloc.Global.{Global}
+use Rattle.std.proofs.lemmas.Bool.{true≢false}
 use Rattle.std.proofs.lemmas.List.{map-append}
 use Rattle.std.specs.declared.alloc.AllocError.{AllocError}
 use Rattle.disk_edge.specs.Failures.{bound_of}
@@ -72,6 +73,11 @@ pub lost : {size : ℕ} {line : TextLine} {old new : WorldTerm} {all all' : AllC
     → Goes size line old new all all' text → Breaks size line old all []
 lost {text = text} g = cut_off g [] text refl
 
+pub lost-by : (a b : Sessions) (old : WorldTerm) (line : TextLine) (r : Result WorldTerm AllocError) → IsErr r
+    → Breaks a.settings.page line old (cursors_in a.responders.items) [] → turns.Answered a b old line r
+lost-by a b old line (Ok after) is h = absurd (true≢false (sym is))
+lost-by a b old line (Err fault) is h = h
+
 -- the text that is put is that of the answer
 pub goes-as : {size : ℕ} {line : TextLine} {old new : WorldTerm} {all all' : AllCursors} {text said : List ℕ}
     → said ≡ text → Goes size line old new all all' text → Goes size line old new all all' said
@@ -94,11 +100,6 @@ ready-same old new a b h stands memory responders settings = record {
 module _ {size : ℕ} {own : List ℕ} {old new : WorldTerm} {cursors cursors' : List Cursor}
     (of : meaning.Ghosts WorldTerm) (convert : (calls : Calls) → made.Uses of old new calls → Uses old new calls)
     (other : ¬ StartsMolfile own) where
-  abbrev IsAnswered : List ℕ → Result (Unit {0}) Stop → Type 0
-  IsAnswered out result =
-      AnsweredBy of old new (RequestAnswer size cursors (record { line = Whole own; molfile = [] })) [] out cursors'
-      result
-
   of-did : Did (made.Uses of old new) (RequestAnswer size cursors (record { line = Whole own; molfile = [] })) cursors'
       → AnswersOwn size own old new cursors cursors'
   of-did d = record {
@@ -108,12 +109,15 @@ module _ {size : ℕ} {own : List ℕ} {old new : WorldTerm} {cursors cursors' :
     uses = convert d.calls d.made;
   }
 
-  pub own-said : (out : List ℕ) → IsAnswered out (Ok tt)
-      → (a : AnswersOwn size own old new cursors cursors') × (out ≡ text_of a.lines)
+  pub own-said : (out : List ℕ)
+      → AnsweredBy of old new (RequestAnswer size cursors (record { line = Whole own; molfile = [] })) [] out cursors'
+      (Ok tt) → (a : AnswersOwn size own old new cursors cursors') × (out ≡ text_of a.lines)
   unfolding of-did
   own-said out (Said u did e) = (of-did did, e)
 
-  pub own-unsaid : (out : List ℕ) → IsAnswered out (Err stops.NoMemory) → AnswersOwn size own old new cursors cursors'
+  pub own-unsaid : (out : List ℕ)
+      → AnsweredBy of old new (RequestAnswer size cursors (record { line = Whole own; molfile = [] })) [] out cursors'
+      (Err stops.NoMemory) → AnswersOwn size own old new cursors cursors'
   own-unsaid out (Unsaid did) = of-did did
 
 -- a service that is never worn
