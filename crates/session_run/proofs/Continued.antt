@@ -10,7 +10,7 @@ use Rattle.io_edge.specs.declared.lines.Line.TheVariants.{End, Long, Text}
 use Rattle.io_edge.specs.declared.lines.LineFault.{LineFault}
 use Rattle.session_run.specs.Turn.{IsNextLine, ReadsLines, ReadsOn, TakesNone}
 
-some_one : (x y : List ℕ) → Some x ≡ Some y → x ≡ y
+pub some_one : (x y : List ℕ) → Some x ≡ Some y → x ≡ y
 some_one x y e = cc
 
 -- what is left after these bytes were taken, where it is told

@@ -30,7 +30,7 @@ last_piece (b ∷ bytes) = let h = last_piece bytes in
       | false ↦ let k = begun_last b (pieces bytes) h.0 in (k.0, ap (before_first b) h.1 ∙ k.1)
     ]
 
-whole_and_one : (bytes : List ℕ) → (x : TextLine) × (lines_of (bytes ++ 10 ∷ []) ≡ whole_lines bytes ++ x ∷ [])
+pub whole_and_one : (bytes : List ℕ) → (x : TextLine) × (lines_of (bytes ++ 10 ∷ []) ≡ whole_lines bytes ++ x ∷ [])
 whole_and_one bytes = let h = last_piece bytes in (
   as_line (text_of h.0),
   ap (map (λ piece. as_line (text_of piece))) h.1
@@ -70,7 +70,7 @@ left_by false bytes none = let h = whole_and_one bytes in
     (h.0, h.1 ∙ ap (λ l. map (λ piece. as_line (text_of piece)) l ++ h.0 ∷ []) (none_whole bytes none))
 
 -- one line is left, where one more LF follows
-one_left : (r : Reading) → AwaitsBytes r → (y : TextLine) × (lines_left r (10 ∷ []) ≡ y ∷ [])
+pub one_left : (r : Reading) → AwaitsBytes r → (y : TextLine) × (lines_left r (10 ∷ []) ≡ y ∷ [])
 one_left r awaits = left_by r.long r.pending (λ c. awaits.none (inl c))
 
 -- ---- requests that leave a line are whole
@@ -79,7 +79,7 @@ not_nothing : (xs : List TextLine) (x : TextLine) → xs ++ x ∷ [] ≡ [] → 
 not_nothing [] x e = cc
 not_nothing (y ∷ xs) x e = cc
 
-same_before : (xs ys : List TextLine) (x y : TextLine) → xs ++ x ∷ [] ≡ ys ++ y ∷ [] → xs ≡ ys
+pub same_before : (xs ys : List TextLine) (x y : TextLine) → xs ++ x ∷ [] ≡ ys ++ y ∷ [] → xs ≡ ys
 same_before [] [] x y e = refl
 same_before [] (b ∷ ys) x y e = absurd (not_nothing ys y (let h : [] ≡ ys ++ y ∷ [] = cc in sym h))
 same_before (a ∷ xs) [] x y e = absurd (not_nothing xs x cc)

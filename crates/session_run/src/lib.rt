@@ -20,5 +20,7 @@ mod stop;
 mod texts;
 
 pub use laws::{dialogues_are_true, searches_are_hits, services_are_true};
+pub use respond::Responder;
 pub use run::session;
 pub use settings::{EndStatus, Settings};
+pub use stop::Stop;

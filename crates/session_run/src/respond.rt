@@ -1,5 +1,6 @@
 //! What a request is answered.
 ghost use Rattle.std.specs.Prelude.{◌≡◌, [], ℕ, IfOk, List, Ok};
+ghost use Rattle.io_edge.specs.Lines.{Whole};
 ghost use Rattle.shell_lang.specs.Command.{IsLine, Spells, StartsMolfile, molfile_command};
 ghost use Rattle.shell_lang.specs.CommandView.{command_of};
 ghost use Rattle.shell_lang.specs.Reply.{reply_of};
@@ -75,12 +76,42 @@ impl Responder {
         match next {
             Next::End => Ok(()),
             Next::Long => say(&Reply::Refused(Refusal::Long), &mut self.out),
-            Next::Line => match read_command(line) {
-                Ok(command) => self.execute(rt, service, meter, command),
-                Err(refusal) => say(&Reply::Refused(Refusal::Line(refusal)), &mut self.out),
-            },
+            Next::Line => self.answer_line(rt, service, meter, line),
             Next::WithMolfile { read, molfile } => self.answer_molfile(service, read, molfile),
         }
+    }
+
+    /// Answers a line that takes no molfile. The reply is then in `out`.
+    pub fn answer_line<R: Threads + Sync, S: Service, M: Meter>(
+        &mut self,
+        rt: &R,
+        service: &mut S,
+        meter: &M,
+        line: &[u8],
+    ) -> Result<(), Stop>
+        requires ready { IsReady S.Service service.old self.old.cursors }
+        requires alone { ¬ StartsMolfile line.now }
+        ensures answered { AnsweredBy S.Service service.old service.new
+            (RequestAnswer self.old.cursors.settings.page (cursors_of (opened self.old.cursors))
+            (record { line = Whole line.now; molfile = [] }))
+            [] self.new.out.items (cursors_of (opened self.new.cursors)) result }
+        ensures fit { IsFit self.new.cursors }
+        ensures settings { self.new.cursors.settings ≡ self.old.cursors.settings }
+    {
+        self.out.clear();
+        match read_command(line) {
+            Ok(command) => self.execute(rt, service, meter, command),
+            Err(refusal) => say(&Reply::Refused(Refusal::Line(refusal)), &mut self.out),
+        }
+    }
+
+    /// Forgets all cursors, and gives no pin back.
+    pub fn forget(&mut self)
+        ensures none { opened self.new.cursors ≡ [] }
+        ensures fit { IsFit self.old.cursors → IsFit self.new.cursors }
+        ensures settings { self.new.cursors.settings ≡ self.old.cursors.settings }
+    {
+        self.cursors.by_name.clear();
     }
 
     // Executes a command that takes no molfile.

@@ -1,21 +1,17 @@
-use Rattle.std.proofs.Common.{[], Err, inl, Ok, refl}
-use Rattle.shell_lang.specs.CommandView.{command_of}
+use Rattle.std.proofs.Common.{[], inl, refl}
 use Rattle.shell_lang.specs.Reply as line
 use Rattle.shell_lang.specs.declared.reply.Refusal.TheVariants as refusals
-use Rattle.session_run.specs.Acts.{Refused, Say}
-use Rattle.session_run.specs.Requests.{molfile_text}
+use Rattle.session_run.specs.Acts.{Refused}
 use Rattle.session_run.proofs.Joined.{uses-none}
-use Rattle.session_run.proofs.Lines.{allowed_as, noted, said}
-use Rattle.session_run.proofs.Requested.{behind_nothing, line_allows}
+use Rattle.session_run.proofs.Lines.{noted, said}
+use Rattle.session_run.proofs.Requested.{behind_nothing}
 use Rattle.session_run.proofs.respond.Responder.answer.Goals as goal
 
-pub execute-requires-clause-ready : goal.execute-requires-clause-ready
-execute-requires-clause-ready g c _ _ = record { fit = c.requires.ready.fit; held = c.requires.ready.held }
+pub answer_line-requires-clause-ready : goal.answer_line-requires-clause-ready
+answer_line-requires-clause-ready g c _ _ = record { fit = c.requires.ready.fit; held = c.requires.ready.held }
 
-pub execute-requires-clause-line : goal.execute-requires-clause-line
-execute-requires-clause-line g c _ _ =
-    let is = rw c.in-Line.is at c.requires.request.1 in
-    (c.args.line.now, c.in-Ok.ensures, is.1)
+pub answer_line-requires-clause-alone : goal.answer_line-requires-clause-alone
+answer_line-requires-clause-alone g c _ _ = let is = rw c.in-Line.is at c.requires.request.1 in is.1
 
 pub answer_molfile-requires : goal.answer_molfile-requires
 answer_molfile-requires g c =
@@ -31,18 +27,9 @@ returns-in-Long-clause-answered g c request next =
     (uses-none g.met.S.Service.stays c.args.service.now)
     (noted (Refused refusals.Long) (inl (rw c.in-Long.is at next, refl))) c.say.ensures)
 
-pub returns-in-Ok-clause-answered : goal.returns-in-Ok-clause-answered
-returns-in-Ok-clause-answered g c request next =
-    behind_nothing c.clear.ensures.items (allowed_as (line_allows _ request c.args.line.now
-    (Ok (command_of c.in-Ok.command)) (rw c.in-Line.is at next) c.in-Ok.ensures)
-    (c.execute.ensures.answered (molfile_text request.molfile)))
-
-pub returns-in-Err-clause-answered : goal.returns-in-Err-clause-answered
-returns-in-Err-clause-answered g c request next =
-    behind_nothing c.clear.ensures.items (said [] (line.Refused (refusals.Line c.in-Err.refusal)) c.say-in-Err.result
-    (uses-none g.met.S.Service.stays c.args.service.now)
-    (noted (Refused (refusals.Line c.in-Err.refusal)) (line_allows _ request c.args.line.now (Err c.in-Err.refusal)
-    (rw c.in-Line.is at next) c.in-Err.ensures (Say (Refused (refusals.Line c.in-Err.refusal))) refl)) c.say-in-Err.ensures)
+pub returns-in-Line-clause-answered : goal.returns-in-Line-clause-answered
+returns-in-Line-clause-answered g c request next =
+    let is = rw c.in-Line.is at next in rw is.0 c.answer_line.ensures.answered
 
 pub returns-in-WithMolfile-clause-answered : goal.returns-in-WithMolfile-clause-answered
 returns-in-WithMolfile-clause-answered g c request next =

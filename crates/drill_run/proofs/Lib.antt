@@ -1,0 +1,10 @@
+pub mod Lists
+pub mod Reading
+pub mod Pins
+pub mod Events
+pub mod Tallies
+pub mod Scripts
+pub mod Answering
+pub mod Numbering
+pub mod Making
+pub mod Turning

@@ -1,0 +1,28 @@
+use Rattle.std.proofs.Common.{◌∙◌, ap, length, refl, subst, sym}
+use Rattle.std.specs.List.{AllByRecursion}
+use Rattle.std.specs.Prelude.{Vec}
+use Rattle.std.specs.declared.alloc.Global.{Global}
+use Rattle.drill_core.specs.Worlds.{left_on}
+use Rattle.session_run.specs.declared.respond.Responder.{Responder}
+use Rattle.drill_run.specs.Turns.{IsSessionOf}
+use Rattle.drill_run.specs.Views.{cursors_in}
+use Rattle.drill_run.proofs.Answering.{opened-by, unopened}
+use Rattle.drill_run.proofs.sessions.Sessions.reopen.Goals as goal
+
+pub returns-in-Ok : goal.returns-in-Ok
+returns-in-Ok c = λ line reads.
+    let left = c.say_version.ensures.responders in
+    opened-by c.args.self.now c.say_version.new.self c.args.world line c.args.image c.requires.ready c.requires.empty
+    reads c.in-Ok.world (left_on c.args.world.journal.disk c.args.image) c.in-Ok.version c.in-Ok.ensures.opens
+    c.in-Ok.ensures.no_failures
+    (ap (λ (l : Vec Responder Global). length l.items) left ∙ c.forget.ensures.number)
+    (subst (λ (l : Vec Responder Global). AllByRecursion (IsSessionOf c.args.self.now.settings) l.items) (sym left)
+    c.forget.ensures.fit)
+    (ap (λ (l : Vec Responder Global). cursors_in l.items) left ∙ c.forget.ensures.none)
+    (c.say_version.ensures.settings ∙ c.forget.ensures.settings) c.say_version.result
+    (rw c.forget.ensures.out at c.say_version.ensures.ok)
+
+pub returns-in-Err : goal.returns-in-Err
+returns-in-Err c = λ line reads.
+    unopened c.args.self.now c.args.self.now c.args.world line c.args.image c.requires.ready c.requires.empty
+    reads c.in-Err.fault

@@ -1,0 +1,38 @@
+-- For callers: which disk faults a drill's lines allow. Reopenings cut a drill into parts, in each of which failures are
+-- set anew.
+use Rattle.std.specs.Prelude.{◌≡◌, ◌⊎◌, ◌≤◌, ◌+◌, ℕ, List, [], ◌∷◌, Option, None, Some, count_by}
+use Rattle.session_run.specs.Cursors.{Calls}
+use Rattle.drill_core.specs.Faults.{is_disk_fault}
+use Rattle.drill_run.specs.Dialogue.{Exchange}
+use Rattle.drill_run.specs.Lines.{DrillLine, Empty, Session, Stop, Fail, Reopen}
+
+-- what a part of a drill has so far: lines `stop`, lines `fail`, and events that were answered by a disk fault
+pub record Tally : Type 0 where
+  pub stops : ℕ
+  pub fails : ℕ
+  pub faults : ℕ
+
+abbrev pub nothing_set : Tally
+nothing_set = record { stops = 0; fails = 0; faults = 0 }
+
+abbrev pub faults_in : Calls → ℕ
+faults_in calls = count_by (λ c. is_disk_fault c.1) calls
+
+-- the part behind a line
+abbrev pub tally_after : Tally → Option DrillLine → Calls → Tally
+tally_after t (Some Empty) calls = t
+tally_after t (Some (Session number line)) calls = record t { faults = t.faults + faults_in calls }
+tally_after t (Some (Stop calls_left)) calls = record t { stops = t.stops + 1 }
+tally_after t (Some (Fail call)) calls = record t { fails = t.fails + 1 }
+tally_after t (Some (Reopen image)) calls = nothing_set
+tally_after t None calls = t
+
+-- So many more events may be answered by a disk fault: none, or any number behind a `stop`, or as many as leave no more
+-- faults than lines `fail`
+abbrev pub MayFail : Tally → ℕ → Type 0
+MayFail t more = (more ≡ 0) ⊎ ((1 ≤ t.stops) ⊎ (t.faults + more ≤ t.fails))
+
+-- each disk fault is allowed by the lines of its part before it
+abbrev pub AreCaused : Tally → List Exchange → Type 0
+AreCaused t [] = Unit {0}
+AreCaused t (x ∷ xs) = MayFail t (faults_in x.calls) × AreCaused (tally_after t x.read x.calls) xs

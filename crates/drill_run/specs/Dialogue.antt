@@ -1,0 +1,106 @@
+-- For callers: a drill as a dialogue, each line with what is done for it and the text that it is answered. Sessions are
+-- counted from 1; each has cursors of its own.
+use Rattle.std.specs.Prelude.{◌≡◌, ◌⊎◌, ◌+◌, ℕ, List, [], ◌∷◌, ◌++◌, length, map, Option, None, Some, codes}
+use Rattle.std.specs.Fmt.{decimal}
+use Rattle.io_edge.specs.Lines.{TextLine, Whole, TooLong}
+use Rattle.session_run.specs.Acts.{Lines, RequestAnswer}
+use Rattle.session_run.specs.Cursors.{Calls, Cursor}
+use Rattle.shell_lang.specs.Command.{StartsMolfile}
+use Rattle.shell_lang.specs.Reply as reply
+use Rattle.shell_lang.specs.Reply.{reply_line, text_of}
+use Rattle.shell_lang.specs.declared.command.LineRefusal.TheVariants as refused
+use Rattle.shell_lang.specs.declared.reply.Refusal.TheVariants as refusals
+use Rattle.store_machine.specs.declared.machine.Event.TheVariants.{Crash, Open}
+use Rattle.store_machine.specs.declared.machine.Reply.TheVariants.{Crashed, Opened}
+use Rattle.drill_run.specs.Lines.{DrillLine, Empty, Session, Stop, Fail, Reopen, Reads}
+use Rattle.drill_run.specs.Numbers.{numbered}
+
+-- the cursors that are open, a list for each session
+abbrev pub AllCursors : Type 0
+AllCursors = List (List Cursor)
+
+-- a line, what it is read as, the events of the store's machine with their replies, and the text of the answer
+pub record Exchange : Type 0 where
+  pub line : TextLine
+  pub read : Option DrillLine
+  pub calls : Calls
+  pub text : List ℕ
+
+abbrev pub set_text : List ℕ
+set_text = codes "set" ++ 10 ∷ []
+
+abbrev pub reopened_text : ℕ → List ℕ
+reopened_text version = codes "reopened " ++ (decimal version ++ 10 ∷ [])
+
+-- a line that is none of a drill's
+abbrev pub refused_text : TextLine → List ℕ
+refused_text (Whole text) = codes "refused drill" ++ 10 ∷ []
+refused_text TooLong = reply_line (reply.Refused refusals.Long)
+
+-- nothing is done, and this is answered
+abbrev pub Says : List ℕ → AllCursors → Calls → List ℕ → AllCursors → Type 0
+Says said all calls text all' = (calls ≡ []) × (text ≡ said) × (all' ≡ all)
+
+-- the reply to a script line that would take a molfile
+abbrev pub molfile_refused : Lines
+molfile_refused = reply.Refused (refusals.Line refused.Syntax) ∷ []
+
+-- A script line is answered as in a session. One whose first part is `register-mol` or `revise-mol` is refused, and
+-- takes no lines
+abbrev pub IsOwnAnswer : ℕ → List ℕ → List Cursor → Calls → Lines → List Cursor → Type 0
+IsOwnAnswer size line cursors calls lines cursors' =
+    (StartsMolfile line × (calls ≡ []) × (lines ≡ molfile_refused)
+    × (cursors' ≡ cursors))
+    ⊎ (¬ StartsMolfile line
+    × RequestAnswer size cursors (record { line = Whole line; molfile = [] }) calls lines cursors')
+
+-- a session's line is answered by that session's cursors, each line of the reply with the number of the session
+pub record IsSessionAnswer (size number : ℕ) (line : List ℕ) (all : AllCursors) (calls : Calls) (text : List ℕ)
+    (all' : AllCursors) : Type 0 where
+  pub before : AllCursors
+  pub cursors : List Cursor
+  pub cursors' : List Cursor
+  pub after : AllCursors
+  pub lines : Lines
+  pub place : all ≡ before ++ cursors ∷ after
+  pub number_is : number ≡ length before + 1
+  pub answer : IsOwnAnswer size line cursors calls lines cursors'
+  pub said : text ≡ numbered number (text_of lines)
+  pub left : all' ≡ before ++ cursors' ∷ after
+
+-- a crash and an opening: the number of commits is answered, and no cursor is left
+abbrev pub IsReopening : AllCursors → Calls → List ℕ → AllCursors → Type 0
+IsReopening all calls text all' =
+    (version : ℕ) × (calls ≡ (Crash, Crashed) ∷ (Open, Opened version) ∷ []) × (text ≡ reopened_text version)
+    × (all' ≡ map (λ _. []) all)
+
+-- what is done for a line, by what it is read as, and how it is answered; pages have a size
+abbrev pub Does : ℕ → TextLine → Option DrillLine → AllCursors → Calls → List ℕ → AllCursors → Type 0
+Does size line (Some Empty) all calls text all' = Says [] all calls text all'
+Does size line (Some (Session number own)) all calls text all' =
+    IsSessionAnswer size number own all calls text all'
+Does size line (Some (Stop calls_left)) all calls text all' = Says set_text all calls text all'
+Does size line (Some (Fail call)) all calls text all' = Says set_text all calls text all'
+Does size line (Some (Reopen image)) all calls text all' = IsReopening all calls text all'
+Does size line None all calls text all' = Says (refused_text line) all calls text all'
+
+abbrev pub IsExchange : ℕ → AllCursors → Exchange → AllCursors → Type 0
+IsExchange size all x all' = Reads x.line x.read × Does size x.line x.read all x.calls x.text all'
+
+-- lines were answered one after another, and these cursors are then open
+abbrev pub AreExchanged : ℕ → AllCursors → List Exchange → AllCursors → Type 0
+AreExchanged size all [] all' = all' ≡ all
+AreExchanged size all (x ∷ xs) all' =
+    (between : AllCursors) × IsExchange size all x between × AreExchanged size between xs all'
+
+abbrev pub lines_of : List Exchange → List TextLine
+lines_of exchanges = map (λ x. x.line) exchanges
+
+-- what was done for all of them, and the text of all answers
+abbrev pub calls_of : List Exchange → Calls
+calls_of [] = []
+calls_of (x ∷ xs) = x.calls ++ calls_of xs
+
+abbrev pub replies_of : List Exchange → List ℕ
+replies_of [] = []
+replies_of (x ∷ xs) = x.text ++ replies_of xs

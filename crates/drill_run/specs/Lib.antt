@@ -1,0 +1,7 @@
+pub mod Lines
+pub mod Numbers
+pub mod Dialogue
+pub mod Causes
+pub mod Drilled
+pub mod Views
+pub mod Turns

@@ -1,0 +1,98 @@
+//! The lines of a drill.
+ghost use Rattle.std.specs.Prelude.{◌≡◌, ◌≢◌, ◌≤◌, ◌++◌, ◌∷◌, Contains, IfNone, IfSome, List, decimal, option_map, ℕ};
+ghost use Rattle.std.specs.Bool.{OnFalse, OnTrue};
+ghost use Rattle.shell_lang.specs.Command.{HasNoSpace};
+ghost use Rattle.drill_run.specs.Lines.{IsLine};
+ghost use Rattle.drill_run.specs.Views.{line_of};
+
+use chem_text::decimal;
+
+/// How many sessions a drill has.
+pub const SESSIONS: u32 = 16;
+
+/// The greatest number of a call that fails, or of calls before a stop.
+pub const MOST_CALLS: u32 = 1_000_000;
+
+/// The greatest number of an image.
+pub const LAST_IMAGE: u32 = u32::MAX;
+
+/// A line of a drill.
+#[derive(Clone, Copy, Debug)]
+pub enum DrillLine<'a> {
+    /// An empty line, which has no reply.
+    Empty,
+    /// `S LINE`: a script line for a session, from 1 on.
+    Session { number: u32, line: &'a [u8] },
+    /// `stop K`: after `calls` calls of the disk each fails.
+    Stop { calls: u32 },
+    /// `fail K`: the call of the disk of this number from now fails.
+    Fail { call: u32 },
+    /// `reopen N`: a crash that leaves an image, and an opening.
+    Reopen { image: u32 },
+}
+
+/// Reads a line, without its end. Numbers are decimals without leading zero. `None`: it is no line of a drill.
+pub fn drill_line(line: &[u8]) -> Option<DrillLine<'_>>
+    ensures { IsLine line.now (option_map line_of result) }
+{
+    if line.is_empty() {
+        return Some(DrillLine::Empty);
+    }
+    let (first, rest) = split_at_space(line)?;
+    if are_same(first, b"stop") {
+        return Some(DrillLine::Stop {
+            calls: number(rest, MOST_CALLS)?,
+        });
+    }
+    if are_same(first, b"fail") {
+        return Some(DrillLine::Fail {
+            call: number_from_1(rest, MOST_CALLS)?,
+        });
+    }
+    if are_same(first, b"reopen") {
+        return Some(DrillLine::Reopen {
+            image: number(rest, LAST_IMAGE)?,
+        });
+    }
+    Some(DrillLine::Session {
+        number: number_from_1(first, SESSIONS)?,
+        line: rest,
+    })
+}
+
+fn are_same(bytes: &[u8], others: &[u8]) -> bool
+    ensures same { OnTrue result (bytes.now ≡ others.now) }
+    ensures other { OnFalse result (bytes.now ≢ others.now) }
+{
+    bytes == others
+}
+
+// The number that the bytes are printed as, if it is at most `most`.
+fn number(bytes: &[u8], most: u32) -> Option<u32>
+    ensures some { IfSome result (λ n. (n ≤ most) × (bytes.now ≡ decimal n)) }
+    ensures none { IfNone result ((n : ℕ) → n ≤ most → bytes.now ≢ decimal n) }
+{
+    let number = decimal(bytes, u64::from(most))?;
+    Some(number as u32)
+}
+
+// The same of a number that is not 0.
+fn number_from_1(bytes: &[u8], most: u32) -> Option<u32>
+    ensures some { IfSome result (λ n. (1 ≤ n) × (n ≤ most) × (bytes.now ≡ decimal n)) }
+    ensures none { IfNone result ((n : ℕ) → 1 ≤ n → n ≤ most → bytes.now ≢ decimal n) }
+{
+    match number(bytes, most) {
+        Some(number) if number >= 1 => Some(number),
+        _ => None,
+    }
+}
+
+// The bytes before the first space, and those after it.
+fn split_at_space(bytes: &[u8]) -> Option<(&[u8], &[u8])>
+    ensures parts { IfSome result (λ parts. bytes.now ≡ parts.0.now ++ 32 ∷ parts.1.now) }
+    ensures first { IfSome result (λ parts. HasNoSpace parts.0.now) }
+    ensures none { IfNone result (HasNoSpace bytes.now) }
+{
+    let place = bytes.iter().position(|byte| *byte == b' ')?;
+    Some((&bytes[..place], &bytes[place + 1..]))
+}

@@ -1,0 +1,143 @@
+//! Worked drills.
+
+use crate::drill;
+use drill_core::World;
+use io_edge::{MemSink, MemSource};
+use par_search::NoMeter;
+use session_run::{EndStatus, Settings};
+use std::alloc::Global;
+use std::test::Fail;
+use std::thread::Threads;
+
+// What a drill wrote; nothing where it did not come to its end.
+fn drilled<R: Threads + Sync>(rt: &R, alloc: Global, script: &str) -> Result<String, Fail> {
+    let settings = Settings {
+        workers: 1,
+        page: 256,
+        input_limit: 1 << 32,
+    };
+    let world = World::new(alloc, 100)?;
+    let script = Vec::from_slice(alloc, script.as_bytes())?;
+    let mut source = MemSource::new(script, 4096, Vec::new(alloc));
+    let mut sink = MemSink::new(alloc, Vec::new(alloc));
+    match drill(
+        rt,
+        alloc,
+        world,
+        &mut source,
+        &mut sink,
+        &settings,
+        &NoMeter,
+    ) {
+        EndStatus::Done => Ok(String::from_utf8(Vec::from_slice(alloc, sink.bytes())?)?),
+        _ => Ok(String::new(alloc)),
+    }
+}
+
+#[test]
+fn a_stop_leaves_the_commit_or_not(rt: HostRuntime) -> Result<(), Fail> {
+    let alloc = rt.alloc();
+    let rows = [
+        (0, "fault disk sure", [1, 1, 1, 1]),
+        (1, "fault disk sure", [1, 1, 1, 1]),
+        (2, "fault disk doubt", [1, 1, 2, 1]),
+        (3, "fault disk doubt", [2, 1, 2, 1]),
+        (4, "ok 2", [2, 2, 2, 2]),
+    ];
+    for (calls, answer, left) in rows {
+        for image in 0..4 {
+            let script = format!(in alloc;
+                "1 register 1 CCO\nstop {calls}\n1 register 2 CC=O\nreopen {image}\n"
+            )?;
+            let version = left[image];
+            let replies = format!(in alloc; "1 ok 1\nset\n1 {answer}\nreopened {version}\n")?;
+            assert_eq!(rt; drilled(&rt, alloc, &script)?, replies);
+        }
+    }
+    Ok(())
+}
+
+#[test]
+fn a_failed_commit_is_settled_by_the_next_one(rt: HostRuntime) -> Result<(), Fail> {
+    let script =
+        "1 register 1 CCO\nfail 4\n1 register 2 CC=O\n1 register 3 C\nreopen 0\n1 show 2\n2 show 3\n";
+    let replies = "1 ok 1\nset\n1 fault disk doubt\n1 ok 2\nreopened 2\n1 refused absent\n\
+        2 record 3 version 2 smiles C\n";
+    assert_eq!(rt; drilled(&rt, rt.alloc(), script)?.as_str(), replies);
+    Ok(())
+}
+
+#[test]
+fn a_reopening_leaves_no_cursor(rt: HostRuntime) -> Result<(), Fail> {
+    let script =
+        "1 register 1 CO\n1 open s C\n2 revise 1 N\n2 prune\n1 next s\nreopen 0\n1 next s\n";
+    let replies = "1 ok 1\n1 opened 1\n2 ok 2\n2 pruned 0\n1 hit 1\n1 end at 1 tried 1 hits 1\n\
+        reopened 2\n1 refused cursor\n";
+    assert_eq!(rt; drilled(&rt, rt.alloc(), script)?.as_str(), replies);
+    Ok(())
+}
+
+#[test]
+fn no_acknowledged_commit_is_lost(rt: HostRuntime) -> Result<(), Fail> {
+    let alloc = rt.alloc();
+    for calls in 0..13 {
+        for image in 0..10 {
+            let script = format!(in alloc;
+                "1 register 1 C\nstop {calls}\n1 register 2 C\n1 register 3 C\n\
+                1 register 4 C\nreopen {image}\n1 stats\n"
+            )?;
+            let replies = drilled(&rt, alloc, &script)?;
+            let acknowledged = replies.matches("1 ok ").count();
+            let least = format!(in alloc; "\nreopened {acknowledged}\n")?;
+            let most = format!(in alloc; "\nreopened {}\n", acknowledged + 1)?;
+            assert!(rt; replies.contains(least.as_str()) || replies.contains(most.as_str()));
+        }
+    }
+    Ok(())
+}
+
+#[test]
+fn lines_that_are_none_are_refused(rt: HostRuntime) -> Result<(), Fail> {
+    let refused = [
+        "01 stats",
+        "0 stats",
+        "17 stats",
+        "1",
+        " 1 stats",
+        "stop",
+        "stop  1",
+        "stop 01",
+        "stop 1000001",
+        "fail 0",
+        "fail 1000001",
+        "fail 1 ",
+        "reopen 4294967296",
+        "reopen -1",
+        "Stop 1",
+        "stats",
+    ];
+    let alloc = rt.alloc();
+    for line in refused {
+        assert_eq!(rt;
+            drilled(&rt, alloc, line)?.as_str(),
+            "refused drill\n",
+            "{line}"
+        );
+    }
+    for (script, replies) in [
+        ("", ""),
+        ("\n1 \n", ""),
+        ("1  stats", "1 refused syntax\n"),
+        (
+            "16 register-mol 1\n2 revise-mol\n3 next s",
+            "16 refused syntax\n2 refused syntax\n3 refused cursor\n",
+        ),
+        (
+            "stop 1000000\nfail 1000000\nreopen 4294967295",
+            "set\nset\nreopened 0\n",
+        ),
+    ] {
+        assert_eq!(rt; drilled(&rt, alloc, script)?.as_str(), replies);
+    }
+    Ok(())
+}
