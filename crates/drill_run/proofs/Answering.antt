@@ -1,5 +1,5 @@
 -- What lines do to a world and to the sessions.
-use Rattle.std.proofs.Common.{◌≡◌, ◌≤◌, ◌<◌, ◌+◌, ◌-◌, ◌^◌, ◌++◌, ◌∙◌, ap, append-nil, arith, Err, get_or, inl, inr, length, List, [], ◌∷◌, map, None, Ok, Option, refl, Result, set, Some, subst, suc, sym, true, zero, ℕ}
+use Rattle.std.proofs.Common.{◌≡◌, ◌≤◌, ◌<◌, ◌+◌, ◌-◌, ◌++◌, ◌∙◌, ap, arith, Err, get_or, inl, inr, length, List, [], ◌∷◌, map, Ok, Option, refl, Result, set, Some, subst, suc, sym, true, zero, ℕ}
 use Rattle.std.specs.List.{AllByRecursion}
 use Rattle.std.specs.Prelude.{IfOk, IsErr, OnErr, OnOk, Vec}
 use Rattle.std.specs.declared.alloc.Global.{Global}
@@ -7,22 +7,20 @@ use Rattle.std.proofs.lemmas.Bool.{true≢false}
 use Rattle.std.proofs.lemmas.List.{map-append}
 use Rattle.std.specs.declared.alloc.AllocError.{AllocError}
 use Rattle.disk_edge.specs.Failures.{bound_of}
-use Rattle.disk_edge.specs.Medium.{Medium, model}
-use Rattle.drill_core.specs.Faults.{FaultsAreCounted, disk_faults, failed}
+use Rattle.disk_edge.specs.Medium.{model}
+use Rattle.drill_core.specs.Faults.{FaultsAreCounted, disk_faults}
 use Rattle.drill_core.specs.Worlds.{HasNoFailures, Reopens}
 use Rattle.io_edge.specs.Lines.{TextLine, Whole}
 use Rattle.session_run.specs.Acts.{Lines, RequestAnswer}
 use Rattle.session_run.specs.Cursors.{Calls, Cursor}
 use Rattle.session_run.specs.Made as made
 use Rattle.session_run.specs.Made.{Answered, AnsweredBy, Broken, Did, Said, Unsaid}
-use Rattle.session_run.specs.Pins.{AreHeld, HeldAfter, MovePins}
-use Rattle.session_run.specs.Requests.{Request}
+use Rattle.session_run.specs.Pins.{AreHeld, HeldAfter}
 use Rattle.session_run.specs.Opened.{opened}
 use Rattle.session_run.specs.Responds.{IsFit, KeepsPins}
 use Rattle.session_run.specs.Walks.{cursors_of}
 use Rattle.session_run.specs.declared.respond.Responder.{Responder}
 use Rattle.session_run.specs.declared.settings.Settings.{Settings}
-use Rattle.session_run.specs.declared.stop.Stop.{Stop}
 use Rattle.session_run.specs.declared.stop.Stop.TheVariants as stops
 use Rattle.session_run.proofs.ActPins.{act_held, act_others}
 use Rattle.session_run.proofs.Held.{held-same, moves-none, not_raised-same, same_others, same_others-more}
@@ -38,13 +36,12 @@ use Rattle.store_machine.specs.declared.machine.State.{State}
 use Rattle.store_machine.specs.declared.machine.Times.{Times}
 use Rattle.store_disk.specs.InMemory.{StandsInMemory}
 use Rattle.store_disk.specs.Stored.{stays}
-use Rattle.drill_run.specs.Causes.{MayFail, Tally, faults_in, tally_after}
-use Rattle.drill_run.specs.Dialogue.{AllCursors, Does, Exchange, IsOwnAnswer, molfile_refused, reopened_text}
-use Rattle.drill_run.specs.Drilled.{IsCutOf, RunsTo, events_of}
+use Rattle.drill_run.specs.Causes.{Tally, faults_in, tally_after}
+use Rattle.drill_run.specs.Dialogue.{AllCursors, Does, IsOwnAnswer, molfile_refused, reopened_text}
 use Rattle.drill_run.specs.Lines.{DrillLine, Reads, Reopen, Session}
 use Rattle.drill_run.specs.Numbers.{numbered}
 use Rattle.drill_run.specs.Turns as turns
-use Rattle.drill_run.specs.Turns.{AnswersOwn, AreReady, Breaks, Goes, IsSessionOf, IsSmall, IsTallied, Uses, WorldTerm, all_of}
+use Rattle.drill_run.specs.Turns.{AnswersOwn, AreReady, Breaks, Goes, IsSessionOf, IsTallied, Uses, WorldTerm, all_of}
 use Rattle.drill_run.specs.Views.{cursors_in}
 use Rattle.drill_run.specs.declared.line.TheConstants.{SESSIONS}
 use Rattle.drill_run.specs.declared.sessions.Sessions.{Sessions}
@@ -272,8 +269,8 @@ module _ (a b : Sessions) (old new : WorldTerm) (line : TextLine) (read : Option
       → turns.Answered a b old line (Ok new)
   quiet responders settings out = (
     goes-as (out ∙ ap (λ (l : List ℕ). l ++ text) empty)
-        (subst (λ (r : Vec Responder Global). Goes a.settings.page line old new (cursors_in a.responders.items) (cursors_in r.items) text)
-        (sym responders) goes-quiet),
+        (subst (λ (r : Vec Responder Global). Goes a.settings.page line old new (cursors_in a.responders.items)
+        (cursors_in r.items) text) (sym responders) goes-quiet),
     ready-same old new a b ready stands memory responders settings,
     settings,
   )

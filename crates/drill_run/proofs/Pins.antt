@@ -1,11 +1,9 @@
 -- The pins of the cursors of all sessions.
 use Rattle.std.proofs.Common.{◌≡◌, ◌⊎◌, ◌++◌, ◌∙◌, ap, append_assoc, inl, inr, List, [], ◌∷◌, map, refl, subst, sym, ℕ}
-use Rattle.session_run.specs.Acts.{RequestAnswer}
-use Rattle.session_run.specs.Cursors.{Calls, Cursor}
-use Rattle.session_run.specs.Pins.{AreHeld, HasSlot, HeldAfter, MovePins, SameOthers}
+use Rattle.session_run.specs.Cursors.{Cursor}
+use Rattle.session_run.specs.Pins.{AreHeld, HasSlot, SameOthers}
 use Rattle.session_run.specs.Responds.{KeepsPins}
-use Rattle.session_run.proofs.ActPins.{act_held, act_others}
-use Rattle.session_run.proofs.Held.{held-same, same_others, same_others-more, slot-left, slot-right}
+use Rattle.session_run.proofs.Held.{slot-left, slot-right}
 use Rattle.drill_run.specs.Dialogue.{AllCursors}
 use Rattle.drill_run.specs.Turns.{all_of}
 

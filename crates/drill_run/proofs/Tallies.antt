@@ -1,5 +1,5 @@
 -- What lines do to the tally of their part.
-use Rattle.std.proofs.Common.{◌≡◌, ◌≤◌, ◌<◌, ◌+◌, ◌^◌, ap, arith, inl, inr, None, Option, refl, Some, subst, suc, sym, zero, ℕ}
+use Rattle.std.proofs.Common.{◌≡◌, ◌≤◌, ◌<◌, ◌+◌, ◌^◌, arith, inl, inr, None, Option, refl, Some, subst, suc, sym, zero, ℕ}
 use Rattle.std.specs.Prelude.{IfSome, IsSomeAnd}
 use Rattle.disk_edge.specs.Failures.{bound_from, bound_of, pending}
 use Rattle.disk_edge.specs.declared.failures.Failures.{Failures}
