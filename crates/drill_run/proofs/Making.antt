@@ -1,5 +1,5 @@
 -- Sessions that are made, and that forget their cursors.
-use Rattle.std.proofs.Common.{◌≡◌, ◌≤◌, ◌<◌, ◌+◌, ◌++◌, ◌∙◌, ap, arith, length, List, [], ◌∷◌, map, refl, replicate, set, subst, suc, sym, zero, ℕ}
+use Rattle.std.proofs.Common.{◌≡◌, ◌≤◌, ◌<◌, ◌+◌, ◌++◌, ◌∙◌, ap, arith, get_or, length, List, [], ◌∷◌, map, refl, replicate, set, subst, suc, sym, zero, ℕ}
 use Rattle.std.specs.List.{AllByRecursion}
 use Rattle.session_run.specs.Cursors.{Cursor}
 use Rattle.session_run.specs.Opened.{opened}
@@ -97,7 +97,7 @@ set-all P (x ∷ xs) zero y h p = (p, h.1)
 set-all P (x ∷ xs) (suc i) y h p = (h.0, set-all P xs i y h.1 p)
 
 pub get-all : {X : Type 0} (P : X → Type 0) (xs : List X) (i : ℕ) (x : X) → AllByRecursion P xs → i < length xs
-    → x ≡ Rattle.std.specs.Prelude.get_or xs i x → P x
+    → x ≡ get_or xs i x → P x
 get-all P [] i x h less e = absurd (omega (arith, less))
 get-all P (z ∷ xs) zero x h less e = subst P (sym e) h.0
 get-all P (z ∷ xs) (suc i) x h less e = get-all P xs i x h.1 (omega (arith, less)) e

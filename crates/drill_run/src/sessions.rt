@@ -52,7 +52,8 @@ impl Sessions {
     {
         let mut responders = Vec::new(alloc);
         for _ in 0..SESSIONS {
-            responders.push(Responder::new(alloc, settings)?)?;
+            let responder = Responder::new(alloc, settings)?;
+            responders.push(responder)?;
         }
         Ok(Sessions {
             settings,

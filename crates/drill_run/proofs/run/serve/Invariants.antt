@@ -5,8 +5,8 @@ use Rattle.drill_run.specs.Views.{cursors_in}
 use Rattle.drill_run.proofs.Scripts.{IsUnderWay}
 use Rattle.drill_run.proofs.run.serve.Given as goal
 
-abbrev pub invariant-loop : goal.invariant-loop
-invariant-loop g l = record {
+abbrev pub invariant-loop-after : goal.invariant-loop-after
+invariant-loop-after g l = record {
   ready : AreReady l.world l.sessions;
   settings : l.sessions.settings ≡ l.fn.sessions.settings;
   under_way : IsUnderWay l.fn.sessions.settings.page l.fn.lines.limit l.fn.world l.world
@@ -16,5 +16,5 @@ invariant-loop g l = record {
   sink_count : g.O.Sink.faults l.fn.sink ≤ g.O.Sink.faults l.sink;
 }
 
-abbrev pub decreases-loop : goal.decreases-loop
-decreases-loop g l = l.lines.limit - done_bytes l.lines
+abbrev pub decreases-loop-after : goal.decreases-loop-after
+decreases-loop-after g l = l.lines.limit - done_bytes l.lines

@@ -1,0 +1,40 @@
+use Rattle.std.proofs.Common.{◌≡◌, List, [], add-one, arith, subst, sym, suc, ℕ}
+use Rattle.session_run.specs.Pins.{AreHeld}
+use Rattle.session_run.specs.declared.respond.Responder.{Responder}
+use Rattle.store_core.specs.Stored.{HoldsPin}
+use Rattle.drill_run.specs.Dialogue.{AllCursors}
+use Rattle.drill_run.specs.Drilled.{no_cursors}
+use Rattle.drill_run.specs.Turns.{all_of}
+use Rattle.drill_run.specs.Views.{cursors_in}
+use Rattle.drill_run.proofs.Making.{AreNew, new-more, new-none, session-new}
+use Rattle.drill_run.proofs.sessions.Sessions.new.Goals as goal
+
+pub loop-init : goal.loop-init
+loop-init c = rw c.new-responders.ensures.items (new-none c.args.settings)
+
+pub loop-preserved : goal.loop-preserved
+loop-preserved c =
+    let responder = c.in_ok-responder.responder in
+    subst (λ (n : ℕ). AreNew c.args.settings n c.push.new.self.items) (sym (add-one c.loop.counter))
+    (subst (λ (l : List Responder). AreNew c.args.settings (suc c.loop.counter) l) (sym c.in_ok-push.ensures.items)
+    (new-more c.args.settings c.loop.counter c.loop.responders.items responder c.loop.invariant
+    (session-new c.args.settings responder c.requires.some_workers c.requires.few_workers c.requires.some
+    c.requires.few c.in_ok-responder.ensures.settings c.in_ok-responder.ensures.none)
+    c.in_ok-responder.ensures.none))
+
+pub returns-clause-none : goal.returns-clause-none
+returns-clause-none c =
+    let all : c.loop.counter ≡ 16 = omega arith in
+    rw all at c.loop.invariant.none
+
+pub returns-clause-ready : goal.returns-clause-ready
+returns-clause-ready c = λ world s stands.
+    let all : c.loop.counter ≡ 16 = omega arith in
+    let none : cursors_in c.loop.responders.items ≡ no_cursors = rw all at c.loop.invariant.none in
+    record {
+      state = s;
+      stands = stands;
+      number = rw all at c.loop.invariant.number;
+      fit = c.loop.invariant.fit;
+      held = subst (λ (l : AllCursors). AreHeld (HoldsPin world.memory) (all_of l)) (sym none) tt;
+    }
