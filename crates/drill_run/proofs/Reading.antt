@@ -28,8 +28,10 @@ later b c bs held = Contains-append_right (b ∷ []) bs c held
 -- the first space is one place
 one_split : (a c b d : List ℕ) → HasNoSpace a → HasNoSpace c → a ++ 32 ∷ b ≡ c ++ 32 ∷ d → (a ≡ c) × (b ≡ d)
 one_split [] [] b d p q e = (refl, cc)
-one_split [] (y ∷ c) b d p q e = let h : 32 ≡ y = cc in absurd (q (subst (λ (n : ℕ). Contains (y ∷ c) n) (sym h) (here y c)))
-one_split (x ∷ a) [] b d p q e = let h : 32 ≡ x = cc in absurd (p (subst (λ (n : ℕ). Contains (x ∷ a) n) (sym h) (here x a)))
+one_split [] (y ∷ c) b d p q e =
+    let h : 32 ≡ y = cc in absurd (q (subst (λ (n : ℕ). Contains (y ∷ c) n) (sym h) (here y c)))
+one_split (x ∷ a) [] b d p q e =
+    let h : 32 ≡ x = cc in absurd (p (subst (λ (n : ℕ). Contains (x ∷ a) n) (sym h) (here x a)))
 one_split (x ∷ a) (y ∷ c) b d p q e =
     let rest : a ++ 32 ∷ b ≡ c ++ 32 ∷ d = cc in
     let same = one_split a c b d (λ h. p (later x 32 a h)) (λ h. q (later y 32 c h)) rest in
@@ -61,7 +63,8 @@ follows : (line first rest : List ℕ) (d : DrillLine) → line ≡ first ++ 32 
     → Follows first rest d
 follows line first rest Empty cut n s = no_end first rest (sym cut ∙ s)
 follows line first rest (Session number text) cut n s =
-    let same = one_split first (decimal number) rest text n (no_digit number 32 (omega (arith, s.1)) (λ a b. omega arith))
+    let same = one_split first (decimal number) rest text n
+        (no_digit number 32 (omega (arith, s.1)) (λ a b. omega arith))
     (sym cut ∙ s.2) in
     (s.0, s.1, same.0, same.1)
 follows line first rest (Stop calls) cut n s =
@@ -89,9 +92,11 @@ not_spaced line some n (Session number text) s = n (has_space (decimal number) t
   has_space : (a b : List ℕ) → line ≡ a ++ 32 ∷ b → Contains line 32
   has_space a b e = subst (λ (l : List ℕ). Contains l 32) (sym e) (Contains-append_right a (32 ∷ b) 32 (here 32 b))
 not_spaced line some n (Stop calls) s =
-    n (subst (λ (l : List ℕ). Contains l 32) (sym s.1) (Contains-append_right (codes "stop") (32 ∷ decimal calls) 32 (here 32 _)))
+    n (subst (λ (l : List ℕ). Contains l 32) (sym s.1)
+    (Contains-append_right (codes "stop") (32 ∷ decimal calls) 32 (here 32 _)))
 not_spaced line some n (Fail call) s =
-    n (subst (λ (l : List ℕ). Contains l 32) (sym s.2) (Contains-append_right (codes "fail") (32 ∷ decimal call) 32 (here 32 _)))
+    n (subst (λ (l : List ℕ). Contains l 32) (sym s.2)
+    (Contains-append_right (codes "fail") (32 ∷ decimal call) 32 (here 32 _)))
 not_spaced line some n (Reopen image) s =
     n (subst (λ (l : List ℕ). Contains l 32) (sym s.1)
     (Contains-append_right (codes "reopen") (32 ∷ decimal image) 32 (here 32 _)))

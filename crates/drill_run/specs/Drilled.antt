@@ -1,5 +1,5 @@
--- For callers: what a drill wrote for its lines and did to its world, where the source tells its bytes and the sink what
--- was put.
+-- For callers: what a drill wrote for its lines and did to its world, where the source tells its bytes and the sink
+-- what was put.
 use Rattle.std.specs.Prelude.{◌≡◌, ◌⊎◌, ℕ, List, [], ◌∷◌, ◌++◌, map, replicate, Option, IfSome}
 use Rattle.disk_edge.specs.Medium.{Medium}
 use Rattle.io_edge.specs.Lines as io
@@ -77,8 +77,8 @@ pub record IsDialoguePrefix (size : ℕ) (lines : List TextLine) (calls : Calls)
 abbrev pub IsAllOfTaken : ℕ → Calls → List ℕ → List ℕ → Type 0
 IsAllOfTaken size calls got text = IsDialogue size (whole_lines got) [] calls text
 
--- by how the drill ended: all of it, or a beginning, by whole lines where the source failed or its bytes are too many. A
--- world is never worn
+-- by how the drill ended: all of it, or a beginning, by whole lines where the source failed or its bytes are too many.
+-- A world is never worn
 abbrev pub IsDrilled : EndStatus → ℕ → List TextLine → Calls → List ℕ → Type 0
 IsDrilled Done size lines calls text = IsDialogue size lines [] calls text
 IsDrilled SourceFault size lines calls text = (left : List TextLine) × IsDialogue size lines left calls text

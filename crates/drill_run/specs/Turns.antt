@@ -79,7 +79,8 @@ pub record AnswersOwn (size : ℕ) (line : List ℕ) (old new : WorldTerm) (curs
   pub uses : Uses old new calls
 
 -- a line was answered, and the world goes on
-pub record Goes (size : ℕ) (line : TextLine) (old new : WorldTerm) (all all' : AllCursors) (text : List ℕ) : Type 0 where
+pub record Goes (size : ℕ) (line : TextLine) (old new : WorldTerm) (all all' : AllCursors) (text : List ℕ)
+    : Type 0 where
   pub exchange : Exchange
   pub line_is : exchange.line ≡ line
   pub text_is : text ≡ exchange.text
