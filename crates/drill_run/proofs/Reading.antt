@@ -64,7 +64,7 @@ follows : (line first rest : List ℕ) (d : DrillLine) → line ≡ first ++ 32 
 follows line first rest Empty cut n s = no_end first rest (sym cut ∙ s)
 follows line first rest (Session number text) cut n s =
     let same = one_split first (decimal number) rest text n
-        (no_digit number 32 (omega (arith, s.1)) (λ a b. omega arith))
+    (no_digit number 32 (omega (arith, s.1)) (λ a b. omega arith))
     (sym cut ∙ s.2) in
     (s.0, s.1, same.0, same.1)
 follows line first rest (Stop calls) cut n s =
