@@ -18,6 +18,7 @@ use store_core::Store;
 mod bulk;
 mod cursors;
 mod disk;
+mod drills;
 mod failing;
 mod lookups;
 mod patterns;

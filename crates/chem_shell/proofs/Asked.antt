@@ -8,10 +8,10 @@ use Rattle.clap.specs.Words.{Row, Text, all_of, fault_of, first_of, matches_of}
 use Rattle.store_core.specs.declared.store.TheConstants.{MOST_COMMITS}
 use Rattle.chem_shell.specs.declared.request.Plan.{Plan}
 use Rattle.chem_shell.specs.declared.request.Verb.{Verb}
-use Rattle.chem_shell.specs.declared.request.Verb.TheVariants.{Mem, Init, Run, Serve, Bulk}
+use Rattle.chem_shell.specs.declared.request.Verb.TheVariants.{Mem, Init, Run, Serve, Bulk, Drill}
 use Rattle.chem_shell.specs.declared.words.TheConstants.{LAST_SEED, MOST_STRUCTURES}
 use Rattle.chem_shell.specs.Done.{HasEnds}
-use Rattle.chem_shell.specs.Words.{AreSizes, Asks, AsksFor, HasScripts, IsBulk, IsInit, IsMem, IsNumber, IsRow, IsRunOf, IsServe, IsSetting, IsWithinLimits, chemdb_app, texts}
+use Rattle.chem_shell.specs.Words.{AreSizes, Asks, AsksFor, HasScripts, IsBulk, IsInMemory, IsInit, IsNumber, IsRow, IsRunOf, IsServe, IsSetting, IsWithinLimits, chemdb_app, texts}
 
 pub none_of_image : {X Y : Type 0} (f : X → Y) (o : Option X) (v : Option Y) → option_map f o ≡ v → v ≡ None → o ≡ None
 none_of_image f None v same none = refl
@@ -79,14 +79,16 @@ within found p sizes commits =
 
 -- the row of a command
 abbrev pub IsOf : Verb → List Row → Plan → Type 0
-IsOf Mem found p = IsMem found p
+IsOf Mem found p = IsInMemory Mem found p
 IsOf Init found p = IsInit found p
 IsOf Run found p = IsRunOf found p
 IsOf Serve found p = IsServe found p
 IsOf Bulk found p = IsBulk found p
+IsOf Drill found p = IsInMemory Drill found p
 
 of_within : (verb : Verb) (found : List Row) (p : Plan) → IsOf verb found p → IsWithinLimits p
 of_within Mem found p a = within found p a.sizes a.commits
+of_within Drill found p a = within found p a.sizes a.commits
 of_within Run found p a = within found p a.sizes a.commits
 of_within Serve found p a = within found p a.sizes a.commits
 of_within Bulk found p a =
@@ -138,8 +140,9 @@ one_page : (found : List Row) (p q : Plan) → AreSizes found p.workers p.page �
     → p.page ≡ q.page
 one_page found p q a b = one_setting (first_of (codes "page") found) 256 256 p.page q.page (omega arith) a.1 b.1
 
-one_of : (verb : Verb) (found : List Row) (p q : Plan) → IsOf verb found p → IsOf verb found q → SamePlan p q
-one_of Mem found p q a b = record {
+one_in_memory : (verb : Verb) (found : List Row) (p q : Plan) → IsInMemory verb found p → IsInMemory verb found q
+    → SamePlan p q
+one_in_memory verb found p q a b = record {
   command = a.command ∙ sym b.command;
   ends = a.ends ∙ sym b.ends;
   commits = one_commits found p q a.commits b.commits;
@@ -147,6 +150,10 @@ one_of Mem found p q a b = record {
   seed = a.seed ∙ sym b.seed;
   count = a.count ∙ sym b.count;
 }
+
+one_of : (verb : Verb) (found : List Row) (p q : Plan) → IsOf verb found p → IsOf verb found q → SamePlan p q
+one_of Mem found p q a b = one_in_memory Mem found p q a b
+one_of Drill found p q a b = one_in_memory Drill found p q a b
 one_of Init found p q a b = record {
   command = a.command ∙ sym b.command;
   ends = a.ends ∙ sym b.ends;
@@ -197,10 +204,12 @@ word_of Init = codes "init"
 word_of Run = codes "run"
 word_of Serve = codes "serve"
 word_of Bulk = codes "bulk"
+word_of Drill = codes "drill"
 
 abbrev verb_at : ℕ → Verb
 verb_at n =
-    if n == 109 then Mem else (if n == 105 then Init else (if n == 114 then Run else (if n == 115 then Serve else Bulk)))
+    if n == 109 then Mem else (if n == 105 then Init else (if n == 114 then Run else (if n == 115 then Serve
+    else (if n == 98 then Bulk else Drill))))
 
 verb_of_word : (verb : Verb) → verb_at (get_or (word_of verb) 0 0) ≡ verb
 verb_of_word Mem = refl
@@ -208,6 +217,7 @@ verb_of_word Init = refl
 verb_of_word Run = refl
 verb_of_word Serve = refl
 verb_of_word Bulk = refl
+verb_of_word Drill = refl
 
 one_verb : (v w : Verb) → word_of v ≡ word_of w → v ≡ w
 one_verb v w e = sym (verb_of_word v) ∙ (ap (λ word. verb_at (get_or word 0 0)) e ∙ verb_of_word w)
@@ -219,7 +229,8 @@ verb_of o found p (inl a) = (Mem, a.0, a.1)
 verb_of o found p (inr (inl a)) = (Init, a.0, a.1)
 verb_of o found p (inr (inr (inl a))) = (Run, a.0, a.1)
 verb_of o found p (inr (inr (inr (inl a)))) = (Serve, a.0, a.1)
-verb_of o found p (inr (inr (inr (inr a)))) = (Bulk, a.0, a.1)
+verb_of o found p (inr (inr (inr (inr (inl a))))) = (Bulk, a.0, a.1)
+verb_of o found p (inr (inr (inr (inr (inr a))))) = (Drill, a.0, a.1)
 
 row_of : (verb : Verb) (o : Option Text) (found : List Row) (p : Plan) → o ≡ Some (word_of verb) → IsOf verb found p
     → IsRow o found p
@@ -227,7 +238,8 @@ row_of Mem o found p e a = inl (e, a)
 row_of Init o found p e a = inr (inl (e, a))
 row_of Run o found p e a = inr (inr (inl (e, a)))
 row_of Serve o found p e a = inr (inr (inr (inl (e, a))))
-row_of Bulk o found p e a = inr (inr (inr (inr (e, a))))
+row_of Bulk o found p e a = inr (inr (inr (inr (inl (e, a)))))
+row_of Drill o found p e a = inr (inr (inr (inr (inr (e, a)))))
 
 of_row : (verb : Verb) (o : Option Text) (found : List Row) (p : Plan) → o ≡ Some (word_of verb) → IsRow o found p
     → IsOf verb found p
@@ -282,8 +294,9 @@ no_command words rows is none = no_row words rows is (λ p row.
 pub no_word : (words : List Text) (rows : List Row) → rows ≡ matches_of chemdb_app words
     → first_of (codes "command") rows ≢ Some (codes "mem") → first_of (codes "command") rows ≢ Some (codes "init")
     → first_of (codes "command") rows ≢ Some (codes "run") → first_of (codes "command") rows ≢ Some (codes "serve")
-    → first_of (codes "command") rows ≢ Some (codes "bulk") → ¬ Asks words
-no_word words rows is mem init run serve bulk = no_command words rows is each
+    → first_of (codes "command") rows ≢ Some (codes "bulk") → first_of (codes "command") rows ≢ Some (codes "drill")
+    → ¬ Asks words
+no_word words rows is mem init run serve bulk drill = no_command words rows is each
   where
     each : (verb : Verb) → first_of (codes "command") rows ≢ Some (word_of verb)
     each Mem = mem
@@ -291,6 +304,7 @@ no_word words rows is mem init run serve bulk = no_command words rows is each
     each Run = run
     each Serve = serve
     each Bulk = bulk
+    each Drill = drill
 
 -- a plan has as many ends as its command
 has_ends : (verb : Verb) (found : List Row) (p : Plan) → IsOf verb found p → HasEnds p.command p.ends
@@ -298,6 +312,7 @@ has_ends Mem found p a = subst (λ (v : Verb). HasEnds v p.ends) (sym a.command)
 has_ends Init found p a = subst (λ (v : Verb). HasEnds v p.ends) (sym a.command) a.ends
 has_ends Run found p a = subst (λ (v : Verb). HasEnds v p.ends) (sym a.command) a.ends
 has_ends Bulk found p a = subst (λ (v : Verb). HasEnds v p.ends) (sym a.command) a.ends
+has_ends Drill found p a = subst (λ (v : Verb). HasEnds v p.ends) (sym a.command) a.ends
 has_ends Serve found p a =
     let count = a.ends ∙ scripts_of (all_of (codes "args") found) p a.args in
     subst (λ (v : Verb). HasEnds v p.ends) (sym a.command)
@@ -321,3 +336,4 @@ scripts_of_plan words p a serves =
     go Init found b = absurd (cc (b.command, serves))
     go Run found b = absurd (cc (b.command, serves))
     go Bulk found b = absurd (cc (b.command, serves))
+    go Drill found b = absurd (cc (b.command, serves))

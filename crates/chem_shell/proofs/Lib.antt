@@ -1,5 +1,6 @@
 pub mod Ends
 pub mod Transcripts
+pub mod Drills
 pub mod Summaries
 pub mod Asked
 pub mod WordsExamples

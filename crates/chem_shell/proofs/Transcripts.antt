@@ -117,7 +117,7 @@ nothing_is_true h page lines = record {
 none_of_run : (commits : ℕ) → AreOfRun commits []
 none_of_run commits = record { steps = []; last = empty commits; run = refl; calm = tt; all = refl; sure = tt }
 
-writes_as : (before after : Option (List ℕ)) (P Q : List ℕ → Type 0) → ((text : List ℕ) → P text → Q text)
+pub writes_as : (before after : Option (List ℕ)) (P Q : List ℕ → Type 0) → ((text : List ℕ) → P text → Q text)
     → Writes before after P → Writes before after Q
 writes_as None after P Q f h = tt
 writes_as (Some old) after P Q f h = (h.0, h.1, f h.0 h.2)
@@ -169,7 +169,7 @@ all_of NoMemory status page input before after calls h is e s = absurd (omega (a
 all_of InputTooLong status page input before after calls h is e s = absurd (omega (arith, is, e))
 
 -- status 0 comes where the session was done
-done_of : (ended : EndStatus) (status : ℕ) → IsStatusOf ended status → status ≡ DONE → ended ≡ Done
+pub done_of : (ended : EndStatus) (status : ℕ) → IsStatusOf ended status → status ≡ DONE → ended ≡ Done
 done_of Done status is e = refl
 done_of Worn status is e = absurd (omega (arith, is, e))
 done_of SourceFault status is e = absurd (omega (arith, is, e))

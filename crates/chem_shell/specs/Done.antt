@@ -5,6 +5,7 @@ use Rattle.disk_edge.specs.Disk.{DiskModel}
 use Rattle.serve_ends.specs.declared.end.End.{End}
 use Rattle.serve_ends.specs.declared.serve.TheConstants.{MOST_ENDS}
 use Rattle.store_disk.specs.declared.disks.Disks.{Disks}
+use Rattle.chem_shell.specs.Drills.{ServesDrill}
 use Rattle.chem_shell.specs.Ends.{ServesBulk, ServesMem}
 use Rattle.chem_shell.specs.Loading.{HasCauses, HasEndCauses}
 use Rattle.chem_shell.specs.OnDisk.{Creates, IsRefused, RunsOn, ServesOn}
@@ -12,7 +13,7 @@ use Rattle.chem_shell.specs.Status.{first_fault}
 use Rattle.chem_shell.specs.declared.outcome.Outcome.{Outcome}
 use Rattle.chem_shell.specs.declared.request.Plan.{Plan}
 use Rattle.chem_shell.specs.declared.request.Verb.{Verb}
-use Rattle.chem_shell.specs.declared.request.Verb.TheVariants.{Mem, Init, Run, Serve, Bulk}
+use Rattle.chem_shell.specs.declared.request.Verb.TheVariants.{Mem, Init, Run, Serve, Bulk, Drill}
 use Rattle.chem_shell.specs.declared.status.TheConstants.{USAGE}
 
 -- how many ends a command has
@@ -22,6 +23,7 @@ HasEnds Serve count = (1 ≤ count) × (count ≤ MOST_ENDS)
 HasEnds Mem count = count ≡ 1
 HasEnds Run count = count ≡ 1
 HasEnds Bulk count = count ≡ 1
+HasEnds Drill count = count ≡ 1
 
 module _ {D S K : Type 0} (model : DiskModel D) (left : S → Option (List ℕ)) (source_faults : S → ℕ)
     (written : K → Option (List ℕ)) (sink_faults : K → ℕ) where
@@ -34,6 +36,7 @@ module _ {D S K : Type 0} (model : DiskModel D) (left : S → Option (List ℕ))
   Leaves Serve plan disks ends r = AllZip (IsRefused model disks.a r.a) ends r.ends.items
       ⊎ ServesOn model left written plan disks.a r.a disks.b ends r.ends.items
   Leaves Bulk plan disks ends r = (r.a ≡ disks.a) × AllZip (ServesBulk plan written) ends r.ends.items
+  Leaves Drill plan disks ends r = (r.a ≡ disks.a) × AllZip (ServesDrill plan left written) ends r.ends.items
 
   -- and the causes of the statuses
   pub record IsDone (plan : Plan) (disks : Disks D) (ends : List (End S K)) (r : Outcome D S K) : Type 0 where

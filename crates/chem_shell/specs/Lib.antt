@@ -4,6 +4,7 @@ pub mod Summed
 pub mod Status
 pub mod Serving
 pub mod Ends
+pub mod Drills
 pub mod Crashes
 pub mod OnDisk
 pub mod Loading

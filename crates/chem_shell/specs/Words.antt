@@ -9,7 +9,7 @@ use Rattle.session_run.specs.declared.settings.Settings.{Settings}
 use Rattle.store_core.specs.declared.store.TheConstants.{MOST_COMMITS}
 use Rattle.chem_shell.specs.declared.request.Plan.{Plan}
 use Rattle.chem_shell.specs.declared.request.Verb.{Verb}
-use Rattle.chem_shell.specs.declared.request.Verb.TheVariants.{Mem, Init, Run, Serve, Bulk}
+use Rattle.chem_shell.specs.declared.request.Verb.TheVariants.{Mem, Init, Run, Serve, Bulk, Drill}
 use Rattle.chem_shell.specs.declared.settings.TheConstants.{INPUT_LIMIT}
 use Rattle.chem_shell.specs.declared.words.TheConstants.{LAST_SEED, MOST_STRUCTURES}
 
@@ -62,12 +62,12 @@ abbrev pub AreSizes : List Row → ℕ → ℕ → Type 0
 AreSizes found workers page =
     IsSetting (first_of (codes "workers") found) 16 1 workers × IsSetting (first_of (codes "page") found) 256 256 page
 
--- `mem`: no args, 1 to 16,777,215 commits, one end
-pub record IsMem (found : List Row) (plan : Plan) : Type 0 where
+-- `mem` and `drill`: no args, 1 to 16,777,215 commits, one end
+pub record IsInMemory (verb : Verb) (found : List Row) (plan : Plan) : Type 0 where
   pub args : all_of (codes "args") found ≡ None
   pub sizes : AreSizes found plan.workers plan.page
   pub commits : IsSetting (first_of (codes "commits") found) MOST_COMMITS MOST_COMMITS plan.commits
-  pub command : plan.command ≡ Mem
+  pub command : plan.command ≡ verb
   pub ends : plan.ends ≡ 1
   pub file : plan.file ≡ None
   pub scripts : plan.scripts.items ≡ []
@@ -159,11 +159,12 @@ pub record IsBulk (found : List Row) (plan : Plan) : Type 0 where
 -- the table of commands
 abbrev pub IsRow : Option Text → List Row → Plan → Type 0
 IsRow command found plan =
-    ((command ≡ Some (codes "mem")) × IsMem found plan)
+    ((command ≡ Some (codes "mem")) × IsInMemory Mem found plan)
     ⊎ (((command ≡ Some (codes "init")) × IsInit found plan)
     ⊎ (((command ≡ Some (codes "run")) × IsRunOf found plan)
     ⊎ (((command ≡ Some (codes "serve")) × IsServe found plan)
-    ⊎ ((command ≡ Some (codes "bulk")) × IsBulk found plan))))
+    ⊎ (((command ≡ Some (codes "bulk")) × IsBulk found plan)
+    ⊎ ((command ≡ Some (codes "drill")) × IsInMemory Drill found plan)))))
 
 -- `clap` finds no fault in the words, and their match is a row of the table that has this plan
 pub record AsksFor (words : List Text) (plan : Plan) : Type 0 where

@@ -15,6 +15,8 @@ pub enum Verb {
     Serve,
     /// A generated script on a store in memory, and the summary of its transcript.
     Bulk,
+    /// One drill: sessions on a store in memory whose disk is stopped, failed and reopened.
+    Drill,
 }
 
 /// What the words ask for: a command and its settings.

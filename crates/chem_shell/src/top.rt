@@ -6,6 +6,7 @@ ghost use Rattle.io_edge.specs.Faults.{Rose};
 ghost use Rattle.journal_core.specs.Records.{IsNoJournal};
 ghost use Rattle.session_run.specs.Served.{TakesExactly};
 ghost use Rattle.store_disk.specs.Loads.{Damages};
+ghost use Rattle.chem_shell.specs.Drills.{ServesDrill};
 ghost use Rattle.chem_shell.specs.Ends.{ServesBulk, ServesMem, with_status};
 ghost use Rattle.chem_shell.specs.Done.{HasEnds, IsDone};
 ghost use Rattle.chem_shell.specs.OnDisk.{Creates, IsRefused, RunsOn, ServesOn};
@@ -15,6 +16,7 @@ ghost use Rattle.chem_shell.specs.Words.{texts, Asks, AsksFor, IsWithinLimits, O
 
 use crate::bulk::serve_bulk;
 use crate::disk::{create, serve_run};
+use crate::drill::serve_drill;
 use crate::mem::serve_mem;
 use crate::outcome::Outcome;
 use crate::request::{Plan, PlanFault, Verb};
@@ -34,8 +36,9 @@ use store_disk::Disks;
 
 /// The program over the objects that it is handed: what the words ask for is done with the ends and the disks, and the
 /// statuses say how it ended. `mem` serves one end by a session over a store in memory, and `run` over the store of
-/// disk `a`; `serve` serves several at the same time over that store; `bulk` puts a summary to one; `init` makes a store
-/// on disk `a`, and has no end. Disk `b` is not used yet.
+/// disk `a`; `serve` serves several at the same time over that store; `bulk` puts a summary to one; `drill` serves one by
+/// sessions on a store in memory whose disk is stopped, failed and reopened; `init` makes a store on disk `a`, and has no
+/// end. Disk `b` is not used yet.
 pub fn chemdb<
     R: Threads + Wait + Sync,
     D: Disk + Send + Drop,
@@ -108,6 +111,12 @@ pub fn chemdb<
     // as for `mem`; a prefix of one where the sink failed; nothing where memory ran out.
     ensures bulk { OnPlan (texts words.now) Verb.Bulk (λ plan. (result.a ≡ a)
         × AllZip (ServesBulk plan K.written) ends.items result.ends.items) }
+
+    // `drill`: what was written is a prefix of a drill of the source's bytes, by pages of the plan, in a run of a store
+    // in memory that begins empty and may have the plan's commits, with a crash and an opening for each reopening; all
+    // of one where the status is 0. A disk fault comes only where the lines `stop` and `fail` before it allow it.
+    ensures drill { OnPlan (texts words.now) Verb.Drill (λ plan. (result.a ≡ a)
+        × AllZip (ServesDrill plan S.left K.written) ends.items result.ends.items) }
 {
     let disks = Disks { a, b };
     match plan(alloc, words) {
@@ -134,6 +143,7 @@ fn carry_out<
         Verb::Run => run(rt, alloc, plan, disks, ends),
         Verb::Serve => serve_many(rt, alloc, plan, disks, ends),
         Verb::Bulk => bulk(rt, alloc, plan, disks, ends),
+        Verb::Drill => drill(rt, alloc, plan, disks, ends),
     }
 }
 
@@ -188,6 +198,23 @@ fn bulk<R: Threads + Sync, D: Disk + Drop, S: Source + Drop, K: Sink + Drop>(
     ensures { IsDone D.model S.left S.faults K.written K.faults plan.now disks ends.items result }
 {
     serve_bulk(rt, alloc, plan, &mut ends[0]);
+    Outcome::served(0, disks, ends)
+}
+
+// `drill`: serves the one end by a drill.
+fn drill<R: Threads + Sync, D: Disk + Drop, S: Source + Drop, K: Sink + Drop>(
+    rt: &R,
+    alloc: Global,
+    plan: &Plan<'_>,
+    disks: Disks<D>,
+    mut ends: Vec<End<S, K>>,
+) -> Outcome<D, S, K>
+    requires plan { IsWithinLimits plan.now }
+    requires command { plan.now.command ≡ Verb.Drill }
+    requires one_end { length ends.items ≡ 1 }
+    ensures { IsDone D.model S.left S.faults K.written K.faults plan.now disks ends.items result }
+{
+    serve_drill(rt, alloc, plan, &mut ends[0]);
     Outcome::served(0, disks, ends)
 }
 

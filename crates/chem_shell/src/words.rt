@@ -3,7 +3,7 @@ ghost use Rattle.std.specs.Prelude.{◌≡◌, ◌≢◌, ◌≤◌, ◌⊎◌, 
 ghost use Rattle.clap.specs.Words.{Text, app_of, fault_of, found_of, kind_of, matches_of, rows_of, rule_of};
 ghost use Rattle.serve_ends.specs.declared.serve.TheConstants.{MOST_ENDS};
 ghost use Rattle.chem_shell.specs.declared.request.Plan.{Plan as ThePlan};
-ghost use Rattle.chem_shell.specs.Words.{args_of, chemdb_app, option_rule, texts, AreSizes, Asks, AsksFor, IsBulk, IsFile, IsInit, IsMem, IsNumber, IsRunOf, IsServe, IsSetting, AreFileAndScripts};
+ghost use Rattle.chem_shell.specs.Words.{args_of, chemdb_app, option_rule, texts, AreSizes, Asks, AsksFor, IsBulk, IsFile, IsInMemory, IsInit, IsNumber, IsRunOf, IsServe, IsSetting, AreFileAndScripts};
 
 use crate::fault::WordFault;
 use crate::request::{Plan, PlanFault, Verb};
@@ -53,11 +53,12 @@ fn read<'w>(alloc: Global, words: &'w [&'w str]) -> Result<Plan<'w>, WordFault<'
 {
     let found = matches(alloc, words)?;
     match found.get_str("command") {
-        Some("mem") => mem(alloc, &found),
+        Some("mem") => in_memory(alloc, Verb::Mem, "mem", &found),
         Some("init") => init(alloc, &found),
         Some("run") => run(alloc, &found),
         Some("serve") => serve(alloc, &found),
         Some("bulk") => bulk(alloc, &found),
+        Some("drill") => in_memory(alloc, Verb::Drill, "drill", &found),
         Some(word) => Err(WordFault::UnknownCommand(word)),
         None => Err(WordFault::NoCommand),
     }
@@ -121,12 +122,17 @@ fn reason(alloc: Global, error: &Error) -> Result<String, AllocError> {
     String::from_str(alloc, line.strip_prefix("error: ").unwrap_or(line))
 }
 
-// The plan of `mem`, if the match is its row.
-fn mem<'w>(alloc: Global, found: &ArgMatches<'w>) -> Result<Plan<'w>, WordFault<'w>>
-    ensures ok { IfOk result (IsMem (rows_of (found_of found.now))) }
-    ensures err { OnErr result ((plan : ThePlan) → ¬ IsMem (rows_of (found_of found.now)) plan) }
+// The plan of a command on a store in memory, if the match is its row.
+fn in_memory<'w>(
+    alloc: Global,
+    verb: Verb,
+    command: &'static str,
+    found: &ArgMatches<'w>,
+) -> Result<Plan<'w>, WordFault<'w>>
+    ensures ok { IfOk result (IsInMemory verb (rows_of (found_of found.now))) }
+    ensures err { OnErr result ((plan : ThePlan) → ¬ IsInMemory verb (rows_of (found_of found.now)) plan) }
 {
-    no_args(found.get_raw("args"))?;
+    no_args(command, found.get_raw("args"))?;
     let (workers, page) = sizes(found)?;
     let commits = setting(
         "--commits",
@@ -135,7 +141,7 @@ fn mem<'w>(alloc: Global, found: &ArgMatches<'w>) -> Result<Plan<'w>, WordFault<
         MOST_COMMITS,
     )?;
     Ok(Plan {
-        command: Verb::Mem,
+        command: verb,
         file: None,
         scripts: Vec::new(alloc),
         ends: 1,
@@ -262,15 +268,15 @@ fn sizes<'w>(found: &ArgMatches<'w>) -> Result<(u32, u32), WordFault<'w>>
     Ok((workers, page))
 }
 
-// `mem` takes no words.
-fn no_args<'w>(args: Option<&[&'w str]>) -> Result<(), WordFault<'w>>
+// A command on a store in memory takes no words.
+fn no_args<'w>(command: &'static str, args: Option<&[&'w str]>) -> Result<(), WordFault<'w>>
     ensures ok { OnOk result (args.entry ≡ None) }
     ensures err { OnErr result (args.entry ≢ None) }
 {
     match args {
         None => Ok(()),
         Some(words) => Err(WordFault::SurplusWord {
-            command: "mem",
+            command,
             word: words.first().copied().unwrap_or(""),
         }),
     }

@@ -33,11 +33,13 @@ commands
                    replies to a script go to the file of its name with .out appended
   bulk SEED COUNT  run a generated script over a store in memory, and print its summary;
                    SEED is 1 to 2147483646, and COUNT, the structures to register, 0 to 100000
+  drill            serve the drill of standard input: lines of 16 sessions on a store in memory,
+                   `stop K` and `fail K`, by which its disk fails, and `reopen N` after a crash
 
 options
   --workers N  threads for matching, 1 to 16; 1 if left out
   --page N     records in a page, 1 to 256; 256 if left out
-  --commits N  of mem, run and serve: the most commits of the store, 1 to 16777215; 16777215 if left out
+  --commits N  of mem, run, serve and drill: the most commits of the store, 1 to 16777215; 16777215 if left out
 
 Options, none for init, stand before or behind the command, as --page 3 or --page=3.
 example: printf 'register 1 CCO\\nsearch CO\\n' | chemdb mem --page=64";

@@ -2,8 +2,9 @@ use Rattle.std.proofs.Common.{◌≡◌, refl, ap, ◌∙◌, sym, inl, inr, Err
 use Rattle.std.proofs.lemmas.Bool.{eqb-false}
 use Rattle.chem_shell.specs.Ends.{with_status}
 use Rattle.chem_shell.specs.Loading.{HasEndCauses}
-use Rattle.chem_shell.specs.declared.request.Verb.TheVariants.{Mem, Init, Run, Serve, Bulk}
+use Rattle.chem_shell.specs.declared.request.Verb.TheVariants.{Mem, Init, Run, Serve, Bulk, Drill}
 use Rattle.chem_shell.proofs.Asked.{one_plan, plan_within}
+use Rattle.chem_shell.proofs.Drills.{drill_same, drill_unmoved}
 use Rattle.chem_shell.proofs.Ends.{first_of_alike, leaves_by, refused_all, zip_mapped, zip_weaker}
 use Rattle.chem_shell.proofs.EndCounts.{fits, no_ends, none_mapped}
 use Rattle.chem_shell.proofs.Transcripts.{mem_same, mem_unmoved}
@@ -40,6 +41,10 @@ returns-in-Err-Usage-clause-serve g c = λ plan asks verb.
 
 pub returns-in-Err-Usage-clause-bulk : goal.returns-in-Err-Usage-clause-bulk
 returns-in-Err-Usage-clause-bulk g c = λ plan asks verb.
+    absurd (c.in-Err-Usage.ensures.usage (ap Err c.in-Err-Usage.field-0-is) (plan, asks))
+
+pub returns-in-Err-Usage-clause-drill : goal.returns-in-Err-Usage-clause-drill
+returns-in-Err-Usage-clause-drill g c = λ plan asks verb.
     absurd (c.in-Err-Usage.ensures.usage (ap Err c.in-Err-Usage.field-0-is) (plan, asks))
 
 pub returns-in-Err-NoMemory-clause-source_fault : goal.returns-in-Err-NoMemory-clause-source_fault
@@ -86,6 +91,12 @@ pub returns-in-Err-NoMemory-clause-bulk : goal.returns-in-Err-NoMemory-clause-bu
 returns-in-Err-NoMemory-clause-bulk g c = λ plan asks verb. (
   c.unserved-in-Err-NoMemory.ensures.disk_a,
   zip_mapped _ (with_status 8) (λ e. bulk_unmoved plan g.K.Sink.written e) _ _ c.unserved-in-Err-NoMemory.ensures.ends,
+)
+
+pub returns-in-Err-NoMemory-clause-drill : goal.returns-in-Err-NoMemory-clause-drill
+returns-in-Err-NoMemory-clause-drill g c = λ plan asks verb. (
+  c.unserved-in-Err-NoMemory.ensures.disk_a,
+  zip_mapped _ (with_status 8) (λ e. drill_unmoved plan g.S.Source.left g.K.Sink.written e) _ _ c.unserved-in-Err-NoMemory.ensures.ends,
 )
 
 pub carry_out-requires-clause-plan : goal.carry_out-requires-clause-plan
@@ -186,4 +197,15 @@ returns-in-Ok-clause-bulk g c = λ plan asks verb.
       left.0,
       zip_weaker _ _ (λ old new s. bulk_same g.K.Sink.written plan c.in-Ok.plan old new same s) c.args.ends.items
           c.carry_out.result.ends.items left.1,
+    )
+
+pub returns-in-Ok-clause-drill : goal.returns-in-Ok-clause-drill
+returns-in-Ok-clause-drill g c = λ plan asks verb.
+    let same = one_plan _ plan c.in-Ok.plan asks c.in-Ok.ensures.ok in
+    let left = leaves_by g.D.Disk.model g.S.Source.left g.S.Source.faults g.K.Sink.written g.K.Sink.faults
+    c.in-Ok.plan.command Drill c.in-Ok.plan (record { a = c.args.a; b = c.args.b }) c.args.ends.items c.carry_out.result
+    (sym same.command ∙ verb) c.carry_out.ensures.leaves in (
+      left.0,
+      zip_weaker _ _ (λ old new s. drill_same g.S.Source.left g.K.Sink.written plan c.in-Ok.plan old new same.commits
+          same.page s) c.args.ends.items c.carry_out.result.ends.items left.1,
     )

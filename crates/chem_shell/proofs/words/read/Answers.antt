@@ -3,7 +3,7 @@ use Rattle.std.proofs.lemmas.Result.{IfOk-weaker, IfErr-weaker}
 use Rattle.clap.proofs.WalkLemmas.{first_value-rows}
 use Rattle.clap.specs.Words.{found_of, rows_of}
 use Rattle.chem_shell.specs.Words.{texts}
-use Rattle.chem_shell.specs.declared.request.Verb.TheVariants.{Mem, Init, Run, Serve, Bulk}
+use Rattle.chem_shell.specs.declared.request.Verb.TheVariants.{Mem, Init, Run, Serve, Bulk, Drill}
 use Rattle.chem_shell.proofs.Asked.{asks, asks_not, no_command, no_word, some_same, word_of}
 use Rattle.chem_shell.proofs.words.read.Goals as goal
 
@@ -13,10 +13,10 @@ returns-in-Some-mem-clause-ok c =
     let word : option_map (λ s. s.now) c.get_str.result ≡ Some (codes "mem") = search rules in
     let command = sym (first_value-rows (found_of c.in_ok-found.found) (codes "command")) ∙ sym c.get_str.ensures
     ∙ word in
-    IfOk-weaker c.mem.result _ _
+    IfOk-weaker c.in_memory.result _ _
     (λ plan row. asks Mem (texts c.args.words.now)
     (rows_of (found_of c.in_ok-found.found)) plan found.0 found.1 command row)
-    c.mem.ensures.ok
+    c.in_memory.ensures.ok
 
 pub returns-in-Some-mem-clause-err : goal.returns-in-Some-mem-clause-err
 returns-in-Some-mem-clause-err c =
@@ -24,9 +24,9 @@ returns-in-Some-mem-clause-err c =
     let word : option_map (λ s. s.now) c.get_str.result ≡ Some (codes "mem") = search rules in
     let command = sym (first_value-rows (found_of c.in_ok-found.found) (codes "command")) ∙ sym c.get_str.ensures
     ∙ word in
-    IfErr-weaker c.mem.result _ _
+    IfErr-weaker c.in_memory.result _ _
     (λ fault none. inr (asks_not Mem (texts c.args.words.now) (rows_of (found_of c.in_ok-found.found)) found.1 command none))
-    c.mem.ensures.err
+    c.in_memory.ensures.err
 
 pub returns-in-Some-init-clause-ok : goal.returns-in-Some-init-clause-ok
 returns-in-Some-init-clause-ok c =
@@ -116,6 +116,27 @@ returns-in-Some-bulk-clause-err c =
     (λ fault none. inr (asks_not Bulk (texts c.args.words.now) (rows_of (found_of c.in_ok-found.found)) found.1 command none))
     c.bulk.ensures.err
 
+pub returns-in-Some-drill-clause-ok : goal.returns-in-Some-drill-clause-ok
+returns-in-Some-drill-clause-ok c =
+    let found = c.in_ok-found.ensures.ok in
+    let word : option_map (λ s. s.now) c.get_str.result ≡ Some (codes "drill") = search rules in
+    let command = sym (first_value-rows (found_of c.in_ok-found.found) (codes "command")) ∙ sym c.get_str.ensures
+    ∙ word in
+    IfOk-weaker c.in_memory-in-Some-drill.result _ _
+    (λ plan row. asks Drill (texts c.args.words.now)
+    (rows_of (found_of c.in_ok-found.found)) plan found.0 found.1 command row)
+    c.in_memory-in-Some-drill.ensures.ok
+
+pub returns-in-Some-drill-clause-err : goal.returns-in-Some-drill-clause-err
+returns-in-Some-drill-clause-err c =
+    let found = c.in_ok-found.ensures.ok in
+    let word : option_map (λ s. s.now) c.get_str.result ≡ Some (codes "drill") = search rules in
+    let command = sym (first_value-rows (found_of c.in_ok-found.found) (codes "command")) ∙ sym c.get_str.ensures
+    ∙ word in
+    IfErr-weaker c.in_memory-in-Some-drill.result _ _
+    (λ fault none. inr (asks_not Drill (texts c.args.words.now) (rows_of (found_of c.in_ok-found.found)) found.1 command none))
+    c.in_memory-in-Some-drill.ensures.err
+
 pub returns-in-Some-clause-err : goal.returns-in-Some-clause-err
 returns-in-Some-clause-err c =
     let found = c.in_ok-found.ensures.ok in
@@ -136,7 +157,10 @@ returns-in-Some-clause-err c =
     c.in-Some.not-serve (search rules))
     (λ bulk.
     let same = some_same c.in-Some.word.now (codes "bulk") (word ∙ bulk) in
-    c.in-Some.not-bulk (search rules)))
+    c.in-Some.not-bulk (search rules))
+    (λ drill.
+    let same = some_same c.in-Some.word.now (codes "drill") (word ∙ drill) in
+    c.in-Some.not-drill (search rules)))
 
 pub returns-clause-err : goal.returns-clause-err
 returns-clause-err c =

@@ -4,7 +4,7 @@ use Rattle.clap.specs.Words.{Text, found_of}
 use Rattle.store_core.specs.declared.store.TheConstants.{MOST_COMMITS}
 use Rattle.chem_shell.specs.Words.{IsSetting}
 use Rattle.chem_shell.proofs.Asked.{image_of_none, none_of_image, on_err}
-use Rattle.chem_shell.proofs.words.mem.Goals as goal
+use Rattle.chem_shell.proofs.words.in_memory.Goals as goal
 
 pub returns-in_err-no_args-clause-err : goal.returns-in_err-no_args-clause-err
 returns-in_err-no_args-clause-err c =

@@ -1,0 +1,151 @@
+-- What a drill leaves of an end: whole dialogues and beginnings; and where none was begun.
+use Rattle.std.proofs.Common.{◌≡◌, ◌≢◌, ◌∙◌, ℕ, List, [], ◌++◌, Option, None, Some, IfSome, refl, sym, ap, subst, inl, inr, append-nil, arith}
+use Rattle.drill_run.specs.Causes.{AreCaused, nothing_set}
+use Rattle.drill_run.specs.Dialogue.{calls_of, replies_of}
+use Rattle.drill_run.specs.Drilled.{IsDialogue, IsDialoguePrefix, IsDrilled, IsDrilledBy, no_cursors}
+use Rattle.io_edge.specs.Lines.{TextLine, lines_of}
+use Rattle.serve_ends.specs.Status.{IsStatusOf}
+use Rattle.serve_ends.specs.declared.end.End.{End}
+use Rattle.serve_ends.specs.declared.status.TheConstants.{DONE}
+use Rattle.session_run.specs.Cursors.{Calls}
+use Rattle.session_run.specs.Served.{TakesAll, TakesAtMost, Writes}
+use Rattle.session_run.specs.declared.settings.EndStatus.{EndStatus}
+use Rattle.session_run.specs.declared.settings.EndStatus.TheVariants.{Done, SourceFault, SinkFault, NoMemory, InputTooLong, Worn}
+use Rattle.store_core.specs.Stored.{empty}
+use Rattle.chem_shell.specs.Drills.{AreOfDrill, IsDrillBy, IsDrillPrefixBy, ServesDrill}
+use Rattle.chem_shell.specs.Ends.{with_status}
+use Rattle.chem_shell.specs.Status.{IsInputStatus}
+use Rattle.chem_shell.specs.declared.request.Plan.{Plan}
+use Rattle.chem_shell.specs.declared.settings.TheConstants.{INPUT_LIMIT}
+use Rattle.chem_shell.proofs.Transcripts.{done_of, end_of, input_fault_of, none_taken, writes_as}
+
+-- lines that were answered whole are a beginning
+answered_begins : (size : ℕ) (lines left : List TextLine) (calls : Calls) (text : List ℕ)
+    → IsDialogue size lines left calls text → IsDialoguePrefix size lines calls text
+answered_begins size lines left calls text d =
+    let whole = sym (append-nil d.exchanges) in
+    record {
+      exchanges = d.exchanges;
+      all = d.all;
+      last = [];
+      left = left;
+      begin = d.begin;
+      exchanged = d.exchanged;
+      begun = inl refl;
+      caused = subst (AreCaused nothing_set) whole d.caused;
+      made = d.made ∙ ap calls_of whole;
+      said = d.said ∙ ap replies_of whole;
+    }
+
+nothing_begins : (size : ℕ) (lines : List TextLine) → IsDialoguePrefix size lines [] []
+nothing_begins size lines = record {
+  exchanges = [];
+  all = no_cursors;
+  last = [];
+  left = lines;
+  begin = refl;
+  exchanged = refl;
+  begun = inl refl;
+  caused = tt;
+  made = refl;
+  said = refl;
+}
+
+-- however a drill ended, it put a prefix
+drilled_begins : (ended : EndStatus) (size : ℕ) (lines : List TextLine) (calls : Calls) (text : List ℕ)
+    → IsDrilled ended size lines calls text → IsDialoguePrefix size lines calls text
+drilled_begins Done size lines calls text d = answered_begins size lines [] calls text d
+drilled_begins SourceFault size lines calls text d = answered_begins size lines d.0 calls text d.1
+drilled_begins InputTooLong size lines calls text d = answered_begins size lines d.0 calls text d.1
+drilled_begins SinkFault size lines calls text d = d
+drilled_begins NoMemory size lines calls text d = d
+drilled_begins Worn size lines calls text d = absurd d
+
+prefix_of : (ended : EndStatus) (page : ℕ) (input before after : Option (List ℕ)) (calls : Calls)
+    → IfSome input (λ bytes. Writes before after (IsDrilled ended page (lines_of bytes) calls))
+    → IfSome input (λ bytes. Writes before after (IsDrillPrefixBy page bytes calls))
+prefix_of ended page None before after calls s = tt
+prefix_of ended page (Some bytes) before after calls s = writes_as before after
+    (IsDrilled ended page (lines_of bytes) calls) (IsDrillPrefixBy page bytes calls)
+    (λ text d. drilled_begins ended page (lines_of bytes) calls text d) s
+
+-- and the whole, where it came to the input's end
+all_of : (ended : EndStatus) (page : ℕ) (input before after : Option (List ℕ)) (calls : Calls) → ended ≡ Done
+    → IfSome input (λ bytes. Writes before after (IsDrilled ended page (lines_of bytes) calls))
+    → IfSome input (λ bytes. Writes before after (IsDrillBy page bytes calls))
+all_of ended page None before after calls e s = tt
+all_of ended page (Some bytes) before after calls e s =
+    subst (λ x. Writes before after (IsDrilled x page (lines_of bytes) calls)) e s
+
+-- what a drill leaves of an end
+pub drill_of : {S K : Type 0} (left : S → Option (List ℕ)) (written : K → Option (List ℕ)) (ended : EndStatus)
+    (plan : Plan) (calls : Calls) (old new : End S K) → ended ≢ Worn → IsStatusOf ended new.status
+    → AreOfDrill plan.commits calls
+    → IsDrilledBy ended plan.page (left old.source) (left new.source) (written old.sink) (written new.sink) calls
+    → (ended ≡ Done → TakesAll (left old.source) (left new.source))
+    → TakesAtMost (left old.source) (left new.source) INPUT_LIMIT
+    → ServesDrill plan left written old new
+drill_of left written ended plan calls old new fit is run drilled done within = record {
+  status = end_of ended new.status fit is;
+  calls = calls;
+  run = run;
+  prefix = prefix_of ended plan.page (left old.source) (written old.sink) (written new.sink) calls drilled.script;
+  all = λ e. all_of ended plan.page (left old.source) (written old.sink) (written new.sink) calls
+      (done_of ended new.status is e) drilled.script;
+  taken = λ e. drilled.taken (input_fault_of ended new.status is e);
+  done = λ e. done (done_of ended new.status is e);
+  within = within;
+}
+
+-- no calls are those of no run
+none_of_drill : (commits : ℕ) → AreOfDrill commits []
+none_of_drill commits = record { steps = []; last = empty commits; run = refl; all = refl }
+
+nothing_put : (page : ℕ) (input before : Option (List ℕ))
+    → IfSome input (λ bytes. Writes before before (IsDrillPrefixBy page bytes []))
+nothing_put page None before = tt
+nothing_put page (Some bytes) None = tt
+nothing_put page (Some bytes) (Some old) = ([], ap Some (sym (append-nil old)), nothing_begins page (lines_of bytes))
+
+-- a drill for which memory ran out before it began
+pub drilled_none : (commits page : ℕ) (input before : Option (List ℕ))
+    → (calls : Calls) × AreOfDrill commits calls × IsDrilledBy NoMemory page input input before before calls
+drilled_none commits page input before = (
+  [],
+  none_of_drill commits,
+  record { script = nothing_put page input before; taken = λ f. absurd f },
+)
+
+pub drill_unmoved : {S K : Type 0} (plan : Plan) (left : S → Option (List ℕ)) (written : K → Option (List ℕ))
+    (end : End S K) → ServesDrill plan left written end (with_status 8 end)
+drill_unmoved plan left written end = record {
+  status = inr (inr (inr (inl refl)));
+  calls = [];
+  run = none_of_drill plan.commits;
+  prefix = nothing_put plan.page (left end.source) (written end.sink);
+  all = λ e. absurd (omega (arith, e));
+  taken = λ e. absurd (no_input e);
+  done = λ e. absurd (omega (arith, e));
+  within = none_taken (left end.source) INPUT_LIMIT;
+}
+  where
+    no_input : IsInputStatus 8 → ⊥
+    no_input (inl e) = omega (arith, e)
+    no_input (inr e) = omega (arith, e)
+
+-- the same at a plan that asks for the same
+pub drill_same : {S K : Type 0} (left : S → Option (List ℕ)) (written : K → Option (List ℕ)) (p q : Plan)
+    (old new : End S K) → p.commits ≡ q.commits → p.page ≡ q.page → ServesDrill q left written old new
+    → ServesDrill p left written old new
+drill_same left written p q old new commits page d = record {
+  status = d.status;
+  calls = d.calls;
+  run = subst (λ (n : ℕ). AreOfDrill n d.calls) (sym commits) d.run;
+  prefix = subst (λ (n : ℕ). IfSome (left old.source) (λ script. Writes (written old.sink) (written new.sink)
+      (IsDrillPrefixBy n script d.calls))) (sym page) d.prefix;
+  all = λ e. subst (λ (n : ℕ). IfSome (left old.source) (λ script. Writes (written old.sink) (written new.sink)
+      (IsDrillBy n script d.calls))) (sym page) (d.all e);
+  taken = λ e. rw page (d.taken e);
+  done = d.done;
+  within = d.within;
+}

@@ -1,0 +1,26 @@
+use Rattle.std.proofs.Common.{subst}
+use Rattle.drill_run.specs.Drilled.{IsDrilledBy}
+use Rattle.session_run.specs.declared.settings.Settings.{Settings}
+use Rattle.store_core.specs.Stored.{empty}
+use Rattle.chem_shell.proofs.Drills.{drilled_none}
+use Rattle.chem_shell.proofs.Transcripts.{none_taken}
+use Rattle.chem_shell.proofs.drill.run_drill.Goals as goal
+
+pub returns-in_default-clause-drills : goal.returns-in_default-clause-drills
+returns-in_default-clause-drills g c =
+    drilled_none c.args.plan.now.commits c.args.plan.now.page (g.I.Source.left c.args.source.now)
+    (g.O.Sink.written c.args.sink.now)
+
+pub returns-in_default-clause-within : goal.returns-in_default-clause-within
+returns-in_default-clause-within g c = none_taken (g.I.Source.left c.args.source.now) _
+
+pub returns-clause-drills : goal.returns-clause-drills
+returns-clause-drills g c =
+    let drills = c.drill.ensures.drills in
+    let run = drills.1 (empty c.args.plan.now.commits) c.in-Ok.ensures.empty in (
+      drills.0,
+      record { steps = run.0; last = run.1; run = run.2; all = run.3 },
+      subst (λ (settings : Settings). IsDrilledBy c.drill.result settings.page (g.I.Source.left c.args.source.now)
+          (g.I.Source.left c.drill.new.source) (g.O.Sink.written c.args.sink.now)
+          (g.O.Sink.written c.drill.new.sink) drills.0) c.settings.ensures drills.2,
+    )

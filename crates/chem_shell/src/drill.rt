@@ -1,0 +1,69 @@
+//! `drill`: sessions on a store in memory whose disk is stopped, failed and reopened.
+ghost use Rattle.std.specs.Prelude.{◌≡◌, ◌≢◌};
+ghost use Rattle.drill_run.specs.Drilled.{IsDrilledBy};
+ghost use Rattle.io_edge.specs.Faults.{Rose};
+ghost use Rattle.session_run.specs.Cursors.{Calls};
+ghost use Rattle.session_run.specs.Served.{TakesAll, TakesAtMost, TakesExactly};
+ghost use Rattle.chem_shell.specs.Drills.{AreOfDrill, ServesDrill};
+ghost use Rattle.chem_shell.specs.Loading.{HasEndCauses};
+ghost use Rattle.chem_shell.specs.Words.{IsWithinLimits};
+
+use crate::request::Plan;
+use crate::settings::{INPUT_LIMIT, settings};
+use drill_core::World;
+use drill_run::drill;
+use io_edge::{Sink, Source};
+use par_search::NoMeter;
+use serve_ends::{End, end_status};
+use session_run::EndStatus;
+use std::alloc::Global;
+use std::thread::Threads;
+
+/// Serves an end.
+pub fn serve_drill<R: Threads + Sync, S: Source + Drop, K: Sink + Drop>(
+    rt: &R,
+    alloc: Global,
+    plan: &Plan<'_>,
+    end: &mut End<S, K>,
+)
+    requires { IsWithinLimits plan.now }
+    ensures serves { ServesDrill plan.now S.left K.written end.old end.new }
+    ensures causes { HasEndCauses S.left S.faults K.faults end.old end.new }
+{
+    let ended = run_drill(rt, alloc, plan, &mut end.source, &mut end.sink);
+    end.status = end_status(ended);
+}
+
+// A drill of a world that is made here. Where memory runs out for it, nothing is taken or put.
+fn run_drill<R: Threads + Sync, I: Source, O: Sink>(
+    rt: &R,
+    alloc: Global,
+    plan: &Plan<'_>,
+    source: &mut I,
+    sink: &mut O,
+) -> EndStatus
+    requires { IsWithinLimits plan.now }
+    ensures drills { (calls : Calls) × AreOfDrill plan.now.commits calls
+        × IsDrilledBy result plan.now.page (I.left source.old) (I.left source.new)
+        (O.written sink.old) (O.written sink.new) calls }
+    ensures not_worn { result ≢ EndStatus.Worn }
+    ensures source_fault { result ≡ EndStatus.SourceFault → Rose (I.faults source.old) (I.faults source.new) }
+    ensures sink_fault { result ≡ EndStatus.SinkFault → Rose (O.faults sink.old) (O.faults sink.new) }
+    ensures done { result ≡ EndStatus.Done → TakesAll (I.left source.old) (I.left source.new) }
+    ensures within { TakesAtMost (I.left source.old) (I.left source.new) INPUT_LIMIT }
+    ensures too_long { result ≡ EndStatus.InputTooLong
+        → TakesExactly (I.left source.old) (I.left source.new) INPUT_LIMIT }
+{
+    let Ok(world) = World::new(alloc, plan.commits) else {
+        return EndStatus::NoMemory;
+    };
+    drill(
+        rt,
+        alloc,
+        world,
+        source,
+        sink,
+        &settings(plan),
+        &NoMeter,
+    )
+}
