@@ -187,7 +187,7 @@ end_of InputTooLong status fit is = inr (inr (inr (inr is)))
 end_of Worn status fit is = absurd (fit refl)
 
 -- the statuses of a source's fault and of too many bytes are those of these ends of a session
-input_fault_of : (ended : EndStatus) (status : ℕ) → IsStatusOf ended status → IsInputStatus status
+pub input_fault_of : (ended : EndStatus) (status : ℕ) → IsStatusOf ended status → IsInputStatus status
     → session.IsInputFault ended
 input_fault_of Done status is (inl e) = absurd (omega (arith, is, e))
 input_fault_of Done status is (inr e) = absurd (omega (arith, is, e))
