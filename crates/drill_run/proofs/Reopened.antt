@@ -20,15 +20,15 @@ open-keeps s (Opened commits) t g = ap (λ (x : State). x.history) g.5
 open-keeps s _ t g = absurd g
 
 pub reopenings-keep : RunsAdd → ReopeningsKeep
-reopenings-keep add s t u steps crash open run calm (at, crashes, (next, opens, end)) is_crash is_open =
+reopenings-keep add s t u steps crash opening run calm (at, crashes, (next, opens, end)) is_crash is_open =
     let crashed = subst (λ (e : Event). Gives crash.before crash.owner e crash.reply crash.after) is_crash crashes in
-    let opened = subst (λ (e : Event). Gives open.before open.owner e open.reply open.after) is_open opens in
+    let opened = subst (λ (e : Event). Gives opening.before opening.owner e opening.reply opening.after) is_open opens in
     let recovered : Recovers t crash.after.history =
     subst (λ (x : State). Recovers x crash.after.history) at
     (crash-recovers crash.before crash.reply crash.after crashed) in
     let left : u.history ≡ crash.after.history =
     ap (λ (x : State). x.history) end
-    ∙ (open-keeps open.before open.reply open.after opened ∙ ap (λ (x : State). x.history) next) in
+    ∙ (open-keeps opening.before opening.reply opening.after opened ∙ ap (λ (x : State). x.history) next) in
     let grew : t.history ≡ grown s.history (acknowledged steps) = add s t steps run calm in
     elim recovered [
       | inl e ↦ inl (left ∙ (e ∙ grew))

@@ -229,9 +229,6 @@ before-part : (size number : ℕ) (x : Exchange) (xs : List Exchange) (all betwe
     (ps : List Held) → (o : OneLine size number x all between s ps m)
     → InPart size number xs between all' m o.pins t → InPart size number (x ∷ xs) all all' s ps t
 before-part size number x xs all between all' s m t ps o p = by o.told where
-  its : ℕ → Bool
-  its n = n == number
-
   joined : calls_of (λ n. n == number) (o.own ++ p.own)
       ≡ calls_of (λ n. n == number) o.own ++ calls_of (λ n. n == number) p.own
   joined = calls-join (λ n. n == number) o.own p.own

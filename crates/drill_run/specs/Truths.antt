@@ -65,7 +65,7 @@ DrillsAreTrue =
 -- the one in doubt
 abbrev pub ReopeningsKeep : Type 0
 ReopeningsKeep =
-    (s t u : State) (steps : List Step) (crash open : Step)
-    → IsRun s steps t → IsCalm steps → IsRun t (crash ∷ open ∷ []) u → crash.event ≡ Crash → open.event ≡ Open
+    (s t u : State) (steps : List Step) (crash opening : Step)
+    → IsRun s steps t → IsCalm steps → IsRun t (crash ∷ opening ∷ []) u → crash.event ≡ Crash → opening.event ≡ Open
     → (u.history ≡ grown s.history (acknowledged steps))
     ⊎ ((c : Change) × (t.doubt ≡ Some c) × (u.history ≡ grown s.history (acknowledged steps ++ c ∷ [])))
