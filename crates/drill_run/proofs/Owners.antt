@@ -1,15 +1,17 @@
 -- A run of one session's calls, in which all are given its number: its pins are held as its calls say, and the pins of
 -- others stay.
-use Rattle.std.proofs.Common.{◌≡◌, ◌==◌, ◌&&◌, ◌++◌, ◌∙◌, ap, Bool, cond, eq-eqb, false, inl, inr, List, [], ◌∷◌, map, ne_eqb, None, Option, refl, Some, subst, sym, true, ℕ}
+use Rattle.std.proofs.Common.{◌≡◌, ◌==◌, ◌&&◌, ◌++◌, ◌∙◌, ap, Bool, cond, eq-eqb, eqb-true, false, inl, inr, List, [], ◌∷◌, map, ne_eqb, None, Option, refl, Some, subst, sym, true, ℕ}
 use Rattle.std.specs.List.{AllByRecursion}
 use Rattle.std.proofs.lemmas.Bool.{cond-false, cond-true, true≢false}
 use Rattle.session_run.specs.Cursors.{Calls}
 use Rattle.session_run.specs.Pins.{AreApart, HeldAfter, HeldBy, IsApart, effect}
 use Rattle.session_run.proofs.Held.{after-under}
 use Rattle.store_machine.specs.History.{head}
-use Rattle.store_machine.specs.Machine.{Gives, pin_in}
+use Rattle.store_machine.specs.Laws.{PinsStay}
+use Rattle.store_machine.specs.Machine.{Gives, Holds, pin_in}
 use Rattle.store_machine.specs.Owners.{unowned}
 use Rattle.store_machine.specs.Runs.{IsCalm, IsRun, calls_of, is_call, is_own}
+use Rattle.store_machine.specs.Searches.{KeepsPin, unpins}
 use Rattle.store_machine.specs.declared.machine.Event.{Event}
 use Rattle.store_machine.specs.declared.machine.Event.TheVariants.{Commit, Crash, Fetch, Look, Open, Pin, Prune, Stats, Unpin}
 use Rattle.store_machine.specs.declared.machine.Held.{Held}
@@ -17,7 +19,7 @@ use Rattle.store_machine.specs.declared.machine.Reply.{Reply}
 use Rattle.store_machine.specs.declared.machine.Reply.TheVariants as reply
 use Rattle.store_machine.specs.declared.machine.State.{State}
 use Rattle.store_machine.specs.declared.machine.Step.{Step}
-use Rattle.store_machine.proofs.Pins.{holds-step}
+use Rattle.store_machine.specs.declared.machine.Times.{Times}
 use Rattle.drill_run.specs.Drilled.{events_of}
 use Rattle.drill_run.proofs.OwnPins.{NamePins, NamesPin, apart-under, names-under}
 use Rattle.drill_run.proofs.Reowned.{Alike, IsHeld, Reowned, step-reowned, with_pins}
@@ -44,33 +46,59 @@ pushed-in p [] none = cond-true (p.slot == p.slot) (Some p) None (eq-eqb p.slot 
 pushed-in p (q ∷ qs) none =
     push-first (q.slot == p.slot) q p (pin_in p.slot qs) (pin_in p.slot (qs ++ p ∷ [])) (λ h. pushed-in p qs h) none
 
+abbrev no_time : Times
+no_time = record { a = 0; b = 0 }
+
+-- a pin that a step does not give back
+kept-by : (slot : ℕ) (e : Event) (r : Reply) (a b : Bool) → (b ≡ true → unpins slot e ≡ false)
+    → KeepsPin slot (cond (a && b) ((e, r) ∷ []) [])
+kept-by slot e r true true h = (h refl, tt)
+kept-by slot e r true false h = tt
+kept-by slot e r false true h = tt
+kept-by slot e r false false h = tt
+
+holds-step : PinsStay → (s : State) (by : ℕ) (e : Event) (r : Reply) (t : State) (slot owner v : ℕ) → Gives s by e r t
+    → is_call e ≡ true → (by ≡ owner → unpins slot e ≡ false) → Holds s slot owner v → Holds t slot owner v
+holds-step law s by e r t slot owner v g calm keeps h =
+    let x : Step = record {
+      owner = by;
+      event = e;
+      reply = r;
+      before = s;
+      after = t;
+      begin = no_time;
+      end = no_time;
+    } in
+    law s t (x ∷ []) (λ o. o == owner) slot owner v (refl, g, refl) (calm, tt) (eq-eqb owner owner refl) h
+    (kept-by slot e r (is_call e) (by == owner) (λ q. keeps (eqb-true by owner q)))
+
 -- what a step leaves to its owner
-pin-keeps : (s t : State) (n : ℕ) (r : Reply) → Gives s n Pin r t → (slot v : ℕ)
+pin-keeps : PinsStay → (s t : State) (n : ℕ) (r : Reply) → Gives s n Pin r t → (slot v : ℕ)
     → HeldBy (IsHeld s.pins n) (effect Pin r) slot v → IsHeld t.pins n slot v
-pin-keeps s t n (reply.Pinned at version) g slot v (inl h) =
-    holds-step s n Pin (reply.Pinned at version) t slot n v g refl (λ _. refl) h
-pin-keeps s t n (reply.Pinned at version) g slot v (inr e) =
+pin-keeps law s t n (reply.Pinned at version) g slot v (inl h) =
+    holds-step law s n Pin (reply.Pinned at version) t slot n v g refl (λ _. refl) h
+pin-keeps law s t n (reply.Pinned at version) g slot v (inr e) =
     let new : Held = record { slot = at; owner = n; version = head s.history } in
     let taken : IsHeld t.pins n at version =
     ap (λ (x : State). pin_in at x.pins) g.1.4
     ∙ (pushed-in new s.pins g.1.2
     ∙ ap (λ (w : ℕ). Some (let p : Held = record { slot = at; owner = n; version = w } in p)) (sym g.1.3)) in
     subst (λ (k : ℕ). IsHeld t.pins n k v) (sym e.0) (subst (λ (w : ℕ). IsHeld t.pins n at w) (sym e.1) taken)
-pin-keeps s t n r g slot v h = holds-step s n Pin r t slot n v g refl (λ _. refl) h
+pin-keeps law s t n r g slot v h = holds-step law s n Pin r t slot n v g refl (λ _. refl) h
 
-keeps : (s t : State) (n : ℕ) (e : Event) (r : Reply) → Gives s n e r t → is_call e ≡ true → (slot v : ℕ)
+keeps : PinsStay → (s t : State) (n : ℕ) (e : Event) (r : Reply) → Gives s n e r t → is_call e ≡ true → (slot v : ℕ)
     → HeldBy (IsHeld s.pins n) (effect e r) slot v → IsHeld t.pins n slot v
-keeps s t n (Commit c) r g calm slot v h = holds-step s n (Commit c) r t slot n v g refl (λ _. refl) h
-keeps s t n Pin r g calm slot v h = pin-keeps s t n r g slot v h
-keeps s t n (Fetch at want from limit) r g calm slot v h =
-    holds-step s n (Fetch at want from limit) r t slot n v g refl (λ _. refl) h
-keeps s t n (Unpin at) r g calm slot v h =
-    holds-step s n (Unpin at) r t slot n v g refl (λ _. ne_eqb at slot h.1) h.0
-keeps s t n Prune r g calm slot v h = holds-step s n Prune r t slot n v g refl (λ _. refl) h
-keeps s t n (Look id) r g calm slot v h = holds-step s n (Look id) r t slot n v g refl (λ _. refl) h
-keeps s t n Stats r g calm slot v h = holds-step s n Stats r t slot n v g refl (λ _. refl) h
-keeps s t n Crash r g calm slot v h = absurd (true≢false (sym calm))
-keeps s t n Open r g calm slot v h = absurd (true≢false (sym calm))
+keeps law s t n (Commit c) r g calm slot v h = holds-step law s n (Commit c) r t slot n v g refl (λ _. refl) h
+keeps law s t n Pin r g calm slot v h = pin-keeps law s t n r g slot v h
+keeps law s t n (Fetch at want from limit) r g calm slot v h =
+    holds-step law s n (Fetch at want from limit) r t slot n v g refl (λ _. refl) h
+keeps law s t n (Unpin at) r g calm slot v h =
+    holds-step law s n (Unpin at) r t slot n v g refl (λ _. ne_eqb at slot h.1) h.0
+keeps law s t n Prune r g calm slot v h = holds-step law s n Prune r t slot n v g refl (λ _. refl) h
+keeps law s t n (Look id) r g calm slot v h = holds-step law s n (Look id) r t slot n v g refl (λ _. refl) h
+keeps law s t n Stats r g calm slot v h = holds-step law s n Stats r t slot n v g refl (λ _. refl) h
+keeps law s t n Crash r g calm slot v h = absurd (true≢false (sym calm))
+keeps law s t n Open r g calm slot v h = absurd (true≢false (sym calm))
 
 none_or_some : (x : Option Held) (p : Held) → x ≡ None → x ≡ Some p → ⊥
 none_or_some x p e f = cc
@@ -104,9 +132,9 @@ pub record OwnRun (n : ℕ) (s : State) (ps : List Held) (steps : List Step) (t 
   pub now : (slot v : ℕ) → HeldAfter (IsHeld ps n) (events_of steps) slot v → IsHeld pins n slot v
   pub others : (m slot v : ℕ) → ¬ (m ≡ n) → IsHeld ps m slot v → IsHeld pins m slot v
 
-pub own-run : (n : ℕ) (s t : State) (ps : List Held) (steps : List Step) → Alike s.pins ps → IsRun s steps t
+pub own-run : PinsStay → (n : ℕ) (s t : State) (ps : List Held) (steps : List Step) → Alike s.pins ps → IsRun s steps t
     → NamePins (IsHeld ps n) (events_of steps) → OwnRun n s ps steps t
-own-run n s t ps [] e run names = record {
+own-run law n s t ps [] e run names = record {
   pins = ps;
   own = [];
   run = ap (λ (x : State). with_pins x ps) run;
@@ -118,7 +146,7 @@ own-run n s t ps [] e run names = record {
   now = λ slot v h. h;
   others = λ m slot v other h. h;
 }
-own-run n s t ps (x ∷ xs) e run names =
+own-run law n s t ps (x ∷ xs) e run names =
     let gives : Gives s x.owner x.event x.reply x.after =
     subst (λ (y : State). Gives y x.owner x.event x.reply x.after) run.0 run.1 in
     let m : Reowned s x.after ps n x.event x.reply =
@@ -128,9 +156,9 @@ own-run n s t ps (x ∷ xs) e run names =
     let to : State = with_pins x.after m.pins in
     let then : ℕ → ℕ → Type 0 = HeldBy (IsHeld ps n) (effect x.event x.reply) in
     let keep : (slot v : ℕ) → then slot v → IsHeld m.pins n slot v =
-    keeps from to n x.event x.reply m.gives calm in
+    keeps law from to n x.event x.reply m.gives calm in
     let rest : OwnRun n x.after m.pins xs t =
-    own-run n x.after t m.pins xs m.alike run.2 (names-under then (IsHeld m.pins n) (events_of xs) keep names.1) in
+    own-run law n x.after t m.pins xs m.alike run.2 (names-under then (IsHeld m.pins n) (events_of xs) keep names.1) in
     record {
       pins = rest.pins;
       own = record {
@@ -153,7 +181,7 @@ own-run n s t ps (x ∷ xs) e run names =
       );
       now = λ slot v h. rest.now slot v (after-under then (IsHeld m.pins n) (events_of xs) keep slot v h);
       others = λ k slot v other h. rest.others k slot v other
-          (holds-step from n x.event x.reply to slot k v m.gives calm (λ q. absurd (other (sym q))) h);
+          (holds-step law from n x.event x.reply to slot k v m.gives calm (λ q. absurd (other (sym q))) h);
     }
 
 -- which of its calls are a session's

@@ -13,7 +13,6 @@ use Rattle.store_machine.specs.declared.machine.Held.{Held}
 use Rattle.store_machine.specs.declared.machine.Reply.{Reply}
 use Rattle.store_machine.specs.declared.machine.Reply.TheVariants as reply
 use Rattle.store_machine.specs.declared.machine.State.{State}
-use Rattle.store_machine.proofs.Pins.{fetch-same, look-same, stats-same}
 use Rattle.drill_run.proofs.OwnPins.{NamesPin}
 
 -- the same pins but for their owners
@@ -196,6 +195,21 @@ prune-pins : (s : State) (r : Reply) (t : State) → PruneGives s r t → t.pins
 prune-pins s (reply.Pruned dropped) t g = ap (λ (x : State). x.pins) g.2
 prune-pins s _ t g = absurd g
 
+fetch-pins : (s : State) (o slot : ℕ) (want : List Bool) (from limit : ℕ) (r : Reply) (t : State)
+    → FetchGives s o slot want from limit r t → t.pins ≡ s.pins
+fetch-pins s o slot want from limit (reply.Page records last) t g = ap (λ (x : State). x.pins) g.3
+fetch-pins s o slot want from limit reply.NoMemory t g = ap (λ (x : State). x.pins) g.2
+fetch-pins s o slot want from limit _ t g = absurd g
+
+look-pins : (s : State) (id : ℕ) (r : Reply) (t : State) → LookGives s id r t → t.pins ≡ s.pins
+look-pins s id (reply.Looked status) t g = ap (λ (x : State). x.pins) g.1
+look-pins s id reply.NoMemory t g = ap (λ (x : State). x.pins) g
+look-pins s id _ t g = absurd g
+
+stats-pins : (s : State) (r : Reply) (t : State) → StatsGives s r t → t.pins ≡ s.pins
+stats-pins s (reply.Counted version live withdrawn kept pins) t g = ap (λ (x : State). x.pins) g.5
+stats-pins s _ t g = absurd g
+
 -- what the step leads to
 pub record Reowned (s t : State) (ps : List Held) (n : ℕ) (e : Event) (r : Reply) : Type 0 where
   pub pins : List Held
@@ -254,7 +268,7 @@ step-reowned s t ps o n Pin r e names g = pin-reowned s t ps o n r e g
 step-reowned s t ps o n (Fetch slot want from limit) r e names g = record {
   pins = ps;
   gives = (g.0, fetches s t ps n o slot want from limit r names.0 e names.1 g.1);
-  alike = same-pins s t ps e (ap (λ (x : State). x.pins) (fetch-same s o slot want from limit r t g.1));
+  alike = same-pins s t ps e (fetch-pins s o slot want from limit r t g.1);
 }
 step-reowned s t ps o n (Unpin slot) r e names g = unpin-reowned s t ps o n slot names.0 r e names.1 g
 step-reowned s t ps o n Prune r e names g = record {
@@ -265,12 +279,12 @@ step-reowned s t ps o n Prune r e names g = record {
 step-reowned s t ps o n (Look id) r e names g = record {
   pins = ps;
   gives = (g.0, looks s t ps n id r g.1);
-  alike = same-pins s t ps e (ap (λ (x : State). x.pins) (look-same s id r t g.1));
+  alike = same-pins s t ps e (look-pins s id r t g.1);
 }
 step-reowned s t ps o n Stats r e names g = record {
   pins = ps;
   gives = (g.0, stats s t ps n r e g.1);
-  alike = same-pins s t ps e (ap (λ (x : State). x.pins) (stats-same s r t g.1));
+  alike = same-pins s t ps e (stats-pins s r t g.1);
 }
 step-reowned s t ps o n Crash r e names g = absurd names
 step-reowned s t ps o n Open r e names g = absurd names

@@ -13,7 +13,7 @@ use Rattle.session_run.proofs.ActPins.{act_held}
 use Rattle.shell_lang.specs.Command.{StartsMolfile}
 use Rattle.shell_lang.specs.Reply.{text_of}
 use Rattle.store_machine.proofs.Joins.{calms-join, runs-join}
-use Rattle.store_machine.specs.Laws.{IsSound, RunsStaySound}
+use Rattle.store_machine.specs.Laws.{IsSound, PinsStay, RunsStaySound}
 use Rattle.store_machine.specs.Runs.{IsCalm, IsRun, calls_of}
 use Rattle.store_machine.specs.declared.machine.Held.{Held}
 use Rattle.store_machine.specs.declared.machine.State.{State}
@@ -74,23 +74,23 @@ silent size number x all between s t ps steps alike run none holding same other 
     }
 
 -- a line of a session
-module _ (size number n : ℕ) (x : Exchange) (before after : AllCursors) (cursors cursors' : List Cursor)
+module _ (law : PinsStay) (size number n : ℕ) (x : Exchange) (before after : AllCursors) (cursors cursors' : List Cursor)
     (line : List ℕ) (lines : Lines) (s t : State) (ps : List Held) (steps : List Step) (alike : Alike s.pins ps)
     (run : IsRun s steps t) (made : events_of steps ≡ x.calls) (holding : AreHolding ps (before ++ cursors ∷ after))
     (is : n ≡ length before + 1) (read : x.read ≡ Some (Session n line)) (alone : ¬ StartsMolfile line)
     (answer : RequestAnswer size cursors (record { line = Whole line; molfile = [] }) x.calls lines cursors')
     (said : x.text ≡ numbered n (text_of lines)) where
-  abbrev all : AllCursors
-  all = before ++ cursors ∷ after
+  abbrev all_before : AllCursors
+  all_before = before ++ cursors ∷ after
 
-  abbrev between : AllCursors
-  between = before ++ cursors' ∷ after
+  abbrev all_after : AllCursors
+  all_after = before ++ cursors' ∷ after
 
   held : AreHeld (IsHeld ps n) cursors
   held = subst (AreHeld (IsHeld ps n)) (its-own n before after cursors is) (holding n)
 
   its : OwnRun n s ps steps t
-  its = own-run n s t ps steps alike run
+  its = own-run law n s t ps steps alike run
       (subst (NamePins (IsHeld ps n)) (sym made) (act-named (IsHeld ps n) answer.does held))
 
   -- its pins afterwards
@@ -101,15 +101,15 @@ module _ (size number n : ℕ) (x : Exchange) (before after : AllCursors) (curso
       (λ slot v h. k.now slot v (subst (λ (c : Calls). HeldAfter (IsHeld ps n) c slot v) (sym made) h))
       (act_held (IsHeld ps n) answer.does (subst (AreApart (IsHeld ps n)) made k.apart) held)
 
-  -- and those of all
-  holding-now : (k : OwnRun n s ps steps t) → AreHolding k.pins between
+  -- and those of every session
+  holding-now : (k : OwnRun n s ps steps t) → AreHolding k.pins all_after
   holding-now k m =
-      elim (m == n) as (λ b. (m == n) ≡ b → AreHeld (IsHeld k.pins m) (of_number m between)) [
-        | true ↦ λ e. subst (λ (q : ℕ). AreHeld (IsHeld k.pins q) (of_number q between)) (sym (eqb-true m n e))
+      elim (m == n) as (λ b. (m == n) ≡ b → AreHeld (IsHeld k.pins m) (of_number m all_after)) [
+        | true ↦ λ e. subst (λ (q : ℕ). AreHeld (IsHeld k.pins q) (of_number q all_after)) (sym (eqb-true m n e))
             (subst (AreHeld (IsHeld k.pins n)) (sym (its-own n before after cursors' is)) (held-now k))
         | false ↦ λ e. subst (AreHeld (IsHeld k.pins m))
             (sym (of-others m n before after cursors cursors' is (differ m n e)))
-            (held-under (IsHeld ps m) (IsHeld k.pins m) (of_number m all)
+            (held-under (IsHeld ps m) (IsHeld k.pins m) (of_number m all_before)
             (λ slot v h. k.others m slot v (differ m n e) h) (holding m))
       ] refl
 
@@ -129,19 +129,19 @@ module _ (size number n : ℕ) (x : Exchange) (before after : AllCursors) (curso
   }
 
   own-answer : (calls : Calls) → calls ≡ x.calls → n ≡ number
-      → RequestAnswer size (of_number number all) own-exchange.request calls lines (of_number number between)
+      → RequestAnswer size (of_number number all_before) own-exchange.request calls lines (of_number number all_after)
   own-answer calls same e =
       let request : Request = record { line = Whole line; molfile = [] } in
-      let was : of_number number all ≡ cursors = its-own number before after cursors (sym e ∙ is) in
-      let now : of_number number between ≡ cursors' = its-own number before after cursors' (sym e ∙ is) in
-      subst (λ (c : List Cursor). RequestAnswer size c request calls lines (of_number number between)) (sym was)
+      let was : of_number number all_before ≡ cursors = its-own number before after cursors (sym e ∙ is) in
+      let now : of_number number all_after ≡ cursors' = its-own number before after cursors' (sym e ∙ is) in
+      subst (λ (c : List Cursor). RequestAnswer size c request calls lines (of_number number all_after)) (sym was)
       (subst (λ (c : List Cursor). RequestAnswer size cursors request calls lines c) (sym now)
       (subst (λ (c : Calls). RequestAnswer size cursors request c lines cursors') (sym same) answer))
 
-  told-of : (k : OwnRun n s ps steps t) → IsToldOf size number x all (calls_of (λ o. o == number) k.own) between
+  told-of : (k : OwnRun n s ps steps t) → IsToldOf size number x all_before (calls_of (λ o. o == number) k.own) all_after
   told-of k =
       elim (n == number) as (λ b. (n == number) ≡ b
-      → IsToldOf size number x all (calls_of (λ o. o == number) k.own) between) [
+      → IsToldOf size number x all_before (calls_of (λ o. o == number) k.own) all_after) [
         | true ↦ λ e.
             let same : n ≡ number = eqb-true n number e in
             inl (
@@ -159,7 +159,7 @@ module _ (size number n : ℕ) (x : Exchange) (before after : AllCursors) (curso
             )
       ] refl
 
-  spoken : OneLine size number x all between s ps t
+  spoken : OneLine size number x all_before all_after s ps t
   spoken = record {
     pins = its.pins;
     own = its.own;
@@ -176,20 +176,20 @@ IsNoSession (Some (Session number line)) = ⊥
 IsNoSession _ = Unit {0}
 
 not-own : (number : ℕ) (x : Exchange) (read : Option DrillLine) → x.read ≡ read → IsNoSession read → ¬ IsOwn number x
-not-own number x read is no o = subst IsNoSession (sym is ∙ o.1) no
+not-own number x read is none o = subst IsNoSession (sym is ∙ o.1) none
 
 one-line : (a b : ℕ) (l k : List ℕ) → Some (Session a l) ≡ Some (Session b k) → l ≡ k
 one-line a b l k e = cc e
 
 -- any line but a reopening
-module _ (size number : ℕ) (x : Exchange) (all between : AllCursors) (s t : State) (ps : List Held)
+module _ (law : PinsStay) (size number : ℕ) (x : Exchange) (all between : AllCursors) (s t : State) (ps : List Held)
     (steps : List Step) (alike : Alike s.pins ps) (run : IsRun s steps t) (made : events_of steps ≡ x.calls)
     (holding : AreHolding ps all) where
   quiet : (read : Option DrillLine) (text : List ℕ) → x.read ≡ read → IsNoSession read
       → drill.Says text all x.calls x.text between → OneLine size number x all between s ps t
-  quiet read text is no says =
+  quiet read text is none says =
       silent size number x all between s t ps steps alike run (made ∙ says.0) holding says.2
-      (not-own number x read is no)
+      (not-own number x read is none)
 
   of-session : (n : ℕ) (line : List ℕ) → x.read ≡ Some (Session n line)
       → (a : drill.IsSessionAnswer size n line all x.calls x.text between) → OneLine size number x all between s ps t
@@ -199,18 +199,18 @@ module _ (size number : ℕ) (x : Exchange) (all between : AllCursors) (s t : St
         (λ o. o.2 (subst StartsMolfile (one-line n number line o.0 (sym is ∙ o.1)) r.0))
     | inr r ↦ subst (λ (l : AllCursors). OneLine size number x l between s ps t) (sym a.place)
         (subst (λ (l : AllCursors). OneLine size number x (a.before ++ a.cursors ∷ a.after) l s ps t) (sym a.left)
-        (spoken size number n x a.before a.after a.cursors a.cursors' line a.lines s t ps steps alike run made
+        (spoken law size number n x a.before a.after a.cursors a.cursors' line a.lines s t ps steps alike run made
         (subst (AreHolding ps) a.place holding) a.number_is is r.0 r.1 a.said))
   ]
 
   by-read : ¬ IsReopen x → (read : Option DrillLine) → x.read ≡ read
       → Does size x.line read all x.calls x.text between → OneLine size number x all between s ps t
-  by-read no None is d = quiet None _ is tt d
-  by-read no (Some Empty) is d = quiet (Some Empty) _ is tt d
-  by-read no (Some (Session n line)) is d = of-session n line is d
-  by-read no (Some (Stop calls)) is d = quiet (Some (Stop calls)) _ is tt d
-  by-read no (Some (Fail call)) is d = quiet (Some (Fail call)) _ is tt d
-  by-read no (Some (Reopen image)) is d = absurd (no (image, is))
+  by-read stays None is d = quiet None _ is tt d
+  by-read stays (Some Empty) is d = quiet (Some Empty) _ is tt d
+  by-read stays (Some (Session n line)) is d = of-session n line is d
+  by-read stays (Some (Stop calls)) is d = quiet (Some (Stop calls)) _ is tt d
+  by-read stays (Some (Fail call)) is d = quiet (Some (Fail call)) _ is tt d
+  by-read stays (Some (Reopen image)) is d = absurd (stays (image, is))
 
 -- the steps of a part, with their sessions' numbers, and the dialogue of one session
 record InPart (size number : ℕ) (part : List Exchange) (all all' : AllCursors) (s : State) (ps : List Held) (t : State)
@@ -267,10 +267,10 @@ before-part size number x xs all between all' s m t ps o p = by o.told where
             (of_number number all')) same p.exchanged);
       }
 
-in-part : (size number : ℕ) (part : List Exchange) (all all' : AllCursors) (s t : State) (ps : List Held)
+in-part : PinsStay → (size number : ℕ) (part : List Exchange) (all all' : AllCursors) (s t : State) (ps : List Held)
     (steps : List Step) → Alike s.pins ps → IsRun s steps t → events_of steps ≡ drill.calls_of part
     → AreHolding ps all → IsPart part → AreExchanged size all part all' → InPart size number part all all' s ps t
-in-part size number [] all all' s t ps steps alike run made holding is h = record {
+in-part law size number [] all all' s t ps steps alike run made holding is h = record {
   pins = ps;
   own = [];
   run = ap (λ (y : State). with_pins y ps) (no-event s t steps run made);
@@ -279,28 +279,28 @@ in-part size number [] all all' s t ps steps alike run made holding is h = recor
   are = refl;
   exchanged = (refl, ap (λ (l : AllCursors). of_number number l) h);
 }
-in-part size number (x ∷ xs) all all' s t ps steps alike run made holding is h =
+in-part law size number (x ∷ xs) all all' s t ps steps alike run made holding is h =
     let k : Halves s t x.calls (drill.calls_of xs) = halves s t steps x.calls (drill.calls_of xs) run made in
     let o : OneLine size number x all h.0 s ps k.middle =
-    by-read size number x all h.0 s k.middle ps k.front alike k.to k.first holding is.0 x.read refl h.1.1 in
+    by-read law size number x all h.0 s k.middle ps k.front alike k.to k.first holding is.0 x.read refl h.1.1 in
     before-part size number x xs all h.0 all' s k.middle t ps o
-    (in-part size number xs h.0 all' k.middle t o.pins k.back o.alike k.from k.rest o.holding is.1 h.2)
+    (in-part law size number xs h.0 all' k.middle t o.pins k.back o.alike k.from k.rest o.holding is.1 h.2)
 
-pub drills-are-true : DialoguesAreTrue → RunsStaySound → DrillsAreTrue
-drills-are-true law stay size number before part all s t steps h anew is sound run made =
+pub drills-are-true : DialoguesAreTrue → RunsStaySound → PinsStay → DrillsAreTrue
+drills-are-true dialogues sound-law pins size number before part all s t steps h anew is sound run made =
     let r = exchanged-parts size no_cursors all before part h in
     let none : AreNone r.0 = none-open size before r.0 anew r.1 in
     let k : Halves s t (drill.calls_of before) (drill.calls_of part) =
     halves s t steps (drill.calls_of before) (drill.calls_of part) run (made ∙ calls-parts before part) in
     let m : State = k.middle in
-    let there : IsSound m = stay s m k.front k.to sound in
+    let there : IsSound m = sound-law s m k.front k.to sound in
     let p : InPart size number part r.0 all m m.pins t =
-    in-part size number part r.0 all m t m.pins k.back refl k.from k.rest
+    in-part pins size number part r.0 all m t m.pins k.back refl k.from k.rest
     (λ n. subst (AreHeld (IsHeld m.pins n)) (sym (none n)) tt) is r.2 in
     let calls : Calls = calls_of (λ o. o == number) p.own in (
       p.dialogue,
       p.are,
-      law m (with_pins t p.pins) p.own (λ o. o == number) size p.dialogue calls [] (of_number number all) there p.run
+      dialogues m (with_pins t p.pins) p.own (λ o. o == number) size p.dialogue calls [] (of_number number all) there p.run
           p.calm (sym (append-nil calls))
           (subst (λ (c : List Cursor). session.AreExchanged size c p.dialogue calls (of_number number all)) (none number)
           p.exchanged),
