@@ -13,4 +13,5 @@ pub mod OwnPins
 pub mod Reowned
 pub mod Owners
 pub mod Parts
+pub mod OneLine
 pub mod Shared

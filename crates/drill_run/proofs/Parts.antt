@@ -1,5 +1,5 @@
 -- A drill in parts, and the cursors of one session.
-use Rattle.std.proofs.Common.{◌≡◌, ◌+◌, ◌++◌, ◌∙◌, ap, append_assoc, arith, inl, inr, length, List, [], ◌∷◌, map, Option, refl, replicate, Some, subst, suc, sym, zero, ℕ}
+use Rattle.std.proofs.Common.{◌≡◌, ◌+◌, ◌++◌, ◌∙◌, ap, append_assoc, arith, inl, inr, length, List, [], ◌∷◌, map, Option, refl, replicate, subst, suc, sym, zero, ℕ}
 use Rattle.session_run.specs.Cursors.{Calls, Cursor}
 use Rattle.store_machine.specs.Runs.{IsRun}
 use Rattle.store_machine.specs.declared.machine.Event.{Event}

@@ -1,5 +1,5 @@
 -- What a reopening leaves of the history.
-use Rattle.std.proofs.Common.{◌≡◌, ◌++◌, ◌∙◌, ap, append_assoc, inl, inr, List, [], ◌∷◌, subst, sym}
+use Rattle.std.proofs.Common.{◌≡◌, ◌∙◌, ap, append_assoc, inl, inr, List, [], ◌∷◌, subst}
 use Rattle.store_machine.specs.History.{grown}
 use Rattle.store_machine.specs.Machine.{CrashGives, Gives, OpenGives, Recovers}
 use Rattle.store_machine.specs.Told.{RunsAdd, acknowledged}
@@ -33,12 +33,12 @@ reopenings-keep add s t u steps crash opening run calm (at, crashes, (next, open
     elim recovered [
       | inl e ↦ inl (left ∙ (e ∙ grew))
       | inr k ↦ inr (
-          k.0,
-          k.1,
-          left
-              ∙ (k.2
-              ∙ (ap (λ (h : History). grown h (k.0 ∷ [])) grew
-              ∙ ap (λ (l : List Change). record s.history { commits = l })
-              (append_assoc s.history.commits (acknowledged steps) (k.0 ∷ [])))),
-        )
+        k.0,
+        k.1,
+        left
+            ∙ (k.2
+            ∙ (ap (λ (h : History). grown h (k.0 ∷ [])) grew
+            ∙ ap (λ (l : List Change). record s.history { commits = l })
+            (append_assoc s.history.commits (acknowledged steps) (k.0 ∷ [])))),
+      )
     ]

@@ -233,13 +233,16 @@ pin-reowned s t ps o n (reply.Pinned slot version) e g =
     let less = g.1.0 in
     record {
       pins = ps ++ new ∷ [];
-      gives = (g.0, (
-        omega (arith, number, less),
-        g.1.1,
-        free-alike slot s.pins ps e g.1.2,
-        g.1.3,
-        ap (λ (x : State). with_pins x (ps ++ new ∷ [])) g.1.4,
-      ));
+      gives = (
+        g.0,
+        (
+          omega (arith, number, less),
+          g.1.1,
+          free-alike slot s.pins ps e g.1.2,
+          g.1.3,
+          ap (λ (x : State). with_pins x (ps ++ new ∷ [])) g.1.4,
+        ),
+      );
       alike = pushed-alike s.pins ps old new e refl
           ∙ ap (λ (x : State). map unowned x.pins) (sym g.1.4);
     }
