@@ -1,5 +1,5 @@
--- One line of a drill whose steps have the number of their session: the pins of the cursors of all sessions are held under
--- their numbers, before it and after it.
+-- One line of a drill, its steps with the number of its session: the pins of all sessions' cursors are held under the
+-- sessions' numbers, before it and after it.
 use Rattle.std.proofs.Common.{◌≡◌, ◌+◌, ◌==◌, ◌⊎◌, ◌++◌, ◌∙◌, ap, eq-eqb, eqb-true, false, inl, inr, length, List, [], ◌∷◌, None, Option, refl, Some, subst, sym, true, ℕ}
 use Rattle.std.proofs.lemmas.Bool.{true≢false}
 use Rattle.io_edge.specs.Lines.{Whole}
@@ -72,10 +72,11 @@ silent size number x all between s t ps steps alike run none holding same other 
     }
 
 -- a line of a session
-module _ (law : PinsStay) (size number n : ℕ) (x : Exchange) (before after : AllCursors) (cursors cursors' : List Cursor)
-    (line : List ℕ) (lines : Lines) (s t : State) (ps : List Held) (steps : List Step) (alike : Alike s.pins ps)
-    (run : IsRun s steps t) (made : events_of steps ≡ x.calls) (holding : AreHolding ps (before ++ cursors ∷ after))
-    (is : n ≡ length before + 1) (read : x.read ≡ Some (Session n line)) (alone : ¬ StartsMolfile line)
+module _ (law : PinsStay) (size number n : ℕ) (x : Exchange) (before after : AllCursors)
+    (cursors cursors' : List Cursor) (line : List ℕ) (lines : Lines) (s t : State) (ps : List Held)
+    (steps : List Step) (alike : Alike s.pins ps) (run : IsRun s steps t) (made : events_of steps ≡ x.calls)
+    (holding : AreHolding ps (before ++ cursors ∷ after)) (is : n ≡ length before + 1)
+    (read : x.read ≡ Some (Session n line)) (alone : ¬ StartsMolfile line)
     (answer : RequestAnswer size cursors (record { line = Whole line; molfile = [] }) x.calls lines cursors')
     (said : x.text ≡ numbered n (text_of lines)) where
   abbrev all_before : AllCursors
@@ -136,7 +137,8 @@ module _ (law : PinsStay) (size number n : ℕ) (x : Exchange) (before after : A
       (subst (λ (c : List Cursor). RequestAnswer size cursors request calls lines c) (sym now)
       (subst (λ (c : Calls). RequestAnswer size cursors request c lines cursors') (sym same) answer))
 
-  told-of : (k : OwnRun n s ps steps t) → IsToldOf size number x all_before (calls_of (λ o. o == number) k.own) all_after
+  told-of : (k : OwnRun n s ps steps t)
+      → IsToldOf size number x all_before (calls_of (λ o. o == number) k.own) all_after
   told-of k =
       elim (n == number) as (λ b. (n == number) ≡ b
       → IsToldOf size number x all_before (calls_of (λ o. o == number) k.own) all_after) [

@@ -86,8 +86,9 @@ none-open size before between (inl e) h = λ number.
 none-open size before between (inr (front, last, e, (image, is))) h = λ number.
     let r = exchanged-parts size no_cursors between front (last ∷ [])
     (subst (λ (l : List Exchange). AreExchanged size no_cursors l between) e h) in
-    let does = subst (λ (read : Option DrillLine). Does size last.line read r.0 last.calls last.text r.2.0) is r.2.1.1 in
-    let same : between ≡ map (λ _. []) r.0 = r.2.2 ∙ does.3 in
+    let x = r.2 in
+    let does = subst (λ (read : Option DrillLine). Does size last.line read r.0 last.calls last.text x.0) is x.1.1 in
+    let same : between ≡ map (λ _. []) r.0 = x.2 ∙ does.3 in
     subst (λ (all : AllCursors). of_number number all ≡ []) (sym same)
     (first-none number (map (λ _. []) r.0) (λ n. none-left n r.0))
 
@@ -120,14 +121,15 @@ halves s t steps [] ys run e = record {
 }
 halves s t [] (x ∷ xs) ys run e = absurd (cc e)
 halves s t (y ∷ steps) (x ∷ xs) ys run e =
-    let k = halves y.after t steps xs ys run.2 (rest-calls (y.event, y.reply) x (events_of steps) (xs ++ ys) e) in
+    let c : Event × Reply = (y.event, y.reply) in
+    let k = halves y.after t steps xs ys run.2 (rest-calls c x (events_of steps) (xs ++ ys) e) in
     record {
       middle = k.middle;
       front = y ∷ k.front;
       back = k.back;
       to = (run.0, run.1, k.to);
       from = k.from;
-      first = ap (λ (c : Event × Reply). c ∷ events_of k.front) (first-call (y.event, y.reply) x (events_of steps) (xs ++ ys) e)
+      first = ap (λ (d : Event × Reply). d ∷ events_of k.front) (first-call c x (events_of steps) (xs ++ ys) e)
           ∙ ap (λ (l : Calls). x ∷ l) k.first;
       rest = k.rest;
     }

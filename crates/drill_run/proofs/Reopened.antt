@@ -9,6 +9,7 @@ use Rattle.store_machine.specs.declared.machine.History.{History}
 use Rattle.store_machine.specs.declared.machine.Reply.{Reply}
 use Rattle.store_machine.specs.declared.machine.Reply.TheVariants.{Crashed, Opened}
 use Rattle.store_machine.specs.declared.machine.State.{State}
+use Rattle.store_machine.specs.declared.machine.Step.{Step}
 use Rattle.drill_run.specs.Truths.{ReopeningsKeep}
 
 crash-recovers : (s : State) (r : Reply) (t : State) → CrashGives s r t → Recovers s t.history
@@ -22,13 +23,14 @@ open-keeps s _ t g = absurd g
 pub reopenings-keep : RunsAdd → ReopeningsKeep
 reopenings-keep add s t u steps crash opening run calm (at, crashes, (next, opens, end)) is_crash is_open =
     let crashed = subst (λ (e : Event). Gives crash.before crash.owner e crash.reply crash.after) is_crash crashes in
-    let opened = subst (λ (e : Event). Gives opening.before opening.owner e opening.reply opening.after) is_open opens in
+    let o : Step = opening in
+    let opened = subst (λ (e : Event). Gives o.before o.owner e o.reply o.after) is_open opens in
     let recovered : Recovers t crash.after.history =
     subst (λ (x : State). Recovers x crash.after.history) at
     (crash-recovers crash.before crash.reply crash.after crashed) in
     let left : u.history ≡ crash.after.history =
     ap (λ (x : State). x.history) end
-    ∙ (open-keeps opening.before opening.reply opening.after opened ∙ ap (λ (x : State). x.history) next) in
+    ∙ (open-keeps o.before o.reply o.after opened ∙ ap (λ (x : State). x.history) next) in
     let grew : t.history ≡ grown s.history (acknowledged steps) = add s t steps run calm in
     elim recovered [
       | inl e ↦ inl (left ∙ (e ∙ grew))

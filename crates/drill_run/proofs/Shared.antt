@@ -1,6 +1,6 @@
--- The sessions of a drill share one run: with the steps given the numbers of their sessions, each session's calls are those
--- of its own dialogue.
-use Rattle.std.proofs.Common.{◌≡◌, ◌+◌, ◌==◌, ◌++◌, ◌∙◌, ap, append-nil, inl, inr, List, [], ◌∷◌, refl, subst, sym, ℕ}
+-- The sessions of a drill share one run: where its steps have the numbers of their sessions, each session's calls are
+-- those of its own dialogue.
+use Rattle.std.proofs.Common.{◌≡◌, ◌==◌, ◌++◌, ◌∙◌, ap, append-nil, inl, inr, List, [], ◌∷◌, refl, subst, sym, ℕ}
 use Rattle.session_run.specs.Cursors.{Calls, Cursor}
 use Rattle.session_run.specs.Dialogue as session
 use Rattle.session_run.specs.Pins.{AreHeld}
@@ -95,21 +95,21 @@ in-part law size number (x ∷ xs) all all' s t ps steps alike run made holding 
     (in-part law size number xs h.0 all' k.middle t o.pins k.back o.alike k.from k.rest o.holding is.1 h.2)
 
 pub drills-are-true : DialoguesAreTrue → RunsStaySound → PinsStay → DrillsAreTrue
-drills-are-true dialogues sound-law pins size number before part all s t steps h anew is sound run made =
+drills-are-true dialogues sound_law pins size number before part all s t steps h anew is sound run made =
     let r = exchanged-parts size no_cursors all before part h in
     let none : AreNone r.0 = none-open size before r.0 anew r.1 in
     let k : Halves s t (drill.calls_of before) (drill.calls_of part) =
     halves s t steps (drill.calls_of before) (drill.calls_of part) run (made ∙ calls-parts before part) in
     let m : State = k.middle in
-    let there : IsSound m = sound-law s m k.front k.to sound in
+    let there : IsSound m = sound_law s m k.front k.to sound in
     let p : InPart size number part r.0 all m m.pins t =
     in-part pins size number part r.0 all m t m.pins k.back refl k.from k.rest
     (λ n. subst (AreHeld (IsHeld m.pins n)) (sym (none n)) tt) is r.2 in
-    let calls : Calls = calls_of (λ o. o == number) p.own in (
+    let calls : Calls = calls_of (λ o. o == number) p.own in
+    let left : List Cursor = of_number number all in (
       p.dialogue,
       p.are,
-      dialogues m (with_pins t p.pins) p.own (λ o. o == number) size p.dialogue calls [] (of_number number all) there p.run
-          p.calm (sym (append-nil calls))
-          (subst (λ (c : List Cursor). session.AreExchanged size c p.dialogue calls (of_number number all)) (none number)
-          p.exchanged),
+      dialogues m (with_pins t p.pins) p.own (λ o. o == number) size p.dialogue calls [] left there p.run p.calm
+          (sym (append-nil calls))
+          (subst (λ (c : List Cursor). session.AreExchanged size c p.dialogue calls left) (none number) p.exchanged),
     )

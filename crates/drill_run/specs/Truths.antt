@@ -52,8 +52,8 @@ abbrev pub BeginsAnew : List Exchange → Type 0
 BeginsAnew before = (before ≡ [])
     ⊎ ((front : List Exchange) × (last : Exchange) × (before ≡ front ++ last ∷ []) × IsReopen last)
 
--- From a reopening on, or from the beginning, up to the next reopening, each session's searches, cursors and lookups that
--- came to their end told exactly what the history has
+-- In each part of a drill, from the beginning or a reopening on, each session's searches, cursors and lookups that came
+-- to their end told exactly what the history has
 abbrev pub DrillsAreTrue : Type 0
 DrillsAreTrue =
     (size number : ℕ) (before part : List Exchange) (all : AllCursors) (s t : State) (steps : List Step)
@@ -61,7 +61,7 @@ DrillsAreTrue =
     → IsSound s → IsRun s steps t → events_of steps ≡ calls_of (before ++ part)
     → (own : List session.Exchange) × AreOwn number part own × AreTrue t.history size own
 
--- A reopening leaves the history, with what was acknowledged since the last one, in order, and at most one commit more:
+-- A reopening leaves the history with what was acknowledged since the last one, in order, and at most one commit more,
 -- the one in doubt
 abbrev pub ReopeningsKeep : Type 0
 ReopeningsKeep =
