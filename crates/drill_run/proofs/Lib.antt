@@ -8,3 +8,10 @@ pub mod Answering
 pub mod Numbering
 pub mod Making
 pub mod Turning
+pub mod Reopened
+pub mod OwnPins
+pub mod Reowned
+pub mod Owners
+pub mod Parts
+pub mod OneLine
+pub mod Shared

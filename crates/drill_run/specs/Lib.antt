@@ -5,3 +5,4 @@ pub mod Causes
 pub mod Drilled
 pub mod Views
 pub mod Turns
+pub mod Truths

@@ -4,6 +4,7 @@
 //! text that was put. A crash and an opening are among the events; a disk fault is, only where a line set it.
 #![tactic(auto)]
 
+mod laws;
 mod line;
 mod numbers;
 mod run;
@@ -11,5 +12,6 @@ mod sessions;
 #[cfg(test)]
 mod tests;
 
+pub use laws::{drills_are_true, reopenings_keep_commits};
 pub use line::{LAST_IMAGE, MOST_CALLS, SESSIONS};
 pub use run::drill;

@@ -1,0 +1,71 @@
+-- For callers: the laws of a drill. A reopening keeps what was acknowledged, and between two reopenings each session's
+-- searches, cursors and lookups tell what the history has.
+use Rattle.std.specs.Prelude.{◌≡◌, ◌⊎◌, ℕ, List, [], ◌∷◌, ◌++◌, Some}
+use Rattle.io_edge.specs.Lines.{Whole}
+use Rattle.session_run.specs.Dialogue as session
+use Rattle.session_run.specs.Truths.{AreTrue}
+use Rattle.shell_lang.specs.Command.{StartsMolfile}
+use Rattle.shell_lang.specs.Reply.{text_of}
+use Rattle.store_machine.specs.History.{grown}
+use Rattle.store_machine.specs.Laws.{IsSound}
+use Rattle.store_machine.specs.Runs.{IsCalm, IsRun}
+use Rattle.store_machine.specs.Told.{acknowledged}
+use Rattle.store_machine.specs.declared.machine.Change.{Change}
+use Rattle.store_machine.specs.declared.machine.Event.TheVariants.{Crash, Open}
+use Rattle.store_machine.specs.declared.machine.State.{State}
+use Rattle.store_machine.specs.declared.machine.Step.{Step}
+use Rattle.drill_run.specs.Dialogue.{AllCursors, AreExchanged, Exchange, calls_of}
+use Rattle.drill_run.specs.Drilled.{events_of, no_cursors}
+use Rattle.drill_run.specs.Lines.{Reopen, Session}
+use Rattle.drill_run.specs.Numbers.{numbered}
+
+-- a line of this session that is answered as in a session
+abbrev pub IsOwn : ℕ → Exchange → Type 0
+IsOwn number x = (line : List ℕ) × (x.read ≡ Some (Session number line)) × ¬ StartsMolfile line
+
+-- the same line with its reply, as an exchange of that session alone
+pub record IsOwnAs (number : ℕ) (x : Exchange) (own : session.Exchange) : Type 0 where
+  pub line : List ℕ
+  pub read : x.read ≡ Some (Session number line)
+  pub alone : ¬ StartsMolfile line
+  pub request : own.request ≡ record { line = Whole line; molfile = [] }
+  pub said : x.text ≡ numbered number (text_of own.lines)
+
+-- the session's own dialogue in a drill: its lines with their replies, in order
+abbrev pub AreOwn : ℕ → List Exchange → List session.Exchange → Type 0
+AreOwn number [] own = own ≡ []
+AreOwn number (x ∷ xs) own =
+    ((first : session.Exchange) × (rest : List session.Exchange) × (own ≡ first ∷ rest) × IsOwnAs number x first
+    × AreOwn number xs rest)
+    ⊎ (¬ IsOwn number x × AreOwn number xs own)
+
+abbrev pub IsReopen : Exchange → Type 0
+IsReopen x = (image : ℕ) × (x.read ≡ Some (Reopen image))
+
+-- no reopening is among them
+abbrev pub IsPart : List Exchange → Type 0
+IsPart [] = Unit {0}
+IsPart (x ∷ xs) = ¬ IsReopen x × IsPart xs
+
+-- nothing, or a drill up to a reopening
+abbrev pub BeginsAnew : List Exchange → Type 0
+BeginsAnew before = (before ≡ [])
+    ⊎ ((front : List Exchange) × (last : Exchange) × (before ≡ front ++ last ∷ []) × IsReopen last)
+
+-- In each part of a drill, from the beginning or a reopening on, each session's searches, cursors and lookups that came
+-- to their end told exactly what the history has
+abbrev pub DrillsAreTrue : Type 0
+DrillsAreTrue =
+    (size number : ℕ) (before part : List Exchange) (all : AllCursors) (s t : State) (steps : List Step)
+    → AreExchanged size no_cursors (before ++ part) all → BeginsAnew before → IsPart part
+    → IsSound s → IsRun s steps t → events_of steps ≡ calls_of (before ++ part)
+    → (own : List session.Exchange) × AreOwn number part own × AreTrue t.history size own
+
+-- A reopening leaves the history with what was acknowledged since the last one, in order, and at most one commit more,
+-- the one in doubt
+abbrev pub ReopeningsKeep : Type 0
+ReopeningsKeep =
+    (s t u : State) (steps : List Step) (crash opening : Step)
+    → IsRun s steps t → IsCalm steps → IsRun t (crash ∷ opening ∷ []) u → crash.event ≡ Crash → opening.event ≡ Open
+    → (u.history ≡ grown s.history (acknowledged steps))
+    ⊎ ((c : Change) × (t.doubt ≡ Some c) × (u.history ≡ grown s.history (acknowledged steps ++ c ∷ [])))

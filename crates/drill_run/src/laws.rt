@@ -1,0 +1,24 @@
+//! The laws of a drill: joined with a run of the store's machine, each session tells what the history has, and no
+//! reopening loses what was acknowledged.
+ghost use Rattle.drill_run.specs.Truths.{DrillsAreTrue, ReopeningsKeep};
+
+use session_run::dialogues_are_true;
+use store_machine::{pins_stay, replies_tell, runs_stay_sound};
+
+/// In each part of a drill, up to a reopening, each session's searches, cursors and lookups that came to their end told
+/// exactly what the history has, whatever the other sessions did meanwhile.
+pub fn drills_are_true()
+    ensures { DrillsAreTrue }
+{
+    dialogues_are_true();
+    runs_stay_sound();
+    pins_stay();
+}
+
+/// A reopening leaves the history with all commits that were acknowledged since the last one, in order, and at most one
+/// more, the one in doubt.
+pub fn reopenings_keep_commits()
+    ensures { ReopeningsKeep }
+{
+    replies_tell();
+}
