@@ -12,3 +12,4 @@ pub mod Unfailing
 pub mod Desks
 pub mod Done
 pub mod Opened
+pub mod Empty

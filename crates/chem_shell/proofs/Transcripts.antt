@@ -91,7 +91,7 @@ nothing_inside : {X : Type 0} (before : List X) (x : X) (after : List X) → [] 
 nothing_inside [] x after e = cc
 nothing_inside (b ∷ before) x after e = cc
 
-nothing_is_true : (h : History) (page : ℕ) (lines : List TextLine) → IsTrueBeginning h page lines [] []
+pub nothing_is_true : (h : History) (page : ℕ) (lines : List TextLine) → IsTrueBeginning h page lines [] []
 nothing_is_true h page lines = record {
   left = lines;
   own = [];

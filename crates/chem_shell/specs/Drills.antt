@@ -1,6 +1,7 @@
 -- For callers: what `drill` leaves of the end that it serves.
 use Rattle.std.specs.Prelude.{◌≡◌, ℕ, Option, List, [], IfSome}
 use Rattle.drill_run.specs.Drilled.{IsAllOfTaken, IsDialogue, IsDialoguePrefix, events_of}
+use Rattle.drill_run.specs.Truths.{AreAllTold}
 use Rattle.io_edge.specs.Lines.{lines_of}
 use Rattle.serve_ends.specs.declared.end.End.{End}
 use Rattle.serve_ends.specs.declared.status.TheConstants.{DONE}
@@ -31,18 +32,30 @@ IsDrillBy page script calls text = IsDialogue page (lines_of script) [] calls te
 abbrev pub IsDrillPrefixBy : ℕ → List ℕ → Calls → List ℕ → Type 0
 IsDrillPrefixBy page script calls text = IsDialoguePrefix page (lines_of script) calls text
 
--- What `drill` leaves of an end: what was written is a prefix of a drill of the source's bytes. Where the status is 0 it
--- is all of one, and the source was read to its end. Where the source failed or its bytes are too many, exactly the lines
--- that are whole in the bytes that were taken were answered. No more than the limit is ever taken
+-- Such a text by the calls of a run from a state: each session's searches, cursors and lookups in it that came to their
+-- end told exactly what the history has, in each part of the drill
+abbrev pub IsTrueDrill : State → List Step → ℕ → List ℕ → Calls → List ℕ → Type 0
+IsTrueDrill first steps page script calls text =
+    (drill : IsDrillBy page script calls text) × AreAllTold first steps page drill.exchanges
+
+-- the same of a beginning, for the lines that were answered
+abbrev pub IsTrueDrillPrefix : State → List Step → ℕ → List ℕ → Calls → List ℕ → Type 0
+IsTrueDrillPrefix first steps page script calls text =
+    (drill : IsDrillPrefixBy page script calls text) × AreAllTold first steps page drill.exchanges
+
+-- What `drill` leaves of an end: what was written is a prefix of a drill of the source's bytes, and true by the run.
+-- Where the status is 0 it is all of one, and the source was read to its end. Where the source failed or its bytes are
+-- too many, exactly the lines that are whole in the bytes that were taken were answered. No more than the limit is ever
+-- taken
 pub record ServesDrill {S K : Type 0} (plan : Plan) (left : S → Option (List ℕ)) (written : K → Option (List ℕ))
     (old new : End S K) : Type 0 where
   pub status : IsEndStatus new.status
   pub calls : Calls
   pub run : AreOfDrill plan.commits calls
   pub prefix : IfSome (left old.source) (λ script. Writes (written old.sink) (written new.sink)
-      (IsDrillPrefixBy plan.page script calls))
+      (IsTrueDrillPrefix (empty plan.commits) run.steps plan.page script calls))
   pub all : new.status ≡ DONE → IfSome (left old.source) (λ script. Writes (written old.sink) (written new.sink)
-      (IsDrillBy plan.page script calls))
+      (IsTrueDrill (empty plan.commits) run.steps plan.page script calls))
   pub taken : IsInputStatus new.status → WritesForTaken (left old.source) (left new.source)
       (written old.sink) (written new.sink) (IsAllOfTaken plan.page calls)
   pub done : new.status ≡ DONE → TakesAll (left old.source) (left new.source)

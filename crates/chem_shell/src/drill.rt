@@ -11,7 +11,7 @@ ghost use Rattle.chem_shell.specs.Words.{IsWithinLimits};
 use crate::request::Plan;
 use crate::settings::{INPUT_LIMIT, settings};
 use drill_core::World;
-use drill_run::drill;
+use drill_run::{drill, drills_are_true};
 use io_edge::{Sink, Source};
 use par_search::NoMeter;
 use serve_ends::{End, end_status};
@@ -30,6 +30,7 @@ pub fn serve_drill<R: Threads + Sync, S: Source + Drop, K: Sink + Drop>(
     ensures serves { ServesDrill plan.now S.left K.written end.old end.new }
     ensures causes { HasEndCauses S.left S.faults K.faults end.old end.new }
 {
+    drills_are_true();
     let ended = run_drill(rt, alloc, plan, &mut end.source, &mut end.sink);
     end.status = end_status(ended);
 }

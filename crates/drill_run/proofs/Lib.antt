@@ -15,3 +15,4 @@ pub mod Owners
 pub mod Parts
 pub mod OneLine
 pub mod Shared
+pub mod Told

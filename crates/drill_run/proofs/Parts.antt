@@ -93,10 +93,11 @@ none-open size before between (inr (front, last, e, (image, is))) h = λ number.
     (first-none number (map (λ _. []) r.0) (λ n. none-left n r.0))
 
 -- A run cut where some events end
-pub record Halves (s t : State) (xs ys : Calls) : Type 0 where
+pub record Halves (s t : State) (steps : List Step) (xs ys : Calls) : Type 0 where
   pub middle : State
   pub front : List Step
   pub back : List Step
+  pub whole : steps ≡ front ++ back
   pub to : IsRun s front middle
   pub from : IsRun middle back t
   pub first : events_of front ≡ xs
@@ -109,11 +110,12 @@ rest-calls : (c d : Event × Reply) (cs ds : Calls) → c ∷ cs ≡ d ∷ ds �
 rest-calls c d cs ds e = cc e
 
 pub halves : (s t : State) (steps : List Step) (xs ys : Calls) → IsRun s steps t → events_of steps ≡ xs ++ ys
-    → Halves s t xs ys
+    → Halves s t steps xs ys
 halves s t steps [] ys run e = record {
   middle = s;
   front = [];
   back = steps;
+  whole = refl;
   to = refl;
   from = run;
   first = refl;
@@ -127,6 +129,7 @@ halves s t (y ∷ steps) (x ∷ xs) ys run e =
       middle = k.middle;
       front = y ∷ k.front;
       back = k.back;
+      whole = ap (λ (l : List Step). y ∷ l) k.whole;
       to = (run.0, run.1, k.to);
       from = k.from;
       first = ap (λ (d : Event × Reply). d ∷ events_of k.front) (first-call c x (events_of steps) (xs ++ ys) e)

@@ -4,7 +4,7 @@ use Rattle.std.proofs.Common.{◌≡◌, ◌==◌, ◌++◌, ◌∙◌, ap, appe
 use Rattle.session_run.specs.Cursors.{Calls, Cursor}
 use Rattle.session_run.specs.Dialogue as session
 use Rattle.session_run.specs.Pins.{AreHeld}
-use Rattle.session_run.specs.Truths.{DialoguesAreTrue}
+use Rattle.session_run.specs.Truths.{AreTrue, DialoguesAreTrue}
 use Rattle.store_machine.proofs.Joins.{calms-join, runs-join}
 use Rattle.store_machine.specs.Laws.{IsSound, PinsStay, RunsStaySound}
 use Rattle.store_machine.specs.Runs.{IsCalm, IsRun, calls_of}
@@ -14,7 +14,7 @@ use Rattle.store_machine.specs.declared.machine.Step.{Step}
 use Rattle.drill_run.specs.Dialogue as drill
 use Rattle.drill_run.specs.Dialogue.{AllCursors, AreExchanged, Exchange}
 use Rattle.drill_run.specs.Drilled.{events_of, no_cursors}
-use Rattle.drill_run.specs.Truths.{AreOwn, DrillsAreTrue, IsPart}
+use Rattle.drill_run.specs.Truths.{AreOwn, BeginsAnew, IsPart}
 use Rattle.drill_run.proofs.Owners.{calls-join}
 use Rattle.drill_run.proofs.Parts.{AreNone, Halves, calls-parts, exchanged-parts, halves, none-open, of_number}
 use Rattle.drill_run.proofs.Reowned.{Alike, IsHeld, with_pins}
@@ -88,17 +88,25 @@ in-part law size number [] all all' s t ps steps alike run made holding is h = r
   exchanged = (refl, ap (λ (l : AllCursors). of_number number l) h);
 }
 in-part law size number (x ∷ xs) all all' s t ps steps alike run made holding is h =
-    let k : Halves s t x.calls (drill.calls_of xs) = halves s t steps x.calls (drill.calls_of xs) run made in
+    let k : Halves s t steps x.calls (drill.calls_of xs) = halves s t steps x.calls (drill.calls_of xs) run made in
     let o : OneLine size number x all h.0 s ps k.middle =
     by-read law size number x all h.0 s k.middle ps k.front alike k.to k.first holding is.0 x.read refl h.1.1 in
     before-part size number x xs all h.0 all' s k.middle t ps o
     (in-part law size number xs h.0 all' k.middle t o.pins k.back o.alike k.from k.rest o.holding is.1 h.2)
 
-pub drills-are-true : DialoguesAreTrue → RunsStaySound → PinsStay → DrillsAreTrue
-drills-are-true dialogues sound_law pins size number before part all s t steps h anew is sound run made =
+-- the whole of a drill's steps, and its last part
+abbrev pub LastPartIsTrue : Type 0
+LastPartIsTrue =
+    (size number : ℕ) (before part : List Exchange) (all : AllCursors) (s t : State) (steps : List Step)
+    → AreExchanged size no_cursors (before ++ part) all → BeginsAnew before → IsPart part
+    → IsSound s → IsRun s steps t → events_of steps ≡ drill.calls_of (before ++ part)
+    → (own : List session.Exchange) × AreOwn number part own × AreTrue t.history size own
+
+pub last-part : DialoguesAreTrue → RunsStaySound → PinsStay → LastPartIsTrue
+last-part dialogues sound_law pins size number before part all s t steps h anew is sound run made =
     let r = exchanged-parts size no_cursors all before part h in
     let none : AreNone r.0 = none-open size before r.0 anew r.1 in
-    let k : Halves s t (drill.calls_of before) (drill.calls_of part) =
+    let k : Halves s t steps (drill.calls_of before) (drill.calls_of part) =
     halves s t steps (drill.calls_of before) (drill.calls_of part) run (made ∙ calls-parts before part) in
     let m : State = k.middle in
     let there : IsSound m = sound_law s m k.front k.to sound in

@@ -2,6 +2,7 @@
 -- searches, cursors and lookups tell what the history has.
 use Rattle.std.specs.Prelude.{◌≡◌, ◌⊎◌, ℕ, List, [], ◌∷◌, ◌++◌, Some}
 use Rattle.io_edge.specs.Lines.{Whole}
+use Rattle.session_run.specs.Cursors.{Calls}
 use Rattle.session_run.specs.Dialogue as session
 use Rattle.session_run.specs.Truths.{AreTrue}
 use Rattle.shell_lang.specs.Command.{StartsMolfile}
@@ -52,14 +53,32 @@ abbrev pub BeginsAnew : List Exchange → Type 0
 BeginsAnew before = (before ≡ [])
     ⊎ ((front : List Exchange) × (last : Exchange) × (before ≡ front ++ last ∷ []) × IsReopen last)
 
--- In each part of a drill, from the beginning or a reopening on, each session's searches, cursors and lookups that came
--- to their end told exactly what the history has
+-- of a run from a state, the first steps make the calls of a drill so far, and what the session's own dialogue told in
+-- its last part is what the history then has
+pub record IsTold (s : State) (steps : List Step) (size number : ℕ) (before part : List Exchange) : Type 0 where
+  pub first : List Step
+  pub left : List Step
+  pub there : State
+  pub cut : steps ≡ first ++ left
+  pub made : events_of first ≡ calls_of (before ++ part)
+  pub run : IsRun s first there
+  pub own : List session.Exchange
+  pub are : AreOwn number part own
+  pub are_true : AreTrue there.history size own
+
+-- In each part of a drill, from the beginning or a reopening on and however far, each session's searches, cursors and
+-- lookups that came to their end told exactly what the history has
+abbrev pub AreAllTold : State → List Step → ℕ → List Exchange → Type 0
+AreAllTold s steps size exchanges =
+    (number : ℕ) (before part after : List Exchange) → exchanges ≡ before ++ (part ++ after) → BeginsAnew before
+    → IsPart part → IsTold s steps size number before part
+
+-- a drill's lines were answered by the first events of a run
 abbrev pub DrillsAreTrue : Type 0
 DrillsAreTrue =
-    (size number : ℕ) (before part : List Exchange) (all : AllCursors) (s t : State) (steps : List Step)
-    → AreExchanged size no_cursors (before ++ part) all → BeginsAnew before → IsPart part
-    → IsSound s → IsRun s steps t → events_of steps ≡ calls_of (before ++ part)
-    → (own : List session.Exchange) × AreOwn number part own × AreTrue t.history size own
+    (size : ℕ) (exchanges : List Exchange) (all : AllCursors) (s t : State) (steps : List Step) (more : Calls)
+    → AreExchanged size no_cursors exchanges all → IsSound s → IsRun s steps t
+    → events_of steps ≡ calls_of exchanges ++ more → AreAllTold s steps size exchanges
 
 -- A reopening leaves the history with what was acknowledged since the last one, in order, and at most one commit more,
 -- the one in doubt

@@ -1,0 +1,33 @@
+-- What a drill told, wherever it is cut.
+use Rattle.std.proofs.Common.{◌≡◌, ◌++◌, ◌∙◌, ap, append_assoc, List, subst, sym, ℕ}
+use Rattle.session_run.specs.Cursors.{Calls}
+use Rattle.drill_run.specs.Dialogue.{AreExchanged, Exchange, calls_of}
+use Rattle.drill_run.specs.Drilled.{no_cursors}
+use Rattle.drill_run.specs.Truths.{DrillsAreTrue}
+use Rattle.drill_run.proofs.Parts.{Halves, calls-parts, exchanged-parts, halves}
+use Rattle.drill_run.proofs.Shared.{LastPartIsTrue}
+
+pub drills-are-true : LastPartIsTrue → DrillsAreTrue
+drills-are-true law size exchanges all s t steps more h sound run made number before part after e anew is =
+    let so_far : List Exchange = before ++ part in
+    let cut : exchanges ≡ so_far ++ after = e ∙ sym (append_assoc before part after) in
+    let own = exchanged-parts size no_cursors all so_far after
+    (subst (λ (l : List Exchange). AreExchanged size no_cursors l all) cut h) in
+    let calls : calls_of exchanges ++ more ≡ calls_of so_far ++ (calls_of after ++ more) =
+    ap (λ (l : List Exchange). calls_of l ++ more) cut
+    ∙ (ap (λ (l : Calls). l ++ more) (calls-parts so_far after)
+    ∙ append_assoc (calls_of so_far) (calls_of after) more) in
+    let k : Halves s t steps (calls_of so_far) (calls_of after ++ more) =
+    halves s t steps (calls_of so_far) (calls_of after ++ more) run (made ∙ calls) in
+    let told = law size number before part own.0 s k.middle k.front own.1 anew is sound k.to k.first in
+    record {
+      first = k.front;
+      left = k.back;
+      there = k.middle;
+      cut = k.whole;
+      made = k.first;
+      run = k.to;
+      own = told.0;
+      are = told.1;
+      are_true = told.2;
+    }
