@@ -1,12 +1,11 @@
 -- What a drill leaves of an end: whole dialogues and beginnings; and where none was begun.
-use Rattle.std.proofs.Common.{◌≡◌, ◌≢◌, ◌∙◌, ℕ, List, [], ◌++◌, Option, None, Some, IfSome, refl, sym, ap, subst, inl, inr, append-nil, arith}
+use Rattle.std.proofs.Common.{◌≡◌, ◌≢◌, ◌∙◌, ℕ, List, [], Option, None, Some, IfSome, refl, sym, ap, subst, inl, inr, append-nil, arith}
 use Rattle.drill_run.specs.Causes.{AreCaused, nothing_set}
 use Rattle.drill_run.specs.Dialogue.{calls_of, replies_of}
 use Rattle.drill_run.specs.Drilled.{IsDialogue, IsDialoguePrefix, IsDrilled, IsDrilledBy, no_cursors}
 use Rattle.io_edge.specs.Lines.{TextLine, lines_of}
 use Rattle.serve_ends.specs.Status.{IsStatusOf}
 use Rattle.serve_ends.specs.declared.end.End.{End}
-use Rattle.serve_ends.specs.declared.status.TheConstants.{DONE}
 use Rattle.session_run.specs.Cursors.{Calls}
 use Rattle.session_run.specs.Served.{TakesAll, TakesAtMost, Writes}
 use Rattle.session_run.specs.declared.settings.EndStatus.{EndStatus}

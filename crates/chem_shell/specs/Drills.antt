@@ -31,9 +31,9 @@ IsDrillBy page script calls text = IsDialogue page (lines_of script) [] calls te
 abbrev pub IsDrillPrefixBy : ℕ → List ℕ → Calls → List ℕ → Type 0
 IsDrillPrefixBy page script calls text = IsDialoguePrefix page (lines_of script) calls text
 
--- What `drill` leaves of an end: what was written is a prefix of a drill of the source's bytes. Where the status is 0 it
--- is all of one, and the source was read to its end. Where the source failed or its bytes are too many, exactly the lines
--- that are whole in the bytes that were taken were answered. No more than the limit is ever taken
+-- What `drill` leaves of an end: what was written is a prefix of a drill of the source's bytes. Where the status is 0
+-- it is all of one, and the source was read to its end. Where the source failed or its bytes are too many, exactly the
+-- lines that are whole in the bytes that were taken were answered. No more than the limit is ever taken
 pub record ServesDrill {S K : Type 0} (plan : Plan) (left : S → Option (List ℕ)) (written : K → Option (List ℕ))
     (old new : End S K) : Type 0 where
   pub status : IsEndStatus new.status

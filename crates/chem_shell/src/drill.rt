@@ -57,13 +57,5 @@ fn run_drill<R: Threads + Sync, I: Source, O: Sink>(
     let Ok(world) = World::new(alloc, plan.commits) else {
         return EndStatus::NoMemory;
     };
-    drill(
-        rt,
-        alloc,
-        world,
-        source,
-        sink,
-        &settings(plan),
-        &NoMeter,
-    )
+    drill(rt, alloc, world, source, sink, &settings(plan), &NoMeter)
 }

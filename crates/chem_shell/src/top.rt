@@ -36,9 +36,9 @@ use store_disk::Disks;
 
 /// The program over the objects that it is handed: what the words ask for is done with the ends and the disks, and the
 /// statuses say how it ended. `mem` serves one end by a session over a store in memory, and `run` over the store of
-/// disk `a`; `serve` serves several at the same time over that store; `bulk` puts a summary to one; `drill` serves one by
-/// sessions on a store in memory whose disk is stopped, failed and reopened; `init` makes a store on disk `a`, and has no
-/// end. Disk `b` is not used yet.
+/// disk `a`; `serve` serves several at the same time over that store; `bulk` puts a summary to one; `drill` serves one
+/// by sessions on a store in memory whose disk is stopped, failed and reopened; `init` makes a store on disk `a`, and
+/// has no end. Disk `b` is not used yet.
 pub fn chemdb<
     R: Threads + Wait + Sync,
     D: Disk + Send + Drop,
