@@ -36,9 +36,9 @@ use store_disk::Disks;
 
 /// The program over the objects that it is handed: what the words ask for is done with the ends and the disks, and the
 /// statuses say how it ended. `mem` serves one end by a session over a store in memory, and `run` over the store of
-/// disk `a`; `serve` serves several at the same time over that store; `bulk` puts a summary to one; `drill` serves one by
-/// sessions on a store in memory whose disk is stopped, failed and reopened; `init` makes a store on disk `a`, and has no
-/// end. Disk `b` is not used yet.
+/// disk `a`; `serve` serves several at the same time over that store; `bulk` puts a summary to one; `drill` serves one
+/// by sessions on a store in memory whose disk is stopped, failed and reopened; `init` makes a store on disk `a`, and
+/// has no end. Disk `b` is not used yet.
 pub fn chemdb<
     R: Threads + Wait + Sync,
     D: Disk + Send + Drop,
@@ -112,9 +112,10 @@ pub fn chemdb<
     ensures bulk { OnPlan (texts words.now) Verb.Bulk (λ plan. (result.a ≡ a)
         × AllZip (ServesBulk plan K.written) ends.items result.ends.items) }
 
-    // `drill`: what was written is a prefix of a drill of the source's bytes, by pages of the plan, in a run of a store
-    // in memory that begins empty and may have the plan's commits, with a crash and an opening for each reopening; all
-    // of one where the status is 0. A disk fault comes only where the lines `stop` and `fail` before it allow it.
+    // `drill`: what was written is a prefix of a drill of the source's bytes, by pages of the plan, in a run of a store in
+    // memory that begins empty and may have the plan's commits, with a crash and an opening for each reopening; all of one
+    // where the status is 0. Each session's searches, cursors and lookups that ended told exactly what the run's history
+    // has. A disk fault comes only where the lines `stop` and `fail` before it allow it.
     ensures drill { OnPlan (texts words.now) Verb.Drill (λ plan. (result.a ≡ a)
         × AllZip (ServesDrill plan S.left K.written) ends.items result.ends.items) }
 {

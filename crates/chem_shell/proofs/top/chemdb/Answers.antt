@@ -96,7 +96,8 @@ returns-in-Err-NoMemory-clause-bulk g c = λ plan asks verb. (
 pub returns-in-Err-NoMemory-clause-drill : goal.returns-in-Err-NoMemory-clause-drill
 returns-in-Err-NoMemory-clause-drill g c = λ plan asks verb. (
   c.unserved-in-Err-NoMemory.ensures.disk_a,
-  zip_mapped _ (with_status 8) (λ e. drill_unmoved plan g.S.Source.left g.K.Sink.written e) _ _ c.unserved-in-Err-NoMemory.ensures.ends,
+  zip_mapped _ (with_status 8) (λ e. drill_unmoved plan g.S.Source.left g.K.Sink.written e) _ _
+      c.unserved-in-Err-NoMemory.ensures.ends,
 )
 
 pub carry_out-requires-clause-plan : goal.carry_out-requires-clause-plan

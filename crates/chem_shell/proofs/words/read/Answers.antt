@@ -134,7 +134,8 @@ returns-in-Some-drill-clause-err c =
     let command = sym (first_value-rows (found_of c.in_ok-found.found) (codes "command")) ∙ sym c.get_str.ensures
     ∙ word in
     IfErr-weaker c.in_memory-in-Some-drill.result _ _
-    (λ fault none. inr (asks_not Drill (texts c.args.words.now) (rows_of (found_of c.in_ok-found.found)) found.1 command none))
+    (λ fault none. inr (asks_not Drill (texts c.args.words.now) (rows_of (found_of c.in_ok-found.found)) found.1
+    command none))
     c.in_memory-in-Some-drill.ensures.err
 
 pub returns-in-Some-clause-err : goal.returns-in-Some-clause-err
