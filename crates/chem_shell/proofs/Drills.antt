@@ -104,8 +104,8 @@ all_of law ended commits page (Some bytes) before after calls run e s = writes_a
     (subst (λ x. Writes before after (IsDrilled x page (lines_of bytes) calls)) e s)
 
 -- what a drill leaves of an end
-pub drill_of : DrillsAreTrue → {S K : Type 0} (left : S → Option (List ℕ)) (written : K → Option (List ℕ)) (ended : EndStatus)
-    (plan : Plan) (calls : Calls) (old new : End S K) → ended ≢ Worn → IsStatusOf ended new.status
+pub drill_of : DrillsAreTrue → {S K : Type 0} (left : S → Option (List ℕ)) (written : K → Option (List ℕ))
+    (ended : EndStatus) (plan : Plan) (calls : Calls) (old new : End S K) → ended ≢ Worn → IsStatusOf ended new.status
     → AreOfDrill plan.commits calls
     → IsDrilledBy ended plan.page (left old.source) (left new.source) (written old.sink) (written new.sink) calls
     → (ended ≡ Done → TakesAll (left old.source) (left new.source))

@@ -1,5 +1,5 @@
 -- The state of an empty store is sound.
-use Rattle.std.proofs.Common.{◌≡◌, ◌-◌, ◌∙◌, ap, arith, Contains, List, [], nat_cmp, None, Option, refl, Some, suc, sym, take, zero, ℕ}
+use Rattle.std.proofs.Common.{◌≡◌, ◌-◌, ◌∙◌, ap, arith, Contains, [], nat_cmp, None, refl, Some, suc, sym, take, zero, ℕ}
 use Rattle.std.specs.FinMap.{empty as none, get, get-empty}
 use Rattle.store_machine.specs.History.{after_changes, begun, snapshot}
 use Rattle.store_machine.specs.Laws.{IsSound}
