@@ -8,7 +8,6 @@ use Rattle.drill_run.proofs.Parts.{calls-parts}
 use Rattle.io_edge.specs.Lines.{TextLine, lines_of}
 use Rattle.serve_ends.specs.Status.{IsStatusOf}
 use Rattle.serve_ends.specs.declared.end.End.{End}
-use Rattle.serve_ends.specs.declared.status.TheConstants.{DONE}
 use Rattle.session_run.specs.Cursors.{Calls}
 use Rattle.session_run.specs.Served.{TakesAll, TakesAtMost, Writes}
 use Rattle.session_run.specs.declared.settings.EndStatus.{EndStatus}
