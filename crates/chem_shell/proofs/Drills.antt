@@ -22,7 +22,7 @@ use Rattle.chem_shell.specs.Status.{IsInputStatus}
 use Rattle.chem_shell.specs.declared.request.Plan.{Plan}
 use Rattle.chem_shell.specs.declared.settings.TheConstants.{INPUT_LIMIT}
 use Rattle.chem_shell.proofs.Empty.{empty-sound}
-use Rattle.chem_shell.proofs.Transcripts.{done_of, end_of, input_fault_of, none_taken, nothing_is_true, writes_as}
+use Rattle.chem_shell.proofs.Transcripts.{done_of, end_of, input_fault_of, none_taken, none_true, writes_as}
 
 -- lines that were answered whole are a beginning
 answered_begins : (size : ℕ) (lines left : List TextLine) (calls : Calls) (text : List ℕ)
@@ -153,7 +153,7 @@ nothing_told s steps page number [] [] after e anew is = record {
   run = refl;
   own = [];
   are = refl;
-  are_true = (nothing_is_true s.history page []).are_true;
+  are_true = none_true s.history page;
 }
 nothing_told s steps page number [] (x ∷ part) after e anew is = absurd (cc e)
 nothing_told s steps page number (x ∷ before) part after e anew is = absurd (cc e)

@@ -5,7 +5,7 @@ use Rattle.session_run.specs.Cursors.{Calls}
 use Rattle.session_run.specs.Served as session
 use Rattle.session_run.specs.Served.{TakesAll, TakesAtMost, Writes, WritesForTaken}
 use Rattle.session_run.specs.Transcript as script
-use Rattle.session_run.specs.Truths.{IsInRun, IsTrueBeginning, IsTrueService, ServicesAreTrue}
+use Rattle.session_run.specs.Truths.{AreTrue, IsInRun, IsTrueBeginning, IsTrueService, ServicesAreTrue}
 use Rattle.session_run.specs.declared.settings.EndStatus.{EndStatus}
 use Rattle.session_run.specs.declared.settings.EndStatus.TheVariants.{Done, SourceFault, SinkFault, NoMemory, InputTooLong, Worn}
 use Rattle.store_core.specs.Stored.{empty}
@@ -91,7 +91,19 @@ nothing_inside : {X : Type 0} (before : List X) (x : X) (after : List X) → [] 
 nothing_inside [] x after e = cc
 nothing_inside (b ∷ before) x after e = cc
 
-pub nothing_is_true : (h : History) (page : ℕ) (lines : List TextLine) → IsTrueBeginning h page lines [] []
+pub none_true : (h : History) (page : ℕ) → AreTrue h page []
+none_true h page = record {
+  searches = λ before after x text version tried count e is ends. absurd (nothing_inside before x after e);
+  cursors = λ before between after x y name text hits opened version tried count e first begun stays last ends listed.
+      absurd (nothing_inside before x (between ++ y ∷ after) e);
+  pages = λ before between after x y name text version k e first begun stays turned last gives.
+      absurd (nothing_inside before x (between ++ y ∷ after) e);
+  sames = λ before after x text version tried count e is ends. absurd (nothing_inside before x after e);
+  registrations = λ before after x id text e is. absurd (nothing_inside before x after e);
+  similars = λ before after x p q k text version scored count e is ends. absurd (nothing_inside before x after e);
+}
+
+nothing_is_true : (h : History) (page : ℕ) (lines : List TextLine) → IsTrueBeginning h page lines [] []
 nothing_is_true h page lines = record {
   left = lines;
   own = [];
@@ -100,17 +112,7 @@ nothing_is_true h page lines = record {
   dialogue = record { exchanges = []; begin = refl; exchanged = (refl, refl); said = refl };
   said = ([], refl);
   made = ([], refl);
-  are_true = record {
-    searches = λ before after x text version tried count e is ends. absurd (nothing_inside before x after e);
-    cursors =
-        λ before between after x y name text hits opened version tried count e first begun stays last ends listed.
-        absurd (nothing_inside before x (between ++ y ∷ after) e);
-    pages = λ before between after x y name text version k e first begun stays turned last gives.
-        absurd (nothing_inside before x (between ++ y ∷ after) e);
-    sames = λ before after x text version tried count e is ends. absurd (nothing_inside before x after e);
-    registrations = λ before after x id text e is. absurd (nothing_inside before x after e);
-    similars = λ before after x p q k text version scored count e is ends. absurd (nothing_inside before x after e);
-  };
+  are_true = none_true h page;
 }
 
 -- no calls are those of no run
