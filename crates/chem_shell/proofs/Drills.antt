@@ -42,7 +42,7 @@ answered_begins size lines left calls text d =
       said = d.said ∙ ap replies_of whole;
     }
 
-nothing_begins : (size : ℕ) (lines : List TextLine) → IsDialoguePrefix size lines [] []
+abbrev nothing_begins : (size : ℕ) (lines : List TextLine) → IsDialoguePrefix size lines [] []
 nothing_begins size lines = record {
   exchanges = [];
   all = no_cursors;
@@ -124,7 +124,7 @@ drill_of law left written ended plan calls old new fit is run drilled done withi
 }
 
 -- no calls are those of no run
-none_of_drill : (commits : ℕ) → AreOfDrill commits []
+abbrev none_of_drill : (commits : ℕ) → AreOfDrill commits []
 none_of_drill commits = record { steps = []; last = empty commits; run = refl; all = refl }
 
 nothing_put : (page : ℕ) (input before : Option (List ℕ))
