@@ -9,7 +9,9 @@ pub mod Asked
 pub mod PartsHeld
 pub mod Standing
 pub mod Truths
+pub mod OnlyAtoms
 pub mod OnlyParts
+pub mod Beginnings
 pub mod Pigeons
 pub mod Refusals
 pub mod Ones

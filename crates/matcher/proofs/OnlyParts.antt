@@ -1,24 +1,22 @@
 -- A pattern that asks for one recursive part at one atom matches where the part has an embedding.
-use Rattle.std.proofs.Common.{◌≡◌, ◌≢◌, ◌↔◌, ◌+◌, ◌<◌, ℕ, zero, suc, List, [], ◌∷◌, length, map, get_or, slice_get, slice_index, Some, All, refl, sym, ap, subst, arith}
-use Rattle.std.proofs.lemmas.List.{get_or-map, length-map}
+use Rattle.std.proofs.Common.{◌≡◌, ◌↔◌, ◌+◌, ◌<◌, ℕ, zero, suc, List, [], ◌∷◌, length, map, get_or, slice_get, slice_index, Some, sym, ap, subst, arith}
 use Rattle.std.proofs.lemmas.Option.{none-some, same_Some, slice_get-get_or}
-use Rattle.chem_core.specs.Molecule.{Molecule, ends_of}
-use Rattle.chem_core.proofs.Components.{reaches_self}
+use Rattle.chem_core.specs.Molecule.{Molecule}
 use Rattle.smarts_mean.specs.Table.{HoldsIn, Table}
 use Rattle.smarts_parse.specs.declared.pattern.AtomPrim.{AtomPrim}
 use Rattle.smarts_parse.specs.declared.pattern.AtomPrim.TheVariants as atoms
-use Rattle.smarts_parse.specs.Pattern.{BondTerm, Term, Prim, GraphTerm, PatternTerm}
-use Rattle.smarts_parse.specs.Sound.{IsSoundGraph, IsSoundPattern}
+use Rattle.smarts_parse.specs.Pattern.{Term, Prim, GraphTerm, PatternTerm}
+use Rattle.smarts_parse.specs.Sound.{IsSoundPattern}
 use Rattle.smarts_parse.specs.Truth.{AtomTrue}
-use Rattle.smarts_parse.specs.Embedding.{AreGrouped, Matches, PartsHold}
+use Rattle.smarts_parse.specs.Embedding.{Matches, PartsHold}
 use Rattle.matcher.specs.Partial.{CanComplete, Parts}
 use Rattle.matcher.specs.Parts.{AreNoted}
 use Rattle.matcher.specs.Wanted.{AreWanted}
 use Rattle.matcher.proofs.Asked.{asked_of}
 use Rattle.matcher.proofs.Classes.{no_element}
 use Rattle.matcher.proofs.Partials.{CanComplete-more, CanComplete-next}
+use Rattle.matcher.proofs.OnlyAtoms.{all_one, no_bonds, one_grouped}
 use Rattle.matcher.proofs.PartsHeld.{part_holds}
-use Rattle.matcher.proofs.Places.{all_apart}
 
 -- the only element of a list
 pub one_element : {X Y : Type 0} (f : X → Y) (xs : List X) (x : X) → length xs ≡ 1 → x ≡ get_or xs 0 x
@@ -27,35 +25,11 @@ one_element f [] x l e = absurd (omega arith)
 one_element f (y ∷ []) x l e = ap (λ z. f z ∷ []) (sym e)
 one_element f (y ∷ (z ∷ zs)) x l e = absurd (omega arith)
 
-all_one : (P : ℕ → Type 0) (a : ℕ) → P a → All P (a ∷ [])
-all_one P a h zero d l = h
-all_one P a h (suc i) d l = absurd (omega arith)
-
 -- the one expression is true at the one atom
 one_true : (parts : Parts) (m : Molecule) (a i : ℕ) (t e : Term AtomPrim) → AtomTrue parts t m a
     → slice_get (t ∷ []) i ≡ Some e → AtomTrue parts e m (slice_index (a ∷ []) i)
 one_true parts m a zero t e h get = subst (λ x. AtomTrue parts x m a) (same_Some t e get) h
 one_true parts m a (suc i) t e h get = absurd (none-some e get)
-
--- one atom keeps to any groups
-one_grouped : (groups : List ℕ) (m : Molecule) (a : ℕ) → AreGrouped groups m (a ∷ [])
-one_grouped groups m a zero zero l k n o = (λ _. reaches_self (ends_of m) a, λ _. refl)
-one_grouped groups m a zero (suc j) l k n o = absurd (omega arith)
-one_grouped groups m a (suc i) j l k n o = absurd (omega arith)
-
--- a graph of one atom has no bond
-no_bonds : (n : ℕ) (g : GraphTerm) → IsSoundGraph n g → length g.atoms ≡ 1 → (k : ℕ) (d : BondTerm) → k < length g.bonds
-    → ⊥
-no_bonds n g sound one k d l =
-    let bond : BondTerm = get_or g.bonds k d in
-    let within = subst (λ n. k < n) (sym (length-map g.bonds (λ (b : BondTerm). (b.a, b.b)))) l in
-    let both : (bond.a < length g.atoms) × (bond.b < length g.atoms) =
-    subst (λ (e : ℕ × ℕ). (e.0 < length g.atoms) × (e.1 < length g.atoms))
-    (get_or-map (λ (b : BondTerm). (b.a, b.b)) g.bonds k d (0, 0) l) (sound.in_range k (0, 0) within) in
-    let left : bond.a < length g.atoms = both.0 in
-    let right : bond.b < length g.atoms = both.1 in
-    let apart : bond.a ≢ bond.b = all_apart g sound.distinct k d l in
-    apart (omega arith)
 
 pub only_part_holds : (p : PatternTerm) (m : Molecule) (wanted : List ℕ) (k : ℕ) (g : GraphTerm) (table : Table)
     → IsSoundPattern p → AreWanted p wanted → k + 1 ≡ length p.recs
@@ -80,7 +54,7 @@ only_part_holds p m wanted k g table sound asked last is get noted =
               atoms = λ i e at. one_true (PartsHold p.recs m n) m a i (Prim (atoms.Rec k)) e
                   (get_or m.atoms a no_element, slice_get-get_or m.atoms a no_element first.1, here)
                   (subst (λ xs. slice_get xs i ≡ Some e) is at);
-              bonds = λ i d l. absurd (no_bonds n p.top sound.top one i d l);
+              bonds = λ i d l. absurd (no_bonds p.top sound.top.in_range sound.top.distinct one i d l);
               groups = one_grouped p.top.groups m a;
             },
           ),

@@ -1,6 +1,6 @@
 -- Where recursive parts hold, by their numbers; an embedding asks about those alone that its graph names.
-use Rattle.std.proofs.Common.{◌≡◌, ◌↔◌, ◌&&◌, ◌==◌, ◌+◌, ◌<◌, ◌≤◌, Bool, true, false, ℕ, suc, List, [], ◌∷◌, length, get_or, slice_get, slice_index, slice_index_or, Some, None, All, MatchBool, sum_by, if◌then◌else◌, refl, sym, ap, ◌∙◌, subst, inl, inr, ⊎_elim, arith}
-use Rattle.std.proofs.lemmas.Bool.{cases_eq, eq-eqb, ne_eqb, and_from, and_left, and_right}
+use Rattle.std.proofs.Common.{◌≡◌, ◌↔◌, ◌==◌, ◌+◌, ◌*◌, ◌/◌, ◌%◌, ◌<◌, ◌≤◌, true, false, ℕ, suc, List, [], ◌∷◌, length, get_or, slice_get, slice_index, slice_index_or, Some, None, All, MatchBool, sum_by, refl, sym, ap, ◌∙◌, subst, inl, inr, ⊎_elim, arith}
+use Rattle.std.proofs.lemmas.Bool.{cases_eq, eq-eqb, ne_eqb}
 use Rattle.std.proofs.lemmas.List.Sums.{get_or-le-sum_by}
 use Rattle.std.specs.Int.{bit_at}
 use Rattle.std.proofs.lemmas.Option.{get_or_from_slice_get, none-some, same_Some, slice_get-get_or, slice_get_within}
@@ -16,7 +16,7 @@ use Rattle.smarts_parse.specs.Embedding.{IsEmbedding, Matches, PartsHold}
 use Rattle.matcher.specs.Class.{class_of, Covers}
 use Rattle.matcher.specs.Partial.{CanComplete, IsLeastFrom, IsSearchable, Parts}
 use Rattle.matcher.specs.Least.{IsLeast}
-use Rattle.matcher.specs.Parts.{AreNoted, AreSoundParts, HoldAlike}
+use Rattle.matcher.specs.Parts.{AreBeginnings, AreNoted, AreSoundParts, HoldAlike}
 use Rattle.matcher.specs.Wanted.{AreWanted, IsAsked, NamesOnly, PrimNames}
 use Rattle.matcher.proofs.Classes.{class_below, may_be_true, no_element}
 use Rattle.matcher.proofs.Asked.{names_all}
@@ -120,10 +120,10 @@ begins_with : (image : List ℕ) (a : ℕ) → slice_get image 0 ≡ Some a → 
 begins_with [] a h = absurd (none-some a h)
 begins_with (x ∷ xs) a h = (xs, ap (λ y. y ∷ xs) (same_Some x a h))
 
--- parts of smaller numbers are noted, and part n at the atoms below k
+-- parts of smaller numbers are noted, and part n at the atoms of the first k blocks
 pub record IsRow (recs : List GraphTerm) (m : Molecule) (wanted : List ℕ) (n k : ℕ) (table : Table) : Type 0 where
   pub kept : AreNoted recs m wanted n table
-  pub done : (a : ℕ) (x : Atom) → a < k → slice_get m.atoms a ≡ Some x
+  pub done : (a : ℕ) (x : Atom) → a < 64 * k → slice_get m.atoms a ≡ Some x
       → bit_at (slice_index wanted n) (class_of x) ≡ 1 → HoldsIn table n a ↔ PartsHold recs m (suc n) n a
 
 -- a part holds where some embedding of it begins, as the table tells of the parts of smaller numbers
@@ -153,13 +153,14 @@ part_holds recs m wanted n g a table get names asked noted = (
 )
 
 -- one part more is noted
-pub noted_more : (recs : List GraphTerm) (m : Molecule) (wanted : List ℕ) (n : ℕ) (table : Table)
-    → IsRow recs m wanted n (length m.atoms) table → AreNoted recs m wanted (n + 1) table
-noted_more recs m wanted n table row k a x l get yes' =
+pub noted_more : (recs : List GraphTerm) (m : Molecule) (wanted : List ℕ) (n blocks : ℕ) (table : Table)
+    → length m.atoms ≤ 64 * blocks → IsRow recs m wanted n blocks table → AreNoted recs m wanted (n + 1) table
+noted_more recs m wanted n blocks table enough row k a x l get yes' =
+    let within = slice_get_within m.atoms a x get in
     let next : n + 1 ≡ suc n = omega arith in
     subst (λ j. HoldsIn table k a ↔ PartsHold recs m j k a) (sym next) (elim (cases_eq k n) [
       | inl same ↦ subst (λ j. HoldsIn table j a ↔ PartsHold recs m (suc n) j a) (sym same)
-          (row.done a x (slice_get_within m.atoms a x get) get
+          (row.done a x (omega arith) get
           (subst (λ j. bit_at (slice_index wanted j) (class_of x) ≡ 1) same yes'))
       | inr apart ↦
           let old = row.kept k a x (omega arith) get yes' in
@@ -167,23 +168,10 @@ noted_more recs m wanted n table row k a x l get yes' =
           (λ h. step.0 (old.0 h), λ h. old.1 (step.1 h))
     ])
 
--- an entry that is written, and the others
-pub put_same : (old new : Table) (part atom : ℕ) (holds : Bool)
-    → ((p a : ℕ) → p < 64 → a < 999 → holds_at new p a ≡ (if (p == part) && (a == atom) then holds
-    else holds_at old p a)) → part < 64 → atom < 999 → holds_at new part atom ≡ holds
-put_same old new part atom holds h lp la = h part atom lp la
-    ∙ ap (λ b. if b then holds else holds_at old part atom)
-    (and_from (part == part) (atom == atom) (eq-eqb part part refl) (eq-eqb atom atom refl))
-
-pub put_other : (old new : Table) (part atom : ℕ) (holds : Bool)
-    → ((p a : ℕ) → p < 64 → a < 999 → holds_at new p a ≡ (if (p == part) && (a == atom) then holds
-    else holds_at old p a)) → (p a : ℕ) → p < 64 → a < 999 → (p ≡ part → a ≡ atom → ⊥)
+-- entries but those of one block of one part are kept
+abbrev pub AreKept : Table → Table → ℕ → ℕ → Type 0
+AreKept old new part block = (p a : ℕ) → p < 64 → a < 999 → (p ≡ part → a / 64 ≡ block → ⊥)
     → holds_at new p a ≡ holds_at old p a
-put_other old new part atom holds h p a lp la apart = h p a lp la
-    ∙ ap (λ b. if b then holds else holds_at old p a) (elim (cases_eq p part) [
-      | inl e ↦ and_right (p == part) (a == atom) (ne_eqb a atom (apart e))
-      | inr n ↦ and_left (p == part) (a == atom) (ne_eqb p part n)
-    ])
 
 -- what a part keeps is enough to search for it
 pub searchable_part : (recs : List GraphTerm) (j : ℕ) (g : GraphTerm) → AreSoundParts recs → slice_get recs j ≡ Some g
@@ -201,45 +189,33 @@ searchable_part recs j g sound get =
       groups = graph.groups;
     }
 
-pub row_more : (recs : List GraphTerm) (m : Molecule) (wanted : List ℕ) (n k : ℕ) (g : GraphTerm) (old new : Table)
-    (holds : Bool) → n < 64 → k < length m.atoms → length m.atoms ≤ 999 → slice_get recs n ≡ Some g
-    → All (NamesBelow n) g.atoms → All (IsAsked wanted) g.atoms → IsRow recs m wanted n k old
-    → (holds ≡ true) ↔ CanComplete (HoldsIn old) g m (k ∷ [])
-    → ((p a : ℕ) → p < 64 → a < 999 → holds_at new p a ≡ (if (p == n) && (a == k) then holds else holds_at old p a))
+-- a block more of the part is noted
+pub row_more : (recs : List GraphTerm) (m : Molecule) (wanted : List ℕ) (n k word : ℕ) (g : GraphTerm)
+    (old new : Table) → n < 64 → length m.atoms ≤ 999 → slice_get recs n ≡ Some g → All (NamesBelow n) g.atoms
+    → All (IsAsked wanted) g.atoms → IsRow recs m wanted n k old
+    → AreBeginnings (HoldsIn old) g m (slice_index wanted n) k word
+    → ((i : ℕ) → i < 64 → HoldsIn new n (64 * k + i) ↔ bit_at word i ≡ 1) → AreKept old new n k
     → IsRow recs m wanted n (k + 1) new
-row_more recs m wanted n k g old new holds ln lk few get names asked row found put = record {
+row_more recs m wanted n k word g old new ln few get names asked row found here others = record {
   kept = λ p a x l at yes'.
       let within = slice_get_within m.atoms a x at in
-      let same : holds_at new p a ≡ holds_at old p a = put_other old new n k holds put p a (omega arith) (omega arith)
-      (λ e _. omega arith) in
+      let same : holds_at new p a ≡ holds_at old p a = others p a (omega arith) (omega arith) (λ e _. omega arith) in
       let before = row.kept p a x l at yes' in
       (λ h. before.0 (sym same ∙ h), λ h. same ∙ before.1 h);
-  done = λ a x l at yes'. elim (cases_eq a k) [
-    | inl here ↦
-        let now : holds_at new n k ≡ holds = put_same old new n k holds put ln (omega arith) in
-        let part = part_holds recs m wanted n g k old get names asked row.kept in
-        subst (λ b. HoldsIn new n b ↔ PartsHold recs m (suc n) n b) (sym here)
-        (λ h. part.0 (found.0 (sym now ∙ h)), λ h. now ∙ found.1 (part.1 h))
+  done = λ a x l at yes'. elim (cases_eq (a / 64) k) [
+    | inl mine ↦
+        let i : ℕ = a % 64 in
+        let is : 64 * k + i ≡ a = omega arith in
+        let part = part_holds recs m wanted n g (64 * k + i) old get names asked row.kept in
+        let bit = found i x (omega arith) (ap (slice_get m.atoms) is ∙ at) yes' in
+        let now = here i (omega arith) in
+        subst (λ b. HoldsIn new n b ↔ PartsHold recs m (suc n) n b) is
+        (λ h. part.0 (bit.0 (now.0 h)), λ h. now.1 (bit.1 (part.1 h)))
     | inr apart ↦
         let within = slice_get_within m.atoms a x at in
-        let same : holds_at new n a ≡ holds_at old n a = put_other old new n k holds put n a ln (omega arith)
-        (λ _ e. apart e) in
+        let same : holds_at new n a ≡ holds_at old n a = others n a ln (omega arith) (λ _ e. apart e) in
         let before = row.done a x (omega arith) at yes' in
         (λ h. before.0 (sym same ∙ h), λ h. same ∙ before.1 h)
-  ];
-}
-
--- an atom of another class is not asked
-pub row_skip : (recs : List GraphTerm) (m : Molecule) (wanted : List ℕ) (n k : ℕ) (y : Atom) (table : Table)
-    → slice_get m.atoms k ≡ Some y → (bit_at (slice_index wanted n) (class_of y) ≡ 1 → ⊥)
-    → IsRow recs m wanted n k table → IsRow recs m wanted n (k + 1) table
-row_skip recs m wanted n k y table here other row = record {
-  kept = row.kept;
-  done = λ a x l at yes'. elim (cases_eq a k) [
-    | inl e ↦
-        let is : x ≡ y = same_Some x y (sym at ∙ ap (slice_get m.atoms) e ∙ here) in
-        absurd (other (subst (λ (z : Atom). bit_at (slice_index wanted n) (class_of z) ≡ 1) is yes'))
-    | inr apart ↦ row.done a x (omega arith) at yes'
   ];
 }
 

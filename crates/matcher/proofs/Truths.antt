@@ -1,5 +1,5 @@
 -- At which atoms the expressions of a graph are true, as bits of words.
-use Rattle.std.proofs.Common.{◌≡◌, ◌==◌, ◌&&◌, if◌then◌else◌, ◌↔◌, ◌∙◌, ◌+◌, ◌-◌, ◌*◌, ◌/◌, ◌%◌, ◌^◌, ◌<◌, ◌≤◌, ℕ, Bool, true, List, inl, inr, bit_and, bit_or, get_or, length, slice_get, slice_index, set, Some, All, ap, arith, subst, sym, w64}
+use Rattle.std.proofs.Common.{◌≡◌, ◌↔◌, ◌∙◌, ◌+◌, ◌-◌, ◌*◌, ◌/◌, ◌%◌, ◌^◌, ◌<◌, ◌≤◌, ℕ, Bool, true, List, inl, inr, bit_and, bit_or, get_or, length, slice_get, slice_index, set, Some, All, ap, arith, subst, sym, w64}
 use Rattle.std.specs.Int.{bit_at}
 use Rattle.std.specs.Int.{bit_not}
 use Rattle.std.proofs.lemmas.Nat.Bits.{bit_at-lt, bit_at-zero, bit_at_and, bit_at_not, bit_at_or, bit_at_ones, bit_at_ones_above, bit_at_set_other, bit_at_set_same}
@@ -20,7 +20,8 @@ use Rattle.matcher.specs.Candidates.{AreTruths, AreTruthsIn, IsTruth, IsTruthAt}
 use Rattle.matcher.specs.declared.fit.Task.{Task}
 use Rattle.matcher.specs.Partial.{Parts}
 use Rattle.matcher.proofs.Asked.{names_below}
-use Rattle.matcher.proofs.PartsHeld.{parts_term, put_other}
+use Rattle.matcher.proofs.Classes.{no_element}
+use Rattle.matcher.proofs.PartsHeld.{AreKept, parts_term}
 
 -- a primitive at the atom that is read
 pub prim_at : (parts : Parts) (m : Molecule) (a : ℕ) (p : AtomPrim) (r : Bool) (x : Atom) → slice_get m.atoms a ≡ Some x
@@ -208,13 +209,52 @@ truths_still P Q n g m words names same h p a l r = (
     alike e get = parts_term P Q e m a
         (names_below (λ k. P k a ↔ Q k a) n e (named e get) (λ k j. same k a j r))
 
--- the same where the part is noted at an atom
-pub truths_noted : (g : GraphTerm) (m : Molecule) (words : List ℕ) (old new : Table) (part atom : ℕ) (holds : Bool)
-    → ((p a : ℕ) → p < 64 → a < 999 → holds_at new p a ≡ (if (p == part) && (a == atom) then holds
-    else holds_at old p a)) → part < 64 → length m.atoms ≤ 999 → All (NamesBelow part) g.atoms
+-- the same where a block of the part is noted
+pub truths_noted : (g : GraphTerm) (m : Molecule) (words : List ℕ) (old new : Table) (part block : ℕ)
+    → AreKept old new part block → part < 64 → length m.atoms ≤ 999 → All (NamesBelow part) g.atoms
     → AreTruthsIn (HoldsIn old) g m words → AreTruthsIn (HoldsIn new) g m words
-truths_noted g m words old new part atom holds put low few names =
+truths_noted g m words old new part block others low few names =
     truths_still (HoldsIn old) (HoldsIn new) part g m words names (λ k a l r.
-    let same : holds_at new k a ≡ holds_at old k a = put_other old new part atom holds put k a
-    (omega arith) (omega arith) (λ e _. omega arith) in
+    let same : holds_at new k a ≡ holds_at old k a = others k a (omega arith) (omega arith) (λ e _. omega arith) in
     (λ h. same ∙ h, λ h. sym same ∙ h))
+
+-- the atoms of the molecule at which a part holds by its row, and all atoms
+pub truth_part : (table : Table) (m : Molecule) (k block within all row : ℕ)
+    → ((i : ℕ) → i < 64 → bit_at all i ≡ 1 ↔ 64 * block + i < length m.atoms)
+    → ((i : ℕ) → i < 64 → bit_at row i ≡ 1 ↔ HoldsIn table k (64 * block + i))
+    → IsTruth (HoldsIn table) m (Prim (atoms.Rec k)) block within (bit_and (bit_and within all) row)
+truth_part table m k block within all row inside holds i l =
+    let both = bit_at_and (bit_and within all) row i in
+    let first = bit_at_and within all i in
+    let one = bit_at-lt within i in
+    let two = bit_at-lt all i in
+    let three = bit_at-lt row i in
+    let a : ℕ = 64 * block + i in (
+      λ t.
+          let here : a < length m.atoms = (inside i l).0 (omega arith) in (
+            omega arith,
+            (get_or m.atoms a no_element, slice_get-get_or m.atoms a no_element here, (holds i l).0 (omega arith)),
+          ),
+      λ w.
+          let mine = w.0 in
+          let inner = (inside i l).1 (slice_get_within m.atoms a w.1.0 w.1.1) in
+          let held = (holds i l).1 w.1.2 in
+          omega arith,
+    )
+
+pub truth_any : (parts : Parts) (m : Molecule) (block within all : ℕ)
+    → ((i : ℕ) → i < 64 → bit_at all i ≡ 1 ↔ 64 * block + i < length m.atoms)
+    → IsTruth parts m (Prim atoms.Any) block within (bit_and within all)
+truth_any parts m block within all inside i l =
+    let both = bit_at_and within all i in
+    let one = bit_at-lt within i in
+    let two = bit_at-lt all i in
+    let a : ℕ = 64 * block + i in (
+      λ t.
+          let here : a < length m.atoms = (inside i l).0 (omega arith) in
+          (omega arith, (get_or m.atoms a no_element, slice_get-get_or m.atoms a no_element here, tt)),
+      λ w.
+          let mine = w.0 in
+          let inner = (inside i l).1 (slice_get_within m.atoms a w.1.0 w.1.1) in
+          omega arith,
+    )

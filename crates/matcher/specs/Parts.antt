@@ -1,5 +1,5 @@
 -- For private clauses alone: recursive parts, and a table that says where those of smaller numbers hold.
-use Rattle.std.specs.Prelude.{◌≡◌, ℕ, ◌<◌, ◌≤◌, ◌↔◌, List, length, slice_get, slice_index, Some}
+use Rattle.std.specs.Prelude.{◌≡◌, ℕ, ◌+◌, ◌*◌, ◌<◌, ◌≤◌, ◌↔◌, List, [], ◌∷◌, length, slice_get, slice_index, Some}
 use Rattle.std.specs.Int.{bit_at}
 use Rattle.chem_core.specs.declared.mol.Atom.{Atom}
 use Rattle.chem_core.specs.Molecule.{Molecule}
@@ -8,7 +8,7 @@ use Rattle.smarts_parse.specs.Embedding.{PartsHold}
 use Rattle.smarts_parse.specs.Pattern.{GraphTerm}
 use Rattle.smarts_parse.specs.Sound.{IsSoundGraph}
 use Rattle.matcher.specs.Class.{class_of}
-use Rattle.matcher.specs.Partial.{Parts}
+use Rattle.matcher.specs.Partial.{CanComplete, Parts}
 
 -- what the recursive parts of a pattern keep
 pub record AreSoundParts (recs : List GraphTerm) : Type 0 where
@@ -24,3 +24,8 @@ HoldAlike wanted m n P Q = (k a : ℕ) (x : Atom) → k < n → slice_get m.atom
 -- the table says at which of the atoms where it is asked each part of a number below n holds
 abbrev pub AreNoted : List GraphTerm → Molecule → List ℕ → ℕ → Table → Type 0
 AreNoted recs m wanted n table = HoldAlike wanted m n (HoldsIn table) (PartsHold recs m n)
+
+-- the word has those atoms of a block, of the classes, at which some embedding of the graph begins
+abbrev pub AreBeginnings : Parts → GraphTerm → Molecule → ℕ → ℕ → ℕ → Type 0
+AreBeginnings parts g m classes block word = (i : ℕ) (x : Atom) → i < 64 → slice_get m.atoms (64 * block + i) ≡ Some x
+    → bit_at classes (class_of x) ≡ 1 → bit_at word i ≡ 1 ↔ CanComplete parts g m ((64 * block + i) ∷ [])

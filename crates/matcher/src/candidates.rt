@@ -58,6 +58,15 @@ impl Candidates {
         }
     }
 
+    /// At which atoms of a block the first place may stand.
+    pub fn first_in(&self, mol: &Mol, block: usize) -> u64
+        requires { block < 16 }
+        ensures { (i : ℕ) → i < 64 → bit_at result i ≡ 1
+            ↔ (64 * block + i < length mol.now.atoms) × IsCandidate self.now.words.items 0 (64 * block + i) }
+    {
+        self.words[MOST_PLACES * block] & all_in(mol, block)
+    }
+
     /// Takes an atom away from the candidates of a place.
     pub fn remove(&mut self, place: usize, atom: u16)
         requires { place < MOST_PLACES }
@@ -130,8 +139,16 @@ fn place_truth(task: &Task, block: usize, place: usize) -> u64
     ensures { IsTruthAt task.now block place result }
 {
     let expr = &task.graph.atoms[place];
-    let count = task.mol.atoms().len().saturating_sub(64 * block).min(64);
-    truth(expr, task.mol, task.table, block, ones(count))
+    let within = all_in(task.mol, block);
+    truth(expr, task.mol, task.table, block, within)
+}
+
+// The word with all atoms of a block.
+fn all_in(mol: &Mol, block: usize) -> u64
+    requires { block < 16 }
+    ensures { (i : ℕ) → i < 64 → bit_at result i ≡ 1 ↔ 64 * block + i < length mol.now.atoms }
+{
+    ones(mol.atoms().len().saturating_sub(64 * block).min(64))
 }
 
 // Whether the expressions are the same, as far as is seen at once.
@@ -181,7 +198,7 @@ fn truth(expr: &Expr<AtomPrim>, mol: &Mol, table: &RecTable, block: usize, withi
     }
 }
 
-// The same of a primitive. Most are a symbol or a number, which have loops of their own.
+// The same of a primitive. Most are a symbol or a number, which have loops of their own. A part has a row of words.
 fn prim_truth(prim: AtomPrim, mol: &Mol, table: &RecTable, block: usize, within: u64) -> u64
     requires names { PrimNamesBelow MOST_PARTS prim }
     requires block { block < 16 }
@@ -190,6 +207,8 @@ fn prim_truth(prim: AtomPrim, mol: &Mol, table: &RecTable, block: usize, within:
     match prim {
         AtomPrim::Symbol { number, lower } => symbol_truth(mol, block, within, number, lower),
         AtomPrim::Number(number) => number_truth(mol, block, within, number),
+        AtomPrim::Rec(part) => within & all_in(mol, block) & table.block(part, block),
+        AtomPrim::Any => within & all_in(mol, block),
         _ => asked_truth(prim, mol, table, block, within),
     }
 }

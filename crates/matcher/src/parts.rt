@@ -5,9 +5,9 @@ ghost use Rattle.std.specs.Prelude.{◌≡◌, ◌<◌, ◌≤◌, ◌+◌, ◌�
 ghost use Rattle.smarts_mean.specs.Table.{HoldsIn};
 ghost use Rattle.smarts_parse.specs.Pattern.{graph_of, pattern_of};
 ghost use Rattle.smarts_parse.specs.Sound.{IsSoundPattern};
-ghost use Rattle.matcher.specs.Candidates.{AreTruthsIn};
+ghost use Rattle.matcher.specs.Candidates.{AreTruthsIn, IsCandidate};
 ghost use Rattle.matcher.specs.Partial.{CanComplete};
-ghost use Rattle.matcher.specs.Parts.{AreNoted};
+ghost use Rattle.matcher.specs.Parts.{AreBeginnings, AreNoted};
 ghost use Rattle.matcher.specs.Plan.{IsReady};
 ghost use Rattle.matcher.specs.Prepared.{IsPrepared};
 
@@ -52,7 +52,6 @@ fn note_part(pattern: &Pattern, prepared: &Prepared, mol: &Mol, memory: &mut Mem
     let graph = &pattern.recs[part];
     let steps = prepared.plans.part(pattern, part);
     let classes = prepared.wanted.at(part);
-    let atoms = mol.atoms();
     let task = Task {
         graph,
         mol,
@@ -60,16 +59,55 @@ fn note_part(pattern: &Pattern, prepared: &Prepared, mol: &Mol, memory: &mut Mem
         steps,
     };
     memory.candidates.find(&task);
-    for atom in 0..atoms.len() as u16 {
-        if !may_be(classes, atoms[usize::from(atom)]) {
-            continue;
-        }
-        let holds = begins_at(graph, steps, mol, memory, atom);
-        memory.table.put(part as u16, atom, holds);
+    for block in 0..mol.atoms().len().div_ceil(64) {
+        let word = begins_in(graph, steps, mol, memory, classes, block);
+        memory.table.put_block(part as u16, block, word);
     }
 }
 
-// Whether some embedding of the graph has that atom as its first.
+// At which atoms of a block some embedding of the graph begins. Atoms of other classes than these are not asked.
+fn begins_in(
+    graph: &Graph,
+    steps: &[EarlierBonds],
+    mol: &Mol,
+    memory: &mut Memory,
+    classes: u64,
+    block: usize,
+) -> u64
+    requires ready { IsReady (graph_of graph.now) steps.now }
+    requires some { 0 < length graph.now.atoms.items }
+    requires block { block < 16 }
+    requires truths { AreTruthsIn (HoldsIn memory.old.table) (graph_of graph.now) mol.now
+        memory.old.candidates.words.items }
+    ensures found { AreBeginnings (HoldsIn memory.old.table) (graph_of graph.now) mol.now classes block result }
+    ensures table { memory.new.table ≡ memory.old.table }
+    ensures candidates { memory.new.candidates ≡ memory.old.candidates }
+{
+    let all = memory.candidates.first_in(mol, block);
+    if graph.atoms.len() == 1 {
+        return all;
+    }
+    let mut left = all;
+    let mut held = all;
+    for _turn in 0..64u32 {
+        let bit = left.trailing_zeros();
+        if bit >= 64 {
+            return held;
+        }
+        left &= !(1 << bit);
+        let atom = 64 * block + bit as usize;
+        if !may_be(classes, mol.atoms()[atom]) {
+            continue;
+        }
+        if begins_at(graph, steps, mol, memory, atom as u16) {
+            continue;
+        }
+        held &= !(1 << bit);
+    }
+    held
+}
+
+// Whether some embedding of the graph has that atom, a candidate, as its first.
 fn begins_at(
     graph: &Graph,
     steps: &[EarlierBonds],
@@ -82,6 +120,7 @@ fn begins_at(
     requires in_range { atom < length mol.now.atoms }
     requires truths { AreTruthsIn (HoldsIn memory.old.table) (graph_of graph.now) mol.now
         memory.old.candidates.words.items }
+    requires candidate { IsCandidate memory.old.candidates.words.items 0 atom }
     ensures found { IsTrue result
         ↔ CanComplete (HoldsIn memory.old.table) (graph_of graph.now) mol.now (atom ∷ []) }
     ensures table { memory.new.table ≡ memory.old.table }
@@ -93,9 +132,6 @@ fn begins_at(
         table: &memory.table,
         steps,
     };
-    if !memory.candidates.has(0, atom) {
-        return false;
-    }
     let image = &mut memory.image;
     let choices = &mut memory.choices;
     extend_at(&task, &memory.candidates, image, choices, 0, atom)

@@ -1,7 +1,7 @@
 //! A table of the atoms at which recursive parts hold: a bit for each part and atom, in words of 64.
-ghost use Rattle.std.specs.Prelude.{◌≡◌, ◌≢◌, ℕ, ◌<◌, ◌==◌, ◌&&◌, if◌then◌else◌, false, IfOk};
+ghost use Rattle.std.specs.Prelude.{◌≡◌, ◌≢◌, ◌↔◌, ℕ, ◌+◌, ◌*◌, ◌/◌, ◌<◌, ◌==◌, ◌&&◌, if◌then◌else◌, false, IfOk};
 ghost use Rattle.std.specs.Int.{bit_at};
-ghost use Rattle.smarts_mean.specs.Table.{holds_at};
+ghost use Rattle.smarts_mean.specs.Table.{HoldsIn, holds_at};
 
 use chem_core::MOST_ATOMS;
 use std::alloc::{AllocError, Global};
@@ -49,6 +49,26 @@ impl RecTable {
     {
         let word = self.words[ROW * usize::from(part) + usize::from(atom / 64)];
         (word >> (atom % 64)) & 1 == 1
+    }
+
+    /// At which atoms of a block of 64 the part holds.
+    pub fn block(&self, part: u16, block: usize) -> u64
+        requires part { part < MOST_PARTS }
+        requires block { block < 16 }
+        ensures { (i : ℕ) → i < 64 → bit_at result i ≡ 1 ↔ HoldsIn self.now part (64 * block + i) }
+    {
+        self.words[ROW * usize::from(part) + block]
+    }
+
+    /// Notes at which atoms of a block of 64 the part holds.
+    pub fn put_block(&mut self, part: u16, block: usize, word: u64)
+        requires part { part < MOST_PARTS }
+        requires block { block < 16 }
+        ensures here { (i : ℕ) → i < 64 → HoldsIn self.new part (64 * block + i) ↔ bit_at word i ≡ 1 }
+        ensures others { (p a : ℕ) → p < MOST_PARTS → a < MOST_ATOMS → (p ≡ part → a / 64 ≡ block → ⊥)
+            → holds_at self.new p a ≡ holds_at self.old p a }
+    {
+        self.words[ROW * usize::from(part) + block] = word;
     }
 
     /// Notes whether the part holds at the atom.

@@ -1,4 +1,3 @@
-use Rattle.std.proofs.Common.{ap, arith, length}
 use Rattle.smarts_parse.specs.Pattern.{term_of}
 use Rattle.smarts_parse.specs.Sound.{NamesBelow}
 use Rattle.matcher.proofs.Joins.{All-image}
@@ -13,7 +12,7 @@ truth-requires-clause-names c = All-image (NamesBelow 64) term_of c.args.task.no
 pub returns : goal.returns
 returns c =
     let task = c.args.task.now in
-    truth_whole task c.args.block c.args.place c.ones.result c.truth.result (term_of c.index-expr.result.now)
-    (λ i l r. (c.ones.ensures i).1 (omega (arith, r, ap length c.atoms.ensures.value)))
+    truth_whole task c.args.block c.args.place c.all_in-within.result c.truth.result (term_of c.index-expr.result.now)
+    (λ i l r. (c.all_in-within.ensures i l).1 r)
     (get_map term_of task.graph.now.atoms.items c.args.place c.index-expr.result.now c.requires.place c.index-expr.ensures)
     c.truth.ensures
