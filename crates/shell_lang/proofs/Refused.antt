@@ -1,10 +1,9 @@
 -- Why what follows a first word is refused.
-use Rattle.std.proofs.Common.{◌≡◌, ◌⊎◌, inl, inr, ℕ, List, ◌∷◌, ◌++◌, Err, refl, subst, decimal}
+use Rattle.std.proofs.Common.{◌≡◌, inl, inr, ℕ, List, ◌∷◌, ◌++◌, Err, refl, subst, decimal}
 use Rattle.std.specs.List.{Contains}
 use Rattle.shell_lang.specs.declared.word.Word.TheVariants as words
 use Rattle.shell_lang.specs.declared.command.LineRefusal.{LineRefusal}
 use Rattle.shell_lang.specs.declared.command.LineRefusal.TheVariants as refusals
-use Rattle.store_machine.specs.History.{IsId}
 use Rattle.shell_lang.specs.Command.{Command, Register, RegisterNew, Revise, RegisterMol, ReviseMol, RegisterSd, Withdraw, Show, Data, IsNoFirst, IsNoIdentifier, HasNoSpace}
 use Rattle.shell_lang.specs.Cut.{Follows, FirstPart, IsRest}
 use Rattle.shell_lang.proofs.Cuts.{has_space, no_space, no_space_first}

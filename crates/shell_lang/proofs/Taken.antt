@@ -1,7 +1,6 @@
 -- Which lines a line takes after it.
-use Rattle.std.proofs.Common.{◌≡◌, ◌≢◌, inl, inr, ℕ, ◌+◌, ◌-◌, ◌<◌, ◌≤◌, List, ◌∷◌, ◌++◌, Ok, Err, Option, Some, None, refl, sym, ◌∙◌, ap, subst, arith, decimal, codes}
+use Rattle.std.proofs.Common.{◌≡◌, ◌≢◌, inl, inr, ℕ, ◌+◌, ◌-◌, ◌<◌, ◌≤◌, List, ◌∷◌, ◌++◌, Option, Some, None, ok_or, sym, ◌∙◌, ap, arith, decimal, codes}
 use Rattle.std.specs.Prelude.{IfSome, IfNone}
-use Rattle.core.specs.Option.{ok_or}
 use Rattle.std.proofs.lemmas.Fmt.{decimal_injective}
 use Rattle.store_machine.specs.declared.machine.TheConstants.{LAST_IDENTIFIER}
 use Rattle.shell_lang.specs.declared.word.Word.TheVariants as words
@@ -46,22 +45,11 @@ no_lines line first rest cut n a b c (inr (part, count, (k, few, e))) =
     c (one_split (codes "register-sd") first (part ++ 32 ∷ decimal count) rest (word_space words.RegisterSd) n
     (sym e ∙ cut)).0
 
--- a line whose first word is `register-sd`, and what follows it takes no records
-pub no_records : (line first rest : List ℕ) → line ≡ first ++ 32 ∷ rest → HasNoSpace first →
-    codes "register-mol" ≢ first → codes "revise-mol" ≢ first →
-    ((part : List ℕ) (count : ℕ) → ¬ FirstPart words.RegisterSd rest part count) → ¬ TakesLines line
-no_records line first rest cut n a b none (inl h) = no_mol line first rest cut n a b h
-no_records line first rest cut n a b none (inr (part, count, (k, few, e))) =
-    let same =
-    one_split (codes "register-sd") first (part ++ 32 ∷ decimal count) rest (word_space words.RegisterSd) n
-    (sym e ∙ cut) in
-    none part count (k, few, sym same.1)
-
 -- a line with this first word
 pub starts : (word line first rest : List ℕ) → line ≡ first ++ 32 ∷ rest → word ≡ first → StartsWith line word
 starts word line first rest cut is = inr (rest, cut ∙ ap (λ (f : List ℕ). f ++ 32 ∷ rest) (sym is))
 
--- a number of records, where there is no space, or what stands behind it is no such number
+-- no number of records, where there is no space, or what stands behind it is no such number
 pub no_count : (rest : List ℕ) → HasNoSpace rest → (part : List ℕ) (count : ℕ) →
     ¬ FirstPart words.RegisterSd rest part count
 no_count rest none part count h = none (has_space rest part (decimal count) h.2)

@@ -1,7 +1,7 @@
 use Rattle.std.proofs.Common.{inl, inr}
 use Rattle.shell_lang.specs.declared.word.Word.TheVariants as words
 use Rattle.shell_lang.proofs.Cuts.{line_of_rest}
-use Rattle.shell_lang.proofs.Taken.{starts, no_lines, no_records}
+use Rattle.shell_lang.proofs.Taken.{starts, no_lines}
 use Rattle.shell_lang.proofs.command.taken_lines.Goals as goal
 
 pub returns-then-is_spelled-clause-some : goal.returns-then-is_spelled-clause-some
