@@ -13,8 +13,11 @@ pub registration_refused : (rest : List ℕ) (e : LineRefusal) →
     (part : List ℕ) × HasNoSpace part × ((text : List ℕ) × (rest ≡ part ++ 32 ∷ text)) × IsNoIdentifier part) →
     (e ≡ refusals.Syntax → HasNoSpace rest) → IsRest words.Register rest (Err e)
 registration_refused rest refusals.Id id syntax = let h = id refl in inl (h.0, (h.1, h.2.0, h.2.1), h.3)
-registration_refused rest refusals.Syntax id syntax =
-    (λ c h. no_registration rest (syntax refl) c h, λ part h. syntax refl (has_space rest part h.1 h.2), λ part count h. h)
+registration_refused rest refusals.Syntax id syntax = (
+  λ c h. no_registration rest (syntax refl) c h,
+  λ part h. syntax refl (has_space rest part h.1 h.2),
+  λ part count h. h,
+)
   where
     no_registration : (rest : List ℕ) → HasNoSpace rest → (c : Command) → Follows words.Register rest c → ⊥
     no_registration rest n (Register id text) h = n (has_space rest (decimal id) text h.1)
@@ -25,8 +28,11 @@ pub new_refused : (rest : List ℕ) (e : LineRefusal) →
     (part : List ℕ) × HasNoSpace part × ((text : List ℕ) × (rest ≡ part ++ 32 ∷ text)) × IsNoIdentifier part) →
     (e ≡ refusals.Syntax → HasNoSpace rest) → IsRest words.RegisterNew rest (Err e)
 new_refused rest refusals.Id id syntax = let h = id refl in inl (h.0, (h.1, h.2.0, h.2.1), h.3)
-new_refused rest refusals.Syntax id syntax =
-    (λ c h. no_new rest (syntax refl) c h, λ part h. syntax refl (has_space rest part h.1 h.2), λ part count h. h)
+new_refused rest refusals.Syntax id syntax = (
+  λ c h. no_new rest (syntax refl) c h,
+  λ part h. syntax refl (has_space rest part h.1 h.2),
+  λ part count h. h,
+)
   where
     no_new : (rest : List ℕ) → HasNoSpace rest → (c : Command) → Follows words.RegisterNew rest c → ⊥
     no_new rest n (RegisterNew id text) h = n (has_space rest (decimal id) text h.1)
@@ -37,8 +43,11 @@ pub revision_refused : (rest : List ℕ) (e : LineRefusal) →
     (part : List ℕ) × HasNoSpace part × ((text : List ℕ) × (rest ≡ part ++ 32 ∷ text)) × IsNoIdentifier part) →
     (e ≡ refusals.Syntax → HasNoSpace rest) → IsRest words.Revise rest (Err e)
 revision_refused rest refusals.Id id syntax = let h = id refl in inl (h.0, (h.1, h.2.0, h.2.1), h.3)
-revision_refused rest refusals.Syntax id syntax =
-    (λ c h. no_revision rest (syntax refl) c h, λ part h. syntax refl (has_space rest part h.1 h.2), λ part count h. h)
+revision_refused rest refusals.Syntax id syntax = (
+  λ c h. no_revision rest (syntax refl) c h,
+  λ part h. syntax refl (has_space rest part h.1 h.2),
+  λ part count h. h,
+)
   where
     no_revision : (rest : List ℕ) → HasNoSpace rest → (c : Command) → Follows words.Revise rest c → ⊥
     no_revision rest n (Revise id text) h = n (has_space rest (decimal id) text h.1)
@@ -49,8 +58,11 @@ pub data_refused : (rest : List ℕ) (e : LineRefusal) →
     (part : List ℕ) × HasNoSpace part × ((text : List ℕ) × (rest ≡ part ++ 32 ∷ text)) × IsNoIdentifier part) →
     (e ≡ refusals.Syntax → HasNoSpace rest) → IsRest words.Data rest (Err e)
 data_refused rest refusals.Id id syntax = let h = id refl in inl (h.0, (h.1, h.2.0, h.2.1), h.3)
-data_refused rest refusals.Syntax id syntax =
-    (λ c h. no_data rest (syntax refl) c h, λ part h. syntax refl (has_space rest part h.1 h.2), λ part count h. h)
+data_refused rest refusals.Syntax id syntax = (
+  λ c h. no_data rest (syntax refl) c h,
+  λ part h. syntax refl (has_space rest part h.1 h.2),
+  λ part count h. h,
+)
   where
     no_data : (rest : List ℕ) → HasNoSpace rest → (c : Command) → Follows words.Data rest c → ⊥
     no_data rest n (Data id name) h = n (has_space rest (decimal id) name h.1)
@@ -87,8 +99,11 @@ revise_mol_refused rest refusals.Syntax id syntax = (
 pub withdraw_refused : (rest : List ℕ) (e : LineRefusal) → (e ≡ refusals.Id → HasNoSpace rest × IsNoIdentifier rest) →
     (e ≡ refusals.Syntax → Contains rest 32) → IsRest words.Withdraw rest (Err e)
 withdraw_refused rest refusals.Id id syntax = let h = id refl in inl (rest, (h.0, refl), h.1)
-withdraw_refused rest refusals.Syntax id syntax =
-    (λ c h. no_withdraw rest (syntax refl) c h, λ part h. h.0 (subst (λ (r : List ℕ). Contains r 32) h.1 (syntax refl)), λ part count h. h)
+withdraw_refused rest refusals.Syntax id syntax = (
+  λ c h. no_withdraw rest (syntax refl) c h,
+  λ part h. h.0 (subst (λ (r : List ℕ). Contains r 32) h.1 (syntax refl)),
+  λ part count h. h,
+)
   where
     no_withdraw : (rest : List ℕ) → Contains rest 32 → (c : Command) → Follows words.Withdraw rest c → ⊥
     no_withdraw rest held (Withdraw id) h = no_space id h.0 (subst (λ (r : List ℕ). Contains r 32) h.1 held)
@@ -97,8 +112,11 @@ withdraw_refused rest refusals.Syntax id syntax =
 pub show_refused : (rest : List ℕ) (e : LineRefusal) → (e ≡ refusals.Id → HasNoSpace rest × IsNoIdentifier rest) →
     (e ≡ refusals.Syntax → Contains rest 32) → IsRest words.Show rest (Err e)
 show_refused rest refusals.Id id syntax = let h = id refl in inl (rest, (h.0, refl), h.1)
-show_refused rest refusals.Syntax id syntax =
-    (λ c h. no_show rest (syntax refl) c h, λ part h. h.0 (subst (λ (r : List ℕ). Contains r 32) h.1 (syntax refl)), λ part count h. h)
+show_refused rest refusals.Syntax id syntax = (
+  λ c h. no_show rest (syntax refl) c h,
+  λ part h. h.0 (subst (λ (r : List ℕ). Contains r 32) h.1 (syntax refl)),
+  λ part count h. h,
+)
   where
     no_show : (rest : List ℕ) → Contains rest 32 → (c : Command) → Follows words.Show rest c → ⊥
     no_show rest held (Show id) h = no_space id h.0 (subst (λ (r : List ℕ). Contains r 32) h.1 held)

@@ -152,8 +152,8 @@ pub fn read_command(line: &[u8]) -> Result<Command<'_>, LineRefusal>
 }
 
 /// Which lines a line takes after it. A line whose first part is `register-mol` or `revise-mol` takes those of a
-/// molfile, whatever it is read as. A line of three parts, `register-sd`, any bytes and a number of records, takes those
-/// of so many records. `None` of any other line.
+/// molfile, whatever it is read as. A line of three parts, `register-sd`, any bytes and a number of records, takes
+/// those of so many records. `None` of any other line.
 pub fn taken_lines(line: &[u8]) -> Option<TakenLines>
     ensures some { IfSome result (λ taken. Takes taken line.now) }
     ensures none { IfNone result (¬ TakesLines line.now) }
