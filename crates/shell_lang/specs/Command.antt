@@ -1,9 +1,10 @@
 -- For callers: the lines of a script. Parts of a line are separated by exactly one space; a SMILES and a SMARTS are the
 -- rest of their line, any bytes.
-use Rattle.std.specs.Prelude.{◌≡◌, ◌≢◌, ◌⊎◌, ℕ, ◌≤◌, Result, Ok, Err, List, [], ◌∷◌, ◌++◌, length, All, Contains, codes}
+use Rattle.std.specs.Prelude.{◌≡◌, ◌≢◌, ◌⊎◌, ℕ, ◌≤◌, ◌+◌, Result, Ok, Err, List, [], ◌∷◌, ◌++◌, length, All, Contains, codes}
 use Rattle.std.specs.Fmt.{decimal}
 use Rattle.store_machine.specs.History.{IsId}
-use Rattle.shell_lang.specs.declared.command.TheConstants.{LARGEST_DENOMINATOR, LONGEST_NAME, MOST_SIMILAR}
+use Rattle.store_machine.specs.declared.machine.TheConstants.{LAST_IDENTIFIER}
+use Rattle.shell_lang.specs.declared.command.TheConstants.{LARGEST_DENOMINATOR, LONGEST_NAME, MOST_SD_RECORDS, MOST_SIMILAR}
 use Rattle.shell_lang.specs.declared.command.LineRefusal.{LineRefusal}
 use Rattle.shell_lang.specs.declared.command.LineRefusal.TheVariants as refusals
 use Rattle.shell_lang.specs.declared.command.MolfileChange.{MolfileChange}
@@ -16,8 +17,10 @@ pub data Command : Type 0 where
   Revise : (id : ℕ) (text : List ℕ) → Command
   RegisterMol : (id : ℕ) → Command
   ReviseMol : (id : ℕ) → Command
+  RegisterSd : (id count : ℕ) → Command
   Withdraw : (id : ℕ) → Command
   Show : (id : ℕ) → Command
+  Data : (id : ℕ) (name : List ℕ) → Command
   Search : (pattern : List ℕ) → Command
   Same : (text : List ℕ) → Command
   Similar : (p q k : ℕ) (text : List ℕ) → Command
@@ -46,6 +49,14 @@ pub record IsSimilarity (p q k : ℕ) : Type 0 where
   pub part : p ≤ q
   pub few : (1 ≤ k) × (k ≤ MOST_SIMILAR)
 
+-- how many records of an SD file a line may take
+abbrev pub IsCount : ℕ → Type 0
+IsCount count = (1 ≤ count) × (count ≤ MOST_SD_RECORDS)
+
+-- so many identifiers, from the first on
+abbrev pub AreIds : ℕ → ℕ → Type 0
+AreIds first count = (1 ≤ first) × (first + count ≤ LAST_IDENTIFIER + 1)
+
 -- the line is this command, written out
 abbrev pub Spells : List ℕ → Command → Type 0
 Spells line Empty = line ≡ []
@@ -54,8 +65,11 @@ Spells line (RegisterNew id text) = IsId id × (line ≡ codes "register-new" ++
 Spells line (Revise id text) = IsId id × (line ≡ codes "revise" ++ 32 ∷ (decimal id ++ 32 ∷ text))
 Spells line (RegisterMol id) = IsId id × (line ≡ codes "register-mol" ++ 32 ∷ decimal id)
 Spells line (ReviseMol id) = IsId id × (line ≡ codes "revise-mol" ++ 32 ∷ decimal id)
+Spells line (RegisterSd id count) =
+    IsCount count × AreIds id count × (line ≡ codes "register-sd" ++ 32 ∷ (decimal id ++ 32 ∷ decimal count))
 Spells line (Withdraw id) = IsId id × (line ≡ codes "withdraw" ++ 32 ∷ decimal id)
 Spells line (Show id) = IsId id × (line ≡ codes "show" ++ 32 ∷ decimal id)
+Spells line (Data id name) = IsId id × (line ≡ codes "data" ++ 32 ∷ (decimal id ++ 32 ∷ name))
 Spells line (Search pattern) = line ≡ codes "search" ++ 32 ∷ pattern
 Spells line (Same text) = line ≡ codes "same" ++ 32 ∷ text
 Spells line (Similar p q k text) =
@@ -77,16 +91,29 @@ HasIdentifierPart line part =
     (((text : List ℕ) × (line ≡ codes "register" ++ 32 ∷ (part ++ 32 ∷ text)))
     ⊎ (((text : List ℕ) × (line ≡ codes "register-new" ++ 32 ∷ (part ++ 32 ∷ text)))
     ⊎ (((text : List ℕ) × (line ≡ codes "revise" ++ 32 ∷ (part ++ 32 ∷ text)))
+    ⊎ (((name : List ℕ) × (line ≡ codes "data" ++ 32 ∷ (part ++ 32 ∷ name)))
     ⊎ ((line ≡ codes "register-mol" ++ 32 ∷ part) ⊎ ((line ≡ codes "revise-mol" ++ 32 ∷ part)
-    ⊎ ((line ≡ codes "withdraw" ++ 32 ∷ part) ⊎ (line ≡ codes "show" ++ 32 ∷ part)))))))
+    ⊎ ((line ≡ codes "withdraw" ++ 32 ∷ part) ⊎ (line ≡ codes "show" ++ 32 ∷ part))))))))
 
--- What a line is: a command; or `Id`, where the part for an identifier is none; or `Syntax`, where it is neither a
--- command nor has such a part.
+-- the line takes so many records of the lines after it, and the part stands where the first identifier is to stand
+abbrev pub TakesRecords : List ℕ → List ℕ → ℕ → Type 0
+TakesRecords line part count =
+    HasNoSpace part × IsCount count × (line ≡ codes "register-sd" ++ 32 ∷ (part ++ 32 ∷ decimal count))
+
+-- the part is not the first of so many identifiers
+abbrev pub IsNoFirst : List ℕ → ℕ → Type 0
+IsNoFirst part count = (id : ℕ) → AreIds id count → part ≢ decimal id
+
+-- What a line is: a command; or `Id`, where the part for an identifier is none, or no so many identifiers begin with
+-- it; or `Syntax`, where it is neither a command nor has such a part.
 abbrev pub IsLine : List ℕ → Result Command LineRefusal → Type 0
 IsLine line (Ok command) = Spells line command
-IsLine line (Err refusals.Id) = (part : List ℕ) × HasIdentifierPart line part × IsNoIdentifier part
+IsLine line (Err refusals.Id) =
+    ((part : List ℕ) × HasIdentifierPart line part × IsNoIdentifier part)
+    ⊎ ((part : List ℕ) × (count : ℕ) × TakesRecords line part count × IsNoFirst part count)
 IsLine line (Err refusals.Syntax) =
     ((command : Command) → ¬ Spells line command) × ((part : List ℕ) → ¬ HasIdentifierPart line part)
+    × ((part : List ℕ) (count : ℕ) → ¬ TakesRecords line part count)
 
 -- the line's first part is this word
 abbrev pub StartsWith : List ℕ → List ℕ → Type 0
@@ -95,6 +122,14 @@ StartsWith line word = (line ≡ word) ⊎ ((rest : List ℕ) × (line ≡ word 
 -- the line's first part is `register-mol` or `revise-mol`, so that the lines of a molfile belong to it
 abbrev pub StartsMolfile : List ℕ → Type 0
 StartsMolfile line = StartsWith line (codes "register-mol") ⊎ StartsWith line (codes "revise-mol")
+
+-- the lines of some records belong to the line
+abbrev pub StartsRecords : List ℕ → Type 0
+StartsRecords line = (part : List ℕ) × (count : ℕ) × TakesRecords line part count
+
+-- lines after it belong to the line
+abbrev pub TakesLines : List ℕ → Type 0
+TakesLines line = StartsMolfile line ⊎ StartsRecords line
 
 -- the line begins `M  END`, which ends a molfile
 abbrev pub EndsMolfile : List ℕ → Type 0
@@ -105,3 +140,8 @@ abbrev pub molfile_command : Result MolfileChange LineRefusal → Result Command
 molfile_command (Ok (changes.Register id)) = Ok (RegisterMol id)
 molfile_command (Ok (changes.Revise id)) = Ok (ReviseMol id)
 molfile_command (Err refusal) = Err refusal
+
+-- what a line that starts so many records is read as, by the first identifier
+abbrev pub records_command : ℕ → Result ℕ LineRefusal → Result Command LineRefusal
+records_command count (Ok first) = Ok (RegisterSd first count)
+records_command count (Err refusal) = Err refusal

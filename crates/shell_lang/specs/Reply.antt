@@ -25,6 +25,7 @@ pub data Reply : Type 0 where
   Accepted : (version : ℕ) → Reply
   Shown : (id version : ℕ) (format : Format) (text : List ℕ) → Reply
   Gone : (id version : ℕ) → Reply
+  Data : (id : ℕ) (text : List ℕ) → Reply
   Hit : (id : ℕ) → Reply
   End : (version tried hits : ℕ) → Reply
   Like : (id c u : ℕ) → Reply
@@ -75,6 +76,8 @@ pattern_words patterns.NoMemory = codes "fault memory"
 abbrev pub refusal_words : Refusal → List ℕ
 refusal_words refusals.Long = codes "refused long"
 refusal_words (refusals.Line refusal) = line_words refusal
+refusal_words refusals.SdCut = codes "refused sd cut"
+refusal_words refusals.SdLimit = codes "refused sd limit"
 refusal_words (refusals.Text fault) = text_words fault
 refusal_words (refusals.Pattern fault) = pattern_words fault
 refusal_words refusals.Cursor = codes "refused cursor"
@@ -82,6 +85,7 @@ refusal_words (refusals.Same id) = codes "refused same " ++ decimal id
 refusal_words refusals.Known = codes "refused known"
 refusal_words refusals.Absent = codes "refused absent"
 refusal_words refusals.Withdrawn = codes "refused withdrawn"
+refusal_words refusals.Data = codes "refused data"
 refusal_words refusals.Full = codes "refused full"
 refusal_words refusals.Pins = codes "refused pins"
 
@@ -106,11 +110,16 @@ molfile_lines formats.Molfile text = ended text
 
 abbrev pub lines_after : Reply → List ℕ
 lines_after (Shown id version format text) = molfile_lines format text
+lines_after (Data id text) = ended text
 lines_after reply = []
 
 abbrev pub record_words : ℕ → ℕ → Format → List ℕ → List ℕ
 record_words id version format text =
     codes "record " ++ (decimal id ++ (codes " version " ++ (decimal version ++ text_part format text)))
+
+-- how many lines of data follow
+abbrev pub data_words : ℕ → List ℕ → List ℕ
+data_words id text = codes "data " ++ (decimal id ++ (codes " " ++ decimal (line_count text)))
 
 abbrev pub like_words : ℕ → ℕ → ℕ → List ℕ
 like_words id c u = codes "like " ++ (decimal id ++ (codes " " ++ (decimal c ++ (codes " " ++ decimal u))))
@@ -137,6 +146,7 @@ abbrev pub reply_words : Reply → List ℕ
 reply_words (Accepted version) = codes "ok " ++ decimal version
 reply_words (Shown id version format text) = record_words id version format text
 reply_words (Gone id version) = codes "withdrawn " ++ (decimal id ++ (codes " version " ++ decimal version))
+reply_words (Data id text) = data_words id text
 reply_words (Hit id) = codes "hit " ++ decimal id
 reply_words (End version tried hits) =
     codes "end at " ++ (decimal version ++ (codes " tried " ++ (decimal tried ++ (codes " hits " ++ decimal hits))))

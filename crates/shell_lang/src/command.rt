@@ -2,10 +2,10 @@
 ghost use Rattle.std.specs.Prelude.{◌≡◌, ◌≢◌, ◌≤◌, ◌∷◌, ◌++◌, ℕ, List, All, Contains, codes, decimal, IfSome, IfNone, IfOk, IfErr, IsErrOf, IsTrue, Result, ◌↔◌};
 ghost use Rattle.store_machine.specs.History.{IsId};
 ghost use Rattle.shell_lang.specs.Command as spec;
-ghost use Rattle.shell_lang.specs.Command.{IsNoIdentifier, IsNameByte, IsName, Spells, HasNoSpace, HasIdentifierPart, IsLine, StartsMolfile, EndsMolfile, molfile_command};
-ghost use Rattle.shell_lang.specs.CommandView.{command_of, reading_of};
+ghost use Rattle.shell_lang.specs.Command.{AreIds, IsCount, IsNoFirst, IsNoIdentifier, IsNameByte, IsName, Spells, HasNoSpace, HasIdentifierPart, IsLine, EndsMolfile, TakesLines, molfile_command};
+ghost use Rattle.shell_lang.specs.CommandView.{Takes, command_of, reading_of};
 ghost use Rattle.shell_lang.specs.Word.{word_text};
-ghost use Rattle.shell_lang.specs.Cut.{Follows, IsRest};
+ghost use Rattle.shell_lang.specs.Cut.{FirstPart, Follows, IsRest};
 ghost use Rattle.shell_lang.specs.declared.word.Word.TheVariants as words;
 ghost use Rattle.shell_lang.specs.declared.command.LineRefusal.{LineRefusal};
 ghost use Rattle.shell_lang.specs.declared.command.LineRefusal.TheVariants.{Syntax};
@@ -22,6 +22,9 @@ pub const LARGEST_DENOMINATOR: u32 = 1000;
 
 /// The greatest K of `similar`: the most structures that it lists.
 pub const MOST_SIMILAR: u32 = 256;
+
+/// The most records that `register-sd` takes.
+pub const MOST_SD_RECORDS: u32 = 4096;
 
 /// A line of a script. An identifier is 1 to 999,999,999; a name has 1 to 32 letters of ASCII, digits or `_`.
 #[derive(Clone, Copy, Debug)]
@@ -51,6 +54,12 @@ pub enum Command<'a> {
     ReviseMol {
         id: u32,
     },
+    /// `register-sd ID COUNT`, `count` 1 to 4096; the lines of `count` records of an SD file follow, which get the
+    /// identifiers from `id` on.
+    RegisterSd {
+        id: u32,
+        count: u32,
+    },
     /// `withdraw ID`
     Withdraw {
         id: u32,
@@ -58,6 +67,11 @@ pub enum Command<'a> {
     /// `show ID`
     Show {
         id: u32,
+    },
+    /// `data ID NAME`: the data item of this name, which may be any bytes, of a record of an SD file.
+    Data {
+        id: u32,
+        name: &'a [u8],
     },
     /// `search SMARTS`
     Search {
@@ -101,13 +115,25 @@ pub enum MolfileChange {
     Revise { id: u32 },
 }
 
+/// The lines that a line takes after it.
+#[derive(Clone, Copy, Debug, PartialEq, Eq)]
+pub enum TakenLines {
+    /// Those of a molfile, by the change that is asked for, or why the line is no command.
+    Molfile(Result<MolfileChange, LineRefusal>),
+    /// Those of so many records of an SD file, by the first identifier, or why the line is no command.
+    Records {
+        count: u32,
+        first: Result<u32, LineRefusal>,
+    },
+}
+
 /// Why a line spells no command.
 #[derive(Clone, Copy, Debug, PartialEq, Eq)]
 pub enum LineRefusal {
     /// It is no line of the language: an unknown word, another number of parts, a name that is none, or a number of
-    /// `similar` that is none or out of range.
+    /// `similar` or of records that is none or out of range.
     Syntax,
-    /// The part where an identifier stands is none.
+    /// The part where an identifier stands is none, or the last of so many identifiers would be out of range.
     Id,
 }
 
@@ -125,21 +151,24 @@ pub fn read_command(line: &[u8]) -> Result<Command<'_>, LineRefusal>
     with_rest(word, rest)
 }
 
-/// What a line whose first part is `register-mol` or `revise-mol` asks for, or why the line is no command; `None` for
-/// any other line. The lines of a molfile follow such a line, whatever it is read as.
-pub fn molfile_change(line: &[u8]) -> Option<Result<MolfileChange, LineRefusal>>
-    ensures some { IfSome result (λ read. StartsMolfile line.now
-        × IsLine line.now (molfile_command read)) }
-    ensures none { IfNone result (¬ StartsMolfile line.now) }
+/// Which lines a line takes after it. A line whose first part is `register-mol` or `revise-mol` takes those of a
+/// molfile, whatever it is read as. A line of three parts, `register-sd`, any bytes and a number of records, takes
+/// those of so many records. `None` of any other line.
+pub fn taken_lines(line: &[u8]) -> Option<TakenLines>
+    ensures some { IfSome result (λ taken. Takes taken line.now) }
+    ensures none { IfNone result (¬ TakesLines line.now) }
 {
     let Some((first, rest)) = split_at_space(line) else {
-        return molfile_alone(line);
+        return taken_alone(line);
     };
     if Word::RegisterMol.is_spelled(first) {
-        return Some(registration(rest));
+        return Some(TakenLines::Molfile(registration(rest)));
     }
     if Word::ReviseMol.is_spelled(first) {
-        return Some(revision(rest));
+        return Some(TakenLines::Molfile(revision(rest)));
+    }
+    if Word::RegisterSd.is_spelled(first) {
+        return taken_records(rest);
     }
     None
 }
@@ -197,12 +226,20 @@ fn with_rest(word: Word, rest: &[u8]) -> Result<Command<'_>, LineRefusal>
         Word::ReviseMol => Ok(Command::ReviseMol {
             id: identifier_alone(rest)?,
         }),
+        Word::RegisterSd => {
+            let (id, count) = first_and_count(rest)?;
+            Ok(Command::RegisterSd { id, count })
+        }
         Word::Withdraw => Ok(Command::Withdraw {
             id: identifier_alone(rest)?,
         }),
         Word::Show => Ok(Command::Show {
             id: identifier_alone(rest)?,
         }),
+        Word::Data => {
+            let (id, name) = identifier_and_text(rest)?;
+            Ok(Command::Data { id, name })
+        }
         Word::Search => Ok(Command::Search { pattern: rest }),
         Word::Same => Ok(Command::Same { text: rest }),
         Word::Similar => similar(rest).ok_or(LineRefusal::Syntax),
@@ -270,19 +307,68 @@ fn number_and_rest(bytes: &[u8], most: u32) -> Option<(u32, &[u8])>
 }
 
 // A line without a space. Where it is the word of a molfile's line, the identifier is missing.
-fn molfile_alone(line: &[u8]) -> Option<Result<MolfileChange, LineRefusal>>
+fn taken_alone(line: &[u8]) -> Option<TakenLines>
     requires { HasNoSpace line.now }
-    ensures some { IfSome result (λ read. StartsMolfile line.now
-        × IsLine line.now (molfile_command read)) }
-    ensures none { IfNone result (¬ StartsMolfile line.now) }
+    ensures some { IfSome result (λ taken. Takes taken line.now) }
+    ensures none { IfNone result (¬ TakesLines line.now) }
 {
-    if Word::RegisterMol.is_spelled(line) {
-        return Some(Err(LineRefusal::Syntax));
-    }
-    if Word::ReviseMol.is_spelled(line) {
-        return Some(Err(LineRefusal::Syntax));
+    if Word::RegisterMol.is_spelled(line) || Word::ReviseMol.is_spelled(line) {
+        return Some(TakenLines::Molfile(Err(LineRefusal::Syntax)));
     }
     None
+}
+
+// The records that a line takes, by what follows `register-sd`.
+fn taken_records(rest: &[u8]) -> Option<TakenLines>
+    ensures some { IfSome result (λ taken. Takes taken (codes "register-sd" ++ 32 ∷ rest.now)) }
+    ensures none { IfNone result ((part : List ℕ) (count : ℕ)
+        → ¬ FirstPart words.RegisterSd rest.now part count) }
+{
+    let (part, count) = part_and_count(rest)?;
+    let first = first_of(part, count).ok_or(LineRefusal::Id);
+    Some(TakenLines::Records { count, first })
+}
+
+// What follows `register-sd`: the first identifier and the number of records.
+fn first_and_count(rest: &[u8]) -> Result<(u32, u32), LineRefusal>
+    ensures ok { IfOk result (λ r. IsCount r.1 × AreIds r.0 r.1
+        × (rest.now ≡ decimal r.0 ++ 32 ∷ decimal r.1)) }
+    ensures id { IsErrOf result LineRefusal.Id → (part : List ℕ) × (count : ℕ)
+        × FirstPart words.RegisterSd rest.now part count × IsNoFirst part count }
+    ensures syntax { IsErrOf result LineRefusal.Syntax → (part : List ℕ) (count : ℕ)
+        → ¬ FirstPart words.RegisterSd rest.now part count }
+{
+    let (part, count) = part_and_count(rest).ok_or(LineRefusal::Syntax)?;
+    let first = first_of(part, count).ok_or(LineRefusal::Id)?;
+    Ok((first, count))
+}
+
+// A part for the first identifier, and a number of records.
+fn part_and_count(rest: &[u8]) -> Option<(&[u8], u32)>
+    ensures some { IfSome result (λ r. FirstPart words.RegisterSd rest.now r.0.now r.1) }
+    ensures none { IfNone result ((part : List ℕ) (count : ℕ)
+        → ¬ FirstPart words.RegisterSd rest.now part count) }
+{
+    let (part, digits) = split_at_space(rest)?;
+    match decimal(digits, u64::from(MOST_SD_RECORDS)) {
+        Some(count) if count >= 1 => Some((part, count as u32)),
+        _ => None,
+    }
+}
+
+// The first of so many identifiers, where the bytes are one.
+fn first_of(bytes: &[u8], count: u32) -> Option<u32>
+    requires { IsCount count }
+    ensures some { IfSome result (λ id. (bytes.now ≡ decimal id) × AreIds id count) }
+    ensures none { IfNone result (IsNoFirst bytes.now count) }
+{
+    let first = identifier(bytes)?;
+    let last = first + (count - 1);
+    if last <= LAST_IDENTIFIER {
+        Some(first)
+    } else {
+        None
+    }
 }
 
 // What follows `register-mol`.

@@ -6,7 +6,7 @@ mod reply;
 mod word;
 
 pub use command::{
-    Command, LARGEST_DENOMINATOR, LONGEST_NAME, LineRefusal, MOST_SIMILAR, MolfileChange,
-    ends_molfile, molfile_change, one_reading, read_command,
+    Command, LARGEST_DENOMINATOR, LONGEST_NAME, LineRefusal, MOST_SD_RECORDS, MOST_SIMILAR,
+    MolfileChange, TakenLines, ends_molfile, one_reading, read_command, taken_lines,
 };
-pub use reply::{Refusal, Reply, reply_text};
+pub use reply::{Refusal, Reply, data_text, reply_text};

@@ -1,7 +1,7 @@
 //! Reply lines.
 ghost use Rattle.std.specs.Prelude.{◌≡◌, ◌==◌, ◌≤◌, ◌∷◌, [], ◌++◌, OnOk, OnErr, length, count_by, if◌then◌else◌};
 ghost use Rattle.std.specs.Fmt.{decimal};
-ghost use Rattle.shell_lang.specs.Reply.{ended, line_count, text_part, molfile_lines, record_words, like_words, scored_words, live_words, kept_words, count_words, reply_of, reply_line, text_words, smiles_words, molfile_words, pattern_words};
+ghost use Rattle.shell_lang.specs.Reply.{Data, ended, line_count, text_part, molfile_lines, record_words, like_words, scored_words, live_words, kept_words, count_words, reply_of, reply_line, text_words, smiles_words, molfile_words, pattern_words};
 ghost use Rattle.shell_lang.specs.Written.{Extends};
 
 use crate::command::LineRefusal;
@@ -84,10 +84,14 @@ pub enum Reply {
 /// structure there, so there `Pins` comes before `Same`. A `NoMemory` inside is written as `fault memory`.
 #[derive(Clone, Copy, Debug, PartialEq, Eq)]
 pub enum Refusal {
-    /// The line, or a line of its molfile, exceeds 65,536 bytes.
+    /// The line, or a line of its molfile or record, exceeds 65,536 bytes.
     Long,
     /// The line spells no command.
     Line(LineRefusal),
+    /// No line of the record was left: the input ended before it.
+    SdCut,
+    /// The texts of the records up to and with this one exceed 67,108,864 bytes.
+    SdLimit,
     /// The text has no structure.
     Text(TextFault),
     /// The text is no pattern.
@@ -102,6 +106,8 @@ pub enum Refusal {
     Absent,
     /// The identifier is withdrawn.
     Withdrawn,
+    /// The record is no molfile, or has no data item of the name.
+    Data,
     /// The store has as many commits as it may have.
     Full,
     /// As many pins are held as there may be, 64.
@@ -119,6 +125,32 @@ pub fn reply_text(reply: &Reply, out: &mut Vec<u8>) -> Result<(), AllocError>
         out.truncate(len);
     }
     result
+}
+
+/// Appends the lines of a data item: how many lines its data have, and these, each with its LF. An `Err` changes
+/// nothing.
+pub fn data_text(id: u32, text: &[u8], out: &mut Vec<u8>) -> Result<(), AllocError>
+    ensures ok { OnOk result (out.new.items ≡ out.old.items ++ reply_line (Data id text.now)) }
+    ensures err { OnErr result (out.new.items ≡ out.old.items) }
+{
+    let len = out.len();
+    let result = push_data(id, text, out);
+    if result.is_err() {
+        out.truncate(len);
+    }
+    result
+}
+
+// Appends the lines of a data item.
+fn push_data(id: u32, text: &[u8], out: &mut Vec<u8>) -> Result<(), AllocError>
+    ensures ok { OnOk result (out.new.items ≡ out.old.items ++ reply_line (Data id text.now)) }
+    ensures err { OnErr result (Extends out.old.items out.new.items) }
+{
+    push_number(out, "data ", id)?;
+    push(out, " ")?;
+    push_decimal(out, lines_of(text))?;
+    out.extend_from_slice(b"\n")?;
+    push_ended(text, out)
 }
 
 impl Reply {
@@ -189,6 +221,8 @@ impl Refusal {
             Refusal::Long => push(out, "refused long"),
             Refusal::Line(LineRefusal::Syntax) => push(out, "refused syntax"),
             Refusal::Line(LineRefusal::Id) => push(out, "refused id"),
+            Refusal::SdCut => push(out, "refused sd cut"),
+            Refusal::SdLimit => push(out, "refused sd limit"),
             Refusal::Text(fault) => push_text_fault(fault, out),
             Refusal::Pattern(fault) => push(out, pattern_fault(fault)),
             Refusal::Cursor => push(out, "refused cursor"),
@@ -196,6 +230,7 @@ impl Refusal {
             Refusal::Known => push(out, "refused known"),
             Refusal::Absent => push(out, "refused absent"),
             Refusal::Withdrawn => push(out, "refused withdrawn"),
+            Refusal::Data => push(out, "refused data"),
             Refusal::Full => push(out, "refused full"),
             Refusal::Pins => push(out, "refused pins"),
         }
