@@ -1,10 +1,9 @@
 -- At which atoms of a block some embedding of a graph begins: the candidates of its first place are asked in turn.
 use Rattle.std.proofs.Common.{◌≡◌, ◌↔◌, ◌+◌, ◌*◌, ◌/◌, ◌%◌, ◌^◌, ◌<◌, ◌≤◌, ◌∙◌, ℕ, List, [], ◌∷◌, bit_and, get_or, length, slice_get, slice_index, Some, inl, inr, refl, subst, sym, ap, arith, w64}
-use Rattle.std.specs.Int.{bit_at, bit_not, trailing_zeros}
-use Rattle.std.specs.Int.Count.{trailing_of_zero}
-use Rattle.std.proofs.lemmas.Bool.{cases_eq, cases_lt}
+use Rattle.std.specs.Int.{bit_at, trailing_zeros}
+use Rattle.std.proofs.lemmas.Bool.{cases_eq}
 use Rattle.std.proofs.lemmas.List.{get_or_default}
-use Rattle.std.proofs.lemmas.Nat.Bits.{bit_at-lt, bit_at-trailing_zeros, bit_at-zero, bit_at_and, bit_at_clear_other, bit_at_clear_same}
+use Rattle.std.proofs.lemmas.Nat.Bits.{bit_at-lt, bit_at_and, bit_at_clear_other}
 use Rattle.std.proofs.lemmas.Option.{slice_get_within}
 use Rattle.chem_core.specs.declared.mol.Atom.{Atom}
 use Rattle.chem_core.specs.Molecule.{Molecule}
@@ -13,6 +12,7 @@ use Rattle.matcher.specs.Candidates.{AreTruthsIn, IsCandidate}
 use Rattle.matcher.specs.Class.{class_of}
 use Rattle.matcher.specs.Partial.{CanComplete, IsSearchable, Parts}
 use Rattle.matcher.specs.Parts.{AreBeginnings}
+use Rattle.matcher.proofs.Lowest.{done_more, lower_none, lowest_is, other_bit, without}
 use Rattle.matcher.proofs.OnlyAtoms.{one_completes}
 use Rattle.matcher.proofs.Standing.{no_begin}
 
@@ -73,59 +73,25 @@ one_begins parts g m words classes block all graph one truths first i x l get ma
       ],
     )
 
--- none is asked yet
-pub asked_none : (parts : Parts) (g : GraphTerm) (m : Molecule) (words : List ℕ) (classes block all : ℕ)
+-- none is asked yet, and no embedding begins at the atoms that are left out
+pub asked_near : (parts : Parts) (g : GraphTerm) (m : Molecule) (words : List ℕ) (classes block all near : ℕ)
     → 0 < length g.atoms → AreTruthsIn parts g m words → AreFirst m words block all
-    → AreAsked parts g m classes block 0 all all all
-asked_none parts g m words classes block all some truths first = record {
+    → ((i : ℕ) → i < 64 → bit_at near i ≡ 1 → bit_at all i ≡ 1)
+    → ((i : ℕ) → i < 64 → bit_at all i ≡ 1 → CanComplete parts g m ((64 * block + i) ∷ []) → bit_at near i ≡ 1)
+    → AreAsked parts g m classes block 0 all near near
+asked_near parts g m words classes block all near some truths first within begins = record {
   done = λ i l. absurd (omega arith);
-  among = λ i l h. h;
+  among = λ i l h. within i l h;
   waits = λ i l h. h;
   asked = λ i x l none get may.
-      let within : 64 * block + i < length m.atoms = slice_get_within m.atoms (64 * block + i) x get in (
+      let inside : 64 * block + i < length m.atoms = slice_get_within m.atoms (64 * block + i) x get in (
         λ t. absurd (omega arith),
-        λ w. absurd (not_first parts g m words block all i some truths first l within (λ t. omega arith) w),
+        λ w. elim (cases_eq (bit_at all i) 1) [
+          | inl is ↦ begins i l is w
+          | inr out ↦ absurd (not_first parts g m words block all i some truths first l inside out w)
+        ],
       );
 }
-
--- the lowest bit of a word, where there is one
-lowest_is : (left : ℕ) → left < 2 ^ 64 → trailing_zeros w64 left < 64 → bit_at left (trailing_zeros w64 left) ≡ 1
-lowest_is left room low = elim (cases_eq left 0) [
-  | inl none ↦ absurd (let all = ap (trailing_zeros w64) none ∙ trailing_of_zero 64 in omega arith)
-  | inr some ↦ (bit_at-trailing_zeros w64 left (omega arith) room).1
-]
-
-lower_none : (left : ℕ) → left < 2 ^ 64 → (i : ℕ) → i < 64 → i < trailing_zeros w64 left → bit_at left i ≡ 0
-lower_none left room i l below = elim (cases_eq left 0) [
-  | inl none ↦ ap (λ w. bit_at w i) none ∙ bit_at-zero i
-  | inr some ↦ (bit_at-trailing_zeros w64 left (omega arith) room).2 i below
-]
-
--- the word without a bit
-abbrev pub without : ℕ → ℕ → ℕ
-without word bit = bit_and word (bit_not w64 (1 * 2 ^ bit % 2 ^ 64))
-
-other_bit : (word bit i : ℕ) → bit < 64 → bit_at (without word bit) i ≡ 1 → i ≡ bit → ⊥
-other_bit word bit i low t e =
-    let zero' = ap (bit_at (without word bit)) e ∙ bit_at_clear_same w64 word bit low in
-    omega arith
-
--- one more is done
-done_more : (left n : ℕ) → left < 2 ^ 64 → trailing_zeros w64 left < 64
-    → ((i : ℕ) → i < n → i < 64 → bit_at left i ≡ 0) → (i : ℕ) → i < n + 1 → i < 64
-    → bit_at (without left (trailing_zeros w64 left)) i ≡ 0
-done_more left n room low done i l few =
-    let bit : ℕ = trailing_zeros w64 left in
-    elim (cases_eq i bit) [
-      | inl e ↦ ap (bit_at (without left bit)) e ∙ bit_at_clear_same w64 left bit low
-      | inr apart ↦ bit_at_clear_other w64 left bit low i few apart ∙ elim (cases_lt i bit) [
-        | inl below ↦ lower_none left room i few below
-        | inr above ↦
-            let zero' = done bit (omega arith) low in
-            let one = lowest_is left room low in
-            absurd (omega arith)
-      ]
-    ]
 
 -- the atom of the lowest bit is asked, and some embedding begins there, or it is of another class
 pub asked_held : (parts : Parts) (g : GraphTerm) (m : Molecule) (classes block n all left held : ℕ) → left < 2 ^ 64

@@ -9,6 +9,8 @@ pub mod Asked
 pub mod PartsHeld
 pub mod Standing
 pub mod Truths
+pub mod Lowest
+pub mod HalfTruths
 pub mod OnlyAtoms
 pub mod OnlyParts
 pub mod Beginnings
@@ -21,3 +23,4 @@ pub mod Hunts
 pub mod Rings
 pub mod Groups
 pub mod Removals
+pub mod Seconds

@@ -92,37 +92,35 @@ truth_or parts m e f block within a b h k i l =
     )
 
 -- the bits below one place are so, and those from there on are not set
-pub record IsBegun (parts : Parts) (m : Molecule) (e : Term AtomPrim) (block within n word : ℕ) : Type 0 where
-  pub done : (i : ℕ) → i < n → bit_at word i ≡ 1 ↔ ((bit_at within i ≡ 1) × AtomTrue parts e m (64 * block + i))
+pub record IsBegun (parts : Parts) (m : Molecule) (e : Term AtomPrim) (block n word : ℕ) : Type 0 where
+  pub done : (i : ℕ) → i < n → bit_at word i ≡ 1 ↔ AtomTrue parts e m (64 * block + i)
   pub rest : (i : ℕ) → n ≤ i → bit_at word i ≡ 0
 
-pub begun_none : (parts : Parts) (m : Molecule) (e : Term AtomPrim) (block within : ℕ)
-    → IsBegun parts m e block within 0 0
-begun_none parts m e block within = record {
+pub asks_none : (parts : Parts) (m : Molecule) (e : Term AtomPrim) (block : ℕ) → IsBegun parts m e block 0 0
+asks_none parts m e block = record {
   done = λ i l. absurd (omega arith);
   rest = λ i l. bit_at-zero i;
 }
 
-pub begun_false : (parts : Parts) (m : Molecule) (e : Term AtomPrim) (block within n word : ℕ)
-    → ((bit_at within n ≡ 1) × AtomTrue parts e m (64 * block + n) → ⊥) → IsBegun parts m e block within n word
-    → IsBegun parts m e block within (n + 1) word
-begun_false parts m e block within n word none h = record {
+pub ask_false : (parts : Parts) (m : Molecule) (e : Term AtomPrim) (block n word : ℕ)
+    → (AtomTrue parts e m (64 * block + n) → ⊥) → IsBegun parts m e block n word
+    → IsBegun parts m e block (n + 1) word
+ask_false parts m e block n word none h = record {
   done = λ i l. elim (cases_eq i n) [
-    | inl same ↦ subst (λ k. bit_at word k ≡ 1 ↔ ((bit_at within k ≡ 1) × AtomTrue parts e m (64 * block + k)))
+    | inl same ↦ subst (λ k. bit_at word k ≡ 1 ↔ AtomTrue parts e m (64 * block + k))
         (sym same) (λ t. absurd (let zero' = h.rest n (omega arith) in omega arith), λ w. absurd (none w))
     | inr apart ↦ h.done i (omega arith)
   ];
   rest = λ i l. h.rest i (omega arith);
 }
 
-pub begun_true : (parts : Parts) (m : Molecule) (e : Term AtomPrim) (block within n word : ℕ) → n < 64
-    → (bit_at within n ≡ 1) × AtomTrue parts e m (64 * block + n) → IsBegun parts m e block within n word
-    → IsBegun parts m e block within (n + 1) (bit_or word (1 * 2 ^ n % 2 ^ 64))
-begun_true parts m e block within n word few both h = record {
+pub ask_true : (parts : Parts) (m : Molecule) (e : Term AtomPrim) (block n word : ℕ) → n < 64
+    → AtomTrue parts e m (64 * block + n) → IsBegun parts m e block n word
+    → IsBegun parts m e block (n + 1) (bit_or word (1 * 2 ^ n % 2 ^ 64))
+ask_true parts m e block n word few holds h = record {
   done = λ i l. elim (cases_eq i n) [
-    | inl same ↦ subst (λ k. bit_at (bit_or word (1 * 2 ^ n % 2 ^ 64)) k ≡ 1
-        ↔ ((bit_at within k ≡ 1) × AtomTrue parts e m (64 * block + k)))
-        (sym same) (λ t. both, λ w. bit_at_set_same w64 word n few)
+    | inl same ↦ subst (λ k. bit_at (bit_or word (1 * 2 ^ n % 2 ^ 64)) k ≡ 1 ↔ AtomTrue parts e m (64 * block + k))
+        (sym same) (λ t. holds, λ w. bit_at_set_same w64 word n few)
     | inr apart ↦
         let same = bit_at_set_other w64 word n few i apart in
         let old = h.done i (omega arith) in
@@ -131,18 +129,28 @@ begun_true parts m e block within n word few both h = record {
   rest = λ i l. bit_at_set_other w64 word n few i (λ same. omega arith) ∙ h.rest i (omega arith);
 }
 
--- all bits of the block are found
-pub begun_all : (parts : Parts) (m : Molecule) (p : AtomPrim) (block within n word : ℕ)
-    → ((i : ℕ) → i < 64 → n ≤ i → length m.atoms ≤ 64 * block + i) → IsBegun parts m (Prim p) block within n word
-    → IsTruth parts m (Prim p) block within word
-begun_all parts m p block within n word enough h i l = elim (cases_lt i n) [
-  | inl before ↦ h.done i before
-  | inr after ↦ (
-    λ t. absurd (let zero' = h.rest i after in omega arith),
-    λ w. absurd (let r = slice_get_within m.atoms (64 * block + i) w.1.0 w.1.1 in let s = enough i l after in
-        omega arith),
-  )
-]
+-- all bits of the block are found, and those of a word are taken
+pub asks_all : (parts : Parts) (m : Molecule) (p : AtomPrim) (block within n word : ℕ)
+    → ((i : ℕ) → i < 64 → n ≤ i → length m.atoms ≤ 64 * block + i) → IsBegun parts m (Prim p) block n word
+    → IsTruth parts m (Prim p) block within (bit_and word within)
+asks_all parts m p block within n word enough h i l =
+    let both = bit_at_and word within i in
+    let one = bit_at-lt word i in
+    let two = bit_at-lt within i in
+    elim (cases_lt i n) [
+      | inl before ↦ (
+        λ t. (omega arith, (h.done i before).0 (omega arith)),
+        λ w.
+            let mine = w.0 in
+            let set' = (h.done i before).1 w.1 in
+            omega arith,
+      )
+      | inr after ↦ (
+        λ t. absurd (let zero' = h.rest i after in omega arith),
+        λ w. absurd (let r = slice_get_within m.atoms (64 * block + i) w.1.0 w.1.1 in let s = enough i l after in
+            omega arith),
+      )
+    ]
 
 -- all atoms of the block are asked
 pub truth_whole : (task : Task) (block place within word : ℕ) (t : Term AtomPrim)

@@ -10,7 +10,7 @@ use Rattle.matcher.specs.Task.{Embeds}
 
 -- the stop at a place of the list; past its end one at place 0
 abbrev pub stop_at : List Placement → ℕ → Placement
-stop_at stops k = slice_index_or stops k (record { place = 0; bond = 0 })
+stop_at stops k = slice_index_or stops k (record { place = 0; bond = 0; closing = 0 })
 
 -- the place of the stop is one of the graph's, and not taken
 pub record IsFree (task : Task) (stops : List Placement) (k : ℕ) (taken : List ℕ) : Type 0 where

@@ -45,6 +45,12 @@ pub record AreAround (g : GraphTerm) (marks : List Bool) (words : List ℕ) (pla
 abbrev pub around_at : List Around → ℕ → Around
 around_at arounds place = slice_index_or arounds place (record { count = 0; atoms = 0 })
 
+-- the new word has those atoms of the old one that have as many of the others near them, and no others
+pub record IsNarrowed (near : List ℕ) (from count atoms kept : ℕ) : Type 0 where
+  pub enough : (a : ℕ) → a < 64 → bit_at from a ≡ 1 → count ≤ count_ones (bit_and (slice_index near a) atoms)
+      → bit_at kept a ≡ 1
+  pub within : (a : ℕ) → bit_at kept a ≡ 1 → bit_at from a ≡ 1
+
 -- the same with one place more, of which the word has the candidates
 abbrev pub more_around : Around → ℕ → Around
 more_around around word = record { count = around.count + 1; atoms = bit_or around.atoms word }

@@ -276,6 +276,9 @@ fn is_refused(
         return true;
     }
     candidates.find(task);
+    if lacks_candidate(task, candidates) {
+        return true;
+    }
     if narrowing.refuse(task, candidates) {
         return true;
     }
@@ -287,6 +290,24 @@ fn is_refused(
     }
     choices.begin_search();
     is_loose(task.steps) && choices.refuse(task, candidates, &[])
+}
+
+// Whether a place has no candidate, in a molecule of at most 64 atoms.
+fn lacks_candidate(task: &Task, candidates: &Candidates) -> bool
+    requires ready { IsReadyTask task.now }
+    requires candidates { AreCandidates task.now candidates.now.words.items }
+    ensures { IsTrue result → ¬ Completes task.now [] }
+{
+    if task.mol.atoms().len() > 64 {
+        return false;
+    }
+    for place in 0..task.graph.atoms.len() {
+        let word = candidates.words[place];
+        if word == 0 {
+            return true;
+        }
+    }
+    false
 }
 
 // Whether a bond of the graph can lie at no bond. Of a few places that bonds join only rare bonds are asked for: the

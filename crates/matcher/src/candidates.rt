@@ -13,7 +13,7 @@ ghost use Rattle.matcher.specs.declared.candidates.TheConstants.{MOST_WORDS};
 use crate::fit::Task;
 use crate::planned::MOST_PLACES;
 use chem_core::{Atom, MOST_ATOMS, Mol};
-use smarts_mean::{MOST_PARTS, RecTable, atom_true};
+use smarts_mean::{MOST_PARTS, RecTable, prim_true};
 use smarts_parse::{AtomPrim, Expr};
 use std::alloc::{AllocError, Global};
 
@@ -222,15 +222,12 @@ fn symbol_truth(mol: &Mol, block: usize, within: u64, number: u8, lower: bool) -
     let atoms = mol.atoms();
     let mut word = 0;
     for bit in 0..atoms.len().saturating_sub(64 * block).min(64) {
-        if !has(within, bit as u16) {
-            continue;
-        }
         if !has_symbol(atoms[64 * block + bit], number, lower) {
             continue;
         }
         word |= 1 << bit;
     }
-    word
+    word & within
 }
 
 // The same of a number.
@@ -242,15 +239,12 @@ fn number_truth(mol: &Mol, block: usize, within: u64, number: u16) -> u64
     let atoms = mol.atoms();
     let mut word = 0;
     for bit in 0..atoms.len().saturating_sub(64 * block).min(64) {
-        if !has(within, bit as u16) {
-            continue;
-        }
         if !has_number(atoms[64 * block + bit], number) {
             continue;
         }
         word |= 1 << bit;
     }
-    word
+    word & within
 }
 
 // The same of any primitive.
@@ -259,31 +253,20 @@ fn asked_truth(prim: AtomPrim, mol: &Mol, table: &RecTable, block: usize, within
     requires block { block < 16 }
     ensures { IsTruth (HoldsIn table.now) mol.now (Prim prim) block within result }
 {
-    let mut word = 0;
-    for bit in 0..mol.atoms().len().saturating_sub(64 * block).min(64) {
-        if !has(within, bit as u16) {
+    let mut left = within & all_in(mol, block);
+    let mut word = left;
+    for _turn in 0..64u32 {
+        let bit = left.trailing_zeros();
+        if bit >= 64 {
+            return word;
+        }
+        left &= !(1 << bit);
+        if prim_true(prim, mol, (64 * block + bit as usize) as u16, table) {
             continue;
         }
-        if !prim_true(prim, mol, table, (64 * block + bit) as u16) {
-            continue;
-        }
-        word |= 1 << bit;
+        word &= !(1 << bit);
     }
     word
-}
-
-// Whether the primitive is true at the atom. What takes no question is answered at once.
-fn prim_true(prim: AtomPrim, mol: &Mol, table: &RecTable, atom: u16) -> bool
-    requires names { PrimNamesBelow MOST_PARTS prim }
-    requires atom { atom < length mol.now.atoms }
-    requires few { atom < MOST_ATOMS }
-    ensures { IsTrue result ↔ AtomTrue (HoldsIn table.now) (Prim prim) mol.now atom }
-{
-    match prim {
-        AtomPrim::Any => true,
-        AtomPrim::Rec(part) => table.get(part, atom),
-        _ => atom_true(&Expr::Prim(prim), mol, atom, table),
-    }
 }
 
 fn has_symbol(atom: Atom, number: u8, lower: bool) -> bool
@@ -298,8 +281,8 @@ fn has_number(atom: Atom, number: u16) -> bool
     u16::from(atom.number) == number
 }
 
-// Whether the word has the bit.
-fn has(word: u64, bit: u16) -> bool
+/// Whether the word has the bit.
+pub fn has(word: u64, bit: u16) -> bool
     requires { bit < 64 }
     ensures { IsTrue result ↔ bit_at word bit ≡ 1 }
 {

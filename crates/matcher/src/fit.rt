@@ -34,14 +34,14 @@ pub fn fits(task: &Task, front: &[u16], atom: u16) -> bool
     requires holds { IsTrueAt task.now (length front.now) atom }
     ensures { IsTrue result ↔ IsPlaced task.now (front.now ++ atom ∷ []) }
 {
-    let step = task.steps[front.len()];
-    let others = step.others(&task.graph.bonds);
     if !is_new(front, atom) {
         return false;
     }
     if !keeps_groups(task, front, front.len(), atom) {
         return false;
     }
+    let step = task.steps[front.len()];
+    let others = step.others(&task.graph.bonds);
     bonds_embed(others, task.mol, front, atom)
 }
 

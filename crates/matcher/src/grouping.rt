@@ -9,7 +9,7 @@ use crate::candidates::Candidates;
 use crate::fit::Task;
 use crate::group::{begins_group, lacks_room};
 use crate::hunt::may_continue;
-use crate::lay::{NO_BOND, NO_PLACEMENT, Placement};
+use crate::lay::{EVERY_BOND, NO_BOND, NO_PLACEMENT, Placement};
 use crate::plan::EarlierBonds;
 use crate::planned::MOST_PLACES;
 use smarts_parse::Pattern;
@@ -143,6 +143,7 @@ fn lay_in_turn(steps: &[EarlierBonds], stops: &mut [Placement]) {
         *stop = Placement {
             place: u16::try_from(place).unwrap_or(0),
             bond,
+            closing: EVERY_BOND,
         };
     }
 }

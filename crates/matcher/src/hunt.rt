@@ -10,7 +10,7 @@ ghost use Rattle.matcher.specs.Task.{Completes, IsPlaced, IsReadyTask};
 use crate::candidates::Candidates;
 use crate::fit::{Task, are_joined_by, first_embeds, fits, is_new};
 use crate::group::keeps_groups;
-use crate::lay::{NO_BOND, Placement};
+use crate::lay::{EVERY_BOND, NO_BOND, Placement};
 use smarts_mean::bond_true;
 use smarts_parse::PatBond;
 
@@ -167,30 +167,51 @@ fn may_take(task: &Task, image: &[u16], stop: Placement, atom: u16) -> bool
     stop.bond == NO_BOND || closes(task, image, stop, atom)
 }
 
-// Whether each bond of the place of a stop to one that is taken, but for the stop's own, may lie so.
+// Whether the bonds of the place of a stop to places that are taken, but for the stop's own, may lie so: each of them,
+// or the only one.
 fn closes(task: &Task, image: &[u16], stop: Placement, atom: u16) -> bool
     requires ready { IsReadyTask task.now }
     requires room { length task.now.graph.now.atoms.items ≤ length image.now }
     ensures { result ≡ false → (whole : List ℕ) → Continues task.now image.now whole
         → slice_index whole stop.place ≡ atom → ⊥ }
 {
+    if stop.closing == NO_BOND {
+        return true;
+    }
+    if stop.closing != EVERY_BOND {
+        return may_close(task, image, stop.place, stop.closing, atom);
+    }
     let count = task.graph.bonds.len().min(usize::from(u16::MAX)) as u16;
-    for place in 0..count {
-        if place == stop.bond {
+    for bond in 0..count {
+        if bond == stop.bond {
             continue;
         }
-        let own = Placement {
-            place: stop.place,
-            bond: place,
-        };
-        if let Some(from) = atom_before(task, image, own) {
-            let bond = &task.graph.bonds[usize::from(place)];
-            if !are_joined_by(&bond.expr, task.mol, from, atom) {
-                return false;
-            }
+        if !may_close(task, image, stop.place, bond, atom) {
+            return false;
         }
     }
     true
+}
+
+// Whether a bond, if it joins a place to one that is taken, may lie so with the place at an atom.
+fn may_close(task: &Task, image: &[u16], place: u16, bond: u16, atom: u16) -> bool
+    requires ready { IsReadyTask task.now }
+    requires room { length task.now.graph.now.atoms.items ≤ length image.now }
+    ensures { result ≡ false → (whole : List ℕ) → Continues task.now image.now whole
+        → slice_index whole place ≡ atom → ⊥ }
+{
+    let stop = Placement {
+        place,
+        bond,
+        closing: NO_BOND,
+    };
+    match atom_before(task, image, stop) {
+        Some(from) => {
+            let joining = &task.graph.bonds[usize::from(bond)];
+            are_joined_by(&joining.expr, task.mol, from, atom)
+        }
+        None => true,
+    }
 }
 
 // The atom at which the other end of the stop's bond stands, if it is taken.

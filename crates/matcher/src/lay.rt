@@ -12,15 +12,21 @@ use std::alloc::{AllocError, Global};
 pub struct Placement {
     pub place: u16,
     pub bond: u16,
+    /// The only other bond that does; `NO_BOND` where no other does, `EVERY_BOND` where several may.
+    pub closing: u16,
 }
 
 /// Stands for a bond that there is not.
 pub const NO_BOND: u16 = u16::MAX;
 
+/// Stands for each bond of the graph.
+pub const EVERY_BOND: u16 = u16::MAX - 1;
+
 /// No stop.
 pub const NO_PLACEMENT: Placement = Placement {
     place: 0,
     bond: NO_BOND,
+    closing: EVERY_BOND,
 };
 
 /// The order of a search in a graph of which bonds join all places, from one that few atoms can take. It is empty where
@@ -62,6 +68,7 @@ pub fn start_at(place: u16) -> Placement {
     Placement {
         place,
         bond: NO_BOND,
+        closing: EVERY_BOND,
     }
 }
 
@@ -75,7 +82,7 @@ fn lay_rare(graph: &Graph, steps: &[EarlierBonds], stops: &mut [Placement]) -> u
         return 0;
     }
     match rare_start(&graph.bonds, steps) {
-        Some(start) if start.place != 0 => lay(&graph.bonds, start, stops),
+        Some(start) if start.place != 0 => lay_noted(&graph.bonds, start, stops),
         _ => 0,
     }
 }
@@ -91,6 +98,7 @@ fn rare_start(bonds: &[PatBond], steps: &[EarlierBonds]) -> Option<Placement> {
             return Some(Placement {
                 place: bond.a,
                 bond: u16::try_from(place).ok()?,
+                closing: EVERY_BOND,
             });
         }
     }
@@ -124,6 +132,48 @@ fn is_written(bond: &PatBond) -> bool {
     match bond.expr {
         Expr::Prim(prim) => prim == BondPrim::Single || is_rare(bond),
         _ => false,
+    }
+}
+
+// Lays the places as `lay`, and notes of each stop by which other bonds it is joined to those before.
+fn lay_noted(bonds: &[PatBond], start: Placement, stops: &mut [Placement]) -> usize
+    ensures { result ≤ length stops.old }
+{
+    let count = lay(bonds, start, stops);
+    note_closing(bonds, stops, count);
+    count
+}
+
+// Notes the same of as many stops.
+fn note_closing(bonds: &[PatBond], stops: &mut [Placement], count: usize) {
+    let mut seen = 0;
+    for stop in stops.iter_mut().take(count) {
+        stop.closing = closing_bond(bonds, *stop, seen);
+        seen |= bit(stop.place);
+    }
+}
+
+// The bond, other than its own, that joins a stop to a place that is seen.
+fn closing_bond(bonds: &[PatBond], stop: Placement, seen: u64) -> u16 {
+    let mut found = NO_BOND;
+    for (place, bond) in bonds.iter().enumerate() {
+        if place == usize::from(stop.bond) || !leads_to(bond, stop.place, seen) {
+            continue;
+        }
+        if found != NO_BOND {
+            return EVERY_BOND;
+        }
+        found = u16::try_from(place).unwrap_or(EVERY_BOND);
+    }
+    found
+}
+
+// Whether a bond joins a place to one that is seen.
+fn leads_to(bond: &PatBond, place: u16, seen: u64) -> bool {
+    if bond.a == place {
+        seen & bit(bond.b) != 0
+    } else {
+        bond.b == place && seen & bit(bond.a) != 0
     }
 }
 
@@ -192,6 +242,7 @@ fn lay_next(bond: &PatBond, place: usize, stops: &mut [Placement], laid: Laid) -
     let stop = Placement {
         place: next,
         bond: u16::try_from(place).unwrap_or(NO_BOND),
+        closing: EVERY_BOND,
     };
     Laid {
         count: put(stops, laid.count, stop),

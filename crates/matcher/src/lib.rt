@@ -29,6 +29,7 @@ mod refusal;
 mod ring;
 mod scratch;
 mod search;
+mod second;
 mod wanted;
 
 pub use answer::{Embedding, first, has};

@@ -5,7 +5,7 @@ ghost use Rattle.std.specs.Prelude.{◌≡◌, ◌≢◌, ◌<◌, ◌≤◌, �
 ghost use Rattle.std.specs.Int.{bit_at};
 ghost use Rattle.smarts_parse.specs.Pattern.{graph_of};
 ghost use Rattle.matcher.specs.Candidates.{AreCandidates};
-ghost use Rattle.matcher.specs.Narrow.{AreNear, AreRingNear, HasAround, IsReach, around_at, more_around};
+ghost use Rattle.matcher.specs.Narrow.{AreNear, AreRingNear, HasAround, IsNarrowed, IsReach, around_at, more_around};
 ghost use Rattle.matcher.specs.Task.{Completes, IsReadyTask};
 
 use crate::candidates::{Candidates, MOST_WORDS};
@@ -62,6 +62,21 @@ struct Around {
 
 /// No places.
 const NONE_AROUND: Around = Around { count: 0, atoms: 0 };
+
+// What is left of a word by what is around.
+#[derive(Clone, Copy)]
+struct Narrowed {
+    from: u64,
+    around: Around,
+    kept: u64,
+}
+
+// Nothing of nothing.
+const NONE_NARROWED: Narrowed = Narrowed {
+    from: 0,
+    around: NONE_AROUND,
+    kept: 0,
+};
 
 impl Narrowing {
     /// Takes the memory.
@@ -228,13 +243,41 @@ fn narrow_all(
         return false;
     }
     gather(task, marks, near, words, around);
+    let mut last = NONE_NARROWED;
     for place in 0..task.graph.atoms.len() {
-        words[place] = with_neighbours(near, words[place], around[place]);
+        last = narrow_word(near, words[place], around[place], last);
+        words[place] = last.kept;
         if words[place] == 0 {
             return true;
         }
     }
     false
+}
+
+// What is left of a word by what is around, which often is as it was for the place before.
+fn narrow_word(near: &[u64], from: u64, around: Around, last: Narrowed) -> Narrowed
+    requires room { length near.now ≡ 64 }
+    requires last { IsNarrowed near.now last.from last.around.count last.around.atoms last.kept }
+    ensures kept { IsNarrowed near.now from around.count around.atoms result.kept }
+    ensures last { IsNarrowed near.now result.from result.around.count result.around.atoms result.kept }
+{
+    if is_again(last, from, around) {
+        return last;
+    }
+    Narrowed {
+        from,
+        around,
+        kept: with_neighbours(near, from, around),
+    }
+}
+
+// Whether the word and what is around are as before.
+fn is_again(last: Narrowed, from: u64, around: Around) -> bool
+    ensures from { IsTrue result → last.from ≡ from }
+    ensures count { IsTrue result → last.around.count ≡ around.count }
+    ensures atoms { IsTrue result → last.around.atoms ≡ around.atoms }
+{
+    last.from == from && last.around.count == around.count && last.around.atoms == around.atoms
 }
 
 // Finds for each place those to which marked bonds lead from it.

@@ -17,6 +17,7 @@ use crate::plan::EarlierBonds;
 use crate::prepare::Prepared;
 use crate::scratch::Memory;
 use crate::search::extend_at;
+use crate::second::with_second;
 use chem_core::Mol;
 use smarts_parse::{Graph, Pattern};
 
@@ -87,8 +88,15 @@ fn begins_in(
     if graph.atoms.len() == 1 {
         return all;
     }
-    let mut left = all;
-    let mut held = all;
+    let task = Task {
+        graph,
+        mol,
+        table: &memory.table,
+        steps,
+    };
+    let near = with_second(&task, &memory.candidates, block, all);
+    let mut left = near;
+    let mut held = near;
     for _turn in 0..64u32 {
         let bit = left.trailing_zeros();
         if bit >= 64 {

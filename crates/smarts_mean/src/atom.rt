@@ -1,6 +1,6 @@
 //! Whether an atom expression is true at an atom.
 ghost use Rattle.std.specs.Prelude.{◌≡◌, ◌<◌, ◌↔◌, Some, length, slice_get, IsTrue};
-ghost use Rattle.smarts_parse.specs.Pattern.{term_of};
+ghost use Rattle.smarts_parse.specs.Pattern.{Prim, term_of};
 ghost use Rattle.smarts_parse.specs.Sound.{NamesBelow, PrimNamesBelow};
 ghost use Rattle.smarts_parse.specs.Truth.{AtomPrimTrue, AtomTrue};
 ghost use Rattle.smarts_mean.specs.Table.{HoldsIn};
@@ -18,7 +18,7 @@ pub fn atom_true(expr: &Expr<AtomPrim>, mol: &Mol, atom: u16, table: &RecTable) 
     ensures { IsTrue result ↔ AtomTrue (HoldsIn table.now) (term_of expr.now) mol.now atom }
 {
     match expr {
-        Expr::Prim(prim) => prim_true(*prim, mol, atom, mol.atoms()[usize::from(atom)], table),
+        Expr::Prim(prim) => prim_true(*prim, mol, atom, table),
         Expr::Not(inner) => !atom_true(inner, mol, atom, table),
         Expr::And(left, right) => {
             atom_true(left, mol, atom, table) && atom_true(right, mol, atom, table)
@@ -29,8 +29,17 @@ pub fn atom_true(expr: &Expr<AtomPrim>, mol: &Mol, atom: u16, table: &RecTable) 
     }
 }
 
+/// The same of a primitive.
+pub fn prim_true(prim: AtomPrim, mol: &Mol, atom: u16, table: &RecTable) -> bool
+    requires in_range { atom < length mol.now.atoms }
+    requires named { PrimNamesBelow MOST_PARTS prim }
+    ensures { IsTrue result ↔ AtomTrue (HoldsIn table.now) (Prim prim) mol.now atom }
+{
+    is_true_at(prim, mol, atom, mol.atoms()[usize::from(atom)], table)
+}
+
 // Whether the primitive is true at the atom x, which stands at that place.
-fn prim_true(prim: AtomPrim, mol: &Mol, place: u16, x: Atom, table: &RecTable) -> bool
+fn is_true_at(prim: AtomPrim, mol: &Mol, place: u16, x: Atom, table: &RecTable) -> bool
     requires in_range { place < length mol.now.atoms }
     requires few { place < MOST_ATOMS }
     requires named { PrimNamesBelow MOST_PARTS prim }

@@ -9,7 +9,7 @@ mod bond;
 mod count;
 mod table;
 
-pub use atom::atom_true;
+pub use atom::{atom_true, prim_true};
 pub use bond::bond_true;
 pub use table::{MOST_PARTS, RecTable};
 

@@ -1,8 +1,8 @@
 use Rattle.smarts_mean.specs.Table.{HoldsIn}
 use Rattle.smarts_parse.specs.Pattern.{Prim}
-use Rattle.matcher.proofs.Truths.{IsBegun}
+use Rattle.matcher.proofs.HalfTruths.{IsHalfTruth}
 use Rattle.matcher.proofs.candidates.asked_truth.Given as goal
 
--- the bits so far are found
-abbrev pub invariant-loop-bit : goal.invariant-loop-bit
-invariant-loop-bit l = IsBegun (HoldsIn l.table) l.mol (Prim l.prim) l.block l.within l.bit l.word
+-- the atoms so far are asked
+abbrev pub invariant-loop-turn : goal.invariant-loop-turn
+invariant-loop-turn l = IsHalfTruth (HoldsIn l.table) l.mol (Prim l.prim) l.block l.within l._turn l.left l.word

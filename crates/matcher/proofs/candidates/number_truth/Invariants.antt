@@ -6,4 +6,4 @@ use Rattle.matcher.proofs.candidates.number_truth.Given as goal
 
 -- the bits so far are found
 abbrev pub invariant-loop-bit : goal.invariant-loop-bit
-invariant-loop-bit l = (t : Table) → IsBegun (HoldsIn t) l.mol (Prim (atoms.Number l.number)) l.block l.within l.bit l.word
+invariant-loop-bit l = (t : Table) → IsBegun (HoldsIn t) l.mol (Prim (atoms.Number l.number)) l.block l.bit l.word

@@ -6,5 +6,5 @@ use Rattle.matcher.proofs.candidates.symbol_truth.Given as goal
 
 -- the bits so far are found
 abbrev pub invariant-loop-bit : goal.invariant-loop-bit
-invariant-loop-bit l = (t : Table) → IsBegun (HoldsIn t) l.mol (Prim (atoms.Symbol l.number l.lower)) l.block l.within l.bit
+invariant-loop-bit l = (t : Table) → IsBegun (HoldsIn t) l.mol (Prim (atoms.Symbol l.number l.lower)) l.block l.bit
     l.word

@@ -1,14 +1,12 @@
--- One count of ring bonds is asked for, and one smallest ring.
-use Rattle.std.proofs.Common.{ap, ◌∙◌}
-use Rattle.smarts_parse.specs.declared.pattern.AtomPrim.TheVariants as atoms
+use Rattle.std.proofs.lemmas.Option.{slice_get-get_or}
 use Rattle.smarts_mean.specs.Table.{HoldsIn}
-use Rattle.smarts_mean.proofs.Truths.{ring_bonds_some}
+use Rattle.smarts_mean.proofs.Truths.{atom_prim}
 use Rattle.smarts_mean.proofs.atom.prim_true.Goals as goal
 
-pub returns-in-RingBonds-Some : goal.returns-in-RingBonds-Some
-returns-in-RingBonds-Some c =
-    let h = c.in-RingBonds-Some in
-    let number = rw h.is at h.field-0-is in
-    ring_bonds_some (HoldsIn c.args.table.now) c.args.prim c.args.mol.now c.args.place c.args.x h.n
-    c.ring_bond_count.result c.from-in-RingBonds-Some.result
-    (h.is ∙ ap atoms.RingBonds number) c.ring_bond_count.ensures c.from-in-RingBonds-Some.ensures
+pub returns : goal.returns
+returns c =
+    let m = c.args.mol.now in
+    let a = c.args.atom in
+    atom_prim (HoldsIn c.args.table.now) m a c.args.prim c.is_true_at.result _
+    (rw (c.atoms.ensures.value, c.from.ensures) (slice_get-get_or m.atoms a _ c.requires.in_range))
+    c.is_true_at.ensures

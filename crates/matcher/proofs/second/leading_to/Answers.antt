@@ -1,0 +1,62 @@
+use Rattle.std.proofs.Common.{◌≡◌, ap, arith, below_more, get_or, length, subst}
+use Rattle.std.specs.Int.{bit_at}
+use Rattle.std.proofs.lemmas.Bool.{iff_false}
+use Rattle.smarts_parse.specs.Pattern.{term_of}
+use Rattle.matcher.proofs.Narrowings.{ends_among}
+use Rattle.matcher.proofs.Refusals.{no_bond}
+use Rattle.matcher.proofs.Seconds.{before_all}
+use Rattle.matcher.proofs.second.leading_to.Goals as goal
+
+pub with_end-there-requires-clause-one : goal.with_end-there-requires-clause-one
+with_end-there-requires-clause-one c =
+    let h = (ends_among c.args.mol.now c.bonds-bonds.result.now c.from.result c.bonds-bonds.ensures.value
+    c.bonds-bonds.ensures.valid (omega (arith, c.from.ensures, c.loop-place-test.true))).0 in
+    omega arith
+
+pub with_end-there-requires-clause-other : goal.with_end-there-requires-clause-other
+with_end-there-requires-clause-other c =
+    let h = (ends_among c.args.mol.now c.bonds-bonds.result.now c.from.result c.bonds-bonds.ensures.value
+    c.bonds-bonds.ensures.valid (omega (arith, c.from.ensures, c.loop-place-test.true))).1 in
+    omega arith
+
+pub with_end-found-requires-clause-one : goal.with_end-found-requires-clause-one
+with_end-found-requires-clause-one c =
+    let h = (ends_among c.args.mol.now c.bonds-bonds.result.now c.from.result c.bonds-bonds.ensures.value
+    c.bonds-bonds.ensures.valid (omega (arith, c.from.ensures, c.loop-place-test.true))).1 in
+    omega arith
+
+pub with_end-found-requires-clause-other : goal.with_end-found-requires-clause-other
+with_end-found-requires-clause-other c =
+    let h = (ends_among c.args.mol.now c.bonds-bonds.result.now c.from.result c.bonds-bonds.ensures.value
+    c.bonds-bonds.ensures.valid (omega (arith, c.from.ensures, c.loop-place-test.true))).0 in
+    omega arith
+
+pub loop-place-preserved-then-not-bond_true : goal.loop-place-preserved-then-not-bond_true
+loop-place-preserved-then-not-bond_true c = below_more _ _ c.loop-place.invariant
+    (λ holds. absurd (iff_false c.bond_true.ensures c.if-not-bond_true.true holds))
+
+pub loop-place-preserved : goal.loop-place-preserved
+loop-place-preserved c =
+    let new = c.with_end-found.result in
+    let bonds = c.bonds-bonds.result.now in
+    below_more _ _
+    (λ k l holds. let old = c.loop-place.invariant k l holds in (
+      λ t. c.with_end-found.ensures.kept _ (c.with_end-there.ensures.kept _ (old.0 t)),
+      λ t. c.with_end-found.ensures.kept _ (c.with_end-there.ensures.kept _ (old.1 t)),
+    ))
+    (λ holds. subst
+    (λ i. (bit_at c.args.second (get_or bonds i no_bond).b ≡ 1 → bit_at new (get_or bonds i no_bond).a ≡ 1)
+    × (bit_at c.args.second (get_or bonds i no_bond).a ≡ 1 → bit_at new (get_or bonds i no_bond).b ≡ 1))
+    c.from.ensures
+    (λ t. c.with_end-found.ensures.kept _ (c.with_end-there.ensures.here t), λ t. c.with_end-found.ensures.here t))
+
+pub returns : goal.returns
+returns c =
+    let found = c.loop-place.found in
+    let second = c.args.second in
+    before_all (term_of c.args.bond.now.expr) c.args.mol.now second found
+    (λ k l holds. subst
+    (λ bs. (bit_at second (get_or bs k no_bond).b ≡ 1 → bit_at found (get_or bs k no_bond).a ≡ 1)
+    × (bit_at second (get_or bs k no_bond).a ≡ 1 → bit_at found (get_or bs k no_bond).b ≡ 1))
+    c.bonds-bonds.ensures.value
+    (c.loop-place.invariant k (omega (arith, l, ap length c.bonds-bonds.ensures.value, c.loop-place-test.false)) holds))

@@ -1,0 +1,76 @@
+//! Fewer atoms at which a search for a graph begins, in a molecule of at most 64 atoms: those from which the first bond
+//! of its second place may lead on.
+ghost use Rattle.std.specs.Prelude.{◌≡◌, ◌<◌, ◌≤◌, ◌+◌, ◌*◌, ◌∷◌, [], ℕ, length};
+ghost use Rattle.std.specs.Int.{bit_at};
+ghost use Rattle.chem_core.specs.Graph.{JoinsAt};
+ghost use Rattle.chem_core.specs.Molecule.{ends_of};
+ghost use Rattle.smarts_parse.specs.Pattern.{term_of};
+ghost use Rattle.smarts_parse.specs.Truth.{BondTrue};
+ghost use Rattle.matcher.specs.Candidates.{AreTruths};
+ghost use Rattle.matcher.specs.Task.{Completes, IsReadyTask};
+
+use crate::candidates::{Candidates, has};
+use crate::fit::Task;
+use chem_core::Mol;
+use smarts_mean::bond_true;
+use smarts_parse::PatBond;
+
+/// The most atoms of a molecule that is looked at.
+const MOST_BITS: usize = 64;
+
+/// From as many atoms on it pays.
+const MANY_ATOMS: u32 = 8;
+
+/// Those atoms of a word for a block, of candidates of the first place, from which the first bond of the second place
+/// may lead to a candidate of that one. Where it does not pay, all of them.
+pub fn with_second(task: &Task, candidates: &Candidates, block: usize, all: u64) -> u64
+    requires ready { IsReadyTask task.now }
+    requires some { 1 < length task.now.graph.now.atoms.items }
+    requires truths { AreTruths task.now candidates.now.words.items }
+    ensures within { (i : ℕ) → i < 64 → bit_at result i ≡ 1 → bit_at all i ≡ 1 }
+    ensures begins { (i : ℕ) → i < 64 → bit_at all i ≡ 1 → Completes task.now ((64 * block + i) ∷ [])
+        → bit_at result i ≡ 1 }
+{
+    if all.count_ones() < MANY_ATOMS || task.mol.atoms().len() > MOST_BITS {
+        return all;
+    }
+    let step = task.steps[1];
+    if step.from >= step.to {
+        return all;
+    }
+    let bond = &task.graph.bonds[step.from];
+    all & leading_to(bond, task.mol, candidates.words[1])
+}
+
+// The atoms that a bond, at which that of the graph is true, joins to one of a word.
+fn leading_to(bond: &PatBond, mol: &Mol, second: u64) -> u64
+    requires { length mol.now.atoms ≤ 64 }
+    ensures { (b x y : ℕ) → JoinsAt (ends_of mol.now) b x y → BondTrue (term_of bond.now.expr) mol.now b
+        → bit_at second y ≡ 1 → bit_at result x ≡ 1 }
+{
+    let bonds = mol.bonds();
+    let mut found = 0;
+    for place in 0..bonds.len() as u16 {
+        if !bond_true(&bond.expr, mol, place) {
+            continue;
+        }
+        let joined = bonds[usize::from(place)];
+        let there = with_end(found, second, joined.a, joined.b);
+        found = with_end(there, second, joined.b, joined.a);
+    }
+    found
+}
+
+// The atoms that are found, and one end of a bond if the other is in a word.
+fn with_end(found: u64, second: u64, one: u16, other: u16) -> u64
+    requires one { one < 64 }
+    requires other { other < 64 }
+    ensures here { bit_at second other ≡ 1 → bit_at result one ≡ 1 }
+    ensures kept { (i : ℕ) → bit_at found i ≡ 1 → bit_at result i ≡ 1 }
+{
+    if has(second, other) {
+        found | (1 << one)
+    } else {
+        found
+    }
+}
