@@ -1,0 +1,35 @@
+-- A watch over a commit.
+use Rattle.std.proofs.Common.{◌≡◌, ◌≢◌, ◌+◌, ap, ℕ}
+use Rattle.smarts_parse.specs.Pattern.{pattern_of}
+use Rattle.store_core.specs.Replies.{IsSoundChange}
+use Rattle.store_core.specs.declared.words.Change.{Change as Asked}
+use Rattle.store_machine.specs.Laws.{CommitsChange, SnapshotsStay}
+use Rattle.watch_list.specs.Notes.{IsListAfter, IsNoted}
+use Rattle.watch_list.specs.Watches.{Watch}
+use Rattle.watch_list.proofs.Right.{OneStructure, stays-right}
+
+-- one at another version
+pub left-alone : (version : ℕ) (change : Asked) (old new : Watch) → new ≡ old → old.version + 1 ≢ version
+    → IsNoted version change old new
+left-alone version change old new same other = record {
+  name = ap (λ (w : Watch). w.name) same;
+  pattern = ap (λ (w : Watch). w.pattern) same;
+  other = λ _. same;
+  moves = λ next. absurd (other next);
+  list = λ next. absurd (other next);
+  hits = λ next. absurd (other next);
+}
+
+-- one at the version before
+pub brought : OneStructure → SnapshotsStay → CommitsChange → (version : ℕ) (change : Asked) (old new : Watch)
+    → IsSoundChange change → old.version + 1 ≡ version → new.name ≡ old.name → new.pattern ≡ old.pattern
+    → new.version ≡ version → IsListAfter (pattern_of old.pattern) change old.hits new.hits
+    → IsNoted version change old new
+brought one stay make version change old new sound next name pattern at list = record {
+  name = name;
+  pattern = pattern;
+  other = λ other. absurd (other next);
+  moves = λ _. at;
+  list = λ _. list;
+  hits = λ _. stays-right one stay make version change old new sound next list;
+}

@@ -1,0 +1,3 @@
+pub mod Watches
+pub mod Notes
+pub mod Entries
