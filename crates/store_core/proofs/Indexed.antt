@@ -1,14 +1,13 @@
 -- An index of the entries that have a record: an entry more, one taken out, and the next that is wanted.
 use Rattle.std.proofs.Common.{◌≡◌, ◌≢◌, ◌+◌, ◌*◌, ◌++◌, ◌==◌, ◌&&◌, ◌<◌, ◌≤◌, ◌⊎◌, ◌∙◌, All, ap, arith, Bool, Bor, cond, Contains, eq-eqb, eqb-true, false, filter, get_or, inl, inr, length, List, [], ◌∷◌, MatchOption, nat_lt, None, not, Option, refl, Some, subst, sym, true, ℕ}
 use Rattle.std.proofs.lemmas.Bool.{cases_lt, cond-false, cond-true, ne_eqb, true≢false}
-use Rattle.std.proofs.lemmas.Bool.Decides.{nat_tests}
 use Rattle.std.proofs.lemmas.List.Elements.{All-contains, Contains-append_left, Contains-get_or, Contains-push, Contains-push_cases}
 use Rattle.std.proofs.lemmas.List.{get_or_default}
 use Rattle.chem_core.specs.Bits.{HasBit}
 use Rattle.std.proofs.lemmas.List.Kept.{AllPairs-filter}
 use Rattle.std.specs.Arc.{arc_value}
 use Rattle.std.specs.List.{AllPairs}
-use Rattle.record_versions.specs.Entries.{IsLatest, IsUpTo, chain_of, is_other}
+use Rattle.record_versions.specs.Entries.{IsLatest, chain_of, is_other}
 use Rattle.screen_index.specs.Pairs.{Holds, IsNext, IsWanted, Lacks, is_apart, put_in, rank, rank_of}
 use Rattle.screen_index.specs.declared.entry.Screened.{Screened}
 use Rattle.store_core.specs.Kept.{AreIndexed, Chains, HasPrint, IsNextId, Kept, kept_of, with_print}
@@ -302,18 +301,6 @@ apart-in-turn ps qs (x ∷ xs) =
 pub all-stay : (xs : List Screened) → filter (is_apart []) xs ≡ xs
 all-stay [] = refl
 all-stay (x ∷ xs) = ap (λ l. x ∷ l) (all-stay xs)
-
--- a later place has a greater rank
-pub rank-up : (from d : ℕ × ℕ) → IsUpTo from d → from.1 < 4294967296 → rank from.0 from.1 ≤ rank d.0 d.1
-rank-up from d up few =
-    elim (cases_lt from.0 d.0) [
-      | inl lt ↦ omega (arith, lt, few)
-      | inr ge ↦
-          let le = up.0 in
-          let same : from.0 ≡ d.0 = omega (arith, ge, le) in
-          let later = up.1 same in
-          omega (arith, ap (λ n. n * 4294967296) same, later)
-    ]
 
 -- an entry whose print holds what is wanted has a record
 record Has (want : List Bool) (o : Option Shared) : Type 0 where

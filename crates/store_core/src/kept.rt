@@ -1,9 +1,9 @@
 //! The kept entries of a store, and an index of the prints of those that have a record.
 ghost use Rattle.std.specs.Prelude.{◌≡◌, ◌==◌, ◌+◌, ◌^◌, ◌++◌, ◌<◌, ◌≤◌, ◌↔◌, ℕ, [], ◌∷◌, All, Contains, IfSome, List, OnOk, Option, Some, filter, if◌then◌else◌, length, option_copied, option_map};
 ghost use Rattle.std.specs.Arc.{arc_value};
-ghost use Rattle.record_versions.specs.Entries.{IsLatest, IsRead, chain_of, entries};
+ghost use Rattle.record_versions.specs.Entries.{IsLatest, IsRead, chain_of, entries, is_other};
 ghost use Rattle.store_machine.specs.declared.machine.Entry.{Entry};
-ghost use Rattle.store_core.specs.Kept.{AreIndexed, HasRoom, IsNextId, Kept, Lists, kept_of, with_print};
+ghost use Rattle.store_core.specs.Kept.{AreIndexed, HasEntry, HasRoom, IsNextId, Kept, Lists, kept_of, with_print};
 ghost use Rattle.store_core.specs.Records.{Shared};
 ghost use Rattle.screen_index.specs.Pairs.{Lacks, Rises, is_apart, rank};
 
@@ -162,11 +162,23 @@ fn prune(chains: &mut Chains<Option<Arc<Record>>>, index: &mut ScreenIndex, live
     let mut gone = Gone::new();
     let mut from = (0, 0);
     while let Some((id, version)) = chains.dead_from(from, live) {
-        let _entry = chains.take(id, version);
+        take(chains, id, version);
         from = place(id, version);
         leave(index, &mut gone, from);
     }
     index.drop_all(gone.as_slice());
+}
+
+// Takes an entry out of the chains.
+fn take(chains: &mut Chains<Option<Arc<Record>>>, id: u32, version: u32)
+    requires { HasEntry chains.old (record { id = id; version = version }) }
+    ensures chains { (q : ℕ) → chain_of chains.new q
+        ≡ (if q == id then filter (is_other version) (chain_of chains.old id) else chain_of chains.old q) }
+    ensures fewer { length (entries chains.new) + 1 ≡ length (entries chains.old) }
+{
+    let Some(_entry) = chains.take(id, version) else {
+        unreachable!()
+    };
 }
 
 // Of an entry: its identifier and version.
@@ -188,9 +200,11 @@ fn leave(index: &mut ScreenIndex, gone: &mut Gone, place: (u32, u32))
     ensures left { filter (is_apart gone.new.items) index.new.entries
         ≡ filter (is_apart (place ∷ [])) (filter (is_apart gone.old.items) index.old.entries) }
 {
-    if gone.is_full() {
-        index.drop_all(gone.as_slice());
-        gone.clear();
+    if !gone.is_full() {
+        gone.push(place);
+        return;
     }
+    index.drop_all(gone.as_slice());
+    gone.clear();
     gone.push(place);
 }
