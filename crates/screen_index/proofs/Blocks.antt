@@ -257,8 +257,8 @@ apart-behind ps bs i b up less is first others =
         (subst (λ l. ends_before r l ≡ false) is (others (suc k) d (omega arith) within))
 
 -- the first of some places, those that one block does not end before, take pairs out of that block alone
-pub drop-some : (ps : List (ℕ × ℕ)) (left : List (ℕ × ℕ)) (count i : ℕ) (bs : List (List Screened)) (b n : List Screened)
-    (d : ℕ × ℕ) → left ≡ drop 1 ps
+pub drop-some : (ps left : List (ℕ × ℕ)) (count i : ℕ) (bs : List (List Screened)) (b n : List Screened) (d : ℕ × ℕ)
+    → left ≡ drop 1 ps
     → AreBlocks bs → Rises ps → 0 < length ps → count ≤ length left → i < length bs → b ≡ get_or bs i b
     → All (λ x. rank_of x < rank (get_or ps 0 d).0 (get_or ps 0 d).1) (Before bs i)
     → All (λ x. rank (get_or ps 0 d).0 (get_or ps 0 d).1 < rank_of x) (joined (drop (i + 1) bs))
@@ -272,7 +272,8 @@ drop-some ps left count i bs b n d tail blocks up some fits less is before behin
     (apart-behind qs bs i b blocks.0 less is
     (λ e. subst (λ (p : ℕ × ℕ). All (λ x. rank p.0 p.1 < rank_of x) (Behind bs i))
     (get_or_default ps 0 d e some ∙ sym (at 0 e (omega arith)))
-    (subst (λ m. All (λ x. rank (get_or ps 0 d).0 (get_or ps 0 d).1 < rank_of x) (joined (drop m bs))) (add-one i) behind))
+    (subst (λ m. All (λ x. rank (get_or ps 0 d).0 (get_or ps 0 d).1 < rank_of x) (joined (drop m bs))) (add-one i)
+    behind))
     rest) new
   where
     qs : List (ℕ × ℕ)
@@ -306,7 +307,8 @@ pub drop-none : (ps : List (ℕ × ℕ)) (n : ℕ) (bs : List (List Screened)) (
 drop-none ps n bs d up all before =
     sym (ap (λ l. filter (is_apart l) (joined bs)) (take_all (length ps) ps (omega arith))
     ∙ apart-before ps (joined bs) d up
-    (subst (λ l. All (λ x. rank_of x < rank (get_or ps 0 d).0 (get_or ps 0 d).1) (joined l)) (take_all n bs all) before))
+    (subst (λ l. All (λ x. rank_of x < rank (get_or ps 0 d).0 (get_or ps 0 d).1) (joined l)) (take_all n bs all)
+    before))
 
 -- a block that was emptied goes
 pub removed-is : (bs : List (List Screened)) (i : ℕ) (n : List Screened) → remove (set bs i n) i ≡ remove bs i

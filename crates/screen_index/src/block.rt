@@ -117,7 +117,8 @@ impl Block {
     /// How many of the first of some places the last pair is not before.
     pub fn reach(&self, places: &[(u32, u32)]) -> usize
         ensures within { result ≤ length places.now }
-        ensures reached { AllWithin (λ p. ends_before (rank p.0 p.1) self.now ≡ false) places.now 0 result }
+        ensures reached { AllWithin (λ p. ends_before (rank p.0 p.1) self.now ≡ false)
+            places.now 0 result }
     {
         let mut count = 0;
         while count < places.len() && !self.ends_before(places[count]) {

@@ -143,7 +143,8 @@ fn put(blocks: &mut Vec<Block>, mut spare: Block, entry: Screened) -> Option<Blo
 fn drop_all(blocks: &mut Vec<Block>, places: &[(u32, u32)])
     requires blocks { AreBlocks blocks.old.items }
     requires rises { Rises places.now }
-    ensures entries { joined blocks.new.items ≡ filter (is_apart places.now) (joined blocks.old.items) }
+    ensures entries { joined blocks.new.items
+        ≡ filter (is_apart places.now) (joined blocks.old.items) }
     ensures blocks { AreBlocks blocks.new.items }
     ensures len { vec_len blocks.new ≤ vec_len blocks.old }
     ensures capacity { vec_capacity blocks.new ≡ vec_capacity blocks.old }

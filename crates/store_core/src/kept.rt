@@ -156,7 +156,8 @@ fn prune(chains: &mut Chains<Option<Arc<Record>>>, index: &mut ScreenIndex, live
     ensures indexed { AreIndexed chains.new index.new.entries }
     ensures left { (id : ℕ) (k : Kept) → Contains (chain_of chains.new id) k
         ↔ (Contains (chain_of chains.old id) k × IsRead live.now (chain_of chains.old id) k) }
-    ensures lists { (es : List Entry) → Lists es chains.old → (left : List Entry) × Lists left chains.new }
+    ensures lists { (es : List Entry) → Lists es chains.old
+        → (left : List Entry) × Lists left chains.new }
     ensures fewer { length (entries chains.new) ≤ length (entries chains.old) }
 {
     let mut gone = Gone::new();

@@ -14,7 +14,8 @@ loop-done-preserved c =
     let tail = to-the-end done ps in
     let entries = c.drop_first-done.ensures.entries
     ∙ ap (λ l. filter (is_apart (take more l)) now) tail in
-    let parts : take more left ++ drop (done + more) ps ≡ left = ap (λ l. take more left ++ l) (sym (drop-drop more done ps))
+    let parts : take more left ++ drop (done + more) ps ≡ left =
+    ap (λ l. take more left ++ l) (sym (drop-drop more done ps))
     ∙ take-append-drop more left in record {
       within =
           let size = length-drop done ps in

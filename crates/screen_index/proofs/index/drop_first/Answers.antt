@@ -31,7 +31,8 @@ returns-then-len-eq0-clause-entries c =
     omega (arith, ne, c.block_of-index.ensures.within, c.args.blocks.now.ok.0, c.len.ensures) in
     let b = c.index_mut-block.result.now in
     let new = c.drop_all.new.self in
-    let taken = drop-some ps _ c.reach-count.result i bs b new (0, 0) (to-the-end 1 ps) c.requires.blocks c.requires.rises c.requires.some
+    let taken = drop-some ps _ c.reach-count.result i bs b new (0, 0) (to-the-end 1 ps) c.requires.blocks
+    c.requires.rises c.requires.some
     c.reach-count.ensures.within less c.index_mut-block.ensures.value c.block_of-index.ensures.before
     c.block_of-index.ensures.behind c.reach-count.ensures.reached c.drop_all.ensures in
     let none : new ≡ [] = nil_from_length new (let e = c.if-len-eq0.true in omega (arith, e, c.len-2.ensures.len)) in
@@ -46,7 +47,8 @@ returns-then-len-eq0-clause-blocks c =
     omega (arith, ne, c.block_of-index.ensures.within, c.args.blocks.now.ok.0, c.len.ensures) in
     let b = c.index_mut-block.result.now in
     let new = c.drop_all.new.self in
-    let taken = drop-some ps _ c.reach-count.result i bs b new (0, 0) (to-the-end 1 ps) c.requires.blocks c.requires.rises c.requires.some
+    let taken = drop-some ps _ c.reach-count.result i bs b new (0, 0) (to-the-end 1 ps) c.requires.blocks
+    c.requires.rises c.requires.some
     c.reach-count.ensures.within less c.index_mut-block.ensures.value c.block_of-index.ensures.before
     c.block_of-index.ensures.behind c.reach-count.ensures.reached c.drop_all.ensures in
     let none : new ≡ [] = nil_from_length new (let e = c.if-len-eq0.true in omega (arith, e, c.len-2.ensures.len)) in
@@ -66,7 +68,8 @@ join_next-requires-clause-blocks c =
     omega (arith, ne, c.block_of-index.ensures.within, c.args.blocks.now.ok.0, c.len.ensures) in
     let b = c.index_mut-block.result.now in
     let new = c.drop_all.new.self in
-    let taken = drop-some ps _ c.reach-count.result i bs b new (0, 0) (to-the-end 1 ps) c.requires.blocks c.requires.rises c.requires.some
+    let taken = drop-some ps _ c.reach-count.result i bs b new (0, 0) (to-the-end 1 ps) c.requires.blocks
+    c.requires.rises c.requires.some
     c.reach-count.ensures.within less c.index_mut-block.ensures.value c.block_of-index.ensures.before
     c.block_of-index.ensures.behind c.reach-count.ensures.reached c.drop_all.ensures in
     let entries = joined-set bs i new less ∙ taken in (
@@ -84,7 +87,8 @@ returns-then-index-gt0-clause-entries c =
     omega (arith, ne, c.block_of-index.ensures.within, c.args.blocks.now.ok.0, c.len.ensures) in
     let b = c.index_mut-block.result.now in
     let new = c.drop_all.new.self in
-    let taken = drop-some ps _ c.reach-count.result i bs b new (0, 0) (to-the-end 1 ps) c.requires.blocks c.requires.rises c.requires.some
+    let taken = drop-some ps _ c.reach-count.result i bs b new (0, 0) (to-the-end 1 ps) c.requires.blocks
+    c.requires.rises c.requires.some
     c.reach-count.ensures.within less c.index_mut-block.ensures.value c.block_of-index.ensures.before
     c.block_of-index.ensures.behind c.reach-count.ensures.reached c.drop_all.ensures in
     c.join_next-then-index-gt0.ensures.entries ∙ (c.join_next.ensures.entries ∙ (joined-set bs i new less ∙ taken))
@@ -98,7 +102,8 @@ returns-else-index-gt0-clause-entries c =
     omega (arith, ne, c.block_of-index.ensures.within, c.args.blocks.now.ok.0, c.len.ensures) in
     let b = c.index_mut-block.result.now in
     let new = c.drop_all.new.self in
-    let taken = drop-some ps _ c.reach-count.result i bs b new (0, 0) (to-the-end 1 ps) c.requires.blocks c.requires.rises c.requires.some
+    let taken = drop-some ps _ c.reach-count.result i bs b new (0, 0) (to-the-end 1 ps) c.requires.blocks
+    c.requires.rises c.requires.some
     c.reach-count.ensures.within less c.index_mut-block.ensures.value c.block_of-index.ensures.before
     c.block_of-index.ensures.behind c.reach-count.ensures.reached c.drop_all.ensures in
     c.join_next.ensures.entries ∙ (joined-set bs i new less ∙ taken)
