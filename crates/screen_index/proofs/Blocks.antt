@@ -3,12 +3,12 @@ use Rattle.std.proofs.Common.{◌≡◌, ◌≢◌, ◌+◌, ◌-◌, ◌<◌, �
 use Rattle.std.proofs.lemmas.Bool.{cases_lt}
 use Rattle.std.proofs.lemmas.List.Concat.{flat_map-append}
 use Rattle.std.proofs.lemmas.List.{append-nil, drop-set-lt, drop_all, get_or-drop, get_or-take, get_or_append_left, get_or_default, length-append, length-drop, length-take-le, take-set, take_all, take_more}
-use Rattle.std.proofs.lemmas.List.Elements.{All-append, All-cons, All-contains, All-drop, All-nil, All-set, All-take, Contains-append_cases, Contains-append_left, Contains-append_right, filter-append}
+use Rattle.std.proofs.lemmas.List.Elements.{All-append, All-cons, All-contains, All-drop, All-nil, All-set, All-take, Contains-append_left, Contains-append_right, filter-append}
 use Rattle.std.specs.List.{AllWithin, insert, remove}
 use Rattle.std.specs.List.Sorted.{IsPartitionedBy}
 use Rattle.screen_index.specs.declared.entry.Screened.{Screened}
-use Rattle.screen_index.specs.Pairs.{AreBlocks, Ascend, HasPlace, Lacks, ends_before, is_other, joined, put_in, rank_of}
-use Rattle.screen_index.proofs.Places.{all-before, all-stay, apart, ascend-left, ascend-right, before-all, not-before, put-before, put-behind}
+use Rattle.screen_index.specs.Pairs.{AreBlocks, Ascend, Lacks, Rises, ends_before, is_apart, joined, put_in, rank, rank_of}
+use Rattle.screen_index.proofs.Places.{all-apart, all-before, apart, ascend-left, ascend-right, before-all, not-before, put-before, put-behind, rises-take}
 
 -- what is before a block, and what is behind it
 abbrev pub Before : List (List Screened) → ℕ → List Screened
@@ -194,44 +194,121 @@ blocks-removed bs i all =
     let P : List Screened → Type 0 = λ b. 0 < length b in
     All-append P (take i bs) (drop (suc i) bs) (All-take P i bs all) (All-drop P (suc i) bs all)
 
--- the block that has the pair of a place
-pub block-has : (r n : ℕ) (bs : List (List Screened)) → n ≤ length bs → All (λ x. rank_of x < r) (Before bs n)
-    → HasPlace r (joined bs) → n < length bs
-block-has r n bs fits before (x, member, is) =
-    elim (cases_lt n (length bs)) [
-      | inl lt ↦ lt
-      | inr ge ↦
-          let all : All (λ y. rank_of y < r) (joined bs) = subst (λ l. All (λ y. rank_of y < r) (joined l))
-          (take_all n bs ge) before in
-          let h = All-contains (λ y. rank_of y < r) (joined bs) x all member in
-          absurd (omega (arith, h, is))
-    ]
-
-pub pair-there : (r : ℕ) (bs : List (List Screened)) (i : ℕ) (b : List Screened) → IsPlace r bs i → b ≡ get_or bs i b
-    → HasPlace r (joined bs) → HasPlace r b
-pair-there r bs i b at same (x, member, is) =
-    elim (Contains-append_cases (Before bs i) (get_or bs i b ++ Behind bs i) x
-    (subst (λ l. Contains l x) (joined-at bs i b at.less) member)) [
-      | inl first ↦
-          let h = All-contains (λ y. rank_of y < r) (Before bs i) x at.before first in absurd (omega (arith, h, is))
-      | inr rest ↦ elim (Contains-append_cases (get_or bs i b) (Behind bs i) x rest) [
-        | inl here ↦ (x, subst (λ l. Contains l x) (sym same) here, is)
-        | inr last ↦
-            let h = All-contains (λ y. r < rank_of y) (Behind bs i) x at.behind last in absurd (omega (arith, h, is))
-      ]
-    ]
-
-pub take-one : (r : ℕ) (bs : List (List Screened)) (i : ℕ) (b n : List Screened) → IsPlace r bs i → b ≡ get_or bs i b
-    → n ≡ filter (is_other r) b → Before bs i ++ (n ++ Behind bs i) ≡ filter (is_other r) (joined bs)
-take-one r bs i b n at is new =
+-- what some places take out of a block that they fall into
+pub take-some : (ps : List (ℕ × ℕ)) (bs : List (List Screened)) (i : ℕ) (b n : List Screened) → i < length bs
+    → b ≡ get_or bs i b → filter (is_apart ps) (Before bs i) ≡ Before bs i
+    → filter (is_apart ps) (Behind bs i) ≡ Behind bs i → n ≡ filter (is_apart ps) b
+    → Before bs i ++ (n ++ Behind bs i) ≡ filter (is_apart ps) (joined bs)
+take-some ps bs i b n less is before behind new =
     ap (λ l. Before bs i ++ (l ++ Behind bs i)) new
-    ∙ sym (ap (filter (is_other r)) (joined-at bs i b at.less ∙ ap (λ l. Before bs i ++ (l ++ Behind bs i)) (sym is))
-    ∙ (filter-append (is_other r) (Before bs i) (b ++ Behind bs i)
-    ∙ ap₂ (λ k l. k ++ l)
-    (all-stay r (Before bs i) (λ k d less e. let h = at.before k d less in absurd (omega (arith, h, e))))
-    (filter-append (is_other r) b (Behind bs i)
-    ∙ ap (λ l. filter (is_other r) b ++ l)
-    (all-stay r (Behind bs i) (λ k d less e. let h = at.behind k d less in absurd (omega (arith, h, e)))))))
+    ∙ sym (ap (filter (is_apart ps)) (joined-at bs i b less ∙ ap (λ l. Before bs i ++ (l ++ Behind bs i)) (sym is))
+    ∙ (filter-append (is_apart ps) (Before bs i) (b ++ Behind bs i)
+    ∙ ap₂ (λ k l. k ++ l) before
+    (filter-append (is_apart ps) b (Behind bs i) ∙ ap (λ l. filter (is_apart ps) b ++ l) behind)))
+
+-- the pairs before a block are apart from places that come after them
+pub apart-before : (ps : List (ℕ × ℕ)) (xs : List Screened) (d : ℕ × ℕ) → Rises ps
+    → All (λ x. rank_of x < rank (get_or ps 0 d).0 (get_or ps 0 d).1) xs → filter (is_apart ps) xs ≡ xs
+apart-before ps xs d up before =
+    all-apart ps xs (λ k e less i x within same.
+    let h = before i x within in
+    let le = rises k e less in
+    omega (arith, h, le, same))
+  where
+    rises : (k : ℕ) (e : ℕ × ℕ) → k < length ps
+        → rank (get_or ps 0 d).0 (get_or ps 0 d).1 ≤ rank (get_or ps k e).0 (get_or ps k e).1
+    rises zero e less =
+        omega (arith, ap (λ (p : ℕ × ℕ). rank p.0 p.1) (get_or_default ps 0 d e less))
+    rises (suc k) e less =
+        let h = up 0 (suc k) e (omega arith) less in
+        omega (arith, h, ap (λ (p : ℕ × ℕ). rank p.0 p.1) (get_or_default ps 0 d e (omega (arith, less))))
+
+-- and those behind it from places that it does not end before
+pub behind-block : (r i : ℕ) (bs : List (List Screened)) (d : List Screened) → Ascend 0 (joined bs) → i < length bs
+    → ends_before r (get_or bs i d) ≡ false → All (λ x. r < rank_of x) (Behind bs i)
+behind-block r i bs d up less ends =
+    all-joined (λ x. r < rank_of x) (drop (suc i) bs) (λ k e inside.
+    let size = length-drop (suc i) bs in
+    let within : suc i + k < length bs = omega (arith, inside, size) in
+    let last = not-before r (get_or bs i d) ends in
+    subst (All (λ x. r < rank_of x)) (sym (get_or-drop (suc i) bs k e)) (λ j x less-j.
+    let b = get_or bs (suc i + k) e in
+    let same : get_or bs (suc i + k) d ≡ b = get_or_default bs (suc i + k) d e within in
+    let h = across bs i (suc i + k) d last.0 (get_or b j x) up (omega arith) within last.1
+    (subst (λ l. Contains l (get_or b j x)) (sym same)
+    (j, less-j, get_or_default b j (get_or b j x) x less-j)) in
+    let l = last.2 in
+    omega (arith, h, l)))
+
+pub apart-behind : (ps : List (ℕ × ℕ)) (bs : List (List Screened)) (i : ℕ) (b : List Screened) → Ascend 0 (joined bs)
+    → i < length bs → b ≡ get_or bs i b
+    → ((d : ℕ × ℕ) → All (λ x. rank (get_or ps 0 d).0 (get_or ps 0 d).1 < rank_of x) (Behind bs i))
+    → AllWithin (λ p. ends_before (rank p.0 p.1) b ≡ false) ps 1 (length ps)
+    → filter (is_apart ps) (Behind bs i) ≡ Behind bs i
+apart-behind ps bs i b up less is first others =
+    all-apart ps (Behind bs i) (λ k d within j x inside e. let h = above k d within j x inside in omega (arith, h, e))
+  where
+    above : (k : ℕ) (d : ℕ × ℕ) → k < length ps
+        → All (λ x. rank (get_or ps k d).0 (get_or ps k d).1 < rank_of x) (Behind bs i)
+    above zero d within = first d
+    above (suc k) d within =
+        let r = rank (get_or ps (suc k) d).0 (get_or ps (suc k) d).1 in
+        behind-block r i bs b up less
+        (subst (λ l. ends_before r l ≡ false) is (others (suc k) d (omega arith) within))
+
+-- the first of some places, those that one block does not end before, take pairs out of that block alone
+pub drop-some : (ps left : List (ℕ × ℕ)) (count i : ℕ) (bs : List (List Screened)) (b n : List Screened) (d : ℕ × ℕ)
+    → left ≡ drop 1 ps
+    → AreBlocks bs → Rises ps → 0 < length ps → count ≤ length left → i < length bs → b ≡ get_or bs i b
+    → All (λ x. rank_of x < rank (get_or ps 0 d).0 (get_or ps 0 d).1) (Before bs i)
+    → All (λ x. rank (get_or ps 0 d).0 (get_or ps 0 d).1 < rank_of x) (joined (drop (i + 1) bs))
+    → AllWithin (λ p. ends_before (rank p.0 p.1) b ≡ false) left 0 count
+    → n ≡ filter (is_apart (take (1 + count) ps)) b
+    → Before bs i ++ (n ++ Behind bs i) ≡ filter (is_apart (take (1 + count) ps)) (joined bs)
+drop-some ps left count i bs b n d tail blocks up some fits less is before behind others new =
+    take-some qs bs i b n less is
+    (apart-before qs (Before bs i) d rises
+    (subst (λ (p : ℕ × ℕ). All (λ x. rank_of x < rank p.0 p.1) (Before bs i)) (sym (at 0 d (omega arith))) before))
+    (apart-behind qs bs i b blocks.0 less is
+    (λ e. subst (λ (p : ℕ × ℕ). All (λ x. rank p.0 p.1 < rank_of x) (Behind bs i))
+    (get_or_default ps 0 d e some ∙ sym (at 0 e (omega arith)))
+    (subst (λ m. All (λ x. rank (get_or ps 0 d).0 (get_or ps 0 d).1 < rank_of x) (joined (drop m bs))) (add-one i)
+    behind))
+    rest) new
+  where
+    qs : List (ℕ × ℕ)
+    qs = take (1 + count) ps
+
+    within : 1 + count ≤ length ps
+    within = let size = length-drop 1 ps in omega (arith, fits, size, some, ap (λ l. length l) tail)
+
+    size : length qs ≡ 1 + count
+    size = length-take-le (1 + count) ps within
+
+    rises : Rises qs
+    rises = rises-take (1 + count) ps within up
+
+    at : (k : ℕ) (e : ℕ × ℕ) → k < 1 + count → get_or qs k e ≡ get_or ps k e
+    at k e low = get_or-take (1 + count) ps k e low
+
+    rest : AllWithin (λ p. ends_before (rank p.0 p.1) b ≡ false) qs 1 (length qs)
+    rest zero e low high = absurd (omega (arith, low))
+    rest (suc k) e low high =
+        let one : 1 + k ≡ suc k = omega arith in
+        subst (λ (p : ℕ × ℕ). ends_before (rank p.0 p.1) b ≡ false)
+        (ap (λ l. get_or l k e) tail
+        ∙ (get_or-drop 1 ps k e ∙ (ap (λ m. get_or ps m e) one ∙ sym (at (suc k) e (omega (arith, high, size))))))
+        (others k e (omega arith) (omega (arith, high, size)))
+
+-- places behind all blocks take nothing out
+pub drop-none : (ps : List (ℕ × ℕ)) (n : ℕ) (bs : List (List Screened)) (d : ℕ × ℕ) → Rises ps → length bs ≤ n
+    → All (λ x. rank_of x < rank (get_or ps 0 d).0 (get_or ps 0 d).1) (Before bs n)
+    → joined bs ≡ filter (is_apart (take (length ps) ps)) (joined bs)
+drop-none ps n bs d up all before =
+    sym (ap (λ l. filter (is_apart l) (joined bs)) (take_all (length ps) ps (omega arith))
+    ∙ apart-before ps (joined bs) d up
+    (subst (λ l. All (λ x. rank_of x < rank (get_or ps 0 d).0 (get_or ps 0 d).1) (joined l)) (take_all n bs all)
+    before))
 
 -- a block that was emptied goes
 pub removed-is : (bs : List (List Screened)) (i : ℕ) (n : List Screened) → remove (set bs i n) i ≡ remove bs i

@@ -1,14 +1,14 @@
 -- Pairs in ascending order: one put in, one taken out, and parts of them.
-use Rattle.std.proofs.Common.{◌≡◌, ◌≢◌, ◌==◌, ◌+◌, ◌<◌, ◌≤◌, ◌++◌, ◌∙◌, All, ap, arith, Bool, cond, Contains, eq-eqb, false, filter, get_or, inl, inr, length, List, [], ◌∷◌, nat_lt, not, refl, suc, sym, true, zero, ℕ}
+use Rattle.std.proofs.Common.{◌≡◌, ◌≢◌, ◌==◌, ◌&&◌, ◌+◌, ◌-◌, ◌<◌, ◌≤◌, ◌++◌, ◌∙◌, All, ap, arith, Bool, cond, Contains, drop, eq-eqb, false, filter, get_or, inl, inr, length, List, [], ◌∷◌, nat_lt, not, refl, suc, sym, take, true, zero, ℕ}
 use Rattle.std.proofs.lemmas.Bool.{cases_lt, ne_eqb, true≢false}
 use Rattle.std.proofs.lemmas.Bool.Decides.{nat_tests}
-use Rattle.std.proofs.lemmas.List.{get_or_default}
+use Rattle.std.proofs.lemmas.List.{get_or-drop, get_or-take, get_or_default, length-drop, length-take-le, take_all}
 use Rattle.std.proofs.lemmas.List.Elements.{All-tail}
 use Rattle.std.proofs.lemmas.List.Sorted.{IsPartitionedBy-ltb}
-use Rattle.std.specs.List.{AllPairs, AllWithin, insert, remove}
+use Rattle.std.specs.List.{AllPairs, AllWithin, insert}
 use Rattle.std.specs.List.Sorted.{IsNonDecreasingBy, IsPartitionedBy}
 use Rattle.screen_index.specs.declared.entry.Screened.{Screened}
-use Rattle.screen_index.specs.Pairs.{Ascend, Lacks, ends_before, is_other, put_in, rank_of}
+use Rattle.screen_index.specs.Pairs.{Ascend, Lacks, Rises, ends_before, is_apart, put_in, rank, rank_of}
 
 pub weaken : (a b : ℕ) (xs : List Screened) → a ≤ b → Ascend b xs → Ascend a xs
 weaken a b [] le up = tt
@@ -145,57 +145,153 @@ put-some x (y ∷ ys) = go (nat_lt (rank_of x) (rank_of y))
     go true = omega arith
     go false = omega arith
 
--- where no pair stands at a place all stay
-pub all-stay : (r : ℕ) (xs : List Screened) → Lacks r xs → filter (is_other r) xs ≡ xs
-all-stay r [] lacks = refl
-all-stay r (x ∷ xs) lacks =
-    let f : (rank_of x == r) ≡ false = ne_eqb (rank_of x) r (lacks 0 x (omega arith)) in
-    ap (λ b. cond (not b) (x ∷ filter (is_other r) xs) (filter (is_other r) xs)) f
-    ∙ ap (λ l. x ∷ l) (all-stay r xs (All-tail (λ z. rank_of z ≢ r) x xs lacks))
+-- a pair that is at none of some places, and one that is at one of them
+pub apart-all : (ps : List (ℕ × ℕ)) (x : Screened) → All (λ p. rank_of x ≢ rank p.0 p.1) ps → is_apart ps x ≡ true
+apart-all [] x all = refl
+apart-all (p ∷ ps) x all =
+    let f : (rank_of x == rank p.0 p.1) ≡ false = ne_eqb (rank_of x) (rank p.0 p.1) (all 0 p (omega arith)) in
+    ap (λ b. not b && is_apart ps x) f
+    ∙ apart-all ps x (All-tail (λ (q : ℕ × ℕ). rank_of x ≢ rank q.0 q.1) p ps all)
 
-pub one-removed : (r i : ℕ) (xs : List Screened) (d : Screened) → i < length xs
-    → AllPairs (λ x y. rank_of x < rank_of y) xs → rank_of (get_or xs i d) ≡ r → remove xs i ≡ filter (is_other r) xs
-one-removed r i [] d less up e = absurd (omega (arith, less))
-one-removed r zero (x ∷ xs) d less up e =
-    let t : (rank_of x == r) ≡ true = eq-eqb (rank_of x) r e in
-    sym (ap (λ b. cond (not b) (x ∷ filter (is_other r) xs) (filter (is_other r) xs)) t
-    ∙ all-stay r xs (λ j b within f. let h = up 0 (suc j) b (omega arith) (omega (arith, within)) in
-    absurd (omega (arith, h, e, f))))
-one-removed r (suc i) (x ∷ xs) d less up e =
-    let first = up 0 (suc i) d (omega arith) less in
-    let f : (rank_of x == r) ≡ false = ne_eqb (rank_of x) r (λ t. absurd (omega (arith, first, e, t))) in
-    ap (λ l. x ∷ l) (one-removed r i xs d (omega (arith, less))
-    (λ a b y lt within. up (suc a) (suc b) y (omega (arith, lt)) (omega (arith, within))) e)
-    ∙ sym (ap (λ b. cond (not b) (x ∷ filter (is_other r) xs) (filter (is_other r) xs)) f)
+and-false : (b : Bool) → (b && false) ≡ false
+and-false true = refl
+and-false false = refl
 
-pub others-ascend : (r low : ℕ) (xs : List Screened) → Ascend low xs → Ascend low (filter (is_other r) xs)
-others-ascend r low [] up = tt
-others-ascend r low (x ∷ xs) up = go (others-ascend r (rank_of x + 1) xs up.1) (is_other r x)
+pub apart-none : (ps : List (ℕ × ℕ)) (x : Screened) (i : ℕ) (d : ℕ × ℕ) → i < length ps
+    → rank_of x ≡ rank (get_or ps i d).0 (get_or ps i d).1 → is_apart ps x ≡ false
+apart-none [] x i d less is = absurd (omega (arith, less))
+apart-none (p ∷ ps) x zero d less is =
+    ap (λ b. not b && is_apart ps x) (eq-eqb (rank_of x) (rank p.0 p.1) is)
+apart-none (p ∷ ps) x (suc i) d less is =
+    ap (λ b. not (rank_of x == rank p.0 p.1) && b) (apart-none ps x i d (omega (arith, less)) is)
+    ∙ and-false (not (rank_of x == rank p.0 p.1))
+
+-- all places behind some are those behind
+pub to-the-end : (n : ℕ) (ps : List (ℕ × ℕ)) → take (length ps - n) (drop n ps) ≡ drop n ps
+to-the-end n ps = take_all (length ps - n) (drop n ps) (let size = length-drop n ps in omega (arith, size))
+
+-- some of the first places, and the others
+pub rises-take : (n : ℕ) (ps : List (ℕ × ℕ)) → n ≤ length ps → Rises ps → Rises (take n ps)
+rises-take n ps fits up i j d less within =
+    let size = length-take-le n ps fits in
+    let h = up i j d less (omega (arith, within, size, fits)) in
+    omega (
+      arith,
+      h,
+      ap (λ (p : ℕ × ℕ). rank p.0 p.1) (get_or-take n ps i d (omega (arith, less, within, size))),
+      ap (λ (p : ℕ × ℕ). rank p.0 p.1) (get_or-take n ps j d (omega (arith, within, size))),
+    )
+
+pub rises-drop : (n : ℕ) (ps : List (ℕ × ℕ)) → Rises ps → Rises (drop n ps)
+rises-drop n ps up i j d less within =
+    let size = length-drop n ps in
+    let h = up (n + i) (n + j) d (omega (arith, less)) (omega (arith, within, size)) in
+    omega (
+      arith,
+      h,
+      ap (λ (p : ℕ × ℕ). rank p.0 p.1) (get_or-drop n ps i d),
+      ap (λ (p : ℕ × ℕ). rank p.0 p.1) (get_or-drop n ps j d),
+    )
+
+-- the places before one stand before those that are not
+pub places-parted : (r : ℕ) (ps : List (ℕ × ℕ)) → Rises ps
+    → IsPartitionedBy (λ (p : ℕ × ℕ). nat_lt (rank p.0 p.1) r) ps
+places-parted r ps up = IsPartitionedBy-ltb (λ (p : ℕ × ℕ). rank p.0 p.1) ps r rises
   where
-    go : Ascend (rank_of x + 1) (filter (is_other r) xs) → (b : Bool)
-        → Ascend low (cond b (x ∷ filter (is_other r) xs) (filter (is_other r) xs))
-    go more true = (up.0, more)
-    go more false = weaken low (rank_of x + 1) (filter (is_other r) xs) (let h = up.0 in omega (arith, h)) more
+    rises : IsNonDecreasingBy (λ (p : ℕ × ℕ). rank p.0 p.1) ps
+    rises i j d le less =
+        elim (cases_lt i j) [
+          | inl lt ↦ up i j d lt less
+          | inr ge ↦
+              let same : i ≡ j = omega (arith, le, ge) in
+              omega (arith, ap (λ n. rank (get_or ps n d).0 (get_or ps n d).1) same)
+        ]
 
--- the pair of a place is the first that is not before it
-pub place-is : (r i : ℕ) (xs : List Screened) (x d : Screened) → Contains xs x → rank_of x ≡ r
-    → AllWithin (λ y. rank_of y < r) xs 0 i → AllWithin (λ y. r ≤ rank_of y) xs i (length xs)
-    → AllPairs (λ y z. rank_of y < rank_of z) xs → (i < length xs) × (rank_of (get_or xs i d) ≡ r)
-place-is r i xs x d member is before behind up =
-    let at : rank_of (get_or xs member.0 x) ≡ r = ap rank_of member.2 ∙ is in
-    elim (cases_lt member.0 i) [
-      | inl lt ↦ let h = before member.0 x (omega arith) lt in absurd (omega (arith, h, at))
-      | inr ge ↦ elim (cases_lt i member.0) [
+-- a pair behind the places that are before it
+pub apart-at : (ps : List (ℕ × ℕ)) (x : Screened) (n : ℕ) → n ≤ length ps → Rises ps
+    → AllWithin (λ p. rank p.0 p.1 < rank_of x) ps 0 n
+    → ((d : ℕ × ℕ) → n < length ps → rank_of x < rank (get_or ps n d).0 (get_or ps n d).1) → is_apart ps x ≡ true
+apart-at ps x n fits up before next =
+    apart-all ps x (λ k d less e. elim (cases_lt k n) [
+      | inl lt ↦ let h = before k d (omega arith) lt in absurd (omega (arith, h, e))
+      | inr ge ↦ elim (cases_lt n k) [
         | inl gt ↦
-            let h = up i member.0 x gt member.1 in
-            let l = behind i x (omega arith) (let m = member.1 in omega (arith, gt, m)) in
-            absurd (omega (arith, h, l, at))
+            let h = next d (omega (arith, gt, less)) in
+            let l = up n k d gt less in
+            absurd (omega (arith, h, l, e))
         | inr le ↦
-            let same : member.0 ≡ i = omega (arith, ge, le) in
-            let less : i < length xs = let m = member.1 in omega (arith, same, m) in
-            (less, ap rank_of (get_or_default xs i d x less) ∙ (ap (λ n. rank_of (get_or xs n x)) (sym same) ∙ at))
+            let same : k ≡ n = omega (arith, ge, le) in
+            let h = next d (omega (arith, same, less)) in
+            absurd (omega (arith, h, e, ap (λ m. rank (get_or ps m d).0 (get_or ps m d).1) same))
       ]
-    ]
+    ])
+
+-- the place that is not before a pair decides
+pub apart-decided : (ps : List (ℕ × ℕ)) (x : Screened) (n : ℕ) (b : Bool) (d : ℕ × ℕ) → n < length ps → Rises ps
+    → AllWithin (λ p. rank p.0 p.1 < rank_of x) ps 0 n
+    → ((e : ℕ × ℕ) → nat_lt (rank (get_or ps n e).0 (get_or ps n e).1) (rank_of x) ≡ false)
+    → b ≡ nat_lt (rank_of x) (rank (get_or ps n d).0 (get_or ps n d).1) → b ≡ is_apart ps x
+apart-decided ps x n true d less up before late is =
+    sym (apart-at ps x n (omega (arith, less)) up before (λ e within.
+    let h : rank_of x < rank (get_or ps n d).0 (get_or ps n d).1 = grind (arith, nat_tests, is) in
+    omega (arith, h, ap (λ (p : ℕ × ℕ). rank p.0 p.1) (get_or_default ps n d e less))))
+apart-decided ps x n false d less up before late is =
+    let f = late d in
+    sym (apart-none ps x n d less (grind (arith, nat_tests, is, f)))
+
+-- pairs of which each is apart
+pub all-apart : (ps : List (ℕ × ℕ)) (xs : List Screened)
+    → ((k : ℕ) (d : ℕ × ℕ) → k < length ps → All (λ x. rank_of x ≢ rank (get_or ps k d).0 (get_or ps k d).1) xs)
+    → filter (is_apart ps) xs ≡ xs
+all-apart ps [] all = refl
+all-apart ps (x ∷ xs) all =
+    let t : is_apart ps x ≡ true = apart-all ps x (λ k d less. all k d less 0 x (omega arith)) in
+    ap (λ (b : Bool). cond b (x ∷ filter (is_apart ps) xs) (filter (is_apart ps) xs)) t
+    ∙ ap (λ l. x ∷ l) (all-apart ps xs
+    (λ k d less. All-tail (λ y. rank_of y ≢ rank (get_or ps k d).0 (get_or ps k d).1) x xs (all k d less)))
+
+pub some-ascend : (p : Screened → Bool) (low : ℕ) (xs : List Screened) → Ascend low xs → Ascend low (filter p xs)
+some-ascend p low [] up = tt
+some-ascend p low (x ∷ xs) up = go (some-ascend p (rank_of x + 1) xs up.1) (p x)
+  where
+    go : Ascend (rank_of x + 1) (filter p xs) → (b : Bool) → Ascend low (cond b (x ∷ filter p xs) (filter p xs))
+    go more true = (up.0, more)
+    go more false = weaken low (rank_of x + 1) (filter p xs) (let h = up.0 in omega (arith, h)) more
+
+-- no place takes a pair out
+pub none-apart : (xs : List Screened) → filter (is_apart []) xs ≡ xs
+none-apart [] = refl
+none-apart (x ∷ xs) = ap (λ l. x ∷ l) (none-apart xs)
+
+-- first some places, then the others
+apart-both : (ps qs : List (ℕ × ℕ)) (x : Screened) → is_apart (ps ++ qs) x ≡ (is_apart ps x && is_apart qs x)
+apart-both [] qs x = refl
+apart-both (p ∷ ps) qs x = go (not (rank_of x == rank p.0 p.1)) (apart-both ps qs x)
+  where
+    go : (b : Bool) → is_apart (ps ++ qs) x ≡ (is_apart ps x && is_apart qs x)
+        → (b && is_apart (ps ++ qs) x) ≡ ((b && is_apart ps x) && is_apart qs x)
+    go true e = e
+    go false e = refl
+
+pub apart-in-turn : (ps qs : List (ℕ × ℕ)) (xs : List Screened)
+    → filter (is_apart qs) (filter (is_apart ps) xs) ≡ filter (is_apart (ps ++ qs)) xs
+apart-in-turn ps qs [] = refl
+apart-in-turn ps qs (x ∷ xs) =
+    go (is_apart ps x) (is_apart qs x) refl (apart-in-turn ps qs xs)
+    ∙ sym (ap (λ (b : Bool). cond b (x ∷ filter (is_apart (ps ++ qs)) xs) (filter (is_apart (ps ++ qs)) xs))
+    (apart-both ps qs x))
+  where
+    two : List Screened
+    two = filter (is_apart qs) (filter (is_apart ps) xs)
+
+    both : List Screened
+    both = filter (is_apart (ps ++ qs)) xs
+
+    go : (a b : Bool) → is_apart qs x ≡ b → two ≡ both
+        → filter (is_apart qs) (cond a (x ∷ filter (is_apart ps) xs) (filter (is_apart ps) xs))
+        ≡ cond (a && b) (x ∷ both) both
+    go false b is e = e
+    go true b is e = ap (λ (t : Bool). cond t (x ∷ two) two) is ∙ ap (λ l. cond b (x ∷ l) l) e
 
 -- parts of pairs in ascending order
 pub ascend-left : (r : ℕ) (xs ys : List Screened) → Ascend r (xs ++ ys) → Ascend r xs

@@ -1,5 +1,5 @@
 -- For callers: pairs of an identifier and a version in ascending order, each with its print.
-use Rattle.std.specs.Prelude.{◌≡◌, ◌≢◌, ◌==◌, ◌+◌, ◌*◌, ◌<◌, ◌≤◌, All, Bool, Contains, length, List, [], ◌∷◌, None, Option, Some, if◌then◌else◌, nat_lt, not, true, ℕ}
+use Rattle.std.specs.Prelude.{◌≡◌, ◌≢◌, ◌==◌, ◌&&◌, ◌+◌, ◌*◌, ◌<◌, ◌≤◌, All, AllPairs, Bool, Contains, length, List, [], ◌∷◌, None, Option, Some, if◌then◌else◌, nat_lt, not, true, ℕ}
 use Rattle.std.specs.List.{flat_map}
 use Rattle.chem_core.specs.Bits.{HasBit}
 use Rattle.screen_index.specs.declared.entry.Screened.{Screened}
@@ -16,21 +16,23 @@ abbrev pub Ascend : ℕ → List Screened → Type 0
 Ascend r [] = Unit {0}
 Ascend r (x ∷ xs) = (r ≤ rank_of x) × Ascend (rank_of x + 1) xs
 
--- no pair stands at a place, or some pair does
+-- no pair stands at a place
 abbrev pub Lacks : ℕ → List Screened → Type 0
 Lacks r xs = All (λ x. rank_of x ≢ r) xs
-
-abbrev pub HasPlace : ℕ → List Screened → Type 0
-HasPlace r xs = (x : Screened) × Contains xs x × (rank_of x ≡ r)
 
 -- a pair put in before the first that comes after it
 abbrev pub put_in : Screened → List Screened → List Screened
 put_in x [] = x ∷ []
 put_in x (y ∷ ys) = if nat_lt (rank_of x) (rank_of y) then x ∷ y ∷ ys else y ∷ put_in x ys
 
--- it stands at another place
-abbrev pub is_other : ℕ → Screened → Bool
-is_other r x = not (rank_of x == r)
+-- places in ascending order
+abbrev pub Rises : List (ℕ × ℕ) → Type 0
+Rises ps = AllPairs (λ p q. rank p.0 p.1 ≤ rank q.0 q.1) ps
+
+-- it stands at none of these places
+abbrev pub is_apart : List (ℕ × ℕ) → Screened → Bool
+is_apart [] x = true
+is_apart (p ∷ ps) x = not (rank_of x == rank p.0 p.1) && is_apart ps x
 
 -- a print has each bit of another
 abbrev pub Holds : List Bool → List Bool → Type 0

@@ -1,8 +1,8 @@
 //! A run of pairs in ascending order, with a union of their prints.
-ghost use Rattle.std.specs.Prelude.{◌≡◌, ◌≢◌, ◌+◌, ◌++◌, ◌<◌, ◌≤◌, [], ◌∷◌, All, Contains, IfOk, filter, length, vec_capacity};
+ghost use Rattle.std.specs.Prelude.{◌≡◌, ◌+◌, ◌++◌, ◌<◌, ◌≤◌, [], All, IfOk, false, filter, length, vec_capacity};
 ghost use Rattle.std.specs.List.{AllWithin};
 ghost use Rattle.screen_index.specs.declared.entry.Screened.{Screened};
-ghost use Rattle.screen_index.specs.Pairs.{Ascend, HasPlace, IsNext, Lacks, ends_before, is_other, put_in, rank, rank_of};
+ghost use Rattle.screen_index.specs.Pairs.{Ascend, IsNext, Lacks, Rises, ends_before, is_apart, put_in, rank, rank_of};
 
 use crate::entry::Screened;
 use crate::union::union_of;
@@ -106,14 +106,25 @@ impl Block {
         }
     }
 
-    /// Takes the pair of a place out.
-    pub fn remove(&mut self, place: (u32, u32))
-        requires ascending { Ascend 0 self.old }
-        requires there { HasPlace (rank place.0 place.1) self.old }
-        ensures { self.new ≡ filter (is_other (rank place.0 place.1)) self.old }
+    /// Takes the pairs of some places out.
+    pub fn drop_all(&mut self, places: &[(u32, u32)])
+        requires { Rises places.now }
+        ensures { self.new ≡ filter (is_apart places.now) self.old }
     {
-        let index = self.count_before(place);
-        let _entry = self.entries.remove(index);
+        drop_places(&mut self.entries, places);
+    }
+
+    /// How many of the first of some places the last pair is not before.
+    pub fn reach(&self, places: &[(u32, u32)]) -> usize
+        ensures within { result ≤ length places.now }
+        ensures reached { AllWithin (λ p. ends_before (rank p.0 p.1) self.now ≡ false)
+            places.now 0 result }
+    {
+        let mut count = 0;
+        while count < places.len() && !self.ends_before(places[count]) {
+            count += 1;
+        }
+        count
     }
 
     /// The least pair from a place on whose print holds what is wanted.
@@ -191,4 +202,14 @@ fn split_point(before: usize, len: usize) -> usize
     } else {
         ROOM / 2
     }
+}
+
+// Takes the pairs of some places out of pairs.
+fn drop_places(entries: &mut Vec<Screened>, places: &[(u32, u32)])
+    requires { Rises places.now }
+    ensures entries { entries.new.items ≡ filter (is_apart places.now) entries.old.items }
+    ensures fewer { length entries.new.items ≤ length entries.old.items }
+    ensures capacity { vec_capacity entries.new ≡ vec_capacity entries.old }
+{
+    entries.retain(|entry| entry.is_apart(places));
 }

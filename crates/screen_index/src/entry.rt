@@ -1,6 +1,6 @@
 //! A pair of an identifier and a version, with its print.
 ghost use Rattle.std.specs.Prelude.{◌≡◌, nat_lt};
-ghost use Rattle.screen_index.specs.Pairs.{rank, rank_of};
+ghost use Rattle.screen_index.specs.Pairs.{Rises, is_apart, rank, rank_of};
 
 use chem_core::Print;
 
@@ -21,4 +21,21 @@ impl Screened {
         let (id, other) = place;
         own < id || own == id && version < other
     }
+
+    /// Whether it stands at none of some places.
+    pub fn is_apart(&self, places: &[(u32, u32)]) -> bool
+        requires { Rises places.now }
+        ensures { result ≡ is_apart places.now self.now }
+    {
+        let own = (self.id, self.version);
+        let place = places.partition_point(|place| is_before(*place, own));
+        place == places.len() || is_before(own, places[place])
+    }
+}
+
+// Whether a place is before another.
+fn is_before(place: (u32, u32), other: (u32, u32)) -> bool
+    ensures { result ≡ nat_lt (rank place.0 place.1) (rank other.0 other.1) }
+{
+    place.0 < other.0 || place.0 == other.0 && place.1 < other.1
 }

@@ -1,7 +1,7 @@
 //! The blocks of an index, and where a pair goes among them.
-ghost use Rattle.std.specs.Prelude.{◌≡◌, ◌+◌, ◌<◌, ◌≤◌, [], All, Contains, IfSome, None, OnErr, OnOk, Some, drop, filter, length, take, vec_capacity, vec_len};
+ghost use Rattle.std.specs.Prelude.{◌≡◌, ◌+◌, ◌<◌, ◌≤◌, [], All, IfSome, None, OnErr, OnOk, Some, drop, filter, length, take, vec_capacity, vec_len};
 ghost use Rattle.screen_index.specs.declared.entry.Screened.{Screened};
-ghost use Rattle.screen_index.specs.Pairs.{AreBlocks, Ascend, HasPlace, IsNext, Lacks, is_other, joined, put_in, rank, rank_of};
+ghost use Rattle.screen_index.specs.Pairs.{AreBlocks, Ascend, IsNext, Lacks, Rises, is_apart, joined, put_in, rank, rank_of};
 
 use crate::block::{Block, ROOM};
 use crate::entry::Screened;
@@ -74,13 +74,13 @@ impl ScreenIndex {
         self.spare = put(&mut self.blocks, spare, Screened { id, version, print });
     }
 
-    /// Takes out a pair that is there with this print. It takes no memory.
-    pub fn drop_entry(&mut self, id: u32, version: u32, print: &Print)
-        requires { Contains self.old.entries (record { id = id; version = version; print = print.now }) }
-        ensures entries { self.new.entries ≡ filter (is_other (rank id version)) self.old.entries }
+    /// Takes out the pairs of some places, which ascend. It takes no memory.
+    pub fn drop_all(&mut self, places: &[(u32, u32)])
+        requires { Rises places.now }
+        ensures entries { self.new.entries ≡ filter (is_apart places.now) self.old.entries }
         ensures reserved { self.new.reserved ≡ self.old.reserved }
     {
-        take_out(&mut self.blocks, (id, version));
+        drop_all(&mut self.blocks, places);
     }
 
     /// The least pair from a place on whose print holds what is wanted. `None` exactly where there is none. It takes no
@@ -139,27 +139,52 @@ fn put(blocks: &mut Vec<Block>, mut spare: Block, entry: Screened) -> Option<Blo
     None
 }
 
-// Takes the pair of a place out. A block that has few pairs left goes into the one before it or behind it.
-fn take_out(blocks: &mut Vec<Block>, place: (u32, u32))
+// Takes out the pairs of some places, which ascend.
+fn drop_all(blocks: &mut Vec<Block>, places: &[(u32, u32)])
     requires blocks { AreBlocks blocks.old.items }
-    requires there { HasPlace (rank place.0 place.1) (joined blocks.old.items) }
+    requires rises { Rises places.now }
     ensures entries { joined blocks.new.items
-        ≡ filter (is_other (rank place.0 place.1)) (joined blocks.old.items) }
+        ≡ filter (is_apart places.now) (joined blocks.old.items) }
     ensures blocks { AreBlocks blocks.new.items }
     ensures len { vec_len blocks.new ≤ vec_len blocks.old }
     ensures capacity { vec_capacity blocks.new ≡ vec_capacity blocks.old }
 {
-    let index = block_of(blocks, place);
+    let mut done = 0;
+    while done < places.len() {
+        done += drop_first(blocks, &places[done..]);
+    }
+}
+
+// Takes out the pairs of the first of some places, those that fall into one block, and returns how many places these
+// are. A block that has few pairs left goes into the one before it or behind it.
+fn drop_first(blocks: &mut Vec<Block>, places: &[(u32, u32)]) -> usize
+    requires blocks { AreBlocks blocks.old.items }
+    requires rises { Rises places.now }
+    requires some { 0 < length places.now }
+    ensures some { 0 < result }
+    ensures within { result ≤ length places.now }
+    ensures entries { joined blocks.new.items
+        ≡ filter (is_apart (take result places.now)) (joined blocks.old.items) }
+    ensures blocks { AreBlocks blocks.new.items }
+    ensures len { vec_len blocks.new ≤ vec_len blocks.old }
+    ensures capacity { vec_capacity blocks.new ≡ vec_capacity blocks.old }
+{
+    let index = block_of(blocks, places[0]);
+    if index == blocks.len() {
+        return places.len();
+    }
     let block = &mut blocks[index];
-    block.remove(place);
+    let count = 1 + block.reach(&places[1..]);
+    block.drop_all(&places[..count]);
     if block.len() == 0 {
         let _empty = blocks.remove(index);
-        return;
+        return count;
     }
     join_next(blocks, index);
     if index > 0 {
         join_next(blocks, index - 1);
     }
+    count
 }
 
 // Moves the pairs of the next block into this one, where both together fill half a block at most.

@@ -37,7 +37,7 @@ fn the_next_pair_is_the_least_whose_print_holds(rt: HostRuntime) -> Result<(), F
     for (want, from, next) in rows {
         assert_eq!(rt; index.next(&want, from), next);
     }
-    index.drop_entry(5, 2, &second);
+    index.drop_all(&[(4, 9), (5, 2), (6, 1)]);
     assert_eq!(rt; index.next(&print_of(1, 1), (5, 2)), None);
     assert_eq!(rt; index.next(&print_of(1, 1), (0, 0)), Some((5, 1)));
     Ok(())

@@ -219,6 +219,15 @@ pub record Pruning (live : List ℕ) (from : ℕ × ℕ) (old now : Chains) : Ty
   pub count : length (entries now) ≤ length (entries old)
   pub lists : (es : List Entry) → Lists es old → (left : List Entry) × Lists left now
 
+pub pruning-begins : (live : List ℕ) (old : Chains) → Pruning live (0, 0) old old
+pruning-begins live old = record {
+  fewer = λ id k c. c;
+  reads = λ id k. ((λ r. r), (λ r. r));
+  passed = λ p dead. (omega arith, λ e. omega arith);
+  count = omega arith;
+  lists = λ es l. (es, l);
+}
+
 module _ (live : List ℕ) (from d : ℕ × ℕ) (old now next : Chains) (p : Pruning live from old now)
     (least : IsLeastDead live from now (Some d)) (takes : Takes now next d.0 d.1)
     (one : length (entries next) + 1 ≡ length (entries now)) where

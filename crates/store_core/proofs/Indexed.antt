@@ -1,7 +1,6 @@
 -- An index of the entries that have a record: an entry more, one taken out, and the next that is wanted.
-use Rattle.std.proofs.Common.{◌≡◌, ◌≢◌, ◌+◌, ◌*◌, ◌++◌, ◌==◌, ◌<◌, ◌≤◌, ◌⊎◌, ◌∙◌, All, ap, arith, Bool, Bor, cond, Contains, eq-eqb, eqb-true, false, filter, get_or, inl, inr, length, List, [], ◌∷◌, MatchOption, nat_lt, None, Option, refl, Some, subst, sym, true, ℕ}
-use Rattle.std.proofs.lemmas.Bool.{cases_lt, cond-false, cond-true}
-use Rattle.std.proofs.lemmas.Bool.Decides.{nat_tests}
+use Rattle.std.proofs.Common.{◌≡◌, ◌≢◌, ◌+◌, ◌*◌, ◌++◌, ◌==◌, ◌&&◌, ◌<◌, ◌≤◌, ◌⊎◌, ◌∙◌, All, ap, arith, Bool, Bor, cond, Contains, eq-eqb, eqb-true, false, filter, get_or, inl, inr, length, List, [], ◌∷◌, MatchOption, nat_lt, None, not, Option, refl, Some, subst, sym, true, ℕ}
+use Rattle.std.proofs.lemmas.Bool.{cases_lt, cond-false, cond-true, ne_eqb, true≢false}
 use Rattle.std.proofs.lemmas.List.Elements.{All-contains, Contains-append_left, Contains-get_or, Contains-push, Contains-push_cases}
 use Rattle.std.proofs.lemmas.List.{get_or_default}
 use Rattle.chem_core.specs.Bits.{HasBit}
@@ -9,9 +8,9 @@ use Rattle.std.proofs.lemmas.List.Kept.{AllPairs-filter}
 use Rattle.std.specs.Arc.{arc_value}
 use Rattle.std.specs.List.{AllPairs}
 use Rattle.record_versions.specs.Entries.{IsLatest, chain_of, is_other}
-use Rattle.screen_index.specs.Pairs.{Holds, IsNext, IsWanted, Lacks, is_other as other_place, put_in, rank, rank_of}
+use Rattle.screen_index.specs.Pairs.{Holds, IsNext, IsWanted, Lacks, is_apart, put_in, rank, rank_of}
 use Rattle.screen_index.specs.declared.entry.Screened.{Screened}
-use Rattle.store_core.specs.Kept.{AreIndexed, Chains, HasPrint, IsNextId, Kept, kept_of, with_print, without_print}
+use Rattle.store_core.specs.Kept.{AreIndexed, Chains, HasPrint, IsNextId, Kept, kept_of, with_print}
 use Rattle.store_core.specs.Records.{Shared}
 use Rattle.store_core.proofs.Dead.{Takes, taken-has, taken-in, which}
 use Rattle.store_machine.proofs.Members.{contains-here, contains-split, contains-there}
@@ -239,69 +238,69 @@ module _ (now next : Chains) (id version : ℕ) (takes : Takes now next id versi
         | inr e ↦ subst (AllPairs (λ (x y : Kept). x.version < y.version)) (sym e.1) (up q)
       ]
 
-  -- it has no record
-  indexed-without : (xs : List Screened) → Contains (chain_of now id) (record { version = version; value = None })
-      → AreIndexed now xs → AreIndexed next xs
-  indexed-without xs there h = record {
-    ascending = falls h.ascending;
-    versions = h.versions;
-    only = λ x c.
-        let r = h.only x c in (
-          r.0,
-          r.1,
-          taken-in now next id version takes x.id (record { version = x.version; value = Some r.0 }) r.2
-              (λ same v. none-some (ap (λ (k : Kept). k.value)
-              (one-version (chain_of now id) (record { version = version; value = None })
-              (record { version = x.version; value = Some r.0 }) (h.ascending id) there
-              (subst (λ q. Contains (chain_of now q) (record { version = x.version; value = Some r.0 })) same r.2)
-              (sym v)))),
-        );
-    all = λ q v r c. h.all q v r (taken-has now next id version takes q (record { version = v; value = Some r }) c).0;
-  }
-    where
-      none-some : {r : Shared} → None ≡ Some r → ⊥
-      none-some e = cc e
+  not-place : (x : Screened) → is_apart ((id, version) ∷ []) x ≡ true → rank_of x ≢ rank id version
+  not-place x t e = true≢false (sym t ∙ ap (λ b. not b && true) (eq-eqb (rank_of x) (rank id version) e))
 
-  -- it has one, whose print is taken out of the index
-  indexed-taken : (xs : List Screened) (s : Shared)
-      → Contains (chain_of now id) (record { version = version; value = Some s }) → AreIndexed now xs
-      → AreIndexed next (filter (other_place (rank id version)) xs)
-  indexed-taken xs s there h = record {
-    ascending = falls h.ascending;
-    versions = λ x c. h.versions x (filtered-has (other_place (rank id version)) xs x c).0;
-    only = λ x c.
-        let f = filtered-has (other_place (rank id version)) xs x c in
-        let r = h.only x f.0 in (
-          r.0,
-          r.1,
-          taken-in now next id version takes x.id (record { version = x.version; value = Some r.0 }) r.2
-              (λ same v. not-place x f.1
-              (omega (arith, ap (λ n. n * 4294967296) same, v))),
-        );
-    all = λ q v r c.
-        let t = taken-has now next id version takes q (record { version = v; value = Some r }) c in
-        let there-too = h.all q v r t.0 in
-        filtered-in (other_place (rank id version)) xs (record { id = q; version = v; print = (arc_value r).print })
-        there-too
-        (is-place (record { id = q; version = v; print = (arc_value r).print })
-        (λ e. t.1 (same-id q id v version (h.versions _ there-too) few e)
-        (same-version q id v version (h.versions _ there-too) few e)));
-  }
-    where
-      few : version < 4294967296
-      few = h.versions (record { id = id; version = version; print = (arc_value s).print }) (h.all id version s there)
+  is-place : (x : Screened) → rank_of x ≢ rank id version → is_apart ((id, version) ∷ []) x ≡ true
+  is-place x n = ap (λ b. not b && true) (ne_eqb (rank_of x) (rank id version) n)
 
-      not-place : (x : Screened) → other_place (rank id version) x ≡ true → rank_of x ≢ rank id version
-      not-place x t = grind (arith, nat_tests, t)
+  -- its print is taken out of the index, where there is one
+  pub indexed-fewer : (xs : List Screened) → version < 4294967296 → AreIndexed now xs
+      → AreIndexed next (filter (is_apart ((id, version) ∷ [])) xs)
+  indexed-fewer xs few h =
+      let apart = is_apart ((id, version) ∷ []) in record {
+        ascending = falls h.ascending;
+        versions = λ x c. h.versions x (filtered-has apart xs x c).0;
+        only = λ x c.
+            let f = filtered-has apart xs x c in
+            let r = h.only x f.0 in (
+              r.0,
+              r.1,
+              taken-in now next id version takes x.id (record { version = x.version; value = Some r.0 }) r.2
+                  (λ same v. not-place x f.1 (omega (arith, ap (λ n. n * 4294967296) same, v))),
+            );
+        all = λ q v r c.
+            let t = taken-has now next id version takes q (record { version = v; value = Some r }) c in
+            let there-too = h.all q v r t.0 in
+            filtered-in apart xs (record { id = q; version = v; print = (arc_value r).print }) there-too
+            (is-place (record { id = q; version = v; print = (arc_value r).print })
+            (λ e. t.1 (same-id q id v version (h.versions _ there-too) few e)
+            (same-version q id v version (h.versions _ there-too) few e)));
+      }
 
-      is-place : (x : Screened) → rank_of x ≢ rank id version → other_place (rank id version) x ≡ true
-      is-place x n = grind (arith, nat_tests, n)
+-- the places of an index that are taken out in turn
+apart-both : (ps qs : List (ℕ × ℕ)) (x : Screened) → is_apart (ps ++ qs) x ≡ (is_apart ps x && is_apart qs x)
+apart-both [] qs x = refl
+apart-both (p ∷ ps) qs x = go (not (rank_of x == rank p.0 p.1)) (apart-both ps qs x)
+  where
+    go : (b : Bool) → is_apart (ps ++ qs) x ≡ (is_apart ps x && is_apart qs x)
+        → (b && is_apart (ps ++ qs) x) ≡ ((b && is_apart ps x) && is_apart qs x)
+    go true e = e
+    go false e = refl
 
-  pub indexed-fewer : (xs : List Screened) (entry : Option Shared)
-      → Contains (chain_of now id) (record { version = version; value = entry }) → AreIndexed now xs
-      → AreIndexed next (without_print id version entry xs)
-  indexed-fewer xs None there h = indexed-without xs there h
-  indexed-fewer xs (Some s) there h = indexed-taken xs s there h
+pub apart-in-turn : (ps qs : List (ℕ × ℕ)) (xs : List Screened)
+    → filter (is_apart qs) (filter (is_apart ps) xs) ≡ filter (is_apart (ps ++ qs)) xs
+apart-in-turn ps qs [] = refl
+apart-in-turn ps qs (x ∷ xs) =
+    go (is_apart ps x) (is_apart qs x) refl (apart-in-turn ps qs xs)
+    ∙ sym (ap (λ (b : Bool). cond b (x ∷ filter (is_apart (ps ++ qs)) xs) (filter (is_apart (ps ++ qs)) xs))
+    (apart-both ps qs x))
+  where
+    two : List Screened
+    two = filter (is_apart qs) (filter (is_apart ps) xs)
+
+    both : List Screened
+    both = filter (is_apart (ps ++ qs)) xs
+
+    go : (a b : Bool) → is_apart qs x ≡ b → two ≡ both
+        → filter (is_apart qs) (cond a (x ∷ filter (is_apart ps) xs) (filter (is_apart ps) xs))
+        ≡ cond (a && b) (x ∷ both) both
+    go false b is e = e
+    go true b is e = ap (λ (t : Bool). cond t (x ∷ two) two) is ∙ ap (λ l. cond b (x ∷ l) l) e
+
+pub all-stay : (xs : List Screened) → filter (is_apart []) xs ≡ xs
+all-stay [] = refl
+all-stay (x ∷ xs) = ap (λ l. x ∷ l) (all-stay xs)
 
 -- an entry whose print holds what is wanted has a record
 record Has (want : List Bool) (o : Option Shared) : Type 0 where

@@ -1,13 +1,13 @@
 -- For callers: the kept entries of a store. Each has an identifier, a version, and the record that its commit left, if
 -- it left one.
-use Rattle.std.specs.Prelude.{◌≡◌, ◌≢◌, ◌<◌, ◌≤◌, ◌↔◌, AllPairs, Bool, Contains, filter, IfSome, length, List, None, Option, Some, ℕ}
+use Rattle.std.specs.Prelude.{◌≡◌, ◌≢◌, ◌<◌, ◌≤◌, ◌↔◌, AllPairs, Bool, Contains, IfSome, length, List, None, Option, Some, ℕ}
 use Rattle.std.specs.Arc.{arc_value}
 use Rattle.std.specs.Borrow.{Bor}
 use Rattle.chem_core.specs.Bits.{HasBit}
 use Rattle.record_versions.specs.Entries.{IsReserved, chain_of, entries}
 use Rattle.record_versions.specs.Rows.{Row}
 use Rattle.record_versions.specs.declared.chain.Entry.{Entry as Versioned}
-use Rattle.screen_index.specs.Pairs.{is_other, put_in, rank}
+use Rattle.screen_index.specs.Pairs.{put_in}
 use Rattle.screen_index.specs.declared.entry.Screened.{Screened}
 use Rattle.store_machine.specs.declared.machine.Entry.{Entry}
 use Rattle.store_machine.specs.declared.machine.Status.{Status}
@@ -81,11 +81,6 @@ pub record Lists (es : List Entry) (chains : Chains) : Type 0 where
 abbrev pub with_print : ℕ → ℕ → Option Shared → List Screened → List Screened
 with_print id version None xs = xs
 with_print id version (Some r) xs = put_in (record { id = id; version = version; print = (arc_value r).print }) xs
-
--- and one fewer
-abbrev pub without_print : ℕ → ℕ → Option Shared → List Screened → List Screened
-without_print id version None xs = xs
-without_print id version (Some r) xs = filter (is_other (rank id version)) xs
 
 -- An index has the prints of the entries that have a record, and those alone. For private clauses alone.
 pub record AreIndexed (chains : Chains) (xs : List Screened) : Type 0 where

@@ -1,13 +1,14 @@
 //! The kept entries of a store, and an index of the prints of those that have a record.
-ghost use Rattle.std.specs.Prelude.{◌≡◌, ◌==◌, ◌+◌, ◌++◌, ◌<◌, ◌↔◌, ℕ, [], ◌∷◌, All, Contains, IfSome, List, OnOk, Option, Some, filter, if◌then◌else◌, length, option_copied, option_map};
+ghost use Rattle.std.specs.Prelude.{◌≡◌, ◌==◌, ◌+◌, ◌^◌, ◌++◌, ◌<◌, ◌≤◌, ◌↔◌, ℕ, [], ◌∷◌, All, Contains, IfSome, List, OnOk, Option, Some, filter, if◌then◌else◌, length, option_copied, option_map};
 ghost use Rattle.std.specs.Arc.{arc_value};
 ghost use Rattle.record_versions.specs.Entries.{IsLatest, IsRead, chain_of, entries, is_other};
 ghost use Rattle.store_machine.specs.declared.machine.Entry.{Entry};
-ghost use Rattle.store_core.specs.Kept.{HasEntry, HasRoom, IsNextId, Kept, Lists, kept_of, with_print, without_print};
+ghost use Rattle.store_core.specs.Kept.{AreIndexed, HasEntry, HasRoom, IsNextId, Kept, Lists, kept_of, with_print};
 ghost use Rattle.store_core.specs.Records.{Shared};
-ghost use Rattle.screen_index.specs.Pairs.{Lacks, rank};
+ghost use Rattle.screen_index.specs.Pairs.{Lacks, Rises, is_apart, rank};
 
 use crate::record::Record;
+use arrayvec::ArrayVec;
 use chem_core::Print;
 use record_versions::{Chains, Steps};
 use screen_index::ScreenIndex;
@@ -15,6 +16,9 @@ use std::alloc::{AllocError, Global};
 use std::marker::{Brand, Model};
 use std::sync::Arc;
 use std::sync::ledger::{Blank, Ledger};
+
+// Places of entries that have left the chains, in ascending order.
+type Gone = ArrayVec<(u32, u32), 256>;
 
 /// Entries by identifier and version, each with the record that its commit left, if it left one. Contracts see the
 /// entries, and the print for which memory was taken.
@@ -123,26 +127,8 @@ impl KeptEntries {
             × Lists left self.new.chains × (result + length left ≡ length es) }
     {
         let before = self.chains.kept();
-        let mut from = (0, 0);
-        while let Some((id, version)) = self.chains.dead_from(from, live) {
-            self.take(id, version);
-            from = (id, version);
-        }
+        prune(&mut self.chains, &mut self.index, live);
         before - self.chains.kept()
-    }
-
-    // Takes an entry out of the chains, and its print out of the index.
-    fn take(&mut self, id: u32, version: u32)
-        requires { HasEntry self.old.chains (record { id = id; version = version }) }
-        ensures chains { (q : ℕ) → chain_of self.new.chains q ≡ (if q == id
-            then filter (is_other version) (chain_of self.old.chains id)
-            else chain_of self.old.chains q) }
-        ensures fewer { length (entries self.new.chains) + 1 ≡ length (entries self.old.chains) }
-    {
-        let Some(entry) = self.chains.take(id, version) else {
-            unreachable!()
-        };
-        drop_print(&mut self.index, id, version, &entry);
     }
 
     /// How many entries there are. It takes no memory.
@@ -164,13 +150,62 @@ fn add_print(index: &mut ScreenIndex, id: u32, version: u32, entry: &Option<Arc<
     }
 }
 
-// And out of it.
-fn drop_print(index: &mut ScreenIndex, id: u32, version: u32, entry: &Option<Arc<Record>>)
-    requires { IfSome entry.now (λ r. Contains index.old.entries
-        (record { id = id; version = version; print = (arc_value r).print })) }
-    ensures { index.new.entries ≡ without_print id version entry.now index.old.entries }
+// Takes the entries that are not read at some versions out of the chains, and their prints out of the index.
+fn prune(chains: &mut Chains<Option<Arc<Record>>>, index: &mut ScreenIndex, live: &[u32])
+    requires { AreIndexed chains.old index.old.entries }
+    ensures indexed { AreIndexed chains.new index.new.entries }
+    ensures left { (id : ℕ) (k : Kept) → Contains (chain_of chains.new id) k
+        ↔ (Contains (chain_of chains.old id) k × IsRead live.now (chain_of chains.old id) k) }
+    ensures lists { (es : List Entry) → Lists es chains.old
+        → (left : List Entry) × Lists left chains.new }
+    ensures fewer { length (entries chains.new) ≤ length (entries chains.old) }
 {
-    if let Some(record) = entry {
-        index.drop_entry(id, version, record.print());
+    let mut gone = Gone::new();
+    let mut from = (0, 0);
+    while let Some((id, version)) = chains.dead_from(from, live) {
+        take(chains, id, version);
+        from = place(id, version);
+        leave(index, &mut gone, from);
     }
+    index.drop_all(gone.as_slice());
+}
+
+// Takes an entry out of the chains.
+fn take(chains: &mut Chains<Option<Arc<Record>>>, id: u32, version: u32)
+    requires { HasEntry chains.old (record { id = id; version = version }) }
+    ensures chains { (q : ℕ) → chain_of chains.new q
+        ≡ (if q == id then filter (is_other version) (chain_of chains.old id) else chain_of chains.old q) }
+    ensures fewer { length (entries chains.new) + 1 ≡ length (entries chains.old) }
+{
+    let Some(_entry) = chains.take(id, version) else {
+        unreachable!()
+    };
+}
+
+// Of an entry: its identifier and version.
+fn place(id: u32, version: u32) -> (u32, u32)
+    ensures id { result.0 ≡ id }
+    ensures version { result.1 ≡ version }
+    ensures fits { result.1 < 2 ^ 32 }
+{
+    (id, version)
+}
+
+// Puts the place of an entry behind those whose prints are still in the index, and takes these prints out first where
+// there is no room.
+fn leave(index: &mut ScreenIndex, gone: &mut Gone, place: (u32, u32))
+    requires rises { Rises gone.old.items }
+    requires last { All (λ p. rank p.0 p.1 ≤ rank place.0 place.1) gone.old.items }
+    ensures rises { Rises gone.new.items }
+    ensures last { All (λ p. rank p.0 p.1 ≤ rank place.0 place.1) gone.new.items }
+    ensures left { filter (is_apart gone.new.items) index.new.entries
+        ≡ filter (is_apart (place ∷ [])) (filter (is_apart gone.old.items) index.old.entries) }
+{
+    if !gone.is_full() {
+        gone.push(place);
+        return;
+    }
+    index.drop_all(gone.as_slice());
+    gone.clear();
+    gone.push(place);
 }
