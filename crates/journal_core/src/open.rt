@@ -103,6 +103,7 @@ impl<D: Disk> Journal<D> {
             → Faulted D.model self.old.disk self.new.disk }
         ensures no_other { ¬ IsErrOf result LoadFault.NotAStore }
 
+        ensures some_left { OnErr result (1 ≤ self.old.left) }
         ensures stays { OnErr result ((self.new.place ≡ self.old.place)
             × (self.new.left ≡ self.old.left)) }
         ensures still_reads { OnErr result ((front : List ℕ)

@@ -1,20 +1,31 @@
-use Rattle.std.proofs.Common.{◌≡◌, ◌<◌, ◌+◌, ◌^◌, ℕ, drop, length, ◌∙◌, arith}
+use Rattle.std.proofs.Common.{inl, inr, ◌<◌, ◌+◌, ◌^◌, drop, ◌∙◌, arith}
 use Rattle.journal_core.specs.LookLaws.{looks_twice}
 use Rattle.journal_core.proofs.BaseTail.{no_base_length, no_base_payload, whole_base}
 use Rattle.journal_core.proofs.base.base_at.Goals as goal
+use Rattle.journal_core.proofs.base.base_at.Goals.{then-len-place-via-then-len-place, then-len-place-via-else-len-place+then-len-place-lt4, then-size-eq0-via-then-size-eq0, then-size-eq0-via-else-size-eq0+then-size-gt-LONGEST_PAYLOAD, then-size-eq0-via-else-size-eq0+else-size-gt-LONGEST_PAYLOAD+then-len-place-2}
 
-pub returns-then-len-place-lt4-clause-found : goal.returns-then-len-place-lt4-clause-found
-returns-then-len-place-lt4-clause-found g c l told =
-    no_base_length l c.args.place
-    (omega (arith, c.in_ok-len.ensures.length l told, c.if-len-place.false, c.if-len-place-lt4.true))
+pub returns-then-len-place-clause-found : goal.returns-then-len-place-clause-found
+returns-then-len-place-clause-found g c l told =
+    let len = c.in_ok-len.ensures.length l told in
+    no_base_length l c.args.place (elim c.then-len-place.branch [
+      | then-len-place-via-then-len-place w ↦ omega (arith, len, w.if-len-place.true)
+      | then-len-place-via-else-len-place+then-len-place-lt4 w ↦
+          omega (arith, len, w.if-len-place.false, w.if-len-place-lt4.true)
+    ])
 
-pub returns-then-len-place-2-clause-found : goal.returns-then-len-place-2-clause-found
-returns-then-len-place-2-clause-found g c l told =
+pub returns-then-size-eq0-clause-found : goal.returns-then-size-eq0-clause-found
+returns-then-size-eq0-clause-found g c l told =
     let n = c.in_ok-size.field-0 in
+    let len = c.in_ok-len.ensures.length l told in
     let there = c.in_ok-len.ensures.looks.narrows.same ∙ told in
     let fits : n < 2 ^ 32 = omega arith in
-    no_base_payload l c.args.place n fits (c.in_ok-size.ensures.number l there)
-    (omega (arith, c.in_ok-len.ensures.length l told, c.if-len-place.false, c.if-len-place-lt4.false, c.if-len-place-2.true))
+    no_base_payload l c.args.place n fits (c.in_ok-size.ensures.number l there) (elim c.then-size-eq0.branch [
+      | then-size-eq0-via-then-size-eq0 w ↦ inl (omega (arith, w.if-size-eq0.true))
+      | then-size-eq0-via-else-size-eq0+then-size-gt-LONGEST_PAYLOAD w ↦
+          inr (inl (omega (arith, w.if-size-gt-LONGEST_PAYLOAD.true)))
+      | then-size-eq0-via-else-size-eq0+else-size-gt-LONGEST_PAYLOAD+then-len-place-2 w ↦
+          inr (inr (omega (arith, len, c.if-len-place.false, c.if-len-place-lt4.false, w.if-len-place-2.true)))
+    ])
 
 pub returns-in_err-copy_at-clause-looks : goal.returns-in_err-copy_at-clause-looks
 returns-in_err-copy_at-clause-looks g c =

@@ -1,4 +1,4 @@
-use Rattle.std.proofs.Common.{◌≡◌, Option, Some, None, subst, rules}
+use Rattle.std.proofs.Common.{Option, subst}
 use Rattle.journal_core.specs.declared.open.Opening.{Opening}
 use Rattle.journal_core.specs.Found.{IsMeasured}
 use Rattle.journal_core.proofs.FrontLaws.{part_opens}

@@ -1,4 +1,4 @@
-use Rattle.std.proofs.Common.{◌≡◌, ◌∷◌, ◌++◌, List, ℕ, length, take, drop, sym, ◌∙◌, ap, arith, rules, [], inr, refl}
+use Rattle.std.proofs.Common.{◌≡◌, take, drop, sym, ◌∙◌, arith, rules, []}
 use Rattle.journal_core.specs.Fronts.{front_of, second_format}
 use Rattle.journal_core.proofs.FrontLaws.{is_long}
 use Rattle.journal_core.specs.LookLaws.{looks_call, looks_twice}
