@@ -1,2 +1,4 @@
+mod BaseTaken
+mod OneEntry
 mod OneLog
 mod Taken

@@ -1,6 +1,6 @@
 //! The base records of a journal are read.
 
-ghost use Rattle.std.specs.Prelude.{◌≡◌, ◌<◌, ◌≤◌, ◌+◌, ◌⊎◌, ◌++◌, ℕ, List, [], ◌∷◌, length, true, OnErr, OnOk, IfOk, IfSome, IfNone, IsErrOf};
+ghost use Rattle.std.specs.Prelude.{◌≡◌, ◌<◌, ◌≤◌, ◌+◌, ◌⊎◌, ◌++◌, ℕ, List, [], ◌∷◌, length, false, true, OnErr, OnOk, IfOk, IfSome, IfNone, IsErrOf};
 ghost use Rattle.disk_edge.specs.Disk.{IfTold, Faulted};
 ghost use Rattle.journal_core.specs.Answers.{OnDamaged};
 ghost use Rattle.journal_core.specs.Fronts.{BreaksBase, front_of};

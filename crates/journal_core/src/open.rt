@@ -8,7 +8,7 @@ ghost use Rattle.journal_core.specs.Answers.{OnUnwritten, OnRecord, OnEnd, OnDam
 ghost use Rattle.journal_core.specs.Journal.{IsEmptyJournal, Reads, Rests};
 ghost use Rattle.journal_core.specs.Looks.{Narrows, Looks, Stays};
 ghost use Rattle.journal_core.specs.Found.{IsMeasured};
-ghost use Rattle.journal_core.specs.Fronts.{BreaksBase, IsHeader, IsOpen, IsPart, IsPeeked, front_of};
+ghost use Rattle.journal_core.specs.Fronts.{BeginsAt, BreaksBase, IsHeader, IsOpen, IsPart, IsPeeked, front_of};
 ghost use Rattle.journal_core.specs.Records.{IsShort, Breaks};
 
 use crate::base::base_at;
@@ -54,7 +54,7 @@ impl<D: Disk> Journal<D> {
         ensures ok { IfOk result (λ journal. IfTold (D.model.content disk)
             (λ _. (front : List ℕ) × IsPart journal.header [] front
             × Reads D.model journal front [])) }
-        ensures start { IfOk result (λ journal. ((journal.place ≡ 8) ⊎ (journal.place ≡ 20))
+        ensures start { IfOk result (λ journal. BeginsAt journal.header journal.place
             × (journal.left ≡ journal.header.base_count)
             × (journal.ready ≡ false) × (journal.doubt ≡ false)) }
         ensures range { IfOk result (λ journal. IsHeader journal.header) }
@@ -234,7 +234,7 @@ fn measured<D: Disk>(disk: &mut D) -> Result<Option<Opening>, DiskFail>
     ensures synced { OnOk result
         (IfTold (D.model.content disk.new) (λ l. Exactly l (D.model.images disk.new))) }
     ensures header { IfOk result (λ found. IfTold (D.model.content disk.old) (IsMeasured found)) }
-    ensures place { IfOk result (λ found. IfSome found (λ o. (o.place ≡ 8) ⊎ (o.place ≡ 20))) }
+    ensures place { IfOk result (λ found. IfSome found (λ o. BeginsAt o.header o.place)) }
     ensures range { IfOk result (λ found. IfSome found (λ o. IsHeader o.header)) }
     ensures failed { OnErr result (Faulted D.model disk.old disk.new) }
     ensures narrows { Narrows D.model disk.old disk.new }
@@ -246,7 +246,7 @@ fn measured<D: Disk>(disk: &mut D) -> Result<Option<Opening>, DiskFail>
 // What the disk says where it is open.
 fn said<D: Disk>(disk: &mut D) -> Result<Option<Opening>, DiskFail>
     ensures found { IfOk result (λ found. IfTold (D.model.content disk.old) (IsMeasured found)) }
-    ensures place { IfOk result (λ found. IfSome found (λ o. (o.place ≡ 8) ⊎ (o.place ≡ 20))) }
+    ensures place { IfOk result (λ found. IfSome found (λ o. BeginsAt o.header o.place)) }
     ensures range { IfOk result (λ found. IfSome found (λ o. IsHeader o.header)) }
     ensures failed { OnErr result (Faulted D.model disk.old disk.new) }
     ensures looks { Looks D.model disk.old disk.new }

@@ -41,6 +41,10 @@ loop-commit-preserved g c =
     ∙ ap (λ (l : List Commit). payloads (changes_of l)) (sym items) in
     record {
       settled = c.in-Ok-Some.ensures.settled;
+      header = (
+        c.in-Ok-Some.ensures.header.0 ∙ was.header.0,
+        c.in-Ok-Some.ensures.header.1 ∙ was.header.1,
+      );
       takes = subst (λ (l : List Commit). Takes c.args.journal.now.place l new.place) (sym items)
           (subst (λ (n : ℕ). Takes c.args.journal.now.place (commits ++ commit ∷ []) n) (sym place)
           (takes_more c.args.journal.now.place c.loop-commit.journal.place commits commit was.takes found.0 found.1));

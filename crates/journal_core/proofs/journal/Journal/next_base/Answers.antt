@@ -1,5 +1,4 @@
 use Rattle.std.proofs.Common.{◌≡◌, ◌∷◌, ◌++◌, [], ℕ, List, Option, Vec, length, drop, sym, ◌∙◌, ap, subst, arith, append_assoc, length-append}
-use Rattle.std.proofs.lemmas.List.{drop_at}
 use Rattle.std.specs.declared.alloc.Global.{Global}
 use Rattle.std.specs.Int.{to_le_bytes, w32}
 use Rattle.journal_core.specs.Found.{IsBase}
@@ -10,20 +9,9 @@ use Rattle.journal_core.specs.RecordLaws.{prefix_nil}
 use Rattle.journal_core.specs.Records.{body, prefix}
 use Rattle.journal_core.specs.declared.header.Header.{Header}
 use Rattle.journal_core.specs.Standing.{Standing}
-use Rattle.journal_core.proofs.BaseTail.{front_push}
+use Rattle.journal_core.proofs.FrontLaws.{at_front, front_push}
 use Rattle.journal_core.proofs.Told.{some_is}
 use Rattle.journal_core.proofs.journal.Journal.next_base.Goals as goal
-
--- a journal that has read no commits stands behind its front
-at_front : (front told tail : List ℕ) (place : ℕ) → told ≡ prefix front [] ++ tail → place ≡ length (prefix front [])
-    → (told ≡ front ++ tail) × (place ≡ length front) × (drop place told ≡ tail)
-at_front front told tail place is at =
-    let flat : told ≡ front ++ tail = is ∙ ap (λ (k : List ℕ). k ++ tail) (prefix_nil front) in
-    let same : place ≡ length front = at ∙ ap length (prefix_nil front) in (
-      flat,
-      same,
-      ap (λ (k : List ℕ). drop place k) flat ∙ drop_at front tail place (sym same),
-    )
 
 pub returns-in-Ok-Some-clause-reads : goal.returns-in-Ok-Some-clause-reads
 returns-in-Ok-Some-clause-reads g c base q =

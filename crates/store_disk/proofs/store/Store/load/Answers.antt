@@ -7,7 +7,8 @@ returns-in-Ok-memory_of-clause-opened g c =
     let d = g.D.Disk.model in
     opened-store d c.in-Ok-memory_of.memory c.args.commits c.args.disks.a c.args.disks.b
     c.in-Ok.journal c.memory_of.new.journal c.in-Ok-memory_of.ensures.loaded c.in-Ok.ensures.narrows.same
-    c.memory_of.ensures.looks.narrows.same c.in-Ok.ensures.ok c.memory_of.ensures.settled
+    c.memory_of.ensures.looks.narrows.same (at-first d (d.content c.args.disks.a) c.in-Ok.journal first c.in-Ok.ensures.ok)
+    c.memory_of.ensures.settled
 
 pub returns-in-Ok-memory_of-clause-narrows : goal.returns-in-Ok-memory_of-clause-narrows
 returns-in-Ok-memory_of-clause-narrows g c =
