@@ -1,3 +1,4 @@
+mod Answered
 mod BaseTaken
 mod OneEntry
 mod OneLog

@@ -1,12 +1,11 @@
 -- A payload is written for one entry.
-use Rattle.std.proofs.Common.{◌≡◌, ◌≤◌, ◌<◌, ◌^◌, ℕ, List, [], ◌∷◌, ◌++◌, take, drop, refl, sym, ◌∙◌, ap, arith, append_assoc}
+use Rattle.std.proofs.Common.{◌≡◌, ◌<◌, ◌^◌, ℕ, List, ◌∷◌, ◌++◌, take, drop, refl, sym, ◌∙◌, ap, arith}
 use Rattle.std.proofs.lemmas.List.{take_at, drop_at}
 use Rattle.std.proofs.lemmas.Nat.{from_le_bytes-to_le_bytes_4}
 use Rattle.std.specs.Int.{to_le_bytes, from_le_bytes, w32}
 use Rattle.commit_log.specs.Base.{Follows}
 use Rattle.commit_log.specs.Change.{format_byte}
 use Rattle.commit_log.specs.Entry.{Entry, EntryState, IsInRange, live, withdrawn, kind, tail, written}
-use Rattle.commit_log.specs.declared.change.Format.{Format}
 use Rattle.commit_log.proofs.OneLog.{same_format}
 
 first_is : (a b : ℕ) (xs ys : List ℕ) → a ∷ xs ≡ b ∷ ys → a ≡ b

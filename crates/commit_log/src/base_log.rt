@@ -104,6 +104,7 @@ fn next_entry<D: Disk>(
     ensures settled { journal.new.doubt ≡ false }
     ensures looks { Looks D.model journal.old.disk journal.new.disk }
 {
+    let version = journal.header().base_version;
     let (at, payload) = match journal.next_base() {
         Ok(Some(record)) => record,
         Ok(None) => return Ok(None),
@@ -111,7 +112,7 @@ fn next_entry<D: Disk>(
     };
     match decode_base(alloc, &payload) {
         Ok(Some(entry)) => {
-            if follows(&entry, last, journal.header().base_version) {
+            if follows(&entry, last, version) {
                 Ok(Some((at, entry)))
             } else {
                 Err(LoadFault::Damaged(at))

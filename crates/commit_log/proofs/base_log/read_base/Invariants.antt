@@ -5,8 +5,8 @@ use Rattle.journal_core.specs.Looks.{Looks}
 use Rattle.commit_log.specs.Base.{TakesBase, base_payloads, entries_of, last_id}
 use Rattle.commit_log.proofs.base_log.read_base.Given as goal
 
-abbrev pub invariant-loop-entry : goal.invariant-loop-entry
-invariant-loop-entry g l =
+abbrev pub invariant-loop-at : goal.invariant-loop-at
+invariant-loop-at g l =
     let d = g.D.Disk.model in
     let h = l.fn.journal.header in
     record {
@@ -21,5 +21,5 @@ invariant-loop-entry g l =
       looks : Looks d l.fn.journal.disk l.journal.disk;
     }
 
-abbrev pub decreases-loop-entry : goal.decreases-loop-entry
-decreases-loop-entry g l = l.journal.left
+abbrev pub decreases-loop-at : goal.decreases-loop-at
+decreases-loop-at g l = l.journal.left
