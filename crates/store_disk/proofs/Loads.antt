@@ -1,5 +1,5 @@
 -- A loading: what is read, made again, and opened.
-use Rattle.std.proofs.Common.{◌≡◌, ◌∙◌, ◌++◌, ap, arith, Err, false, inl, inr, length, List, [], MatchOption, None, Ok, Option, refl, Result, Some, subst, sym, true, ℕ}
+use Rattle.std.proofs.Common.{◌≡◌, ◌∙◌, ◌++◌, ap, arith, Err, false, length, List, [], MatchOption, None, Ok, Option, refl, Result, Some, subst, sym, true, ℕ}
 use Rattle.std.proofs.lemmas.List.{length-map}
 use Rattle.std.specs.List.{AllByRecursion}
 use Rattle.commit_log.specs.Change.{Change as Logged}
@@ -7,14 +7,13 @@ use Rattle.commit_log.specs.Log.{IsLog, IsLogged, end_of, payloads as log_payloa
 use Rattle.disk_edge.specs.Disk.{DiskModel, IfTold}
 use Rattle.journal_core.proofs.FrontLaws.{first_part, second_no_header, second_part}
 use Rattle.journal_core.specs.Answers.{OnDamaged}
-use Rattle.journal_core.specs.Fronts.{BeginsAt, IsPart}
+use Rattle.journal_core.specs.Fronts.{IsPart}
 use Rattle.journal_core.specs.Journal.{Reads, Rests}
 use Rattle.journal_core.specs.Looks.{Looks}
 use Rattle.journal_core.specs.Records.{IsNoJournal, Opens, header}
 use Rattle.journal_core.specs.RecordLaws.{prefix_nil}
 use Rattle.journal_core.specs.Standing.{Standing}
 use Rattle.journal_core.specs.declared.faults.LoadFault.{LoadFault}
-use Rattle.journal_core.specs.declared.header.Header.{Header}
 use Rattle.journal_core.specs.declared.faults.LoadFault.TheVariants as fault
 use Rattle.store_core.specs.Calls.{Calls, NeedsNone, is_worn}
 use Rattle.store_core.specs.Replies.{prune_calls}
@@ -105,13 +104,6 @@ module _ {D : Type 0} (model : DiskModel D) where
       second_no_header j.header [] r.2.tail l (is ∙ ap (λ (f : List ℕ). f ++ r.2.tail)
       (second_part j.header r.0 r.1 (λ size. not (r.2.place ∙ flat ∙ size))))
 
-  -- in format 1 no base record is left
-  pub none-left : (j : Standing D) → j.place ≡ 8 → BeginsAt j.header j.place → j.left ≡ j.header.base_count → j.left ≡ 0
-  none-left j place begins left = elim begins [
-    | inl one ↦ left ∙ ap (λ (h : Header). h.base_count) one.1
-    | inr two ↦ absurd (omega (arith, place, two))
-  ]
-
   same-history : (memory : Memory) (commits : ℕ) (cs : List Logged) (r : IsReplayed memory commits cs)
       → log_payloads cs ≡ payloads r.state.history
   same-history memory commits cs r = sym (ap payloads r.history ∙ same-payloads cs)
@@ -182,6 +174,11 @@ module _ {D : Type 0} (model : DiskModel D) where
       let r = reads l (sym first ∙ was) in
       let told : r.told ≡ l = some-same (sym r.is_told ∙ was) in
       looks.no_fewer l (subst (model.images old.disk) told r.exactly.is)
+
+-- what holds of the place, where one is answered
+pub damaged-at : (T : Type 0) (f : LoadFault) (at : ℕ) (P : ℕ → Type 0) → f ≡ fault.Damaged at
+    → OnDamaged {T = T} (Err f) P → P at
+damaged-at T f at P is damage = subst (λ (x : LoadFault). OnDamaged {T = T} (Err x) P) is damage
 
 pub on-damaged : {T : Type 0} {P Q : ℕ → Type 0} (r : Result T LoadFault) → ((at : ℕ) → P at → Q at) → OnDamaged r P
     → OnDamaged r Q
