@@ -1,14 +1,16 @@
 -- What is true of all watches stays so: they are few, and their names are distinct.
-use Rattle.std.proofs.Common.{◌≡◌, ◌≢◌, ◌++◌, ◌<◌, ◌∙◌, AllPairs, ap, arith, Bool, cond, false, get_or, length, length-append, List, [], ◌∷◌, map, None, refl, Some, subst, suc, sym, true, zero, ℕ}
+use Rattle.std.proofs.Common.{◌≡◌, ◌≢◌, ◌++◌, ◌<◌, ◌∙◌, AllPairs, ap, arith, Bool, cond, false, filter, get_or, length, length-append, List, [], ◌∷◌, map, None, not, refl, Some, subst, suc, sym, true, zero, ℕ}
 use Rattle.std.proofs.lemmas.List.{length-map, map-append}
-use Rattle.std.proofs.lemmas.List.Edits.{length-remove}
-use Rattle.std.proofs.lemmas.List.Quantifiers.{all_pairs_push, all_pairs_remove}
+use Rattle.std.proofs.lemmas.List.Filters.{length-filter_both}
+use Rattle.std.proofs.lemmas.List.Kept.{AllPairs-filter}
+use Rattle.std.proofs.lemmas.List.Quantifiers.{all_pairs_push}
 use Rattle.std.proofs.lemmas.Slice.Eq.{bytes_eq-Decides}
-use Rattle.std.specs.List.{AllZip, remove}
+use Rattle.std.specs.List.{AllZip}
+use Rattle.std.specs.Str.{bytes_eq}
 use Rattle.store_core.specs.declared.words.Change.{Change}
 use Rattle.watch_list.specs.Entries.{EntryTerm, watches_in}
 use Rattle.watch_list.specs.Notes.{IsNoted}
-use Rattle.watch_list.specs.Watches.{AreWatches, Watch, filled, is_named, watch_of}
+use Rattle.watch_list.specs.Watches.{AreWatches, Watch, filled, is_named, is_other, watch_of}
 
 abbrev names : List Watch → List (List ℕ)
 names ws = map (λ w. w.name) ws
@@ -45,24 +47,24 @@ filled-names name version hits (w ∷ ws) =
     by_test true = refl
     by_test false = refl
 
-map-remove : {A B : Type 0} (f : A → B) (xs : List A) (i : ℕ) → map f (remove xs i) ≡ remove (map f xs) i
-map-remove f [] zero = refl
-map-remove f [] (suc i) = refl
-map-remove f (x ∷ xs) zero = refl
-map-remove f (x ∷ xs) (suc i) = ap (λ l. f x ∷ l) (map-remove f xs i)
+-- a filter by what a function gives, before it and after it
+pub map-filter : {A B : Type 0} (f : A → B) (p : B → Bool) (xs : List A)
+    → map f (filter (λ x. p (f x)) xs) ≡ filter p (map f xs)
+map-filter f p [] = refl
+map-filter f p (x ∷ xs) = by_test (p (f x)) (map-filter f p xs)
+  where
+    by_test : (b : Bool) → map f (filter (λ x. p (f x)) xs) ≡ filter p (map f xs)
+        → map f (cond b (x ∷ filter (λ x. p (f x)) xs) (filter (λ x. p (f x)) xs))
+        ≡ cond b (f x ∷ filter p (map f xs)) (filter p (map f xs))
+    by_test true rest = ap (λ l. f x ∷ l) rest
+    by_test false rest = rest
 
-pub one-removed : (es : List EntryTerm) (i : ℕ) → i < length es → AreWatches (watches_in es)
-    → AreWatches (watches_in (remove es i))
-one-removed es i lt are =
-    let ws = watches_in es in
-    let is : watches_in (remove es i) ≡ remove ws i = map-remove (λ e. e.watch) es i in
-    let within : i < length ws = omega (arith, length-map es (λ (e : EntryTerm). e.watch)) in
-    let within' : i < length (names ws) = omega (arith, length-map ws (λ (w : Watch). w.name)) in
-    subst AreWatches (sym is) (record {
-      few = omega (arith, are.few, length-remove ws i within);
-      distinct = subst (AllPairs (λ x y. x ≢ y)) (sym (map-remove (λ (w : Watch). w.name) ws i))
-          (all_pairs_remove (λ x y. x ≢ y) (names ws) i within' are.distinct);
-    })
+pub one-taken : (name : List ℕ) (ws : List Watch) → AreWatches ws → AreWatches (filter (is_other name) ws)
+one-taken name ws are = record {
+  few = omega (arith, are.few, length-filter_both (is_other name) (λ w. not (is_other name w)) (λ _. refl) ws);
+  distinct = subst (AllPairs (λ x y. x ≢ y)) (sym (map-filter (λ (w : Watch). w.name) (λ n. not (bytes_eq n name)) ws))
+      (AllPairs-filter (λ x y. x ≢ y) (λ n. not (bytes_eq n name)) (names ws) are.distinct);
+}
 
 -- no watch of these has a name that is not found
 unlike : (name : List ℕ) (ws : List Watch) → watch_of name ws ≡ None → (k : ℕ) (d : List ℕ) → k < length (names ws)

@@ -1,10 +1,12 @@
 -- The watch of a name among watches with distinct names.
-use Rattle.std.proofs.Common.{◌≡◌, ◌≢◌, ◌+◌, ◌<◌, ◌∙◌, AllPairs, ap, arith, Bool, cond, false, filter, find, get_or, length, List, [], ◌∷◌, map, None, not, Option, option_map, refl, Some, subst, suc, sym, true, zero, ℕ}
+use Rattle.std.proofs.Common.{◌≡◌, ◌≢◌, ◌+◌, ◌<◌, ◌∙◌, AllPairs, ap, arith, Bool, cond, false, find, get_or, length, List, [], ◌∷◌, map, None, Option, option_map, refl, Some, subst, suc, sym, true, zero, ℕ}
 use Rattle.std.proofs.lemmas.Slice.Eq.{bytes_eq-Decides}
-use Rattle.std.specs.List.{position_from, remove}
+use Rattle.std.specs.Borrow.{Bor}
+use Rattle.std.specs.List.{position_from}
+use Rattle.std.specs.Option.{is_some, option_copied}
 use Rattle.std.proofs.Math.ListN.{set}
 use Rattle.watch_list.specs.Entries.{EntryTerm, place_of, watches_in}
-use Rattle.watch_list.specs.Watches.{Watch, filled, is_named, is_other, watch_of}
+use Rattle.watch_list.specs.Watches.{Watch, filled, is_named, watch_of}
 
 abbrev names_in : List EntryTerm → List (List ℕ)
 names_in es = map (λ w. w.name) (watches_in es)
@@ -32,15 +34,7 @@ unnamed name w other = off (is_named name w) (λ t. other (sym ((bytes_eq-Decide
     off true h = absurd (h refl)
     off false h = refl
 
--- others are neither taken out nor filled
-others-stay : (name : List ℕ) (es : List EntryTerm) → AreOthers name es
-    → filter (is_other name) (watches_in es) ≡ watches_in es
-others-stay name [] h = refl
-others-stay name (e ∷ es) h =
-    ap (λ b. cond (not b) (e.watch ∷ filter (is_other name) (watches_in es)) (filter (is_other name) (watches_in es)))
-    (unnamed name e.watch (h zero [] (omega arith)))
-    ∙ ap (λ ws. e.watch ∷ ws) (others-stay name es (others-tail name e es h))
-
+-- others are not filled
 others-unfilled : (name : List ℕ) (version : ℕ) (hits : List ℕ) (es : List EntryTerm) → AreOthers name es
     → map (filled name version hits) (watches_in es) ≡ watches_in es
 others-unfilled name version hits [] h = refl
@@ -53,7 +47,6 @@ others-unfilled name version hits (e ∷ es) h =
 pub record IsFound (name : List ℕ) (es : List EntryTerm) (i : ℕ) : Type 0 where
   pub within : i < length es
   pub watch : (d : EntryTerm) → watch_of name (watches_in es) ≡ Some (get_or es i d).watch
-  pub removed : AreDistinct es → filter (is_other name) (watches_in es) ≡ watches_in (remove es i)
   pub filled_is : AreDistinct es → (version : ℕ) (hits : List ℕ) (e d : EntryTerm)
       → e.watch ≡ record (get_or es i d).watch { version = version; hits = hits }
       → map (filled name version hits) (watches_in es) ≡ watches_in (set es i e)
@@ -65,9 +58,6 @@ found-first name e es named =
     record {
       within = omega arith;
       watch = λ d. ap (λ b. cond b (Some e.watch) (watch_of name (watches_in es))) named;
-      removed = λ apart. ap (λ b. cond (not b) (e.watch ∷ filter (is_other name) (watches_in es))
-          (filter (is_other name) (watches_in es))) named
-          ∙ others-stay name es (λ i d lt is. others-behind e es apart i d lt (same ∙ is));
       filled_is = λ apart version hits f d is. ap (λ b. cond b (record e.watch { version = version; hits = hits }) e.watch
           ∷ map (filled name version hits) (watches_in es)) named
           ∙ ap (λ ws. record e.watch { version = version; hits = hits } ∷ ws)
@@ -80,9 +70,6 @@ found-later : (name : List ℕ) (e : EntryTerm) (es : List EntryTerm) (i : ℕ) 
 found-later name e es i unnamed found = record {
   within = omega (arith, found.within);
   watch = λ d. ap (λ b. cond b (Some e.watch) (watch_of name (watches_in es))) unnamed ∙ found.watch d;
-  removed = λ apart. ap (λ b. cond (not b) (e.watch ∷ filter (is_other name) (watches_in es))
-      (filter (is_other name) (watches_in es))) unnamed
-      ∙ ap (λ ws. e.watch ∷ ws) (found.removed (distinct-tail e es apart));
   filled_is = λ apart version hits f d is. ap (λ b. cond b (record e.watch { version = version; hits = hits }) e.watch
       ∷ map (filled name version hits) (watches_in es)) unnamed
       ∙ ap (λ ws. e.watch ∷ ws) (found.filled_is (distinct-tail e es apart) version hits f d is);
@@ -128,17 +115,6 @@ pub lost : (name : List ℕ) (es read : List EntryTerm) → read ≡ es → None
     → watch_of name (watches_in es) ≡ None
 lost name es read same none = lost-from name es 0 (sym (none ∙ ap (place_of name) same))
 
--- nothing is taken out where nothing is found
-pub lost-stays : (name : List ℕ) (ws : List Watch) → watch_of name ws ≡ None → filter (is_other name) ws ≡ ws
-lost-stays name [] h = refl
-lost-stays name (w ∷ ws) h = by_test (is_named name w) h (lost-stays name ws)
-  where
-    by_test : (b : Bool) → cond b (Some w) (watch_of name ws) ≡ None
-        → (watch_of name ws ≡ None → filter (is_other name) ws ≡ ws)
-        → cond (not b) (w ∷ filter (is_other name) ws) (filter (is_other name) ws) ≡ w ∷ ws
-    by_test true h rest = absurd (cc)
-    by_test false h rest = ap (λ l. w ∷ l) (rest h)
-
 -- a watch that is found among its entries
 pub find-watch : (name : List ℕ) (es : List EntryTerm)
     → option_map (λ (e : EntryTerm). e.watch) (find (named-entry name) es) ≡ watch_of name (watches_in es)
@@ -157,3 +133,9 @@ pub read-watch : (name : List ℕ) (es read : List EntryTerm) (ws : List Watch) 
 read-watch name es read ws o same are found =
     sym (ap (option_map (λ (e : EntryTerm). e.watch)) (found ∙ ap (find (named-entry name)) same) ∙ find-watch name es
     ∙ ap (watch_of name) are)
+
+pub is-watched : (name : List ℕ) (es read : List EntryTerm) (ws : List Watch) (o : Option (Bor EntryTerm)) → read ≡ es
+    → watches_in es ≡ ws → option_copied o ≡ find (named-entry name) read → is_some o ≡ is_some (watch_of name ws)
+is-watched name es read ws None same are found = sym (ap is_some (read-watch name es read ws None same are found))
+is-watched name es read ws (Some e) same are found =
+    sym (ap is_some (read-watch name es read ws (Some e.now) same are found))

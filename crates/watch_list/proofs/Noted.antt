@@ -14,10 +14,8 @@ pub left-alone : (version : ℕ) (change : Asked) (old new : Watch) → new ≡ 
 left-alone version change old new same other = record {
   name = ap (λ (w : Watch). w.name) same;
   pattern = ap (λ (w : Watch). w.pattern) same;
+  moved = λ next. absurd (other next);
   other = λ _. same;
-  moves = λ next. absurd (other next);
-  list = λ next. absurd (other next);
-  hits = λ next. absurd (other next);
 }
 
 -- one at the version before
@@ -28,8 +26,10 @@ pub brought : OneStructure → SnapshotsStay → CommitsChange → (version : �
 brought one stay make version change old new sound next name pattern at list = record {
   name = name;
   pattern = pattern;
+  moved = λ _. record {
+    version_is = at;
+    list = list;
+    right = stays-right one stay make version change old new sound next list;
+  };
   other = λ other. absurd (other next);
-  moves = λ _. at;
-  list = λ _. list;
-  hits = λ _. stays-right one stay make version change old new sound next list;
 }

@@ -1,9 +1,9 @@
 -- Loops over the watches that change each of them in turn.
-use Rattle.std.proofs.Common.{◌≡◌, ◌+◌, ◌++◌, ◌<◌, ◌≤◌, ◌&&◌, ◌∙◌, add-one, All, ap, arith, Bool, drop, false, get_or, length, List, [], ◌∷◌, nat_lt, refl, set, subst, suc, sym, take, true, zero, ℕ}
+use Rattle.std.proofs.Common.{◌≡◌, ◌+◌, ◌++◌, ◌<◌, ◌≤◌, ◌&&◌, ◌∙◌, add-one, All, ap, arith, Bool, false, filter, get_or, length, List, [], ◌∷◌, nat_lt, refl, set, subst, suc, sym, take, true, zero, ℕ}
 use Rattle.std.proofs.lemmas.Bool.{lt-ltb, ltb-true}
 use Rattle.std.proofs.lemmas.List.{length-map, take_at}
-use Rattle.std.proofs.lemmas.List.Elements.{All-append, All-cons, All-drop, All-head, All-nil, All-tail, All-take}
-use Rattle.std.specs.List.{AllZip, remove}
+use Rattle.std.proofs.lemmas.List.Elements.{All-cons, All-filter, All-head, All-nil, All-tail}
+use Rattle.std.specs.List.{AllZip}
 use Rattle.watch_list.specs.Entries.{EntryTerm, HasRoom, all_have_room, watches_in}
 use Rattle.watch_list.specs.Watches.{Watch}
 
@@ -77,11 +77,9 @@ each-room (e ∷ es) h =
     ap (λ b. b && all_have_room es) (lt-ltb (length e.watch.hits) e.room (All-head HasRoom e es h))
     ∙ each-room es (All-tail HasRoom e es h)
 
-pub room-removed : (es : List EntryTerm) (i : ℕ) → all_have_room es ≡ true → all_have_room (remove es i) ≡ true
-room-removed es i h =
-    let each = room-each es h in
-    each-room (remove es i)
-    (All-append HasRoom (take i es) (drop (suc i) es) (All-take HasRoom i es each) (All-drop HasRoom (suc i) es each))
+pub room-filtered : (p : EntryTerm → Bool) (es : List EntryTerm) → all_have_room es ≡ true
+    → all_have_room (filter p es) ≡ true
+room-filtered p es h = each-room (filter p es) (All-filter p HasRoom es (room-each es h))
 
 pub both-left : (a b : Bool) → a && b ≡ true → a ≡ true
 both-left true b h = refl

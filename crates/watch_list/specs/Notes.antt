@@ -39,12 +39,16 @@ abbrev pub StaysRight : ℕ → Change → Watch → Watch → Type 0
 StaysRight version change old new = (h : History) → IsCommit h version change
     → AreHits h old.version (pattern_of old.pattern) old.hits → AreHits h version (pattern_of old.pattern) new.hits
 
--- A watch and what it is after the commit of a version: one at the version before is at this one, with its list over
--- the change; any other is as it was
+-- a watch brought over the commit of a version
+pub record IsMoved (version : ℕ) (change : Asked) (old new : Watch) : Type 0 where
+  pub version_is : new.version ≡ version
+  pub list : IsListAfter (pattern_of old.pattern) change old.hits new.hits
+  pub right : StaysRight version (change_of change) old new
+
+-- a watch and what it is after the commit of a version: one at the version before is brought over it, any other is as
+-- it was
 pub record IsNoted (version : ℕ) (change : Asked) (old new : Watch) : Type 0 where
   pub name : new.name ≡ old.name
   pub pattern : new.pattern ≡ old.pattern
+  pub moved : old.version + 1 ≡ version → IsMoved version change old new
   pub other : old.version + 1 ≢ version → new ≡ old
-  pub moves : old.version + 1 ≡ version → new.version ≡ version
-  pub list : old.version + 1 ≡ version → IsListAfter (pattern_of old.pattern) change old.hits new.hits
-  pub hits : old.version + 1 ≡ version → StaysRight version (change_of change) old new

@@ -86,13 +86,9 @@ impl Watches {
         ensures watches { self.new.watches ≡ filter (is_other name.now) self.old.watches }
         ensures reserved { self.old.reserved ≡ true → self.new.reserved ≡ true }
     {
-        match place_of(&self.entries, name) {
-            Some(place) => {
-                self.entries.remove(place);
-                true
-            }
-            None => false,
-        }
+        let watched = entry_of(&self.entries, name).is_some();
+        take_out(&mut self.entries, name);
+        watched
     }
 
     /// Takes the memory of the next `note`: for one hit more in each list, and for matching. Fails only for want of
@@ -162,6 +158,13 @@ fn place_of(entries: &[Entry], name: &[u8]) -> Option<usize>
     ensures { result ≡ place_of name.now entries.now }
 {
     entries.iter().position(|entry| entry.is_named(name))
+}
+
+// Takes it out. The others keep their order.
+fn take_out(entries: &mut Vec<Entry>, name: &[u8])
+    ensures { entries.new.items ≡ filter (λ e. is_other name.now e.watch) entries.old.items }
+{
+    entries.retain(|entry| !entry.is_named(name));
 }
 
 // Memory for matching.

@@ -10,16 +10,6 @@ use std::alloc::Global;
 use std::test::Fail;
 use store_core::{Change, Record};
 
-// A commit, and the version and the hits of each watch after it.
-type Row = (
-    u32,
-    char,
-    u32,
-    &'static [u8],
-    (u32, &'static [u32]),
-    (u32, &'static [u32]),
-);
-
 fn pattern(alloc: Global, smarts: &[u8]) -> Result<Pattern, Fail>
     ensures { IfOk result (λ p. IsSoundPattern (pattern_of p)) }
 {
@@ -34,10 +24,14 @@ fn change(alloc: Global, verb: char, id: u32, text: &[u8]) -> Result<Change, Fai
     if id == 0 || id > 9 {
         return Err(Fail::new("no identifier"));
     }
-    match verb {
-        '-' => Ok(Change::Withdraw(id)),
-        '+' => Ok(Change::Register(Record::make(alloc, id, Format::Smiles, text)?)),
-        _ => Ok(Change::Revise(Record::make(alloc, id, Format::Smiles, text)?)),
+    if verb == '-' {
+        return Ok(Change::Withdraw(id));
+    }
+    let record = Record::make(alloc, id, Format::Smiles, text)?;
+    if verb == '+' {
+        Ok(Change::Register(record))
+    } else {
+        Ok(Change::Revise(record))
     }
 }
 
@@ -51,45 +45,57 @@ fn commit(watches: &mut Watches, version: u32, change: &Change) -> Result<(), Fa
     Ok(())
 }
 
+// Whether the watch of a name is at a version, with these hits.
+fn is_at(watches: &Watches, name: &[u8], version: u32, hits: &[u32]) -> bool {
+    match watches.list(name) {
+        Some((at, list)) => at == version && list == hits,
+        None => false,
+    }
+}
+
 #[test]
 fn a_row_of_changes_with_both_lists_after_each(rt: HostRuntime) -> Result<(), Fail> {
     let alloc = rt.alloc();
-    let oxygen = pattern(alloc, b"O")?;
-    let nitrogen = pattern(alloc, b"N")?;
     let mut watches = Watches::new(alloc);
-    watches.add(b"oxygen", oxygen, 0, Vec::new(alloc))?;
-    watches.add(b"nitrogen", nitrogen, 2, Vec::new(alloc))?;
-    let rows: [Row; 8] = [
-        (1, '+', 4, b"CCO", (1, &[4]), (2, &[])),
-        (2, '+', 2, b"CO", (2, &[2, 4]), (2, &[])),
-        (3, '+', 3, b"CCN", (3, &[2, 4]), (3, &[3])),
-        (4, '=', 4, b"CCCO", (4, &[2, 4]), (4, &[3])),
-        (5, '=', 2, b"CC", (5, &[4]), (5, &[3])),
-        (6, '=', 4, b"NCO", (6, &[4]), (6, &[3, 4])),
-        (7, '-', 4, b"", (7, &[]), (7, &[3])),
-        (9, '+', 5, b"CO", (7, &[]), (7, &[3])),
+    watches.add(b"o", pattern(alloc, b"O")?, 0, Vec::new(alloc))?;
+    watches.add(b"n", pattern(alloc, b"N")?, 2, Vec::new(alloc))?;
+    let rows: [(u32, char, u32, &[u8], &[u32], u32, &[u32]); 8] = [
+        (1, '+', 4, b"CCO", &[4], 2, &[]),
+        (2, '+', 2, b"CO", &[2, 4], 2, &[]),
+        (3, '+', 3, b"CCN", &[2, 4], 3, &[3]),
+        (4, '=', 4, b"CCCO", &[2, 4], 4, &[3]),
+        (5, '=', 2, b"CC", &[4], 5, &[3]),
+        (6, '=', 4, b"NCO", &[4], 6, &[3, 4]),
+        (7, '-', 4, b"", &[], 7, &[3]),
+        (8, '+', 5, b"CO", &[5], 8, &[3]),
     ];
-    for (version, verb, id, text, oxygens, nitrogens) in rows {
+    for (version, verb, id, text, oxygens, nitrogen_version, nitrogens) in rows {
         let change = change(alloc, verb, id, text)?;
         commit(&mut watches, version, &change)?;
-        assert_eq!(rt; watches.list(b"oxygen"), Some(oxygens), "{version}");
-        assert_eq!(rt; watches.list(b"nitrogen"), Some(nitrogens), "{version}");
+        assert!(rt; is_at(&watches, b"o", version, oxygens), "{version}");
+        assert!(rt;
+            is_at(&watches, b"n", nitrogen_version, nitrogens),
+            "{version}"
+        );
     }
     Ok(())
 }
 
 #[test]
-fn a_watch_is_filled_and_taken_out(rt: HostRuntime) -> Result<(), Fail> {
+fn a_watch_that_missed_a_commit_is_filled_and_taken_out(rt: HostRuntime) -> Result<(), Fail> {
     let alloc = rt.alloc();
     let mut watches = Watches::new(alloc);
-    watches.add(b"w", pattern(alloc, b"O")?, 0, Vec::new(alloc))?;
-    watches.fill(b"w", 7, Vec::new(alloc));
+    watches.add(b"o", pattern(alloc, b"O")?, 0, Vec::new(alloc))?;
     let change = change(alloc, '+', 5, b"CO")?;
-    commit(&mut watches, 8, &change)?;
-    assert_eq!(rt; watches.list(b"w"), Some((8, [5].as_slice())));
-    assert!(rt; watches.pattern(b"w").is_some());
-    assert!(rt; !watches.remove(b"v"));
-    assert!(rt; watches.remove(b"w"));
-    assert_eq!(rt; watches.list(b"w"), None);
+    commit(&mut watches, 3, &change)?;
+    assert!(rt; is_at(&watches, b"o", 0, &[]));
+    if watches.pattern(b"o").is_some() {
+        watches.fill(b"o", 3, Vec::new(alloc));
+    }
+    commit(&mut watches, 4, &change)?;
+    assert!(rt; is_at(&watches, b"o", 4, &[5]));
+    assert!(rt; !watches.remove(b"n"));
+    assert!(rt; watches.remove(b"o"));
+    assert!(rt; watches.list(b"o").is_none());
     Ok(())
 }
