@@ -1,5 +1,5 @@
 -- What a write leaves, whatever it answers.
-use Rattle.std.proofs.Common.{◌≡◌, ℕ, List, length, Option, Some, None, Result, Ok, Err, OnOk, OnErr, refl, sym, ◌∙◌, ap, subst}
+use Rattle.std.proofs.Common.{◌≡◌, ℕ, List, length, Option, Some, None, Result, Ok, Err, OnOk, refl, ◌∙◌, ap, subst}
 use Rattle.disk_edge.specs.Disk.{DiskModel, written, Torn, Same, Tears, Becomes, TearsContent, Elapses, Keeps, OnFailed, OnNoMemory}
 use Rattle.disk_edge.specs.TornLaws.{torn_same, torn_written}
 use Rattle.disk_edge.specs.declared.disk.DiskFail.{DiskFail}

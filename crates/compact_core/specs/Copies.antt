@@ -1,5 +1,5 @@
 -- What a running copy has, and what a disk has that is the complete copy or not open. For callers.
-use Rattle.std.specs.Prelude.{◌≡◌, ◌≢◌, ◌⊎◌, ◌+◌, ◌<◌, ◌^◌, ℕ, List, [], ◌∷◌, ◌++◌, length, take, Option, Some}
+use Rattle.std.specs.Prelude.{◌≡◌, ◌≢◌, ◌⊎◌, ◌+◌, ℕ, List, [], ◌∷◌, ◌++◌, length, take, Option, Some}
 use Rattle.std.specs.List.{AllByRecursion}
 use Rattle.disk_edge.specs.Disk.{DiskModel}
 use Rattle.journal_core.specs.Records.{IsShort, records, Opens}

@@ -1,6 +1,6 @@
-use Rattle.std.proofs.Common.{◌≡◌, ◌∷◌, [], List, ℕ, inl, inr, refl, length, subst, ◌∙◌, arith}
+use Rattle.std.proofs.Common.{[], List, ℕ, inl, refl, subst, ◌∙◌, arith}
 use Rattle.disk_edge.specs.Moments.{two_calls}
-use Rattle.journal_core.specs.Fronts.{IsOpen, behind_gate}
+use Rattle.journal_core.specs.Fronts.{IsOpen}
 use Rattle.compact_core.specs.Copies.{Stands}
 use Rattle.compact_core.proofs.Gates.{not_open}
 use Rattle.compact_core.proofs.Results.{ok_then, always_err}

@@ -1,17 +1,17 @@
-use Rattle.std.proofs.Common.{◌≡◌, ◌+◌, ◌∷◌, ◌++◌, ◌<◌, List, ℕ, Option, Some, [], length, inl, inr, refl, sym, subst, ap, ◌∙◌, arith, length-append}
-use Rattle.disk_edge.specs.Disk.{written, Same, Tears, TearsContent}
+use Rattle.std.proofs.Common.{◌≡◌, ◌∷◌, ◌++◌, List, ℕ, [], length, inr, refl, sym, subst, ap, ◌∙◌, arith}
+use Rattle.disk_edge.specs.Disk.{written, Tears}
 use Rattle.disk_edge.specs.Moments.{AtEachMoment, two_calls}
 use Rattle.disk_edge.specs.TornLaws.{torn_same, torn_written, length-written}
-use Rattle.journal_core.specs.Fronts.{IsOpen, IsShut, front_of}
+use Rattle.journal_core.specs.Fronts.{front_of}
 use Rattle.journal_core.specs.Journal.{Rests}
 use Rattle.journal_core.specs.Records.{Opens, prefix}
 use Rattle.journal_core.specs.Standing.{Standing}
 use Rattle.journal_core.specs.declared.format.TheConstants.{OPEN, CLOSED}
 use Rattle.journal_core.specs.declared.header.Header.{Header}
 use Rattle.compact_core.specs.Carrying.{Carrying}
-use Rattle.compact_core.specs.Copies.{Copies, InDoubt, IsCopyOrShut, Stands, tail_of}
+use Rattle.compact_core.specs.Copies.{Copies, InDoubt, IsCopyOrShut, tail_of}
 use Rattle.compact_core.proofs.Gates.{not_open}
-use Rattle.compact_core.proofs.Results.{at_failed, at_no_memory}
+use Rattle.compact_core.proofs.Results.{at_failed}
 use Rattle.compact_core.proofs.Tails.{front_tail, sealed_torn, sealed_open}
 use Rattle.compact_core.proofs.Viewed.{at_view}
 use Rattle.compact_core.proofs.Writes.{some_is, told_before, told_written, untold_written}

@@ -1,12 +1,11 @@
-use Rattle.std.proofs.Common.{◌≡◌, ◌+◌, ◌∷◌, ◌++◌, List, ℕ, [], length, sym, subst, ap, ◌∙◌, arith, length-append}
+use Rattle.std.proofs.Common.{◌∷◌, ◌++◌, List, ℕ, [], sym, subst, ap, ◌∙◌, arith, length-append}
 use Rattle.journal_core.specs.Fronts.{IsOpen}
 use Rattle.journal_core.specs.RecordLaws.{all_short}
-use Rattle.journal_core.specs.declared.format.TheConstants.{OPEN}
 use Rattle.journal_core.specs.declared.header.Header.{Header}
 use Rattle.compact_core.specs.Carrying.{Carrying}
 use Rattle.compact_core.specs.Copies.{Copies, Stands, tail_of}
 use Rattle.compact_core.proofs.Gates.{not_open}
-use Rattle.compact_core.proofs.Results.{ok_then, always_err}
+use Rattle.compact_core.proofs.Results.{always_err}
 use Rattle.compact_core.proofs.Tails.{put_tail, length-put_tail}
 use Rattle.compact_core.proofs.Viewed.{at_view}
 use Rattle.compact_core.proofs.carry.Carry.put.Goals as goal

@@ -1,5 +1,5 @@
-use Rattle.std.proofs.Common.{◌≡◌, ◌+◌, List, ℕ, [], length, inl, inr, refl, sym, subst, ap, ◌∙◌, arith}
-use Rattle.compact_core.specs.Copies.{Stands, tail_of}
+use Rattle.std.proofs.Common.{length, inl, inr, refl, sym, subst, ap, arith}
+use Rattle.compact_core.specs.Copies.{Stands}
 use Rattle.compact_core.proofs.Tails.{tail_nil, length-behind_gate}
 use Rattle.compact_core.proofs.carry.Carry.start.Goals as goal
 
