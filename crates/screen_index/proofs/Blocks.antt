@@ -240,6 +240,20 @@ behind-block r i bs d up less ends =
     let l = last.2 in
     omega (arith, h, l)))
 
+-- a block that ends before a place, and one that does not
+pub up-to-block : (r i n : ℕ) (bs : List (List Screened)) (b : List Screened) → AreBlocks bs → i < length bs
+    → n ≤ i + 1 → b ≡ get_or bs i b → ends_before r b ≡ true → All (λ x. rank_of x < r) (Before bs n)
+up-to-block r i n bs b are less fits is ends =
+    before-place r n bs are (omega (arith, less, fits)) (λ k d low high.
+    blocks-parted r bs are k i d (omega (arith, high, fits)) less
+    (ap (ends_before r) (get_or_default bs i d b less ∙ sym is) ∙ ends))
+
+pub behind-this : (r i : ℕ) (bs : List (List Screened)) (b : List Screened) → AreBlocks bs → i < length bs
+    → b ≡ get_or bs i b → ends_before r b ≡ false → All (λ x. r < rank_of x) (joined (drop (i + 1) bs))
+behind-this r i bs b are less is ends =
+    subst (λ m. All (λ x. r < rank_of x) (joined (drop m bs))) (sym (add-one i))
+    (behind-block r i bs b are.0 less (ap (ends_before r) (sym is) ∙ ends))
+
 pub apart-behind : (ps : List (ℕ × ℕ)) (bs : List (List Screened)) (i : ℕ) (b : List Screened) → Ascend 0 (joined bs)
     → i < length bs → b ≡ get_or bs i b
     → ((d : ℕ × ℕ) → All (λ x. rank (get_or ps 0 d).0 (get_or ps 0 d).1 < rank_of x) (Behind bs i))

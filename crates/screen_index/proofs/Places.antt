@@ -43,6 +43,25 @@ parted r xs up = IsPartitionedBy-ltb rank_of xs r rises
               omega (arith, ap (λ n. rank_of (get_or xs n d)) same)
         ]
 
+-- one that is before a place has only such in front of it, and one that is not has none behind it
+pub up-to-early : (r i n : ℕ) (xs : List Screened) (x : Screened) → Ascend 0 xs → i < length xs → n ≤ i + 1
+    → x ≡ get_or xs i x → nat_lt (rank_of x) r ≡ true → AllWithin (λ y. rank_of y < r) xs 0 n
+up-to-early r i n xs x up less fits is early k d low high =
+    let t = ap (λ y. nat_lt (rank_of y) r) (get_or_default xs i d x less ∙ sym is) ∙ early in
+    let h = parted r xs up k i d (omega (arith, high, fits)) less t in
+    grind (arith, nat_tests, h)
+
+pub from-late : (r i : ℕ) (xs : List Screened) (x : Screened) → Ascend 0 xs → i < length xs → x ≡ get_or xs i x
+    → nat_lt (rank_of x) r ≡ false → AllWithin (λ y. r ≤ rank_of y) xs i (length xs)
+from-late r i xs x up less is late k d low high =
+    let here : r ≤ rank_of x = grind (arith, nat_tests, late) in
+    let same = ap rank_of (get_or_default xs i d x less ∙ sym is) in
+    elim (cases_lt i k) [
+      | inl lt ↦ let h = pairs 0 xs up i k d lt high in omega (arith, here, same, h)
+      | inr ge ↦
+          let one : k ≡ i = omega (arith, low, ge) in omega (arith, here, same, ap (λ n. rank_of (get_or xs n d)) one)
+    ]
+
 -- the last one decides
 pub last-decides : (r : ℕ) (xs : List Screened) (i : ℕ) (d : Screened) → i + 1 ≡ length xs
     → nat_lt (rank_of (get_or xs i d)) r ≡ ends_before r xs

@@ -1,5 +1,5 @@
 //! A run of pairs in ascending order, with a union of their prints.
-ghost use Rattle.std.specs.Prelude.{◌≡◌, ◌+◌, ◌++◌, ◌<◌, ◌≤◌, [], All, IfOk, false, filter, length, vec_capacity};
+ghost use Rattle.std.specs.Prelude.{◌≡◌, ◌+◌, ◌++◌, ◌<◌, ◌≤◌, [], All, IfOk, IsTrue, false, filter, length, vec_capacity};
 ghost use Rattle.std.specs.List.{AllWithin};
 ghost use Rattle.screen_index.specs.declared.entry.Screened.{Screened};
 ghost use Rattle.screen_index.specs.Pairs.{Ascend, IsNext, Lacks, Rises, ends_before, is_apart, put_in, rank, rank_of};
@@ -72,6 +72,35 @@ impl Block {
             .partition_point(|entry| entry.is_before(place))
     }
 
+    // The same, where the hint is looked at first.
+    fn count_near(&self, place: (u32, u32), hint: usize) -> usize
+        requires { Ascend 0 self.now }
+        ensures within { result ≤ length self.now }
+        ensures before { AllWithin (λ x. rank_of x < rank place.0 place.1) self.now 0 result }
+        ensures behind { AllWithin (λ x. rank place.0 place.1 ≤ rank_of x) self.now result (length self.now) }
+    {
+        if self.is_first_from(hint, place) {
+            hint
+        } else {
+            self.count_before(place)
+        }
+    }
+
+    // Whether the pair at an index is not before a place, and the one in front of it is.
+    fn is_first_from(&self, index: usize, place: (u32, u32)) -> bool
+        requires { Ascend 0 self.now }
+        ensures within { IsTrue result → index ≤ length self.now }
+        ensures before { IsTrue result
+            → AllWithin (λ x. rank_of x < rank place.0 place.1) self.now 0 index }
+        ensures behind { IsTrue result
+            → AllWithin (λ x. rank place.0 place.1 ≤ rank_of x) self.now index (length self.now) }
+    {
+        if index >= self.entries.len() || self.entries[index].is_before(place) {
+            return false;
+        }
+        index == 0 || self.entries[index - 1].is_before(place)
+    }
+
     /// Puts a pair in at its place.
     pub fn insert(&mut self, entry: Screened)
         requires room { length self.old < ROOM }
@@ -127,17 +156,19 @@ impl Block {
         count
     }
 
-    /// The least pair from a place on whose print holds what is wanted.
-    pub fn next(&self, want: &Print, from: (u32, u32)) -> Option<(u32, u32)>
+    /// The least pair from a place on whose print holds what is wanted. The hint is the index at which the pairs from
+    /// the place on may begin, and then the one behind the answer.
+    pub fn next(&self, want: &Print, from: (u32, u32), hint: &mut usize) -> Option<(u32, u32)>
         requires { Ascend 0 self.now }
         ensures { IsNext want.now (rank from.0 from.1) self.now result }
     {
         if !self.union.holds(want) {
             return None;
         }
-        for place in self.count_before(from)..self.entries.len() {
+        for place in self.count_near(from, *hint)..self.entries.len() {
             let entry = &self.entries[place];
             if entry.print.holds(want) {
+                *hint = place + 1;
                 return Some((entry.id, entry.version));
             }
         }

@@ -1,10 +1,11 @@
 //! The blocks of an index, and where a pair goes among them.
-ghost use Rattle.std.specs.Prelude.{◌≡◌, ◌+◌, ◌<◌, ◌≤◌, [], All, IfSome, None, OnErr, OnOk, Some, drop, filter, length, take, vec_capacity, vec_len};
+ghost use Rattle.std.specs.Prelude.{◌≡◌, ◌+◌, ◌<◌, ◌≤◌, [], All, IfSome, IsTrue, None, OnErr, OnOk, Some, drop, filter, length, take, vec_capacity, vec_len};
 ghost use Rattle.screen_index.specs.declared.entry.Screened.{Screened};
 ghost use Rattle.screen_index.specs.Pairs.{AreBlocks, Ascend, IsNext, Lacks, Rises, is_apart, joined, put_in, rank, rank_of};
 
 use crate::block::{Block, ROOM};
 use crate::entry::Screened;
+use crate::hint::Hint;
 use chem_core::Print;
 use std::alloc::{AllocError, Global};
 use std::marker::Model;
@@ -83,16 +84,18 @@ impl ScreenIndex {
         drop_all(&mut self.blocks, places);
     }
 
-    /// The least pair from a place on whose print holds what is wanted. `None` exactly where there is none. It takes no
-    /// memory.
-    pub fn next(&self, want: &Print, from: (u32, u32)) -> Option<(u32, u32)>
+    /// The least pair from a place on whose print holds what is wanted. `None` exactly where there is none. The answer
+    /// is the same whatever the hint says; then the hint is for the pairs behind the answer. It takes no memory.
+    pub fn next(&self, want: &Print, from: (u32, u32), hint: &mut Hint) -> Option<(u32, u32)>
         ensures next { IsNext want.now (rank from.0 from.1) self.now.entries result }
         ensures ascending { Ascend 0 self.now.entries }
     {
-        for place in block_of(&self.blocks, from)..self.blocks.len() {
-            if let Some(found) = self.blocks[place].next(want, from) {
+        for place in block_near(&self.blocks, from, hint.block)..self.blocks.len() {
+            if let Some(found) = self.blocks[place].next(want, from, &mut hint.place) {
+                hint.block = place;
                 return Some(found);
             }
+            hint.place = 0;
         }
         None
     }
@@ -108,6 +111,35 @@ fn block_of(blocks: &Vec<Block>, place: (u32, u32)) -> usize
     blocks
         .as_slice()
         .partition_point(|block| block.ends_before(place))
+}
+
+// The same, where the hint is looked at first.
+fn block_near(blocks: &Vec<Block>, place: (u32, u32), hint: usize) -> usize
+    requires { AreBlocks blocks.now.items }
+    ensures within { result ≤ length blocks.now.items }
+    ensures before { All (λ x. rank_of x < rank place.0 place.1) (joined (take result blocks.now.items)) }
+    ensures behind { All (λ x. rank place.0 place.1 < rank_of x) (joined (drop (result + 1) blocks.now.items)) }
+{
+    if is_block_of(blocks, hint, place) {
+        hint
+    } else {
+        block_of(blocks, place)
+    }
+}
+
+// Whether the block at an index does not end before a place, and the one in front of it does.
+fn is_block_of(blocks: &Vec<Block>, index: usize, place: (u32, u32)) -> bool
+    requires { AreBlocks blocks.now.items }
+    ensures within { IsTrue result → index ≤ length blocks.now.items }
+    ensures before { IsTrue result
+        → All (λ x. rank_of x < rank place.0 place.1) (joined (take index blocks.now.items)) }
+    ensures behind { IsTrue result
+        → All (λ x. rank place.0 place.1 < rank_of x) (joined (drop (index + 1) blocks.now.items)) }
+{
+    if index >= blocks.len() || blocks[index].ends_before(place) {
+        return false;
+    }
+    index == 0 || blocks[index - 1].ends_before(place)
 }
 
 // Puts a pair in, and gives the spare block back where it was not needed.

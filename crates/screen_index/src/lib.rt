@@ -2,14 +2,17 @@
 //! needs. All but `reserve` take no memory.
 //!
 //! The pairs stand in ascending order in blocks of at most 256, each with a union of its prints. A block whose union
-//! lacks a bit is passed over; to put a pair in, or to take one out, moves no more than one block.
+//! lacks a bit is passed over; to put a pair in, or to take one out, moves no more than one block. Who goes on behind
+//! the last answer brings a hint, which spares the search for the block and for the place in it.
 #![tactic(auto)]
 
 mod block;
 mod entry;
+mod hint;
 mod index;
 mod union;
 
+pub use hint::Hint;
 pub use index::ScreenIndex;
 
 #[cfg(test)]

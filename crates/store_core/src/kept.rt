@@ -11,7 +11,7 @@ use crate::record::Record;
 use arrayvec::ArrayVec;
 use chem_core::Print;
 use record_versions::{Chains, Steps};
-use screen_index::ScreenIndex;
+use screen_index::{Hint, ScreenIndex};
 use std::alloc::{AllocError, Global};
 use std::marker::{Brand, Model};
 use std::sync::Arc;
@@ -110,11 +110,11 @@ impl KeptEntries {
         self.at(id, version, &mut Steps::<L>::open(blank))
     }
 
-    /// The least identifier from `from` on that has an entry whose print holds what is wanted.
-    pub fn next(&self, want: &Print, from: u32) -> Option<u32>
+    /// The least identifier from `from` on that has an entry whose print holds what is wanted, whatever the hint says.
+    pub fn next(&self, want: &Print, from: u32, hint: &mut Hint) -> Option<u32>
         ensures { IsNextId want.now from self.now.chains result }
     {
-        let (id, _) = self.index.next(want, (from, 0))?;
+        let (id, _) = self.index.next(want, (from, 0), hint)?;
         Some(id)
     }
 

@@ -24,6 +24,7 @@ use crate::words::{CallFault, Change, CommitFault, Look, Stats, counted};
 use chem_core::Print;
 use mol_finish::one_structure;
 use record_versions::Steps;
+use screen_index::Hint;
 use snap_registry::{Pin, Registry};
 use std::alloc::{AllocError, Global};
 use std::marker::Model;
@@ -169,7 +170,8 @@ impl Store {
         laws();
         one_structure();
         let mut place = from;
-        while let Some(id) = self.kept.next(want, place) {
+        let mut hint = Hint::default();
+        while let Some(id) = self.kept.next(want, place, &mut hint) {
             let found = self.kept.at(id, pin.version, steps);
             if let Some(record) = screened(found, want) {
                 if page.records().len() >= limit as usize {

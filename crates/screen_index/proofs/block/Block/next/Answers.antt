@@ -12,7 +12,7 @@ returns-then-holds c =
     let x = c.index-entry.result.now in
     let less : place < length now = omega (arith, c.self.inside.entries.ok.0, ap (λ l. length l) c.self.view_is) in
     let is : x ≡ get_or now place x = c.index-entry.ensures ∙ ap (λ l. get_or l place x) c.self.view_is in
-    let late : r ≤ rank_of (get_or now place x) = c.count_before-place.ensures.behind place x (omega arith) less in
+    let late : r ≤ rank_of (get_or now place x) = c.count_near-place.ensures.behind place x (omega arith) less in
     let holds : Holds x.print want = c.holds-in-loop-place.ensures.value.0 c.if-holds.true in
     subst (λ y. IsNext want r now (Some (y.id, y.version))) (sym is)
     (first-is want r place now x c.requires less c.loop-place.invariant
