@@ -1,4 +1,5 @@
 pub mod Requests
+pub mod Records
 pub mod Texts
 pub mod Cursors
 pub mod Lookups

@@ -10,6 +10,7 @@ mod cursors;
 mod laws;
 mod listing;
 mod lookups;
+mod records;
 mod request;
 mod respond;
 mod run;
