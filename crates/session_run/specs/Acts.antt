@@ -222,7 +222,7 @@ MayChange change format text _ = ⊥
 -- the acts for a record of an SD file, where the texts up to and with it count so many bytes: no line of it was left;
 -- the texts are too many bytes; a line is too long; or its text is registered
 abbrev pub MayRegister : ℕ → ℕ → Option (List TextLine) → Act → Type 0
-MayRegister id sum record (Say Fault) = Unit {0}
+MayRegister id sum r (Say Fault) = Unit {0}
 MayRegister id sum None act = act ≡ Say (Refused refusals.SdCut)
 MayRegister id sum (Some lines) act =
     ((MOST_SD_BYTES < sum) × (act ≡ Say (Refused refusals.SdLimit)))
@@ -235,11 +235,11 @@ MayRegister id sum (Some lines) act =
 -- count so many bytes
 abbrev pub RegistersEach : ℕ → ℕ → List (Option (List TextLine)) → Calls → Lines → Type 0
 RegistersEach id sum [] calls lines = (calls ≡ []) × (lines ≡ [])
-RegistersEach id sum (record ∷ records) calls lines =
+RegistersEach id sum (r ∷ records) calls lines =
     (act : Act) × (own more : Calls) × (said : line.Reply) × (rest : Lines)
-    × MayRegister id (sum + counted record) record act × AnswersBy act own said
+    × MayRegister id (sum + counted r) r act × AnswersBy act own said
     × (calls ≡ own ++ more) × (lines ≡ said ∷ rest)
-    × RegistersEach (suc id) (sum + counted record) records more rest
+    × RegistersEach (suc id) (sum + counted r) records more rest
 
 -- the cursor of a name is in its place among the others
 pub record IsNamed (name : List ℕ) (cursors before : List Cursor) (c : Cursor) (after : List Cursor) : Type 0 where

@@ -4,6 +4,7 @@ pub mod Texts
 pub mod Cursors
 pub mod Lookups
 pub mod Acts
+pub mod Taken
 pub mod Pins
 pub mod Transcript
 pub mod Served
