@@ -44,20 +44,20 @@ begin_nothing (suc n) more rest b = b
 one_begin : (one : List TextLine) → IsOne one → (n : ℕ) (left more rest : List TextLine)
     → (HasNoEnd 1 one → left ≡ []) → BeginWithRecords n left more rest
     → BeginWithRecords (suc n) (one ++ left) (one ++ more) rest
-one_begin [] i n left more rest open b =
-    subst (λ (l : List TextLine). BeginWithRecords (suc n) l more rest) (sym (open tt))
-    (begin_nothing n more rest (subst (λ (l : List TextLine). BeginWithRecords n l more rest) (open tt) b))
-one_begin (line ∷ one) (inl e) n left more rest open b = (
+one_begin [] i n left more rest none_left b =
+    subst (λ (l : List TextLine). BeginWithRecords (suc n) l more rest) (sym (none_left tt))
+    (begin_nothing n more rest (subst (λ (l : List TextLine). BeginWithRecords n l more rest) (none_left tt) b))
+one_begin (line ∷ one) (inl e) n left more rest none_left b = (
   one ++ more,
   refl,
   subst (λ (c : Bool). BeginWithRecords (if c then n else suc n) (one ++ left) (one ++ more) rest) (sym e.0)
       (subst (λ (l : List TextLine). BeginWithRecords n (l ++ left) (l ++ more) rest) (sym e.1) b),
 )
-one_begin (line ∷ one) (inr e) n left more rest open b = (
+one_begin (line ∷ one) (inr e) n left more rest none_left b = (
   one ++ more,
   refl,
   subst (λ (c : Bool). BeginWithRecords (if c then n else suc n) (one ++ left) (one ++ more) rest) (sym e.0)
-      (one_begin one e.1 n left more rest (λ h. open (unended_line line one e.0 h)) b),
+      (one_begin one e.1 n left more rest (λ h. none_left (unended_line line one e.0 h)) b),
 )
 
 abbrev front_by : Bool → TextLine → List TextLine → List TextLine
@@ -68,32 +68,32 @@ behind_by b lines behind = if b then lines else behind
 
 one_first : (one : List TextLine) → IsOne one → (more : List TextLine) → (HasNoEnd 1 one → more ≡ [])
     → first_record (one ++ more) ≡ first_record one
-one_first [] i more open = ap (λ (l : List TextLine). first_record l) (open tt)
-one_first (line ∷ one) (inl e) more open =
+one_first [] i more none_left = ap (λ (l : List TextLine). first_record l) (none_left tt)
+one_first (line ∷ one) (inl e) more none_left =
     ap (λ b. front_by b line (first_record (one ++ more))) e.0
     ∙ sym (ap (λ b. front_by b line (first_record one)) e.0)
-one_first (line ∷ one) (inr e) more open =
+one_first (line ∷ one) (inr e) more none_left =
     ap (λ l. front_by (ends_record line) line l)
-    (one_first one e.1 more (λ h. open (unended_line line one e.0 h)))
+    (one_first one e.1 more (λ h. none_left (unended_line line one e.0 h)))
 
 one_behind : (one : List TextLine) → IsOne one → (more : List TextLine) → (HasNoEnd 1 one → more ≡ [])
     → behind_record (one ++ more) ≡ more
-one_behind [] i more open =
-    ap (λ (l : List TextLine). behind_record l) (open tt) ∙ sym (open tt)
-one_behind (line ∷ one) (inl e) more open =
+one_behind [] i more none_left =
+    ap (λ (l : List TextLine). behind_record l) (none_left tt) ∙ sym (none_left tt)
+one_behind (line ∷ one) (inl e) more none_left =
     ap (λ b. behind_by b (one ++ more) (behind_record (one ++ more))) e.0 ∙ ap (λ l. l ++ more) e.1
-one_behind (line ∷ one) (inr e) more open =
+one_behind (line ∷ one) (inr e) more none_left =
     ap (λ b. behind_by b (one ++ more) (behind_record (one ++ more))) e.0
-    ∙ one_behind one e.1 more (λ h. open (unended_line line one e.0 h))
+    ∙ one_behind one e.1 more (λ h. none_left (unended_line line one e.0 h))
 
 one_records : (one : List TextLine) → IsOne one → (n : ℕ) (more : List TextLine) → (HasNoEnd 1 one → more ≡ [])
     → records_in (suc n) (one ++ more) ≡ record_of one ∷ records_in n more
-one_records [] i n more open =
-    ap (λ (l : List TextLine). records_in (suc n) l) (open tt)
-    ∙ ap (λ (l : List TextLine). None ∷ records_in n l) (sym (open tt))
-one_records (line ∷ one) i n more open =
+one_records [] i n more none_left =
+    ap (λ (l : List TextLine). records_in (suc n) l) (none_left tt)
+    ∙ ap (λ (l : List TextLine). None ∷ records_in n l) (sym (none_left tt))
+one_records (line ∷ one) i n more none_left =
     ap₂ (λ (a b : List TextLine). Some a ∷ records_in n b)
-    (one_first (line ∷ one) i more open) (one_behind (line ∷ one) i more open)
+    (one_first (line ∷ one) i more none_left) (one_behind (line ∷ one) i more none_left)
 
 -- a record whose lines have no end
 first_whole : (one : List TextLine) → HasNoEnd 1 one → first_record one ≡ one
@@ -214,9 +214,10 @@ one_ended before now next f f' f'' old r r' text part some line u reads then e i
     record_last u.lines line ∙ ap (λ (l : List TextLine). Some l) (ended_first u.lines line u.none e),
     u.is,
   );
-  reads = λ l l' got p q split h rest met.
-      (line_told before now next f f' f'' old r r' u.lines line reads then u.told is l l' got p q split h rest met,
-      λ t. absurd (false_is_not_true t));
+  reads = λ l l' got p q split h rest met. (
+    line_told before now next f f' f'' old r r' u.lines line reads then u.told is l l' got p q split h rest met,
+    λ t. absurd (false_is_not_true t),
+  );
 } where
   false_is_not_true : IsTrue false → ⊥
   false_is_not_true h = cc
@@ -294,20 +295,20 @@ all_more before now next f f' f'' old r r' count left n ended texts texts' part 
   done = u.done ++ record_of t.taken ∷ [];
   number = omega (arith, u.number, e, length-append u.done (record_of t.taken ∷ []));
   taken = taken;
-  begins = λ l more rest open b.
+  begins = λ l more rest none_left b.
       rw (append_assoc u.lines t.taken l, append_assoc u.lines t.taken more)
       (u.begins (t.taken ++ l) (t.taken ++ more) rest (λ h. absurd (untrue h))
       (subst (λ k. BeginWithRecords k (t.taken ++ l) (t.taken ++ more) rest) (sym e)
-      (one_begin t.taken t.one n l more rest (λ h. open (t.unended h)) b)));
+      (one_begin t.taken t.one n l more rest (λ h. none_left (t.unended h)) b)));
   unended = λ more h.
       subst (λ (x : List TextLine). HasNoEnd count x) (sym (append_assoc u.lines t.taken more))
       (u.unended (t.taken ++ more)
       (subst (λ k. HasNoEnd k (t.taken ++ more)) (sym e) (one_no_end t.taken t.one n more h)));
-  is = λ more open.
+  is = λ more none_left.
       ap (λ (x : List TextLine). records_in count x) (append_assoc u.lines t.taken more)
       ∙ (u.is (t.taken ++ more) (λ h. absurd (untrue h))
       ∙ (ap (λ k. u.done ++ records_in k (t.taken ++ more)) e
-      ∙ (ap (λ x. u.done ++ x) (one_records t.taken t.one n more (λ h. open (t.unended h)))
+      ∙ (ap (λ x. u.done ++ x) (one_records t.taken t.one n more (λ h. none_left (t.unended h)))
       ∙ sym (append_assoc u.done (record_of t.taken ∷ []) (records_in n more)))));
   told = lines_more (λ all l. (all ≡ u.lines ++ l) × (IsTrue false → l ≡ []))
       (λ all l. (all ≡ t.taken ++ l) × (IsTrue ended → l ≡ []))
@@ -327,15 +328,15 @@ all_cut before now old r count left n ended texts texts' e end u taken = record 
   done = u.done ++ None ∷ [];
   number = omega (arith, u.number, e, length-append u.done (None ∷ []));
   taken = taken;
-  begins = λ l more rest open b.
-      u.begins l more rest open
+  begins = λ l more rest none_left b.
+      u.begins l more rest none_left
       (subst (λ k. BeginWithRecords k l more rest) (sym e)
-      (one_begin [] tt n l more rest (λ h. open end) b));
+      (one_begin [] tt n l more rest (λ h. none_left end) b));
   unended = λ more h. u.unended more (subst (λ k. HasNoEnd k more) (sym e) (no_end_more more n h));
-  is = λ more open.
-      u.is more open
+  is = λ more none_left.
+      u.is more none_left
       ∙ (ap (λ k. u.done ++ records_in k more) e
-      ∙ (ap (λ x. u.done ++ x) (one_records [] tt n more (λ h. open end))
+      ∙ (ap (λ x. u.done ++ x) (one_records [] tt n more (λ h. none_left end))
       ∙ sym (append_assoc u.done (None ∷ []) (records_in n more))));
   told = u.told;
 }

@@ -114,7 +114,7 @@ pub counted_short : (lines : List TextLine) → has_long lines ≡ false → len
     → counted (Some lines) ≡ length (molfile_text lines)
 counted_short lines h lt =
     ap (λ b. bytes_of b (length (molfile_text lines))) h
-    ∙ min-eq_left {length (molfile_text lines)} {MOST_COUNTED} (omega (arith, lt))
+    ∙ min-eq_left (omega (arith, lt))
 
 pub counted_most : (r : Option (List TextLine)) → counted r ≤ MOST_COUNTED
 counted_most None = omega arith

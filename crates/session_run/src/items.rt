@@ -49,7 +49,7 @@ fn item_of<'a>(record: &'a Record, name: &[u8]) -> Option<&'a [u8]>
 
 // Writes the data of an item, or where there is no room for them, that memory ran out.
 fn say_item(id: u32, found: Option<&[u8]>, out: &mut Vec<u8>) -> Result<(), Stop>
-    ensures { MatchOption found (Tells (item_line id None) out.old.items out.new.items result)
+    ensures { MatchOption found.entry (Tells (item_line id None) out.old.items out.new.items result)
         (λ text. Tells (item_line id (Some text.now)) out.old.items out.new.items result
         ⊎ Tells line.MemoryFault out.old.items out.new.items result) }
 {

@@ -127,38 +127,11 @@ fn records_are_answered_in_their_order(rt: HostRuntime) -> Result<(), Fail> {
         < ok 2\n\
         < refused known\n\
         < refused molfile header\n\
-        # a line with CR, one that ends no record, data with a line of blanks\n\
-        > register-sd 999999999 1\r\n\
-        > \r\n\
-        > \r\n\
-        > \r\n\
-        >   1  0  0     0  0              1 V2000\r\n\
-        >     0.0000    0.0000    0.0000 O   0  0\r\n\
-        > M  END\r\n\
-        > >  <A> (1)\r\n\
-        > one\r\n\
-        >  \r\n\
-        > two\r\n\
-        > \r\n\
-        > $$$$ \r\n\
-        > > <>\r\n\
-        > \r\n\
-        > $$$$\r\n\
+        # more records than the store takes, than the input has, and the last without its end\n\
+        > register 4 C\n\
         < ok 3\n\
-        > data 999999999 A\n\
-        < data 999999999 3\n\
-        < one\n\
-        <  \n\
-        < two\n\
-        > data 999999999 \n\
-        < data 999999999 0\n\
-        > data 999999999\n\
-        < refused syntax\n\
-        > data 0 A\n\
-        < refused id\n\
         > data 3 A\n\
         < refused data\n\
-        # more records than the store takes, than the input has, and the last without its end\n\
         > register-sd 10 4\n\
         > \n\
         > \n\
@@ -179,6 +152,23 @@ fn records_are_answered_in_their_order(rt: HostRuntime) -> Result<(), Fail> {
         < refused sd cut\n\
         ",
     )
+}
+
+// Lines that end with CR and LF, a line that ends no record, and data with a line of one blank.
+#[test]
+fn a_record_with_data_items_in_lines_with_cr(rt: HostRuntime) -> Result<(), Fail> {
+    let alloc = rt.alloc();
+    let script = "register-sd 999999999 1\r\n\
+        \r\n\r\n\r\n  1  0  0     0  0              1 V2000\r\n\
+        \x20   0.0000    0.0000    0.0000 O   0  0\r\nM  END\r\n\
+        >  <A> (1)\r\none\r\n \r\ntwo\r\n\r\n$$$$ \r\n> <>\r\n\r\n$$$$\r\n\
+        data 999999999 A\ndata 999999999 \ndata 999999999 B\ndata 999999999\ndata 0 A\n";
+    let replies = "ok 1\ndata 999999999 3\none\n \ntwo\ndata 999999999 0\n\
+        refused data\nrefused syntax\nrefused id\n";
+    let answer = call(&rt, alloc, MEM, script.as_bytes(), PLAIN)?;
+    assert_eq!(rt; answer.status, 0);
+    assert_eq!(rt; put_by(&answer), replies.as_bytes());
+    Ok(())
 }
 
 #[test]
@@ -253,23 +243,20 @@ fn records_that_are_too_long_leave_the_others(rt: HostRuntime) -> Result<(), Fai
     Ok(())
 }
 
-// Texts count at most 262,145 bytes each, and 256 of these are more than 67,108,864.
+// A record with a line that is too long counts 262,145 bytes, and 256 of these are more than 67,108,864.
 #[test]
 fn texts_of_too_many_bytes_are_refused_from_one_on(rt: HostRuntime) -> Result<(), Fail> {
     let alloc = rt.alloc();
-    let mut record = String::new(alloc);
-    push_many(&mut record, "x", 65_535)?;
-    record.push_str("\n")?;
-    let mut big = String::new(alloc);
-    push_many(&mut big, record.as_str(), 4)?;
-    big.push_str("x\n$$$$\n")?;
+    let mut long = String::new(alloc);
+    push_many(&mut long, "0123456789abcdef", 4097)?;
+    long.push_str("\n$$$$\n")?;
     let mut script = String::from_str(alloc, "register-sd 1 258\n")?;
-    push_many(&mut script, big.as_str(), 255)?;
+    push_many(&mut script, long.as_str(), 255)?;
     script.push_str("$$$$\n")?;
-    script.push_str(big.as_str())?;
+    script.push_str(long.as_str())?;
     script.push_str("$$$$\nstats\n")?;
     let mut replies = String::new(alloc);
-    push_many(&mut replies, "refused molfile limit\n", 255)?;
+    push_many(&mut replies, "refused long\n", 255)?;
     replies.push_str("refused molfile cut\nrefused sd limit\nrefused sd limit\n")?;
     replies.push_str("stats version 0 live 0 withdrawn 0 kept 0 pins 0\n")?;
     let answer = call(&rt, alloc, MEM, script.as_bytes(), PLAIN)?;
