@@ -12,8 +12,8 @@ use Rattle.shell_lang.specs.declared.command.LineRefusal.TheVariants as refusals
 use Rattle.shell_lang.specs.declared.command.TheConstants.{LARGEST_DENOMINATOR, MOST_SIMILAR}
 use Rattle.shell_lang.specs.Word.{word_text}
 use Rattle.store_machine.specs.History.{IsId}
-use Rattle.shell_lang.specs.Command.{Command, Empty, Register, RegisterNew, Revise, RegisterMol, ReviseMol, Withdraw, Show, Search, Same, Similar, Start, Next, Close, Prune, Stats, IsNoIdentifier, IsNameByte, IsName, IsSimilarity, Spells, HasNoSpace, HasIdentifierPart, IsLine, StartsWith, StartsMolfile}
-use Rattle.shell_lang.specs.Cut.{Follows, IdentifierPart, IsRest}
+use Rattle.shell_lang.specs.Command.{Command, Empty, Register, RegisterNew, Revise, RegisterMol, ReviseMol, RegisterSd, Withdraw, Show, Data, Search, Same, Similar, Start, Next, Close, Prune, Stats, AreIds, IsNameByte, IsName, IsSimilarity, Spells, HasNoSpace, HasIdentifierPart, TakesRecords, IsLine}
+use Rattle.shell_lang.specs.Cut.{Follows, IdentifierPart, FirstPart, IsRest}
 
 own : IsNumeralModel (AllDigits 10) (digits_value 10)
 own = numerals_by_value (AllDigits 10) tells_digits
@@ -29,6 +29,9 @@ no_space_in_number n small held =
 
 pub no_space : (id : ℕ) → IsId id → HasNoSpace (decimal id)
 no_space id is = no_space_in_number id (omega arith)
+
+pub no_space_first : (id count : ℕ) → AreIds id count → HasNoSpace (decimal id)
+no_space_first id count are = no_space_in_number id (omega (arith, are.1))
 
 name_byte : (b : ℕ) → b ≡ 32 → IsNameByte b → ⊥
 name_byte b e (inl x) = omega arith
@@ -73,8 +76,10 @@ one_word words.RegisterNew words.RegisterNew e = refl
 one_word words.Revise words.Revise e = refl
 one_word words.RegisterMol words.RegisterMol e = refl
 one_word words.ReviseMol words.ReviseMol e = refl
+one_word words.RegisterSd words.RegisterSd e = refl
 one_word words.Withdraw words.Withdraw e = refl
 one_word words.Show words.Show e = refl
+one_word words.Data words.Data e = refl
 one_word words.Search words.Search e = refl
 one_word words.Same words.Same e = refl
 one_word words.Similar words.Similar e = refl
@@ -104,8 +109,11 @@ follows words.RegisterNew rest (RegisterNew id text) h = (h.0, ap (λ (r : List 
 follows words.Revise rest (Revise id text) h = (h.0, ap (λ (r : List ℕ). codes "revise" ++ 32 ∷ r) h.1)
 follows words.RegisterMol rest (RegisterMol id) h = (h.0, ap (λ (r : List ℕ). codes "register-mol" ++ 32 ∷ r) h.1)
 follows words.ReviseMol rest (ReviseMol id) h = (h.0, ap (λ (r : List ℕ). codes "revise-mol" ++ 32 ∷ r) h.1)
+follows words.RegisterSd rest (RegisterSd id count) h =
+    (h.0, h.1, ap (λ (r : List ℕ). codes "register-sd" ++ 32 ∷ r) h.2)
 follows words.Withdraw rest (Withdraw id) h = (h.0, ap (λ (r : List ℕ). codes "withdraw" ++ 32 ∷ r) h.1)
 follows words.Show rest (Show id) h = (h.0, ap (λ (r : List ℕ). codes "show" ++ 32 ∷ r) h.1)
+follows words.Data rest (Data id name) h = (h.0, ap (λ (r : List ℕ). codes "data" ++ 32 ∷ r) h.1)
 follows words.Search rest (Search pattern) h = ap (λ (r : List ℕ). codes "search" ++ 32 ∷ r) h
 follows words.Same rest (Same text) h = ap (λ (r : List ℕ). codes "same" ++ 32 ∷ r) h
 follows words.Similar rest (Similar p q k text) h = (h.0, ap (λ (r : List ℕ). codes "similar" ++ 32 ∷ r) h.1)
@@ -121,15 +129,22 @@ part_follows words.RegisterNew rest part h =
     (h.0, inr (inl (h.1, ap (λ (r : List ℕ). codes "register-new" ++ 32 ∷ r) h.2)))
 part_follows words.Revise rest part h =
     (h.0, inr (inr (inl (h.1, ap (λ (r : List ℕ). codes "revise" ++ 32 ∷ r) h.2))))
+part_follows words.Data rest part h =
+    (h.0, inr (inr (inr (inl (h.1, ap (λ (r : List ℕ). codes "data" ++ 32 ∷ r) h.2)))))
 part_follows words.RegisterMol rest part h =
-    (h.0, inr (inr (inr (inl (ap (λ (r : List ℕ). codes "register-mol" ++ 32 ∷ r) h.1)))))
+    (h.0, inr (inr (inr (inr (inl (ap (λ (r : List ℕ). codes "register-mol" ++ 32 ∷ r) h.1))))))
 part_follows words.ReviseMol rest part h =
-    (h.0, inr (inr (inr (inr (inl (ap (λ (r : List ℕ). codes "revise-mol" ++ 32 ∷ r) h.1))))))
+    (h.0, inr (inr (inr (inr (inr (inl (ap (λ (r : List ℕ). codes "revise-mol" ++ 32 ∷ r) h.1)))))))
 part_follows words.Withdraw rest part h =
-    (h.0, inr (inr (inr (inr (inr (inl (ap (λ (r : List ℕ). codes "withdraw" ++ 32 ∷ r) h.1)))))))
+    (h.0, inr (inr (inr (inr (inr (inr (inl (ap (λ (r : List ℕ). codes "withdraw" ++ 32 ∷ r) h.1))))))))
 part_follows words.Show rest part h =
-    (h.0, inr (inr (inr (inr (inr (inr (ap (λ (r : List ℕ). codes "show" ++ 32 ∷ r) h.1)))))))
+    (h.0, inr (inr (inr (inr (inr (inr (inr (ap (λ (r : List ℕ). codes "show" ++ 32 ∷ r) h.1))))))))
 part_follows w rest part h = absurd h
+
+pub first_follows : (w : Word) (rest part : List ℕ) (count : ℕ) → FirstPart w rest part count →
+    TakesRecords (word_text w ++ 32 ∷ rest) part count
+first_follows words.RegisterSd rest part count h = (h.0, h.1, ap (λ (r : List ℕ). codes "register-sd" ++ 32 ∷ r) h.2)
+first_follows w rest part count h = absurd h
 
 -- a line of a word and a rest that is this command
 pub record IsCut (line : List ℕ) (c : Command) : Type 0 where
@@ -153,8 +168,16 @@ cut_of line (RegisterMol id) h =
     inr (record { word = words.RegisterMol; rest = decimal id; is = h.1; follows = (h.0, refl) })
 cut_of line (ReviseMol id) h =
     inr (record { word = words.ReviseMol; rest = decimal id; is = h.1; follows = (h.0, refl) })
+cut_of line (RegisterSd id count) h = inr (record {
+  word = words.RegisterSd;
+  rest = decimal id ++ 32 ∷ decimal count;
+  is = h.2;
+  follows = (h.0, h.1, refl);
+})
 cut_of line (Withdraw id) h = inr (record { word = words.Withdraw; rest = decimal id; is = h.1; follows = (h.0, refl) })
 cut_of line (Show id) h = inr (record { word = words.Show; rest = decimal id; is = h.1; follows = (h.0, refl) })
+cut_of line (Data id name) h =
+    inr (record { word = words.Data; rest = decimal id ++ 32 ∷ name; is = h.1; follows = (h.0, refl) })
 cut_of line (Search pattern) h = inr (record { word = words.Search; rest = pattern; is = h; follows = refl })
 cut_of line (Same text) h = inr (record { word = words.Same; rest = text; is = h; follows = refl })
 cut_of line (Similar p q k text) h = inr (record {
@@ -181,13 +204,15 @@ part_cut_of line part (n, inr (inl (text, e))) =
     record { word = words.RegisterNew; rest = part ++ 32 ∷ text; is = e; follows = (n, text, refl) }
 part_cut_of line part (n, inr (inr (inl (text, e)))) =
     record { word = words.Revise; rest = part ++ 32 ∷ text; is = e; follows = (n, text, refl) }
-part_cut_of line part (n, inr (inr (inr (inl e)))) =
-    record { word = words.RegisterMol; rest = part; is = e; follows = (n, refl) }
+part_cut_of line part (n, inr (inr (inr (inl (name, e))))) =
+    record { word = words.Data; rest = part ++ 32 ∷ name; is = e; follows = (n, name, refl) }
 part_cut_of line part (n, inr (inr (inr (inr (inl e))))) =
-    record { word = words.ReviseMol; rest = part; is = e; follows = (n, refl) }
+    record { word = words.RegisterMol; rest = part; is = e; follows = (n, refl) }
 part_cut_of line part (n, inr (inr (inr (inr (inr (inl e)))))) =
+    record { word = words.ReviseMol; rest = part; is = e; follows = (n, refl) }
+part_cut_of line part (n, inr (inr (inr (inr (inr (inr (inl e))))))) =
     record { word = words.Withdraw; rest = part; is = e; follows = (n, refl) }
-part_cut_of line part (n, inr (inr (inr (inr (inr (inr e)))))) =
+part_cut_of line part (n, inr (inr (inr (inr (inr (inr (inr e))))))) =
     record { word = words.Show; rest = part; is = e; follows = (n, refl) }
 
 -- a line is cut into one word and one rest
@@ -224,12 +249,21 @@ part_after line first rest part e n h =
     let same = one_split (word_text x.word) first x.rest rest (word_space x.word) n (sym x.is ∙ e) in
     (x.word, same.0, subst (λ (r : List ℕ). IdentifierPart x.word r part) same.1 x.follows)
 
+pub first_after : (line first rest part : List ℕ) (count : ℕ) → line ≡ first ++ 32 ∷ rest → HasNoSpace first →
+    TakesRecords line part count → (w : Word) × (word_text w ≡ first) × FirstPart w rest part count
+first_after line first rest part count e n (k, few, f) =
+    let same =
+    one_split (codes "register-sd") first (part ++ 32 ∷ decimal count) rest (word_space words.RegisterSd) n
+    (sym f ∙ e) in
+    (words.RegisterSd, same.0, (k, few, sym same.1))
+
 -- a line whose first word is none
 pub no_word : (line first rest : List ℕ) → line ≡ first ++ 32 ∷ rest → HasNoSpace first →
     ((w : Word) → word_text w ≢ first) → IsLine line (Err refusals.Syntax)
 no_word line first rest e n none = (
   λ c h. let x = spelled_after line first rest c e n h in none x.0 x.1,
   λ part h. let x = part_after line first rest part e n h in none x.0 x.1,
+  λ part count h. let x = first_after line first rest part count e n h in none x.0 x.1,
 )
 
 -- a line without a space that is no word alone
@@ -243,6 +277,7 @@ no_line line n empty prune stats = (
     | inr x ↦ n (has_space line (word_text x.word) x.rest x.is)
   ],
   λ part h. let x = part_cut_of line part h in n (has_space line (word_text x.word) x.rest x.is),
+  λ part count h. n (has_space line (codes "register-sd") (part ++ 32 ∷ decimal count) h.2),
 )
 
 -- a line is what its rest is read as
@@ -250,101 +285,27 @@ pub line_of_rest : (line first rest : List ℕ) (w : Word) (r : Result Command L
     HasNoSpace first → word_text w ≡ first → IsRest w rest r → IsLine line r
 line_of_rest line first rest w (Ok c) e n is h =
     subst (λ (l : List ℕ). Spells l c) (sym (e ∙ ap (λ (f : List ℕ). f ++ 32 ∷ rest) (sym is))) (follows w rest c h)
-line_of_rest line first rest w (Err refusals.Id) e n is h = (
-  h.0,
-  subst (λ (l : List ℕ). HasIdentifierPart l h.0) (sym (e ∙ ap (λ (f : List ℕ). f ++ 32 ∷ rest) (sym is)))
-      (part_follows w rest h.0 h.1),
-  h.2,
+line_of_rest line first rest w (Err refusals.Id) e n is (inl (part, h, none)) = inl (
+  part,
+  subst (λ (l : List ℕ). HasIdentifierPart l part) (sym (e ∙ ap (λ (f : List ℕ). f ++ 32 ∷ rest) (sym is)))
+      (part_follows w rest part h),
+  none,
+)
+line_of_rest line first rest w (Err refusals.Id) e n is (inr (part, count, h, none)) = inr (
+  part,
+  count,
+  subst (λ (l : List ℕ). TakesRecords l part count) (sym (e ∙ ap (λ (f : List ℕ). f ++ 32 ∷ rest) (sym is)))
+      (first_follows w rest part count h),
+  none,
 )
 line_of_rest line first rest w (Err refusals.Syntax) e n is h = (
   λ c s. let x = spelled_after line first rest c e n s in
       h.0 c (subst (λ (v : Word). Follows v rest c) (one_word x.0 w (x.1 ∙ sym is)) x.2),
   λ part s. let x = part_after line first rest part e n s in
       h.1 part (subst (λ (v : Word). IdentifierPart v rest part) (one_word x.0 w (x.1 ∙ sym is)) x.2),
+  λ part count s. let x = first_after line first rest part count e n s in
+      h.2 part count (subst (λ (v : Word). FirstPart v rest part count) (one_word x.0 w (x.1 ∙ sym is)) x.2),
 )
-
--- why what follows `register` or `revise` is refused
-pub registration_refused : (rest : List ℕ) (e : LineRefusal) →
-    (e ≡ refusals.Id →
-    (part : List ℕ) × HasNoSpace part × ((text : List ℕ) × (rest ≡ part ++ 32 ∷ text)) × IsNoIdentifier part) →
-    (e ≡ refusals.Syntax → HasNoSpace rest) → IsRest words.Register rest (Err e)
-registration_refused rest refusals.Id id syntax = let h = id refl in (h.0, (h.1, h.2.0, h.2.1), h.3)
-registration_refused rest refusals.Syntax id syntax =
-    (λ c h. no_registration rest (syntax refl) c h, λ part h. syntax refl (has_space rest part h.1 h.2))
-  where
-    no_registration : (rest : List ℕ) → HasNoSpace rest → (c : Command) → Follows words.Register rest c → ⊥
-    no_registration rest n (Register id text) h = n (has_space rest (decimal id) text h.1)
-    no_registration rest n c h = h
-
-pub new_refused : (rest : List ℕ) (e : LineRefusal) →
-    (e ≡ refusals.Id →
-    (part : List ℕ) × HasNoSpace part × ((text : List ℕ) × (rest ≡ part ++ 32 ∷ text)) × IsNoIdentifier part) →
-    (e ≡ refusals.Syntax → HasNoSpace rest) → IsRest words.RegisterNew rest (Err e)
-new_refused rest refusals.Id id syntax = let h = id refl in (h.0, (h.1, h.2.0, h.2.1), h.3)
-new_refused rest refusals.Syntax id syntax =
-    (λ c h. no_new rest (syntax refl) c h, λ part h. syntax refl (has_space rest part h.1 h.2))
-  where
-    no_new : (rest : List ℕ) → HasNoSpace rest → (c : Command) → Follows words.RegisterNew rest c → ⊥
-    no_new rest n (RegisterNew id text) h = n (has_space rest (decimal id) text h.1)
-    no_new rest n c h = h
-
-pub revision_refused : (rest : List ℕ) (e : LineRefusal) →
-    (e ≡ refusals.Id →
-    (part : List ℕ) × HasNoSpace part × ((text : List ℕ) × (rest ≡ part ++ 32 ∷ text)) × IsNoIdentifier part) →
-    (e ≡ refusals.Syntax → HasNoSpace rest) → IsRest words.Revise rest (Err e)
-revision_refused rest refusals.Id id syntax = let h = id refl in (h.0, (h.1, h.2.0, h.2.1), h.3)
-revision_refused rest refusals.Syntax id syntax =
-    (λ c h. no_revision rest (syntax refl) c h, λ part h. syntax refl (has_space rest part h.1 h.2))
-  where
-    no_revision : (rest : List ℕ) → HasNoSpace rest → (c : Command) → Follows words.Revise rest c → ⊥
-    no_revision rest n (Revise id text) h = n (has_space rest (decimal id) text h.1)
-    no_revision rest n c h = h
-
-pub register_mol_refused : (rest : List ℕ) (e : LineRefusal) →
-    (e ≡ refusals.Id → HasNoSpace rest × IsNoIdentifier rest) → (e ≡ refusals.Syntax → Contains rest 32) →
-    IsRest words.RegisterMol rest (Err e)
-register_mol_refused rest refusals.Id id syntax = let h = id refl in (rest, (h.0, refl), h.1)
-register_mol_refused rest refusals.Syntax id syntax = (
-  λ c h. no_register_mol rest (syntax refl) c h,
-  λ part h. h.0 (subst (λ (r : List ℕ). Contains r 32) h.1 (syntax refl)),
-)
-  where
-    no_register_mol : (rest : List ℕ) → Contains rest 32 → (c : Command) → Follows words.RegisterMol rest c → ⊥
-    no_register_mol rest held (RegisterMol id) h = no_space id h.0 (subst (λ (r : List ℕ). Contains r 32) h.1 held)
-    no_register_mol rest held c h = h
-
-pub revise_mol_refused : (rest : List ℕ) (e : LineRefusal) →
-    (e ≡ refusals.Id → HasNoSpace rest × IsNoIdentifier rest) → (e ≡ refusals.Syntax → Contains rest 32) →
-    IsRest words.ReviseMol rest (Err e)
-revise_mol_refused rest refusals.Id id syntax = let h = id refl in (rest, (h.0, refl), h.1)
-revise_mol_refused rest refusals.Syntax id syntax = (
-  λ c h. no_revise_mol rest (syntax refl) c h,
-  λ part h. h.0 (subst (λ (r : List ℕ). Contains r 32) h.1 (syntax refl)),
-)
-  where
-    no_revise_mol : (rest : List ℕ) → Contains rest 32 → (c : Command) → Follows words.ReviseMol rest c → ⊥
-    no_revise_mol rest held (ReviseMol id) h = no_space id h.0 (subst (λ (r : List ℕ). Contains r 32) h.1 held)
-    no_revise_mol rest held c h = h
-
-pub withdraw_refused : (rest : List ℕ) (e : LineRefusal) → (e ≡ refusals.Id → HasNoSpace rest × IsNoIdentifier rest) →
-    (e ≡ refusals.Syntax → Contains rest 32) → IsRest words.Withdraw rest (Err e)
-withdraw_refused rest refusals.Id id syntax = let h = id refl in (rest, (h.0, refl), h.1)
-withdraw_refused rest refusals.Syntax id syntax =
-    (λ c h. no_withdraw rest (syntax refl) c h, λ part h. h.0 (subst (λ (r : List ℕ). Contains r 32) h.1 (syntax refl)))
-  where
-    no_withdraw : (rest : List ℕ) → Contains rest 32 → (c : Command) → Follows words.Withdraw rest c → ⊥
-    no_withdraw rest held (Withdraw id) h = no_space id h.0 (subst (λ (r : List ℕ). Contains r 32) h.1 held)
-    no_withdraw rest held c h = h
-
-pub show_refused : (rest : List ℕ) (e : LineRefusal) → (e ≡ refusals.Id → HasNoSpace rest × IsNoIdentifier rest) →
-    (e ≡ refusals.Syntax → Contains rest 32) → IsRest words.Show rest (Err e)
-show_refused rest refusals.Id id syntax = let h = id refl in (rest, (h.0, refl), h.1)
-show_refused rest refusals.Syntax id syntax =
-    (λ c h. no_show rest (syntax refl) c h, λ part h. h.0 (subst (λ (r : List ℕ). Contains r 32) h.1 (syntax refl)))
-  where
-    no_show : (rest : List ℕ) → Contains rest 32 → (c : Command) → Follows words.Show rest c → ⊥
-    no_show rest held (Show id) h = no_space id h.0 (subst (λ (r : List ℕ). Contains r 32) h.1 held)
-    no_show rest held c h = h
 
 -- a name and a text behind it, where there is no space or the name is none
 pub no_name : (rest : List ℕ) → HasNoSpace rest → (name text : List ℕ) → IsName name → rest ≢ name ++ 32 ∷ text
@@ -418,31 +379,3 @@ are_similar bytes rest more text p q k small little few cut again last (Similar 
       few = (omega (arith, third.0, h.0.few.0), few);
     }
 are_similar bytes rest more text p q k small little few cut again last c h = absurd h
-
--- a line that begins with another word
-other_word : (word line : List ℕ) → word ≢ line → HasNoSpace line → ¬ StartsWith line word
-other_word word line other n (inl e) = other (sym e)
-other_word word line other n (inr h) = n (has_space line word h.0 h.1)
-
-other_first : (word line first rest : List ℕ) → HasNoSpace word → line ≡ first ++ 32 ∷ rest → HasNoSpace first →
-    word ≢ first → ¬ StartsWith line word
-other_first word line first rest w cut n other (inl e) = w (has_space word first rest (sym e ∙ cut))
-other_first word line first rest w cut n other (inr h) = other (one_split word first h.0 rest w n (sym h.1 ∙ cut)).0
-
--- a line without a space that is another word
-pub no_mol_alone : (line : List ℕ) → codes "register-mol" ≢ line → codes "revise-mol" ≢ line → HasNoSpace line →
-    ¬ StartsMolfile line
-no_mol_alone line a b n (inl h) = other_word (codes "register-mol") line a n h
-no_mol_alone line a b n (inr h) = other_word (codes "revise-mol") line b n h
-
--- a line whose first word is another
-pub no_mol : (line first rest : List ℕ) → line ≡ first ++ 32 ∷ rest → HasNoSpace first → codes "register-mol" ≢ first →
-    codes "revise-mol" ≢ first → ¬ StartsMolfile line
-no_mol line first rest cut n a b (inl h) =
-    other_first (codes "register-mol") line first rest (word_space words.RegisterMol) cut n a h
-no_mol line first rest cut n a b (inr h) =
-    other_first (codes "revise-mol") line first rest (word_space words.ReviseMol) cut n b h
-
--- a line with this first word
-pub starts : (word line first rest : List ℕ) → line ≡ first ++ 32 ∷ rest → word ≡ first → StartsWith line word
-starts word line first rest cut is = inr (rest, cut ∙ ap (λ (f : List ℕ). f ++ 32 ∷ rest) (sym is))

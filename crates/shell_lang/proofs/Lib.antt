@@ -1,3 +1,5 @@
 pub mod Cuts
 pub mod Ended
 pub mod OneCommand
+pub mod Refused
+pub mod Taken

@@ -8,9 +8,9 @@ use Rattle.shell_lang.specs.declared.command.LineRefusal.{LineRefusal}
 use Rattle.shell_lang.specs.declared.command.LineRefusal.TheVariants as refusals
 use Rattle.shell_lang.specs.Word.{word_text}
 use Rattle.store_machine.specs.History.{IsId}
-use Rattle.shell_lang.specs.Command.{Command, Empty, Register, RegisterNew, Revise, RegisterMol, ReviseMol, Withdraw, Show, Search, Same, Similar, Start, Next, Close, Prune, Stats, IsNoIdentifier, IsSimilarity, HasNoSpace, Spells, HasIdentifierPart, IsLine}
+use Rattle.shell_lang.specs.Command.{Command, Empty, Register, RegisterNew, Revise, RegisterMol, ReviseMol, RegisterSd, Withdraw, Show, Data, Search, Same, Similar, Start, Next, Close, Prune, Stats, AreIds, IsCount, IsNoFirst, IsNoIdentifier, IsSimilarity, HasNoSpace, Spells, HasIdentifierPart, TakesRecords, IsLine}
 use Rattle.shell_lang.specs.Cut.{Follows, IdentifierPart}
-use Rattle.shell_lang.proofs.Cuts.{same_number, no_space, no_space_named, one_split, one_cut, one_word, word_space, cut_of, part_cut_of, spelled_after, has_space, not_alone}
+use Rattle.shell_lang.proofs.Cuts.{same_number, no_space, no_space_first, no_space_named, one_split, one_cut, one_word, word_space, cut_of, part_cut_of, spelled_after, has_space, not_alone}
 
 -- which of the commands it is
 abbrev kind : Command → ℕ
@@ -30,6 +30,8 @@ kind Stats = 12
 kind (RegisterNew id text) = 13
 kind (Same text) = 14
 kind (Similar p q k text) = 15
+kind (RegisterSd id count) = 16
+kind (Data id name) = 17
 
 abbrev kind_after : Word → ℕ
 kind_after words.Register = 1
@@ -45,6 +47,8 @@ kind_after words.Close = 10
 kind_after words.RegisterNew = 13
 kind_after words.Same = 14
 kind_after words.Similar = 15
+kind_after words.RegisterSd = 16
+kind_after words.Data = 17
 
 follow_kind : (w : Word) (rest : List ℕ) (c : Command) → Follows w rest c → kind c ≡ kind_after w
 follow_kind words.Register rest (Register id text) h = refl
@@ -52,8 +56,10 @@ follow_kind words.RegisterNew rest (RegisterNew id text) h = refl
 follow_kind words.Revise rest (Revise id text) h = refl
 follow_kind words.RegisterMol rest (RegisterMol id) h = refl
 follow_kind words.ReviseMol rest (ReviseMol id) h = refl
+follow_kind words.RegisterSd rest (RegisterSd id count) h = refl
 follow_kind words.Withdraw rest (Withdraw id) h = refl
 follow_kind words.Show rest (Show id) h = refl
+follow_kind words.Data rest (Data id name) h = refl
 follow_kind words.Search rest (Search pattern) h = refl
 follow_kind words.Same rest (Same text) h = refl
 follow_kind words.Similar rest (Similar p q k text) h = refl
@@ -79,8 +85,12 @@ kind_without_space line (Revise id text) n h =
     absurd (n (has_space line (codes "revise") (decimal id ++ 32 ∷ text) h.1))
 kind_without_space line (RegisterMol id) n h = absurd (n (has_space line (codes "register-mol") (decimal id) h.1))
 kind_without_space line (ReviseMol id) n h = absurd (n (has_space line (codes "revise-mol") (decimal id) h.1))
+kind_without_space line (RegisterSd id count) n h =
+    absurd (n (has_space line (codes "register-sd") (decimal id ++ 32 ∷ decimal count) h.2))
 kind_without_space line (Withdraw id) n h = absurd (n (has_space line (codes "withdraw") (decimal id) h.1))
 kind_without_space line (Show id) n h = absurd (n (has_space line (codes "show") (decimal id) h.1))
+kind_without_space line (Data id name) n h =
+    absurd (n (has_space line (codes "data") (decimal id ++ 32 ∷ name) h.1))
 kind_without_space line (Search pattern) n h = absurd (n (has_space line (codes "search") pattern h))
 kind_without_space line (Same text) n h = absurd (n (has_space line (codes "same") text h))
 kind_without_space line (Similar p q k text) n h = absurd (n (has_space line (codes "similar") _ h.1))
@@ -110,6 +120,16 @@ same_registration m n t u p q e = same_number m n t u (omega arith) (omega arith
 
 same_identifier : (m n : ℕ) → IsId m → IsId n → decimal m ≡ decimal n → m ≡ n
 same_identifier m n p q e = decimal_injective m n (omega arith) (omega arith) e
+
+-- a first identifier and a number of records behind the same word
+same_count : (a b : ℕ) → IsCount a → IsCount b → decimal a ≡ decimal b → a ≡ b
+same_count a b p q e = decimal_injective a b (omega arith) (omega arith) e
+
+same_records : (m n a b : ℕ) → IsCount a → AreIds m a → IsCount b → AreIds n b →
+    decimal m ++ 32 ∷ decimal a ≡ decimal n ++ 32 ∷ decimal b → (m ≡ n) × (a ≡ b)
+same_records m n a b few are small all e =
+    let same = same_number m n (decimal a) (decimal b) (omega arith) (omega arith) e in
+    (same.0, same_count a b few small same.1)
 
 -- what stands behind the same word and a space
 behind : (word : List ℕ) (line r s : List ℕ) → line ≡ word ++ 32 ∷ r → line ≡ word ++ 32 ∷ s → r ≡ s
@@ -142,9 +162,15 @@ same_command line (RegisterMol m) (RegisterMol n) p q =
     ap RegisterMol (same_identifier m n p.0 q.0 (behind (codes "register-mol") line _ _ p.1 q.1))
 same_command line (ReviseMol m) (ReviseMol n) p q =
     ap ReviseMol (same_identifier m n p.0 q.0 (behind (codes "revise-mol") line _ _ p.1 q.1))
+same_command line (RegisterSd m a) (RegisterSd n b) p q =
+    let same = same_records m n a b p.0 p.1 q.0 q.1 (behind (codes "register-sd") line _ _ p.2 q.2) in
+    ap (λ i. RegisterSd i a) same.0 ∙ ap (λ i. RegisterSd n i) same.1
 same_command line (Withdraw m) (Withdraw n) p q =
     ap Withdraw (same_identifier m n p.0 q.0 (behind (codes "withdraw") line _ _ p.1 q.1))
 same_command line (Show m) (Show n) p q = ap Show (same_identifier m n p.0 q.0 (behind (codes "show") line _ _ p.1 q.1))
+same_command line (Data m t) (Data n u) p q =
+    let same = same_registration m n t u p.0 q.0 (behind (codes "data") line _ _ p.1 q.1) in
+    ap (λ i. Data i t) same.0 ∙ ap (λ (w : List ℕ). Data n w) same.1
 same_command line (Search t) (Search u) p q = ap Search (behind (codes "search") line _ _ p q)
 same_command line (Same t) (Same u) p q = ap Same (behind (codes "same") line _ _ p q)
 same_command line (Similar a b c t) (Similar d e f u) p q =
@@ -178,6 +204,9 @@ no_part words.RegisterMol rest part (RegisterMol id) h p none = none id h.0 (sym
 no_part words.ReviseMol rest part (ReviseMol id) h p none = none id h.0 (sym p.1 ∙ h.1)
 no_part words.Withdraw rest part (Withdraw id) h p none = none id h.0 (sym p.1 ∙ h.1)
 no_part words.Show rest part (Show id) h p none = none id h.0 (sym p.1 ∙ h.1)
+no_part words.RegisterSd rest part c h p none = p
+no_part words.Data rest part (Data id name) h p none =
+    none id h.0 (one_split part (decimal id) p.1 name p.0 (no_space id h.0) (sym p.2 ∙ h.1)).0
 no_part words.Search rest part c h p none = p
 no_part words.Same rest part c h p none = p
 no_part words.Similar rest part c h p none = p
@@ -195,13 +224,36 @@ no_identifier_refused line part c h p none =
     no_part y.0 x.rest part c y.2
     (subst (λ (w : Word). IdentifierPart w x.rest part) (sym (one_word y.0 x.word y.1)) x.follows) none
 
+-- no first identifier is a part that is none
+no_first : (part : List ℕ) (count : ℕ) (c : Command) → HasNoSpace part → IsCount count → IsNoFirst part count →
+    Follows words.RegisterSd (part ++ 32 ∷ decimal count) c → ⊥
+no_first part count (RegisterSd id n) k few none h =
+    let same = one_split part (decimal id) (decimal count) (decimal n) k (no_space_first id n h.1) h.2 in
+    none id (subst (λ m. AreIds id m) (sym (same_count count n few h.0 same.1)) h.1) same.0
+no_first part count c k few none h = h
+
+no_first_refused : (line part : List ℕ) (count : ℕ) (c : Command) → Spells line c → TakesRecords line part count →
+    IsNoFirst part count → ⊥
+no_first_refused line part count c h (k, few, e) none =
+    let x = spelled_after line (codes "register-sd") (part ++ 32 ∷ decimal count) c e (word_space words.RegisterSd) h in
+    no_first part count c k few none
+    (subst (λ (w : Word). Follows w (part ++ 32 ∷ decimal count) c) (one_word x.0 words.RegisterSd x.1) x.2)
+
 pub same_reading : (line : List ℕ) (a b : Result Command LineRefusal) → IsLine line a → IsLine line b → a ≡ b
 same_reading line (Ok c) (Ok d) p q = ap Ok (same_command line c d p q)
-same_reading line (Ok c) (Err refusals.Id) p q = absurd (no_identifier_refused line q.0 c p q.1 q.2)
+same_reading line (Ok c) (Err refusals.Id) p (inl (part, q, none)) =
+    absurd (no_identifier_refused line part c p q none)
+same_reading line (Ok c) (Err refusals.Id) p (inr (part, count, q, none)) =
+    absurd (no_first_refused line part count c p q none)
 same_reading line (Ok c) (Err refusals.Syntax) p q = absurd (q.0 c p)
-same_reading line (Err refusals.Id) (Ok d) p q = absurd (no_identifier_refused line p.0 d q p.1 p.2)
+same_reading line (Err refusals.Id) (Ok d) (inl (part, p, none)) q =
+    absurd (no_identifier_refused line part d q p none)
+same_reading line (Err refusals.Id) (Ok d) (inr (part, count, p, none)) q =
+    absurd (no_first_refused line part count d q p none)
 same_reading line (Err refusals.Id) (Err refusals.Id) p q = refl
-same_reading line (Err refusals.Id) (Err refusals.Syntax) p q = absurd (q.1 p.0 p.1)
+same_reading line (Err refusals.Id) (Err refusals.Syntax) (inl (part, p, none)) q = absurd (q.1 part p)
+same_reading line (Err refusals.Id) (Err refusals.Syntax) (inr (part, count, p, none)) q = absurd (q.2 part count p)
 same_reading line (Err refusals.Syntax) (Ok d) p q = absurd (p.0 d q)
-same_reading line (Err refusals.Syntax) (Err refusals.Id) p q = absurd (p.1 q.0 q.1)
+same_reading line (Err refusals.Syntax) (Err refusals.Id) p (inl (part, q, none)) = absurd (p.1 part q)
+same_reading line (Err refusals.Syntax) (Err refusals.Id) p (inr (part, count, q, none)) = absurd (p.2 part count q)
 same_reading line (Err refusals.Syntax) (Err refusals.Syntax) p q = refl

@@ -2,7 +2,7 @@
 ghost use Rattle.std.specs.Prelude.{◌≡◌, ◌≢◌, ◌≤◌, ◌∷◌, ◌++◌, ℕ, List, All, Contains, codes, decimal, IfSome, IfNone, IfOk, IfErr, IsErrOf, IsTrue, Result, ◌↔◌};
 ghost use Rattle.store_machine.specs.History.{IsId};
 ghost use Rattle.shell_lang.specs.Command as spec;
-ghost use Rattle.shell_lang.specs.Command.{AreIds, IsCount, IsNoFirst, IsNoIdentifier, IsNameByte, IsName, Spells, HasNoSpace, HasIdentifierPart, IsLine, StartsMolfile, EndsMolfile, TakesLines, molfile_command};
+ghost use Rattle.shell_lang.specs.Command.{AreIds, IsCount, IsNoFirst, IsNoIdentifier, IsNameByte, IsName, Spells, HasNoSpace, HasIdentifierPart, IsLine, EndsMolfile, TakesLines, molfile_command};
 ghost use Rattle.shell_lang.specs.CommandView.{Takes, command_of, reading_of};
 ghost use Rattle.shell_lang.specs.Word.{word_text};
 ghost use Rattle.shell_lang.specs.Cut.{FirstPart, Follows, IsRest};
@@ -54,8 +54,8 @@ pub enum Command<'a> {
     ReviseMol {
         id: u32,
     },
-    /// `register-sd ID COUNT`, `count` 1 to 4096; the lines of so many records of an SD file follow, which get identifiers
-    /// from `id` on.
+    /// `register-sd ID COUNT`, `count` 1 to 4096; the lines of `count` records of an SD file follow, which get the
+    /// identifiers from `id` on.
     RegisterSd {
         id: u32,
         count: u32,
@@ -151,9 +151,9 @@ pub fn read_command(line: &[u8]) -> Result<Command<'_>, LineRefusal>
     with_rest(word, rest)
 }
 
-/// Which lines a line takes after it: those of a molfile where its first part is `register-mol` or `revise-mol`, whatever
-/// the line is read as; those of some records where it is a `register-sd` of three parts whose last is a number of
-/// records. `None` of any other line.
+/// Which lines a line takes after it. A line whose first part is `register-mol` or `revise-mol` takes those of a
+/// molfile, whatever it is read as. A line of three parts, `register-sd`, any bytes and a number of records, takes
+/// those of so many records. `None` of any other line.
 pub fn taken_lines(line: &[u8]) -> Option<TakenLines>
     ensures some { IfSome result (λ taken. Takes taken line.now) }
     ensures none { IfNone result (¬ TakesLines line.now) }
@@ -321,7 +321,8 @@ fn taken_alone(line: &[u8]) -> Option<TakenLines>
 // The records that a line takes, by what follows `register-sd`.
 fn taken_records(rest: &[u8]) -> Option<TakenLines>
     ensures some { IfSome result (λ taken. Takes taken (codes "register-sd" ++ 32 ∷ rest.now)) }
-    ensures none { IfNone result ((part : List ℕ) (count : ℕ) → ¬ FirstPart words.RegisterSd rest.now part count) }
+    ensures none { IfNone result ((part : List ℕ) (count : ℕ)
+        → ¬ FirstPart words.RegisterSd rest.now part count) }
 {
     let (part, count) = part_and_count(rest)?;
     let first = first_of(part, count).ok_or(LineRefusal::Id);
@@ -330,7 +331,8 @@ fn taken_records(rest: &[u8]) -> Option<TakenLines>
 
 // What follows `register-sd`: the first identifier and the number of records.
 fn first_and_count(rest: &[u8]) -> Result<(u32, u32), LineRefusal>
-    ensures ok { IfOk result (λ r. IsCount r.1 × AreIds r.0 r.1 × (rest.now ≡ decimal r.0 ++ 32 ∷ decimal r.1)) }
+    ensures ok { IfOk result (λ r. IsCount r.1 × AreIds r.0 r.1
+        × (rest.now ≡ decimal r.0 ++ 32 ∷ decimal r.1)) }
     ensures id { IsErrOf result LineRefusal.Id → (part : List ℕ) × (count : ℕ)
         × FirstPart words.RegisterSd rest.now part count × IsNoFirst part count }
     ensures syntax { IsErrOf result LineRefusal.Syntax → (part : List ℕ) (count : ℕ)
@@ -344,7 +346,8 @@ fn first_and_count(rest: &[u8]) -> Result<(u32, u32), LineRefusal>
 // A part for the first identifier, and a number of records.
 fn part_and_count(rest: &[u8]) -> Option<(&[u8], u32)>
     ensures some { IfSome result (λ r. FirstPart words.RegisterSd rest.now r.0.now r.1) }
-    ensures none { IfNone result ((part : List ℕ) (count : ℕ) → ¬ FirstPart words.RegisterSd rest.now part count) }
+    ensures none { IfNone result ((part : List ℕ) (count : ℕ)
+        → ¬ FirstPart words.RegisterSd rest.now part count) }
 {
     let (part, digits) = split_at_space(rest)?;
     match decimal(digits, u64::from(MOST_SD_RECORDS)) {

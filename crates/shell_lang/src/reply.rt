@@ -127,7 +127,8 @@ pub fn reply_text(reply: &Reply, out: &mut Vec<u8>) -> Result<(), AllocError>
     result
 }
 
-/// Appends the lines of a data item: how many lines its data have, and these, each with its LF. An `Err` changes nothing.
+/// Appends the lines of a data item: how many lines its data have, and these, each with its LF. An `Err` changes
+/// nothing.
 pub fn data_text(id: u32, text: &[u8], out: &mut Vec<u8>) -> Result<(), AllocError>
     ensures ok { OnOk result (out.new.items ≡ out.old.items ++ reply_line (Data id text.now)) }
     ensures err { OnErr result (out.new.items ≡ out.old.items) }

@@ -87,6 +87,91 @@ fn lines_are_read_by_their_parts(rt: HostRuntime) {
 }
 
 #[test]
+fn lines_on_sd_files_are_read_by_their_parts(rt: HostRuntime) {
+    use LineRefusal::{Id, Syntax};
+    for (line, refusal) in [
+        ("register-sd 1 1", None),
+        ("register-sd 1 4096", None),
+        ("register-sd 999999999 1", None),
+        ("register-sd 999995904 4096", None),
+        ("register-sd 999995905 4096", Some(Id)),
+        ("register-sd 999999999 2", Some(Id)),
+        ("register-sd 1000000000 1", Some(Id)),
+        ("register-sd x 1", Some(Id)),
+        ("register-sd 0 1", Some(Id)),
+        ("register-sd 01 1", Some(Id)),
+        ("register-sd  1", Some(Id)),
+        ("register-sd", Some(Syntax)),
+        ("register-sd ", Some(Syntax)),
+        ("register-sd 1", Some(Syntax)),
+        ("register-sd 1 ", Some(Syntax)),
+        ("register-sd  1 1", Some(Syntax)),
+        ("register-sd 1  1", Some(Syntax)),
+        ("register-sd 1 1 ", Some(Syntax)),
+        ("register-sd 1 2 3", Some(Syntax)),
+        ("register-sd 1 0", Some(Syntax)),
+        ("register-sd 1 01", Some(Syntax)),
+        ("register-sd 1 +1", Some(Syntax)),
+        ("register-sd 1 4097", Some(Syntax)),
+        ("register-sd 1 18446744073709551617", Some(Syntax)),
+        ("register-sd x 0", Some(Syntax)),
+        ("register-sdf 1 1", Some(Syntax)),
+        ("data 7 a-b", None),
+        ("data 7 ", None),
+        ("data 7", Some(Syntax)),
+        ("data", Some(Syntax)),
+        ("data ", Some(Syntax)),
+        ("data x n", Some(Id)),
+        ("data 07 n", Some(Id)),
+        ("data  7 n", Some(Id)),
+    ] {
+        assert_eq!(rt; read_command(line.as_bytes()).err(), refusal, "at {line}");
+    }
+}
+
+#[test]
+fn some_lines_take_lines_after_them(rt: HostRuntime) {
+    use LineRefusal::{Id, Syntax};
+    use TakenLines::Molfile;
+    for (line, taken) in [
+        ("", None),
+        ("register 1 C", None),
+        ("data 7 n", None),
+        (
+            "register-mol 7",
+            Some(Molfile(Ok(MolfileChange::Register { id: 7 }))),
+        ),
+        (
+            "revise-mol 7",
+            Some(Molfile(Ok(MolfileChange::Revise { id: 7 }))),
+        ),
+        ("register-mol", Some(Molfile(Err(Syntax)))),
+        ("revise-mol 7 8", Some(Molfile(Err(Syntax)))),
+        ("revise-mol x", Some(Molfile(Err(Id)))),
+        ("register-sd 7 4096", Some(records(4096, Ok(7)))),
+        ("register-sd 999999999 1", Some(records(1, Ok(999_999_999)))),
+        ("register-sd 999999999 2", Some(records(2, Err(Id)))),
+        ("register-sd x 1", Some(records(1, Err(Id)))),
+        ("register-sd 01 1", Some(records(1, Err(Id)))),
+        ("register-sd  1", Some(records(1, Err(Id)))),
+        ("register-sd", None),
+        ("register-sd 1", None),
+        ("register-sd 1 0", None),
+        ("register-sd 1 01", None),
+        ("register-sd 1 4097", None),
+        ("register-sd  1 1", None),
+        ("register-sd 1 2 3", None),
+        ("register-sdf 1 1", None),
+    ] {
+        assert_eq!(rt; taken_lines(line.as_bytes()), taken, "at {line}");
+    }
+}
+
+fn records(count: u32, first: Result<u32, LineRefusal>) -> TakenLines {
+    TakenLines::Records { count, first }
+}
+
+#[test]
 fn parts_are_given(rt: HostRuntime) {
     assert!(rt;
         matches!(
@@ -119,6 +204,27 @@ fn parts_are_given(rt: HostRuntime) {
         matches!(
             read_command(b"same  C C"),
             Ok(Command::Same { text: b" C C" })
+        )
+    );
+    assert!(rt;
+        matches!(
+            read_command(b"register-sd 7 12"),
+            Ok(Command::RegisterSd { id: 7, count: 12 })
+        )
+    );
+    assert!(rt;
+        matches!(
+            read_command(b"data 7  a-b "),
+            Ok(Command::Data {
+                id: 7,
+                name: b" a-b "
+            })
+        )
+    );
+    assert!(rt;
+        matches!(
+            read_command(b"data 7 "),
+            Ok(Command::Data { id: 7, name: b"" })
         )
     );
     assert!(rt;

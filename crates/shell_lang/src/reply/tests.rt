@@ -69,8 +69,11 @@ fn replies_are_written(rt: HostRuntime) -> Result<(), Fail> {
         ),
         (Reply::Refused(Refusal::Cursor), "refused cursor\n"),
         (Reply::Refused(Refusal::Same { id: 1 }), "refused same 1\n"),
+        (Reply::Refused(Refusal::SdCut), "refused sd cut\n"),
+        (Reply::Refused(Refusal::SdLimit), "refused sd limit\n"),
         (Reply::Refused(Refusal::Absent), "refused absent\n"),
         (Reply::Refused(Refusal::Withdrawn), "refused withdrawn\n"),
+        (Reply::Refused(Refusal::Data), "refused data\n"),
         (Reply::Refused(Refusal::Pins), "refused pins\n"),
         (Reply::DiskFault { doubt: false }, "fault disk sure\n"),
         (Reply::DiskFault { doubt: true }, "fault disk doubt\n"),
@@ -78,6 +81,24 @@ fn replies_are_written(rt: HostRuntime) -> Result<(), Fail> {
     ] {
         let mut out = Vec::new(alloc);
         reply_text(&reply, &mut out)?;
+        assert_eq!(rt; out.as_slice(), lines.as_bytes(), "at {lines}");
+    }
+    Ok(())
+}
+
+#[test]
+fn data_are_written(rt: HostRuntime) -> Result<(), Fail> {
+    let alloc = rt.alloc();
+    for (text, lines) in [
+        ("", "data 7 0\n"),
+        ("\n", "data 7 1\n\n"),
+        ("1.5", "data 7 1\n1.5\n"),
+        ("1.5\n", "data 7 1\n1.5\n"),
+        ("a\n b", "data 7 2\na\n b\n"),
+        ("a\n\nb\n", "data 7 3\na\n\nb\n"),
+    ] {
+        let mut out = Vec::new(alloc);
+        data_text(7, text.as_bytes(), &mut out)?;
         assert_eq!(rt; out.as_slice(), lines.as_bytes(), "at {lines}");
     }
     Ok(())

@@ -1,6 +1,6 @@
 use Rattle.std.proofs.Common.{Err, ap, sym, ◌∙◌}
 use Rattle.std.proofs.lemmas.Result.{err_from_is_err_and}
-use Rattle.shell_lang.proofs.Cuts.{register_mol_refused}
+use Rattle.shell_lang.proofs.Refused.{register_mol_refused}
 use Rattle.shell_lang.proofs.command.registration.Goals as goal
 
 pub returns-in_err-id : goal.returns-in_err-id

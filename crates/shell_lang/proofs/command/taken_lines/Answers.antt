@@ -1,7 +1,8 @@
 use Rattle.std.proofs.Common.{inl, inr}
 use Rattle.shell_lang.specs.declared.word.Word.TheVariants as words
-use Rattle.shell_lang.proofs.Cuts.{starts, line_of_rest, no_mol}
-use Rattle.shell_lang.proofs.command.molfile_change.Goals as goal
+use Rattle.shell_lang.proofs.Cuts.{line_of_rest}
+use Rattle.shell_lang.proofs.Taken.{starts, no_lines}
+use Rattle.shell_lang.proofs.command.taken_lines.Goals as goal
 
 pub returns-then-is_spelled-clause-some : goal.returns-then-is_spelled-clause-some
 returns-then-is_spelled-clause-some c = (
@@ -19,5 +20,5 @@ returns-then-is_spelled-2-clause-some c = (
 
 pub returns-clause-none : goal.returns-clause-none
 returns-clause-none c =
-    no_mol _ _ _ c.in-Some.ensures.parts c.in-Some.ensures.first c.if-is_spelled.ensures.other
-    c.if-is_spelled-2.ensures.other
+    no_lines _ _ _ c.in-Some.ensures.parts c.in-Some.ensures.first c.if-is_spelled.ensures.other
+    c.if-is_spelled-2.ensures.other c.if-is_spelled-3.ensures.other

@@ -1,6 +1,6 @@
 use Rattle.std.proofs.Common.{Err, ap, sym, ◌∙◌}
 use Rattle.std.proofs.lemmas.Result.{err_from_is_err_and}
-use Rattle.shell_lang.proofs.Cuts.{registration_refused, new_refused, revision_refused, register_mol_refused, revise_mol_refused, withdraw_refused, show_refused}
+use Rattle.shell_lang.proofs.Refused.{registration_refused, new_refused, revision_refused, register_mol_refused, revise_mol_refused, register_sd_refused, withdraw_refused, show_refused, data_refused}
 use Rattle.shell_lang.proofs.command.with_rest.Goals as goal
 
 pub returns-in_err-id-in-Register : goal.returns-in_err-id-in-Register
@@ -47,6 +47,15 @@ returns-in_err-identifier_alone-in-ReviseMol c =
     (revise_mol_refused _ p.0 (λ e. found.id (ap (λ x. Err x) (sym p.2 ∙ e)))
     (λ e. found.syntax (ap (λ x. Err x) (sym p.2 ∙ e))))
 
+pub returns-in_err-id-in-RegisterSd : goal.returns-in_err-id-in-RegisterSd
+returns-in_err-id-in-RegisterSd c =
+    let found = c.in_err-id-in-RegisterSd.ensures in
+    let p = err_from_is_err_and c.from_residual-in_err-id-in-RegisterSd.result
+    c.from_residual-in_err-id-in-RegisterSd.ensures.1 in
+    rw (c.in-RegisterSd.is, p.1)
+    (register_sd_refused _ p.0 (λ e. found.id (ap (λ x. Err x) (sym p.2 ∙ e)))
+    (λ e. found.syntax (ap (λ x. Err x) (sym p.2 ∙ e))))
+
 pub returns-in_err-identifier_alone-in-Withdraw : goal.returns-in_err-identifier_alone-in-Withdraw
 returns-in_err-identifier_alone-in-Withdraw c =
     let found = c.in_err-identifier_alone-in-Withdraw.ensures in
@@ -63,4 +72,13 @@ returns-in_err-identifier_alone-in-Show c =
     c.from_residual-in_err-identifier_alone-in-Show.ensures.1 in
     rw (c.in-Show.is, p.1)
     (show_refused _ p.0 (λ e. found.id (ap (λ x. Err x) (sym p.2 ∙ e)))
+    (λ e. found.syntax (ap (λ x. Err x) (sym p.2 ∙ e))))
+
+pub returns-in_err-id-in-Data : goal.returns-in_err-id-in-Data
+returns-in_err-id-in-Data c =
+    let found = c.in_err-id-in-Data.ensures in
+    let p = err_from_is_err_and c.from_residual-in_err-id-in-Data.result
+    c.from_residual-in_err-id-in-Data.ensures.1 in
+    rw (c.in-Data.is, p.1)
+    (data_refused _ p.0 (λ e. found.id (ap (λ x. Err x) (sym p.2 ∙ e)))
     (λ e. found.syntax (ap (λ x. Err x) (sym p.2 ∙ e))))
