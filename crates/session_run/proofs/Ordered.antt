@@ -13,10 +13,11 @@ use Rattle.session_run.proofs.Continued.{lines_more, lines_same}
 no_end_more : (lines : List TextLine) (n : ℕ) → HasNoEnd n lines → HasNoEnd (suc n) lines
 no_end_more lines zero h = absurd h
 no_end_more [] (suc n) h = tt
-no_end_more (line ∷ lines) (suc n) h = by (ends_record line) h where
-  by : (b : Bool) → HasNoEnd (if b then n else suc n) lines → HasNoEnd (if b then suc n else suc (suc n)) lines
-  by true h = no_end_more lines n h
-  by false h = no_end_more lines (suc n) h
+no_end_more (line ∷ lines) (suc n) h = by (ends_record line) (no_end_more lines) h where
+  by : (b : Bool) → ((k : ℕ) → HasNoEnd k lines → HasNoEnd (suc k) lines) → HasNoEnd (if b then n else suc n) lines
+      → HasNoEnd (if b then suc n else suc (suc n)) lines
+  by true more h = more n h
+  by false more h = more (suc n) h
 
 no_end_up : (n : ℕ) (lines : List TextLine) → HasNoEnd 1 lines → HasNoEnd (suc n) lines
 no_end_up zero lines h = h
@@ -98,49 +99,54 @@ one_records (line ∷ one) i n more none_left =
 -- a record whose lines have no end
 first_whole : (one : List TextLine) → HasNoEnd 1 one → first_record one ≡ one
 first_whole [] h = refl
-first_whole (line ∷ one) h = by (ends_record line) h where
-  by : (b : Bool) → HasNoEnd (if b then 0 else 1) one → front_by b line (first_record one) ≡ line ∷ one
-  by true h = absurd h
-  by false h = ap (λ l. line ∷ l) (first_whole one h)
+first_whole (line ∷ one) h = by (ends_record line) (first_whole one) h where
+  by : (b : Bool) → (HasNoEnd 1 one → first_record one ≡ one) → HasNoEnd (if b then 0 else 1) one
+      → front_by b line (first_record one) ≡ line ∷ one
+  by true rest h = absurd h
+  by false rest h = ap (λ l. line ∷ l) (rest h)
 
 no_end_one : (one : List TextLine) → HasNoEnd 1 one → IsOne one
 no_end_one [] h = tt
-no_end_one (line ∷ one) h = by (ends_record line) refl h where
-  by : (b : Bool) → ends_record line ≡ b → HasNoEnd (if b then 0 else 1) one → IsOne (line ∷ one)
-  by true e h = absurd h
-  by false e h = inr (e, no_end_one one h)
+no_end_one (line ∷ one) h = by (ends_record line) refl (no_end_one one) h where
+  by : (b : Bool) → ends_record line ≡ b → (HasNoEnd 1 one → IsOne one) → HasNoEnd (if b then 0 else 1) one
+      → IsOne (line ∷ one)
+  by true e rest h = absurd h
+  by false e rest h = inr (e, rest h)
 
 -- with a line that ends none, and with one that ends it
 no_end_last : (one : List TextLine) (line : TextLine) → HasNoEnd 1 one → ends_record line ≡ false
     → HasNoEnd 1 (one ++ line ∷ [])
 no_end_last [] line h e = unended_line line [] e tt
-no_end_last (l ∷ one) line h e = by (ends_record l) h where
-  by : (b : Bool) → HasNoEnd (if b then 0 else 1) one → HasNoEnd (if b then 0 else 1) (one ++ line ∷ [])
-  by true h = absurd h
-  by false h = no_end_last one line h e
+no_end_last (l ∷ one) line h e = by (ends_record l) (λ k. no_end_last one line k e) h where
+  by : (b : Bool) → (HasNoEnd 1 one → HasNoEnd 1 (one ++ line ∷ [])) → HasNoEnd (if b then 0 else 1) one
+      → HasNoEnd (if b then 0 else 1) (one ++ line ∷ [])
+  by true rest h = absurd h
+  by false rest h = rest h
 
 ended_one : (one : List TextLine) (line : TextLine) → HasNoEnd 1 one → ends_record line ≡ true
     → IsOne (one ++ line ∷ [])
 ended_one [] line h e = inl (e, refl)
-ended_one (l ∷ one) line h e = by (ends_record l) refl h where
-  by : (b : Bool) → ends_record l ≡ b → HasNoEnd (if b then 0 else 1) one → IsOne (l ∷ (one ++ line ∷ []))
-  by true f h = absurd h
-  by false f h = inr (f, ended_one one line h e)
+ended_one (l ∷ one) line h e = by (ends_record l) refl (λ k. ended_one one line k e) h where
+  by : (b : Bool) → ends_record l ≡ b → (HasNoEnd 1 one → IsOne (one ++ line ∷ []))
+      → HasNoEnd (if b then 0 else 1) one → IsOne (l ∷ (one ++ line ∷ []))
+  by true f rest h = absurd h
+  by false f rest h = inr (f, rest h)
 
 ended_not : (one : List TextLine) (line : TextLine) → ends_record line ≡ true → HasNoEnd 1 (one ++ line ∷ []) → ⊥
 ended_not [] line e h = subst (λ (b : Bool). HasNoEnd (if b then 0 else 1) []) e h
-ended_not (l ∷ one) line e h = by (ends_record l) h where
-  by : (b : Bool) → HasNoEnd (if b then 0 else 1) (one ++ line ∷ []) → ⊥
-  by true h = h
-  by false h = ended_not one line e h
+ended_not (l ∷ one) line e h = by (ends_record l) (ended_not one line e) h where
+  by : (b : Bool) → (HasNoEnd 1 (one ++ line ∷ []) → ⊥) → HasNoEnd (if b then 0 else 1) (one ++ line ∷ []) → ⊥
+  by true rest h = h
+  by false rest h = rest h
 
 ended_first : (one : List TextLine) (line : TextLine) → HasNoEnd 1 one → ends_record line ≡ true
     → first_record (one ++ line ∷ []) ≡ one
 ended_first [] line h e = ap (λ b. front_by b line []) e
-ended_first (l ∷ one) line h e = by (ends_record l) h where
-  by : (b : Bool) → HasNoEnd (if b then 0 else 1) one → front_by b l (first_record (one ++ line ∷ [])) ≡ l ∷ one
-  by true h = absurd h
-  by false h = ap (λ k. l ∷ k) (ended_first one line h e)
+ended_first (l ∷ one) line h e = by (ends_record l) (λ k. ended_first one line k e) h where
+  by : (b : Bool) → (HasNoEnd 1 one → first_record (one ++ line ∷ []) ≡ one) → HasNoEnd (if b then 0 else 1) one
+      → front_by b l (first_record (one ++ line ∷ [])) ≡ l ∷ one
+  by true rest h = absurd h
+  by false rest h = ap (λ k. l ∷ k) (rest h)
 
 record_last : (one : List TextLine) (line : TextLine)
     → record_of (one ++ line ∷ []) ≡ Some (first_record (one ++ line ∷ []))
@@ -179,25 +185,25 @@ line_told : (before now next : Option (List ℕ)) (f f' f'' : ℕ) (old r r' : R
     (line : TextLine) → ReadsOn before now f f' old r → ReadsOn now next f' f'' r r'
     → ReadsLines old r before now (λ all left. all ≡ lines ++ left) → NextIs r r' now next line
     → ReadsLines old r' before next (λ all left. all ≡ (lines ++ line ∷ []) ++ left)
-line_told before now next f f' f'' old r r' lines line reads then told is =
+line_told before now next f f' f'' old r r' lines line reads next_reads told is =
     lines_more (λ all left. all ≡ lines ++ left) (λ all left. all ≡ line ∷ left)
     (λ all left. all ≡ (lines ++ line ∷ []) ++ left)
     (λ all between left a b. a ∙ (ap (λ l. lines ++ l) b ∙ sym (append_assoc lines (line ∷ []) left)))
-    before now next f f' f'' old r r' reads then told is
+    before now next f f' f'' old r r' reads next_reads told is
 
 pub one_line : (before now next : Option (List ℕ)) (f f' f'' : ℕ) (old r r' : Reading) (text text' : List ℕ)
     (part part' : Part) (some : Bool) (line : TextLine) → (u : IsTakingOne before now old r text part some)
     → ReadsOn before now f f' old r → ReadsOn now next f' f'' r r' → ends_record line ≡ false
     → NextIs r r' now next line → IsPart part' (u.lines ++ line ∷ []) text'
     → IsTakingOne before next old r' text' part' true
-one_line before now next f f' f'' old r r' text text' part part' some line u reads then e is p =
+one_line before now next f f' f'' old r r' text text' part part' some line u reads next_reads e is p =
     let none = no_end_last u.lines line u.none e in
     record {
       lines = u.lines ++ line ∷ [];
       is = p;
       none = none;
       any = record_last u.lines line ∙ ap (λ (l : List TextLine). Some l) (first_whole (u.lines ++ line ∷ []) none);
-      told = line_told before now next f f' f'' old r r' u.lines line reads then u.told is;
+      told = line_told before now next f f' f'' old r r' u.lines line reads next_reads u.told is;
     }
 
 -- its end was taken
@@ -205,7 +211,7 @@ pub one_ended : (before now next : Option (List ℕ)) (f f' f'' : ℕ) (old r r'
     (part : Part) (some : Bool) (line : TextLine) → IsTakingOne before now old r text part some
     → ReadsOn before now f f' old r → ReadsOn now next f' f'' r r' → ends_record line ≡ true
     → NextIs r r' now next line → TakesRecord old r' before next (Some part) text false
-one_ended before now next f f' f'' old r r' text part some line u reads then e is = record {
+one_ended before now next f f' f'' old r r' text part some line u reads next_reads e is = record {
   taken = u.lines ++ line ∷ [];
   one = ended_one u.lines line u.none e;
   unended = λ h. absurd (ended_not u.lines line e h);
@@ -215,7 +221,7 @@ one_ended before now next f f' f'' old r r' text part some line u reads then e i
     u.is,
   );
   reads = λ l l' got p q split h rest met. (
-    line_told before now next f f' f'' old r r' u.lines line reads then u.told is l l' got p q split h rest met,
+    line_told before now next f f' f'' old r r' u.lines line reads next_reads u.told is l l' got p q split h rest met,
     λ t. absurd (false_is_not_true t),
   );
 } where
@@ -228,7 +234,7 @@ pub one_open : (before now next : Option (List ℕ)) (f f' f'' : ℕ) (old r r' 
     → ReadsOn before now f f' old r → ReadsOn now next f' f'' r r'
     → ReadsLines r r' now next (λ lines left. (lines ≡ []) × (left ≡ []))
     → IsRecordPart taken (record_of u.lines) text → TakesRecord old r' before next taken text true
-one_open before now next f f' f'' old r r' text part some taken u reads then end is = record {
+one_open before now next f f' f'' old r r' text part some taken u reads next_reads end is = record {
   taken = u.lines;
   one = no_end_one u.lines u.none;
   unended = λ h. refl;
@@ -236,7 +242,7 @@ one_open before now next f f' f'' old r r' text part some taken u reads then end
   reads = lines_more (λ all left. all ≡ u.lines ++ left) (λ all left. (all ≡ []) × (left ≡ []))
       (λ all left. (all ≡ u.lines ++ left) × (IsTrue true → left ≡ []))
       (λ all between left a b. (a ∙ ap (λ l. u.lines ++ l) (b.0 ∙ sym b.1), λ t. b.1))
-      before now next f f' f'' old r r' reads then u.told end;
+      before now next f f' f'' old r r' reads next_reads u.told end;
 }
 
 -- no line was read behind it
@@ -244,12 +250,12 @@ pub one_part : (before now next : Option (List ℕ)) (f f' f'' : ℕ) (old r r' 
     (part : Part) (some : Bool) → IsTakingOne before now old r text part some → ReadsOn before now f f' old r
     → ReadsOn now next f' f'' r r' → ReadsLines r r' now next (λ lines left. lines ≡ left) → AwaitsBytes r'
     → TakesPart old r' before next (HasNoEnd 1)
-one_part before now next f f' f'' old r r' text part some u reads then same awaits = record {
+one_part before now next f f' f'' old r r' text part some u reads next_reads same awaits = record {
   part = u.lines;
   is = u.none;
   reads = lines_more (λ all left. all ≡ u.lines ++ left) (λ all left. all ≡ left) (λ all left. all ≡ u.lines ++ left)
       (λ all between left a b. a ∙ ap (λ l. u.lines ++ l) b)
-      before now next f f' f'' old r r' reads then u.told same;
+      before now next f f' f'' old r r' reads next_reads u.told same;
   awaits = awaits;
 }
 
@@ -290,7 +296,7 @@ pub all_more : (before now next : Option (List ℕ)) (f f' f'' : ℕ) (old r r' 
     → ReadsOn now next f' f'' r r' → (t : TakesRecord r r' now next part text ended)
     → AreTaken (u.done ++ record_of t.taken ∷ []) texts'
     → IsTakingAll before next old r' count n ended texts'
-all_more before now next f f' f'' old r r' count left n ended texts texts' part text e u reads then t taken = record {
+all_more before now next f f' f'' old r r' count left n ended texts texts' part text e u reads next_reads t taken = record {
   lines = u.lines ++ t.taken;
   done = u.done ++ record_of t.taken ∷ [];
   number = omega (arith, u.number, e, length-append u.done (record_of t.taken ∷ []));
@@ -315,7 +321,7 @@ all_more before now next f f' f'' old r r' count left n ended texts texts' part 
       (λ all l. (all ≡ (u.lines ++ t.taken) ++ l) × (IsTrue ended → l ≡ []))
       (λ all between l a b.
       (a.0 ∙ (ap (λ x. u.lines ++ x) b.0 ∙ sym (append_assoc u.lines t.taken l)), b.1))
-      before now next f f' f'' old r r' reads then u.told t.reads;
+      before now next f f' f'' old r r' reads next_reads u.told t.reads;
 }
 
 -- behind the input's end
@@ -364,12 +370,12 @@ pub all_part : (before now next : Option (List ℕ)) (f f' f'' : ℕ) (old r r' 
     (texts : SdTexts) → left ≡ suc n → IsTakingAll before now old r count left false texts
     → ReadsOn before now f f' old r → ReadsOn now next f' f'' r r' → TakesPart r r' now next (HasNoEnd 1)
     → TakesPart old r' before next (HasNoEnd count)
-all_part before now next f f' f'' old r r' count left n texts e u reads then t = record {
+all_part before now next f f' f'' old r r' count left n texts e u reads next_reads t = record {
   part = u.lines ++ t.part;
   is = u.unended t.part (subst (λ k. HasNoEnd k t.part) (sym e) (no_end_up n t.part t.is));
   reads = lines_more (λ all l. (all ≡ u.lines ++ l) × (IsTrue false → l ≡ [])) (λ all l. all ≡ t.part ++ l)
       (λ all l. all ≡ (u.lines ++ t.part) ++ l)
       (λ all between l a b. a.0 ∙ (ap (λ x. u.lines ++ x) b ∙ sym (append_assoc u.lines t.part l)))
-      before now next f f' f'' old r r' reads then u.told t.reads;
+      before now next f f' f'' old r r' reads next_reads u.told t.reads;
   awaits = t.awaits;
 }

@@ -1,22 +1,18 @@
 -- What is taken and kept of the records of an SD file.
-use Rattle.std.proofs.Common.{◌≡◌, ◌∙◌, ◌≤◌, ◌<◌, ◌+◌, ◌*◌, ◌++◌, ap, append_assoc, append-nil, arith, Bool, false, inl, inr, length, length-append, List, [], ◌∷◌, None, Option, refl, Some, subst, suc, sym, true, zero, ℕ}
-use Rattle.std.proofs.Math.Nat.{min-eq_left, min-eq_right, min-le_right}
+use Rattle.std.proofs.Common.{◌≡◌, ◌∙◌, ◌≤◌, ◌<◌, ◌+◌, ◌*◌, ◌++◌, ap, append_assoc, append-nil, arith, Bool, Err, false, if◌then◌else◌, is_err, length, length-append, List, [], ◌∷◌, min, None, Ok, OnErr, OnOk, Option, refl, Result, Some, subst, suc, sym, true, zero, ℕ}
+use Rattle.std.proofs.Math.Nat.{min-le_right}
+use Rattle.std.specs.declared.alloc.AllocError.{AllocError}
 use Rattle.std.specs.declared.alloc.Global.{Global}
 use Rattle.std.specs.declared.vec.Vec.{Vec}
 use Rattle.io_edge.specs.Lines.{TextLine, TooLong, Whole}
-use Rattle.mol_finish.specs.declared.fault.TextFault.TheVariants as faults
-use Rattle.molfile_read.specs.declared.fault.MolfileFault.TheVariants as mol
-use Rattle.shell_lang.specs.declared.reply.Refusal.TheVariants as refusals
-use Rattle.session_run.specs.Acts.{MayRegister, Refused, Say}
 use Rattle.session_run.specs.Records.{counted, has_long}
 use Rattle.session_run.specs.Requests.{molfile_text}
-use Rattle.session_run.specs.Taken.{AreKept, AreTaken, IsKept, IsPart, IsRecordPart, counted_all}
+use Rattle.session_run.specs.Taken.{AreKept, AreTaken, IsKept, IsPart, counted_all}
+use Rattle.session_run.specs.Transcript.{IsPrefixOf}
 use Rattle.session_run.specs.declared.records.Kept.{Kept}
-use Rattle.session_run.specs.declared.records.Kept.TheVariants as keeps
-use Rattle.session_run.specs.declared.records.Part.{Part}
 use Rattle.session_run.specs.declared.records.Part.TheVariants as parts
 use Rattle.session_run.specs.declared.records.SdTexts.{SdTexts}
-use Rattle.session_run.specs.declared.records.TheConstants.{MOST_COUNTED, MOST_SD_BYTES}
+use Rattle.session_run.specs.declared.records.TheConstants.{MOST_COUNTED}
 
 -- a line more
 pub long_same : (lines : List TextLine) (line : List ℕ) → has_long (lines ++ Whole line ∷ []) ≡ has_long lines
@@ -103,55 +99,15 @@ big_more lines line text text' p =
 abbrev bytes_of : Bool → ℕ → ℕ
 bytes_of long n = if long then MOST_COUNTED else min n MOST_COUNTED
 
-pub counted_long : (lines : List TextLine) → has_long lines ≡ true → counted (Some lines) ≡ MOST_COUNTED
-counted_long lines h = ap (λ b. bytes_of b (length (molfile_text lines))) h
-
-pub counted_big : (lines : List TextLine) → has_long lines ≡ false → MOST_COUNTED ≤ length (molfile_text lines)
-    → counted (Some lines) ≡ MOST_COUNTED
-counted_big lines h le = ap (λ b. bytes_of b (length (molfile_text lines))) h ∙ min-eq_right le
-
-pub counted_short : (lines : List TextLine) → has_long lines ≡ false → length (molfile_text lines) < MOST_COUNTED
-    → counted (Some lines) ≡ length (molfile_text lines)
-counted_short lines h lt =
-    ap (λ b. bytes_of b (length (molfile_text lines))) h
-    ∙ min-eq_left (omega (arith, lt))
-
-pub counted_most : (r : Option (List TextLine)) → counted r ≤ MOST_COUNTED
+counted_most : (r : Option (List TextLine)) → counted r ≤ MOST_COUNTED
 counted_most None = omega arith
 counted_most (Some lines) = by (has_long lines) where
   by : (b : Bool) → bytes_of b (length (molfile_text lines)) ≤ MOST_COUNTED
   by true = omega arith
   by false = min-le_right (length (molfile_text lines)) MOST_COUNTED
 
--- what is kept of it
-pub kept_cut : (total id : ℕ) (r : Option (List TextLine)) → r ≡ None
-    → MayRegister id total r (Say (Refused refusals.SdCut))
-kept_cut total id r e =
-    subst (λ (x : Option (List TextLine)). MayRegister id total x (Say (Refused refusals.SdCut))) (sym e) refl
-
-pub kept_limit : (total id : ℕ) (lines : List TextLine) (r : Option (List TextLine)) → r ≡ Some lines
-    → MOST_SD_BYTES < total → MayRegister id total r (Say (Refused refusals.SdLimit))
-kept_limit total id lines r e lt =
-    subst (λ (x : Option (List TextLine)). MayRegister id total x (Say (Refused refusals.SdLimit))) (sym e)
-    (inl (lt, refl))
-
-pub kept_long : (total id : ℕ) (lines : List TextLine) (r : Option (List TextLine)) → r ≡ Some lines
-    → total ≤ MOST_SD_BYTES → has_long lines ≡ true → MayRegister id total r (Say (Refused refusals.Long))
-kept_long total id lines r e le h =
-    subst (λ (x : Option (List TextLine)). MayRegister id total x (Say (Refused refusals.Long))) (sym e)
-    (inr (le, inl (h, refl)))
-
--- a text of more bytes than one with a structure may have is refused, whatever it holds
-pub kept_big : (total id : ℕ) (lines : List TextLine) (r : Option (List TextLine)) → r ≡ Some lines
-    → total ≤ MOST_SD_BYTES → has_long lines ≡ false → MOST_COUNTED ≤ length (molfile_text lines)
-    → MayRegister id total r (Say (Refused (refusals.Text (faults.Molfile mol.Limit))))
-kept_big total id lines r e le h big =
-    subst (λ (x : Option (List TextLine)).
-    MayRegister id total x (Say (Refused (refusals.Text (faults.Molfile mol.Limit))))) (sym e)
-    (inr (le, inr (h, inl (omega (arith, big)))))
-
 -- more records, and more texts, behind those that are in the lists
-pub kept_behind : (sum : ℕ) (rs more : List (Option (List TextLine))) (ks : List Kept)
+kept_behind : (sum : ℕ) (rs more : List (Option (List TextLine))) (ks : List Kept)
     (ts others : List (Vec ℕ Global)) → AreKept sum rs ks ts → AreKept sum (rs ++ more) ks (ts ++ others)
 kept_behind sum rs more [] ts others h = tt
 kept_behind sum [] more (k ∷ ks) ts others h = absurd h
@@ -160,7 +116,7 @@ kept_behind sum (r ∷ rs) more (k ∷ ks) (t ∷ ts) others h =
     (h.0, kept_behind (sum + counted r) rs more ks ts others h.1)
 
 -- a record more in the lists
-pub kept_last : (sum : ℕ) (rs : List (Option (List TextLine))) (r : Option (List TextLine)) (ks : List Kept) (k : Kept)
+kept_last : (sum : ℕ) (rs : List (Option (List TextLine))) (r : Option (List TextLine)) (ks : List Kept) (k : Kept)
     (ts : List (Vec ℕ Global)) (t : Vec ℕ Global) → AreKept sum rs ks ts → length ks ≡ length rs
     → length ts ≤ length rs → IsKept (sum + counted_all rs + counted r) r k t.items
     → AreKept sum (rs ++ r ∷ []) (ks ++ k ∷ []) (ts ++ t ∷ [])
@@ -175,7 +131,7 @@ kept_last sum (q ∷ rs) r (j ∷ ks) k (u ∷ ts) t h e few is = (
       (subst (λ n. IsKept n r k t.items) (omega arith) is),
 )
 
-pub counted-last : (rs : List (Option (List TextLine))) (r : Option (List TextLine))
+counted-last : (rs : List (Option (List TextLine))) (r : Option (List TextLine))
     → counted_all (rs ++ r ∷ []) ≡ counted_all rs + counted r
 counted-last [] r = omega arith
 counted-last (q ∷ rs) r = let e = counted-last rs r in omega (arith, e)
@@ -187,18 +143,8 @@ counted_few (r ∷ rs) =
     let most : counted r ≤ 262145 = counted_most r in
     omega (arith, e, most)
 
--- no record
-pub taken_none : (texts : SdTexts) → texts.kept.items ≡ [] → texts.texts.items ≡ [] → texts.total ≡ 0
-    → AreTaken [] texts
-taken_none texts kept none total = record {
-  are = subst (λ (ks : List Kept). AreKept 0 [] ks texts.texts.items) (sym kept) tt;
-  total = total;
-  few = omega (arith, ap (λ (l : List (Vec ℕ Global)). length l) none);
-  all = λ e. ap (λ (l : List Kept). length l) kept;
-}
-
 -- a record more, which is in the lists, or for which they have no room
-pub taken_last : (old new : SdTexts) (rs : List (Option (List TextLine))) (r : Option (List TextLine)) (k : Kept)
+taken_last : (old new : SdTexts) (rs : List (Option (List TextLine))) (r : Option (List TextLine)) (k : Kept)
     (t : Vec ℕ Global) → AreTaken rs old → old.full ≡ false → new.total ≡ old.total + counted r
     → new.kept.items ≡ old.kept.items ++ k ∷ [] → new.texts.items ≡ old.texts.items ++ t ∷ []
     → IsKept new.total r k t.items → AreTaken (rs ++ r ∷ []) new
@@ -238,3 +184,14 @@ taken_past old new rs r others h full total kept texts few = record {
 } where
   other : true ≡ false → ⊥
   other e = cc
+
+pub taken_more : (old new : SdTexts) (rs : List (Option (List TextLine))) (r : Option (List TextLine)) (k : Kept)
+    (t : Vec ℕ Global) (result : Result (Unit {0}) AllocError) → AreTaken rs old → old.full ≡ false
+    → new.total ≡ old.total + counted r → IsKept new.total r k t.items
+    → OnOk result ((new.kept.items ≡ old.kept.items ++ k ∷ []) × (new.texts.items ≡ old.texts.items ++ t ∷ []))
+    → OnErr result (new.kept.items ≡ old.kept.items) → IsPrefixOf old.texts.items new.texts.items
+    → length new.texts.items ≤ length old.texts.items + 1 → new.full ≡ is_err result → AreTaken (rs ++ r ∷ []) new
+taken_more old new rs r k t (Ok u) h room total is ok err first few full =
+    taken_last old new rs r k t h room total ok.0 ok.1 is
+taken_more old new rs r k t (Err e) h room total is ok err first few full =
+    taken_past old new rs r first.0 h full total err first.1 few

@@ -45,7 +45,7 @@ use Rattle.session_run.proofs.Joined.{uses-more}
 use Rattle.session_run.proofs.Lines.{answered_as, may_change, text_is}
 
 -- the records that are left are not called for
-faults_of : List (Option (List TextLine)) → Lines
+abbrev faults_of : List (Option (List TextLine)) → Lines
 faults_of [] = []
 faults_of (r ∷ rs) = line.MemoryFault ∷ faults_of rs
 
@@ -289,7 +289,9 @@ pub read_all : (first : ℕ) (ts : List (Vec ℕ Global)) (answers : List (Resul
     → AreMade first ts answers → AreRead first ts answers
 read_all first ts [] h = tt
 read_all first [] (a ∷ answers) h = absurd h
-read_all first (t ∷ ts) (a ∷ answers) h = (h.0, read_all (suc first) ts answers h.1)
+read_all first (t ∷ ts) (a ∷ answers) h =
+    let e : first + 1 ≡ suc first = omega arith in
+    (h.0, read_all (suc first) ts answers (subst (λ (n : ℕ). AreMade n ts answers) e h.1))
 
 -- where the records and their answers are
 pub record IsAt {S : Type 0} (of : meaning.Ghosts S) (old now : S) (first : ℕ)

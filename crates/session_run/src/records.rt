@@ -55,7 +55,8 @@ impl Part {
                 }
                 Part::Lost { size }
             }
-            Part::Long | Part::Big => self,
+            Part::Long => Part::Long,
+            Part::Big => Part::Big,
         }
     }
 }

@@ -166,15 +166,14 @@ fn take_records<I: Source>(
     let mut ended = false;
     let mut left = count;
     while left > 0 {
-        let part = if ended {
-            None
-        } else {
-            let taken = take_record(lines, text, source, records.begun())?;
-            ended = taken.1;
-            taken.0
-        };
-        records.add(part, text);
         left -= 1;
+        if ended {
+            records.add(None, text);
+            continue;
+        }
+        let taken = take_record(lines, text, source, records.begun())?;
+        ended = taken.1;
+        records.add(taken.0, text);
     }
     Ok(())
 }

@@ -55,7 +55,7 @@ fn read_all<R: Threads + Sync>(rt: &R, first: u32, texts: &SdTexts) -> Vec<Made>
     requires ids { (place : ℕ) → place < length texts.now.texts.items → IsId (first + place) }
     ensures { AreRead first texts.now.texts.items result.items }
 {
-    match read_records(rt, texts.alloc, first, &texts.texts) {
+    match read_records(rt, texts.alloc, first, texts.texts.as_slice()) {
         Ok(made) => made,
         Err(_) => Vec::new(texts.alloc),
     }

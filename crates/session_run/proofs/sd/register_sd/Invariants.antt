@@ -7,8 +7,8 @@ use Rattle.session_run.proofs.sd.register_sd.Given as goal
 
 abbrev pub invariant-loop-place : goal.invariant-loop-place
 invariant-loop-place g l = record {
-  goes : (records : List (Option (List TextLine))) → length records ≡ l.fn.count → AreTaken records l.fn.texts.now
-      → IsAt g.S.Service l.fn.service l.service l.fn.first records l.fn.texts.now l.fn.out.items l.out.items l.place
+  goes : (records : List (Option (List TextLine))) → length records ≡ l.fn.count → AreTaken records l.fn.texts
+      → IsAt g.S.Service l.fn.service l.service l.fn.first records l.fn.texts l.fn.out.items l.out.items l.place
       (into_iter_items l.answers);
   len : into_iter_len l.answers ≡ length (into_iter_items l.answers);
 }
