@@ -30,4 +30,5 @@ pub mod Told
 pub mod Endings
 pub mod Requested
 pub mod Registered
+pub mod Itemed
 pub mod Looked

@@ -1,5 +1,5 @@
 -- Records that are answered one after another.
-use Rattle.std.proofs.Common.{◌≡◌, ◌∙◌, ◌≤◌, ◌<◌, ◌+◌, ◌++◌, ap, append_assoc, append-nil, arith, drop, Err, false, IfErr, IfOk, inl, inr, length, List, [], ◌∷◌, map, None, Ok, Option, refl, Result, slice_get, Some, subst, suc, sym, true, zero, ℕ}
+use Rattle.std.proofs.Common.{◌≡◌, ◌∙◌, ◌≤◌, ◌<◌, ◌+◌, ◌++◌, ap, append_assoc, append-nil, arith, drop, Err, false, IsSome, inl, inr, length, List, [], ◌∷◌, map, None, Ok, Option, option_to_list, refl, Result, slice_get, Some, subst, suc, sym, true, zero, ℕ}
 use Rattle.std.proofs.lemmas.Grind.{flat_map-append}
 use Rattle.std.specs.Arc.{arc_value}
 use Rattle.std.specs.List.{AllZip, enumerate_from}
@@ -304,3 +304,104 @@ pub record IsAt {S : Type 0} (of : meaning.Ghosts S) (old now : S) (first : ℕ)
   pub number : place + length rest ≡ length records
   pub kept : AreKept sum rest (drop place texts.kept.items) ts
   pub read : AreRead (first + place) ts answers
+
+pub at_none : {S : Type 0} (of : meaning.Ghosts S) (old : S) (first : ℕ) (records : List (Option (List TextLine)))
+    (texts : SdTexts) (out : List ℕ) (answers : List (Result Shared TextFault)) → Uses of old old []
+    → AreTaken records texts → AreRead first texts.texts.items answers
+    → IsAt of old old first records texts out out 0 answers
+at_none of old first records texts out answers made taken read =
+    let e : first ≡ first + 0 = omega arith in
+    record {
+      sum = 0;
+      rest = records;
+      ts = texts.texts.items;
+      under = subst (λ (n : ℕ). IsUnderWay of old old first records out out n 0 records) e
+          (way_none first records old out made);
+      number = omega arith;
+      kept = taken.are;
+      read = subst (λ (n : ℕ). AreRead n texts.texts.items answers) e read;
+    }
+
+-- the next answer that is taken
+pub popped : {X : Type 0} (old new : List X) (r : Option X) → old ≡ option_to_list r ++ new
+    → (0 < length old → IsSome r) → (r ≡ head_of old) × (new ≡ tail_of old)
+popped [] new None e some = (refl, sym e)
+popped (x ∷ old) new None e some = absurd (some (omega arith))
+popped {X} old new (Some x) e some =
+    subst (λ (l : List X). (Some x ≡ head_of l) × (new ≡ tail_of l)) (sym e) (refl, refl)
+
+-- a record more is answered, or no more are
+module _ {S : Type 0} {of : meaning.Ghosts S} (first : ℕ) (records : List (Option (List TextLine))) (texts : SdTexts)
+    (joins : (a b c : S) (s t u : State) (xs ys : List Step) → of.stretch a b s xs t → of.stretch b c t ys u
+    → of.stretch a c s (xs ++ ys) u)
+    (lands : (a b : S) (s t : State) (xs : List Step) → of.stretch a b s xs t → of.at b t × IsRun s xs t × IsCalm xs)
+    (same : (a b : S) (s t : State) (xs : List Step) (n : ℕ) → of.stretch a b s xs t → of.owns b n ≡ of.owns a n)
+    (old now next : S) (out out' out'' : List ℕ) (place : ℕ) (answers others : List (Result Shared TextFault))
+    (kept : Option Kept) (answer : Option (Result Shared TextFault)) (kept_is : kept ≡ slice_get texts.kept.items place)
+    (answer_is : answer ≡ head_of answers) (others_are : others ≡ tail_of answers) where
+  ready_at : (sum : ℕ) (r : Option (List TextLine)) (rs : List (Option (List TextLine))) (ts : List (Vec ℕ Global))
+      → AreKept sum (r ∷ rs) (drop place texts.kept.items) ts → AreRead (first + place) ts answers
+      → IsReady (first + place) (sum + counted r) r kept answer
+      × AreKept (sum + counted r) rs (drop (suc place) texts.kept.items) (tail_of ts)
+      × AreRead (first + suc place) (tail_of ts) others
+  ready_at sum r rs ts k read =
+      let h = ready (first + place) sum r rs (drop place texts.kept.items) ts answers k read in
+      let next_id : suc (first + place) ≡ first + suc place = omega arith in (
+        subst (λ (q : Option Kept). IsReady (first + place) (sum + counted r) r q answer)
+            (sym (kept_is ∙ head_at texts.kept.items place))
+            (subst (λ (q : Option (Result Shared TextFault)).
+            IsReady (first + place) (sum + counted r) r (head_of (drop place texts.kept.items)) q) (sym answer_is) h.0),
+        subst (λ (l : List Kept). AreKept (sum + counted r) rs l (tail_of ts)) (sym (tail_at texts.kept.items place)) h.1,
+        subst (λ (n : ℕ). AreRead n (tail_of ts) others) next_id
+            (subst (λ (l : List (Result Shared TextFault)). AreRead (suc (first + place)) (tail_of ts) l)
+            (sym others_are) h.2),
+      )
+
+  pub at_more : IsAt of old now first records texts out out' place answers → place < length records
+      → ((id sum : ℕ) (r : Option (List TextLine)) → IsReady id sum r kept answer
+      → AnsweredBy of now next (Registers id sum r) out' out'' tt (Ok tt))
+      → IsAt of old next first records texts out out'' (suc place) others
+  at_more t within did = by t.rest t.number t.under t.kept where
+    by : (rest : List (Option (List TextLine))) → place + length rest ≡ length records
+        → IsUnderWay of old now first records out out' (first + place) t.sum rest
+        → AreKept t.sum rest (drop place texts.kept.items) t.ts
+        → IsAt of old next first records texts out out'' (suc place) others
+    by [] e w k = absurd (omega (arith, e, within))
+    by (r ∷ rs) e w k =
+        let h = ready_at t.sum r rs t.ts k t.read in
+        let next_id : suc (first + place) ≡ first + suc place = omega arith in
+        record {
+          sum = t.sum + counted r;
+          rest = rs;
+          ts = tail_of t.ts;
+          under = subst (λ (n : ℕ). IsUnderWay of old next first records out out'' n (t.sum + counted r) rs) next_id
+              (way_more first records joins lands same w (did (first + place) (t.sum + counted r) r h.0));
+          number = omega (arith, e);
+          kept = h.1;
+          read = h.2;
+        }
+
+  pub at_stopped : (stop : Stop) → IsAt of old now first records texts out out' place answers → place < length records
+      → ((id sum : ℕ) (r : Option (List TextLine)) → IsReady id sum r kept answer
+      → AnsweredBy of now next (Registers id sum r) out' out'' tt (Err stop))
+      → AnsweredBy of old next (EachAnswer first records) out out'' tt (Err stop)
+  at_stopped stop t within did = by t.rest t.number t.under t.kept where
+    by : (rest : List (Option (List TextLine))) → place + length rest ≡ length records
+        → IsUnderWay of old now first records out out' (first + place) t.sum rest
+        → AreKept t.sum rest (drop place texts.kept.items) t.ts
+        → AnsweredBy of old next (EachAnswer first records) out out'' tt (Err stop)
+    by [] e w k = absurd (omega (arith, e, within))
+    by (r ∷ rs) e w k =
+        let h = ready_at t.sum r rs t.ts k t.read in
+        way_stopped first records joins lands same stop w (did (first + place) (t.sum + counted r) r h.0)
+
+pub at_end : {S : Type 0} {of : meaning.Ghosts S} {old now : S} {out out' : List ℕ} (first : ℕ)
+    (records : List (Option (List TextLine))) (texts : SdTexts) (place : ℕ) (answers : List (Result Shared TextFault))
+    → IsAt of old now first records texts out out' place answers → length records ≤ place
+    → AnsweredBy of old now (EachAnswer first records) out out' tt (Ok tt)
+at_end {of = of} {old} {now} {out} {out'} first records texts place answers t all = by t.rest t.number t.under where
+  by : (rest : List (Option (List TextLine))) → place + length rest ≡ length records
+      → IsUnderWay of old now first records out out' (first + place) t.sum rest
+      → AnsweredBy of old now (EachAnswer first records) out out' tt (Ok tt)
+  by [] e w = way_done first records w
+  by (r ∷ rs) e w = absurd (omega (arith, e, all))

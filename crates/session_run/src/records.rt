@@ -1,5 +1,5 @@
 //! The records of an SD file that a line takes: their texts, or why a record has none.
-ghost use Rattle.std.specs.Prelude.{◌≡◌, ◌≤◌, ◌<◌, ◌++◌, ◌∷◌, [], ◌*◌, ◌+◌, length, List, OnErr, OnOk, Option, ℕ};
+ghost use Rattle.std.specs.Prelude.{◌≡◌, ◌≤◌, ◌<◌, ◌++◌, ◌∷◌, [], ◌*◌, ◌+◌, length, List, OnErr, OnOk, Option, slice_get, ℕ};
 ghost use Rattle.io_edge.specs.Lines.{TextLine, Whole};
 ghost use Rattle.session_run.specs.Records.{counted};
 ghost use Rattle.session_run.specs.Taken.{AreTaken, IsKept, IsPart, IsRecordPart};
@@ -183,6 +183,13 @@ impl SdTexts {
             let (kept, text) = copied(self.alloc, kept_of(part, self.total), text);
             self.full = self.push(kept, text).is_err();
         }
+    }
+
+    /// What is kept of the record at a place, if it is in the lists.
+    pub fn kept_at(&self, place: u32) -> Option<Kept>
+        ensures { result ≡ slice_get self.now.kept.items place }
+    {
+        self.kept.get(place as usize).copied()
     }
 
     // Adds a record to the lists.

@@ -43,9 +43,11 @@ pub fn register_sd<R: Threads + Sync, S: Service>(
     let mut answers = made.into_iter();
     let mut place = 0;
     while place < count {
-        let kept = texts.kept.get(place as usize).copied();
-        register_one(service, kept, answers.next(), out)?;
-        place += 1;
+        let kept = texts.kept_at(place);
+        match register_one(service, kept, answers.next(), out) {
+            Ok(()) => place += 1,
+            Err(stop) => return Err(stop),
+        }
     }
     Ok(())
 }

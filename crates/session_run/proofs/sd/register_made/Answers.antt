@@ -13,13 +13,13 @@ returns-in-Some-Ok g c id sum r ready =
     let entry = c.in-Some-Ok.record in
     let sound : IsRecord (arc_value entry) = rw c.deref.ensures at c.record_is_sound.ensures.record in
     answered_as (λ _. tt)
-    (λ calls lines x a. registers_committed id sum r entry 1 [] (rw c.in-Some-Ok.is at ready) sound calls lines x a)
+    (λ calls lines x a. registers_committed id sum r entry 1 [] (rw (c.in-Some-Ok.is, c.in-Some-Ok.field-0-is) at ready) sound calls lines x a)
     (c.commit.ensures 1 [])
 
 pub returns-in-Some-Err : goal.returns-in-Some-Err
 returns-in-Some-Err g c id sum r ready =
     said [] (reply_of c.refuse_text.result) c.say.result (uses-none g.met.S.Service.stays c.args.service.now)
-    (registers_refused id sum r c.in-Some-Err.fault (reply_of c.refuse_text.result) (rw c.in-Some-Err.is at ready)
+    (registers_refused id sum r c.in-Some-Err.fault (reply_of c.refuse_text.result) (rw (c.in-Some-Err.is, c.in-Some-Err.field-0-is) at ready)
     c.refuse_text.ensures) c.say.ensures
 
 pub returns-in-None : goal.returns-in-None
