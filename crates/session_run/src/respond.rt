@@ -255,12 +255,32 @@ impl Responder {
             self.old.out.items self.new.out.items (cursors_of (opened self.new.cursors)) result }
         ensures cursors { self.new.cursors ≡ self.old.cursors }
     {
-        let result = match first {
-            Ok(first) => register_sd(rt, service, first, count, &self.records, &mut self.out),
-            Err(refusal) => say(&Reply::Refused(Refusal::Line(refusal)), &mut self.out),
-        };
+        let result = self.register_records(rt, service, count, first);
         self.records.begin(false);
         result
+    }
+
+    // Registers the records of a line, or refuses the line.
+    fn register_records<R: Threads + Sync, S: Service>(
+        &mut self,
+        rt: &R,
+        service: &mut S,
+        count: u32,
+        first: Result<u32, LineRefusal>,
+    ) -> Result<(), Stop>
+        requires { (request : Request) × (line : List ℕ)
+            × IsNext (next.WithRecords count first) request line self.old.molfile.items self.old.records }
+        ensures answered { (request : Request) (line : List ℕ)
+            → IsNext (next.WithRecords count first) request line self.old.molfile.items self.old.records
+            → AnsweredBy S.Service service.old service.new
+            (RequestAnswer self.old.cursors.settings.page (cursors_of (opened self.old.cursors)) request)
+            self.old.out.items self.new.out.items (cursors_of (opened self.new.cursors)) result }
+        ensures cursors { self.new.cursors ≡ self.old.cursors }
+    {
+        match first {
+            Ok(first) => register_sd(rt, service, first, count, &self.records, &mut self.out),
+            Err(refusal) => say(&Reply::Refused(Refusal::Line(refusal)), &mut self.out),
+        }
     }
 }
 
