@@ -2,6 +2,7 @@
 use Rattle.std.proofs.Common.{◌++◌, List, [], ◌∷◌, subst, sym, ℕ}
 use Rattle.smarts_parse.specs.Pattern.{PatternTerm}
 use Rattle.store_core.specs.Calls.{SameHeld}
+use Rattle.store_machine.specs.declared.machine.Event.TheVariants as events
 use Rattle.session_run.specs.Acts.{Act, Asks, Closed, Does, FoundData, Lines, ListedSame, ListedSimilar, Opened, RegisteredEach, RegisteredNew, Says, Searched, Searches, Turned}
 use Rattle.session_run.specs.Cursors.{Calls, Cursor}
 use Rattle.session_run.specs.Dialogue.{AreExchanged, Exchange}
@@ -36,7 +37,8 @@ act_held {cursors = cursors} a (ListedSimilar p q k print calls lines s) apart h
 act_held {cursors = cursors} a (RegisteredEach id records calls lines each) apart h =
     held-same a (HeldAfter a calls) cursors (leave-same a calls (quiet_each id 0 records calls lines each).leave) h
 act_held {cursors = cursors} a (FoundData id name reply said is) apart h =
-    held-same a (HeldAfter a _) cursors (leave-same a _ (quiet_data id name reply said is).leave) h
+    let calls : Calls = (events.Look id, reply) ∷ [] in
+    held-same a (HeldAfter a calls) cursors (leave-same a calls (quiet_data id name reply said is).leave) h
 act_held {cursors = cursors} a (Opened name pattern want slot version new need) apart h =
     held-added a cursors _ apart.0 h
 act_held {size} {cursors} a (Turned name before after c c' calls lines named advances) apart h =
@@ -67,7 +69,8 @@ act_others {cursors = cursors} a (ListedSimilar p q k print calls lines s) apart
 act_others {cursors = cursors} a (RegisteredEach id records calls lines each) apart =
     same_others a (HeldAfter a calls) cursors (leave-same a calls (quiet_each id 0 records calls lines each).leave)
 act_others {cursors = cursors} a (FoundData id name reply said is) apart =
-    same_others a (HeldAfter a _) cursors (leave-same a _ (quiet_data id name reply said is).leave)
+    let calls : Calls = (events.Look id, reply) ∷ [] in
+    same_others a (HeldAfter a calls) cursors (leave-same a calls (quiet_data id name reply said is).leave)
 act_others {cursors = cursors} a (Opened name pattern want slot version new need) apart =
     others-added a cursors _ apart.0
 act_others {size} {cursors} a (Turned name before after c c' calls lines named advances) apart =

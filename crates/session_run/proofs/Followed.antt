@@ -29,6 +29,7 @@ turn_command cursors request own (inr (short, text, e, read, line, a)) = by read
       → IsCommand request (command.Next own)
   by (Err refusal) line a = cc
   by (Ok command.Empty) line a = cc
+  by (Ok (command.RegisterSd id count)) line a = cc
   by (Ok (command.Next name)) line a =
       (text, e, subst (λ (n : List ℕ). IsLine text (Ok (command.Next n))) (sym a) line)
   by (Ok _) line a = absurd a
@@ -41,6 +42,7 @@ close_command cursors request own (inr (short, text, e, read, line, a)) = by rea
       → IsCommand request (command.Close own)
   by (Err refusal) line a = cc
   by (Ok command.Empty) line a = cc
+  by (Ok (command.RegisterSd id count)) line a = cc
   by (Ok (command.Close name)) line a =
       (text, e, subst (λ (n : List ℕ). IsLine text (Ok (command.Close n))) (sym a) line)
   by (Ok _) line a = absurd a

@@ -264,6 +264,7 @@ never_same cursors request id (inr (short, text, e, read, line, a)) = by read li
       → Allows cursors request.more read (Say (Refused (refusals.Same id))) → ⊥
   by (Err refusal) line a = cc
   by (Ok command.Empty) line a = cc
+  by (Ok (command.RegisterSd id count)) line a = cc
   by (Ok _) line a = absurd a
 
 no_finding : (cursors : List Cursor) (request : Request) (note : Note) (said : line.Reply)

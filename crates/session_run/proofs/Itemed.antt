@@ -1,6 +1,5 @@
 -- Answers by a look at a record and its data items.
-use Rattle.std.proofs.Common.{◌≡◌, ◌⊎◌, Err, inl, inr, List, [], ◌∷◌, MatchOption, None, Option, refl, Result, Some, subst, sym, ℕ}
-use Rattle.std.specs.Prelude.{Bor}
+use Rattle.std.proofs.Common.{◌≡◌, ◌⊎◌, Bor, Err, inl, inr, List, [], ◌∷◌, MatchOption, None, Option, refl, Result, Some, subst, sym, ℕ}
 use Rattle.shell_lang.specs.Reply as line
 use Rattle.store_core.specs.Calls as core
 use Rattle.store_core.specs.Calls.{NotRaised, SameHeld}

@@ -322,13 +322,38 @@ at_none of old first records texts out answers made taken read =
       read = subst (λ (n : ℕ). AreRead n texts.texts.items answers) e read;
     }
 
+none_is_some : {X : Type 0} → IsSome {T = X} None → ⊥
+none_is_some h = cc
+
 -- the next answer that is taken
 pub popped : {X : Type 0} (old new : List X) (r : Option X) → old ≡ option_to_list r ++ new
     → (0 < length old → IsSome r) → (r ≡ head_of old) × (new ≡ tail_of old)
 popped [] new None e some = (refl, sym e)
-popped (x ∷ old) new None e some = absurd (some (omega arith))
+popped (x ∷ old) new None e some = absurd (none_is_some (some (omega arith)))
 popped {X} old new (Some x) e some =
     subst (λ (l : List X). (Some x ≡ head_of l) × (new ≡ tail_of l)) (sym e) (refl, refl)
+
+-- what is kept of the record at a place, and what making it answered
+ready_at : (first : ℕ) (texts : SdTexts) (place : ℕ) (answers others : List (Result Shared TextFault))
+    (kept : Option Kept) (answer : Option (Result Shared TextFault)) → kept ≡ slice_get texts.kept.items place
+    → answer ≡ head_of answers → others ≡ tail_of answers
+    → (sum : ℕ) (r : Option (List TextLine)) (rs : List (Option (List TextLine))) (ts : List (Vec ℕ Global))
+    → AreKept sum (r ∷ rs) (drop place texts.kept.items) ts → AreRead (first + place) ts answers
+    → IsReady (first + place) (sum + counted r) r kept answer
+    × AreKept (sum + counted r) rs (drop (suc place) texts.kept.items) (tail_of ts)
+    × AreRead (first + suc place) (tail_of ts) others
+ready_at first texts place answers others kept answer kept_is answer_is others_are sum r rs ts k read =
+    let h = ready (first + place) sum r rs (drop place texts.kept.items) ts answers k read in
+    let next_id : suc (first + place) ≡ first + suc place = omega arith in (
+      subst (λ (q : Option Kept). IsReady (first + place) (sum + counted r) r q answer)
+          (sym (kept_is ∙ head_at texts.kept.items place))
+          (subst (λ (q : Option (Result Shared TextFault)).
+          IsReady (first + place) (sum + counted r) r (head_of (drop place texts.kept.items)) q) (sym answer_is) h.0),
+      subst (λ (l : List Kept). AreKept (sum + counted r) rs l (tail_of ts)) (sym (tail_at texts.kept.items place)) h.1,
+      subst (λ (n : ℕ). AreRead n (tail_of ts) others) next_id
+          (subst (λ (l : List (Result Shared TextFault)). AreRead (suc (first + place)) (tail_of ts) l)
+          (sym others_are) h.2),
+    )
 
 -- a record more is answered, or no more are
 module _ {S : Type 0} {of : meaning.Ghosts S} (first : ℕ) (records : List (Option (List TextLine))) (texts : SdTexts)
@@ -339,24 +364,6 @@ module _ {S : Type 0} {of : meaning.Ghosts S} (first : ℕ) (records : List (Opt
     (old now next : S) (out out' out'' : List ℕ) (place : ℕ) (answers others : List (Result Shared TextFault))
     (kept : Option Kept) (answer : Option (Result Shared TextFault)) (kept_is : kept ≡ slice_get texts.kept.items place)
     (answer_is : answer ≡ head_of answers) (others_are : others ≡ tail_of answers) where
-  ready_at : (sum : ℕ) (r : Option (List TextLine)) (rs : List (Option (List TextLine))) (ts : List (Vec ℕ Global))
-      → AreKept sum (r ∷ rs) (drop place texts.kept.items) ts → AreRead (first + place) ts answers
-      → IsReady (first + place) (sum + counted r) r kept answer
-      × AreKept (sum + counted r) rs (drop (suc place) texts.kept.items) (tail_of ts)
-      × AreRead (first + suc place) (tail_of ts) others
-  ready_at sum r rs ts k read =
-      let h = ready (first + place) sum r rs (drop place texts.kept.items) ts answers k read in
-      let next_id : suc (first + place) ≡ first + suc place = omega arith in (
-        subst (λ (q : Option Kept). IsReady (first + place) (sum + counted r) r q answer)
-            (sym (kept_is ∙ head_at texts.kept.items place))
-            (subst (λ (q : Option (Result Shared TextFault)).
-            IsReady (first + place) (sum + counted r) r (head_of (drop place texts.kept.items)) q) (sym answer_is) h.0),
-        subst (λ (l : List Kept). AreKept (sum + counted r) rs l (tail_of ts)) (sym (tail_at texts.kept.items place)) h.1,
-        subst (λ (n : ℕ). AreRead n (tail_of ts) others) next_id
-            (subst (λ (l : List (Result Shared TextFault)). AreRead (suc (first + place)) (tail_of ts) l)
-            (sym others_are) h.2),
-      )
-
   pub at_more : IsAt of old now first records texts out out' place answers → place < length records
       → ((id sum : ℕ) (r : Option (List TextLine)) → IsReady id sum r kept answer
       → AnsweredBy of now next (Registers id sum r) out' out'' tt (Ok tt))
@@ -368,7 +375,8 @@ module _ {S : Type 0} {of : meaning.Ghosts S} (first : ℕ) (records : List (Opt
         → IsAt of old next first records texts out out'' (suc place) others
     by [] e w k = absurd (omega (arith, e, within))
     by (r ∷ rs) e w k =
-        let h = ready_at t.sum r rs t.ts k t.read in
+        let h = ready_at first texts place answers others kept answer kept_is answer_is others_are t.sum r rs t.ts k t.read
+        in
         let next_id : suc (first + place) ≡ first + suc place = omega arith in
         record {
           sum = t.sum + counted r;
@@ -392,7 +400,8 @@ module _ {S : Type 0} {of : meaning.Ghosts S} (first : ℕ) (records : List (Opt
         → AnsweredBy of old next (EachAnswer first records) out out'' tt (Err stop)
     by [] e w k = absurd (omega (arith, e, within))
     by (r ∷ rs) e w k =
-        let h = ready_at t.sum r rs t.ts k t.read in
+        let h = ready_at first texts place answers others kept answer kept_is answer_is others_are t.sum r rs t.ts k t.read
+        in
         way_stopped first records joins lands same stop w (did (first + place) (t.sum + counted r) r h.0)
 
 pub at_end : {S : Type 0} {of : meaning.Ghosts S} {old now : S} {out out' : List ℕ} (first : ℕ)

@@ -52,10 +52,10 @@ pub long_molfile : (request : Request) (line : List ℕ) → request.line ≡ Wh
 long_molfile request line e starts long = inr (subst TakesMolfile (sym e) starts, long)
 
 -- the word of records is that of no molfile
-byte_at : ℕ → List ℕ → ℕ
+abbrev byte_at : ℕ → List ℕ → ℕ
 byte_at place line = get_or line place 0
 
-sd_line : List ℕ → ℕ → List ℕ
+abbrev sd_line : List ℕ → ℕ → List ℕ
 sd_line part count = codes "register-sd" ++ 32 ∷ (part ++ 32 ∷ decimal count)
 
 register_apart : (part : List ℕ) (count : ℕ) → StartsWith (sd_line part count) (codes "register-mol") → ⊥
@@ -185,4 +185,4 @@ pub spells_register_sd : (line : List ℕ) (c : read.Command) (id count : ℕ) �
     → Spells line (command_of c) → ¬ TakesLines line → ⊥
 spells_register_sd line c id count e s none =
     let t = rw e at s in
-    none (inr (decimal id, count, no_space id (t.1.0, omega (arith, t.1.1, t.0.0)), t.0, t.2))
+    none (inr (decimal id, count, (no_space id (t.1.0, omega (arith, t.1.1, t.0.0)), t.0, t.2)))

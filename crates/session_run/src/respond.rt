@@ -246,10 +246,10 @@ impl Responder {
         count: u32,
         first: Result<u32, LineRefusal>,
     ) -> Result<(), Stop>
-        requires { (request : Request) × (line : List ℕ)
-            × IsNext (next.WithRecords count first) request line self.old.molfile.items self.old.records }
-        ensures answered { (request : Request) (line : List ℕ)
-            → IsNext (next.WithRecords count first) request line self.old.molfile.items self.old.records
+        requires { (request : Request)
+            × IsNext (next.WithRecords count first) request [] self.old.molfile.items self.old.records }
+        ensures answered { (request : Request)
+            → IsNext (next.WithRecords count first) request [] self.old.molfile.items self.old.records
             → AnsweredBy S.Service service.old service.new
             (RequestAnswer self.old.cursors.settings.page (cursors_of (opened self.old.cursors)) request)
             self.old.out.items self.new.out.items (cursors_of (opened self.new.cursors)) result }
@@ -268,10 +268,10 @@ impl Responder {
         count: u32,
         first: Result<u32, LineRefusal>,
     ) -> Result<(), Stop>
-        requires { (request : Request) × (line : List ℕ)
-            × IsNext (next.WithRecords count first) request line self.old.molfile.items self.old.records }
-        ensures answered { (request : Request) (line : List ℕ)
-            → IsNext (next.WithRecords count first) request line self.old.molfile.items self.old.records
+        requires { (request : Request)
+            × IsNext (next.WithRecords count first) request [] self.old.molfile.items self.old.records }
+        ensures answered { (request : Request)
+            → IsNext (next.WithRecords count first) request [] self.old.molfile.items self.old.records
             → AnsweredBy S.Service service.old service.new
             (RequestAnswer self.old.cursors.settings.page (cursors_of (opened self.old.cursors)) request)
             self.old.out.items self.new.out.items (cursors_of (opened self.new.cursors)) result }

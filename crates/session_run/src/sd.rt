@@ -73,10 +73,13 @@ fn register_one<S: Service>(
     ensures { (id sum : ℕ) (r : Option (List TextLine)) → IsReady id sum r kept answer
         → AnsweredBy S.Service service.old service.new (Registers id sum r) out.old.items out.new.items tt result }
 {
+    let Some(kept) = kept else {
+        return say(&Reply::MemoryFault, out);
+    };
     match kept {
-        Some(Kept::Text) => register_made(service, answer, out),
-        Some(Kept::Refused(refusal)) => say(&Reply::Refused(refusal), out),
-        Some(Kept::Lost) | None => say(&Reply::MemoryFault, out),
+        Kept::Text => register_made(service, answer, out),
+        Kept::Refused(refusal) => say(&Reply::Refused(refusal), out),
+        Kept::Lost => say(&Reply::MemoryFault, out),
     }
 }
 

@@ -94,18 +94,51 @@ take_records-requires-clause-few g c =
     let t = rw c.in-Some-Records.field-0-is at c.in-Some-Records.ensures.some in
     t.0.1.1.1
 
-pub returns-in_err-take_records-clause-reads : goal.returns-in_err-take_records-clause-reads
-returns-in_err-take_records-clause-reads g c =
+pub returns-in_err-take_records-in-Some-Records-clause-reads : goal.returns-in_err-take_records-in-Some-Records-clause-reads
+returns-in_err-take_records-in-Some-Records-clause-reads g c =
     reads_more _ _ _ _ _ _ c.args.lines.now c.read_line.new.lines c.take_records.new.lines
-    c.in_ok-read_line.ensures.reads c.in_err-take_records.ensures.reads
+    c.in_ok-read_line.ensures.reads c.in_err-take_records-in-Some-Records.ensures.reads
 
-pub returns-in_err-take_records-clause-part : goal.returns-in_err-take_records-clause-part
-returns-in_err-take_records-clause-part g c = ?
+pub returns-in_err-take_records-in-Some-Records-clause-part : goal.returns-in_err-take_records-in-Some-Records-clause-part
+returns-in_err-take_records-in-Some-Records-clause-part g c =
+    let t = c.in_err-take_records-in-Some-Records.ensures.part in
+    let first : TextLine = Whole c.read_line.new.lines.text in
+    let taken = rw c.in-Some-Records.field-0-is at c.in-Some-Records.ensures.some in
+    let takes : TakesRecords c.read_line.new.lines.text taken.0.0 c.in-Some-Records.count =
+    rw (sym c.text.ensures) taken.0.1 in
+    let fault = err_from_is_err_and c.from_residual-in_err-take_records-in-Some-Records.result
+    c.from_residual-in_err-take_records-in-Some-Records.ensures.1 in
+    rw fault.1 (record {
+      part = first ∷ t.part;
+      is = inr (c.in-Some-Records.count, (taken.0.0, takes), t.is);
+      reads = lines_more (λ lines left. lines ≡ first ∷ left) (λ lines left. lines ≡ t.part ++ left)
+          (λ lines left. lines ≡ (first ∷ t.part) ++ left) (λ lines between left a b. a ∙ ap (λ l. first ∷ l) b)
+          _ _ _ _ _ _ c.args.lines.now c.read_line.new.lines c.take_records.new.lines
+          c.in_ok-read_line.ensures.reads c.in_err-take_records-in-Some-Records.ensures.reads
+          (rw c.in-Text.is at c.in_ok-read_line.ensures.line) t.reads;
+      awaits = t.awaits;
+    })
 
-pub returns-in_ok-take_records-clause-reads : goal.returns-in_ok-take_records-clause-reads
-returns-in_ok-take_records-clause-reads g c =
+pub returns-in_ok-take_records-in-Some-Records-clause-reads : goal.returns-in_ok-take_records-in-Some-Records-clause-reads
+returns-in_ok-take_records-in-Some-Records-clause-reads g c =
     reads_more _ _ _ _ _ _ c.args.lines.now c.read_line.new.lines c.take_records.new.lines
-    c.in_ok-read_line.ensures.reads c.in_ok-take_records.ensures.reads
+    c.in_ok-read_line.ensures.reads c.in_ok-take_records-in-Some-Records.ensures.reads
 
-pub returns-in_ok-take_records-clause-takes : goal.returns-in_ok-take_records-clause-takes
-returns-in_ok-take_records-clause-takes g c = ?
+pub returns-in_ok-take_records-in-Some-Records-clause-takes : goal.returns-in_ok-take_records-in-Some-Records-clause-takes
+returns-in_ok-take_records-in-Some-Records-clause-takes g c =
+    let t = c.in_ok-take_records-in-Some-Records.ensures.taken in
+    let first : TextLine = Whole c.read_line.new.lines.text in
+    let count = c.in-Some-Records.count in
+    let taken = rw c.in-Some-Records.field-0-is at c.in-Some-Records.ensures.some in
+    let takes : TakesRecords c.read_line.new.lines.text taken.0.0 count = rw (sym c.text.ensures) taken.0.1 in
+    let is : IsLine c.read_line.new.lines.text (records_command count c.in-Some-Records.first) =
+    rw (sym c.text.ensures) taken.1 in (
+      record { line = first; more = t.0 },
+      lines_more (λ lines left. lines ≡ first ∷ left) (λ lines left. BeginWithRecords count lines t.0 left)
+          (λ lines left. BeginWith lines (record { line = first; more = t.0 }) left)
+          (λ lines between left a b. (between, a, inr (inr (count, (taken.0.0, takes), b))))
+          _ _ _ _ _ _ c.args.lines.now c.read_line.new.lines c.take_records.new.lines
+          c.in_ok-read_line.ensures.reads c.in_ok-take_records-in-Some-Records.ensures.reads
+          (rw c.in-Text.is at c.in_ok-read_line.ensures.line) t.2,
+      (c.read_line.new.lines.text, taken.0.0, refl, takes, is, t.1),
+    )

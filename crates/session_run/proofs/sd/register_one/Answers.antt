@@ -5,12 +5,22 @@ use Rattle.session_run.proofs.Lines.{said}
 use Rattle.session_run.proofs.Registered.{registers_fault, registers_note}
 use Rattle.session_run.proofs.sd.register_one.Goals as goal
 
-pub returns-in-Some-Refused : goal.returns-in-Some-Refused
-returns-in-Some-Refused g c id sum r ready =
-    said [] (line.Refused c.in-Some-Refused.refusal) c.say.result (uses-none g.met.S.Service.stays c.args.service.now)
-    (registers_note id sum r c.in-Some-Refused.refusal (rw (c.in-Some-Refused.is, c.in-Some-Refused.field-0-is) at ready)) c.say.ensures
+pub returns-in_default : goal.returns-in_default
+returns-in_default g c id sum r ready =
+    said [] line.MemoryFault c.say.result (uses-none g.met.S.Service.stays c.args.service.now)
+    (registers_fault id sum r) c.say.ensures
 
-pub returns-in-Some-Lost : goal.returns-in-Some-Lost
-returns-in-Some-Lost g c id sum r ready =
-    said [] line.MemoryFault c.say-in-Some-Lost.result (uses-none g.met.S.Service.stays c.args.service.now)
-    (registers_fault id sum r) c.say-in-Some-Lost.ensures
+pub returns-in-Text : goal.returns-in-Text
+returns-in-Text g c id sum r ready = c.register_made.ensures id sum r (rw (c.in-Some.is, c.in-Text.is) at ready)
+
+pub returns-in-Refused : goal.returns-in-Refused
+returns-in-Refused g c id sum r ready =
+    said [] (line.Refused c.in-Refused.refusal) c.say-in-Refused.result
+    (uses-none g.met.S.Service.stays c.args.service.now)
+    (registers_note id sum r c.in-Refused.refusal (rw (c.in-Some.is, c.in-Refused.is) at ready))
+    c.say-in-Refused.ensures
+
+pub returns-in-Lost : goal.returns-in-Lost
+returns-in-Lost g c id sum r ready =
+    said [] line.MemoryFault c.say-in-Lost.result (uses-none g.met.S.Service.stays c.args.service.now)
+    (registers_fault id sum r) c.say-in-Lost.ensures

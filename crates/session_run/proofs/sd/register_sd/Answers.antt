@@ -1,10 +1,10 @@
-use Rattle.std.proofs.Common.{◌≡◌, ◌∙◌, ap, arith, length, length-append, List, option_to_list, Result, subst, sym}
+use Rattle.std.proofs.Common.{◌≡◌, ◌∙◌, ◌+◌, ap, arith, length, length-append, List, option_to_list, Result, subst, suc, sym, ℕ}
 use Rattle.std.specs.Vec.Iter.{into_iter_items}
 use Rattle.mol_finish.specs.declared.fault.TextFault.{TextFault}
 use Rattle.store_core.specs.Records.{Shared}
 use Rattle.session_run.specs.Taken.{AreRead}
 use Rattle.session_run.proofs.Joined.{uses-none}
-use Rattle.session_run.proofs.Registered.{at_end, at_more, at_none, at_stopped, each_done, popped}
+use Rattle.session_run.proofs.Registered.{IsAt, at_end, at_more, at_none, at_stopped, each_done, popped}
 use Rattle.session_run.proofs.sd.register_sd.Goals as goal
 
 pub loop-place-init : goal.loop-place-init
@@ -28,14 +28,16 @@ loop-place-preserved g c =
     let items = c.next.ensures.items in
     let p = popped answers others c.next.result items
     (λ lt. c.next.ensures.variant.1 (omega (arith, lt, c.loop-place.invariant.len))) in
+    let step : suc c.loop-place.place ≡ c.loop-place.place + 1 = omega arith in
     record {
       goes = λ records e taken.
-          at_more c.args.first records c.args.texts.now g.met.S.Service.joins g.met.S.Service.lands
-          g.met.S.Service.same c.args.service.now c.loop-place.service c.register_one.new.service
-          c.args.out.now.items c.loop-place.out.items c.register_one.new.out.items c.loop-place.place answers others
-          c.kept_at-kept.result c.next.result c.kept_at-kept.ensures p.0 p.1
-          (c.loop-place.invariant.goes records e taken) (omega (arith, e, c.loop-place-test.true))
-          c.in-Ok.ensures;
+          subst (λ (n : ℕ). IsAt g.S.Service c.args.service.now c.register_one.new.service c.args.first records
+          c.args.texts.now c.args.out.now.items c.register_one.new.out.items n others) step
+          (at_more {of = g.S.Service} c.args.first records c.args.texts.now g.met.S.Service.joins
+          g.met.S.Service.lands g.met.S.Service.same c.args.service.now c.loop-place.service
+          c.register_one.new.service c.args.out.now.items c.loop-place.out.items c.register_one.new.out.items
+          c.loop-place.place answers others c.kept_at-kept.result c.next.result c.kept_at-kept.ensures p.0 p.1
+          (c.loop-place.invariant.goes records e taken) (omega (arith, e, c.loop-place-test.true)) c.in-Ok.ensures);
       len = omega (
         arith,
         c.next.ensures.len,
