@@ -322,14 +322,14 @@ at_none of old first records texts out answers made taken read =
       read = subst (λ (n : ℕ). AreRead n texts.texts.items answers) e read;
     }
 
-none_is_some : {X : Type 0} → IsSome {T = X} None → ⊥
-none_is_some h = cc
+none_is_some : (X : Type 0) → IsSome {T = X} None → ⊥
+none_is_some X h = cc
 
 -- the next answer that is taken
 pub popped : {X : Type 0} (old new : List X) (r : Option X) → old ≡ option_to_list r ++ new
     → (0 < length old → IsSome r) → (r ≡ head_of old) × (new ≡ tail_of old)
 popped [] new None e some = (refl, sym e)
-popped (x ∷ old) new None e some = absurd (none_is_some (some (omega arith)))
+popped {X} (x ∷ old) new None e some = absurd (none_is_some X (some (omega arith)))
 popped {X} old new (Some x) e some =
     subst (λ (l : List X). (Some x ≡ head_of l) × (new ≡ tail_of l)) (sym e) (refl, refl)
 
