@@ -246,7 +246,7 @@ impl Responder {
         count: u32,
         first: Result<u32, LineRefusal>,
     ) -> Result<(), Stop>
-        requires { (request : Request)
+        requires request { (request : Request)
             × IsNext (next.WithRecords count first) request [] self.old.molfile.items self.old.records }
         ensures answered { (request : Request)
             → IsNext (next.WithRecords count first) request [] self.old.molfile.items self.old.records
