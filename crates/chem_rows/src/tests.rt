@@ -24,6 +24,7 @@ mod lookups;
 mod patterns;
 mod prints;
 mod refused;
+mod sd;
 mod structures;
 mod turns;
 mod words;

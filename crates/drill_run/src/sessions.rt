@@ -6,7 +6,7 @@ ghost use Rattle.session_run.specs.Opened.{opened};
 ghost use Rattle.session_run.specs.Pins.{AreHeld};
 ghost use Rattle.session_run.specs.Responds.{IsFit};
 ghost use Rattle.session_run.specs.Walks.{cursors_of};
-ghost use Rattle.shell_lang.specs.Command.{StartsMolfile};
+ghost use Rattle.shell_lang.specs.Command.{TakesLines};
 ghost use Rattle.shell_lang.specs.Reply.{text_of};
 ghost use Rattle.store_core.specs.Stored.{HoldsPin};
 ghost use Rattle.store_disk.specs.InMemory.{StandsInMemory};
@@ -25,7 +25,7 @@ use drill_core::{World, disk_faults_are_counted};
 use io_edge::Line;
 use par_search::Meter;
 use session_run::{Responder, Settings, Stop};
-use shell_lang::{LineRefusal, Refusal, Reply, molfile_change, reply_text};
+use shell_lang::{LineRefusal, Refusal, Reply, reply_text, taken_lines};
 use std::alloc::{AllocError, Global};
 use std::thread::Threads;
 
@@ -236,7 +236,7 @@ fn answer_alone<R: Threads + Sync, M: Meter>(
     ensures fit { IsFit responder.new.cursors }
     ensures settings { responder.new.cursors.settings ≡ responder.old.cursors.settings }
 {
-    match molfile_change(line) {
+    match taken_lines(line) {
         Some(_) => refuse_molfile(responder),
         None => answer_script_line(responder, rt, world, meter, line),
     }
@@ -264,7 +264,7 @@ fn answer_script_line<R: Threads + Sync, M: Meter>(
 ) -> Result<(), AllocError>
     requires fit { IsFit responder.old.cursors }
     requires held { AreHeld (HoldsPin world.old.memory) (cursors_of (opened responder.old.cursors)) }
-    requires alone { ¬ StartsMolfile line.now }
+    requires alone { ¬ TakesLines line.now }
     ensures ok { OnOk result ((a : AnswersOwn responder.old.cursors.settings.page line.now world.old world.new
         (cursors_of (opened responder.old.cursors)) (cursors_of (opened responder.new.cursors)))
         × (responder.new.out.items ≡ text_of a.lines)) }

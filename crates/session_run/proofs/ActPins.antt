@@ -2,11 +2,12 @@
 use Rattle.std.proofs.Common.{◌++◌, List, [], ◌∷◌, subst, sym, ℕ}
 use Rattle.smarts_parse.specs.Pattern.{PatternTerm}
 use Rattle.store_core.specs.Calls.{SameHeld}
-use Rattle.session_run.specs.Acts.{Act, Asks, Closed, Does, Lines, ListedSame, ListedSimilar, Opened, RegisteredNew, Says, Searched, Searches, Turned}
+use Rattle.store_machine.specs.declared.machine.Event.TheVariants as events
+use Rattle.session_run.specs.Acts.{Act, Asks, Closed, Does, FoundData, Lines, ListedSame, ListedSimilar, Opened, RegisteredEach, RegisteredNew, Says, Searched, Searches, Turned}
 use Rattle.session_run.specs.Cursors.{Calls, Cursor}
 use Rattle.session_run.specs.Dialogue.{AreExchanged, Exchange}
 use Rattle.session_run.specs.Pins.{AreApart, AreHeld, HeldAfter, HeldBy, Returns, SameOthers}
-use Rattle.session_run.proofs.Acts.{quiet_ask}
+use Rattle.session_run.proofs.Acts.{quiet_ask, quiet_data, quiet_each}
 use Rattle.session_run.proofs.Held.{after-append, apart-parts, held-added, held-moved, held-same, held-without, leave-same, others-added, others-moved, others-without, same_held, same_others, same_others-more}
 use Rattle.session_run.proofs.LookedUp.{fetches_leave, looked_held, new_looks, pin_returned, same_looks, similar_looks}
 use Rattle.session_run.proofs.Passing.{advances_fetch, advances_same}
@@ -33,6 +34,11 @@ act_held {cursors = cursors} a (RegisteredNew change m print calls lines s) apar
     held-same a (HeldAfter a calls) cursors (looked_held a (new_looks s) apart) h
 act_held {cursors = cursors} a (ListedSimilar p q k print calls lines s) apart h =
     held-same a (HeldAfter a calls) cursors (looked_held a (similar_looks s) apart) h
+act_held {cursors = cursors} a (RegisteredEach id records calls lines each) apart h =
+    held-same a (HeldAfter a calls) cursors (leave-same a calls (quiet_each id 0 records calls lines each).leave) h
+act_held {cursors = cursors} a (FoundData id name reply said is) apart h =
+    let calls : Calls = (events.Look id, reply) ∷ [] in
+    held-same a (HeldAfter a calls) cursors (leave-same a calls (quiet_data id name reply said is).leave) h
 act_held {cursors = cursors} a (Opened name pattern want slot version new need) apart h =
     held-added a cursors _ apart.0 h
 act_held {size} {cursors} a (Turned name before after c c' calls lines named advances) apart h =
@@ -60,6 +66,11 @@ act_others {cursors = cursors} a (RegisteredNew change m print calls lines s) ap
     same_others a (HeldAfter a calls) cursors (looked_held a (new_looks s) apart)
 act_others {cursors = cursors} a (ListedSimilar p q k print calls lines s) apart =
     same_others a (HeldAfter a calls) cursors (looked_held a (similar_looks s) apart)
+act_others {cursors = cursors} a (RegisteredEach id records calls lines each) apart =
+    same_others a (HeldAfter a calls) cursors (leave-same a calls (quiet_each id 0 records calls lines each).leave)
+act_others {cursors = cursors} a (FoundData id name reply said is) apart =
+    let calls : Calls = (events.Look id, reply) ∷ [] in
+    same_others a (HeldAfter a calls) cursors (leave-same a calls (quiet_data id name reply said is).leave)
 act_others {cursors = cursors} a (Opened name pattern want slot version new need) apart =
     others-added a cursors _ apart.0
 act_others {size} {cursors} a (Turned name before after c c' calls lines named advances) apart =

@@ -1,6 +1,6 @@
 -- What an act did, by its calls and lines, and which acts a command may be.
-use Rattle.std.proofs.Common.{◌≡◌, ◌∙◌, Contains, false, inl, inr, List, [], ◌∷◌, None, Ok, Option, refl, Result, Some, subst, sym, ℕ}
-use Rattle.io_edge.specs.Lines.{Whole}
+use Rattle.std.proofs.Common.{◌≡◌, ◌∙◌, ◌+◌, ◌++◌, arith, Contains, false, inl, inr, List, [], ◌∷◌, None, Ok, Option, refl, Result, Some, subst, suc, sym, zero, ℕ}
+use Rattle.io_edge.specs.Lines.{TextLine, Whole}
 use Rattle.shell_lang.specs.Command.{Command, IsLine}
 use Rattle.shell_lang.specs.Reply as line
 use Rattle.shell_lang.specs.declared.command.LineRefusal.{LineRefusal}
@@ -12,13 +12,14 @@ use Rattle.store_machine.specs.declared.machine.Reply.TheVariants as replies
 use Rattle.store_machine.specs.declared.machine.Status.{Status}
 use Rattle.store_machine.specs.declared.machine.Status.TheVariants as status
 use Rattle.store_machine.specs.Told.{IsTold, TellsVersion}
-use Rattle.session_run.specs.Acts.{Act, Allows, Fault, IsLineOf, Lines, Note, Refused, RequestAllows, Say, Silence, note_lines, shown}
+use Rattle.session_run.specs.Acts.{Act, Allows, AnswersBy, Fault, Faults, IsDataLine, IsLineOf, Lines, Note, Refused, Refuses, RegistersEach, Replies, RequestAllows, Say, Silence, data_line, item_line, note_lines, shown}
 use Rattle.session_run.specs.Cursors.{Calls, Cursor}
 use Rattle.session_run.specs.Dialogue.{IsCommand, IsShownIn, ShowsVersion, hits_in}
-use Rattle.session_run.specs.Requests.{Request, molfile_text}
+use Rattle.session_run.specs.Requests.{Request}
 use Rattle.session_run.specs.Pins.{Leaves, effect}
+use Rattle.session_run.specs.Records.{counted, data_of}
 use Rattle.session_run.proofs.Held.{Leave}
-use Rattle.session_run.proofs.Passing.{PassBy, none_in, one_in}
+use Rattle.session_run.proofs.Passing.{PassBy, none_in, one_in, passes-append}
 
 -- lines that are of no search, no cursor and no lookup of what is similar
 abbrev pub IsPlainLine : line.Reply → Type 0
@@ -115,35 +116,122 @@ quiet_ask event reply said e =
     let q = quiet_call event reply said e in
     plain_one ((event, reply) ∷ []) said (q.leaves, tt) (λ slot. (q.keeps slot, q.no_page slot, tt)) q.plain (λ v k. inl (q.told v k))
 
+-- the line of a data item
+item_plain : (id : ℕ) (found : Option (List ℕ)) → IsPlainLine (item_line id found)
+item_plain id None = tt
+item_plain id (Some text) = tt
+
+data_plain : (id : ℕ) (name : List ℕ) (state : Option Status) → IsPlainLine (data_line id name state)
+data_plain id name None = tt
+data_plain id name (Some (status.Live version format text)) = item_plain id (data_of format text name)
+data_plain id name (Some (status.Withdrawn version)) = tt
+
+item_shows : (id : ℕ) (found : Option (List ℕ)) (v : ℕ) → ShowsVersion (item_line id found) v → ⊥
+item_shows id None v k = k
+item_shows id (Some text) v k = k
+
+data_shows : (id : ℕ) (name : List ℕ) (state : Option Status) (v : ℕ) → ShowsVersion (data_line id name state) v → ⊥
+data_shows id name None v k = k
+data_shows id name (Some (status.Live version format text)) v k = item_shows id (data_of format text name) v k
+data_shows id name (Some (status.Withdrawn version)) v k = k
+
+found_call : (id : ℕ) (name : List ℕ) (reply : Reply) (said : line.Reply) → IsDataLine id name reply said
+    → IsQuietCall (events.Look id) reply said
+found_call id name (replies.Looked state) said (inl e) =
+    is e refl (λ s. refl) (λ s. refl) (data_plain id name state) (λ v k. absurd (data_shows id name state v k))
+found_call id name (replies.Looked state) said (inr e) =
+    is e refl (λ s. refl) (λ s. refl) tt (λ v k. absurd k)
+found_call id name replies.NoMemory said e = is e refl (λ s. refl) (λ s. refl) tt (λ v k. k)
+found_call id name _ said e = absurd e
+
+pub quiet_data : (id : ℕ) (name : List ℕ) (reply : Reply) (said : line.Reply) → IsDataLine id name reply said
+    → IsQuiet ((events.Look id, reply) ∷ []) (said ∷ [])
+quiet_data id name reply said e =
+    let q = found_call id name reply said e in
+    plain_one ((events.Look id, reply) ∷ []) said (q.leaves, tt) (λ slot. (q.keeps slot, q.no_page slot, tt)) q.plain
+    (λ v k. inl (q.told v k))
+
+-- lines that follow a plain one
+quiet_by : {act : Act} {calls : Calls} {said : line.Reply} → AnswersBy act calls said → IsQuiet calls (said ∷ [])
+quiet_by (Refuses refusal) = quiet_note (Refused refusal)
+quiet_by Faults = quiet_note Fault
+quiet_by (Replies event reply said is) = quiet_ask event reply said is
+
+pub told_right : (xs ys : Calls) (v : ℕ) → IsTold ys v → IsTold (xs ++ ys) v
+told_right [] ys v k = k
+told_right (x ∷ xs) ys v k = inr (told_right xs ys v k)
+
+pub told_left : (xs ys : Calls) (v : ℕ) → IsTold xs v → IsTold (xs ++ ys) v
+told_left [] ys v k = absurd k
+told_left (x ∷ xs) ys v (inl k) = inl k
+told_left (x ∷ xs) ys v (inr k) = inr (told_left xs ys v k)
+
+leave-append : (xs ys : Calls) → Leave xs → Leave ys → Leave (xs ++ ys)
+leave-append [] ys h k = k
+leave-append (x ∷ xs) ys h k = (h.0, leave-append xs ys h.1 k)
+
+plain_before : (said : line.Reply) (lines : Lines) → IsPlainLine said → hits_in (said ∷ lines) ≡ hits_in lines
+plain_before (line.Hit id) lines p = absurd p
+plain_before _ lines p = refl
+
+quiet_more : (own more : Calls) (said : line.Reply) (lines : Lines) → IsQuiet own (said ∷ []) → IsQuiet more lines
+    → IsQuiet (own ++ more) (said ∷ lines)
+quiet_more own more said lines q n =
+    let plain : IsPlainLine said = q.plain said (0, omega arith, refl) in
+    record {
+      leave = leave-append own more q.leave n.leave;
+      pass = λ slot. passes-append slot own more (q.pass slot) (n.pass slot);
+      hits = plain_before said lines plain ∙ n.hits;
+      plain = λ other k. by other plain k;
+      shows = λ v k. elim k [
+        | inl s ↦ told_left own more v (q.shows v (inl s))
+        | inr s ↦ told_right own more v (n.shows v s)
+      ];
+    }
+  where
+    by : (other : line.Reply) → IsPlainLine said → Contains (said ∷ lines) other → IsPlainLine other
+    by other plain (zero, lt, e) = subst IsPlainLine e plain
+    by other plain (suc k, lt, e) = n.plain other (k, omega (arith, lt), e)
+
+pub quiet_each : (id sum : ℕ) (records : List (Option (List TextLine))) (calls : Calls) (lines : Lines)
+    → RegistersEach id sum records calls lines → IsQuiet calls lines
+quiet_each id sum [] calls lines h =
+    subst (λ (cs : Calls). IsQuiet cs lines) (sym h.0)
+    (subst (λ (l : Lines). IsQuiet [] l) (sym h.1) (quiet_note Silence))
+quiet_each id sum (r ∷ records) calls lines (act, own, more, said, rest, may, by, e, f, next) =
+    subst (λ (cs : Calls). IsQuiet cs lines) (sym e)
+    (subst (λ (l : Lines). IsQuiet (own ++ more) l) (sym f)
+    (quiet_more own more said rest (quiet_by by) (quiet_each (suc id) (sum + counted r) records more rest next)))
+
 -- a line has one reading
 abbrev pub OneReading : Type 0
 OneReading = (text : List ℕ) (a b : Result Command LineRefusal) → IsLine text a → IsLine text b → a ≡ b
 
 -- the act is one of the command's, unless it only says something
-abbrev pub Fits : List Cursor → List ℕ → Command → Act → Type 0
-Fits cursors molfile order (Say note) = Unit {0}
-Fits cursors molfile order act = Allows cursors molfile (Ok order) act
+abbrev pub Fits : List Cursor → List TextLine → Command → Act → Type 0
+Fits cursors more order (Say note) = Unit {0}
+Fits cursors more order act = Allows cursors more (Ok order) act
 
-fits_say : (cursors : List Cursor) (molfile : List ℕ) (order : Command) (act : Act) (note : Note) → act ≡ Say note
-    → Fits cursors molfile order act
-fits_say cursors molfile order act note e = subst (Fits cursors molfile order) (sym e) tt
+fits_say : (cursors : List Cursor) (more : List TextLine) (order : Command) (act : Act) (note : Note) → act ≡ Say note
+    → Fits cursors more order act
+fits_say cursors more order act note e = subst (Fits cursors more order) (sym e) tt
 
-fits_all : (cursors : List Cursor) (molfile : List ℕ) (order : Command) (act : Act)
-    → Allows cursors molfile (Ok order) act → Fits cursors molfile order act
-fits_all cursors molfile order (Say note) a = tt
-fits_all cursors molfile order _ a = a
+fits_all : (cursors : List Cursor) (more : List TextLine) (order : Command) (act : Act)
+    → Allows cursors more (Ok order) act → Fits cursors more order act
+fits_all cursors more order (Say note) a = tt
+fits_all cursors more order _ a = a
 
 pub fits : OneReading → (cursors : List Cursor) (request : Request) (act : Act) (order : Command)
     → RequestAllows cursors request act → IsCommand request order
-    → Fits cursors (molfile_text request.molfile) order act
+    → Fits cursors request.more order act
 fits reading cursors request act order (inl a) is =
-    fits_say cursors (molfile_text request.molfile) order act _ a.1
+    fits_say cursors request.more order act _ a.1
 fits reading cursors request act order (inr (short, text, e, read, line, a)) is =
     let same : is.0 ≡ text = one_text is.0 text (sym is.1 ∙ e) in
     let one : read ≡ Ok order =
     reading text read (Ok order) line (subst (λ (t : List ℕ). IsLine t (Ok order)) same is.2) in
-    fits_all cursors (molfile_text request.molfile) order act
-    (subst (λ (r : Result Command LineRefusal). Allows cursors (molfile_text request.molfile) r act) one a)
+    fits_all cursors request.more order act
+    (subst (λ (r : Result Command LineRefusal). Allows cursors request.more r act) one a)
   where
     one_text : (a b : List ℕ) → Whole a ≡ Whole b → a ≡ b
     one_text a b e = cc

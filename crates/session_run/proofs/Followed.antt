@@ -10,12 +10,12 @@ use Rattle.store_machine.specs.Searches.{At, Place}
 use Rattle.store_machine.specs.Structures.{IsNeedOf}
 use Rattle.store_machine.specs.declared.machine.Event.TheVariants as events
 use Rattle.store_machine.specs.declared.machine.Reply.TheVariants as replies
-use Rattle.session_run.specs.Acts.{Act, Advances, Allows, Asks, Close, Closed, Does, Lines, ListedSame, ListedSimilar, Opened, RegisteredNew, RequestAllows, Says, Searched, Searches, Turn, Turned, new_cursor}
+use Rattle.session_run.specs.Acts.{Act, Advances, Allows, Asks, Close, Closed, Does, FoundData, Lines, ListedSame, ListedSimilar, Opened, RegisteredEach, RegisteredNew, RequestAllows, Says, Searched, Searches, Turn, Turned, new_cursor}
 use Rattle.session_run.specs.Cursors.{Calls, Cursor, IsNoName}
 use Rattle.session_run.specs.Dialogue.{AreExchanged, AreListed, AreTurned, Exchange, IsCommand, StaysOpen, hits_in}
 use Rattle.session_run.specs.Pins.{AreHeld, HeldAfter}
-use Rattle.session_run.specs.Requests.{Request, molfile_text}
-use Rattle.session_run.proofs.Acts.{OneReading, fits, quiet_ask, quiet_note}
+use Rattle.session_run.specs.Requests.{Request}
+use Rattle.session_run.proofs.Acts.{OneReading, fits, quiet_ask, quiet_data, quiet_each, quiet_note}
 use Rattle.session_run.proofs.LookedUp.{IsLookup, looked_first, looked_pass, new_looks, same_looks, similar_looks}
 use Rattle.session_run.proofs.Passing.{IsOpen, IsTurn, PassBy, advances_fetch, advances_same, fetches_pass, open_advances, open_passes, passes-append}
 use Rattle.session_run.proofs.Pinned.{AreFree, IsPinned, grouped, new_slot, next_calls, none, pinned}
@@ -25,10 +25,11 @@ pub turn_command : (cursors : List Cursor) (request : Request) (own : List ℕ) 
     → IsCommand request (command.Next own)
 turn_command cursors request own (inl a) = cc
 turn_command cursors request own (inr (short, text, e, read, line, a)) = by read line a where
-  by : (read : Result Command LineRefusal) → IsLine text read → Allows cursors (molfile_text request.molfile) read (Turn own)
+  by : (read : Result Command LineRefusal) → IsLine text read → Allows cursors request.more read (Turn own)
       → IsCommand request (command.Next own)
   by (Err refusal) line a = cc
   by (Ok command.Empty) line a = cc
+  by (Ok (command.RegisterSd id count)) line a = cc
   by (Ok (command.Next name)) line a =
       (text, e, subst (λ (n : List ℕ). IsLine text (Ok (command.Next n))) (sym a) line)
   by (Ok _) line a = absurd a
@@ -37,10 +38,11 @@ close_command : (cursors : List Cursor) (request : Request) (own : List ℕ) →
     → IsCommand request (command.Close own)
 close_command cursors request own (inl a) = cc
 close_command cursors request own (inr (short, text, e, read, line, a)) = by read line a where
-  by : (read : Result Command LineRefusal) → IsLine text read → Allows cursors (molfile_text request.molfile) read (Close own)
+  by : (read : Result Command LineRefusal) → IsLine text read → Allows cursors request.more read (Close own)
       → IsCommand request (command.Close own)
   by (Err refusal) line a = cc
   by (Ok command.Empty) line a = cc
+  by (Ok (command.RegisterSd id count)) line a = cc
   by (Ok (command.Close name)) line a =
       (text, e, subst (λ (n : List ℕ). IsLine text (Ok (command.Close n))) (sym a) line)
   by (Ok _) line a = absurd a
@@ -299,6 +301,15 @@ module _ (reading : OneReading) (whole : Calls) (free : AreFree whole) (size : �
       (λ is m. q.plain line.More m) (q.pass f.c.slot)
   follow calls its later cursors cursors' request lines hits more act w a (Asks event reply said is) close adds f =
       let q = quiet_ask event reply said is in
+      stays its cursors request lines more f f.front f.back f.among f.left f.right adds q.hits
+      (λ is m. q.plain line.More m) (q.pass f.c.slot)
+  follow calls its later cursors cursors' request lines hits more act w a (RegisteredEach id records own said each)
+      close adds f =
+      let q = quiet_each id 0 records its lines each in
+      stays its cursors request lines more f f.front f.back f.among f.left f.right adds q.hits
+      (λ is m. q.plain line.More m) (q.pass f.c.slot)
+  follow calls its later cursors cursors' request lines hits more act w a (FoundData id named reply said is) close adds f =
+      let q = quiet_data id named reply said is in
       stays its cursors request lines more f f.front f.back f.among f.left f.right adds q.hits
       (λ is m. q.plain line.More m) (q.pass f.c.slot)
   follow calls its later cursors cursors' request lines hits more act w a (Searched p own said s) close adds f =

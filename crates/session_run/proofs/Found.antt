@@ -17,11 +17,11 @@ use Rattle.store_machine.specs.declared.machine.Event.{Event}
 use Rattle.store_machine.specs.declared.machine.Event.TheVariants as events
 use Rattle.store_machine.specs.declared.machine.Reply.{Reply}
 use Rattle.store_machine.specs.declared.machine.Reply.TheVariants as replies
-use Rattle.session_run.specs.Acts.{Act, AllSame, AllSimilar, Allows, Asks, Closed, Does, Fault, IsLineOf, IsNew, Lines, ListedSame, ListedSimilar, ListsSame, ListsSimilar, NewLost, Note, NotNew, Opened, Refused, RegisteredNew, RegistersNew, RequestAllows, SameLost, Say, Says, Searched, Silence, SimilarLost, Turned, like_line, note_lines}
+use Rattle.session_run.specs.Acts.{Act, AllSame, AllSimilar, Allows, Asks, Closed, Does, Fault, FoundData, IsLineOf, IsNew, Lines, ListedSame, ListedSimilar, ListsSame, ListsSimilar, NewLost, NotNew, Note, Opened, Refused, RegisteredEach, RegisteredNew, RegistersNew, RequestAllows, SameLost, Say, Says, Searched, Silence, SimilarLost, Turned, like_line, note_lines}
 use Rattle.session_run.specs.Cursors.{Calls, Cursor}
 use Rattle.session_run.specs.Dialogue.{IsCommand, hits_in, likes_in}
 use Rattle.session_run.specs.Lookups.{FindsSame, FindsSimilar}
-use Rattle.session_run.specs.Requests.{Request, molfile_text}
+use Rattle.session_run.specs.Requests.{Request}
 use Rattle.session_run.proofs.Acts.{OneReading, fits, quiet_ask, quiet_note}
 use Rattle.session_run.proofs.Endings.{SameEnd, end_behind, fault_or_end, same_end}
 use Rattle.session_run.proofs.Passing.{first_or_rest, hits_listed, none_in, one_in}
@@ -204,6 +204,11 @@ same_by reading {cursors = cursors} {act = act} request text version tried count
     absurd (fits reading cursors request act (command.Same text) a is)
 same_by reading {cursors = cursors} {act = act} request text version tried count a
     (ListedSimilar p q n print its lines s) is k = absurd (fits reading cursors request act (command.Same text) a is)
+same_by reading {cursors = cursors} {act = act} request text version tried count a
+    (RegisteredEach id records its lines each) is k =
+    absurd (fits reading cursors request act (command.Same text) a is)
+same_by reading {cursors = cursors} {act = act} request text version tried count a (FoundData id name reply said q) is
+    k = absurd (fits reading cursors request act (command.Same text) a is)
 
 -- a `similar` that did
 pub similar_by : OneReading → {size : ℕ} {cursors cursors' : List Cursor} {act : Act} {its : Calls} {lines : Lines}
@@ -237,6 +242,12 @@ similar_by reading {cursors = cursors} {act = act} request p q k text version sc
 similar_by reading {cursors = cursors} {act = act} request p q k text version scored count a
     (ListedSame m print its lines s) is has =
     absurd (fits reading cursors request act (command.Similar p q k text) a is)
+similar_by reading {cursors = cursors} {act = act} request p q k text version scored count a
+    (RegisteredEach id records its lines each) is has =
+    absurd (fits reading cursors request act (command.Similar p q k text) a is)
+similar_by reading {cursors = cursors} {act = act} request p q k text version scored count a
+    (FoundData id name reply said u) is has =
+    absurd (fits reading cursors request act (command.Similar p q k text) a is)
 
 -- a line by which a `register-new` says what it found
 abbrev pub IsFinding : line.Reply → Type 0
@@ -250,9 +261,10 @@ never_same : (cursors : List Cursor) (request : Request) (id : ℕ)
 never_same cursors request id (inl a) = cc
 never_same cursors request id (inr (short, text, e, read, line, a)) = by read line a where
   by : (read : Result Command LineRefusal) → IsLine text read
-      → Allows cursors (molfile_text request.molfile) read (Say (Refused (refusals.Same id))) → ⊥
+      → Allows cursors request.more read (Say (Refused (refusals.Same id))) → ⊥
   by (Err refusal) line a = cc
   by (Ok command.Empty) line a = cc
+  by (Ok (command.RegisterSd id count)) line a = cc
   by (Ok _) line a = absurd a
 
 no_finding : (cursors : List Cursor) (request : Request) (note : Note) (said : line.Reply)
@@ -301,4 +313,8 @@ new_by reading {cursors = cursors} {act = act} request id text said a (Closed na
 new_by reading {cursors = cursors} {act = act} request id text said a (ListedSame m print its lines s) is has f =
     absurd (fits reading cursors request act (command.RegisterNew id text) a is)
 new_by reading {cursors = cursors} {act = act} request id text said a (ListedSimilar p q k print its lines s) is has f =
+    absurd (fits reading cursors request act (command.RegisterNew id text) a is)
+new_by reading {cursors = cursors} {act = act} request id text said a (RegisteredEach own records its lines each) is has
+    f = absurd (fits reading cursors request act (command.RegisterNew id text) a is)
+new_by reading {cursors = cursors} {act = act} request id text said a (FoundData own name reply one u) is has f =
     absurd (fits reading cursors request act (command.RegisterNew id text) a is)

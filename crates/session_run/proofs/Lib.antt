@@ -2,6 +2,8 @@ pub mod Joined
 pub mod Held
 pub mod Continued
 pub mod Taking
+pub mod Recorded
+pub mod Ordered
 pub mod Wholes
 pub mod Scripts
 pub mod Lines
@@ -27,4 +29,6 @@ pub mod Truth
 pub mod Told
 pub mod Endings
 pub mod Requested
+pub mod Registered
+pub mod Itemed
 pub mod Looked

@@ -24,7 +24,7 @@ use Rattle.store_machine.specs.declared.machine.Change.{Change}
 use Rattle.store_machine.specs.declared.machine.Event.TheVariants as events
 use Rattle.store_machine.specs.declared.machine.Found.{Found}
 use Rattle.store_machine.specs.declared.machine.Reply.TheVariants as replies
-use Rattle.session_run.specs.Acts.{Act, AllSame, AllSimilar, Answers, Ask, Asks, Closed, Does, Fault, IsNew, Lines, ListedSame, ListedSimilar, MayAsk, NewLost, Opened, Refused, RegisterNew, RegisteredNew, Same, SameLost, Say, Says, Searched, Silence, Similar, SimilarLost, Turned, same_lines, similar_lines}
+use Rattle.session_run.specs.Acts.{Act, AllSame, AllSimilar, Answers, Ask, Asks, Closed, Does, Fault, FoundData, IsNew, Lines, ListedSame, ListedSimilar, MayAsk, NewLost, Opened, Refused, RegisterNew, RegisteredEach, RegisteredNew, Same, SameLost, Say, Says, Searched, Silence, Similar, SimilarLost, Turned, same_lines, similar_lines}
 use Rattle.session_run.specs.Cursors.{Calls, Cursor}
 use Rattle.session_run.specs.Lookups.{FindsSame, FindsSimilar, LooksUp}
 use Rattle.session_run.specs.Made.{Answered, AnsweredBy, Broken, Said, TellsAll, Unsaid, Uses, Writes}
@@ -235,6 +235,8 @@ module _ {size : ℕ} {Allowed : Act → Type 0} {cursors : List Cursor} (change
   committed a (ListedSame n other its lines s) = absurd a
   committed a (RegisteredNew change n other its lines s) = absurd a
   committed a (ListedSimilar p q k other its lines s) = absurd a
+  committed a (RegisteredEach id records its lines each) = absurd a
+  committed a (FoundData id name reply one is) = absurd a
 
   pub registered_from : {First Next All : Calls → Type 0} {IsWorn : Type 0} {out out' : List ℕ}
       {result : Result (Unit {0}) Stop} → ((xs ys : Calls) → First xs → Next ys → All (xs ++ ys)) → First calls

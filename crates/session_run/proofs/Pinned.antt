@@ -10,13 +10,13 @@ use Rattle.store_machine.specs.declared.machine.Event.TheVariants as events
 use Rattle.store_machine.specs.declared.machine.Reply.{Reply}
 use Rattle.store_machine.specs.declared.machine.Reply.TheVariants as replies
 use Rattle.store_machine.specs.Told.{IsTold}
-use Rattle.session_run.specs.Acts.{Act, Advances, AllSame, AllSimilar, Asks, Closed, Does, Ended, IsCutShort, IsNew, Lines, ListedSame, ListedSimilar, Lists, ListsSame, ListsSimilar, Lost, NewLost, NotNew, Opened, Paged, RegisteredNew, RegistersNew, SameLost, Says, Searched, SimilarLost, Turned, after_page, like_line, page_end}
+use Rattle.session_run.specs.Acts.{Act, Advances, AllSame, AllSimilar, Asks, Closed, Does, Ended, FoundData, IsCutShort, IsNew, Lines, ListedSame, ListedSimilar, Lists, ListsSame, ListsSimilar, Lost, NewLost, NotNew, Opened, Paged, RegisteredEach, RegisteredNew, RegistersNew, SameLost, Says, Searched, SimilarLost, Turned, after_page, like_line, page_end}
 use Rattle.session_run.specs.Cursors.{Calls, Cursor}
 use Rattle.session_run.specs.Dialogue.{AreExchanged, Exchange, IsShown, IsShownIn}
 use Rattle.session_run.specs.Lookups.{LooksUp}
 use Rattle.session_run.specs.Pins.{AreApart, AreHeld, HeldAfter, HeldBy, IsApart, effect}
 use Rattle.session_run.proofs.ActPins.{act_held}
-use Rattle.session_run.proofs.Acts.{quiet_ask, quiet_note}
+use Rattle.session_run.proofs.Acts.{quiet_ask, quiet_data, quiet_each, quiet_note, told_left, told_right}
 use Rattle.session_run.proofs.Held.{after-append, after-under, apart-parts, held-at}
 use Rattle.session_run.proofs.Passing.{keeps-append}
 
@@ -97,15 +97,6 @@ are_apart free calls (c ∷ cs) later w = (
 )
 
 -- Versions that were told
-pub told_right : (xs ys : Calls) (v : ℕ) → IsTold ys v → IsTold (xs ++ ys) v
-told_right [] ys v k = k
-told_right (x ∷ xs) ys v k = inr (told_right xs ys v k)
-
-told_left : (xs ys : Calls) (v : ℕ) → IsTold xs v → IsTold (xs ++ ys) v
-told_left [] ys v k = absurd k
-told_left (x ∷ xs) ys v (inl k) = inl k
-told_left (x ∷ xs) ys v (inr k) = inr (told_left xs ys v k)
-
 pinned_told : (calls : Calls) (slot version : ℕ) → IsPinned calls slot version → IsTold calls version
 pinned_told calls slot version p =
     subst (λ (l : Calls). IsTold l version) (sym p.own)
@@ -197,6 +188,10 @@ shown_then calls v (Searched pattern its lines s) h k =
 shown_then calls v (ListedSame m print its lines s) h k = told_right calls its v (same_shown v s k)
 shown_then calls v (RegisteredNew change m print its lines s) h k = told_right calls its v (new_shown v s k)
 shown_then calls v (ListedSimilar p q n print its lines s) h k = told_right calls its v (similar_shown v s k)
+shown_then calls v (RegisteredEach id records its lines each) h k =
+    told_right calls its v ((quiet_each id 0 records its lines each).shows v k)
+shown_then calls v (FoundData id name reply said is) h k =
+    told_right calls _ v ((quiet_data id name reply said is).shows v k)
 shown_then calls v (Opened name pattern want slot version new need) h (inl n) = told_right calls _ v (inl n)
 shown_then calls v (Opened name pattern want slot version new need) h (inr n) = absurd n
 shown_then calls v (Turned name before after c c' its lines named advances) h k =

@@ -1,11 +1,11 @@
 -- Which acts a request allows, by what was read of it.
-use Rattle.std.proofs.Common.{◌≡◌, ap, arith, Contains, Err, inl, inr, List, [], ◌∷◌, Ok, refl, Result, subst, suc, sym, zero, ℕ}
+use Rattle.std.proofs.Common.{◌≡◌, ◌++◌, ap, arith, codes, Contains, Err, get_or, inl, inr, length, List, [], ◌∷◌, Ok, refl, Result, subst, suc, sym, zero, ℕ}
 use Rattle.std.specs.Fmt.{decimal}
 use Rattle.io_edge.specs.Lines.{TextLine, TooLong, Whole}
 use Rattle.mol_finish.specs.declared.fault.Format.{Format}
 use Rattle.mol_finish.specs.declared.fault.Format.TheVariants.{Molfile}
 use Rattle.shell_lang.specs.Command as command
-use Rattle.shell_lang.specs.Command.{Command, IsLine, Spells, StartsMolfile, molfile_command}
+use Rattle.shell_lang.specs.Command.{Command, IsLine, Spells, StartsMolfile, StartsWith, TakesLines, TakesRecords, molfile_command}
 use Rattle.shell_lang.specs.CommandView.{command_of}
 use Rattle.shell_lang.specs.Reply as line
 use Rattle.shell_lang.specs.declared.command.Command as read
@@ -14,14 +14,18 @@ use Rattle.shell_lang.specs.declared.command.LineRefusal.{LineRefusal}
 use Rattle.shell_lang.specs.declared.command.MolfileChange.{MolfileChange}
 use Rattle.shell_lang.specs.declared.command.MolfileChange.TheVariants as molfile
 use Rattle.shell_lang.specs.declared.reply.Refusal.TheVariants as refusals
-use Rattle.session_run.specs.Acts.{Act, Allows, Fault, Lines, MayChange, Refused, RequestAllows, RequestAnswer, Say}
+use Rattle.shell_lang.proofs.Cuts.{no_space}
+use Rattle.session_run.specs.Acts.{Act, Allows, Fault, Lines, MayChange, Refused, RegisterEach, RequestAllows, RequestAnswer, Say}
 use Rattle.session_run.specs.Cursors.{Calls, Cursor}
 use Rattle.session_run.specs.Made.{Answered}
-use Rattle.session_run.specs.Requests.{Request, IsLong, molfile_text}
+use Rattle.session_run.specs.Records.{behind_record, records_in}
+use Rattle.session_run.specs.Requests.{Request, IsLong, TakesMolfile, molfile_text}
 use Rattle.session_run.specs.Responds.{IsLostLine, IsTextChange, change_by}
 use Rattle.session_run.specs.Turn.{IsNext}
 use Rattle.session_run.specs.declared.commands.TextChange.{TextChange}
 use Rattle.session_run.specs.declared.commands.Verb.{Verb}
+use Rattle.session_run.specs.declared.commands.Verb.TheVariants as verbs
+use Rattle.session_run.specs.declared.records.SdTexts.{SdTexts}
 use Rattle.session_run.specs.declared.request.Molfile.TheVariants as molfiles
 use Rattle.session_run.specs.declared.request.Next.TheVariants as nexts
 use Rattle.session_run.specs.declared.stop.Stop.{Stop}
@@ -34,24 +38,57 @@ pub behind_nothing : {X : Type 0} {Made : Calls → Type 0} {IsWorn : Type 0} {I
 behind_nothing {Made = Made} {IsWorn} {Is} {out' = out'} {x} {result} e a =
     subst (λ (l : List ℕ). Answered Made IsWorn Is l out' x result) e a
 
--- a line that is whole, before a molfile without a line that is too long
-whole_line : (l : TextLine) (line : List ℕ) (molfile : List TextLine) → l ≡ Whole line → ¬ Contains molfile TooLong
-    → ¬ Contains (l ∷ molfile) TooLong
-whole_line l line molfile e none (zero, lt, h) = cc
-whole_line l line molfile e none (suc k, lt, h) = none (k, omega (arith, lt), h)
+-- a line that is whole, before a molfile without a line that is too long, or before records
+whole_line : (request : Request) (line : List ℕ) → request.line ≡ Whole line → ¬ Contains request.more TooLong
+    → ¬ IsLong request
+whole_line request line e none (inl long) = cc
+whole_line request line e none (inr long) = none long.1
 
 no_lines : ¬ Contains {X = TextLine} [] TooLong
 no_lines (k, lt, h) = omega (arith, lt)
 
-pub long_molfile : (l : TextLine) (molfile : List TextLine) → Contains molfile TooLong → Contains (l ∷ molfile) TooLong
-long_molfile l molfile (k, lt, h) = (suc k, omega (arith, lt), h)
+pub long_molfile : (request : Request) (line : List ℕ) → request.line ≡ Whole line → StartsMolfile line
+    → Contains request.more TooLong → IsLong request
+long_molfile request line e starts long = inr (subst TakesMolfile (sym e) starts, long)
 
--- a line that takes no molfile
+-- the word of records is that of no molfile
+abbrev byte_at : ℕ → List ℕ → ℕ
+byte_at place line = get_or line place 0
+
+abbrev sd_line : List ℕ → ℕ → List ℕ
+sd_line part count = codes "register-sd" ++ 32 ∷ (part ++ 32 ∷ decimal count)
+
+register_apart : (part : List ℕ) (count : ℕ) → StartsWith (sd_line part count) (codes "register-mol") → ⊥
+register_apart part count (inl e) =
+    let h : 115 ≡ 109 = ap (byte_at 9) e in absurd (omega (arith, h))
+register_apart part count (inr (rest, e)) =
+    let h : 115 ≡ 109 = ap (byte_at 9) e in absurd (omega (arith, h))
+
+revise_apart : (part : List ℕ) (count : ℕ) → StartsWith (sd_line part count) (codes "revise-mol") → ⊥
+revise_apart part count (inl e) =
+    let h : 103 ≡ 118 = ap (byte_at 2) e in absurd (omega (arith, h))
+revise_apart part count (inr (rest, e)) =
+    let h : 103 ≡ 118 = ap (byte_at 2) e in absurd (omega (arith, h))
+
+records_apart : (line part : List ℕ) (count : ℕ) → TakesRecords line part count → StartsMolfile line → ⊥
+records_apart line part count t starts = by (subst StartsMolfile t.2 starts) where
+  by : StartsMolfile (sd_line part count) → ⊥
+  by (inl s) = register_apart part count s
+  by (inr s) = revise_apart part count s
+
+records_line : (request : Request) (line part : List ℕ) (count : ℕ) → request.line ≡ Whole line
+    → TakesRecords line part count → ¬ IsLong request
+records_line request line part count e t (inl long) = cc
+records_line request line part count e t (inr long) =
+    records_apart line part count t (subst TakesMolfile e long.0)
+
+-- a line that takes no lines
 pub line_allows : (cursors : List Cursor) (request : Request) (line : List ℕ) (read : Result Command LineRefusal)
-    → (request ≡ record { line = Whole line; molfile = [] }) × ¬ StartsMolfile line → IsLine line read → (act : Act)
-    → Allows cursors (molfile_text request.molfile) read act → RequestAllows cursors request act
+    → (request ≡ record { line = Whole line; more = [] }) × ¬ TakesLines line → IsLine line read → (act : Act)
+    → Allows cursors request.more read act → RequestAllows cursors request act
 line_allows cursors request line read next is act a = inr (
-  subst (λ (r : Request). ¬ IsLong r) (sym next.0) (whole_line (Whole line) line [] refl no_lines),
+  subst (λ (r : Request). ¬ IsLong r) (sym next.0)
+      (whole_line (record { line = Whole line; more = [] }) line refl no_lines),
   line,
   ap (λ (r : Request). r.line) next.0,
   read,
@@ -61,63 +98,91 @@ line_allows cursors request line read next is act a = inr (
 
 -- a line with its molfile
 pub molfile_refused : (cursors : List Cursor) (request : Request) (refusal : LineRefusal) (text : List ℕ)
-    (any : List ℕ) → IsNext (nexts.WithMolfile (Err refusal) molfiles.Text) request any text
+    (any : List ℕ) (texts : SdTexts) → IsNext (nexts.WithMolfile (Err refusal) molfiles.Text) request any text texts
     → RequestAllows cursors request (Say (Refused (refusals.Line refusal)))
-molfile_refused cursors request refusal text any n =
-    inr (whole_line request.line n.0 request.molfile n.1 n.4.1, n.0, n.1, Err refusal, n.3, refl)
+molfile_refused cursors request refusal text any texts n =
+    inr (whole_line request n.0 n.1 n.4.1, n.0, n.1, Err refusal, n.3, refl)
 
-may_be : (cursors : List Cursor) (text : List ℕ) (change : MolfileChange) (t : TextChange) (act : Act)
-    → IsTextChange change t → MayChange (change_by t.verb t.id t.format text) t.format text act
-    → Allows cursors text (molfile_command (Ok change)) act
-may_be cursors text (molfile.Register id) t act is a =
-    subst (λ (v : Verb). MayChange (change_by v id Molfile text) Molfile text act) is.0
+may_be : (cursors : List Cursor) (more : List TextLine) (text : List ℕ) (change : MolfileChange) (t : TextChange)
+    (act : Act) → text ≡ molfile_text more → IsTextChange change t
+    → MayChange (change_by t.verb t.id t.format text) t.format text act
+    → Allows cursors more (molfile_command (Ok change)) act
+may_be cursors more text (molfile.Register id) t act e is a =
+    subst (λ (x : List ℕ). MayChange (change_by verbs.Register id Molfile x) Molfile x act) e
+    (subst (λ (v : Verb). MayChange (change_by v id Molfile text) Molfile text act) is.0
     (subst (λ (i : ℕ). MayChange (change_by t.verb i Molfile text) Molfile text act) is.1
-    (subst (λ (f : Format). MayChange (change_by t.verb t.id f text) f text act) is.2 a))
-may_be cursors text (molfile.Revise id) t act is a =
-    subst (λ (v : Verb). MayChange (change_by v id Molfile text) Molfile text act) is.0
+    (subst (λ (f : Format). MayChange (change_by t.verb t.id f text) f text act) is.2 a)))
+may_be cursors more text (molfile.Revise id) t act e is a =
+    subst (λ (x : List ℕ). MayChange (change_by verbs.Revise id Molfile x) Molfile x act) e
+    (subst (λ (v : Verb). MayChange (change_by v id Molfile text) Molfile text act) is.0
     (subst (λ (i : ℕ). MayChange (change_by t.verb i Molfile text) Molfile text act) is.1
-    (subst (λ (f : Format). MayChange (change_by t.verb t.id f text) f text act) is.2 a))
+    (subst (λ (f : Format). MayChange (change_by t.verb t.id f text) f text act) is.2 a)))
 
 pub molfile_allows : (cursors : List Cursor) (request : Request) (change : MolfileChange) (t : TextChange)
-    (text : List ℕ) (any : List ℕ) → IsNext (nexts.WithMolfile (Ok change) molfiles.Text) request any text
+    (text : List ℕ) (any : List ℕ) (texts : SdTexts)
+    → IsNext (nexts.WithMolfile (Ok change) molfiles.Text) request any text texts
     → IsTextChange change t → (act : Act) → MayChange (change_by t.verb t.id t.format text) t.format text act
     → RequestAllows cursors request act
-molfile_allows cursors request change t text any n is act a = inr (
-  whole_line request.line n.0 request.molfile n.1 n.4.1,
+molfile_allows cursors request change t text any texts n is act a = inr (
+  whole_line request n.0 n.1 n.4.1,
   n.0,
   n.1,
   molfile_command (Ok change),
   n.3,
-  subst (λ (l : List ℕ). Allows cursors l (molfile_command (Ok change)) act) n.4.0
-      (may_be cursors text change t act is a),
+  may_be cursors request.more text change t act n.4.0 is a,
 )
 
 pub lost_answer : {size : ℕ} {cursors : List Cursor} (request : Request) (read : Result MolfileChange LineRefusal)
-    (text : List ℕ) (any : List ℕ) → IsNext (nexts.WithMolfile read molfiles.Lost) request any text
+    (text : List ℕ) (any : List ℕ) (texts : SdTexts)
+    → IsNext (nexts.WithMolfile read molfiles.Lost) request any text texts
     → (said : line.Reply) → IsLostLine read said → RequestAnswer size cursors request [] (said ∷ []) cursors
-lost_answer {size} {cursors} request read text any n said e = by read n e where
-  by : (read : Result MolfileChange LineRefusal) → IsNext (nexts.WithMolfile read molfiles.Lost) request any text
+lost_answer {size} {cursors} request read text any texts n said e = by read n e where
+  by : (read : Result MolfileChange LineRefusal) → IsNext (nexts.WithMolfile read molfiles.Lost) request any text texts
       → IsLostLine read said → RequestAnswer size cursors request [] (said ∷ []) cursors
   by (Ok (molfile.Register id)) n e =
       subst (λ (l : line.Reply). RequestAnswer size cursors request [] (l ∷ []) cursors) (sym e)
-      (noted Fault (inr (whole_line request.line n.0 request.molfile n.1 n.4, n.0, n.1, Ok (command.RegisterMol id), n.3, tt)))
+      (noted Fault (inr (whole_line request n.0 n.1 n.4, n.0, n.1, Ok (command.RegisterMol id), n.3, tt)))
   by (Ok (molfile.Revise id)) n e =
       subst (λ (l : line.Reply). RequestAnswer size cursors request [] (l ∷ []) cursors) (sym e)
-      (noted Fault (inr (whole_line request.line n.0 request.molfile n.1 n.4, n.0, n.1, Ok (command.ReviseMol id), n.3, tt)))
+      (noted Fault (inr (whole_line request n.0 n.1 n.4, n.0, n.1, Ok (command.ReviseMol id), n.3, tt)))
   by (Err refusal) n e =
       subst (λ (l : line.Reply). RequestAnswer size cursors request [] (l ∷ []) cursors) (sym e)
       (noted (Refused (refusals.Line refusal))
-      (inr (whole_line request.line n.0 request.molfile n.1 n.4, n.0, n.1, Err refusal, n.3, refl)))
+      (inr (whole_line request n.0 n.1 n.4, n.0, n.1, Err refusal, n.3, refl)))
 
--- a command that takes a molfile is no other line
+-- a line with its records
+pub records_refused : (cursors : List Cursor) (request : Request) (count : ℕ) (refusal : LineRefusal)
+    (any text : List ℕ) (texts : SdTexts) → IsNext (nexts.WithRecords count (Err refusal)) request any text texts
+    → RequestAllows cursors request (Say (Refused (refusals.Line refusal)))
+records_refused cursors request count refusal any text texts n =
+    inr (records_line request n.0 n.1 count n.2 n.3, n.0, n.2, Err refusal, n.4, refl)
+
+pub records_allow : (cursors : List Cursor) (request : Request) (count id : ℕ) (any text : List ℕ) (texts : SdTexts)
+    → IsNext (nexts.WithRecords count (Ok id)) request any text texts → (act : Act)
+    → act ≡ RegisterEach id (records_in count request.more) → RequestAllows cursors request act
+records_allow cursors request count id any text texts n act e =
+    inr (records_line request n.0 n.1 count n.2 n.3, n.0, n.2, Ok (command.RegisterSd id count), n.4, e)
+
+pub records_length : (count : ℕ) (lines : List TextLine) → length (records_in count lines) ≡ count
+records_length zero lines = refl
+records_length (suc n) [] = ap suc (records_length n [])
+records_length (suc n) (line ∷ lines) = ap suc (records_length n (behind_record (line ∷ lines)))
+
+-- a command that takes lines is no other line
 pub spells_register_mol : (line : List ℕ) (c : read.Command) (id : ℕ) → c ≡ variants.RegisterMol id
-    → Spells line (command_of c) → ¬ StartsMolfile line → ⊥
+    → Spells line (command_of c) → ¬ TakesLines line → ⊥
 spells_register_mol line c id e s none =
     let t = rw e at s in
-    none (inl (inr (decimal id, t.1)))
+    none (inl (inl (inr (decimal id, t.1))))
 
 pub spells_revise_mol : (line : List ℕ) (c : read.Command) (id : ℕ) → c ≡ variants.ReviseMol id
-    → Spells line (command_of c) → ¬ StartsMolfile line → ⊥
+    → Spells line (command_of c) → ¬ TakesLines line → ⊥
 spells_revise_mol line c id e s none =
     let t = rw e at s in
-    none (inr (inr (decimal id, t.1)))
+    none (inl (inr (inr (decimal id, t.1))))
+
+pub spells_register_sd : (line : List ℕ) (c : read.Command) (id count : ℕ) → c ≡ variants.RegisterSd id count
+    → Spells line (command_of c) → ¬ TakesLines line → ⊥
+spells_register_sd line c id count e s none =
+    let t = rw e at s in
+    none (inr (decimal id, count, (no_space id (t.1.0, omega (arith, t.1.1, t.0.0)), t.0, t.2)))

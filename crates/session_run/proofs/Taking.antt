@@ -180,5 +180,5 @@ taken_part before now next f f' f'' old r r' text taken u reads then same awaits
 }
 
 -- a line that is too long
-pub is_long_line : IsLong (record { line = TooLong; molfile = [] })
-is_long_line = (0, omega arith, refl)
+pub is_long_line : IsLong (record { line = TooLong; more = [] })
+is_long_line = inl refl

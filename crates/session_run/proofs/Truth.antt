@@ -26,7 +26,7 @@ use Rattle.store_machine.specs.declared.machine.Reply.{Reply}
 use Rattle.store_machine.specs.declared.machine.Reply.TheVariants as replies
 use Rattle.store_machine.specs.declared.machine.State.{State}
 use Rattle.store_machine.specs.declared.machine.Step.{Step}
-use Rattle.session_run.specs.Acts.{Act, Advances, Asks, Closed, Does, Ended, Lines, ListedSame, ListedSimilar, Lost, Opened, Paged, RegisteredNew, RequestAllows, RequestAnswer, Says, Searched, Searches, Turned, after_page, new_cursor, note_lines, page_end}
+use Rattle.session_run.specs.Acts.{Act, Advances, Asks, Closed, Does, Ended, FoundData, Lines, ListedSame, ListedSimilar, Lost, Opened, Paged, RegisteredEach, RegisteredNew, RequestAllows, RequestAnswer, Says, Searched, Searches, Turned, after_page, new_cursor, note_lines, page_end}
 use Rattle.session_run.specs.Cursors.{Calls, Cursor, IsNoName}
 use Rattle.session_run.specs.Dialogue.{AreExchanged, AreListed, Exchange, GivePage, IsCommand, IsShown, StaysOpen, hits_in, likes_in}
 use Rattle.session_run.specs.Lookups.{FindsSame, LooksUp}
@@ -141,6 +141,11 @@ searched_by reading {cursors = cursors} {act = act} request text version tried c
     absurd (fits reading cursors request act (command.Search text) a is)
 searched_by reading {cursors = cursors} {act = act} request text version tried count a
     (ListedSimilar p q n print its lines s) is k = absurd (fits reading cursors request act (command.Search text) a is)
+searched_by reading {cursors = cursors} {act = act} request text version tried count a
+    (RegisteredEach id records its lines each) is k =
+    absurd (fits reading cursors request act (command.Search text) a is)
+searched_by reading {cursors = cursors} {act = act} request text version tried count a
+    (FoundData id name reply said q) is k = absurd (fits reading cursors request act (command.Search text) a is)
 
 -- a cursor that was opened
 record IsOpening (cursors : List Cursor) (its : Calls) (cursors' : List Cursor) (name text : List ℕ) (version : ℕ)
@@ -193,6 +198,11 @@ opened_by reading {cursors = cursors} {act = act} request name text version a
     absurd (fits reading cursors request act (command.Start name text) a is)
 opened_by reading {cursors = cursors} {act = act} request name text version a (ListedSimilar p q n print its lines s) is
     k = absurd (fits reading cursors request act (command.Start name text) a is)
+opened_by reading {cursors = cursors} {act = act} request name text version a
+    (RegisteredEach id records its lines each) is k =
+    absurd (fits reading cursors request act (command.Start name text) a is)
+opened_by reading {cursors = cursors} {act = act} request name text version a (FoundData id own reply said q) is k =
+    absurd (fits reading cursors request act (command.Start name text) a is)
 
 -- a page of the cursor of a name
 turned_by : OneReading → {size : ℕ} {calls : Calls} {cursors cursors' : List Cursor} {act : Act} {its : Calls}
@@ -224,6 +234,10 @@ turned_by reading {cursors = cursors} {act = act} {name = name} request a (Regis
     gives f = absurd (fits reading cursors request act (command.Next name) a is)
 turned_by reading {cursors = cursors} {act = act} {name = name} request a (ListedSimilar p q n print its lines s) is
     gives f = absurd (fits reading cursors request act (command.Next name) a is)
+turned_by reading {cursors = cursors} {act = act} {name = name} request a (RegisteredEach id records its lines each) is
+    gives f = absurd (fits reading cursors request act (command.Next name) a is)
+turned_by reading {cursors = cursors} {act = act} {name = name} request a (FoundData id own reply said q) is gives f =
+    absurd (fits reading cursors request act (command.Next name) a is)
 
 module _ (laws : Laws) (finds : Finds) (reading : OneReading) (s t : State) (steps : List Step) (own : ℕ
     → Bool) (size : ℕ) (exchanges : List Exchange) (calls more : Calls) (cursors : List Cursor)

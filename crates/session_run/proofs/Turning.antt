@@ -15,6 +15,7 @@ use Rattle.session_run.specs.Requests.{Request}
 use Rattle.session_run.specs.Served.{IsInputFault}
 use Rattle.session_run.specs.Turn.{IsNext, Puts, Replies, Takes, TakesRequest, Turns}
 use Rattle.session_run.specs.declared.stop.Stop.TheVariants as stops
+use Rattle.session_run.specs.declared.records.SdTexts.{SdTexts}
 use Rattle.session_run.specs.declared.request.Next.{Next}
 use Rattle.session_run.specs.declared.request.Next.TheVariants as nexts
 use Rattle.session_run.specs.declared.settings.EndStatus.{EndStatus}
@@ -71,12 +72,13 @@ module _ (size : ℕ) (Made : Calls → Type 0) (IsWorn : Type 0) (request : Req
 
 -- what was read is a request, unless it is the end
 pub takes_request : (next : Next) (old new : Reading) (before after : Option (List ℕ)) (text : List ℕ)
-    → (next ≡ nexts.End → ⊥) → Takes next old new before after text
-    → (request : Request) × TakesRequest old new before after request × IsNext next request new.text text
-takes_request nexts.End old new before after text n t = absurd (n refl)
-takes_request nexts.Long old new before after text n t = t
-takes_request nexts.Line old new before after text n t = t
-takes_request (nexts.WithMolfile read molfile) old new before after text n t = t
+    (records : SdTexts) → (next ≡ nexts.End → ⊥) → Takes next old new before after text records
+    → (request : Request) × TakesRequest old new before after request × IsNext next request new.text text records
+takes_request nexts.End old new before after text records n t = absurd (n refl)
+takes_request nexts.Long old new before after text records n t = t
+takes_request nexts.Line old new before after text records n t = t
+takes_request (nexts.WithMolfile read molfile) old new before after text records n t = t
+takes_request (nexts.WithRecords count first) old new before after text records n t = t
 
 -- What an answer does to pins
 did_keeps : {S : Type 0} {of : meaning.Ghosts S} {a b : S} {size : ℕ} {Allowed : Act → Type 0}

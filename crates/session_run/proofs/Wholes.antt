@@ -1,10 +1,10 @@
 -- The requests that are whole in what was taken, by what they leave where one more LF follows.
-use Rattle.std.proofs.Common.{◌≡◌, ◌≢◌, inl, inr, ℕ, suc, Bool, true, false, List, [], ◌∷◌, ◌++◌, map, refl, sym, ap, ◌∙◌, subst, arith, cond, Contains}
+use Rattle.std.proofs.Common.{◌≡◌, ◌≢◌, if◌then◌else◌, inl, inr, ℕ, suc, zero, Bool, true, false, List, [], ◌∷◌, ◌++◌, map, refl, sym, ap, ◌∙◌, subst, arith, cond, Contains}
 use Rattle.std.specs.Prelude.{◌==◌}
 use Rattle.std.proofs.lemmas.Bool.Decides.{nat_tests}
 use Rattle.std.proofs.lemmas.List.{map-append}
 use Rattle.io_edge.specs.Lines.{AwaitsBytes, Piece, Reading, TextLine, TooLong, as_line, before_first, behind_lf, ended_pieces, lines_left, lines_of, pieces, text_of, whole_lines}
-use Rattle.session_run.specs.Requests.{AreAllWhole, BeginWith, BeginWithAll, BeginWithMolfile, IsPartOfRequest, Request}
+use Rattle.session_run.specs.Requests.{AreAllWhole, BeginWith, BeginWithAll, BeginWithMolfile, BeginWithRecords, IsPartOfRequest, Request, ends_record}
 
 -- ---- lines of a text with one more LF
 
@@ -103,15 +103,33 @@ whole_molfile (l ∷ lines) left x y molfile (inl h) more =
 whole_molfile (l ∷ lines) left x y molfile (inr h) more =
     inr (h.0, h.1, h.2, whole_molfile lines left x y h.1 h.3 more)
 
+no_records : (n : ℕ) (records left : List TextLine) (y : TextLine) → BeginWithRecords n [] records (left ++ y ∷ []) → ⊥
+no_records zero records left y h = not_nothing left y h.1
+no_records (suc n) records left y h = not_nothing left y h.1
+
+whole_records : (n : ℕ) (lines left : List TextLine) (x y : TextLine) (records : List TextLine)
+    → BeginWithRecords n (lines ++ x ∷ []) records (left ++ y ∷ []) → (more : List TextLine)
+    → BeginWithRecords n (lines ++ more) records (left ++ more)
+whole_records zero lines left x y records h more =
+    (h.0, ap (λ k. k ++ more) (same_before left lines y x h.1))
+whole_records (suc n) [] left x y records h more =
+    absurd (no_records (if ends_record x then n else suc n) h.0 left y h.2)
+whole_records (suc n) (l ∷ lines) left x y records h more =
+    (h.0, h.1, whole_records (if ends_record l then n else suc n) lines left x y h.0 h.2 more)
+
 whole_request : (lines left : List TextLine) (x y : TextLine) (request : Request)
     → BeginWith (lines ++ x ∷ []) request (left ++ y ∷ []) → (more : List TextLine)
     → BeginWith (lines ++ more) request (left ++ more)
 whole_request [] left x y request (m, e, inl h) more =
     let none : m ≡ [] = cc in absurd (not_nothing left y (h.2 ∙ none))
-whole_request [] left x y request (m, e, inr h) more =
+whole_request [] left x y request (m, e, inr (inl h)) more =
     let none : m ≡ [] = cc in
-    let b = subst (λ (l : List TextLine). BeginWithMolfile l request.molfile (left ++ y ∷ [])) none h.1 in
+    let b = subst (λ (l : List TextLine). BeginWithMolfile l request.more (left ++ y ∷ [])) none h.1 in
     absurd (not_nothing left y b.1)
+whole_request [] left x y request (m, e, inr (inr h)) more =
+    let none : m ≡ [] = cc in
+    absurd (no_records h.0 request.more left y
+    (subst (λ (l : List TextLine). BeginWithRecords h.0 l request.more (left ++ y ∷ [])) none h.2))
 whole_request (l ∷ lines) left x y request (m, e, inl h) more =
     let head : l ≡ request.line = cc in
     let tail : m ≡ lines ++ x ∷ [] = cc in (
@@ -119,11 +137,22 @@ whole_request (l ∷ lines) left x y request (m, e, inl h) more =
       ap (λ k. k ∷ lines ++ more) head,
       inl (h.0, h.1, ap (λ k. k ++ more) (same_before left lines y x (h.2 ∙ tail))),
     )
-whole_request (l ∷ lines) left x y request (m, e, inr h) more =
+whole_request (l ∷ lines) left x y request (m, e, inr (inl h)) more =
     let head : l ≡ request.line = cc in
     let tail : m ≡ lines ++ x ∷ [] = cc in
-    let b = subst (λ (l : List TextLine). BeginWithMolfile l request.molfile (left ++ y ∷ [])) tail h.1 in
-    (lines ++ more, ap (λ k. k ∷ lines ++ more) head, inr (h.0, whole_molfile lines left x y request.molfile b more))
+    let b = subst (λ (l : List TextLine). BeginWithMolfile l request.more (left ++ y ∷ [])) tail h.1 in (
+      lines ++ more,
+      ap (λ k. k ∷ lines ++ more) head,
+      inr (inl (h.0, whole_molfile lines left x y request.more b more)),
+    )
+whole_request (l ∷ lines) left x y request (m, e, inr (inr h)) more =
+    let head : l ≡ request.line = cc in
+    let tail : m ≡ lines ++ x ∷ [] = cc in
+    let b = subst (λ (l : List TextLine). BeginWithRecords h.0 l request.more (left ++ y ∷ [])) tail h.2 in (
+      lines ++ more,
+      ap (λ k. k ∷ lines ++ more) head,
+      inr (inr (h.0, h.1, whole_records h.0 lines left x y request.more b more)),
+    )
 
 some_left : (mid left : List TextLine) (y : TextLine) (requests : List Request)
     → BeginWithAll mid requests (left ++ y ∷ []) → mid ≡ [] → ⊥

@@ -2,9 +2,9 @@
 -- reply lines, and leaves cursors open. A command allows some acts.
 -- Want of memory may take the place of a reply; the request has then done nothing, but a search may have listed some of
 -- its hits.
-use Rattle.std.specs.Prelude.{◌≡◌, ◌⊎◌, ℕ, ◌+◌, Bool, true, false, if◌then◌else◌, List, [], ◌∷◌, ◌++◌, length, map, Option, None, Some, Result, Ok, Err}
+use Rattle.std.specs.Prelude.{◌≡◌, ◌⊎◌, ◌≤◌, ◌<◌, ℕ, suc, ◌+◌, Bool, true, false, if◌then◌else◌, List, [], ◌∷◌, ◌++◌, length, map, Option, None, Some, Result, Ok, Err}
 use Rattle.chem_core.specs.Molecule.{Molecule}
-use Rattle.io_edge.specs.Lines.{Whole}
+use Rattle.io_edge.specs.Lines.{TextLine, Whole}
 use Rattle.lookup.specs.Asked.{IsEmptyPrint}
 use Rattle.lookup.specs.declared.same.SameList.{SameList}
 use Rattle.lookup.specs.declared.similar.SimilarList.{SimilarList}
@@ -34,6 +34,8 @@ use Rattle.store_machine.specs.declared.machine.Status.{Status}
 use Rattle.store_machine.specs.declared.machine.Status.TheVariants as status
 use Rattle.session_run.specs.Cursors.{Calls, Cursor, IsNoName, IsSearched}
 use Rattle.session_run.specs.Lookups.{FindsSame, FindsSimilar, LooksUp}
+use Rattle.session_run.specs.declared.records.TheConstants.{MOST_SD_BYTES}
+use Rattle.session_run.specs.Records.{counted, data_of, has_long, records_in}
 use Rattle.session_run.specs.Requests.{Request, IsLong, molfile_text}
 use Rattle.session_run.specs.Texts.{IsTextFault, IsPatternOf, IsPatternFault}
 
@@ -53,7 +55,8 @@ note_lines (Refused refusal) = line.Refused refusal ∷ []
 note_lines Fault = line.MemoryFault ∷ []
 
 -- the acts: a note alone; one call, of a change too; a search; a cursor that is opened, that turns a page, that is
--- closed; a lookup of the same structure, a registration behind one, and a lookup of similar prints
+-- closed; a lookup of the same structure, a registration behind one, and a lookup of similar prints; registrations of the
+-- records of an SD file under identifiers from this on, and a look at a data item
 pub data Act : Type 0 where
   Say : (note : Note) → Act
   Ask : (event : Event) → Act
@@ -64,6 +67,8 @@ pub data Act : Type 0 where
   Same : (m : Molecule) (print : List Bool) → Act
   RegisterNew : (change : Change) (m : Molecule) (print : List Bool) → Act
   Similar : (p q k : ℕ) (print : List Bool) → Act
+  RegisterEach : (id : ℕ) (records : List (Option (List TextLine))) → Act
+  FindData : (id : ℕ) (name : List ℕ) → Act
 
 -- what an identifier is, as `show` says it
 abbrev pub shown : ℕ → Option Status → line.Reply
@@ -87,6 +92,29 @@ IsLineOf events.Stats (replies.Counted version live withdrawn kept pins) said =
     said ≡ line.Counts version live withdrawn kept pins
 IsLineOf events.Pin replies.NoPin said = said ≡ line.Refused refusals.Pins
 IsLineOf _ _ said = ⊥
+
+-- what the data item of a name is, as `data` says it
+abbrev pub item_line : ℕ → Option (List ℕ) → line.Reply
+item_line id None = line.Refused refusals.Data
+item_line id (Some text) = line.Data id text
+
+abbrev pub data_line : ℕ → List ℕ → Option Status → line.Reply
+data_line id name None = line.Refused refusals.Absent
+data_line id name (Some (status.Live version format text)) = item_line id (data_of format text name)
+data_line id name (Some (status.Withdrawn version)) = line.Refused refusals.Withdrawn
+
+-- the line that the reply to a look gives. There may be no room for what `data` found
+abbrev pub IsDataLine : ℕ → List ℕ → Reply → line.Reply → Type 0
+IsDataLine id name (replies.Looked state) said = (said ≡ data_line id name state) ⊎ (said ≡ line.MemoryFault)
+IsDataLine id name replies.NoMemory said = said ≡ line.MemoryFault
+IsDataLine id name _ said = ⊥
+
+-- an answer of one line: a refusal or a fault, or that of one call
+pub data AnswersBy : Act → Calls → line.Reply → Type 0 where
+  Refuses : (refusal : Refusal) → AnswersBy (Say (Refused refusal)) [] (line.Refused refusal)
+  Faults : AnswersBy (Say Fault) [] line.MemoryFault
+  Replies : (event : Event) (reply : Reply) (said : line.Reply) (is : IsLineOf event reply said)
+      → AnswersBy (Ask event) ((event, reply) ∷ []) said
 
 -- some of the hits, and then memory ran out
 abbrev pub IsCutShort : List ℕ → Lines → Type 0
@@ -184,6 +212,35 @@ pub data ListsSimilar (size p q k : ℕ) (print : List Bool) : Calls → Lines �
   SimilarLost : (calls : Calls) (want : List Bool) (place : Place) (none : IsEmptyPrint want)
       (lookup : LooksUp size want place calls) → ListsSimilar size p q k print calls (line.MemoryFault ∷ [])
 
+-- a change to a text: the text is looked at first
+abbrev pub MayChange : Change → Format → List ℕ → Act → Type 0
+MayChange change format text (Say Fault) = Unit {0}
+MayChange change format text (Say (Refused (refusals.Text fault))) = IsTextFault format text fault
+MayChange change format text (Ask event) = (event ≡ events.Commit change) × IsText format text
+MayChange change format text _ = ⊥
+
+-- the acts for a record of an SD file, where the texts up to and with it count so many bytes: no line of it was left;
+-- the texts are too many bytes; a line is too long; or its text is registered
+abbrev pub MayRegister : ℕ → ℕ → Option (List TextLine) → Act → Type 0
+MayRegister id sum r (Say Fault) = Unit {0}
+MayRegister id sum None act = act ≡ Say (Refused refusals.SdCut)
+MayRegister id sum (Some lines) act =
+    ((MOST_SD_BYTES < sum) × (act ≡ Say (Refused refusals.SdLimit)))
+    ⊎ ((sum ≤ MOST_SD_BYTES)
+    × (((has_long lines ≡ true) × (act ≡ Say (Refused refusals.Long)))
+    ⊎ ((has_long lines ≡ false) × MayChange (changes.Register id Molfile (molfile_text lines)) Molfile
+    (molfile_text lines) act)))
+
+-- the records are answered one after another, each by one line, under identifiers from this on, where the texts before
+-- count so many bytes
+abbrev pub RegistersEach : ℕ → ℕ → List (Option (List TextLine)) → Calls → Lines → Type 0
+RegistersEach id sum [] calls lines = (calls ≡ []) × (lines ≡ [])
+RegistersEach id sum (r ∷ records) calls lines =
+    (act : Act) × (own more : Calls) × (said : line.Reply) × (rest : Lines)
+    × MayRegister id (sum + counted r) r act × AnswersBy act own said
+    × (calls ≡ own ++ more) × (lines ≡ said ∷ rest)
+    × RegistersEach (suc id) (sum + counted r) records more rest
+
 -- the cursor of a name is in its place among the others
 pub record IsNamed (name : List ℕ) (cursors before : List Cursor) (c : Cursor) (after : List Cursor) : Type 0 where
   pub place : cursors ≡ before ++ c ∷ after
@@ -215,19 +272,16 @@ pub data Does (size : ℕ) (cursors : List Cursor) : Act → Calls → Lines →
   ListedSimilar : (p q k : ℕ) (print : List Bool) (calls : Calls) (lines : Lines)
       (lists : ListsSimilar size p q k print calls lines)
       → Does size cursors (Similar p q k print) calls lines cursors
+  RegisteredEach : (id : ℕ) (records : List (Option (List TextLine))) (calls : Calls) (lines : Lines)
+      (each : RegistersEach id 0 records calls lines) → Does size cursors (RegisterEach id records) calls lines cursors
+  FoundData : (id : ℕ) (name : List ℕ) (reply : Reply) (said : line.Reply) (is : IsDataLine id name reply said)
+      → Does size cursors (FindData id name) ((events.Look id, reply) ∷ []) (said ∷ []) cursors
 
 -- The acts that a command allows. A call with no text to look at
 abbrev pub MayAsk : Event → Act → Type 0
 MayAsk event (Say Fault) = Unit {0}
 MayAsk event (Ask other) = other ≡ event
 MayAsk event _ = ⊥
-
--- a change to a text: the text is looked at first
-abbrev pub MayChange : Change → Format → List ℕ → Act → Type 0
-MayChange change format text (Say Fault) = Unit {0}
-MayChange change format text (Say (Refused (refusals.Text fault))) = IsTextFault format text fault
-MayChange change format text (Ask event) = (event ≡ events.Commit change) × IsText format text
-MayChange change format text _ = ⊥
 
 -- a search, where the text is a pattern and a pin is free
 abbrev pub MaySearch : List ℕ → Act → Type 0
@@ -286,28 +340,36 @@ MaySimilar p q k text (Similar own_p own_q own_k print) =
     (own_p ≡ p) × (own_q ≡ q) × (own_k ≡ k) × (m : Molecule) × IsStructureOf text m × IsPrint m print
 MaySimilar p q k text _ = ⊥
 
--- by what the line is read as, with the text of the molfile that it may take
-abbrev pub Allows : List Cursor → List ℕ → Result Command LineRefusal → Act → Type 0
-Allows cursors molfile (Err refusal) act = act ≡ Say (Refused (refusals.Line refusal))
-Allows cursors molfile (Ok command.Empty) act = act ≡ Say Silence
-Allows cursors molfile (Ok (command.Register id text)) act =
+-- a look at a data item
+abbrev pub MayFind : ℕ → List ℕ → Act → Type 0
+MayFind id name (Say Fault) = Unit {0}
+MayFind id name (FindData own_id own_name) = (own_id ≡ id) × (own_name ≡ name)
+MayFind id name _ = ⊥
+
+-- by what the line is read as, with the lines that it may take
+abbrev pub Allows : List Cursor → List TextLine → Result Command LineRefusal → Act → Type 0
+Allows cursors more (Err refusal) act = act ≡ Say (Refused (refusals.Line refusal))
+Allows cursors more (Ok command.Empty) act = act ≡ Say Silence
+Allows cursors more (Ok (command.Register id text)) act =
     MayChange (changes.Register id Smiles text) Smiles text act
-Allows cursors molfile (Ok (command.Revise id text)) act = MayChange (changes.Revise id Smiles text) Smiles text act
-Allows cursors molfile (Ok (command.RegisterMol id)) act =
-    MayChange (changes.Register id Molfile molfile) Molfile molfile act
-Allows cursors molfile (Ok (command.ReviseMol id)) act =
-    MayChange (changes.Revise id Molfile molfile) Molfile molfile act
-Allows cursors molfile (Ok (command.Withdraw id)) act = MayAsk (events.Commit (changes.Withdraw id)) act
-Allows cursors molfile (Ok (command.Show id)) act = MayAsk (events.Look id) act
-Allows cursors molfile (Ok (command.RegisterNew id text)) act = MayRegisterNew id text act
-Allows cursors molfile (Ok (command.Search text)) act = MaySearch text act
-Allows cursors molfile (Ok (command.Same text)) act = MaySame text act
-Allows cursors molfile (Ok (command.Similar p q k text)) act = MaySimilar p q k text act
-Allows cursors molfile (Ok (command.Start name text)) act = MayOpen cursors name text act
-Allows cursors molfile (Ok (command.Next name)) act = MayTurn cursors name act
-Allows cursors molfile (Ok (command.Close name)) act = MayClose cursors name act
-Allows cursors molfile (Ok command.Prune) act = MayAsk events.Prune act
-Allows cursors molfile (Ok command.Stats) act = MayAsk events.Stats act
+Allows cursors more (Ok (command.Revise id text)) act = MayChange (changes.Revise id Smiles text) Smiles text act
+Allows cursors more (Ok (command.RegisterMol id)) act =
+    MayChange (changes.Register id Molfile (molfile_text more)) Molfile (molfile_text more) act
+Allows cursors more (Ok (command.ReviseMol id)) act =
+    MayChange (changes.Revise id Molfile (molfile_text more)) Molfile (molfile_text more) act
+Allows cursors more (Ok (command.RegisterSd id count)) act = act ≡ RegisterEach id (records_in count more)
+Allows cursors more (Ok (command.Withdraw id)) act = MayAsk (events.Commit (changes.Withdraw id)) act
+Allows cursors more (Ok (command.Show id)) act = MayAsk (events.Look id) act
+Allows cursors more (Ok (command.Data id name)) act = MayFind id name act
+Allows cursors more (Ok (command.RegisterNew id text)) act = MayRegisterNew id text act
+Allows cursors more (Ok (command.Search text)) act = MaySearch text act
+Allows cursors more (Ok (command.Same text)) act = MaySame text act
+Allows cursors more (Ok (command.Similar p q k text)) act = MaySimilar p q k text act
+Allows cursors more (Ok (command.Start name text)) act = MayOpen cursors name text act
+Allows cursors more (Ok (command.Next name)) act = MayTurn cursors name act
+Allows cursors more (Ok (command.Close name)) act = MayClose cursors name act
+Allows cursors more (Ok command.Prune) act = MayAsk events.Prune act
+Allows cursors more (Ok command.Stats) act = MayAsk events.Stats act
 
 -- one of the acts was done that are allowed
 pub record Answers (size : ℕ) (Allowed : Act → Type 0) (cursors : List Cursor) (calls : Calls) (lines : Lines)
@@ -321,7 +383,7 @@ abbrev pub RequestAllows : List Cursor → Request → Act → Type 0
 RequestAllows cursors request act =
     (IsLong request × (act ≡ Say (Refused refusals.Long)))
     ⊎ (¬ IsLong request × (line : List ℕ) × (request.line ≡ Whole line) × (read : Result Command LineRefusal)
-    × IsLine line read × Allows cursors (molfile_text request.molfile) read act)
+    × IsLine line read × Allows cursors request.more read act)
 
 abbrev pub RequestAnswer : ℕ → List Cursor → Request → Calls → Lines → List Cursor → Type 0
 RequestAnswer size cursors request calls lines cursors' =

@@ -1,8 +1,10 @@
 pub mod Requests
+pub mod Records
 pub mod Texts
 pub mod Cursors
 pub mod Lookups
 pub mod Acts
+pub mod Taken
 pub mod Pins
 pub mod Transcript
 pub mod Served

@@ -1,5 +1,5 @@
 -- For private clauses alone: how a source is read on by requests, and what a turn of a session does.
-use Rattle.std.specs.Prelude.{◌≡◌, ◌≤◌, Err, ℕ, IsTrue, Ok, Option, None, Result, Some, List, [], ◌∷◌, ◌++◌, Contains}
+use Rattle.std.specs.Prelude.{◌≡◌, ◌≤◌, Bool, Err, ℕ, IsTrue, Ok, Option, None, Result, Some, List, [], ◌∷◌, ◌++◌, Contains}
 use Rattle.std.specs.Io.KnownBytes.{Appends}
 use Rattle.io_edge.specs.Faults.{Rose}
 use Rattle.io_edge.specs.Sink.{AppendsPrefix}
@@ -10,12 +10,16 @@ use Rattle.io_edge.specs.declared.lines.Line.{Line}
 use Rattle.io_edge.specs.declared.lines.Line.TheVariants as one
 use Rattle.io_edge.specs.declared.lines.LineFault.{LineFault}
 use Rattle.io_edge.specs.declared.lines.LineFault.TheVariants as line_faults
-use Rattle.shell_lang.specs.Command.{StartsMolfile, IsLine, molfile_command}
+use Rattle.shell_lang.specs.Command.{IsLine, StartsMolfile, TakesLines, TakesRecords, molfile_command, records_command}
 use Rattle.shell_lang.specs.Reply.{text_of}
 use Rattle.session_run.specs.Acts.{RequestAnswer}
 use Rattle.session_run.specs.Cursors.{Calls, Cursor}
 use Rattle.session_run.specs.Made.{Did, WornIn}
-use Rattle.session_run.specs.Requests.{Request, BeginWith, BeginWithMolfile, IsLong, molfile_text}
+use Rattle.session_run.specs.Records.{records_in}
+use Rattle.session_run.specs.Requests.{Request, BeginWith, BeginWithMolfile, BeginWithRecords, HasNoEnd, IsLong, molfile_text}
+use Rattle.session_run.specs.Taken.{AreTaken, IsOne, IsRecordPart, record_of}
+use Rattle.session_run.specs.declared.records.Part.{Part}
+use Rattle.session_run.specs.declared.records.SdTexts.{SdTexts}
 use Rattle.session_run.specs.declared.request.Next.{Next}
 use Rattle.session_run.specs.declared.request.Next.TheVariants as nexts
 use Rattle.session_run.specs.declared.request.Molfile.{Molfile}
@@ -91,20 +95,37 @@ AddsLine molfiles.Long line text molfiles.Long text' = Unit {0}
 AddsLine molfiles.Lost line text molfiles.Lost text' = Unit {0}
 AddsLine before line text after text' = ⊥
 
--- What the request is, by the text of its line and that of its molfile
-abbrev pub IsNext : Next → Request → List ℕ → List ℕ → Type 0
-IsNext nexts.End request line text = ⊥
-IsNext nexts.Long request line text = IsLong request
-IsNext nexts.Line request line text = (request ≡ record { line = Whole line; molfile = [] }) × ¬ StartsMolfile line
-IsNext (nexts.WithMolfile read molfile) request line text =
+-- The lines of a record were the next, of which this was taken. Where the input's end was met, no line is left
+pub record TakesRecord (old new : Reading) (before after : Option (List ℕ)) (part : Option Part) (text : List ℕ)
+    (ended : Bool) : Type 0 where
+  pub taken : List TextLine
+  pub one : IsOne taken
+  pub unended : HasNoEnd 1 taken → IsTrue ended
+  pub is : IsRecordPart part (record_of taken) text
+  pub reads : ReadsLines old new before after (λ all left. (all ≡ taken ++ left) × (IsTrue ended → left ≡ []))
+
+-- the lines of so many records were the next
+abbrev pub TakesRecordLines : ℕ → Reading → Reading → Option (List ℕ) → Option (List ℕ) → List TextLine → Type 0
+TakesRecordLines count old new before after records =
+    ReadsLines old new before after (λ lines left. BeginWithRecords count lines records left)
+
+-- What the request is, by the text of its line, that of its molfile, and its records
+abbrev pub IsNext : Next → Request → List ℕ → List ℕ → SdTexts → Type 0
+IsNext nexts.End request line text records = ⊥
+IsNext nexts.Long request line text records = IsLong request
+IsNext nexts.Line request line text records = (request ≡ record { line = Whole line; more = [] }) × ¬ TakesLines line
+IsNext (nexts.WithMolfile read molfile) request line text records =
     (first : List ℕ) × (request.line ≡ Whole first) × StartsMolfile first × IsLine first (molfile_command read)
-    × IsMolfile molfile request.molfile text
+    × IsMolfile molfile request.more text
+IsNext (nexts.WithRecords count read) request line text records =
+    (first part : List ℕ) × (request.line ≡ Whole first) × TakesRecords first part count
+    × IsLine first (records_command count read) × AreTaken (records_in count request.more) records
 
 -- the request that was read, or none where the input's end was met
-abbrev pub Takes : Next → Reading → Reading → Option (List ℕ) → Option (List ℕ) → List ℕ → Type 0
-Takes nexts.End old new before after text = TakesNone old before
-Takes next old new before after text =
-    (request : Request) × TakesRequest old new before after request × IsNext next request new.text text
+abbrev pub Takes : Next → Reading → Reading → Option (List ℕ) → Option (List ℕ) → List ℕ → SdTexts → Type 0
+Takes nexts.End old new before after text records = TakesNone old before
+Takes next old new before after text records =
+    (request : Request) × TakesRequest old new before after request × IsNext next request new.text text records
 
 -- a request was read and answered
 pub record Answers (size : ℕ) (Made : Calls → Type 0) (Taken : Request → Type 0)

@@ -1,19 +1,22 @@
 //! A session: the requests that a source's lines are, answered into a sink, over any service.
 //!
-//! A request is a line, and with it the lines of its molfile where it takes one. It is read whole, then answered by
-//! calls of the service, and its reply is put before more is read. What is promised is one relation between the lines,
+//! A request is a line, and with it the lines of its molfile or of its records where it takes them. It is read whole,
+//! then answered by calls of the service, and its reply is put before more is read. What is promised is one relation between the lines,
 //! the calls that were made with their replies, and the text that was put.
 #![tactic(auto)]
 
 mod commands;
 mod cursors;
+mod items;
 mod laws;
 mod listing;
 mod lookups;
+mod records;
 mod request;
 mod respond;
 mod run;
 mod say;
+mod sd;
 mod search;
 mod settings;
 mod stop;

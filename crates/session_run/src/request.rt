@@ -1,15 +1,19 @@
-//! Reading the next request of a source: a line, and the lines of its molfile where it takes one.
+//! Reading the next request of a source: a line, and the lines of its molfile or of its records where it takes them.
 ghost use Rattle.std.specs.Prelude.{◌≡◌, ◌≢◌, ◌<◌, ◌≤◌, ◌++◌, [], ◌∷◌, Err, IfOk, IsTrue, List, Ok, OnErr, OnOk};
 ghost use Rattle.io_edge.specs.Faults.{Rose};
 ghost use Rattle.io_edge.specs.Lines.{TextLine, done_bytes};
-ghost use Rattle.session_run.specs.Requests.{HasNoLast, IsPartOfRequest};
+ghost use Rattle.session_run.specs.Records.{records_in};
+ghost use Rattle.session_run.specs.Requests.{HasNoEnd, HasNoLast, IsPartOfRequest};
+ghost use Rattle.session_run.specs.Taken.{AreTaken, IsPart};
+ghost use Rattle.shell_lang.specs.declared.command.TheConstants.{MOST_SD_RECORDS};
 ghost use Rattle.io_edge.specs.NextLine.{OnLine};
-ghost use Rattle.session_run.specs.Turn.{AddsLine, IsMolfile, IsNextLine, ReadsOn, Takes, TakesMolfileLines, TakesPart};
+ghost use Rattle.session_run.specs.Turn.{AddsLine, IsMolfile, IsNextLine, ReadsOn, Takes, TakesMolfileLines, TakesPart, TakesRecord, TakesRecordLines};
 ghost use Rattle.session_run.specs.declared.request.Next.TheVariants as next;
 
+use crate::records::{Part, SdTexts, push_line};
 use io_edge::{Line, LineFault, Lines, Source};
-use shell_lang::{LineRefusal, MolfileChange, ends_molfile, molfile_change};
-use std::alloc::AllocError;
+use sd_read::is_record_end;
+use shell_lang::{LineRefusal, MolfileChange, TakenLines, ends_molfile, taken_lines};
 
 /// What was read.
 #[derive(Clone, Copy, Debug, PartialEq, Eq)]
@@ -18,12 +22,17 @@ pub enum Next {
     End,
     /// A line that is too long.
     Long,
-    /// A line that takes no molfile.
+    /// A line that takes no lines.
     Line,
     /// A line that takes a molfile, by what it asks for or why it is no command, and the molfile.
     WithMolfile {
         read: Result<MolfileChange, LineRefusal>,
         molfile: Molfile,
+    },
+    /// A line that takes so many records, by their first identifier or why it is no command.
+    WithRecords {
+        count: u32,
+        first: Result<u32, LineRefusal>,
     },
 }
 
@@ -38,14 +47,15 @@ pub enum Molfile {
     Lost,
 }
 
-/// Reads the next request. The text of its molfile is then in `text`.
+/// Reads the next request. The text of its molfile is then in `text`, and its records are in `records`.
 pub fn next_request<I: Source>(
     lines: &mut Lines,
     text: &mut Vec<u8>,
+    records: &mut SdTexts,
     source: &mut I,
 ) -> Result<Next, LineFault>
     ensures takes { IfOk result (λ next. Takes next lines.old lines.new (I.left source.old)
-        (I.left source.new) text.new.items) }
+        (I.left source.new) text.new.items records.new) }
     ensures part { OnErr result
         (TakesPart lines.old lines.new (I.left source.old) (I.left source.new) IsPartOfRequest) }
     ensures reads { ReadsOn (I.left source.old) (I.left source.new) (I.faults source.old)
@@ -58,11 +68,16 @@ pub fn next_request<I: Source>(
     match read_line(lines, source)? {
         Line::End => Ok(Next::End),
         Line::Long => Ok(Next::Long),
-        Line::Text => match molfile_change(lines.text()) {
+        Line::Text => match taken_lines(lines.text()) {
             None => Ok(Next::Line),
-            Some(read) => {
+            Some(TakenLines::Molfile(read)) => {
                 let molfile = take_molfile(lines, text, source)?;
                 Ok(Next::WithMolfile { read, molfile })
+            }
+            Some(TakenLines::Records { count, first }) => {
+                records.begin(first.is_ok());
+                take_records(lines, text, records, source, count)?;
+                Ok(Next::WithRecords { count, first })
             }
         },
     }
@@ -128,9 +143,73 @@ fn with_line(taken: Molfile, line: &[u8], text: &mut Vec<u8>) -> Molfile
     }
 }
 
-fn push_line(line: &[u8], text: &mut Vec<u8>) -> Result<(), AllocError>
-    ensures { OnOk result (text.new.items ≡ text.old.items ++ line.now ++ 10 ∷ []) }
+// Takes the lines of so many records, each up to and with its end, or all that are left.
+fn take_records<I: Source>(
+    lines: &mut Lines,
+    text: &mut Vec<u8>,
+    records: &mut SdTexts,
+    source: &mut I,
+    count: u32,
+) -> Result<(), LineFault>
+    requires within { lines.old.taken ≤ lines.old.limit }
+    requires few { count ≤ MOST_SD_RECORDS }
+    requires none { AreTaken [] records.old }
+    ensures taken { OnOk result ((more : List TextLine) × AreTaken (records_in count more) records.new
+        × TakesRecordLines count lines.old lines.new (I.left source.old) (I.left source.new) more) }
+    ensures part { OnErr result
+        (TakesPart lines.old lines.new (I.left source.old) (I.left source.new) (HasNoEnd count)) }
+    ensures reads { ReadsOn (I.left source.old) (I.left source.new) (I.faults source.old)
+        (I.faults source.new) lines.old lines.new }
+    ensures source_fault { result ≡ Err LineFault.Source → Rose (I.faults source.old) (I.faults source.new) }
+    ensures too_long { result ≡ Err LineFault.TooLong → lines.new.taken ≡ lines.new.limit }
 {
-    text.extend_from_slice(line)?;
-    text.extend_from_slice(b"\n")
+    let mut ended = false;
+    let mut left = count;
+    while left > 0 {
+        left -= 1;
+        if ended {
+            records.add(None, text);
+            continue;
+        }
+        let taken = take_record(lines, text, source, records.begun())?;
+        ended = taken.1;
+        records.add(taken.0, text);
+    }
+    Ok(())
+}
+
+// Takes the lines of a record, up to and with its end or to the input's end. It answers what was taken of it, if a line
+// of it was left, and whether the input's end was met.
+fn take_record<I: Source>(
+    lines: &mut Lines,
+    text: &mut Vec<u8>,
+    source: &mut I,
+    begun: Part,
+) -> Result<(Option<Part>, bool), LineFault>
+    requires within { lines.old.taken ≤ lines.old.limit }
+    requires begun { IsPart begun [] [] }
+    ensures taken { IfOk result (λ r. TakesRecord lines.old lines.new (I.left source.old) (I.left source.new)
+        r.0 text.new.items r.1) }
+    ensures part { OnErr result (TakesPart lines.old lines.new (I.left source.old) (I.left source.new) (HasNoEnd 1)) }
+    ensures reads { ReadsOn (I.left source.old) (I.left source.new) (I.faults source.old)
+        (I.faults source.new) lines.old lines.new }
+    ensures source_fault { result ≡ Err LineFault.Source → Rose (I.faults source.old) (I.faults source.new) }
+    ensures too_long { result ≡ Err LineFault.TooLong → lines.new.taken ≡ lines.new.limit }
+{
+    text.clear();
+    let mut part = begun;
+    let mut some = false;
+    loop {
+        match read_line(lines, source)? {
+            Line::End => return Ok((if some { Some(part) } else { None }, true)),
+            Line::Long => part = Part::Long,
+            Line::Text => {
+                if is_record_end(lines.text()) {
+                    return Ok((Some(part), false));
+                }
+                part = part.with_line(lines.text(), text);
+            }
+        }
+        some = true;
+    }
 }

@@ -1,7 +1,7 @@
 //! What a request is answered.
 ghost use Rattle.std.specs.Prelude.{◌≡◌, [], ℕ, IfOk, List, Ok};
-ghost use Rattle.io_edge.specs.Lines.{Whole};
-ghost use Rattle.shell_lang.specs.Command.{IsLine, Spells, StartsMolfile, molfile_command};
+ghost use Rattle.io_edge.specs.Lines.{TextLine, Whole};
+ghost use Rattle.shell_lang.specs.Command.{IsLine, Spells, StartsMolfile, TakesLines, TakesRecords, molfile_command, records_command};
 ghost use Rattle.shell_lang.specs.CommandView.{command_of};
 ghost use Rattle.shell_lang.specs.Reply.{reply_of};
 ghost use Rattle.session_run.specs.Acts.{Allows, Answers, RequestAnswer};
@@ -16,10 +16,13 @@ ghost use Rattle.session_run.specs.declared.request.Next.TheVariants as next;
 
 use crate::commands::{TextChange, Verb, change_text, commit, prune, show, stats};
 use crate::cursors::Cursors;
+use crate::items::find_data;
 use crate::listing::ROOM;
 use crate::lookups::{Similarity, register_new, same, similar};
+use crate::records::SdTexts;
 use crate::request::{Molfile, Next};
 use crate::say::say;
+use crate::sd::register_sd;
 use crate::settings::Settings;
 use crate::stop::Stop;
 use mol_finish::Format;
@@ -36,6 +39,8 @@ pub struct Responder {
     pub cursors: Cursors,
     /// The text of the molfile that the request under way has.
     pub molfile: Vec<u8>,
+    /// The records that the request under way has.
+    pub records: SdTexts,
     /// The reply. It has room for a page, so that lines but those of `show` and `search` find room.
     pub out: Vec<u8>,
 }
@@ -50,6 +55,7 @@ impl Responder {
             recorder: Recorder::new(alloc),
             cursors: Cursors::new(alloc, settings),
             molfile: Vec::new(alloc),
+            records: SdTexts::new(alloc),
             out: Vec::with_capacity(alloc, ROOM)?,
         })
     }
@@ -64,9 +70,10 @@ impl Responder {
         line: &[u8],
     ) -> Result<(), Stop>
         requires ready { IsReady S.Service service.old self.old.cursors }
-        requires request { (request : Request) × IsNext next request line.now self.old.molfile.items }
+        requires request { (request : Request) × IsNext next request line.now self.old.molfile.items
+            self.old.records }
         ensures answered { (request : Request) → IsNext next request line.now self.old.molfile.items
-            → AnsweredBy S.Service service.old service.new
+            self.old.records → AnsweredBy S.Service service.old service.new
             (RequestAnswer self.old.cursors.settings.page (cursors_of (opened self.old.cursors)) request)
             [] self.new.out.items (cursors_of (opened self.new.cursors)) result }
         ensures fit { IsFit self.new.cursors }
@@ -78,10 +85,11 @@ impl Responder {
             Next::Long => say(&Reply::Refused(Refusal::Long), &mut self.out),
             Next::Line => self.answer_line(rt, service, meter, line),
             Next::WithMolfile { read, molfile } => self.answer_molfile(service, read, molfile),
+            Next::WithRecords { count, first } => self.answer_records(rt, service, count, first),
         }
     }
 
-    /// Answers a line that takes no molfile. The reply is then in `out`.
+    /// Answers a line that takes no lines. The reply is then in `out`.
     pub fn answer_line<R: Threads + Sync, S: Service, M: Meter>(
         &mut self,
         rt: &R,
@@ -90,10 +98,10 @@ impl Responder {
         line: &[u8],
     ) -> Result<(), Stop>
         requires ready { IsReady S.Service service.old self.old.cursors }
-        requires alone { ¬ StartsMolfile line.now }
+        requires alone { ¬ TakesLines line.now }
         ensures answered { AnsweredBy S.Service service.old service.new
             (RequestAnswer self.old.cursors.settings.page (cursors_of (opened self.old.cursors))
-            (record { line = Whole line.now; molfile = [] }))
+            (record { line = Whole line.now; more = [] }))
             [] self.new.out.items (cursors_of (opened self.new.cursors)) result }
         ensures fit { IsFit self.new.cursors }
         ensures settings { self.new.cursors.settings ≡ self.old.cursors.settings }
@@ -114,7 +122,7 @@ impl Responder {
         self.cursors.by_name.clear();
     }
 
-    // Executes a command that takes no molfile.
+    // Executes a command that takes no lines.
     fn execute<R: Threads + Sync, S: Service, M: Meter>(
         &mut self,
         rt: &R,
@@ -123,10 +131,10 @@ impl Responder {
         command: Command<'_>,
     ) -> Result<(), Stop>
         requires ready { IsReady S.Service service.old self.old.cursors }
-        requires line { (line : List ℕ) × Spells line (command_of command) × ¬ StartsMolfile line }
-        ensures answered { (molfile : List ℕ) → AnsweredBy S.Service service.old service.new
+        requires line { (line : List ℕ) × Spells line (command_of command) × ¬ TakesLines line }
+        ensures answered { (more : List TextLine) → AnsweredBy S.Service service.old service.new
             (Answers self.old.cursors.settings.page
-            (Allows (cursors_of (opened self.old.cursors)) molfile (Ok (command_of command.entry)))
+            (Allows (cursors_of (opened self.old.cursors)) more (Ok (command_of command.entry)))
             (cursors_of (opened self.old.cursors)))
             self.old.out.items self.new.out.items (cursors_of (opened self.new.cursors)) result }
         ensures fit { IsFit self.new.cursors }
@@ -152,6 +160,7 @@ impl Responder {
             }
             Command::Withdraw { id } => commit(service, Change::Withdraw(id), &mut self.out),
             Command::Show { id } => show(service, id, &mut self.out),
+            Command::Data { id, name } => find_data(service, id, name, &mut self.out),
             Command::Search { pattern } => {
                 self.cursors
                     .search(rt, service, meter, pattern, &mut self.out)
@@ -191,6 +200,7 @@ impl Responder {
             Command::Stats => stats(service, &mut self.out),
             Command::RegisterMol { .. } => unreachable!(),
             Command::ReviseMol { .. } => unreachable!(),
+            Command::RegisterSd { .. } => unreachable!(),
         }
     }
 
@@ -203,7 +213,7 @@ impl Responder {
     ) -> Result<(), Stop>
         requires { (line : List ℕ) × StartsMolfile line × IsLine line (molfile_command read) }
         ensures answered { (request : Request) (line : List ℕ)
-            → IsNext (next.WithMolfile read molfile) request line self.old.molfile.items
+            → IsNext (next.WithMolfile read molfile) request line self.old.molfile.items self.old.records
             → AnsweredBy S.Service service.old service.new
             (RequestAnswer self.old.cursors.settings.page (cursors_of (opened self.old.cursors)) request)
             self.old.out.items self.new.out.items (cursors_of (opened self.new.cursors)) result }
@@ -225,6 +235,51 @@ impl Responder {
                 }
                 Err(refusal) => say(&Reply::Refused(Refusal::Line(refusal)), &mut self.out),
             },
+        }
+    }
+
+    // Answers a line with its records, and gives their memory free.
+    fn answer_records<R: Threads + Sync, S: Service>(
+        &mut self,
+        rt: &R,
+        service: &mut S,
+        count: u32,
+        first: Result<u32, LineRefusal>,
+    ) -> Result<(), Stop>
+        requires request { (request : Request)
+            × IsNext (next.WithRecords count first) request [] self.old.molfile.items self.old.records }
+        ensures answered { (request : Request)
+            → IsNext (next.WithRecords count first) request [] self.old.molfile.items self.old.records
+            → AnsweredBy S.Service service.old service.new
+            (RequestAnswer self.old.cursors.settings.page (cursors_of (opened self.old.cursors)) request)
+            self.old.out.items self.new.out.items (cursors_of (opened self.new.cursors)) result }
+        ensures cursors { self.new.cursors ≡ self.old.cursors }
+    {
+        let result = self.register_records(rt, service, count, first);
+        self.records.begin(false);
+        result
+    }
+
+    // Registers the records of a line, or refuses the line.
+    fn register_records<R: Threads + Sync, S: Service>(
+        &mut self,
+        rt: &R,
+        service: &mut S,
+        count: u32,
+        first: Result<u32, LineRefusal>,
+    ) -> Result<(), Stop>
+        requires { (request : Request)
+            × IsNext (next.WithRecords count first) request [] self.old.molfile.items self.old.records }
+        ensures answered { (request : Request)
+            → IsNext (next.WithRecords count first) request [] self.old.molfile.items self.old.records
+            → AnsweredBy S.Service service.old service.new
+            (RequestAnswer self.old.cursors.settings.page (cursors_of (opened self.old.cursors)) request)
+            self.old.out.items self.new.out.items (cursors_of (opened self.new.cursors)) result }
+        ensures cursors { self.new.cursors ≡ self.old.cursors }
+    {
+        match first {
+            Ok(first) => register_sd(rt, service, first, count, &self.records, &mut self.out),
+            Err(refusal) => say(&Reply::Refused(Refusal::Line(refusal)), &mut self.out),
         }
     }
 }

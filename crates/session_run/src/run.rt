@@ -157,7 +157,12 @@ fn turn<R: Threads + Sync, S: Service, I: Source, O: Sink, M: Meter>(
     ensures sink_count { O.faults sink.old ≤ O.faults sink.new }
     ensures too_long { result ≡ Some EndStatus.InputTooLong → lines.new.taken ≡ lines.new.limit }
 {
-    let next = match next_request(lines, &mut responder.molfile, source) {
+    let next = match next_request(
+        lines,
+        &mut responder.molfile,
+        &mut responder.records,
+        source,
+    ) {
         Ok(next) => next,
         Err(LineFault::Source) => return Some(EndStatus::SourceFault),
         Err(LineFault::TooLong) => return Some(EndStatus::InputTooLong),
@@ -179,9 +184,10 @@ fn answer_and_put<R: Threads + Sync, S: Service, O: Sink, M: Meter>(
     responder: &mut Responder,
 ) -> Option<EndStatus>
     requires ready { IsReady S.Service service.old responder.old.cursors }
-    requires request { (request : Request) × IsNext next request line.now responder.old.molfile.items }
+    requires request { (request : Request) × IsNext next request line.now responder.old.molfile.items
+        responder.old.records }
     ensures replies { (request : Request) → IsNext next request line.now responder.old.molfile.items
-        → Replies responder.old.cursors.settings.page (Uses S.Service service.old service.new) (S.worn service.new) request
+        responder.old.records → Replies responder.old.cursors.settings.page (Uses S.Service service.old service.new) (S.worn service.new) request
         (cursors_of (opened responder.old.cursors)) (cursors_of (opened responder.new.cursors))
         (O.written sink.old) (O.written sink.new) result }
     ensures fit { IsFit responder.new.cursors }

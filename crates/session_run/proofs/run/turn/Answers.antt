@@ -45,7 +45,7 @@ answer_and_put-requires-clause-ready g c _ _ = record { fit = c.requires.fit; he
 pub answer_and_put-requires-clause-request : goal.answer_and_put-requires-clause-request
 answer_and_put-requires-clause-request g c _ _ =
     let t = takes_request c.in-Ok.next c.args.lines.now c.next_request.new.lines (g.I.Source.left c.args.source.now)
-    (g.I.Source.left c.next_request.new.source) c.next_request.new.text.items c.in_default.not-End
+    (g.I.Source.left c.next_request.new.source) c.next_request.new.text.items c.next_request.new.records c.in_default.not-End
     c.in-Ok.ensures.takes in
     (t.0, rw c.text.ensures t.2)
 
@@ -54,7 +54,7 @@ returns-in_default-clause-turns g c =
     let before = g.I.Source.left c.args.source.now in
     let after = g.I.Source.left c.next_request.new.source in
     let t = takes_request c.in-Ok.next c.args.lines.now c.next_request.new.lines before after
-    c.next_request.new.text.items c.in_default.not-End c.in-Ok.ensures.takes in
+    c.next_request.new.text.items c.next_request.new.records c.in_default.not-End c.in-Ok.ensures.takes in
     turn_replied c.args.responder.now.cursors.settings.page
     (Uses g.S.Service c.args.service.now c.answer_and_put.new.service)
     (g.S.Service.worn c.answer_and_put.new.service) t.0
@@ -68,7 +68,7 @@ returns-in_default-clause-part g c =
     let before = g.I.Source.left c.args.source.now in
     let after = g.I.Source.left c.next_request.new.source in
     let t = takes_request c.in-Ok.next c.args.lines.now c.next_request.new.lines before after
-    c.next_request.new.text.items c.in_default.not-End c.in-Ok.ensures.takes in
+    c.next_request.new.text.items c.next_request.new.records c.in_default.not-End c.in-Ok.ensures.takes in
     no_input_fault c.args.responder.now.cursors.settings.page
     (Uses g.S.Service c.args.service.now c.answer_and_put.new.service)
     (g.S.Service.worn c.answer_and_put.new.service) t.0
@@ -83,14 +83,14 @@ returns-in_default-clause-progress g c = λ e. c.in-Ok.ensures.progress c.in_def
 pub returns-in_default-clause-source_fault : goal.returns-in_default-clause-source_fault
 returns-in_default-clause-source_fault g c = λ e.
     let t = takes_request c.in-Ok.next c.args.lines.now c.next_request.new.lines (g.I.Source.left c.args.source.now)
-    (g.I.Source.left c.next_request.new.source) c.next_request.new.text.items c.in_default.not-End
+    (g.I.Source.left c.next_request.new.source) c.next_request.new.text.items c.next_request.new.records c.in_default.not-End
     c.in-Ok.ensures.takes in
     absurd (rw e at (c.answer_and_put.ensures.replies t.0 (rw c.text.ensures t.2)))
 
 pub returns-in_default-clause-too_long : goal.returns-in_default-clause-too_long
 returns-in_default-clause-too_long g c = λ e.
     let t = takes_request c.in-Ok.next c.args.lines.now c.next_request.new.lines (g.I.Source.left c.args.source.now)
-    (g.I.Source.left c.next_request.new.source) c.next_request.new.text.items c.in_default.not-End
+    (g.I.Source.left c.next_request.new.source) c.next_request.new.text.items c.next_request.new.records c.in_default.not-End
     c.in-Ok.ensures.takes in
     absurd (rw e at (c.answer_and_put.ensures.replies t.0 (rw c.text.ensures t.2)))
 
@@ -100,6 +100,6 @@ returns-in-End-clause-ended g c = λ e. c.in-Ok.ensures.ended (ap Ok c.in-End.is
 pub returns-in_default-clause-ended : goal.returns-in_default-clause-ended
 returns-in_default-clause-ended g c = λ e.
     let t = takes_request c.in-Ok.next c.args.lines.now c.next_request.new.lines (g.I.Source.left c.args.source.now)
-    (g.I.Source.left c.next_request.new.source) c.next_request.new.text.items c.in_default.not-End
+    (g.I.Source.left c.next_request.new.source) c.next_request.new.text.items c.next_request.new.records c.in_default.not-End
     c.in-Ok.ensures.takes in
     absurd (rw e at (c.answer_and_put.ensures.replies t.0 (rw c.text.ensures t.2)))

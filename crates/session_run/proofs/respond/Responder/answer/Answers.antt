@@ -35,3 +35,11 @@ pub returns-in-WithMolfile-clause-answered : goal.returns-in-WithMolfile-clause-
 returns-in-WithMolfile-clause-answered g c request next =
     behind_nothing c.clear.ensures.items
     (c.answer_molfile.ensures.answered request c.args.line.now (rw c.in-WithMolfile.is at next))
+
+pub answer_records-requires-clause-request : goal.answer_records-requires-clause-request
+answer_records-requires-clause-request g c _ _ = (c.requires.request.0, rw c.in-WithRecords.is at c.requires.request.1)
+
+pub returns-in-WithRecords-clause-answered : goal.returns-in-WithRecords-clause-answered
+returns-in-WithRecords-clause-answered g c request next =
+    behind_nothing c.clear.ensures.items
+    (c.answer_records.ensures.answered request (rw c.in-WithRecords.is at next))

@@ -18,13 +18,13 @@ execute-requires-clause-line g c _ _ = (c.args.line.now, c.in-Ok.ensures, c.requ
 
 pub returns-in-Ok-clause-answered : goal.returns-in-Ok-clause-answered
 returns-in-Ok-clause-answered g c =
-    let request : Request = record { line = Whole c.args.line.now; molfile = [] } in
+    let request : Request = record { line = Whole c.args.line.now; more = [] } in
     behind_nothing c.clear.ensures.items (allowed_as (line_allows _ request c.args.line.now
     (Ok (command_of c.in-Ok.command)) (refl, c.requires.alone) c.in-Ok.ensures) (c.execute.ensures.answered []))
 
 pub returns-in-Err-clause-answered : goal.returns-in-Err-clause-answered
 returns-in-Err-clause-answered g c =
-    let request : Request = record { line = Whole c.args.line.now; molfile = [] } in
+    let request : Request = record { line = Whole c.args.line.now; more = [] } in
     behind_nothing c.clear.ensures.items (said [] (line.Refused (refusals.Line c.in-Err.refusal)) c.say.result
     (uses-none g.met.S.Service.stays c.args.service.now)
     (noted (Refused (refusals.Line c.in-Err.refusal)) (line_allows _ request c.args.line.now (Err c.in-Err.refusal)

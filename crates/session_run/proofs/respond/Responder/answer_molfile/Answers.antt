@@ -14,18 +14,18 @@ pub returns-in-Long-clause-answered : goal.returns-in-Long-clause-answered
 returns-in-Long-clause-answered g c request any next =
     let is = rw c.in-Long.is at next in
     said [] (line.Refused refusals.Long) c.say.result (uses-none g.met.S.Service.stays c.args.service.now)
-    (noted (Refused refusals.Long) (inl (long_molfile request.line request.molfile is.4, refl))) c.say.ensures
+    (noted (Refused refusals.Long) (inl (long_molfile request is.0 is.1 is.2 is.4, refl))) c.say.ensures
 
 pub returns-in-Lost-clause-answered : goal.returns-in-Lost-clause-answered
 returns-in-Lost-clause-answered g c request any next =
     said [] (reply_of c.line_without_text.result) c.say-in-Lost.result
     (uses-none g.met.S.Service.stays c.args.service.now)
-    (lost_answer request c.args.read c.args.self.now.molfile.items any (rw c.in-Lost.is at next) (reply_of c.line_without_text.result)
+    (lost_answer request c.args.read c.args.self.now.molfile.items any c.args.self.now.records (rw c.in-Lost.is at next) (reply_of c.line_without_text.result)
     c.line_without_text.ensures) c.say-in-Lost.ensures
 
 pub returns-in-Ok-clause-answered : goal.returns-in-Ok-clause-answered
 returns-in-Ok-clause-answered g c request any next =
-    allowed_as (molfile_allows _ request c.in-Ok.change c.text_change-change.result c.args.self.now.molfile.items any (rw (c.in-Text.is, c.in-Ok.is) at next)
+    allowed_as (molfile_allows _ request c.in-Ok.change c.text_change-change.result c.args.self.now.molfile.items any c.args.self.now.records (rw (c.in-Text.is, c.in-Ok.is) at next)
     c.text_change-change.ensures) (rw c.deref.ensures.value at (c.change_text.ensures c.args.self.now.cursors.settings.page (cursors_of (opened c.args.self.now.cursors))))
 
 pub returns-in-Err-clause-answered : goal.returns-in-Err-clause-answered
@@ -33,4 +33,4 @@ returns-in-Err-clause-answered g c request any next =
     said [] (line.Refused (refusals.Line c.in-Err.refusal)) c.say-in-Err.result
     (uses-none g.met.S.Service.stays c.args.service.now)
     (noted (Refused (refusals.Line c.in-Err.refusal))
-    (molfile_refused _ request c.in-Err.refusal c.args.self.now.molfile.items any (rw (c.in-Text.is, c.in-Err.is) at next))) c.say-in-Err.ensures
+    (molfile_refused _ request c.in-Err.refusal c.args.self.now.molfile.items any c.args.self.now.records (rw (c.in-Text.is, c.in-Err.is) at next))) c.say-in-Err.ensures

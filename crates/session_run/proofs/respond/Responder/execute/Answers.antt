@@ -3,11 +3,11 @@ use Rattle.session_run.specs.Acts.{Silence}
 use Rattle.session_run.specs.Made.{Said}
 use Rattle.session_run.proofs.Joined.{uses-none}
 use Rattle.session_run.proofs.Lines.{noted}
-use Rattle.session_run.proofs.Requested.{spells_register_mol, spells_revise_mol}
+use Rattle.session_run.proofs.Requested.{spells_register_mol, spells_register_sd, spells_revise_mol}
 use Rattle.session_run.proofs.respond.Responder.execute.Goals as goal
 
 pub returns-in-Empty-clause-answered : goal.returns-in-Empty-clause-answered
-returns-in-Empty-clause-answered g c molfile =
+returns-in-Empty-clause-answered g c more =
     rw c.in-Empty.is (Said tt (record {
       calls = [];
       lines = [];
@@ -16,43 +16,46 @@ returns-in-Empty-clause-answered g c molfile =
     }) (sym (append-nil c.args.self.now.out.items)))
 
 pub returns-in-Register-clause-answered : goal.returns-in-Register-clause-answered
-returns-in-Register-clause-answered g c molfile = rw c.in-Register.is (c.change_text.ensures _ _)
+returns-in-Register-clause-answered g c more = rw c.in-Register.is (c.change_text.ensures _ _)
 
 pub returns-in-Revise-clause-answered : goal.returns-in-Revise-clause-answered
-returns-in-Revise-clause-answered g c molfile = rw c.in-Revise.is (c.change_text-in-Revise.ensures _ _)
+returns-in-Revise-clause-answered g c more = rw c.in-Revise.is (c.change_text-in-Revise.ensures _ _)
 
 pub returns-in-Withdraw-clause-answered : goal.returns-in-Withdraw-clause-answered
-returns-in-Withdraw-clause-answered g c molfile = rw c.in-Withdraw.is (c.commit.ensures _ _)
+returns-in-Withdraw-clause-answered g c more = rw c.in-Withdraw.is (c.commit.ensures _ _)
 
 pub returns-in-Show-clause-answered : goal.returns-in-Show-clause-answered
-returns-in-Show-clause-answered g c molfile = rw c.in-Show.is (c.show.ensures _ _)
+returns-in-Show-clause-answered g c more = rw c.in-Show.is (c.show.ensures _ _)
+
+pub returns-in-Data-clause-answered : goal.returns-in-Data-clause-answered
+returns-in-Data-clause-answered g c more = rw c.in-Data.is (c.find_data.ensures _ _)
 
 pub returns-in-Prune-clause-answered : goal.returns-in-Prune-clause-answered
-returns-in-Prune-clause-answered g c molfile = rw c.in-Prune.is (c.prune.ensures _ _)
+returns-in-Prune-clause-answered g c more = rw c.in-Prune.is (c.prune.ensures _ _)
 
 pub returns-in-Stats-clause-answered : goal.returns-in-Stats-clause-answered
-returns-in-Stats-clause-answered g c molfile = rw c.in-Stats.is (c.stats.ensures _ _)
+returns-in-Stats-clause-answered g c more = rw c.in-Stats.is (c.stats.ensures _ _)
 
 pub returns-in-Search-clause-answered : goal.returns-in-Search-clause-answered
-returns-in-Search-clause-answered g c molfile = rw c.in-Search.is (c.search.ensures _)
+returns-in-Search-clause-answered g c more = rw c.in-Search.is (c.search.ensures _)
 
 pub returns-in-Same-clause-answered : goal.returns-in-Same-clause-answered
-returns-in-Same-clause-answered g c molfile = rw c.in-Same.is (c.same.ensures _)
+returns-in-Same-clause-answered g c more = rw c.in-Same.is (c.same.ensures _)
 
 pub returns-in-RegisterNew-clause-answered : goal.returns-in-RegisterNew-clause-answered
-returns-in-RegisterNew-clause-answered g c molfile = rw c.in-RegisterNew.is (c.register_new.ensures _)
+returns-in-RegisterNew-clause-answered g c more = rw c.in-RegisterNew.is (c.register_new.ensures _)
 
 pub returns-in-Similar-clause-answered : goal.returns-in-Similar-clause-answered
-returns-in-Similar-clause-answered g c molfile = rw c.in-Similar.is (c.similar.ensures _)
+returns-in-Similar-clause-answered g c more = rw c.in-Similar.is (c.similar.ensures _)
 
 pub returns-in-Start-clause-answered : goal.returns-in-Start-clause-answered
-returns-in-Start-clause-answered g c molfile = rw c.in-Start.is c.open.ensures.answered
+returns-in-Start-clause-answered g c more = rw c.in-Start.is c.open.ensures.answered
 
 pub returns-in-Next-clause-answered : goal.returns-in-Next-clause-answered
-returns-in-Next-clause-answered g c molfile = rw c.in-Next.is c.next.ensures.answered
+returns-in-Next-clause-answered g c more = rw c.in-Next.is c.next.ensures.answered
 
 pub returns-in-Close-clause-answered : goal.returns-in-Close-clause-answered
-returns-in-Close-clause-answered g c molfile = rw c.in-Close.is c.close.ensures.answered
+returns-in-Close-clause-answered g c more = rw c.in-Close.is c.close.ensures.answered
 
 pub change_text-requires : goal.change_text-requires
 change_text-requires g c = let s = rw c.in-Register.is at c.requires.line.1 in s.0
@@ -67,6 +70,10 @@ unreachable-requires g c =
 pub unreachable-requires-in-ReviseMol : goal.unreachable-requires-in-ReviseMol
 unreachable-requires-in-ReviseMol g c =
     spells_revise_mol c.requires.line.0 c.args.command _ c.in-ReviseMol.is c.requires.line.1 c.requires.line.2
+
+pub unreachable-requires-in-RegisterSd : goal.unreachable-requires-in-RegisterSd
+unreachable-requires-in-RegisterSd g c =
+    spells_register_sd c.requires.line.0 c.args.command _ _ c.in-RegisterSd.is c.requires.line.1 c.requires.line.2
 
 pub register_new-requires-clause-id : goal.register_new-requires-clause-id
 register_new-requires-clause-id g c = let s = rw c.in-RegisterNew.is at c.requires.line.1 in s.0

@@ -1,0 +1,273 @@
+//! Records of SD files, and their data items.
+use super::{PLAIN, call, check, put_by};
+use std::alloc::AllocError;
+use std::test::Fail;
+
+const MEM: &[&str] = &["mem"];
+
+// A molfile of one atom, by its header line.
+const OXYGEN: &str = "
+
+
+  1  0  0  0  0  0  0  0  0  0999 V2000
+    0.0000    0.0000    0.0000 O   0  0  0  0  0  0
+";
+
+#[test]
+fn an_acetate_with_its_name_and_one_without_an_end(rt: HostRuntime) -> Result<(), Fail> {
+    check(
+        &rt,
+        rt.alloc(),
+        MEM,
+        "\
+        > register-sd 7 2\n\
+        > acetate\n\
+        >   by hand\n\
+        > \n\
+        >   4  3  0  0  0  0  0  0  0  0999 V2000\n\
+        >     0.0000    0.0000    0.0000 C   0  0  0  0  0  0\n\
+        >     1.5000    0.0000    0.0000 C   0  0  0  0  0  0\n\
+        >     2.2000    1.2000    0.0000 O   0  5  0  0  0  0\n\
+        >     2.2000   -1.2000    0.0000 O   0  0  0  0  0  0\n\
+        >   1  2  1  0\n\
+        >   2  3  2  0\n\
+        >   2  4  1  0\n\
+        > M  CHG  1   4  -1\n\
+        > M  END\n\
+        > > <NAME>\n\
+        > acetate\n\
+        > \n\
+        > $$$$\n\
+        > acetate\n\
+        >   by hand\n\
+        > \n\
+        >   4  3  0  0  0  0  0  0  0  0999 V2000\n\
+        >     0.0000    0.0000    0.0000 C   0  0  0  0  0  0\n\
+        >     1.5000    0.0000    0.0000 C   0  0  0  0  0  0\n\
+        >     2.2000    1.2000    0.0000 O   0  5  0  0  0  0\n\
+        >     2.2000   -1.2000    0.0000 O   0  0  0  0  0  0\n\
+        >   1  2  1  0\n\
+        >   2  3  2  0\n\
+        >   2  4  1  0\n\
+        > M  CHG  1   4  -1\n\
+        > $$$$\n\
+        < ok 1\n\
+        < refused molfile cut\n\
+        > data 7 NAME\n\
+        < data 7 1\n\
+        < acetate\n\
+        > data 7 X\n\
+        < refused data\n\
+        > data 8 NAME\n\
+        < refused absent\n\
+        > show 7\n\
+        < record 7 version 1 molfile 16\n\
+        < acetate\n\
+        <   by hand\n\
+        < \n\
+        <   4  3  0  0  0  0  0  0  0  0999 V2000\n\
+        <     0.0000    0.0000    0.0000 C   0  0  0  0  0  0\n\
+        <     1.5000    0.0000    0.0000 C   0  0  0  0  0  0\n\
+        <     2.2000    1.2000    0.0000 O   0  5  0  0  0  0\n\
+        <     2.2000   -1.2000    0.0000 O   0  0  0  0  0  0\n\
+        <   1  2  1  0\n\
+        <   2  3  2  0\n\
+        <   2  4  1  0\n\
+        < M  CHG  1   4  -1\n\
+        < M  END\n\
+        < > <NAME>\n\
+        < acetate\n\
+        < \n\
+        > search C(=O)[O-]\n\
+        < hit 7\n\
+        < end at 1 tried 1 hits 1\n\
+        > withdraw 7\n\
+        < ok 2\n\
+        > data 7 NAME\n\
+        < refused withdrawn\n\
+        > register-sd 9 1\n\
+        < refused sd cut\n\
+        ",
+    )
+}
+
+#[test]
+fn records_are_answered_in_their_order(rt: HostRuntime) -> Result<(), Fail> {
+    check(
+        &rt,
+        rt.alloc(),
+        &["mem", "--commits", "4"],
+        "\
+        > register 3 C\n\
+        < ok 1\n\
+        # an empty record, one that is registered, one that is known, one that is no molfile\n\
+        > register-sd 1 4\n\
+        > $$$$\n\
+        > \n\
+        > \n\
+        > \n\
+        >   1  0  0     0  0              1 V2000\n\
+        >     0.0000    0.0000    0.0000 O   0  0\n\
+        > M  END\n\
+        > $$$$\n\
+        > \n\
+        > \n\
+        > \n\
+        >   1  0  0     0  0              1 V2000\n\
+        >     0.0000    0.0000    0.0000 O   0  0\n\
+        > M  END\n\
+        > $$$$\n\
+        > \n\
+        > \n\
+        > \n\
+        > no counts\n\
+        > M  END\n\
+        > $$$$\n\
+        < refused molfile cut\n\
+        < ok 2\n\
+        < refused known\n\
+        < refused molfile header\n\
+        # more records than the store takes, than the input has, and the last without its end\n\
+        > register 4 C\n\
+        < ok 3\n\
+        > data 3 A\n\
+        < refused data\n\
+        > register-sd 10 4\n\
+        > \n\
+        > \n\
+        > \n\
+        >   1  0  0     0  0              1 V2000\n\
+        >     0.0000    0.0000    0.0000 O   0  0\n\
+        > M  END\n\
+        > $$$$\n\
+        > \n\
+        > \n\
+        > \n\
+        >   1  0  0     0  0              1 V2000\n\
+        >     0.0000    0.0000    0.0000 O   0  0\n\
+        > M  END\n\
+        < ok 4\n\
+        < refused full\n\
+        < refused sd cut\n\
+        < refused sd cut\n\
+        ",
+    )
+}
+
+// Lines that end with CR and LF, a line that ends no record, and data with a line of one blank.
+#[test]
+fn a_record_with_data_items_in_lines_with_cr(rt: HostRuntime) -> Result<(), Fail> {
+    let alloc = rt.alloc();
+    let script = "register-sd 999999999 1\r\n\
+        \r\n\r\n\r\n  1  0  0     0  0              1 V2000\r\n\
+        \x20   0.0000    0.0000    0.0000 O   0  0\r\nM  END\r\n\
+        >  <A> (1)\r\none\r\n \r\ntwo\r\n\r\n$$$$ \r\n> <>\r\n\r\n$$$$\r\n\
+        data 999999999 A\ndata 999999999 \ndata 999999999 B\ndata 999999999\ndata 0 A\n";
+    let replies = "ok 1\ndata 999999999 3\none\n \ntwo\ndata 999999999 0\n\
+        refused data\nrefused syntax\nrefused id\n";
+    let answer = call(&rt, alloc, MEM, script.as_bytes(), PLAIN)?;
+    assert_eq!(rt; answer.status, 0);
+    assert_eq!(rt; put_by(&answer), replies.as_bytes());
+    Ok(())
+}
+
+#[test]
+fn lines_that_take_no_records_and_lines_that_take_them_in_vain(
+    rt: HostRuntime,
+) -> Result<(), Fail> {
+    check(
+        &rt,
+        rt.alloc(),
+        MEM,
+        "\
+        > register-sd\n\
+        < refused syntax\n\
+        > register-sd 1\n\
+        < refused syntax\n\
+        > register-sd 1 0\n\
+        < refused syntax\n\
+        > register-sd 1 01\n\
+        < refused syntax\n\
+        > register-sd 1 4097\n\
+        < refused syntax\n\
+        > register-sd 1 1 \n\
+        < refused syntax\n\
+        > register-sd  1 1\n\
+        < refused syntax\n\
+        > register-sd x 1\n\
+        > register 1 C\n\
+        > $$$$\n\
+        < refused id\n\
+        > register-sd 01 2\n\
+        > $$$$\n\
+        > register 1 C\n\
+        > $$$$\n\
+        < refused id\n\
+        > register-sd 999999999 2\n\
+        > $$$$\n\
+        > $$$$\n\
+        < refused id\n\
+        > $$$$\n\
+        < refused syntax\n\
+        > register-sd 0 4096\n\
+        > register 1 C\n\
+        < refused id\n\
+        ",
+    )
+}
+
+// A record with a line that is too long is refused alone, and a text that is too big.
+#[test]
+fn records_that_are_too_long_leave_the_others(rt: HostRuntime) -> Result<(), Fail> {
+    let alloc = rt.alloc();
+    let mut script = String::from_str(alloc, "register-sd 1 5\n")?;
+    script.push_str(OXYGEN)?;
+    script.push_str("M  END\n$$$$\n")?;
+    script.push_str(OXYGEN)?;
+    script.push_str("M  END\n")?;
+    push_many(&mut script, "x", 65_537)?;
+    script.push_str("\n$$$$\n")?;
+    script.push_str(OXYGEN)?;
+    script.push_str("M  END\n")?;
+    push_many(&mut script, "x\n", 131_072)?;
+    script.push_str("$$$$\n")?;
+    push_many(&mut script, "$", 65_540)?;
+    script.push_str("\n$$$$\n")?;
+    script.push_str(OXYGEN)?;
+    script.push_str("M  END\n$$$$\nstats\n")?;
+    let replies = "ok 1\nrefused long\nrefused molfile limit\nrefused long\nok 2\n\
+        stats version 2 live 2 withdrawn 0 kept 2 pins 0\n";
+    let answer = call(&rt, alloc, MEM, script.as_bytes(), PLAIN)?;
+    assert_eq!(rt; answer.status, 0);
+    assert_eq!(rt; put_by(&answer), replies.as_bytes());
+    Ok(())
+}
+
+// A record with a line that is too long counts 262,145 bytes, and 256 of these are more than 67,108,864.
+#[test]
+fn texts_of_too_many_bytes_are_refused_from_one_on(rt: HostRuntime) -> Result<(), Fail> {
+    let alloc = rt.alloc();
+    let mut long = String::new(alloc);
+    push_many(&mut long, "0123456789abcdef", 4097)?;
+    long.push_str("\n$$$$\n")?;
+    let mut script = String::from_str(alloc, "register-sd 1 258\n")?;
+    push_many(&mut script, long.as_str(), 255)?;
+    script.push_str("$$$$\n")?;
+    script.push_str(long.as_str())?;
+    script.push_str("$$$$\nstats\n")?;
+    let mut replies = String::new(alloc);
+    push_many(&mut replies, "refused long\n", 255)?;
+    replies.push_str("refused molfile cut\nrefused sd limit\nrefused sd limit\n")?;
+    replies.push_str("stats version 0 live 0 withdrawn 0 kept 0 pins 0\n")?;
+    let answer = call(&rt, alloc, MEM, script.as_bytes(), PLAIN)?;
+    assert_eq!(rt; answer.status, 0);
+    assert_eq!(rt; put_by(&answer), replies.as_bytes());
+    Ok(())
+}
+
+fn push_many(text: &mut String, piece: &str, times: usize) -> Result<(), AllocError> {
+    for _ in 0..times {
+        text.push_str(piece)?;
+    }
+    Ok(())
+}

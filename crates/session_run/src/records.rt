@@ -1,0 +1,209 @@
+//! The records of an SD file that a line takes: their texts, or why a record has none.
+ghost use Rattle.std.specs.Prelude.{◌≡◌, ◌≤◌, ◌<◌, ◌++◌, ◌∷◌, [], ◌*◌, ◌+◌, length, List, OnErr, OnOk, Option, slice_get, ℕ};
+ghost use Rattle.io_edge.specs.Lines.{TextLine, Whole};
+ghost use Rattle.session_run.specs.Records.{counted};
+ghost use Rattle.session_run.specs.Taken.{AreTaken, IsKept, IsPart, IsRecordPart};
+ghost use Rattle.session_run.specs.Transcript.{IsPrefixOf};
+ghost use Rattle.shell_lang.specs.declared.command.TheConstants.{MOST_SD_RECORDS};
+
+use mol_finish::TextFault;
+use molfile_read::MolfileFault;
+use shell_lang::Refusal;
+use std::alloc::{AllocError, Global};
+
+/// The most bytes that the texts of the records of one line may count.
+pub const MOST_SD_BYTES: u64 = 67_108_864;
+
+/// The most bytes that one of them counts: one more than a text with a structure may have.
+pub const MOST_COUNTED: u64 = 262_145;
+
+/// What was taken of a record.
+#[derive(Clone, Copy, Debug, PartialEq, Eq)]
+pub enum Part {
+    /// Its text.
+    Text,
+    /// No text: a line of it is too long.
+    Long,
+    /// No text: it has more bytes than a text with a structure may have.
+    Big,
+    /// No text of so many bytes: memory ran out, or none is wanted.
+    Lost { size: usize },
+}
+
+impl Part {
+    /// With a line more.
+    pub fn with_line(self, line: &[u8], text: &mut Vec<u8>) -> Part
+        requires { (lines : List TextLine) × IsPart self lines text.old.items }
+        ensures { (lines : List TextLine) → IsPart self lines text.old.items
+            → IsPart result (lines ++ Whole line.now ∷ []) text.new.items }
+    {
+        match self {
+            Part::Text => {
+                let size = text.len() + line.len() + 1;
+                if size >= MOST_COUNTED as usize {
+                    return Part::Big;
+                }
+                match push_line(line, text) {
+                    Ok(()) => Part::Text,
+                    Err(_) => Part::Lost { size },
+                }
+            }
+            Part::Lost { size } => {
+                let size = size + line.len() + 1;
+                if size >= MOST_COUNTED as usize {
+                    return Part::Big;
+                }
+                Part::Lost { size }
+            }
+            Part::Long => Part::Long,
+            Part::Big => Part::Big,
+        }
+    }
+}
+
+/// Appends a line and its LF.
+pub fn push_line(line: &[u8], text: &mut Vec<u8>) -> Result<(), AllocError>
+    ensures { OnOk result (text.new.items ≡ text.old.items ++ line.now ++ 10 ∷ []) }
+{
+    text.extend_from_slice(line)?;
+    text.extend_from_slice(b"\n")
+}
+
+// How many bytes a record counts.
+fn part_bytes(part: Option<Part>, text: &[u8]) -> u64
+    ensures { (r : Option (List TextLine)) → IsRecordPart part r text.now → result ≡ counted r }
+{
+    match part {
+        None => 0,
+        Some(Part::Text) => text.len() as u64,
+        Some(Part::Long | Part::Big) => MOST_COUNTED,
+        Some(Part::Lost { size }) => size as u64,
+    }
+}
+
+/// What is kept of a record.
+#[derive(Clone, Copy, Debug, PartialEq, Eq)]
+pub enum Kept {
+    /// Its text.
+    Text,
+    /// No text: the record is refused, whatever its identifier.
+    Refused(Refusal),
+    /// No text: memory ran out.
+    Lost,
+}
+
+// What is kept of a record, where the texts up to and with it count so many bytes.
+fn kept_of(part: Option<Part>, total: u64) -> Kept
+    ensures { (r : Option (List TextLine)) (text : List ℕ) → IsRecordPart part r text
+        → IsKept total r result text }
+{
+    match part {
+        None => Kept::Refused(Refusal::SdCut),
+        Some(_) if total > MOST_SD_BYTES => Kept::Refused(Refusal::SdLimit),
+        Some(Part::Text) => Kept::Text,
+        Some(Part::Long) => Kept::Refused(Refusal::Long),
+        Some(Part::Big) => { Kept::Refused(Refusal::Text(TextFault::Molfile(MolfileFault::Limit))) }
+        Some(Part::Lost { .. }) => Kept::Lost,
+    }
+}
+
+// The text, where it is kept and there is memory for it; else an empty one.
+fn copied(alloc: Global, kept: Kept, text: &[u8]) -> (Kept, Vec<u8>)
+    ensures { (total : ℕ) (r : Option (List TextLine)) → IsKept total r kept text.now
+        → IsKept total r result.0 result.1.items }
+{
+    match kept {
+        Kept::Text => match Vec::from_slice(alloc, text) {
+            Ok(text) => (Kept::Text, text),
+            Err(_) => (Kept::Lost, Vec::new(alloc)),
+        },
+        Kept::Refused(_) | Kept::Lost => (kept, Vec::new(alloc)),
+    }
+}
+
+/// The records that a line takes, in order. Where memory ran out for the lists, no more records are in them.
+#[derive(Drop)]
+pub struct SdTexts {
+    pub alloc: Global,
+    /// What is kept of each record.
+    pub kept: Vec<Kept>,
+    /// The text of each record; empty where none is kept.
+    pub texts: Vec<Vec<u8>>,
+    /// How many bytes the records count.
+    pub total: u64,
+    /// No more records are kept.
+    pub full: bool,
+}
+
+impl SdTexts {
+    /// None.
+    pub fn new(alloc: Global) -> SdTexts
+        ensures { AreTaken [] result }
+    {
+        SdTexts {
+            alloc,
+            kept: Vec::new(alloc),
+            texts: Vec::new(alloc),
+            total: 0,
+            full: false,
+        }
+    }
+
+    /// Forgets the records, and gives their memory free. Where none is wanted, no more are kept.
+    pub fn begin(&mut self, wanted: bool)
+        ensures { AreTaken [] self.new }
+    {
+        self.kept = Vec::new(self.alloc);
+        self.texts = Vec::new(self.alloc);
+        self.total = 0;
+        self.full = !wanted;
+    }
+
+    /// What the next record begins as: without a text, where none would be kept.
+    pub fn begun(&self) -> Part
+        ensures { IsPart result [] [] }
+    {
+        if self.full || self.total > MOST_SD_BYTES {
+            Part::Lost { size: 0 }
+        } else {
+            Part::Text
+        }
+    }
+
+    /// Adds a record, by what was taken of it; `None` where no line of it was left.
+    pub fn add(&mut self, part: Option<Part>, text: &[u8])
+        requires few { self.old.total ≤ MOST_SD_RECORDS * MOST_COUNTED }
+        requires part { (r : Option (List TextLine)) × IsRecordPart part r text.now }
+        ensures { (records : List (Option (List TextLine))) (r : Option (List TextLine))
+            → AreTaken records self.old → IsRecordPart part r text.now
+            → AreTaken (records ++ r ∷ []) self.new }
+    {
+        self.total += part_bytes(part, text);
+        if !self.full {
+            let (kept, text) = copied(self.alloc, kept_of(part, self.total), text);
+            self.full = self.push(kept, text).is_err();
+        }
+    }
+
+    /// What is kept of the record at a place, if it is in the lists.
+    pub fn kept_at(&self, place: u32) -> Option<Kept>
+        ensures { result ≡ slice_get self.now.kept.items place }
+    {
+        self.kept.get(place as usize).copied()
+    }
+
+    // Adds a record to the lists.
+    fn push(&mut self, kept: Kept, text: Vec<u8>) -> Result<(), AllocError>
+        ensures ok { OnOk result ((self.new.kept.items ≡ self.old.kept.items ++ kept ∷ [])
+            × (self.new.texts.items ≡ self.old.texts.items ++ text ∷ [])) }
+        ensures err { OnErr result (self.new.kept.items ≡ self.old.kept.items) }
+        ensures first { IsPrefixOf self.old.texts.items self.new.texts.items }
+        ensures few { length self.new.texts.items ≤ length self.old.texts.items + 1 }
+        ensures total { self.new.total ≡ self.old.total }
+        ensures full { self.new.full ≡ self.old.full }
+    {
+        self.texts.push(text)?;
+        self.kept.push(kept)?;
+        Ok(())
+    }
+}

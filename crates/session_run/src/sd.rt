@@ -1,0 +1,103 @@
+//! Registering the records of an SD file, one after another.
+ghost use Rattle.std.specs.Prelude.{◌≡◌, ◌<◌, ◌+◌, List, Option, Some, length, ℕ};
+ghost use Rattle.io_edge.specs.Lines.{TextLine};
+ghost use Rattle.shell_lang.specs.Command.{AreIds};
+ghost use Rattle.session_run.specs.Acts.{Answers, RegisterEach};
+ghost use Rattle.session_run.specs.Cursors.{Cursor};
+ghost use Rattle.session_run.specs.Made.{AnsweredBy};
+ghost use Rattle.session_run.specs.Taken.{AreRead, AreTaken, IsReady, Registers};
+ghost use Rattle.store_machine.specs.History.{IsId};
+
+use crate::commands::{commit, refuse_text};
+use crate::records::{Kept, SdTexts};
+use crate::say::say;
+use crate::stop::Stop;
+use crate::texts::record_is_sound;
+use mol_finish::TextFault;
+use sd_read::read_records;
+use shell_lang::Reply;
+use std::alloc::Global;
+use std::sync::Arc;
+use std::thread::Threads;
+use store_core::{Change, Record, Service};
+
+// What making a record answered.
+type Made = Result<Arc<Record>, TextFault>;
+
+/// Registers records under identifiers from the first on, and answers each by one line.
+pub fn register_sd<R: Threads + Sync, S: Service>(
+    rt: &R,
+    service: &mut S,
+    first: u32,
+    count: u32,
+    texts: &SdTexts,
+    out: &mut Vec<u8>,
+) -> Result<(), Stop>
+    requires ids { AreIds first count }
+    requires taken { (records : List (Option (List TextLine))) × (length records ≡ count) × AreTaken records texts.now }
+    ensures { (records : List (Option (List TextLine))) → length records ≡ count → AreTaken records texts.now
+        → (size : ℕ) (cursors : List Cursor) → AnsweredBy S.Service service.old service.new
+        (Answers size (λ act. act ≡ RegisterEach first records) cursors) out.old.items out.new.items cursors result }
+{
+    let made = read_all(rt, first, texts);
+    let mut answers = made.into_iter();
+    let mut place = 0;
+    while place < count {
+        let kept = texts.kept_at(place);
+        match register_one(service, kept, answers.next(), out) {
+            Ok(()) => place += 1,
+            Err(stop) => return Err(stop),
+        }
+    }
+    Ok(())
+}
+
+// What making each record answers; of none, where memory ran out.
+fn read_all<R: Threads + Sync>(rt: &R, first: u32, texts: &SdTexts) -> Vec<Made>
+    requires ids { (place : ℕ) → place < length texts.now.texts.items → IsId (first + place) }
+    ensures { AreRead first texts.now.texts.items result.items }
+{
+    match read_records(rt, texts.alloc, first, texts.texts.as_slice()) {
+        Ok(made) => made,
+        Err(_) => Vec::new(texts.alloc),
+    }
+}
+
+// Answers a record by what is kept of it and what making it answered. Where one of these is lost, memory ran out.
+fn register_one<S: Service>(
+    service: &mut S,
+    kept: Option<Kept>,
+    answer: Option<Made>,
+    out: &mut Vec<u8>,
+) -> Result<(), Stop>
+    ensures { (id sum : ℕ) (r : Option (List TextLine)) → IsReady id sum r kept answer
+        → AnsweredBy S.Service service.old service.new (Registers id sum r) out.old.items out.new.items tt result }
+{
+    let Some(kept) = kept else {
+        return say(&Reply::MemoryFault, out);
+    };
+    match kept {
+        Kept::Text => register_made(service, answer, out),
+        Kept::Refused(refusal) => say(&Reply::Refused(refusal), out),
+        Kept::Lost => say(&Reply::MemoryFault, out),
+    }
+}
+
+// Answers a record by what making it answered.
+fn register_made<S: Service>(
+    service: &mut S,
+    answer: Option<Made>,
+    out: &mut Vec<u8>,
+) -> Result<(), Stop>
+    ensures { (id sum : ℕ) (r : Option (List TextLine)) → IsReady id sum r (Some Kept.Text) answer
+        → AnsweredBy S.Service service.old service.new (Registers id sum r) out.old.items out.new.items tt result }
+{
+    match answer {
+        Some(Ok(record)) => {
+            record_is_sound(&record);
+            commit(service, Change::Register(record), out)
+        }
+        Some(Err(fault)) => say(&refuse_text(fault), out),
+        None => say(&Reply::MemoryFault, out),
+    }
+}
