@@ -255,5 +255,5 @@ pub may-add : StatesStay → (store : StoreTerm) (s : State) (c : Change) → St
 may-add stay store s c h sound allowed room = (
   valid-change stay s c h.sound.history sound allowed,
   allowed,
-  omega (arith, room, h.version, h.limit, h.sound.history.version),
+  omega (arith, room, h.version, h.limit),
 )

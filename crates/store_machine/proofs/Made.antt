@@ -155,13 +155,23 @@ earlier (suc n) (suc m) after [] states id status le made e = e
 earlier (suc n) (suc m) after (c ∷ cs) states id status le made e =
     earlier n m (after + 1) cs (after_change (after + 1) c states) id status (omega (arith, le)) (omega (arith, made)) e
 
+-- it was made by no more commits than the snapshot has
+past-made : (h : History) (v id : ℕ) (status : Status) → IsHistory h → get (snapshot h v) id ≡ Some status
+    → made_at status - h.version ≤ v - h.version
+past-made h v id status good e =
+    elim (state-made h.version (take (v - h.version) h.commits) (base_states h) id status e) [
+      | inl m ↦
+          let p = taken-made (v - h.version) h.version h.commits id (made_at status) m in
+          omega (arith, p.1)
+      | inr there ↦ let until = (good.states id status there).until in omega (arith, until)
+    ]
+
 -- a state is that of the snapshot at which it was made
-pub state-then : (h : History) (v id : ℕ) (status : Status) → IsHistory h → h.version ≤ v
-    → get (snapshot h v) id ≡ Some status → get (snapshot h (made_at status)) id ≡ Some status
-state-then h v id status good from e =
-    let le = (snapshot-made h v id status good from e).1 in
+pub state-then : (h : History) (v id : ℕ) (status : Status) → IsHistory h → get (snapshot h v) id ≡ Some status
+    → get (snapshot h (made_at status)) id ≡ Some status
+state-then h v id status good e =
     earlier (made_at status - h.version) (v - h.version) h.version h.commits (base_states h) id status
-    (omega (arith, le)) (omega arith) e
+    (past-made h v id status good e) (omega arith) e
 
 valid-id : (c : Change) → IsValid c → IsId (id_of c)
 valid-id (Register id format text) valid = valid.0
@@ -185,17 +195,21 @@ state-valid h v id status good e =
       | inr there ↦ (good.states id status there).in_range
     ]
 
--- the version of an entry is at least 1
-made-since-1 : (h : History) (id version : ℕ) → IsHistory h → HasMade h id version → 1 ≤ version
-made-since-1 h id version good (inl m) = let late = made-after h.version h.commits id version m in omega (arith, late)
-made-since-1 h id version good (inr (status, there, at)) =
-    let since = (good.states id status there).since in omega (arith, since, at)
+-- its version is at least 1
+state-since : (h : History) (v id : ℕ) (status : Status) → IsHistory h → get (snapshot h v) id ≡ Some status
+    → 1 ≤ made_at status
+state-since h v id status good e =
+    elim (state-made h.version (take (v - h.version) h.commits) (base_states h) id status e) [
+      | inl m ↦
+          let late = made-after h.version (take (v - h.version) h.commits) id (made_at status) m in
+          omega (arith, late)
+      | inr there ↦ (good.states id status there).since
+    ]
 
 pub states-stay : StatesStay
-states-stay h v id status good from e =
-    let made = snapshot-made h v id status good from e in (
-      state-valid h v id status good e,
-      made-since-1 h id (made_at status) good made.0,
-      made.1,
-      state-then h v id status good from e,
-    )
+states-stay h v id status good e = (
+  state-valid h v id status good e,
+  state-since h v id status good e,
+  λ from. (snapshot-made h v id status good from e).1,
+  state-then h v id status good e,
+)
