@@ -28,7 +28,7 @@ none-in x c = omega (arith, c.1)
 
 empty-sound : (commits : ℕ) → IsSound (empty commits)
 empty-sound commits = record {
-  history = record { base = refl; version = refl; allowed = tt };
+  history = record { base = refl; states = λ id status e. absurd (no-state 0 id status e); allowed = tt };
   doubt = tt;
   slots = tt;
   pins = λ v c. absurd (none-in v c);
