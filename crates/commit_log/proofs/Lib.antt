@@ -1,2 +1,5 @@
+mod Answered
+mod BaseTaken
+mod OneEntry
 mod OneLog
 mod Taken

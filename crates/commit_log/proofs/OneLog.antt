@@ -138,7 +138,7 @@ same_field m n xs ys p q is =
           ∙ drop_at (to_le_bytes w32 n) ys 4 refl,
     )
 
-same_format : (f g : Format) → format_byte f ≡ format_byte g → f ≡ g
+pub same_format : (f g : Format) → format_byte f ≡ format_byte g → f ≡ g
 same_format Smiles Smiles is = refl
 same_format Smiles Molfile is = absurd (omega (arith, is))
 same_format Molfile Smiles is = absurd (omega (arith, is))

@@ -1,2 +1,4 @@
+pub mod Base
 pub mod Change
+pub mod Entry
 pub mod Log

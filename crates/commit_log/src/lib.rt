@@ -1,8 +1,11 @@
 //! The commits of a journal: a change is written as one payload, and read back from it.
 //! `decode` gives a change exactly where the payload is written so. `read_all` gives every commit up to the first gate
-//! that is not open, or the place where the file is damaged. It stands on `journal_core`.
+//! that is not open, or the place where the file is damaged. In front of the commits of format 2 stands a base, whose
+//! entries `encode_base`, `decode_base` and `read_base` write and read alike. It stands on `journal_core`.
 #![tactic(auto)]
 
+mod base;
+mod base_log;
 mod change;
 mod laws;
 mod log;
@@ -11,8 +14,10 @@ mod reading;
 mod tests;
 mod writing;
 
+pub use base::{BaseEntry, BaseState};
+pub use base_log::read_base;
 pub use change::{Commit, Format, Wire};
 pub use laws::{a_log_reads_one_way, a_written_log_is_read};
 pub use log::read_all;
-pub use reading::decode;
-pub use writing::{encode, encode_register, encode_revise, encode_withdraw};
+pub use reading::{decode, decode_base};
+pub use writing::{encode, encode_base, encode_register, encode_revise, encode_withdraw};

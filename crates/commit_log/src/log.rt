@@ -19,6 +19,7 @@ use std::alloc::Global;
 /// appended to. After a fault, want of memory too, it stands at some record, and is loaded anew.
 pub fn read_all<D: Disk>(alloc: Global, journal: &mut Journal<D>) -> Result<Vec<Commit>, LoadFault>
     requires settled { journal.old.doubt ≡ false }
+    requires based { journal.old.left ≡ 0 }
 
     ensures takes { IfOk result
         (λ commits. Takes journal.old.place commits.items journal.new.place) }
@@ -40,6 +41,8 @@ pub fn read_all<D: Disk>(alloc: Global, journal: &mut Journal<D>) -> Result<Vec<
         → (more : List (List ℕ)) × Reads D.model journal.new front (before ++ more)) }
 
     ensures settled { journal.new.doubt ≡ false }
+    ensures header { (journal.new.header ≡ journal.old.header)
+        × (journal.new.left ≡ journal.old.left) }
     ensures looks { Looks D.model journal.old.disk journal.new.disk }
 {
     let mut commits = Vec::new(alloc);
@@ -58,6 +61,7 @@ fn next_commit<D: Disk>(
     journal: &mut Journal<D>,
 ) -> Result<Option<Commit>, LoadFault>
     requires settled { journal.old.doubt ≡ false }
+    requires based { journal.old.left ≡ 0 }
 
     ensures commit { IfOk result (λ found. IfSome found (λ commit. (commit.at ≡ journal.old.place)
         × IsLogged (change_of commit.wire)
@@ -81,6 +85,8 @@ fn next_commit<D: Disk>(
 
     ensures below { journal.new.place < 2 ^ 64 }
     ensures settled { journal.new.doubt ≡ false }
+    ensures header { (journal.new.header ≡ journal.old.header)
+        × (journal.new.left ≡ journal.old.left) }
     ensures looks { Looks D.model journal.old.disk journal.new.disk }
 {
     let (at, payload) = match journal.next() {

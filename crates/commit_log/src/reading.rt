@@ -1,10 +1,13 @@
-//! A change is read from its payload.
+//! A change is read from its payload, and an entry of a base.
 
-ghost use Rattle.std.specs.Prelude.{◌≡◌, ◌≤◌, ◌∷◌, ◌++◌, ℕ, List, IfOk, IfSome, IfNone};
+ghost use Rattle.std.specs.Prelude.{◌≡◌, ◌≤◌, ◌<◌, ◌^◌, ◌∷◌, ◌++◌, ℕ, List, IfOk, IfSome, IfNone};
 ghost use Rattle.std.specs.Int.{to_le_bytes, w32};
 ghost use Rattle.commit_log.specs.Change.{IsInRange, IsNoChange, change_of, format_byte, written};
+ghost use Rattle.commit_log.specs.Entry as base;
+ghost use Rattle.commit_log.specs.Entry.{IsNoEntry, entry_of};
 ghost use Rattle.commit_log.specs.declared.change.Format.{Format};
 
+use crate::base::{BaseEntry, BaseState, LIVE, WITHDRAWN};
 use crate::change::{Format, GREATEST_ID, REGISTER, REVISE, WITHDRAW, Wire};
 use std::alloc::{AllocError, Global};
 
@@ -35,6 +38,40 @@ pub fn decode(alloc: Global, payload: &[u8]) -> Result<Option<Wire>, AllocError>
     }
 }
 
+/// The entry of a base that the payload is written for. `None` where no entry with an identifier of 1 to 999,999,999 is
+/// written so.
+pub fn decode_base(alloc: Global, payload: &[u8]) -> Result<Option<BaseEntry>, AllocError>
+    ensures some { IfOk result (λ found. IfSome found
+        (λ e. base.IsInRange (entry_of e) × (payload.now ≡ base.written (entry_of e)))) }
+    ensures none { IfOk result (λ found. IfNone found (IsNoEntry payload.now)) }
+{
+    let Some((kind, behind)) = payload.split_first() else {
+        return Ok(None);
+    };
+    let Some((id, numbered)) = id_at(behind) else {
+        return Ok(None);
+    };
+    let Some((version, rest)) = number_at(numbered) else {
+        return Ok(None);
+    };
+    match *kind {
+        LIVE => match text_of(alloc, rest)? {
+            Some((format, text)) => Ok(Some(BaseEntry {
+                id,
+                version,
+                state: BaseState::Live { format, text },
+            })),
+            None => Ok(None),
+        },
+        WITHDRAWN if rest.is_empty() => Ok(Some(BaseEntry {
+            id,
+            version,
+            state: BaseState::Withdrawn,
+        })),
+        _ => Ok(None),
+    }
+}
+
 // The identifier of the first four bytes, and what is behind them.
 fn id_at(bytes: &[u8]) -> Option<(u32, &[u8])>
     ensures some { IfSome result (λ found. (1 ≤ found.0) × (found.0 ≤ 999999999)
@@ -42,12 +79,22 @@ fn id_at(bytes: &[u8]) -> Option<(u32, &[u8])>
     ensures none { IfNone result ((id : ℕ) (rest : List ℕ) → 1 ≤ id → id ≤ 999999999
         → bytes.now ≡ to_le_bytes w32 id ++ rest → ⊥) }
 {
-    let (field, rest) = bytes.split_first_chunk::<4>()?;
-    let id = u32::from_le_bytes(*field);
+    let (id, rest) = number_at(bytes)?;
     if id == 0 || id > GREATEST_ID {
         return None;
     }
     Some((id, rest))
+}
+
+// The number of the first four bytes, the lowest first, and what is behind them.
+fn number_at(bytes: &[u8]) -> Option<(u32, &[u8])>
+    ensures some { IfSome result (λ found. (found.0 < 2 ^ 32)
+        × (bytes.now ≡ to_le_bytes w32 found.0 ++ found.1.now)) }
+    ensures none { IfNone result ((n : ℕ) (rest : List ℕ)
+        → bytes.now ≡ to_le_bytes w32 n ++ rest → ⊥) }
+{
+    let (field, rest) = bytes.split_first_chunk::<4>()?;
+    Some((u32::from_le_bytes(*field), rest))
 }
 
 // The format of the first byte, and a copy of the text behind it.

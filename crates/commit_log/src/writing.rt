@@ -1,9 +1,12 @@
-//! A change is written.
+//! A change is written, and an entry of a base.
 
 ghost use Rattle.std.specs.Prelude.{◌≡◌, ◌∷◌, ◌++◌, IfOk};
 ghost use Rattle.std.specs.Int.{to_le_bytes, w32};
+ghost use Rattle.commit_log.specs.Entry as base;
+ghost use Rattle.commit_log.specs.Entry.{entry_of, live, tail};
 ghost use Rattle.commit_log.specs.Change.{change_of, format_byte, registered, revised, withdrawn, written};
 
+use crate::base::{BaseEntry, BaseState, LIVE, WITHDRAWN};
 use crate::change::{Format, REGISTER, REVISE, WITHDRAW, Wire};
 use std::alloc::{AllocError, Global};
 
@@ -47,6 +50,36 @@ pub fn encode_withdraw(alloc: Global, id: u32) -> Result<Vec<u8>, AllocError>
     ensures { IfOk result (λ payload. payload.items ≡ written (withdrawn id)) }
 {
     with_id(alloc, WITHDRAW, id, 0)
+}
+
+/// The payload of an entry of a base.
+pub fn encode_base(alloc: Global, entry: &BaseEntry) -> Result<Vec<u8>, AllocError>
+    ensures { IfOk result (λ payload. payload.items ≡ base.written (entry_of entry.now)) }
+{
+    match &entry.state {
+        BaseState::Live { format, text } => {
+            let mut payload = with_version(alloc, LIVE, entry, text.len())?;
+            payload.push(byte_of(*format))?;
+            payload.extend_from_slice(text)?;
+            Ok(payload)
+        }
+        BaseState::Withdrawn => with_version(alloc, WITHDRAWN, entry, 0),
+    }
+}
+
+// A kind, and the identifier and the version of an entry, with room for a text.
+fn with_version(
+    alloc: Global,
+    kind: u8,
+    entry: &BaseEntry,
+    room: usize,
+) -> Result<Vec<u8>, AllocError>
+    ensures { IfOk result (λ v. v.items
+        ≡ kind ∷ (to_le_bytes w32 entry.now.id ++ to_le_bytes w32 entry.now.version)) }
+{
+    let mut payload = with_id(alloc, kind, entry.id, room.saturating_add(4))?;
+    payload.extend_from_slice(&entry.version.to_le_bytes())?;
+    Ok(payload)
 }
 
 // A kind, an identifier, a format and a text.

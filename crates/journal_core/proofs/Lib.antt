@@ -1,5 +1,9 @@
+mod BaseTail
 mod Crash
 mod Created
+pub mod FrontLaws
+pub mod OneWay
+mod Opened
 mod Results
 mod Shown
 mod Steps

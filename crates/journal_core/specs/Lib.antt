@@ -1,5 +1,6 @@
 pub mod Answers
 pub mod Found
+pub mod Fronts
 pub mod Inside
 pub mod Journal
 pub mod LookLaws

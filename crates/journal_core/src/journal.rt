@@ -2,7 +2,7 @@
 //! that is not open, with a closed gate behind it, and synced; then the gate is opened, and synced.
 
 ghost use Rattle.std.specs.Prelude.{◌≡◌, ◌<◌, ◌≤◌, ◌+◌, ◌^◌, [], ◌∷◌, ◌++◌, ℕ, List, None, Some, true, false, length, OnOk, OnErr, IfOk};
-ghost use Rattle.disk_edge.specs.Disk.{Keeps, OnFailed, OnNoMemory, Counted, Faulted};
+ghost use Rattle.disk_edge.specs.Disk.{IfTold, Keeps, OnFailed, OnNoMemory, Counted, Faulted};
 ghost use Rattle.disk_edge.specs.Moments.{AtEachMoment};
 ghost use Rattle.journal_core.specs.Answers.{OnSure, OnDoubt, OnWant, is_doubt};
 ghost use Rattle.journal_core.specs.Journal.{Rests, Doubts};
@@ -11,6 +11,7 @@ ghost use Rattle.journal_core.specs.declared.format.TheConstants.{CLOSED};
 
 use crate::faults::AppendFault;
 use crate::format::{CLOSED, OPEN};
+use crate::header::Header;
 use crate::synced::put;
 use crate::window::Window;
 use disk_edge::{Disk, DiskFail, MemDisk};
@@ -22,6 +23,8 @@ use std::marker::Model;
 pub struct Journal<D: Disk> {
     pub(crate) alloc: Global,
     pub(crate) disk: D,
+    pub(crate) header: Header,
+    pub(crate) left: u32,
     pub(crate) window: Window,
     pub(crate) place: u64,
     pub(crate) ready: bool,
@@ -37,6 +40,8 @@ impl<D: Disk> Model for Journal<D> {
 
     ghost view = { λ j. record {
       disk = j.disk;
+      header = j.header;
+      left = j.left;
       place = j.place;
       ready = j.ready;
       doubt = j.doubt;
@@ -46,6 +51,31 @@ impl<D: Disk> Model for Journal<D> {
 }
 
 impl<D: Disk> Journal<D> {
+    /// A journal at a gate that is not open, which may be appended to: the gate is at this place of the disk, and the
+    /// header is the disk's. Takes no memory.
+    pub fn at_gate(alloc: Global, disk: D, header: Header, place: u64) -> Journal<D>
+        requires gate { IfTold (D.model.content disk) (λ l. place < length l) }
+        ensures { result ≡ record {
+          disk = disk;
+          header = header;
+          left = 0;
+          place = place;
+          ready = true;
+          doubt = false;
+        } }
+    {
+        Journal {
+            alloc,
+            disk,
+            header,
+            left: 0,
+            window: Window::unknown(alloc),
+            place,
+            ready: true,
+            doubt: false,
+        }
+    }
+
     /// Adds a payload of 1 to 1,048,576 bytes at the gate at which the journal stands. At `Ok` it is acknowledged: each
     /// crash from then on leaves it.
     pub fn append(&mut self, payload: &[u8]) -> Result<(), AppendFault>
@@ -71,6 +101,7 @@ impl<D: Disk> Journal<D> {
             → D.model.content self.new.disk ≡ None }
         ensures in_doubt { self.new.doubt ≡ is_doubt result }
         ensures ready { self.new.ready ≡ true }
+        ensures header { (self.new.header ≡ self.old.header) × (self.new.left ≡ self.old.left) }
         ensures moved { OnOk result (self.new.place ≡ self.old.place + 5 + length payload.now) }
         ensures stays { OnErr result (self.new.place ≡ self.old.place) }
 
@@ -123,6 +154,7 @@ impl<D: Disk> Journal<D> {
         ensures settled { OnOk result (self.new.doubt ≡ false) }
         ensures in_doubt { OnErr result (self.new.doubt ≡ true) }
         ensures ready { self.new.ready ≡ true }
+        ensures header { (self.new.header ≡ self.old.header) × (self.new.left ≡ self.old.left) }
         ensures place { self.new.place ≡ self.old.place }
 
         // A crash at any moment of the call leaves the payloads without the one in doubt or with it.
@@ -152,7 +184,14 @@ impl<D: Disk> Journal<D> {
         self.doubt
     }
 
-    /// The place of the gate at which the journal stands. Takes no memory.
+    /// What the journal's file says of itself. Takes no memory.
+    pub fn header(&self) -> Header
+        ensures { result ≡ self.now.header }
+    {
+        self.header
+    }
+
+    /// The place of the record or gate at which the journal stands. Takes no memory.
     pub fn place(&self) -> u64
         ensures { result ≡ self.now.place }
     {

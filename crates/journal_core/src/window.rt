@@ -33,6 +33,18 @@ impl Window {
         }
     }
 
+    /// A window that shows nothing, over a disk whose length it does not know. Takes no memory.
+    pub(crate) fn unknown(alloc: Global) -> Window
+        ensures bytes { result.bytes.items ≡ [] }
+        ensures len { result.len ≡ None }
+    {
+        Window {
+            bytes: Vec::new(alloc),
+            start: 0,
+            len: None,
+        }
+    }
+
     /// Forgets what it knows, since the disk will be written.
     pub(crate) fn forget(&mut self)
         ensures bytes { self.new.bytes.items ≡ [] }

@@ -1,14 +1,17 @@
 -- A loading: what is read, made again, and opened.
-use Rattle.std.proofs.Common.{◌≡◌, ◌∙◌, ap, arith, Err, false, List, [], MatchOption, None, Ok, refl, Result, Some, subst, sym, true, ℕ}
+use Rattle.std.proofs.Common.{◌≡◌, ◌∙◌, ◌++◌, ap, arith, Err, false, length, List, [], MatchOption, None, Ok, Option, refl, Result, Some, subst, sym, true, ℕ}
 use Rattle.std.proofs.lemmas.List.{length-map}
 use Rattle.std.specs.List.{AllByRecursion}
 use Rattle.commit_log.specs.Change.{Change as Logged}
 use Rattle.commit_log.specs.Log.{IsLog, IsLogged, end_of, payloads as log_payloads}
 use Rattle.disk_edge.specs.Disk.{DiskModel, IfTold}
+use Rattle.journal_core.proofs.FrontLaws.{first_part, second_no_header, second_part}
 use Rattle.journal_core.specs.Answers.{OnDamaged}
+use Rattle.journal_core.specs.Fronts.{IsPart}
 use Rattle.journal_core.specs.Journal.{Reads, Rests}
 use Rattle.journal_core.specs.Looks.{Looks}
-use Rattle.journal_core.specs.Records.{Opens, header}
+use Rattle.journal_core.specs.Records.{IsNoJournal, Opens, header}
+use Rattle.journal_core.specs.RecordLaws.{prefix_nil}
 use Rattle.journal_core.specs.Standing.{Standing}
 use Rattle.journal_core.specs.declared.faults.LoadFault.{LoadFault}
 use Rattle.journal_core.specs.declared.faults.LoadFault.TheVariants as fault
@@ -76,7 +79,31 @@ at-rest m s h doubt serves = record {
   stands = h;
 }
 
+some-same : {x y : List ℕ} → Some x ≡ Some y → x ≡ y
+some-same e = cc e
+
 module _ {D : Type 0} (model : DiskModel D) where
+  -- a journal that begins at the first record of format 1 has read nothing behind its header
+  pub at-first : (content : Option (List ℕ)) (j : Standing D) → j.place ≡ 8
+      → IfTold content (λ _. (front : List ℕ) × IsPart j.header [] front × Reads model j front [])
+      → IfTold content (λ _. Reads model j header [])
+  at-first content j place ok l told =
+      let r = ok l told in
+      subst (λ (f : List ℕ). Reads model j f [])
+      (first_part j.header r.0 r.1 (sym (ap length (prefix_nil r.0)) ∙ sym r.2.place ∙ place)) r.2
+
+  -- one that begins elsewhere is of format 2
+  pub is-second : (content : Option (List ℕ)) (j : Standing D) → (j.place ≡ 8 → ⊥) → model.content j.disk ≡ content
+      → IfTold content (λ _. (front : List ℕ) × IsPart j.header [] front × Reads model j front [])
+      → IfTold content IsNoJournal
+  is-second content j not same ok l told =
+      let r = ok l told in
+      let flat = ap length (prefix_nil r.0) in
+      let is : l ≡ r.0 ++ r.2.tail = some-same (sym told ∙ sym same ∙ r.2.is_told) ∙ r.2.is
+      ∙ ap (λ (f : List ℕ). f ++ r.2.tail) (prefix_nil r.0) in
+      second_no_header j.header [] r.2.tail l (is ∙ ap (λ (f : List ℕ). f ++ r.2.tail)
+      (second_part j.header r.0 r.1 (λ size. not (r.2.place ∙ flat ∙ size))))
+
   same-history : (memory : Memory) (commits : ℕ) (cs : List Logged) (r : IsReplayed memory commits cs)
       → log_payloads cs ≡ payloads r.state.history
   same-history memory commits cs r = sym (ap payloads r.history ∙ same-payloads cs)
@@ -147,9 +174,11 @@ module _ {D : Type 0} (model : DiskModel D) where
       let r = reads l (sym first ∙ was) in
       let told : r.told ≡ l = some-same (sym r.is_told ∙ was) in
       looks.no_fewer l (subst (model.images old.disk) told r.exactly.is)
-    where
-      some-same : {x y : List ℕ} → Some x ≡ Some y → x ≡ y
-      some-same e = cc e
+
+-- what holds of the place, where one is answered
+pub damaged-at : (T : Type 0) (f : LoadFault) (at : ℕ) (P : ℕ → Type 0) → f ≡ fault.Damaged at
+    → OnDamaged {T = T} (Err f) P → P at
+damaged-at T f at P is damage = subst (λ (x : LoadFault). OnDamaged {T = T} (Err x) P) is damage
 
 pub on-damaged : {T : Type 0} {P Q : ℕ → Type 0} (r : Result T LoadFault) → ((at : ℕ) → P at → Q at) → OnDamaged r P
     → OnDamaged r Q

@@ -42,6 +42,9 @@ use store_core::{
     Store as Memory,
 };
 
+// Where the records begin in format 1.
+const FIRST_RECORD: u64 = 8;
+
 /// A store on a disk, with any number of callers. A commit that answers `DiskFault` is not made, and the store serves
 /// on. With `doubt: true` a load may still find that commit, until a later commit ends the doubt.
 #[derive(Drop)]
@@ -63,11 +66,11 @@ impl<D: Disk> Model for Store<D> {
 }
 
 impl<D: Disk> Store<D> {
-    /// Opens the store of disk `a`, which has a journal. It takes `commits` commits in all, 1 to `MOST_COMMITS`; those
+    /// Opens the store of disk `a`, which has a journal of format 1. It takes `commits` commits in all, 1 to `MOST_COMMITS`; those
     /// that are there stay, also where they are more. What the head does not read is dropped from memory. Nothing is
     /// written.
     ///
-    /// `NotAStore`: the disk has no header of a journal. `Damaged(at)`: the journal is damaged at this place, or its
+    /// `NotAStore`: the disk has no header of format 1, as one of format 2 has none. `Damaged(at)`: the journal is damaged at this place, or its
     /// commit there may not follow those before it, or has a text without a structure. `Disk`: a call of disk `a`
     /// failed, and counted a fault. `NoMemory`: memory ran out. The disks come back beside each fault.
     pub fn load(
@@ -99,6 +102,10 @@ impl<D: Disk> Store<D> {
             Ok(journal) => journal,
             Err((fault, a)) => return Err((fault, Disks { a, b })),
         };
+        if journal.place() != FIRST_RECORD {
+            let a = journal.into_disk();
+            return Err((LoadFault::NotAStore, Disks { a, b }));
+        }
         match memory_of(alloc, &mut journal, commits) {
             Ok(memory) => Ok(Store {
                 alloc,
@@ -286,6 +293,7 @@ fn memory_of<D: Disk>(
     requires some { 1 ≤ commits }
     requires few { commits ≤ MOST_COMMITS }
     requires start { journal.old.place ≡ 8 }
+    requires based { journal.old.left ≡ 0 }
     requires settled { journal.old.doubt ≡ false }
 
     ensures loaded { IfOk result (λ memory. IsLoaded D.model memory commits

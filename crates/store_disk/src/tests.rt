@@ -64,9 +64,10 @@ fn a_commit_is_on_the_disk(rt: HostRuntime) -> Result<(), Fail> {
 #[test]
 fn a_file_is_loaded_or_its_damage_told(rt: HostRuntime) -> Result<(), Fail> {
     let alloc = rt.alloc();
-    let rows: [(&[u8], Result<u32, LoadFault>); 13] = [
+    let rows: [(&[u8], Result<u32, LoadFault>); 14] = [
         (b"", Err(LoadFault::NotAStore)),
-        (b"ZCHEMDB2\0", Err(LoadFault::NotAStore)),
+        (b"ZCHEMDB2\0\0\0\0\0\0\0\0\0\0\0\0\0", Err(LoadFault::NotAStore)),
+        (b"ZCHEMDB3\0", Err(LoadFault::NotAStore)),
         (b"ZCHEMDB1\0", Ok(0)),
         (b"ZCHEMDB1", Err(LoadFault::Damaged(8))),
         (b"ZCHEMDB1[\x07\0\0\0\x01\x01\0\0\0\x01C\0", Ok(0)),

@@ -1,9 +1,9 @@
-//! Worked journals: the bytes, a file cut at each byte, and a crash after a stop at each call.
+//! Worked journals: the bytes, a file cut at each byte, a base in front, and a crash after a stop at each call.
 
-ghost use Rattle.std.specs.Prelude.{◌≡◌, true, false, IfOk};
+ghost use Rattle.std.specs.Prelude.{◌≡◌, true, false, IfOk, OnOk};
 
 use disk_edge::{Disk, FileDisk, MemDisk};
-use journal_core::{AppendFault, CreateFault, Journal, LoadFault};
+use journal_core::{AppendFault, CreateFault, Header, Journal, LoadFault, peek_header};
 use std::alloc::Global;
 use std::fs;
 use std::test::Fail;
@@ -13,6 +13,48 @@ const PAYLOAD: [u8; 9] = *b"\x01\x01\0\0\0\x01CCO";
 
 const FILE: [u8; 23] = *b"\x5aCHEMDB1\x5a\x09\0\0\0\x01\x01\0\0\0\x01CCO\0";
 
+// A file of format 2: generation 1, version 5, two base records, of `ab` and `c`, and a record of `d`.
+const SECOND: [u8; 38] =
+    *b"\x5aCHEMDB2\x01\0\0\0\x05\0\0\0\x02\0\0\0\x02\0\0\0ab\x01\0\0\0c\x5a\x01\0\0\0d\0";
+
+const SECOND_HEADER: Header = Header {
+    generation: 1,
+    base_version: 5,
+    base_count: 2,
+};
+
+const FIRST_HEADER: Header = Header {
+    generation: 0,
+    base_version: 0,
+    base_count: 0,
+};
+
+// Reads the base records, and gives how many there are.
+fn skip_base<D: Disk>(journal: &mut Journal<D>) -> Result<u64, LoadFault>
+    requires { journal.old.doubt ≡ false }
+    ensures read { OnOk result (journal.new.left ≡ 0) }
+    ensures settled { journal.new.doubt ≡ false }
+{
+    for count in 0..1000 {
+        if journal.next_base()?.is_none() {
+            return Ok(count);
+        }
+    }
+    Err(LoadFault::NoMemory)
+}
+
+// What a journal says of itself, how many base records it has, and the place behind them.
+fn base_of(alloc: Global, disk: MemDisk) -> Result<(Header, u64, u64), LoadFault> {
+    match Journal::load(alloc, disk) {
+        Ok(journal) => {
+            let mut journal = journal;
+            let count = skip_base(&mut journal)?;
+            Ok((journal.header(), count, journal.place()))
+        }
+        Err((fault, _)) => Err(fault),
+    }
+}
+
 // A journal that is read to its end, and how many payloads it has.
 fn read<D: Disk + Drop>(alloc: Global, disk: D) -> Result<(Journal<D>, u64), LoadFault>
     ensures { IfOk result (λ read. (read.0.ready ≡ true) × (read.0.doubt ≡ false)) }
@@ -21,6 +63,7 @@ fn read<D: Disk + Drop>(alloc: Global, disk: D) -> Result<(Journal<D>, u64), Loa
         Ok(journal) => journal,
         Err((fault, _)) => return Err(fault),
     };
+    skip_base(&mut journal)?;
     for count in 0..1000 {
         if journal.next()?.is_none() {
             return Ok((journal, count));
@@ -62,6 +105,43 @@ fn a_file_cut_anywhere_is_told_apart(rt: HostRuntime) -> Result<(), Fail> {
         let disk = MemDisk::of(rt.alloc(), FILE[..len].to_vec(rt.alloc())?)?;
         assert_eq!(rt; count(rt.alloc(), disk), Err(want), "{len}");
     }
+    Ok(())
+}
+
+#[test]
+fn a_base_stands_in_front_of_the_records(rt: HostRuntime) -> Result<(), Fail> {
+    let rows: [(&[u8], Option<Header>, Result<(Header, u64, u64), LoadFault>); 7] = [
+        (&FILE, Some(FIRST_HEADER), Ok((FIRST_HEADER, 0, 8))),
+        (&SECOND, Some(SECOND_HEADER), Ok((SECOND_HEADER, 2, 31))),
+        (
+            &SECOND[..30],
+            Some(SECOND_HEADER),
+            Err(LoadFault::Damaged(26)),
+        ),
+        (
+            &SECOND[..20],
+            Some(SECOND_HEADER),
+            Err(LoadFault::Damaged(20)),
+        ),
+        (&SECOND[..19], None, Err(LoadFault::NotAStore)),
+        (
+            b"\0CHEMDB2\0\0\0\0\0\0\0\0\0\0\0\0\0",
+            None,
+            Err(LoadFault::NotAStore),
+        ),
+        (
+            b"\x5aCHEMDB2\x01\0\0\0\x05\0\0\0\x02\0\0\0\0\0\0\0\0",
+            Some(SECOND_HEADER),
+            Err(LoadFault::Damaged(20)),
+        ),
+    ];
+    for (file, header, want) in rows {
+        let mut disk = MemDisk::of(rt.alloc(), file.to_vec(rt.alloc())?)?;
+        assert_eq!(rt; peek_header(&mut disk), Ok(header));
+        assert_eq!(rt; base_of(rt.alloc(), disk), want);
+    }
+    let disk = MemDisk::of(rt.alloc(), SECOND.to_vec(rt.alloc())?)?;
+    assert_eq!(rt; count(rt.alloc(), disk), Ok(1));
     Ok(())
 }
 

@@ -1,21 +1,13 @@
-use Rattle.std.proofs.Common.{◌≡◌, ◌+◌, inr, List, [], ◌∷◌, ◌++◌, length, ℕ, false, Option, Some, Ok, Vec, IfNone, sym, ◌∙◌, subst, append-nil}
-use Rattle.std.specs.declared.alloc.Global.{Global}
+use Rattle.std.proofs.Common.{◌≡◌, ◌+◌, inr, List, [], ◌∷◌, ◌++◌, length, ℕ, false, Option, IfNone, sym, ◌∙◌, subst, append-nil}
 use Rattle.disk_edge.specs.Disk.{DiskModel}
-use Rattle.journal_core.specs.Answers.{OnRecord}
 use Rattle.journal_core.specs.Journal.{Reads}
 use Rattle.journal_core.specs.Records.{IsShort}
 use Rattle.journal_core.specs.RecordLaws.{prefix_push}
 use Rattle.journal_core.specs.Standing.{Standing}
 use Rattle.commit_log.specs.Change.{IsNoChange}
 use Rattle.commit_log.specs.declared.change.Wire.{Wire}
+use Rattle.commit_log.proofs.Answered.{at_record, same_list}
 use Rattle.commit_log.proofs.log.next_commit.Goals as goal
-
-same_list : (a b : List ℕ) → Some a ≡ Some b → a ≡ b
-same_list a b is = cc is
-
-at_record : (o : Option (ℕ × Vec ℕ Global)) (r : ℕ × Vec ℕ Global) (P : ℕ → List ℕ → Type 0) → o ≡ Some r
-    → OnRecord (Ok o) P → P r.0 r.1.items
-at_record o r P is p = subst (λ (x : Option (ℕ × Vec ℕ Global)). OnRecord (Ok x) P) is p
 
 -- a journal that was not moved has read nothing more
 none_more : {D : Type 0} (model : DiskModel D) (j : Standing D) (front : List ℕ) (ps : List (List ℕ))

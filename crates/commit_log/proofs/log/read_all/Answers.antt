@@ -1,26 +1,13 @@
-use Rattle.std.proofs.Common.{Vec, ◌≡◌, ◌+◌, ℕ, List, [], ◌∷◌, ◌++◌, length, Option, Result, Ok, Err, OnErr, sym, ◌∙◌, ap, subst, append_assoc}
+use Rattle.std.proofs.Common.{Vec, ◌≡◌, ◌+◌, ℕ, List, [], ◌∷◌, ◌++◌, length, Option, sym, ◌∙◌, ap, subst, append_assoc}
 use Rattle.std.specs.declared.alloc.Global.{Global}
-use Rattle.journal_core.specs.Answers.{OnDamaged}
 use Rattle.journal_core.specs.Journal.{Reads}
 use Rattle.journal_core.specs.LookLaws.{looks_twice}
-use Rattle.journal_core.specs.declared.faults.LoadFault.{LoadFault}
-use Rattle.journal_core.specs.declared.faults.LoadFault.TheVariants.{Disk, NotAStore, Damaged, NoMemory}
 use Rattle.commit_log.specs.Change.{Change, change_of, written}
 use Rattle.commit_log.specs.Log.{Takes, changes_of, payloads}
 use Rattle.commit_log.specs.declared.change.Commit.{Commit}
+use Rattle.commit_log.proofs.Answered.{on_damaged, on_err}
 use Rattle.commit_log.proofs.Taken.{takes_more, changes_push, payloads_push}
 use Rattle.commit_log.proofs.log.read_all.Goals as goal
-
-on_damaged : (T U : Type 0) (fault : LoadFault) (P Q : ℕ → Type 0) → ((at : ℕ) → P at → Q at)
-    → OnDamaged {T = T} (Err fault) P → OnDamaged {T = U} (Err fault) Q
-on_damaged T U Disk P Q f p = tt
-on_damaged T U NotAStore P Q f p = tt
-on_damaged T U (Damaged at) P Q f p = f at p
-on_damaged T U NoMemory P Q f p = tt
-
-on_err : {T E : Type 0} (result : Result T E) (P : Type 0) → P → OnErr result P
-on_err (Ok _) P p = tt
-on_err (Err _) P p = p
 
 pub loop-commit-preserved : goal.loop-commit-preserved
 loop-commit-preserved g c =
@@ -41,6 +28,10 @@ loop-commit-preserved g c =
     ∙ ap (λ (l : List Commit). payloads (changes_of l)) (sym items) in
     record {
       settled = c.in-Ok-Some.ensures.settled;
+      header = (
+        c.in-Ok-Some.ensures.header.0 ∙ was.header.0,
+        c.in-Ok-Some.ensures.header.1 ∙ was.header.1,
+      );
       takes = subst (λ (l : List Commit). Takes c.args.journal.now.place l new.place) (sym items)
           (subst (λ (n : ℕ). Takes c.args.journal.now.place (commits ++ commit ∷ []) n) (sym place)
           (takes_more c.args.journal.now.place c.loop-commit.journal.place commits commit was.takes found.0 found.1));

@@ -9,6 +9,7 @@ invariant-loop-commit g l =
     let d = g.D.Disk.model in
     record {
       settled : l.journal.doubt ≡ false;
+      header : (l.journal.header ≡ l.fn.journal.header) × (l.journal.left ≡ l.fn.journal.left);
       takes : Takes l.fn.journal.place l.commits.items l.journal.place;
       reads : (front : List ℕ) (before : List (List ℕ)) → Reads d l.fn.journal front before
           → Reads d l.journal front (before ++ payloads (changes_of l.commits.items));

@@ -2,4 +2,4 @@ use Rattle.std.proofs.Common.{◌≡◌, false}
 use Rattle.edge_rows.proofs.tests.journals.read.Given as goal
 
 abbrev pub invariant-loop-count : goal.invariant-loop-count
-invariant-loop-count g l = l.journal.doubt ≡ false
+invariant-loop-count g l = (l.journal.doubt ≡ false) × (l.journal.left ≡ 0)

@@ -1,0 +1,46 @@
+-- What a running copy has, and what a disk has that is the complete copy or not open. For callers.
+use Rattle.std.specs.Prelude.{◌≡◌, ◌≢◌, ◌⊎◌, ◌+◌, ◌<◌, ◌^◌, ℕ, List, [], ◌∷◌, ◌++◌, length, take, Option, Some}
+use Rattle.std.specs.List.{AllByRecursion}
+use Rattle.disk_edge.specs.Disk.{DiskModel}
+use Rattle.journal_core.specs.Records.{IsShort, records, Opens}
+use Rattle.journal_core.specs.Fronts.{IsOpen, behind_gate, base_records, front_of}
+use Rattle.journal_core.specs.declared.format.TheConstants.{OPEN}
+use Rattle.journal_core.specs.declared.header.Header.{Header}
+use Rattle.compact_core.specs.Carrying.{Carrying}
+
+-- what stands behind the gate of the header
+unfoldable pub tail_of : Header → List (List ℕ) → List (List ℕ) → List ℕ
+tail_of h base commits = (behind_gate h ++ base_records base) ++ records commits
+
+-- A disk tells its content, which is these bytes behind a gate, and more; and in each image the gate is the same.
+pub record Stands (content : Option (List ℕ)) (images : List ℕ → Type 0) (gate : ℕ) (tail : List ℕ) : Type 0 where
+  pub rest : List ℕ
+  pub is_told : content ≡ Some (gate ∷ (tail ++ rest))
+  pub each : (c : List ℕ) → images c → take 1 c ≡ gate ∷ []
+
+-- The header stands behind a gate that is not open.
+pub record Started (content : Option (List ℕ)) (images : List ℕ → Type 0) (h : Header) : Type 0 where
+  pub gate : ℕ
+  pub shut : gate ≢ OPEN
+  pub stands : Stands content images gate (behind_gate h)
+
+-- The copy has these base records and these commits so far, behind a gate that is not open.
+pub record Copies {D : Type 0} (model : DiskModel D) (carry : Carrying D) (base commits : List (List ℕ))
+    : Type 0 where
+  pub gate : ℕ
+  pub shut : gate ≢ OPEN
+  pub stands : Stands (model.content carry.disk) (model.images carry.disk) gate (tail_of carry.header base commits)
+  pub place : carry.place ≡ length (tail_of carry.header base commits) + 1
+  pub bases : carry.bases ≡ length base
+  pub fit : AllByRecursion IsShort base
+  pub fit_commits : AllByRecursion IsShort commits
+
+-- the complete copy, or not open
+abbrev pub IsCopyOrShut : Header → List (List ℕ) → List (List ℕ) → List ℕ → Type 0
+IsCopyOrShut h base commits c = Opens (front_of h base) commits c ⊎ (IsOpen c → ⊥)
+
+-- A finish is in doubt: each image is the complete copy or not open, and there is one of either kind.
+pub record InDoubt (images : List ℕ → Type 0) (h : Header) (base commits : List (List ℕ)) : Type 0 where
+  pub each : (c : List ℕ) → images c → IsCopyOrShut h base commits c
+  pub some : (c : List ℕ) × images c × Opens (front_of h base) commits c
+  pub not_all : (c : List ℕ) × images c × (IsOpen c → ⊥)

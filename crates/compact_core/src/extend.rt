@@ -1,0 +1,72 @@
+//! Bytes are written behind those of a disk that stand behind one gate.
+
+ghost use Rattle.std.specs.Prelude.{◌≡◌, ◌<◌, ◌≤◌, ◌+◌, ◌^◌, ℕ, List, [], ◌∷◌, ◌++◌, take, length, Some, None, OnOk, OnErr};
+ghost use Rattle.disk_edge.specs.Disk.{IfTold, Exactly, Keeps, OnFailed, Counted, Faulted};
+ghost use Rattle.disk_edge.specs.Moments.{AtEachMoment};
+ghost use Rattle.journal_core.specs.declared.format.TheConstants.{CLOSED};
+ghost use Rattle.compact_core.specs.Copies.{Stands};
+
+use disk_edge::{Disk, DiskFail};
+use journal_core::CLOSED;
+
+/// Writes bytes at the end of what stands. It is not synced.
+pub(crate) fn extend<D: Disk>(disk: &mut D, place: u64, bytes: &[u8]) -> Result<(), DiskFail>
+    requires start { IfTold (D.model.content disk.old) (λ l. place ≤ length l) }
+    requires end { place + length bytes.now < 2 ^ 63 }
+
+    ensures ok { OnOk result ((gate : ℕ) (tail : List ℕ)
+        → Stands (D.model.content disk.old) (D.model.images disk.old) gate tail → place ≡ length tail + 1
+        → Stands (D.model.content disk.new) (D.model.images disk.new) gate (tail ++ bytes.now)) }
+    ensures reaches { OnOk result (IfTold (D.model.content disk.new)
+        (λ l. place + length bytes.now ≤ length l)) }
+    ensures long { IfTold (D.model.content disk.new) (λ l. place ≤ length l) }
+    ensures stays { OnErr result ((gate : ℕ) (tail : List ℕ)
+        → Stands (D.model.content disk.old) (D.model.images disk.old) gate tail → place ≡ length tail + 1
+        → Stands (D.model.content disk.new) (D.model.images disk.new) gate tail) }
+    ensures moments { (gate : ℕ) (tail : List ℕ)
+        → Stands (D.model.content disk.old) (D.model.images disk.old) gate tail → place ≡ length tail + 1
+        → AtEachMoment D.model disk.old disk.new (λ c. take 1 c ≡ gate ∷ []) }
+    ensures each { (gate : ℕ) (tail : List ℕ)
+        → Stands (D.model.content disk.old) (D.model.images disk.old) gate tail → place ≡ length tail + 1
+        → (c : List ℕ) → D.model.images disk.new c → take 1 c ≡ gate ∷ [] }
+    ensures told { IfTold (D.model.content disk.old)
+        (λ _. (l : List ℕ) × (D.model.content disk.new ≡ Some l)) }
+    ensures untold { D.model.content disk.old ≡ None → D.model.content disk.new ≡ None }
+    ensures cause { OnFailed result (Faulted D.model disk.old disk.new) }
+    ensures past { Keeps D.model disk.old disk.new }
+    ensures count { Counted D.model disk.old disk.new }
+{
+    disk.write_at(place, bytes)
+}
+
+/// Writes a closed gate at the end of what stands, and syncs.
+pub(crate) fn seal<D: Disk>(disk: &mut D, place: u64) -> Result<(), DiskFail>
+    requires start { IfTold (D.model.content disk.old) (λ l. place ≤ length l) }
+    requires end { place + 1 < 2 ^ 63 }
+
+    ensures ok { OnOk result ((gate : ℕ) (tail : List ℕ)
+        → Stands (D.model.content disk.old) (D.model.images disk.old) gate tail → place ≡ length tail + 1
+        → Stands (D.model.content disk.new) (D.model.images disk.new) gate (tail ++ CLOSED ∷ [])) }
+    ensures synced { OnOk result
+        (IfTold (D.model.content disk.new) (λ l. Exactly l (D.model.images disk.new))) }
+    ensures reaches { OnOk result (IfTold (D.model.content disk.new) (λ l. place < length l)) }
+    ensures long { IfTold (D.model.content disk.new) (λ l. place ≤ length l) }
+    ensures stays { OnErr result ((gate : ℕ) (tail : List ℕ)
+        → Stands (D.model.content disk.old) (D.model.images disk.old) gate tail → place ≡ length tail + 1
+        → Stands (D.model.content disk.new) (D.model.images disk.new) gate tail) }
+    ensures moments { (gate : ℕ) (tail : List ℕ)
+        → Stands (D.model.content disk.old) (D.model.images disk.old) gate tail → place ≡ length tail + 1
+        → AtEachMoment D.model disk.old disk.new (λ c. take 1 c ≡ gate ∷ []) }
+    ensures each { (gate : ℕ) (tail : List ℕ)
+        → Stands (D.model.content disk.old) (D.model.images disk.old) gate tail → place ≡ length tail + 1
+        → (c : List ℕ) → D.model.images disk.new c → take 1 c ≡ gate ∷ [] }
+    ensures told { IfTold (D.model.content disk.old)
+        (λ _. (l : List ℕ) × (D.model.content disk.new ≡ Some l)) }
+    ensures untold { D.model.content disk.old ≡ None → D.model.content disk.new ≡ None }
+    ensures cause { OnFailed result (Faulted D.model disk.old disk.new) }
+    ensures past { Keeps D.model disk.old disk.new }
+    ensures count { Counted D.model disk.old disk.new }
+{
+    extend(disk, place, &[CLOSED])?;
+    disk.sync()
+}

@@ -1,0 +1,129 @@
+//! Worked copies: the bytes, and what a crash leaves after a stop at each call.
+
+ghost use Rattle.std.specs.Prelude.{◌≡◌, IfOk};
+
+use crate::{Carry, CopyFault, FinishFault, shut};
+use disk_edge::{DiskFail, MemDisk};
+use journal_core::{Header, peek_header};
+use std::alloc::Global;
+use std::test::Fail;
+
+// Generation 1, version 5, and one base record.
+const HEADER: Header = Header {
+    generation: 1,
+    base_version: 5,
+    base_count: 1,
+};
+
+// The complete copy, of the base record `ab` and the commit `c`.
+const COPY: [u8; 33] = *b"\x5aCHEMDB2\x01\0\0\0\x05\0\0\0\x01\0\0\0\x02\0\0\0ab\x5a\x01\0\0\0c\0";
+
+// A disk that has a store of format 1, without commits.
+fn store(alloc: Global) -> Result<MemDisk, Fail> {
+    Ok(MemDisk::of(alloc, b"\x5aCHEMDB1\0".to_vec(alloc)?)?)
+}
+
+// A copy that lacks nothing but its end.
+fn copied(alloc: Global, disk: MemDisk) -> Result<Carry<MemDisk>, Fail>
+    ensures { IfOk result (λ carry. carry.bases ≡ carry.header.base_count) }
+{
+    let mut carry = match Carry::start(alloc, disk, HEADER) {
+        Ok(carry) => carry,
+        Err(_) => return Err(Fail::new("not started")),
+    };
+    if carry.put(b"ab").is_err() {
+        return Err(Fail::new("no base record"));
+    }
+    if carry.add(b"c").is_err() {
+        return Err(Fail::new("no commit"));
+    }
+    Ok(carry)
+}
+
+// A disk whose copy was finished with this many calls that pass, and whether the finish is in doubt.
+fn stopped(alloc: Global, calls: u64) -> Result<(MemDisk, bool), Fail> {
+    let mut carry = copied(alloc, store(alloc)?)?;
+    carry.stop_after(calls);
+    match carry.finish() {
+        Err(FinishFault::Sure(disk)) => Ok((disk, false)),
+        Err(FinishFault::Doubt(disk)) => Ok((disk, true)),
+        _ => Err(Fail::new("another answer")),
+    }
+}
+
+// Whether an image of a disk is open.
+fn is_open(disk: MemDisk, choice: u32) -> Result<bool, DiskFail> {
+    let mut image = disk.image(choice);
+    let header = peek_header(&mut image)?;
+    Ok(header.is_some())
+}
+
+#[test]
+fn a_copy_is_written_as_its_bytes(rt: HostRuntime) -> Result<(), Fail> {
+    for disk in [MemDisk::new(rt.alloc()), store(rt.alloc())?] {
+        let carry = copied(rt.alloc(), disk)?;
+        assert_eq!(rt; carry.place(), 32);
+        match carry.finish() {
+            Ok(journal) => {
+                assert_eq!(rt; journal.header(), HEADER);
+                assert_eq!(rt; journal.place(), 32);
+                assert_eq!(rt; journal.into_disk().bytes(), COPY.as_slice());
+            }
+            Err(_) => return Err(Fail::new("not finished")),
+        }
+    }
+    Ok(())
+}
+
+#[test]
+fn a_stopped_start_leaves_the_store_or_none(rt: HostRuntime) -> Result<(), Fail> {
+    for (calls, left) in [(0, true), (1, true), (2, true), (3, true), (4, false)] {
+        let mut disk = store(rt.alloc())?;
+        disk.stop_after(calls);
+        match Carry::start(rt.alloc(), disk, HEADER) {
+            Ok(_) => return Err(Fail::new("started")),
+            Err((fault, disk)) => {
+                assert_eq!(rt; fault, CopyFault::Sure);
+                assert_eq!(rt; is_open(disk, 1), Ok(left), "{calls}");
+            }
+        }
+    }
+    Ok(())
+}
+
+#[test]
+fn a_stopped_finish_is_there_or_not(rt: HostRuntime) -> Result<(), Fail> {
+    let rows: [(u64, bool, [bool; 4]); 4] = [
+        (0, false, [false, false, false, false]),
+        (1, false, [false, false, false, false]),
+        (2, true, [false, false, true, false]),
+        (3, true, [true, false, true, false]),
+    ];
+    for (calls, is_doubt, left) in rows {
+        for choice in 0..4 {
+            let (disk, doubt) = stopped(rt.alloc(), calls)?;
+            assert_eq!(rt; doubt, is_doubt, "{calls}");
+            assert_eq!(rt;
+                is_open(disk, choice),
+                Ok(left[choice as usize]),
+                "{calls} {choice}"
+            );
+        }
+    }
+    Ok(())
+}
+
+#[test]
+fn a_shut_disk_never_opens(rt: HostRuntime) -> Result<(), Fail> {
+    for choice in 0..6 {
+        let mut carry = copied(rt.alloc(), store(rt.alloc())?)?;
+        carry.fail_once(4);
+        let Err(FinishFault::Doubt(disk)) = carry.finish() else {
+            return Err(Fail::new("another answer"));
+        };
+        let mut disk = disk;
+        assert_eq!(rt; shut(&mut disk), Ok(()));
+        assert_eq!(rt; is_open(disk, choice), Ok(false), "{choice}");
+    }
+    Ok(())
+}

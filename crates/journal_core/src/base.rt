@@ -1,0 +1,40 @@
+//! The base record at a place of a journal.
+
+ghost use Rattle.std.specs.Prelude.{◌<◌, ◌≤◌, ◌+◌, ◌^◌, drop, length, IfOk, IfSome};
+ghost use Rattle.disk_edge.specs.Disk.{IfTold, OnFailed, Faulted};
+ghost use Rattle.journal_core.specs.Found.{IsBase, Holds};
+ghost use Rattle.journal_core.specs.Looks.{Looks};
+ghost use Rattle.journal_core.specs.Records.{IsShort};
+
+use crate::format::LONGEST_PAYLOAD;
+use crate::window::Window;
+use disk_edge::{Disk, DiskFail};
+use std::alloc::Global;
+
+/// The payload of the base record at a place. `None` where its length or payload is missing, or the length is 0 or too
+/// great.
+pub(crate) fn base_at<D: Disk>(
+    alloc: Global,
+    disk: &mut D,
+    window: &mut Window,
+    place: u64,
+) -> Result<Option<Vec<u8>>, DiskFail>
+    requires holds { Holds (D.model.content disk.old) window.old }
+    ensures found { IfOk result (λ found. IfTold (D.model.content disk.old)
+        (λ l. IsBase found (drop place l))) }
+    ensures ends { IfOk result (λ found. IfSome found (λ payload. (1 ≤ length payload.items)
+        × IsShort payload.items × (place + 4 + length payload.items < 2 ^ 64))) }
+    ensures holds { Holds (D.model.content disk.new) window.new }
+    ensures looks { Looks D.model disk.old disk.new }
+    ensures failed { OnFailed result (Faulted D.model disk.old disk.new) }
+{
+    let len = window.measure(disk)?;
+    if len < place || len - place < 4 {
+        return Ok(None);
+    }
+    let size = window.number_at(disk, place, len)? as usize;
+    if size == 0 || size > LONGEST_PAYLOAD || len - place - 4 < size as u64 {
+        return Ok(None);
+    }
+    Ok(Some(window.copy_at(alloc, disk, place + 4, size, len)?))
+}
