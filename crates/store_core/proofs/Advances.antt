@@ -54,7 +54,7 @@ pub why-full : KeptIsRead → StatesStay → (store : StoreTerm) (s : State) (c 
 why-full read stay store s c o h e allowed full = (
   now-is read stay store s c o h e
       ∙ allowed,
-  omega (arith, full, h.version, h.limit, h.sound.history.version),
+  omega (arith, full, h.version, h.limit),
 )
 
 -- both as answers of a service

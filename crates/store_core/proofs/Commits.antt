@@ -203,7 +203,7 @@ commit-stands laws store new s c k h m may =
       version = omega (arith, m.version, h.version, later);
       limit = m.limit ∙ h.limit;
       most = omega (arith, m.limit, h.most);
-      within = omega (arith, m.version, h.version, h.sound.history.version, room, h.limit, h.most);
+      within = omega (arith, m.version, h.version, room, h.limit, h.most);
       pins = h.pins ∙ sym m.pins;
       kept = subst (λ v. Lists (s.kept ++ record { id = id_of told; version = v } ∷ []) new.kept.chains) at
           (lists-more store.kept.chains new.kept.chains (id_of told) k m.chains m.more below s.kept h.kept);
@@ -255,5 +255,5 @@ pub may-add : StatesStay → (store : StoreTerm) (s : State) (c : Change) → St
 may-add stay store s c h sound allowed room = (
   valid-change stay s c h.sound.history sound allowed,
   allowed,
-  omega (arith, room, h.version, h.limit, h.sound.history.version),
+  omega (arith, room, h.version, h.limit),
 )

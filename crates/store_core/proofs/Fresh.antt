@@ -26,9 +26,17 @@ no-state v id status e = never status (sym (ap (λ m. get m id) (none-taken v) �
 none-in : {X : Type 0} (x : X) → Contains [] x → ⊥
 none-in x c = omega (arith, c.1)
 
+no-entries : (es : List (ℕ × Status)) → length es ≡ 0 → es ≡ []
+no-entries [] e = refl
+no-entries (x ∷ xs) e = absurd (omega (arith, e))
+
 empty-sound : (commits : ℕ) → IsSound (empty commits)
 empty-sound commits = record {
-  history = record { base = refl; version = refl; allowed = tt };
+  history = record {
+    base = no-entries (entries none) (sym (len-entries none) ∙ len-empty nat_cmp Status);
+    states = λ id status e. absurd (no-state 0 id status e);
+    allowed = tt;
+  };
   doubt = tt;
   slots = tt;
   pins = λ v c. absurd (none-in v c);

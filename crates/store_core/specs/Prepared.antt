@@ -1,7 +1,7 @@
 -- A change that a store in memory is ready to make, and why it refuses one. For callers.
-use Rattle.std.specs.Prelude.{◌≡◌, ◌≤◌, length, option_map, Some}
+use Rattle.std.specs.Prelude.{◌≡◌, ◌≤◌, option_map, Some}
 use Rattle.std.specs.Arc.{arc_value}
-use Rattle.store_machine.specs.History.{IsAllowed, id_of, refusal}
+use Rattle.store_machine.specs.History.{IsAllowed, head, id_of, refusal}
 use Rattle.store_machine.specs.Machine.{MayAdd, now}
 use Rattle.store_machine.specs.declared.machine.Change.{Change}
 use Rattle.store_machine.specs.declared.machine.Reply.TheVariants as reply
@@ -19,7 +19,7 @@ abbrev pub IsWhy : State → Change → CommitFault → Type 0
 IsWhy s c commit.Known = refusal (now s) c ≡ Some reply.Known
 IsWhy s c commit.Absent = refusal (now s) c ≡ Some reply.Absent
 IsWhy s c commit.Withdrawn = refusal (now s) c ≡ Some reply.Withdrawn
-IsWhy s c commit.Full = IsAllowed (now s) c × (s.limit ≤ length s.history.commits)
+IsWhy s c commit.Full = IsAllowed (now s) c × (s.limit ≤ head s.history)
 IsWhy s c (commit.DiskFault doubt) = ⊥
 IsWhy s c commit.Worn = ⊥
 IsWhy s c commit.NoMemory = Unit {0}

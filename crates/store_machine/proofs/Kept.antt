@@ -1,4 +1,4 @@
--- Each row of the table keeps that what is needed is kept, and that no pin is of a version to come.
+-- Each row of the table keeps that what is needed is kept, and that each pin is of a version that the history has.
 use Rattle.std.proofs.Common.{refl, ◌≡◌, ◌+◌, ◌++◌, ◌≤◌, ◌⊎◌, ◌∙◌, ap, arith, Bool, Contains, filter, inl, inr, le_of_eq, List, [], ◌∷◌, map, Some, subst, sym, ℕ}
 use Rattle.std.specs.FinMap.{get}
 use Rattle.std.proofs.lemmas.List.{map-append}
@@ -33,7 +33,7 @@ commit-needed : (s : State) (c : Change) (version : ℕ) → version ≡ head s.
     → Contains (s.kept ++ record { id = id_of c; version = version } ∷ []) entry
 commit-needed s c version e past keeps entry at status (inl used) state made =
     let before : get (snapshot s.history at) entry.id ≡ Some status = ap (λ m. get m entry.id)
-    (sym (snapshots-stay s.history (c ∷ []) at (past at used))) ∙ state in
+    (sym (snapshots-stay s.history (c ∷ []) at (past at used).1)) ∙ state in
     Contains-append_left s.kept _ entry (pinned-kept s at entry status keeps
     (Contains-append_left (versions s.pins) (head s.history ∷ []) at used) before made)
 commit-needed s c version e past keeps entry at status (inr here) state made =
@@ -54,7 +54,8 @@ commit-kept s c past keeps entry n =
     (contains-last (head (grown s.history (c ∷ []))) n.at (versions s.pins) n.used) n.state n.made
 
 pub commit-past : (s : State) (c : Change) → PinsThePast s → PinsThePast (committed s c)
-commit-past s c past v held = omega (arith, past v held, head-grown s.history (c ∷ []))
+commit-past s c past v held =
+    let was = past v held in (was.0, omega (arith, was.1, head-grown s.history (c ∷ [])))
 
 -- other pins, all of versions in use before
 pub pins-kept : (s : State) (ps : List Held) → ((v : ℕ) → Contains (versions ps) v → Contains (in_use s) v)
@@ -66,9 +67,11 @@ pins-kept s ps less keeps entry n =
       | inr h ↦ subst (Contains (in_use s)) h (Contains-push (versions s.pins) (head s.history))
     ]) n.state n.made
 
-in_use-past : (s : State) (v : ℕ) → PinsThePast s → Contains (in_use s) v → v ≤ head s.history
+-- each version in use is one that the history has
+pub in_use-past : (s : State) (v : ℕ) → PinsThePast s → Contains (in_use s) v
+    → (s.history.version ≤ v) × (v ≤ head s.history)
 in_use-past s v past c = elim (contains-last (head s.history) v (versions s.pins) c)
-    [ inl u ↦ past v u | inr h ↦ le_of_eq (sym h) ]
+    [ inl u ↦ past v u | inr h ↦ (omega (arith, h), le_of_eq (sym h)) ]
 
 pub pins-past : (s : State) (ps : List Held) → ((v : ℕ) → Contains (versions ps) v → Contains (in_use s) v)
     → PinsThePast s → PinsThePast (record s { pins = ps })

@@ -7,6 +7,7 @@ use Rattle.store_machine.specs.Kept.{in_use}
 use Rattle.store_machine.specs.Laws.{IsSound, KeptIsRead}
 use Rattle.store_machine.specs.Made.{IsKept}
 use Rattle.store_machine.specs.declared.machine.State.{State}
+use Rattle.store_machine.proofs.Kept.{in_use-past}
 use Rattle.store_machine.proofs.Made.{Since, made-before, snapshot-made}
 
 later : (v version : ℕ) → (version ≤ v → ⊥) → v < version
@@ -34,12 +35,13 @@ pub read : (s : State) (v id : ℕ) (now : Option Status) → get (snapshot s.hi
     (λ status. IsKept s id (made_at status) × (made_at status ≤ v)
     × ((version : ℕ) → IsKept s id version → version ≤ v → version ≤ made_at status))
 read s v id None e sound serves used = λ version kept. later v version
-    (λ le. not-none _ version e (made-before s.history v id version (sound.made serves _ kept) le))
+    (λ le. not-none _ version e (made-before s.history v id version sound.history (sound.made serves _ kept) le))
 read s v id (Some status) e sound serves used = (
   sound.kept serves (record { id = id; version = made_at status })
       (record { at = v; used = used; status = status; state = e; made = refl }),
-  (snapshot-made s.history v id status sound.history e).1,
-  λ version kept le. same-made _ status version e (made-before s.history v id version (sound.made serves _ kept) le),
+  (snapshot-made s.history v id status sound.history (in_use-past s v sound.pins used).0 e).1,
+  λ version kept le. same-made _ status version e
+      (made-before s.history v id version sound.history (sound.made serves _ kept) le),
 )
 
 pub kept-is-read : KeptIsRead

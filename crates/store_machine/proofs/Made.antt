@@ -8,7 +8,7 @@ use Rattle.std.proofs.lemmas.Bool.{cond-true}
 use Rattle.store_machine.specs.History.{AreAllowed, IsHistory, IsId, IsValid, Snapshot, after_change, after_changes, base_states, id_of, made_at, snapshot}
 use Rattle.store_machine.specs.declared.machine.Status.{Status}
 use Rattle.store_machine.specs.declared.machine.Status.TheVariants.{Live, Withdrawn}
-use Rattle.store_machine.specs.Made.{IsMade}
+use Rattle.store_machine.specs.Made.{HasMade, IsMade}
 use Rattle.store_machine.specs.Laws.{StatesStay}
 use Rattle.store_machine.specs.declared.machine.Change.{Change}
 use Rattle.store_machine.specs.declared.machine.History.{History}
@@ -117,28 +117,28 @@ pub made-pushed : (after : ℕ) (cs : List Change) (c : Change) (version : ℕ) 
 made-pushed after [] c version e = inl (refl, omega (arith, e))
 made-pushed after (x ∷ xs) c version e = inr (made-pushed (after + 1) xs c version (omega (arith, e)))
 
-base-none : (h : History) → IsHistory h → (id : ℕ) → get (base_states h) id ≡ None
-base-none h good id = ap (λ base. get (from_entries {R = nat_cmp} base) id) good.base ∙ get-empty nat_cmp id
-
 -- the state of a snapshot was made, at or before its version
-pub snapshot-made : (h : History) (v id : ℕ) (status : Status) → IsHistory h → get (snapshot h v) id ≡ Some status
-    → IsMade h.version h.commits id (made_at status) × (made_at status ≤ v)
-snapshot-made h v id status good e =
+pub snapshot-made : (h : History) (v id : ℕ) (status : Status) → IsHistory h → h.version ≤ v
+    → get (snapshot h v) id ≡ Some status → HasMade h id (made_at status) × (made_at status ≤ v)
+snapshot-made h v id status good from e =
     elim (state-made h.version (take (v - h.version) h.commits) (base_states h) id status e) [
       | inl m ↦
           let p = taken-made (v - h.version) h.version h.commits id (made_at status) m in
-          (p.0, omega (arith, p.1, good.version))
-      | inr there ↦ absurd (never (sym (base-none h good id) ∙ there))
+          (inl p.0, omega (arith, p.1, from))
+      | inr there ↦ let until = (good.states id status there).until
+          in (inr (status, there, refl), omega (arith, until, from))
     ]
-  where
-    never : None ≡ Some status → ⊥
-    never q = cc
 
 -- what was made at or before a version is no later than the state there
-pub made-before : (h : History) (v id version : ℕ) → IsMade h.version h.commits id version → version ≤ v
+pub made-before : (h : History) (v id version : ℕ) → IsHistory h → HasMade h id version → version ≤ v
     → Since version (get (snapshot h v) id)
-made-before h v id version m le = made-since h.version (take (v - h.version) h.commits) (base_states h) id version
+made-before h v id version good (inl m) le =
+    made-since h.version (take (v - h.version) h.commits) (base_states h) id version
     (made-taken (v - h.version) h.version h.commits id version m (omega (arith, le)))
+made-before h v id version good (inr (status, there, at)) le =
+    let until = (good.states id status there).until in
+    later-since h.version (take (v - h.version) h.commits) (base_states h) id version (omega (arith, until, at))
+    (status, there, omega (arith, at))
 
 earlier : (n m after : ℕ) (cs : List Change) (states : Snapshot) (id : ℕ) (status : Status) → n ≤ m
     → made_at status ≤ after + n
@@ -155,13 +155,23 @@ earlier (suc n) (suc m) after [] states id status le made e = e
 earlier (suc n) (suc m) after (c ∷ cs) states id status le made e =
     earlier n m (after + 1) cs (after_change (after + 1) c states) id status (omega (arith, le)) (omega (arith, made)) e
 
+-- it was made by no more commits than the snapshot has
+past-made : (h : History) (v id : ℕ) (status : Status) → IsHistory h → get (snapshot h v) id ≡ Some status
+    → made_at status - h.version ≤ v - h.version
+past-made h v id status good e =
+    elim (state-made h.version (take (v - h.version) h.commits) (base_states h) id status e) [
+      | inl m ↦
+          let p = taken-made (v - h.version) h.version h.commits id (made_at status) m in
+          omega (arith, p.1)
+      | inr there ↦ let until = (good.states id status there).until in omega (arith, until)
+    ]
+
 -- a state is that of the snapshot at which it was made
 pub state-then : (h : History) (v id : ℕ) (status : Status) → IsHistory h → get (snapshot h v) id ≡ Some status
     → get (snapshot h (made_at status)) id ≡ Some status
 state-then h v id status good e =
-    let le = (snapshot-made h v id status good e).1 in
     earlier (made_at status - h.version) (v - h.version) h.version h.commits (base_states h) id status
-    (omega (arith, le)) (omega arith) e
+    (past-made h v id status good e) (omega arith) e
 
 valid-id : (c : Change) → IsValid c → IsId (id_of c)
 valid-id (Register id format text) valid = valid.0
@@ -178,15 +188,28 @@ made-valid after (c ∷ cs) states id version all (inr later) = made-valid (afte
 -- an identifier that has a state is in range
 pub state-valid : (h : History) (v id : ℕ) (status : Status) → IsHistory h → get (snapshot h v) id ≡ Some status
     → IsId id
-state-valid h v id status good e = made-valid h.version h.commits (base_states h) id (made_at status) good.allowed
-    (snapshot-made h v id status good e).0
+state-valid h v id status good e =
+    elim (state-made h.version (take (v - h.version) h.commits) (base_states h) id status e) [
+      | inl m ↦ made-valid h.version h.commits (base_states h) id (made_at status) good.allowed
+          (taken-made (v - h.version) h.version h.commits id (made_at status) m).0
+      | inr there ↦ (good.states id status there).in_range
+    ]
+
+-- its version is at least 1
+state-since : (h : History) (v id : ℕ) (status : Status) → IsHistory h → get (snapshot h v) id ≡ Some status
+    → 1 ≤ made_at status
+state-since h v id status good e =
+    elim (state-made h.version (take (v - h.version) h.commits) (base_states h) id status e) [
+      | inl m ↦
+          let late = made-after h.version (take (v - h.version) h.commits) id (made_at status) m in
+          omega (arith, late)
+      | inr there ↦ (good.states id status there).since
+    ]
 
 pub states-stay : StatesStay
-states-stay h v id status good e =
-    let made = snapshot-made h v id status good e in (
-      state-valid h v id status good e,
-      let late = made-after h.version h.commits id (made_at status) made.0
-          in omega (arith, late),
-      made.1,
-      state-then h v id status good e,
-    )
+states-stay h v id status good e = (
+  state-valid h v id status good e,
+  state-since h v id status good e,
+  λ from. (snapshot-made h v id status good from e).1,
+  state-then h v id status good e,
+)

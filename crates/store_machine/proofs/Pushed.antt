@@ -52,7 +52,7 @@ pub IsHistory-pushed : (h : History) (c : Change) → IsHistory h → IsValid c 
     → IsHistory (grown h (c ∷ []))
 IsHistory-pushed h c good valid allowed = record {
   base = good.base;
-  version = good.version;
+  states = good.states;
   allowed = AreAllowed-pushed h.version h.commits c (base_states h) good.allowed valid
       (subst (λ states. IsAllowed states c) (snapshot-head h) allowed);
 }

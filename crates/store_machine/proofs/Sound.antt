@@ -1,11 +1,11 @@
 -- Every state of a run is sound.
 use Rattle.std.proofs.Common.{◌≡◌, ◌+◌, ◌++◌, ◌<◌, ◌==◌, arith, Bool, Contains, false, filter, inl, inr, List, [], ◌∷◌, map, MatchOption, None, not, refl, Some, subst, sym, true, ℕ}
 use Rattle.std.proofs.lemmas.Bool.{cond_both, true≢false}
-use Rattle.store_machine.specs.History.{IsHistory, head, id_of}
+use Rattle.store_machine.specs.History.{IsHistory, grown, head, id_of}
 use Rattle.store_machine.specs.Kept.{IsNeeded, in_use}
 use Rattle.store_machine.specs.Laws.{IsSound, RunsStaySound}
 use Rattle.store_machine.specs.Machine.{AreNeeded, Becomes, CommitGives, CrashGives, DoubtAfter, EndsDoubt, Gives, MayAdd, OpenGives, PinGives, PruneGives, Recovers, SlotsApart, UnpinGives, committed, pin_in, pinned, unpinned}
-use Rattle.store_machine.specs.Made.{IsMade, KeepsMade}
+use Rattle.store_machine.specs.Made.{HasMade, KeepsMade}
 use Rattle.store_machine.specs.declared.machine.Change.{Change}
 use Rattle.store_machine.specs.declared.machine.Entry.{Entry}
 use Rattle.store_machine.specs.declared.machine.Event.{Event}
@@ -15,7 +15,7 @@ use Rattle.store_machine.specs.declared.machine.History.{History}
 use Rattle.store_machine.specs.declared.machine.Reply.{Reply}
 use Rattle.store_machine.specs.declared.machine.Reply.TheVariants.{Absent, Committed, Crashed, DiskFault, Full, Known, NoMemory, NoPin, Opened, Pinned, Pruned, Unpinned, Withdrawn}
 use Rattle.store_machine.specs.declared.machine.State.{State}
-use Rattle.store_machine.proofs.Kept.{commit-kept, commit-past, filtered-in_use, pins-kept, pins-past, pushed-in_use}
+use Rattle.store_machine.proofs.Kept.{commit-kept, commit-past, filtered-in_use, in_use-past, pins-kept, pins-past, pushed-in_use}
 use Rattle.store_machine.proofs.Made.{made-appended, made-pushed, snapshot-made}
 use Rattle.store_machine.proofs.Members.{contains-last}
 use Rattle.store_machine.proofs.Pins.{fetch-same, look-same, stats-same}
@@ -35,18 +35,22 @@ slots-pushed p (q ∷ qs) h less free =
     let parts = pin_in-parts p.slot q qs free in
     (h.0, pin_in-free q.slot p qs (other-way q.slot p.slot parts.0) h.1, slots-pushed p qs h.2 less parts.1)
 
+grown-made : (h : History) (c : Change) (id version : ℕ) → HasMade h id version → HasMade (grown h (c ∷ [])) id version
+grown-made h c id version (inl m) = inl (made-appended h.version h.commits (c ∷ []) id version m)
+grown-made h c id version (inr based) = inr based
+
 commit-made : (s : State) (c : Change) → KeepsMade s → KeepsMade (committed s c)
 commit-made s c made entry k =
     elim (contains-last (record { id = id_of c; version = head s.history + 1 }) entry s.kept k) [
-      | inl old ↦ made-appended s.history.version s.history.commits (c ∷ []) entry.id entry.version (made entry old)
-      | inr new ↦ subst (λ (x : Entry). IsMade s.history.version (s.history.commits ++ c ∷ []) x.id x.version) new
-          (made-pushed s.history.version s.history.commits c (head s.history + 1) (omega arith))
+      | inl old ↦ grown-made s.history c entry.id entry.version (made entry old)
+      | inr new ↦ subst (λ (x : Entry). HasMade (grown s.history (c ∷ [])) x.id x.version) new
+          (inl (made-pushed s.history.version s.history.commits c (head s.history + 1) (omega arith)))
     ]
 
-needed-made : (h : History) (versions : List ℕ) (entry : Entry) → IsHistory h → IsNeeded h versions entry
-    → IsMade h.version h.commits entry.id entry.version
-needed-made h versions entry good n = subst (IsMade h.version h.commits entry.id) n.made
-    (snapshot-made h n.at entry.id n.status good n.state).0
+needed-made : (s : State) (entry : Entry) → IsSound s → IsNeeded s.history (in_use s) entry
+    → HasMade s.history entry.id entry.version
+needed-made s entry h n = subst (HasMade s.history entry.id) n.made
+    (snapshot-made s.history n.at entry.id n.status h.history (in_use-past s n.at h.pins n.used).0 n.state).0
 
 -- nothing of a sound state turns on the counts of faults
 becomes-sound : (s s' : State) → Becomes s s' → IsSound s → IsSound s'
@@ -131,7 +135,7 @@ kept-sound s kept serves needed h = record {
   slots = h.slots;
   pins = h.pins;
   kept = λ _ entry n. (needed.exactly entry).1 n;
-  made = λ _ entry k. needed-made s.history (in_use s) entry h.history ((needed.exactly entry).0 k);
+  made = λ _ entry k. needed-made s entry h ((needed.exactly entry).0 k);
 }
 
 prune-sound : (s : State) (r : Reply) (s' : State) → PruneGives s r s' → IsSound s → IsSound s'

@@ -53,7 +53,7 @@ look-told : (s : State) (id : ℕ) (r : Reply) (s' : State) (v : ℕ) → IsHist
 look-told s id (Looked (Some status)) s' v h g e =
     let then = states-stay s.history (head s.history) id status h (sym g.0) in
     let same : head s'.history ≡ head s.history = ap (λ (x : State). head x.history) g.1 in
-    let old : made_at status ≤ head s.history = then.2 in
+    let old : made_at status ≤ head s.history = then.2 (omega arith) in
     omega (arith, e, old, same)
 look-told s id (Committed version) s' v h g e = absurd g
 look-told s id (Pinned slot version) s' v h g e = absurd g

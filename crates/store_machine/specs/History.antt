@@ -97,8 +97,21 @@ AreAllowed version [] states = Unit {0}
 AreAllowed version (c ∷ cs) states = IsValid c × IsAllowed states c
     × AreAllowed (version + 1) cs (after_change (version + 1) c states)
 
--- until a later format there is no base
+-- the text of a live state has a structure
+abbrev pub HasText : Status → Type 0
+HasText (Live version format text) = IsText format text
+HasText (Withdrawn version) = Unit {0}
+
+-- a state that a base at a version may have of an identifier
+pub record IsBased (at id : ℕ) (status : Status) : Type 0 where
+  pub in_range : IsId id
+  pub since : 1 ≤ made_at status
+  pub until : made_at status ≤ at
+  pub text : HasText status
+
+-- the base has each identifier once, ascending, with a state that it may have; each commit is valid, and allowed after
+-- those before it
 pub record IsHistory (h : History) : Type 0 where
-  pub base : h.base ≡ []
-  pub version : h.version ≡ 0
+  pub base : entries (base_states h) ≡ h.base
+  pub states : (id : ℕ) (status : Status) → get (base_states h) id ≡ Some status → IsBased h.version id status
   pub allowed : AreAllowed h.version h.commits (base_states h)

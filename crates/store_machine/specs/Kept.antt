@@ -22,6 +22,6 @@ in_use s = map (λ p. p.version) s.pins ++ head s.history ∷ []
 abbrev pub KeepsNeeded : State → Type 0
 KeepsNeeded s = (entry : Entry) → IsNeeded s.history (in_use s) entry → Contains s.kept entry
 
--- no pin is of a version that is yet to come
+-- each pin is of a version that the history has
 abbrev pub PinsThePast : State → Type 0
-PinsThePast s = (v : ℕ) → Contains (map (λ p. p.version) s.pins) v → v ≤ head s.history
+PinsThePast s = (v : ℕ) → Contains (map (λ p. p.version) s.pins) v → (s.history.version ≤ v) × (v ≤ head s.history)

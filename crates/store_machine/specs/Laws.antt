@@ -29,10 +29,11 @@ abbrev pub CommitsChange : Type 0
 CommitsChange = (h : History) (c : Change) → snapshot (grown h (c ∷ [])) (head h + 1)
     ≡ after_change (head h + 1) c (snapshot h (head h))
 
--- a state was the same at the version that made it, and is of an identifier in range
+-- a state was the same at the version that made it, which is no later than the snapshot's where the base is not, and is
+-- of an identifier in range
 abbrev pub StatesStay : Type 0
 StatesStay = (h : History) (v id : ℕ) (status : Status) → IsHistory h → get (snapshot h v) id ≡ Some status
-    → IsId id × (1 ≤ made_at status) × (made_at status ≤ v) × (get (snapshot h (made_at status)) id ≡ Some status)
+    → IsId id × (1 ≤ made_at status) × (h.version ≤ v → made_at status ≤ v) × (get (snapshot h (made_at status)) id ≡ Some status)
 
 -- what is found is one list
 abbrev pub AnswersAreOne : Type 0

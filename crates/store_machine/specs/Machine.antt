@@ -50,9 +50,9 @@ abbrev pub IsSure : Reply → Type 0
 IsSure (DiskFault doubt) = ⊥
 IsSure _ = Unit {0}
 
--- Commit. It is allowed, and the history has fewer commits than the limit
+-- Commit. It is allowed, and the head is below the limit
 abbrev pub MayAdd : State → Change → Type 0
-MayAdd s c = IsValid c × IsAllowed (now s) c × (length s.history.commits < s.limit)
+MayAdd s c = IsValid c × IsAllowed (now s) c × (head s.history < s.limit)
 
 abbrev pub committed : State → Change → State
 committed s c = record s {
@@ -70,7 +70,7 @@ abbrev pub CommitGives : State → Change → Reply → State → Type 0
 CommitGives s c Known s' = (refusal (now s) c ≡ Some Known) × Becomes s s'
 CommitGives s c Absent s' = (refusal (now s) c ≡ Some Absent) × Becomes s s'
 CommitGives s c Withdrawn s' = (refusal (now s) c ≡ Some Withdrawn) × Becomes s s'
-CommitGives s c Full s' = IsAllowed (now s) c × (s.limit ≤ length s.history.commits) × Becomes s s'
+CommitGives s c Full s' = IsAllowed (now s) c × (s.limit ≤ head s.history) × Becomes s s'
 CommitGives s c (DiskFault doubt) s' = MayAdd s c × SomeRose s.faults s'.faults × DoubtAfter s c doubt s'
 CommitGives s c NoMemory s' = EndsDoubt s s'
 CommitGives s c (Committed version) s' = MayAdd s c × (version ≡ head s.history + 1) × Becomes (committed s c) s'
@@ -172,8 +172,8 @@ CrashGives s _ s' = ⊥
 
 -- Open
 abbrev pub OpenGives : State → Reply → State → Type 0
-OpenGives s (Opened commits) s' =
-    (s.pins ≡ []) × (s.doubt ≡ None) × AreNeeded s s'.kept × (commits ≡ length s.history.commits)
+OpenGives s (Opened version) s' =
+    (s.pins ≡ []) × (s.doubt ≡ None) × AreNeeded s s'.kept × (version ≡ head s.history)
     × NoneFell s.faults s'.faults × Becomes (record s { kept = s'.kept; serves = true }) s'
 OpenGives s _ s' = ⊥
 

@@ -1,18 +1,25 @@
 -- Which entries a history has made, and how a store that keeps some of them reads a snapshot.
-use Rattle.std.specs.Prelude.{◌≡◌, ◌+◌, ◌<◌, ◌≤◌, ◌⊎◌, Contains, List, [], ◌∷◌, MatchOption, ℕ}
+use Rattle.std.specs.Prelude.{◌≡◌, ◌+◌, ◌<◌, ◌≤◌, ◌⊎◌, Contains, List, [], ◌∷◌, MatchOption, Some, ℕ}
 use Rattle.std.specs.FinMap.{get}
-use Rattle.store_machine.specs.History.{id_of, made_at, snapshot}
+use Rattle.store_machine.specs.History.{base_states, id_of, made_at, snapshot}
 use Rattle.store_machine.specs.declared.machine.Change.{Change}
 use Rattle.store_machine.specs.declared.machine.Entry.{Entry}
+use Rattle.store_machine.specs.declared.machine.History.{History}
 use Rattle.store_machine.specs.declared.machine.State.{State}
+use Rattle.store_machine.specs.declared.machine.Status.{Status}
 
 -- the commit of this version is of this identifier. The changes begin after a version
 abbrev pub IsMade : ℕ → List Change → ℕ → ℕ → Type 0
 IsMade after [] id version = ⊥
 IsMade after (c ∷ cs) id version = ((id_of c ≡ id) × (after + 1 ≡ version)) ⊎ IsMade (after + 1) cs id version
 
+-- a commit of the history made the entry, or its base has it
+abbrev pub HasMade : History → ℕ → ℕ → Type 0
+HasMade h id version = IsMade h.version h.commits id version
+    ⊎ ((status : Status) × (get (base_states h) id ≡ Some status) × (made_at status ≡ version))
+
 abbrev pub KeepsMade : State → Type 0
-KeepsMade s = (entry : Entry) → Contains s.kept entry → IsMade s.history.version s.history.commits entry.id entry.version
+KeepsMade s = (entry : Entry) → Contains s.kept entry → HasMade s.history entry.id entry.version
 
 abbrev pub IsKept : State → ℕ → ℕ → Type 0
 IsKept s id version = Contains s.kept (record { id = id; version = version })

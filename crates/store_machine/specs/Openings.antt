@@ -1,5 +1,6 @@
 -- What an opening leaves, and that a crash and an opening lead there.
-use Rattle.std.specs.Prelude.{◌≡◌, List, [], ◌∷◌, length, None, true, ℕ}
+use Rattle.std.specs.Prelude.{◌≡◌, List, [], ◌∷◌, None, true, ℕ}
+use Rattle.store_machine.specs.History.{head}
 use Rattle.store_machine.specs.Machine.{AreNeeded, Recovers, crashed}
 use Rattle.store_machine.specs.Runs.{IsRun}
 use Rattle.store_machine.specs.declared.machine.Event.TheVariants.{Crash, Open}
@@ -24,7 +25,7 @@ reopening s t at begin end =
     ∷ record {
       owner = 0;
       event = Open;
-      reply = Opened (length t.history.commits);
+      reply = Opened (head t.history);
       before = crashed s t.history;
       after = t;
       begin = begin;

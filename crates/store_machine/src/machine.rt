@@ -35,7 +35,7 @@ pub enum Status {
 }
 
 /// What was committed: the commits after a base, and what each identifier was at the base's version. Identifiers stand
-/// in the base once, ascending. Until a later format a base is empty and its version is 0.
+/// in the base once, ascending.
 pub struct History {
     pub base: LinkedList<(u32, Status)>,
     pub version: u32,
@@ -140,7 +140,7 @@ pub enum Reply {
     },
     Crashed,
     Opened {
-        commits: u32,
+        version: u32,
     },
     NoMemory,
 }

@@ -79,4 +79,4 @@ returns-clause-few c =
     let was = c.self.invariant in
     let may = c.requires.may_add (alone was.0) (subst (λ (t : StoreTerm). StandsFor t was.0) c.self.view_is was.1) in
     let room = may.2 in
-    omega (arith, room, was.1.version, was.1.limit, was.1.most, was.1.sound.history.version)
+    omega (arith, room, was.1.version, was.1.limit, was.1.most)
