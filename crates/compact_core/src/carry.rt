@@ -84,7 +84,8 @@ impl<D: Disk> Carry<D> {
         ensures begins { IfOk result (λ carry. (carry.header ≡ header)
             × (carry.place ≡ 20) × (carry.bases ≡ 0)) }
         ensures refused { IfErr result (λ e. IfTold (D.model.content disk)
-            (λ _. IsShut (D.model.images e.1) ⊎ ((c : List ℕ) → D.model.images disk c → D.model.images e.1 c))) }
+            (λ _. IsShut (D.model.images e.1)
+            ⊎ ((c : List ℕ) → D.model.images disk c → D.model.images e.1 c))) }
         ensures not_open { IfErr result (λ e. IfTold (D.model.content disk)
             (λ _. (c : List ℕ) → D.model.images disk c → ¬ IsOpen c
             → (k : List ℕ) × D.model.images e.1 k × (¬ IsOpen k))) }
