@@ -44,7 +44,8 @@ numbers e = refl
 pub one_entry : (d e : Entry) → IsInRange d → IsInRange e → written d ≡ written e → d ≡ e
 one_entry d e p q is =
     let behind = behind_is (kind d.state) (kind e.state) _ _ is in
-    let ids = same_number d.id e.id (to_le_bytes w32 d.version ++ tail d.state) (to_le_bytes w32 e.version ++ tail e.state)
+    let ids = same_number d.id e.id (to_le_bytes w32 d.version ++ tail d.state)
+    (to_le_bytes w32 e.version ++ tail e.state)
     (omega (arith, p.1)) (omega (arith, q.1)) (sym (numbers d) ∙ behind ∙ numbers e) in
     let versions = same_number d.version e.version (tail d.state) (tail e.state) p.2 q.2 ids.1 in
     let states = same_state d.state e.state (first_is (kind d.state) (kind e.state) _ _ is) versions.1 in

@@ -1,5 +1,5 @@
--- An entry of a base, and how it is written: a byte for its kind, the identifier and the version in four bytes each, the
--- lowest first, and for a live one a byte for the format and the text. For callers.
+-- An entry of a base, and how it is written: a byte for its kind, the identifier and the version in four bytes each,
+-- the lowest first, and for a live one a byte for the format and the text. For callers.
 use Rattle.std.specs.Prelude.{◌≡◌, ◌≤◌, ◌<◌, ◌^◌, ℕ, List, [], ◌∷◌, ◌++◌}
 use Rattle.std.specs.Int.{to_le_bytes, w32}
 use Rattle.commit_log.specs.Change.{format_byte}

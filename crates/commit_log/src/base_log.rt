@@ -17,8 +17,8 @@ use journal_core::{Journal, LoadFault};
 use std::alloc::Global;
 
 /// The entries of all base records that are left, each with the place of its record. Their identifiers ascend, and each
-/// version is 1 to that of the base. The commits may then be read. After a fault, want of memory too, the journal stands
-/// at some base record, and is loaded anew.
+/// version is 1 to that of the base. The commits may then be read. After a fault, want of memory too, the journal
+/// stands at some base record, and is loaded anew.
 pub fn read_base<D: Disk>(
     alloc: Global,
     journal: &mut Journal<D>,

@@ -73,9 +73,9 @@ impl<D: Disk> Model for Carry<D> {
 }
 
 impl<D: Disk> Carry<D> {
-    /// Starts a copy on a disk, whatever it has. At `Ok` the disk is shut, and the copy is its header, 20 bytes. At every
-    /// moment each image that is open was one at entry. After a refusal the disk, which comes back, is shut, or each
-    /// image at entry is still one.
+    /// Starts a copy on a disk, whatever it has. At `Ok` the disk is shut, and the copy is its header, 20 bytes. At
+    /// every moment each image that is open was one at entry. After a refusal the disk, which comes back, is shut, or
+    /// each image at entry is still one.
     pub fn start(alloc: Global, disk: D, header: Header) -> Result<Carry<D>, (CopyFault, D)>
         ensures ok { IfOk result (λ carry. IfTold (D.model.content disk)
             (λ _. Copies D.model carry [] [])) }
@@ -83,10 +83,12 @@ impl<D: Disk> Carry<D> {
             (λ carry. IfTold (D.model.content disk) (λ _. IsShut (D.model.images carry.disk))) }
         ensures begins { IfOk result (λ carry. (carry.header ≡ header)
             × (carry.place ≡ 20) × (carry.bases ≡ 0)) }
-        ensures refused { IfErr result (λ e. IfTold (D.model.content disk) (λ _. IsShut (D.model.images e.1)
+        ensures refused { IfErr result (λ e. IfTold (D.model.content disk)
+            (λ _. IsShut (D.model.images e.1)
             ⊎ ((c : List ℕ) → D.model.images disk c → D.model.images e.1 c))) }
-        ensures not_open { IfErr result (λ e. IfTold (D.model.content disk) (λ _. (c : List ℕ) → D.model.images disk c
-            → ¬ IsOpen c → (k : List ℕ) × D.model.images e.1 k × (¬ IsOpen k))) }
+        ensures not_open { IfErr result (λ e. IfTold (D.model.content disk)
+            (λ _. (c : List ℕ) → D.model.images disk c → ¬ IsOpen c
+            → (k : List ℕ) × D.model.images e.1 k × (¬ IsOpen k))) }
         ensures no_new { IfTold (D.model.content disk) (λ _. (c : List ℕ)
             → D.model.images (disk_after_start result) c → IsOpen c → D.model.images disk c) }
         ensures moments { IfTold (D.model.content disk)
@@ -94,7 +96,8 @@ impl<D: Disk> Carry<D> {
             (λ c. IsOpen c → D.model.images disk c)) }
         ensures told { IfTold (D.model.content disk)
             (λ _. (l : List ℕ) × (D.model.content (disk_after_start result) ≡ Some l)) }
-        ensures untold { D.model.content disk ≡ None → D.model.content (disk_after_start result) ≡ None }
+        ensures untold { D.model.content disk ≡ None
+            → D.model.content (disk_after_start result) ≡ None }
         ensures cause { IfErr result
             (λ e. e.0 ≡ CopyFault.Sure → Faulted D.model disk e.1) }
         ensures past { Keeps D.model disk (disk_after_start result) }
@@ -136,7 +139,8 @@ impl<D: Disk> Carry<D> {
         ensures stood { OnErr result ((self.new.place ≡ self.old.place)
             × (self.new.bases ≡ self.old.bases)) }
         ensures header { self.new.header ≡ self.old.header }
-        ensures untold { D.model.content self.old.disk ≡ None → D.model.content self.new.disk ≡ None }
+        ensures untold { D.model.content self.old.disk ≡ None
+            → D.model.content self.new.disk ≡ None }
         ensures cause { OnFailed result (Faulted D.model self.old.disk self.new.disk) }
         ensures past { Keeps D.model self.old.disk self.new.disk }
         ensures count { Counted D.model self.old.disk self.new.disk }
@@ -170,7 +174,8 @@ impl<D: Disk> Carry<D> {
         ensures stood { OnErr result (self.new.place ≡ self.old.place) }
         ensures bases { self.new.bases ≡ self.old.bases }
         ensures header { self.new.header ≡ self.old.header }
-        ensures untold { D.model.content self.old.disk ≡ None → D.model.content self.new.disk ≡ None }
+        ensures untold { D.model.content self.old.disk ≡ None
+            → D.model.content self.new.disk ≡ None }
         ensures cause { OnFailed result (Faulted D.model self.old.disk self.new.disk) }
         ensures past { Keeps D.model self.old.disk self.new.disk }
         ensures count { Counted D.model self.old.disk self.new.disk }
@@ -275,7 +280,8 @@ fn begin<D: Disk>(alloc: Global, disk: &mut D, header: Header) -> Result<(), Dis
     ensures ok { OnOk result (IfTold (D.model.content disk.old)
         (λ _. Started (D.model.content disk.new) (D.model.images disk.new) header)) }
     ensures long { OnOk result (IfTold (D.model.content disk.new) (λ l. 20 ≤ length l)) }
-    ensures refused { OnErr result (IfTold (D.model.content disk.old) (λ _. IsShut (D.model.images disk.new)
+    ensures refused { OnErr result (IfTold (D.model.content disk.old)
+        (λ _. IsShut (D.model.images disk.new)
         ⊎ ((c : List ℕ) → D.model.images disk.old c → D.model.images disk.new c))) }
     ensures no_new { IfTold (D.model.content disk.old)
         (λ _. (c : List ℕ) → D.model.images disk.new c → IsOpen c → D.model.images disk.old c) }

@@ -13,8 +13,10 @@ use journal_core::{CLOSED, OPEN};
 /// Closes the gate of a disk's header where it is open, and syncs. At `Ok` the disk is shut: no image of it is open. At
 /// every moment each image that is open was one at entry. A refusal keeps each image that there was.
 pub fn shut<D: Disk>(disk: &mut D) -> Result<(), DiskFail>
-    ensures ok { OnOk result (IfTold (D.model.content disk.old) (λ _. IsShut (D.model.images disk.new))) }
-    ensures stays { OnErr result ((c : List ℕ) → D.model.images disk.old c → D.model.images disk.new c) }
+    ensures ok { OnOk result
+        (IfTold (D.model.content disk.old) (λ _. IsShut (D.model.images disk.new))) }
+    ensures stays { OnErr result
+        ((c : List ℕ) → D.model.images disk.old c → D.model.images disk.new c) }
     ensures no_new { IfTold (D.model.content disk.old)
         (λ _. (c : List ℕ) → D.model.images disk.new c → IsOpen c → D.model.images disk.old c) }
     ensures moments { IfTold (D.model.content disk.old)
@@ -36,7 +38,8 @@ pub(crate) fn close<D: Disk>(disk: &mut D, fill: bool) -> Result<(), DiskFail>
         (IfTold (D.model.content disk.new) (λ l. Exactly l (D.model.images disk.new))) }
     ensures closed { OnOk result (IfTold (D.model.content disk.new)
         (λ l. (take 1 l ≢ OPEN ∷ []) × (fill ≡ true → 1 ≤ length l))) }
-    ensures stays { OnErr result ((c : List ℕ) → D.model.images disk.old c → D.model.images disk.new c) }
+    ensures stays { OnErr result
+        ((c : List ℕ) → D.model.images disk.old c → D.model.images disk.new c) }
     ensures no_new { IfTold (D.model.content disk.old)
         (λ _. (c : List ℕ) → D.model.images disk.new c → IsOpen c → D.model.images disk.old c) }
     ensures moments { IfTold (D.model.content disk.old)

@@ -80,12 +80,14 @@ one_front h k base base' front front' commits commits' bytes f e o r = elim f.is
     }
     | inr two ↦ absurd (formats_differ (take 8 bytes)
         (first_eight commits o.gate o.rest bytes (at_first front commits bytes o one.0))
-        (second_eight k _ bytes e.range (shape k base' commits' r.gate r.rest bytes (at_second k base' front' commits' bytes r two))))
+        (second_eight k _ bytes e.range (shape k base' commits' r.gate r.rest bytes
+        (at_second k base' front' commits' bytes r two))))
   ]
   | inr two ↦ elim e.is [
     | inl one ↦ absurd (formats_differ (take 8 bytes)
         (first_eight commits' r.gate r.rest bytes (at_first front' commits' bytes r one.0))
-        (second_eight h _ bytes f.range (shape h base commits o.gate o.rest bytes (at_second h base front commits bytes o two))))
+        (second_eight h _ bytes f.range (shape h base commits o.gate o.rest bytes
+        (at_second h base front commits bytes o two))))
     | inr also ↦
         let p = shape h base commits o.gate o.rest bytes (at_second h base front commits bytes o two) in
         let q = shape k base' commits' r.gate r.rest bytes (at_second k base' front' commits' bytes r also) in

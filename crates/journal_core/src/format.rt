@@ -1,8 +1,8 @@
 //! The bytes of a journal's file: what stands in front, and then records, each a gate, the payload's length in four
 //! bytes, the lowest first, and the payload. Behind an open record stands the next gate.
 //!
-//! In front stands in format 1 `5a` and `CHEMDB1`. In format 2 it is `5a` and `CHEMDB2`, the three numbers of the header
-//! in four bytes each, the lowest first, and the base records, each a length and a payload.
+//! In front stands in format 1 `5a` and `CHEMDB1`. In format 2 it is `5a` and `CHEMDB2`, the three numbers of the
+//! header in four bytes each, the lowest first, and the base records, each a length and a payload.
 
 use crate::header::Header;
 

@@ -66,13 +66,14 @@ impl<D: Disk> Model for Store<D> {
 }
 
 impl<D: Disk> Store<D> {
-    /// Opens the store of disk `a`, which has a journal of format 1. It takes `commits` commits in all, 1 to `MOST_COMMITS`; those
-    /// that are there stay, also where they are more. What the head does not read is dropped from memory. Nothing is
-    /// written.
+    /// Opens the store of disk `a`, which has a journal of format 1. It takes `commits` commits in all, 1 to
+    /// `MOST_COMMITS`; those that are there stay, also where they are more. What the head does not read is dropped from
+    /// memory. Nothing is written.
     ///
-    /// `NotAStore`: the disk has no header of format 1, as one of format 2 has none. `Damaged(at)`: the journal is damaged at this place, or its
-    /// commit there may not follow those before it, or has a text without a structure. `Disk`: a call of disk `a`
-    /// failed, and counted a fault. `NoMemory`: memory ran out. The disks come back beside each fault.
+    /// `NotAStore`: the disk has no header of format 1; a disk in format 2 is refused so. `Damaged(at)`: the journal is
+    /// damaged at this place, or its commit there may not follow those before it, or has a text without a structure.
+    /// `Disk`: a call of disk `a` failed, and counted a fault. `NoMemory`: memory ran out. The disks come back beside
+    /// each fault.
     pub fn load(
         alloc: Global,
         disks: Disks<D>,

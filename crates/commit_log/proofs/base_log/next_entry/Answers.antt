@@ -74,7 +74,8 @@ returns-in-Ok-Some-decode_base-clause-damaged g c base q =
     let some = rw c.in-Ok-Some-decode_base.field-0-is at c.in-Ok-Some-decode_base.ensures.some in
     let is : p ≡ written entry = sym c.deref.ensures.value ∙ some.1 in
     let not : Follows h.base_version c.args.last entry → ⊥ = λ f. absurd (none
-    (sym (c.follows.ensures.no (subst (λ (v : ℕ). Follows v c.args.last entry) (sym version) f)) ∙ c.if-follows.false)) in (
+    (sym (c.follows.ensures.no (subst (λ (v : ℕ). Follows v c.args.last entry) (sym version) f))
+    ∙ c.if-follows.false)) in (
       facts.0 ∙ q.place ∙ ap length (prefix_nil (front_of h base)),
       λ l told. inr (unread d c.next_base.new.self h c.args.last base p l facts.2 facts.1
           (none_other h.base_version c.args.last p entry fits some.0 is not) (found.looks.narrows.same ∙ told)

@@ -38,7 +38,8 @@ loop-at-preserved g c =
       takes = subst (λ (l : List (ℕ × BaseEntry)). TakesBase h.base_version c.args.journal.now.place l new.place)
           (sym items)
           (subst (λ (n : ℕ). TakesBase h.base_version c.args.journal.now.place (found ++ one ∷ []) n) (sym place)
-          (takes_more h.base_version c.args.journal.now.place c.loop-at.journal.place found one was.takes facts.0 follows
+          (takes_more h.base_version c.args.journal.now.place c.loop-at.journal.place found one was.takes facts.0
+          follows
           facts.2));
       last = sym (last_push 0 (entries_of found) e)
           ∙ ap (λ (es : List Entry). last_id 0 es) (sym (entries_push found one))
@@ -96,7 +97,12 @@ returns-in-Err-clause-damaged g c =
     record {
       entries = entries;
       are = was.takes.entries;
-      few = omega (arith, was.count, c.in-Err.ensures.some_left, length-map c.loop-at.found.items (λ (o : ℕ × BaseEntry). entry_of o.1));
+      few = omega (
+        arith,
+        was.count,
+        c.in-Err.ensures.some_left,
+        length-map c.loop-at.found.items (λ (o : ℕ × BaseEntry). entry_of o.1),
+      );
       place = here.0 ∙ ap (λ (k : Header). length (front_of k base)) was.header;
       damage = subst (λ (n : ℕ). BreaksBase (front_of h base) l ⊎ UnreadBase h.base_version n (front_of h base) l)
           was.last (subst (λ (k : Header). BreaksBase (front_of k base) l

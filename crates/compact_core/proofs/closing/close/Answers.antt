@@ -7,7 +7,8 @@ use Rattle.compact_core.proofs.closing.close.Goals as goal
 
 pub returns-clause-synced : goal.returns-clause-synced
 returns-clause-synced g c =
-    subst (λ (k : Option (List ℕ)). OnOk c.sync.result (IfTold k (λ l. Exactly l (g.D.Disk.model.images c.sync.new.self))))
+    subst (λ (k : Option (List ℕ)). OnOk c.sync.result
+    (IfTold k (λ l. Exactly l (g.D.Disk.model.images c.sync.new.self))))
     (sym c.sync.ensures.content) c.sync.ensures.synced
 
 pub returns-clause-no_new : goal.returns-clause-no_new

@@ -9,7 +9,8 @@ use Rattle.compact_core.proofs.extend.seal.Goals as goal
 
 pub returns-clause-synced : goal.returns-clause-synced
 returns-clause-synced g c =
-    subst (λ (k : Option (List ℕ)). OnOk c.sync.result (IfTold k (λ l. Exactly l (g.D.Disk.model.images c.sync.new.self))))
+    subst (λ (k : Option (List ℕ)). OnOk c.sync.result
+    (IfTold k (λ l. Exactly l (g.D.Disk.model.images c.sync.new.self))))
     (sym c.sync.ensures.content) c.sync.ensures.synced
 
 pub returns-clause-stays : goal.returns-clause-stays
@@ -20,7 +21,8 @@ returns-clause-stays g c =
     always_err c.sync.result (λ gate tail stands at.
     stands_still (d.content mid) (d.content new) (d.images mid) (d.images new) gate tail c.sync.ensures.content
     c.sync.ensures.no_new
-    (stands_less (d.content mid) (d.images mid) gate tail (CLOSED ∷ []) (c.in_ok-extend.ensures.ok gate tail stands at)))
+    (stands_less (d.content mid) (d.images mid) gate tail (CLOSED ∷ [])
+    (c.in_ok-extend.ensures.ok gate tail stands at)))
 
 pub returns-clause-each : goal.returns-clause-each
 returns-clause-each g c gate tail stands at x i =
