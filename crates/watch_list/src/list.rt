@@ -59,7 +59,8 @@ impl Watches {
         }
     }
 
-    /// One watch more: a pattern under a new name, with a list of hits at a version. What was reserved may be used up.
+    /// One watch more: a pattern under a new name, with a list of hits at a version. Fails only for want of memory; then
+    /// the watches are as they were. What was reserved may be used up.
     pub fn add(
         &mut self,
         name: &[u8],
@@ -92,7 +93,7 @@ impl Watches {
     }
 
     /// Takes the memory of the next `note`: for one hit more in each list, and for matching. Fails only for want of
-    /// memory. The watches stay as they were in either case.
+    /// memory. The watches are as they were in either case.
     pub fn reserve(&mut self) -> Result<(), AllocError>
         ensures watches { self.new.watches ≡ self.old.watches }
         ensures reserved { OnOk result (self.new.reserved ≡ true) }
@@ -101,8 +102,8 @@ impl Watches {
         reserve_each(&mut self.entries)
     }
 
-    /// Brings each watch whose list is of the version before over the commit of a version, from 1 on. The others stay.
-    /// It takes no memory, and may use up what was reserved.
+    /// Brings each watch that is at the version before over the commit of a version, from 1 on, by one match. The others
+    /// stay. Takes no memory, and may use up what was reserved.
     pub fn note(&mut self, version: u32, change: &Change)
         requires some { 1 ≤ version }
         requires reserved { self.old.reserved ≡ true }
