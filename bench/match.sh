@@ -1,8 +1,9 @@
 #!/usr/bin/env bash
 # Registers some drug-like structures and hydrocarbons in memory and searches them many times for one pattern each; prints
 # nanoseconds for each pair of a pattern and a structure, more than the same script takes without the searches, and how
-# many structures are hits. Then come hopeless patterns, of more places than atoms in many parts that no bond joins, and at
-# last patterns with groups, in structures of many components that are alike.
+# many structures are hits. Then come hopeless patterns, of more places than atoms in many parts that no bond joins, then
+# patterns with groups, in structures of many components that are alike, and at last dense patterns, which have many paths:
+# their time is that of a search, and no structure is tried.
 # Usage: bench/match.sh [SEARCHES]
 set -euo pipefail
 cd "$(dirname "${BASH_SOURCE[0]}")/.."
@@ -69,6 +70,23 @@ GROUPED = [
 ]
 
 
+def dense(atoms, near):
+    """Each atom is joined to those that stand so near in the text, by ring numbers but for the next one."""
+    free, held, text = list(range(100)), {}, []
+    for place in range(atoms):
+        closed = [held.pop((other, place)) for other in range(max(0, place - near), place - 1)]
+        free = sorted(free + closed)
+        opened = []
+        for other in range(place + 2, min(atoms, place + near + 1)):
+            held[place, other] = free.pop(0)
+            opened.append(held[place, other])
+        text.append("C" + "".join(str(n) if n < 10 else f"%{n}" for n in closed + opened))
+    return "".join(text)
+
+
+DENSE = [dense(20, 19), dense(256, 5), dense(141, 8), dense(76, 13)]
+
+
 def seconds(structures, pattern, searches):
     script = "".join(f"register {i + 1} {text}\n" for i, text in enumerate(structures)) + f"search {pattern}\n" * searches
     start = time.monotonic()
@@ -92,4 +110,6 @@ for pattern in GROUPS:
     measure(copies, pattern, searches)
 for pattern, structures in HOPELESS + GROUPED:
     measure(structures * 10, pattern, max(2, searches // 10))
+for pattern in DENSE:
+    measure(["C"], pattern, max(2, searches // 50))
 PY

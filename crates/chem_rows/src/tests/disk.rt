@@ -93,6 +93,61 @@ fn bytes_that_are_run(rt: HostRuntime) -> Result<(), Fail> {
     Ok(())
 }
 
+#[test]
+fn stores_by_another_hand(rt: HostRuntime) -> Result<(), Fail> {
+    let alloc = rt.alloc();
+    // the bytes, the status, the place of damage, and what `show` and `stats` are answered
+    let absent = "refused absent\nstats version 0 live 0 withdrawn 0 kept 0 pins 0\n";
+    let rows: [(&[u8], u8, u64, &str); 11] = [
+        // a text that has no structure, and one with a line feed
+        (b"ZCHEMDB1Z\x09\0\0\0\x01\x01\0\0\0\x01CC(\0", 7, 8, ""),
+        (b"ZCHEMDB1Z\x09\0\0\0\x01\x01\0\0\0\x01C\nC\0", 7, 8, ""),
+        // the greatest length
+        (
+            b"ZCHEMDB1Z\xff\xff\xff\xff\x01\x01\0\0\0\x01CCO\0",
+            7,
+            8,
+            "",
+        ),
+        // identifiers of 0 and of 1,000,000,000, and the greatest
+        (b"ZCHEMDB1Z\x07\0\0\0\x01\0\0\0\0\x01C\0", 7, 8, ""),
+        (b"ZCHEMDB1Z\x07\0\0\0\x01\0\xca\x9a\x3b\x01C\0", 7, 8, ""),
+        (
+            b"ZCHEMDB1Z\x07\0\0\0\x01\xff\xc9\x9a\x3b\x01C\0",
+            0,
+            0,
+            "refused absent\nstats version 1 live 1 withdrawn 0 kept 1 pins 0\n",
+        ),
+        // a withdrawal with a text, one of what is absent, and a registration of what was withdrawn
+        (b"ZCHEMDB1Z\x06\0\0\0\x03\x01\0\0\0\x01\0", 7, 8, ""),
+        (b"ZCHEMDB1Z\x05\0\0\0\x03\x01\0\0\0\0", 7, 8, ""),
+        (
+            b"ZCHEMDB1Z\x07\0\0\0\x01\x01\0\0\0\x01CZ\x05\0\0\0\x03\x01\0\0\0Z\x07\0\0\0\x01\x01\0\0\0\x01C\0",
+            7,
+            30,
+            "",
+        ),
+        // a record behind a closed gate
+        (b"ZCHEMDB1\0Z\x07\0\0\0\x01\x01\0\0\0\x01C\0", 0, 0, absent),
+        // a molfile whose last line has no line feed is shown with one
+        (
+            b"ZCHEMDB1Z\x37\0\0\0\x01\x01\0\0\0\x02\n\n\n  1  0\n                               C\nM  END\0",
+            0,
+            0,
+            "record 1 version 1 molfile 6\n\n\n\n  1  0\n                               C\nM  END\n\
+            stats version 1 live 1 withdrawn 0 kept 1 pins 0\n",
+        ),
+    ];
+    for (bytes, status, place, put) in rows {
+        let answer = run(&rt, alloc, disk_of(alloc, bytes)?, "show 1\nstats\n")?;
+        assert_eq!(rt; answer.status, status, "at {bytes:?}");
+        assert_eq!(rt; answer.place, place, "at {bytes:?}");
+        assert_eq!(rt; put_by(&answer), put.as_bytes(), "at {bytes:?}");
+        assert_eq!(rt; answer.a.bytes(), bytes);
+    }
+    Ok(())
+}
+
 // How many registrations a script of three had, by its replies.
 fn acknowledged(replies: &[u8]) -> usize {
     let mut count = 0usize;

@@ -1,7 +1,7 @@
 //! Lines that are refused, and those behind them.
 ghost use Rattle.std.specs.Prelude.{◌<◌};
 
-use super::{Ways, call, check, put_by};
+use super::{PLAIN, Ways, call, check, put_by};
 use std::alloc::{AllocError, Global};
 use std::test::Fail;
 
@@ -140,5 +140,78 @@ fn long_lines_and_bytes_that_are_no_text(rt: HostRuntime) -> Result<(), Fail> {
         assert_eq!(rt; answer.status, 0, "by {piece}");
         assert_eq!(rt; put_by(&answer), replies.as_bytes(), "by {piece}");
     }
+    Ok(())
+}
+
+// So many openings, a middle, and as many closings behind words.
+fn push_nest(
+    script: &mut Vec<u8>,
+    words: &[u8],
+    opening: &[u8],
+    closing: &[u8],
+    count: u32,
+) -> Result<(), AllocError> {
+    script.extend_from_slice(words)?;
+    for _ in 0..count {
+        script.extend_from_slice(opening)?;
+    }
+    script.push(b'C')?;
+    for _ in 0..count {
+        script.extend_from_slice(closing)?;
+    }
+    script.push(b'\n')?;
+    Ok(())
+}
+
+#[test]
+fn lines_that_nest_as_deep_as_they_are_long(rt: HostRuntime) -> Result<(), Fail> {
+    let alloc = rt.alloc();
+    // the words before, what opens and closes a level, how many there are, and the reply
+    let rows: [(&[u8], &[u8], &[u8], u32, &str); 11] = [
+        (
+            b"register 1 ",
+            b"C(",
+            b")",
+            21_841,
+            "refused smiles limit\n",
+        ),
+        (b"register 1 ", b"C(", b")", 257, "refused smiles limit\n"),
+        (b"register 1 ", b"C(", b")", 256, "ok 1\n"),
+        (
+            b"register 2 ",
+            b"C(",
+            b"",
+            32_762,
+            "refused smiles syntax\n",
+        ),
+        (b"search ", b"[$(", b")]", 819, "refused smarts limit\n"),
+        (b"search ", b"[$(", b")]", 9, "refused smarts limit\n"),
+        (
+            b"search ",
+            b"[$(",
+            b")]",
+            8,
+            "hit 1\nend at 1 tried 1 hits 1\n",
+        ),
+        (b"search ", b"[$(", b"", 1_365, "refused smarts syntax\n"),
+        (b"search ", b"C(", b")", 1_365, "refused smarts limit\n"),
+        (
+            b"search ",
+            b"C(",
+            b")",
+            255,
+            "hit 1\nend at 1 tried 1 hits 1\n",
+        ),
+        (b"search ", b"(", b"", 4_095, "refused smarts syntax\n"),
+    ];
+    let mut script = Vec::new(alloc);
+    let mut replies = String::new(alloc);
+    for (words, opening, closing, count, reply) in rows {
+        push_nest(&mut script, words, opening, closing, count)?;
+        replies.push_str(reply)?;
+    }
+    let answer = call(&rt, alloc, &["mem"], &script, PLAIN)?;
+    assert_eq!(rt; answer.status, 0);
+    assert_eq!(rt; put_by(&answer), replies.as_bytes());
     Ok(())
 }
