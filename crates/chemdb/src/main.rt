@@ -44,6 +44,12 @@ options
 Options, none for init, stand before or behind the command, as --page 3 or --page=3.
 example: printf 'register 1 CCO\\nsearch CO\\n' | chemdb mem --page=64";
 
+/// How the words were served: the overall status, and the place of damage in the file, 0 where there is none.
+struct Ended {
+    status: u8,
+    place: u64,
+}
+
 fn main(rt: HostRuntime) -> ExitCode {
     ExitCode::from(run(&rt))
 }
@@ -65,7 +71,7 @@ where
     }
 }
 
-/// The same for these words. Where they ask for nothing, it says why.
+/// The same for these words. Where they ask for nothing it says why, and where the file is damaged, from which byte on.
 fn run_words<R: AllocGlobal + Files<File = File> + Input + Print + Eprint + Threads + Wait + Sync>(
     rt: &R,
     words: &[String],
@@ -78,14 +84,19 @@ where
     for word in words {
         texts.push(word.as_str())?;
     }
-    let status = serve(rt, alloc, &texts)?;
-    if status == status::USAGE {
-        match word_fault(alloc, &texts) {
+    let ended = serve(rt, alloc, &texts)?;
+    match ended.status {
+        status::USAGE => match word_fault(alloc, &texts) {
             Ok(Some(reason)) => explain(rt, reason.as_str()),
             _ => explain(rt, "the words ask for nothing"),
+        },
+        status::DAMAGED => {
+            let place = ended.place;
+            let _ = eprintln!(rt; "chemdb: the file is damaged from byte {place} on");
         }
+        _ => {}
     }
-    Ok(status)
+    Ok(ended.status)
 }
 
 /// The ends are the scripts that the words name, and their replies, or else standard input and output. The disk is the
@@ -94,13 +105,18 @@ fn serve<R: AllocGlobal + Files<File = File> + Input + Print + Threads + Wait + 
     rt: &R,
     alloc: Global,
     words: &[&str],
-) -> Result<u8, AllocError>
+) -> Result<Ended, AllocError>
 where
     R::Reader: Send,
 {
     let plan = match plan(alloc, words) {
         Ok(plan) => plan,
-        Err(PlanFault::Usage) => return Ok(status::USAGE),
+        Err(PlanFault::Usage) => {
+            return Ok(Ended {
+                status: status::USAGE,
+                place: 0,
+            });
+        }
         Err(PlanFault::NoMemory) => return Err(AllocError),
     };
     let a = match plan.file {
@@ -111,11 +127,19 @@ where
     match plan.command {
         Verb::Serve => {
             let ends = script_ends(rt, alloc, &plan.scripts)?;
-            Ok(chemdb(rt, alloc, words, a, b, ends).status)
+            let outcome = chemdb(rt, alloc, words, a, b, ends);
+            Ok(Ended {
+                status: outcome.status,
+                place: outcome.place,
+            })
         }
         _ => {
             let ends = ends(rt, alloc, plan.ends)?;
-            Ok(chemdb(rt, alloc, words, a, b, ends).status)
+            let outcome = chemdb(rt, alloc, words, a, b, ends);
+            Ok(Ended {
+                status: outcome.status,
+                place: outcome.place,
+            })
         }
     }
 }
