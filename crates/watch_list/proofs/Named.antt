@@ -58,7 +58,8 @@ found-first name e es named =
     record {
       within = omega arith;
       watch = λ d. ap (λ b. cond b (Some e.watch) (watch_of name (watches_in es))) named;
-      filled_is = λ apart version hits f d is. ap (λ b. cond b (record e.watch { version = version; hits = hits }) e.watch
+      filled_is = λ apart version hits f d is. ap (λ b.
+          cond b (record e.watch { version = version; hits = hits }) e.watch
           ∷ map (filled name version hits) (watches_in es)) named
           ∙ ap (λ ws. record e.watch { version = version; hits = hits } ∷ ws)
           (others-unfilled name version hits es (λ i d lt is. others-behind e es apart i d lt (same ∙ is)))

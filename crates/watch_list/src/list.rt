@@ -59,8 +59,8 @@ impl Watches {
         }
     }
 
-    /// One watch more: a pattern under a new name, with a list of hits at a version. Fails only for want of memory; then
-    /// the watches are as they were. What was reserved may be used up.
+    /// One watch more: a pattern under a new name, with a list of hits at a version. Fails only for want of memory;
+    /// then the watches are as they were. What was reserved may be used up.
     pub fn add(
         &mut self,
         name: &[u8],
@@ -102,8 +102,8 @@ impl Watches {
         reserve_each(&mut self.entries)
     }
 
-    /// Brings each watch that is at the version before over the commit of a version, from 1 on, by one match. The others
-    /// stay. Takes no memory, and may use up what was reserved.
+    /// Brings each watch that is at the version before over the commit of a version, from 1 on, by one match. The
+    /// others stay. Takes no memory, and may use up what was reserved.
     pub fn note(&mut self, version: u32, change: &Change)
         requires some { 1 ≤ version }
         requires reserved { self.old.reserved ≡ true }

@@ -25,7 +25,8 @@ pub returns-then-is_hit-clause-ascending : goal.returns-then-is_hit-clause-ascen
 returns-then-is_hit-clause-ascending c =
     let xs = c.args.hits.now.items in
     let gap : IsGap xs c.args.id c.in-Err.place =
-    looked-up xs _ c.args.id (Err c.in-Err.place) c.requires.ascending c.deref.ensures.value c.in-Err.ensures.position in
+    looked-up xs _ c.args.id (Err c.in-Err.place) c.requires.ascending c.deref.ensures.value
+    c.in-Err.ensures.position in
     subst IsStrictlyIncreasing
     (sym (put-in c.insert.result _ xs _ (c.insert.ensures.succeeds c.requires.room) c.insert.ensures.items))
     (insert-ascends xs c.args.id c.in-Err.place c.requires.ascending gap)
@@ -41,5 +42,6 @@ pub returns-else-is_hit-clause-own : goal.returns-else-is_hit-clause-own
 returns-else-is_hit-clause-own c =
     let xs = c.args.hits.now.items in
     let gap : IsGap xs c.args.id c.in-Err.place =
-    looked-up xs _ c.args.id (Err c.in-Err.place) c.requires.ascending c.deref.ensures.value c.in-Err.ensures.position in
+    looked-up xs _ c.args.id (Err c.in-Err.place) c.requires.ascending c.deref.ensures.value
+    c.in-Err.ensures.position in
     (λ has. absurd (gap-lacks xs c.args.id c.in-Err.place gap has), λ is. absurd (cc))

@@ -8,8 +8,8 @@ pub note-requires-clause-room : goal.note-requires-clause-room
 note-requires-clause-room c =
     let l = c.loop-entry in
     let d = c.entry-item.result in
-    subst HasRoom (sym (upto-here (IsNoted c.args.version c.args.change.now) l.entry-index c.args.entries.now l.entries d
-    l.invariant)) (c.requires.room l.entry-index d c.loop-entry-test.true)
+    subst HasRoom (sym (upto-here (IsNoted c.args.version c.args.change.now) l.entry-index c.args.entries.now l.entries
+    d l.invariant)) (c.requires.room l.entry-index d c.loop-entry-test.true)
 
 pub loop-entry-preserved : goal.loop-entry-preserved
 loop-entry-preserved c =

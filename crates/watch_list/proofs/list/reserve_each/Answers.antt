@@ -15,8 +15,8 @@ loop-entry-preserved c =
     let l = c.loop-entry in
     let within : l.entry-index < length l.entries = omega arith in
     record {
-      watches = watches-set l.entries l.entry-index c.reserve.new.self c.entry-item.result within c.reserve.ensures.watch
-          ∙ l.invariant.watches;
+      watches = watches-set l.entries l.entry-index c.reserve.new.self c.entry-item.result within
+          c.reserve.ensures.watch ∙ l.invariant.watches;
       room = AllWithin-more_set l.entries l.entry-index c.reserve.new.self within HasRoom l.invariant.room
           c.in_ok-reserve.ensures.room;
     }

@@ -7,4 +7,5 @@ pub invariant_of-self-2 : goal.invariant_of-self-2
 invariant_of-self-2 c =
     one-pushed c.args.name.now c.self.inside.entries.items c.push.new.self.items c.args.self.now.watches c.new.result
     (ap (λ (w : WatchesTerm). w.watches) c.self.view_is) c.in_ok-push.ensures.items
-    (ap (λ (w : Watch). w.name) c.new.ensures ∙ c.in_ok-name.ensures.items) c.requires.few c.requires.new c.self.invariant
+    (ap (λ (w : Watch). w.name) c.new.ensures ∙ c.in_ok-name.ensures.items) c.requires.few c.requires.new
+    c.self.invariant
