@@ -1,5 +1,5 @@
 -- What is taken and kept of the records of an SD file.
-use Rattle.std.proofs.Common.{◌≡◌, ◌∙◌, ◌≤◌, ◌<◌, ◌+◌, ◌*◌, ◌++◌, ap, append_assoc, append-nil, arith, Bool, Err, false, if◌then◌else◌, is_err, length, length-append, List, [], ◌∷◌, min, None, Ok, OnErr, OnOk, Option, refl, Result, Some, subst, suc, sym, true, zero, ℕ}
+use Rattle.std.proofs.Common.{◌≡◌, ◌∙◌, ◌≤◌, ◌<◌, ◌+◌, ◌*◌, ◌++◌, ap, append_assoc, arith, Bool, Err, false, if◌then◌else◌, is_err, length, length-append, List, [], ◌∷◌, min, None, Ok, OnErr, OnOk, Option, refl, Result, Some, subst, sym, true, ℕ}
 use Rattle.std.proofs.Math.Nat.{min-le_right}
 use Rattle.std.specs.declared.alloc.AllocError.{AllocError}
 use Rattle.std.specs.declared.alloc.Global.{Global}

@@ -1,8 +1,7 @@
 -- Records that are answered one after another.
-use Rattle.std.proofs.Common.{◌≡◌, ◌∙◌, ◌≤◌, ◌<◌, ◌+◌, ◌++◌, ap, append_assoc, append-nil, arith, drop, Err, false, IsSome, inl, inr, length, List, [], ◌∷◌, map, None, Ok, Option, option_to_list, refl, Result, slice_get, Some, subst, suc, sym, true, zero, ℕ}
+use Rattle.std.proofs.Common.{◌≡◌, ◌∙◌, ◌≤◌, ◌<◌, ◌+◌, ◌++◌, ap, append_assoc, append-nil, arith, drop, Err, false, IsSome, inr, length, List, [], ◌∷◌, None, Ok, Option, option_to_list, refl, Result, slice_get, Some, subst, suc, sym, zero, ℕ}
 use Rattle.std.proofs.lemmas.Grind.{flat_map-append}
 use Rattle.std.specs.Arc.{arc_value}
-use Rattle.std.specs.List.{AllZip, enumerate_from}
 use Rattle.std.specs.declared.alloc.Global.{Global}
 use Rattle.std.specs.declared.vec.Vec.{Vec}
 use Rattle.io_edge.specs.Lines.{TextLine}
@@ -29,18 +28,16 @@ use Rattle.store_machine.specs.declared.machine.State.{State}
 use Rattle.store_machine.specs.declared.machine.Step.{Step}
 use Rattle.session_run.specs.Acts.{Act, Answers, AnswersBy, Ask, Asks, Does, Fault, Faults, FoundData, Lines, ListedSame, ListedSimilar, Closed, MayAsk, MayChange, MayRegister, Opened, Refused, Refuses, RegisterEach, RegisteredEach, RegisteredNew, RegistersEach, Replies, Say, Says, Searched, Silence, Turned}
 use Rattle.session_run.specs.Cursors.{Calls, Cursor}
-use Rattle.session_run.specs.Made.{Answered, AnsweredBy, Broken, Said, Unsaid, Uses}
+use Rattle.session_run.specs.Made.{AnsweredBy, Broken, Said, Unsaid, Uses}
 use Rattle.session_run.specs.Records.{counted, has_long}
 use Rattle.session_run.specs.Requests.{molfile_text}
 use Rattle.session_run.specs.Responds.{IsTextRefusal}
-use Rattle.session_run.specs.Taken.{AreKept, AreRead, AreTaken, IsKept, IsReady, Registers}
-use Rattle.session_run.specs.Texts.{IsTextFault}
+use Rattle.session_run.specs.Taken.{AreKept, AreRead, AreTaken, IsReady, Registers}
 use Rattle.session_run.specs.declared.records.Kept.{Kept}
 use Rattle.session_run.specs.declared.records.Kept.TheVariants as keeps
 use Rattle.session_run.specs.declared.records.SdTexts.{SdTexts}
 use Rattle.session_run.specs.declared.records.TheConstants.{MOST_SD_BYTES}
 use Rattle.session_run.specs.declared.stop.Stop.{Stop}
-use Rattle.session_run.specs.declared.stop.Stop.TheVariants as stops
 use Rattle.session_run.proofs.Joined.{uses-more}
 use Rattle.session_run.proofs.Lines.{answered_as, may_change, text_is}
 
@@ -52,7 +49,8 @@ faults_of (r ∷ rs) = line.MemoryFault ∷ faults_of rs
 faults_each : (id sum : ℕ) (rs : List (Option (List TextLine))) → RegistersEach id sum rs [] (faults_of rs)
 faults_each id sum [] = (refl, refl)
 faults_each id sum (r ∷ rs) =
-    (Say Fault, [], [], line.MemoryFault, faults_of rs, tt, Faults, refl, refl, faults_each (suc id) (sum + counted r) rs)
+    let others = faults_each (suc id) (sum + counted r) rs in
+    (Say Fault, [], [], line.MemoryFault, faults_of rs, tt, Faults, refl, refl, others)
 
 -- a record, and those behind it
 each_more : (id sum : ℕ) (r : Option (List TextLine)) (rs : List (Option (List TextLine))) (own more : Calls)
@@ -78,7 +76,8 @@ abbrev pub EachAnswer : ℕ → List (Option (List TextLine)) → Calls → Line
 EachAnswer first records calls lines _ = RegistersEach first 0 records calls lines
 
 module _ {S : Type 0} {of : meaning.Ghosts S} (first : ℕ) (records : List (Option (List TextLine))) where
-  pub way_none : (old : S) (out : List ℕ) → Uses of old old [] → IsUnderWay of old old first records out out first 0 records
+  pub way_none : (old : S) (out : List ℕ) → Uses of old old []
+      → IsUnderWay of old old first records out out first 0 records
   way_none old out made = record {
     calls = [];
     lines = [];
@@ -375,8 +374,8 @@ module _ {S : Type 0} {of : meaning.Ghosts S} (first : ℕ) (records : List (Opt
         → IsAt of old next first records texts out out'' (suc place) others
     by [] e w k = absurd (omega (arith, e, within))
     by (r ∷ rs) e w k =
-        let h = ready_at first texts place answers others kept answer kept_is answer_is others_are t.sum r rs t.ts k t.read
-        in
+        let h = ready_at first texts place answers others kept answer kept_is answer_is others_are t.sum r rs t.ts k
+        t.read in
         let next_id : suc (first + place) ≡ first + suc place = omega arith in
         record {
           sum = t.sum + counted r;
@@ -400,8 +399,8 @@ module _ {S : Type 0} {of : meaning.Ghosts S} (first : ℕ) (records : List (Opt
         → AnsweredBy of old next (EachAnswer first records) out out'' tt (Err stop)
     by [] e w k = absurd (omega (arith, e, within))
     by (r ∷ rs) e w k =
-        let h = ready_at first texts place answers others kept answer kept_is answer_is others_are t.sum r rs t.ts k t.read
-        in
+        let h = ready_at first texts place answers others kept answer kept_is answer_is others_are t.sum r rs t.ts k
+        t.read in
         way_stopped first records joins lands same stop w (did (first + place) (t.sum + counted r) r h.0)
 
 pub at_end : {S : Type 0} {of : meaning.Ghosts S} {old now : S} {out out' : List ℕ} (first : ℕ)

@@ -55,8 +55,8 @@ note_lines (Refused refusal) = line.Refused refusal ∷ []
 note_lines Fault = line.MemoryFault ∷ []
 
 -- the acts: a note alone; one call, of a change too; a search; a cursor that is opened, that turns a page, that is
--- closed; a lookup of the same structure, a registration behind one, and a lookup of similar prints; registrations of the
--- records of an SD file under identifiers from this on, and a look at a data item
+-- closed; a lookup of the same structure, a registration behind one, and a lookup of similar prints; registrations of
+-- the records of an SD file under identifiers from this on, and a look at a data item
 pub data Act : Type 0 where
   Say : (note : Note) → Act
   Ask : (event : Event) → Act

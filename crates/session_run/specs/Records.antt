@@ -1,5 +1,5 @@
 -- The records of an SD file among the lines of a request, and the data items of a record. For callers.
-use Rattle.std.specs.Prelude.{ℕ, zero, suc, ◌+◌, ◌-◌, ◌||◌, Bool, true, false, List, [], ◌∷◌, length, drop, take, min, option_map, Option, None, Some, if◌then◌else◌}
+use Rattle.std.specs.Prelude.{ℕ, zero, suc, ◌-◌, Bool, true, false, List, [], ◌∷◌, length, drop, take, min, option_map, Option, None, Some, if◌then◌else◌}
 use Rattle.io_edge.specs.Lines.{TextLine, Whole, TooLong}
 use Rattle.mol_finish.specs.declared.fault.Format.{Format}
 use Rattle.mol_finish.specs.declared.fault.Format.TheVariants.{Smiles, Molfile}

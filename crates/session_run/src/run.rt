@@ -187,7 +187,8 @@ fn answer_and_put<R: Threads + Sync, S: Service, O: Sink, M: Meter>(
     requires request { (request : Request) × IsNext next request line.now responder.old.molfile.items
         responder.old.records }
     ensures replies { (request : Request) → IsNext next request line.now responder.old.molfile.items
-        responder.old.records → Replies responder.old.cursors.settings.page (Uses S.Service service.old service.new) (S.worn service.new) request
+        responder.old.records → Replies responder.old.cursors.settings.page
+        (Uses S.Service service.old service.new) (S.worn service.new) request
         (cursors_of (opened responder.old.cursors)) (cursors_of (opened responder.new.cursors))
         (O.written sink.old) (O.written sink.new) result }
     ensures fit { IsFit responder.new.cursors }

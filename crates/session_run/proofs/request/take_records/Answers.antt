@@ -1,4 +1,4 @@
-use Rattle.std.proofs.Common.{◌≡◌, ◌-◌, arith, Bool, None, refl, subst}
+use Rattle.std.proofs.Common.{◌-◌, arith, Bool, None, refl, subst}
 use Rattle.std.proofs.lemmas.Result.{err_from_is_err_and}
 use Rattle.session_run.specs.Taken.{record_of}
 use Rattle.session_run.proofs.Ordered.{IsTakingAll, all_cut, all_more, all_none, all_part, all_taken}
