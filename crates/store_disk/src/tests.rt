@@ -66,7 +66,10 @@ fn a_file_is_loaded_or_its_damage_told(rt: HostRuntime) -> Result<(), Fail> {
     let alloc = rt.alloc();
     let rows: [(&[u8], Result<u32, LoadFault>); 14] = [
         (b"", Err(LoadFault::NotAStore)),
-        (b"ZCHEMDB2\0\0\0\0\0\0\0\0\0\0\0\0\0", Err(LoadFault::NotAStore)),
+        (
+            b"ZCHEMDB2\0\0\0\0\0\0\0\0\0\0\0\0\0",
+            Err(LoadFault::NotAStore),
+        ),
         (b"ZCHEMDB3\0", Err(LoadFault::NotAStore)),
         (b"ZCHEMDB1\0", Ok(0)),
         (b"ZCHEMDB1", Err(LoadFault::Damaged(8))),
