@@ -92,7 +92,7 @@ reopens law one store s t bytes commits count o limit at loaded opens is =
       stands = at;
       recovers = recovers;
       opens = opens;
-      commits = omega (arith, is, opens.history.version);
+      version = is;
       opened = opened;
       run = λ a b e. law s t a b e recovers opened;
     }

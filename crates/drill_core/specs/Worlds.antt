@@ -1,9 +1,10 @@
 -- What is set on a world's disk, what a reopening makes of it, and what it always is. For callers but for the last.
-use Rattle.std.specs.Prelude.{◌≡◌, ◌≤◌, List, length, Some, ℕ}
+use Rattle.std.specs.Prelude.{◌≡◌, ◌≤◌, List, Some, ℕ}
 use Rattle.disk_edge.specs.Failures.{bound_of}
 use Rattle.disk_edge.specs.Image.{image_of}
 use Rattle.disk_edge.specs.Medium.{Medium}
 use Rattle.disk_edge.specs.declared.failures.Failures.{Failures}
+use Rattle.store_machine.specs.History.{head}
 use Rattle.store_machine.specs.Machine.{Recovers}
 use Rattle.store_machine.specs.Openings.{IsOpened, reopening}
 use Rattle.store_machine.specs.Runs.{IsRun}
@@ -33,14 +34,14 @@ abbrev pub left_on : Medium → ℕ → List ℕ
 left_on disk image = image_of image disk.first disk.calls
 
 -- From a state, a crash that leaves these bytes on disk `a`, and an opening, lead to a state for which this store
--- stands, with so many commits.
+-- stands, at this version.
 pub record Reopens (s : State) (bytes : List ℕ) (store : StoreTerm Medium) (count : ℕ) : Type 0 where
   pub after : State
   pub stands : StandsInMemory store after
   -- the history is one that a crash may leave, and the one that the bytes open to
   pub recovers : Recovers s after.history
   pub opens : OpensTo after.history bytes
-  pub commits : count ≡ length after.history.commits
+  pub version : count ≡ head after.history
   -- nothing is pinned or in doubt, and the limit is as before
   pub opened : IsOpened s.limit after
   -- a Crash and an Open are a run, whatever their times

@@ -310,7 +310,7 @@ module _ (a b : Sessions) (old : WorldTerm) (line : TextLine) (image : ℕ) (rea
         reopening s r.after no_time no_time no_time,
         r.after,
         r.run no_time no_time no_time,
-        ap (λ (n : ℕ). (Crash, Crashed) ∷ (Open, Opened n) ∷ []) (sym r.commits),
+        ap (λ (n : ℕ). (Crash, Crashed) ∷ (Open, Opened n) ∷ []) (sym r.version),
         r.stands,
       );
       tallied = λ t h small. (inl refl, tally-new new.journal.disk.failures unset.0);

@@ -14,6 +14,7 @@ use Rattle.store_core.specs.declared.words.Change.{Change as Asked}
 use Rattle.store_core.specs.declared.words.CommitFault.{CommitFault}
 use Rattle.store_core.specs.declared.words.CommitFault.TheVariants as fault
 use Rattle.store_machine.specs.Laws.{RunsStaySound}
+use Rattle.store_machine.specs.History.{grown}
 use Rattle.store_machine.specs.Machine.{CommitGives, EndsDoubt, Gives, IsDiskFault, MayAdd, Serves, SomeRose, Rose, committed}
 use Rattle.store_machine.specs.declared.machine.Change.{Change}
 use Rattle.store_machine.specs.declared.machine.Event.TheVariants as event
@@ -21,7 +22,7 @@ use Rattle.store_machine.specs.declared.machine.Faults.{Faults}
 use Rattle.store_machine.specs.declared.machine.Reply.{Reply}
 use Rattle.store_machine.specs.declared.machine.Reply.TheVariants as reply
 use Rattle.store_machine.specs.declared.machine.State.{State}
-use Rattle.store_disk.specs.OnDisk.{Has, StandsFor, StoreTerm}
+use Rattle.store_disk.specs.OnDisk.{Has, IsPlain, StandsFor, StoreTerm}
 use Rattle.store_disk.specs.Payloads.{payload, payloads}
 use Rattle.store_disk.specs.Puts.{EndsOlder, OnFault, PutGives, ShowsOne}
 use Rattle.store_disk.specs.Stored.{Stretches, times}
@@ -47,6 +48,7 @@ module _ {D : Type 0} (model : DiskModel D)
       → memory.StandsFor m (served s) → StandsFor model (With store m) s
   with-memory store m s h stands = record {
     memory = record { sound = h.memory.sound; serves = h.memory.serves; stands = stands };
+    plain = h.plain;
     journal = h.journal;
     counts = h.counts;
   }
@@ -107,11 +109,11 @@ module _ {D : Type 0} (model : DiskModel D)
     -- the step of this commit, with its row
     step : (t : State) (r : Reply) → t.faults ≡ record { a = model.faults journal.disk; b = model.faults store.b }
         → Gives s 0 (event.Commit (change_of c)) r t → memory.StandsFor m (served t) → t.serves ≡ true
-        → Has model journal (payloads t.history) (option_map payload t.doubt)
+        → IsPlain t.history → Has model journal (payloads t.history) (option_map payload t.doubt)
         → (IsDiskFault r → disk.Rose (model.faults store.journal.disk) (model.faults journal.disk))
         → Calls (Stretches model) all store (record { memory = m; journal = journal; b = store.b }) s
         ((event.Commit (change_of c), r) ∷ [])
-    step t r counts gives stands serving has fault =
+    step t r counts gives stands serving flat has fault =
         let new : StoreTerm D = record { memory = m; journal = journal; b = store.b } in
         one-call model store new s t 0 (event.Commit (change_of c)) r refl h gives
         (record {
@@ -120,6 +122,7 @@ module _ {D : Type 0} (model : DiskModel D)
             serves = serving;
             stands = stands;
           };
+          plain = flat;
           journal = has;
           counts = counts;
         })
@@ -129,7 +132,7 @@ module _ {D : Type 0} (model : DiskModel D)
           quiet = inl tt;
         })
         (λ other. absurd (other tt))
-        (λ l is image b. shows-one law store.memory s h.memory (step_of 0 (event.Commit (change_of c)) r s t
+        (λ l is image b. shows-one law store.memory s h.memory h.plain (step_of 0 (event.Commit (change_of c)) r s t
         (times model store) (times model new)) (change_of c) image refl refl may (moments l is image b))
 
     pub done : memory.StandsFor m (served (committed s (change_of c)))
@@ -141,7 +144,7 @@ module _ {D : Type 0} (model : DiskModel D)
         let t : State = record (committed s told) { faults = f } in
         step t (reply.Committed m.version) refl
         (serves t refl, (may, omega (arith, ends.version, length-append s.history.commits (told ∷ [])), refl))
-        ends h.memory.serves
+        ends h.memory.serves (ap (λ k. grown k (told ∷ [])) h.plain)
         (subst (λ ps. Has model journal ps None) (sym (map-append payload s.history.commits (told ∷ [])))
         (subst (λ q. Has model journal (payloads s.history ++ q ∷ []) None) written has))
         (λ f. absurd f)
@@ -160,7 +163,7 @@ module _ {D : Type 0} (model : DiskModel D)
           → Calls (Stretches model) all store
           (record { memory = m; journal = journal; b = store.b }) s ((event.Commit (change_of c), r) ∷ [])
       with-doubt doubt r row has fault =
-          step (then doubt) r refl (serves (then doubt) refl, row) ends h.memory.serves has fault
+          step (then doubt) r refl (serves (then doubt) refl, row) ends h.memory.serves h.plain has fault
 
       older : (r : Reply)
           → ((doubt : Option Change) → EndsDoubt s (then doubt) → CommitGives s (change_of c) r (then doubt))

@@ -28,7 +28,6 @@ use Rattle.store_disk.specs.InMemory.{StandsInMemory}
 use Rattle.store_disk.specs.Loads.{OpensTo}
 use Rattle.store_disk.specs.OnDisk.{Has, StoreTerm}
 use Rattle.store_disk.specs.Payloads.{payload, payloads}
-use Rattle.store_disk.proofs.OneWay.{plain}
 
 abbrev pub set-once : Medium → Option ℕ → Medium
 set-once d call = record d { failures = record d.failures { once = call } }
@@ -57,6 +56,7 @@ pub once-set : (store : StoreTerm Medium) (call : Option ℕ) (s : State) → St
     → StandsInMemory (record store { journal = record store.journal { disk = set-once store.journal.disk call } }) s
 once-set store call s h = record {
   memory = h.memory;
+  plain = h.plain;
   journal = has-still store.journal (record store.journal.disk.failures { once = call }) (payloads s.history)
       (option_map payload s.doubt) h.journal;
   counts = h.counts;
@@ -66,6 +66,7 @@ pub passes-set : (store : StoreTerm Medium) (calls : Option ℕ) (s : State) →
     → StandsInMemory (record store { journal = record store.journal { disk = set-passes store.journal.disk calls } }) s
 passes-set store calls s h = record {
   memory = h.memory;
+  plain = h.plain;
   journal = has-still store.journal (record store.journal.disk.failures { passes = calls }) (payloads s.history)
       (option_map payload s.doubt) h.journal;
   counts = h.counts;
@@ -81,7 +82,7 @@ pub none-yet : (h : History) → OpensTo h (text header []) → h ≡ begun
 none-yet h o =
     let opens : Opens header [] (text header []) =
     subst (Opens header []) (append-nil (text header [])) (text_opens header [] [] tt) in
-    plain h o.history
+    o.plain
     ∙ ap of_commits (no-commits h.commits (one_list header (payloads h) [] (text header []) o.opens opens))
 
 pub at-ok : {T E P : Type 0} (r : Result T E) → is_err r ≡ false → OnOk r P → P

@@ -21,7 +21,7 @@ use Rattle.store_machine.specs.declared.machine.State.{State}
 use Rattle.store_machine.specs.declared.machine.Step.{Step}
 use Rattle.store_machine.specs.declared.machine.Times.{Times}
 use Rattle.store_disk.specs.Loads.{OpensAfter, OpensTo}
-use Rattle.store_disk.specs.OnDisk.{Has, StandsFor, StoreTerm}
+use Rattle.store_disk.specs.OnDisk.{Has, IsPlain, StandsFor, StoreTerm}
 use Rattle.store_disk.specs.Payloads.{payload, payloads}
 use Rattle.store_disk.specs.Puts.{ShowsDoubt, ShowsOne}
 use Rattle.store_disk.specs.Stored.{IsCaused, IsCommit, Shows, Stretches, keeps-itself, times}
@@ -67,10 +67,11 @@ history-after law s c sound serves may =
     ((serves, (omega arith, omega arith)), (may, refl, refl)) sound).history
 
 -- what the bytes of a disk open to: the history, and this with a commit that may be added
-module _ (law : RunsStaySound) (m : Memory) (s : State) (h : memory.IsAt m s) where
+module _ (law : RunsStaySound) (m : Memory) (s : State) (h : memory.IsAt m s) (flat : IsPlain s.history) where
   pub opens-to : (bytes : List ℕ) → Opens header (payloads s.history) bytes → OpensTo s.history bytes
   opens-to bytes o = record {
     history = h.sound.history;
+    plain = flat;
     few = omega (arith, h.stands.version, h.stands.within);
     opens = o;
   }
@@ -79,6 +80,7 @@ module _ (law : RunsStaySound) (m : Memory) (s : State) (h : memory.IsAt m s) wh
       → OpensTo (grown s.history (c ∷ [])) bytes
   opens-with c bytes may o = record {
     history = history-after law s c h.sound h.serves may;
+    plain = ap (λ k. grown k (c ∷ [])) flat;
     few = omega (arith, may.2, h.stands.limit, h.stands.most, length-append s.history.commits (c ∷ []));
     opens = subst (λ ps. Opens header ps bytes) (sym (map-append payload s.history.commits (c ∷ []))) o;
   }
@@ -184,8 +186,8 @@ module _ {D : Type 0} (model : DiskModel D) where
         })
         (λ none. same)
         (λ l is. subst (λ d. AtEachMoment model old.journal.disk d (Shows x)) (sym disk)
-        (λ image b. shows-after law old.memory s stands.memory x image refl
-        (shows-doubt law old.memory s stands.memory s.doubt image refl
+        (λ image b. shows-after law old.memory s stands.memory stands.plain x image refl
+        (shows-doubt law old.memory s stands.memory stands.plain s.doubt image refl
         (has-shows old.journal (payloads s.history) (option_map payload s.doubt) l
         (sym (ap model.content disk) ∙ is) stands.journal image (only-now old.journal.disk image b)))))
 
@@ -205,6 +207,7 @@ module _ {D : Type 0} (model : DiskModel D) where
             serves = x.ends.serves;
             stands = x.ends.stands;
           };
+          plain = subst IsPlain (sym l.1) h.plain;
           journal = subst (λ d. Has model store.journal (payloads x.after.history) (option_map payload d)) (sym l.2)
               (subst (λ g. Has model store.journal (payloads g) (option_map payload s.doubt)) (sym l.1) h.journal);
           counts = h.counts;
@@ -215,5 +218,5 @@ module _ {D : Type 0} (model : DiskModel D) where
   pub standing-opens : RunsStaySound → (store : StoreTerm D) (s : State) → StandsFor model store s
       → IfTold (model.content store.journal.disk) (λ _. (image : List ℕ)
       → model.images store.journal.disk image → OpensAfter s image)
-  standing-opens law store s h l is image i = shows-doubt law store.memory s h.memory s.doubt image refl
+  standing-opens law store s h l is image i = shows-doubt law store.memory s h.memory h.plain s.doubt image refl
       (has-shows store.journal (payloads s.history) (option_map payload s.doubt) l is h.journal image i)

@@ -1,5 +1,5 @@
 -- A loading: what is read, made again, and opened.
-use Rattle.std.proofs.Common.{◌≡◌, ◌∙◌, ◌++◌, ap, arith, Err, false, length, List, [], MatchOption, None, Ok, Option, refl, Result, Some, subst, sym, true, ℕ}
+use Rattle.std.proofs.Common.{◌≡◌, ◌∙◌, ◌++◌, ap, arith, Err, false, length, List, [], MatchOption, None, Ok, Option, refl, Result, Some, subst, sym, true, ℕ, map}
 use Rattle.std.proofs.lemmas.List.{length-map}
 use Rattle.std.specs.List.{AllByRecursion}
 use Rattle.commit_log.specs.Change.{Change as Logged}
@@ -21,14 +21,16 @@ use Rattle.store_core.specs.Stored as memory
 use Rattle.store_core.specs.Stored.{StoreTerm as Memory, served}
 use Rattle.store_core.specs.declared.words.CallFault.{CallFault}
 use Rattle.store_core.specs.declared.words.CallFault.TheVariants as call
-use Rattle.store_machine.specs.History.{head}
+use Rattle.store_machine.specs.History.{head, of_commits}
+use Rattle.store_machine.specs.declared.machine.Change.{Change}
+use Rattle.store_machine.specs.declared.machine.History.{History}
 use Rattle.store_machine.specs.Machine.{AreNeeded, MayAdd}
 use Rattle.store_machine.specs.Openings.{IsOpened}
 use Rattle.store_machine.specs.declared.machine.Entry.{Entry}
 use Rattle.store_machine.specs.declared.machine.Event.TheVariants as event
 use Rattle.store_machine.specs.declared.machine.Reply.TheVariants as reply
 use Rattle.store_machine.specs.declared.machine.State.{State}
-use Rattle.store_disk.specs.OnDisk.{IsReady, StandsFor}
+use Rattle.store_disk.specs.OnDisk.{IsPlain, IsReady, StandsFor}
 use Rattle.store_disk.specs.Loads.{OpensTo}
 use Rattle.store_disk.specs.Payloads.{payloads, told}
 use Rattle.store_disk.specs.Replays.{IsLoaded, IsReplayed}
@@ -79,6 +81,10 @@ at-rest m s h doubt serves = record {
   stands = h;
 }
 
+-- a history that is some commits is its own
+flat-is : (h : History) (commits : List Change) → h ≡ of_commits commits → IsPlain h
+flat-is h commits is = is ∙ ap of_commits (sym (ap (λ (k : History). k.commits) is))
+
 some-same : {x y : List ℕ} → Some x ≡ Some y → x ≡ y
 some-same e = cc e
 
@@ -115,9 +121,11 @@ module _ {D : Type 0} (model : DiskModel D) where
   loaded memory commits cs old new r log rests = record {
     state = r.state;
     at = r.at;
+    plain = flat-is r.state.history (map told cs) r.history;
     opened = r.opened;
     opens = λ reads l is. record {
       history = r.at.sound.history;
+      plain = flat-is r.state.history (map told cs) r.history;
       few = omega (arith, r.at.stands.version, r.at.stands.within);
       opens = subst (λ ps. Opens header ps l) (same-history memory commits cs r) (log reads l is).opens;
     };
@@ -152,6 +160,7 @@ module _ {D : Type 0} (model : DiskModel D) where
         s,
         record {
           memory = at-rest memory s x.at.stands refl x.opened.serves;
+          plain = x.plain;
           journal = (flag, λ l is. x.rests (reads l (sym (second ∙ first) ∙ is)));
           counts = refl;
         },

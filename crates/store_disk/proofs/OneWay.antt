@@ -41,14 +41,6 @@ all-in-range version (c ∷ cs) states all =
 pub history-in-range : (h : History) → IsHistory h → AllInRange h.commits
 history-in-range h is = all-in-range h.version h.commits (base_states h) is.allowed
 
--- a history without a base is its commits
-plain-is : (base : List (ℕ × Status)) (version : ℕ) (commits : List Change) → base ≡ [] → version ≡ 0
-    → record { base = base; version = version; commits = commits } ≡ of_commits commits
-plain-is base version commits none zero = rw (none, zero) refl
-
-pub plain : (h : History) → IsHistory h → h ≡ of_commits h.commits
-plain h is = plain-is h.base h.version h.commits is.base is.version
-
 first-is : (x y : List ℕ) (xs ys : List (List ℕ)) → x ∷ xs ≡ y ∷ ys → x ≡ y
 first-is x y xs ys e = cc e
 
@@ -157,7 +149,7 @@ module _ (one : OneChange)
       let same : h.commits ≡ k.commits =
       same-told one h.commits (map logged_change k.commits) (history-in-range h o.history) r.logged
       (e ∙ sym (logged-payloads k.commits)) ∙ told-again k.commits in
-      plain h o.history ∙ (ap of_commits same ∙ sym (plain k p.history))
+      o.plain ∙ (ap of_commits same ∙ sym p.plain)
     where
       told-again : (k : List Change) → map told (map logged_change k) ≡ k
       told-again [] = refl
@@ -183,7 +175,7 @@ module _ (one : OneChange)
       let same : h.commits ≡ map told cs =
       same-told one h.commits cs (history-in-range h o.history) d.log.logged
       (lists (payloads h) (log_payloads cs) bytes o.opens d.log.opens) in
-      never d.before d.change d.more cs refl (subst IsHistory (plain h o.history ∙ ap of_commits same) o.history)
+      never d.before d.change d.more cs refl (subst IsHistory (o.plain ∙ ap of_commits same) o.history)
       (omega (arith, o.few, ap (λ (l : List Change). length l) same, length-map cs told)) d.refused
 
 pub damaged-header : ((ps : List (List ℕ)) (bytes : List ℕ) → Opens header ps bytes → ¬ IsNoJournal bytes)

@@ -15,6 +15,7 @@ use Rattle.store_core.specs.Stored.{IsAt, Served, StandsFor, StoreTerm as Memory
 use Rattle.store_machine.specs.History.{IsHistory, grown, head, of_commits}
 use Rattle.store_machine.specs.Machine.{MayAdd, committed}
 use Rattle.store_machine.specs.Openings.{IsOpened}
+use Rattle.store_machine.specs.declared.machine.History.{History}
 use Rattle.store_machine.specs.declared.machine.State.{State}
 use Rattle.store_disk.specs.Loads.{MayFollow}
 use Rattle.store_disk.specs.Payloads.{history_of, told}
@@ -48,7 +49,7 @@ may-add : (memory : Memory) (changes : List Logged) (m : Made memory changes) (c
     → MayFollow (history_of changes) (told c) → MayAdd (alone m.part) (told c)
 may-add memory changes m c may =
     let f = subst (λ h. MayFollow h (told c)) (sym m.history) may in
-    (f.0, f.1, omega (arith, f.2, m.limit))
+    (f.0, f.1, omega (arith, f.2, m.limit, ap (λ (h : History). h.version) m.history))
 
 pub stops : (log before : List Commit) (c : Commit) (more : List Commit) (memory : Memory) (at : ℕ)
     → log ≡ before ++ c ∷ more → at ≡ c.at → (m : Made memory (changes_of before))

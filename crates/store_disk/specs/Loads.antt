@@ -9,13 +9,14 @@ use Rattle.store_machine.specs.Machine.{Recovers}
 use Rattle.store_machine.specs.declared.machine.Change.{Change}
 use Rattle.store_machine.specs.declared.machine.History.{History}
 use Rattle.store_machine.specs.declared.machine.State.{State}
-use Rattle.store_disk.specs.OnDisk.{StoreTerm}
+use Rattle.store_disk.specs.OnDisk.{IsPlain, StoreTerm}
 use Rattle.store_disk.specs.Payloads.{history_of, payloads, told}
 use Rattle.store_disk.specs.declared.disks.Disks.{Disks}
 
--- the bytes open to a history, which is no longer than a store may have
+-- the bytes open to a history, which has no base and is no longer than a store may have
 pub record OpensTo (h : History) (bytes : List ℕ) : Type 0 where
   pub history : IsHistory h
+  pub plain : IsPlain h
   pub few : length h.commits ≤ 16777215
   pub opens : Opens header (payloads h) bytes
 

@@ -6,6 +6,8 @@ use Rattle.journal_core.specs.Standing.{Standing}
 use Rattle.journal_core.specs.declared.format.TheConstants.{LONGEST_PAYLOAD}
 use Rattle.journal_core.specs.Records.{header}
 use Rattle.store_core.specs.Stored.{IsAt, IsStore, StoreTerm as Memory}
+use Rattle.store_machine.specs.History.{of_commits}
+use Rattle.store_machine.specs.declared.machine.History.{History}
 use Rattle.store_machine.specs.declared.machine.State.{State}
 use Rattle.store_disk.specs.Payloads.{payload, payloads}
 
@@ -23,10 +25,15 @@ Has model journal payloads None =
 Has model journal payloads (Some p) =
     (journal.doubt ≡ true) × IfTold (model.content journal.disk) (λ _. Doubts model journal header payloads p)
 
--- The store stands for a state: what is in memory is at it; the journal has the history, and the commit in doubt; the
--- counts of faults are those of the disks. Whose the pins are is free.
+-- a history without a base is its commits
+abbrev pub IsPlain : History → Type 0
+IsPlain h = h ≡ of_commits h.commits
+
+-- The store stands for a state: what is in memory is at it; the journal has the history, which has no base, and the
+-- commit in doubt; the counts of faults are those of the disks. Whose the pins are is free.
 pub record StandsFor {D : Type 0} (model : DiskModel D) (store : StoreTerm D) (s : State) : Type 0 where
   pub memory : IsAt store.memory s
+  pub plain : IsPlain s.history
   pub journal : Has model store.journal (payloads s.history) (option_map payload s.doubt)
   pub counts : s.faults ≡ record { a = model.faults store.journal.disk; b = model.faults store.b }
 

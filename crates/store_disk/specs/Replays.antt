@@ -12,6 +12,7 @@ use Rattle.store_machine.specs.History.{IsHistory}
 use Rattle.store_machine.specs.Openings.{IsOpened}
 use Rattle.store_machine.specs.declared.machine.State.{State}
 use Rattle.store_disk.specs.Loads.{MayFollow, OpensTo}
+use Rattle.store_disk.specs.OnDisk.{IsPlain}
 use Rattle.store_disk.specs.Payloads.{history_of, payloads, told}
 
 -- the store in memory stands for a state of this history that was just opened
@@ -38,6 +39,7 @@ pub record IsLoaded {D : Type 0} (model : DiskModel D) (memory : Memory) (commit
     : Type 0 where
   pub state : State
   pub at : IsAt memory state
+  pub plain : IsPlain state.history
   pub opened : IsOpened commits state
   pub opens : Reads model old header [] → IfTold (model.content old.disk) (OpensTo state.history)
   pub rests : Reads model old header [] → Rests model new header (payloads state.history)

@@ -8,7 +8,7 @@ ghost use Rattle.store_machine.specs.Owners.{SameButOwners};
 ghost use Rattle.store_machine.specs.declared.machine.History.{History};
 ghost use Rattle.store_machine.specs.declared.machine.State.{State};
 ghost use Rattle.store_disk.specs.Loads.{Damages, OpensAfter, OpensTo};
-ghost use Rattle.store_disk.specs.OnDisk.{StandsFor, StoreTerm};
+ghost use Rattle.store_disk.specs.OnDisk.{IsPlain, StandsFor, StoreTerm};
 ghost use Rattle.store_disk.specs.Payloads.{payloads};
 
 use commit_log::a_log_reads_one_way;
@@ -29,10 +29,10 @@ pub fn a_store_opens_one_way()
     bytes_open_one_way();
 }
 
-/// A store that was written opens to its history, whatever follows.
+/// A store that was written opens to its history, which has no base, whatever follows.
 pub fn what_was_written_opens()
     ensures { (h : History) (rest : List ℕ) → IsHistory h → length h.commits ≤ 16777215
-        → OpensTo h (text header (payloads h) ++ rest) }
+        → IsPlain h → OpensTo h (text header (payloads h) ++ rest) }
 {
     a_text_opens();
 }
