@@ -363,7 +363,8 @@ fn first_of(bytes: &[u8], count: u32) -> Option<u32>
     ensures none { IfNone result (IsNoFirst bytes.now count) }
 {
     let first = identifier(bytes)?;
-    if first + (count - 1) <= LAST_IDENTIFIER {
+    let last = first + (count - 1);
+    if last <= LAST_IDENTIFIER {
         Some(first)
     } else {
         None
