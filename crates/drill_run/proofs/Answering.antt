@@ -24,7 +24,7 @@ use Rattle.session_run.specs.declared.settings.Settings.{Settings}
 use Rattle.session_run.specs.declared.stop.Stop.TheVariants as stops
 use Rattle.session_run.proofs.ActPins.{act_held, act_others}
 use Rattle.session_run.proofs.Held.{held-same, moves-none, not_raised-same, same_others, same_others-more}
-use Rattle.shell_lang.specs.Command.{StartsMolfile}
+use Rattle.shell_lang.specs.Command.{TakesLines}
 use Rattle.shell_lang.specs.Reply.{text_of}
 use Rattle.store_core.specs.Calls.{SameHeld}
 use Rattle.store_core.specs.Stored.{HoldsPin}
@@ -37,7 +37,7 @@ use Rattle.store_machine.specs.declared.machine.Times.{Times}
 use Rattle.store_disk.specs.InMemory.{StandsInMemory}
 use Rattle.store_disk.specs.Stored.{stays}
 use Rattle.drill_run.specs.Causes.{Tally, faults_in, tally_after}
-use Rattle.drill_run.specs.Dialogue.{AllCursors, Does, IsOwnAnswer, molfile_refused, reopened_text}
+use Rattle.drill_run.specs.Dialogue.{AllCursors, Does, IsOwnAnswer, lines_refused, reopened_text}
 use Rattle.drill_run.specs.Lines.{DrillLine, Reads, Reopen, Session}
 use Rattle.drill_run.specs.Numbers.{numbered}
 use Rattle.drill_run.specs.Turns as turns
@@ -96,8 +96,8 @@ ready-same old new a b h stands memory responders settings = record {
 -- a session's line was answered, as a session answers it, by the service of a world
 module _ {size : ℕ} {own : List ℕ} {old new : WorldTerm} {cursors cursors' : List Cursor}
     (of : meaning.Ghosts WorldTerm) (convert : (calls : Calls) → made.Uses of old new calls → Uses old new calls)
-    (other : ¬ StartsMolfile own) where
-  of-did : Did (made.Uses of old new) (RequestAnswer size cursors (record { line = Whole own; molfile = [] })) cursors'
+    (other : ¬ TakesLines own) where
+  of-did : Did (made.Uses of old new) (RequestAnswer size cursors (record { line = Whole own; more = [] })) cursors'
       → AnswersOwn size own old new cursors cursors'
   of-did d = record {
     calls = d.calls;
@@ -107,13 +107,13 @@ module _ {size : ℕ} {own : List ℕ} {old new : WorldTerm} {cursors cursors' :
   }
 
   pub own-said : (out : List ℕ)
-      → AnsweredBy of old new (RequestAnswer size cursors (record { line = Whole own; molfile = [] })) [] out cursors'
+      → AnsweredBy of old new (RequestAnswer size cursors (record { line = Whole own; more = [] })) [] out cursors'
       (Ok tt) → (a : AnswersOwn size own old new cursors cursors') × (out ≡ text_of a.lines)
   unfolding of-did
   own-said out (Said u did e) = (of-did did, e)
 
   pub own-unsaid : (out : List ℕ)
-      → AnsweredBy of old new (RequestAnswer size cursors (record { line = Whole own; molfile = [] })) [] out cursors'
+      → AnsweredBy of old new (RequestAnswer size cursors (record { line = Whole own; more = [] })) [] out cursors'
       (Err stops.NoMemory) → AnswersOwn size own old new cursors cursors'
   own-unsaid out (Unsaid did) = of-did did
 
@@ -132,20 +132,20 @@ uses-none world = record {
   bounds = not_raised-same (bound_of world.journal.disk.failures, bound_of world.b.failures);
 }
 
-refused : (size : ℕ) (own : List ℕ) (world : WorldTerm) (cursors : List Cursor) → StartsMolfile own
-    → (a : AnswersOwn size own world world cursors cursors) × (text_of molfile_refused ≡ text_of a.lines)
+refused : (size : ℕ) (own : List ℕ) (world : WorldTerm) (cursors : List Cursor) → TakesLines own
+    → (a : AnswersOwn size own world world cursors cursors) × (text_of lines_refused ≡ text_of a.lines)
 refused size own world cursors starts = (
-  record { calls = []; lines = molfile_refused; is = inl (starts, refl, refl, refl); uses = uses-none world },
+  record { calls = []; lines = lines_refused; is = inl (starts, refl, refl, refl); uses = uses-none world },
   refl,
 )
 
 module _ (size : ℕ) (own : List ℕ) (world : WorldTerm) (cursors cursors' : List Cursor)
-    (starts : StartsMolfile own) (same : cursors' ≡ cursors) where
-  answer : (a : AnswersOwn size own world world cursors cursors') × (text_of molfile_refused ≡ text_of a.lines)
+    (starts : TakesLines own) (same : cursors' ≡ cursors) where
+  answer : (a : AnswersOwn size own world world cursors cursors') × (text_of lines_refused ≡ text_of a.lines)
   answer = subst (λ (c : List Cursor). (a : AnswersOwn size own world world cursors c)
-      × (text_of molfile_refused ≡ text_of a.lines)) (sym same) (refused size own world cursors starts)
+      × (text_of lines_refused ≡ text_of a.lines)) (sym same) (refused size own world cursors starts)
 
-  pub refused-ok : {A E : Type 0} (r : Result A E) (out : List ℕ) → OnOk r (out ≡ text_of molfile_refused)
+  pub refused-ok : {A E : Type 0} (r : Result A E) (out : List ℕ) → OnOk r (out ≡ text_of lines_refused)
       → OnOk r ((a : AnswersOwn size own world world cursors cursors') × (out ≡ text_of a.lines))
   refused-ok (Ok u) out h = (answer.0, h ∙ answer.1)
   refused-ok (Err e) out h = tt

@@ -9,7 +9,7 @@ use Rattle.session_run.specs.Dialogue as session
 use Rattle.session_run.specs.Pins.{AreApart, AreHeld, HeldAfter}
 use Rattle.session_run.specs.Requests.{Request}
 use Rattle.session_run.proofs.ActPins.{act_held}
-use Rattle.shell_lang.specs.Command.{StartsMolfile}
+use Rattle.shell_lang.specs.Command.{TakesLines}
 use Rattle.shell_lang.specs.Reply.{text_of}
 use Rattle.store_machine.specs.Laws.{PinsStay}
 use Rattle.store_machine.specs.Runs.{IsCalm, IsRun, calls_of}
@@ -76,8 +76,8 @@ module _ (law : PinsStay) (size number n : ℕ) (x : Exchange) (before after : A
     (cursors cursors' : List Cursor) (line : List ℕ) (lines : Lines) (s t : State) (ps : List Held)
     (steps : List Step) (alike : Alike s.pins ps) (run : IsRun s steps t) (made : events_of steps ≡ x.calls)
     (holding : AreHolding ps (before ++ cursors ∷ after)) (is : n ≡ length before + 1)
-    (read : x.read ≡ Some (Session n line)) (alone : ¬ StartsMolfile line)
-    (answer : RequestAnswer size cursors (record { line = Whole line; molfile = [] }) x.calls lines cursors')
+    (read : x.read ≡ Some (Session n line)) (alone : ¬ TakesLines line)
+    (answer : RequestAnswer size cursors (record { line = Whole line; more = [] }) x.calls lines cursors')
     (said : x.text ≡ numbered n (text_of lines)) where
   abbrev all_before : AllCursors
   all_before = before ++ cursors ∷ after
@@ -116,7 +116,7 @@ module _ (law : PinsStay) (size number n : ℕ) (x : Exchange) (before after : A
   one-session a b l k e = cc e
 
   abbrev own-exchange : session.Exchange
-  own-exchange = record { request = record { line = Whole line; molfile = [] }; lines = lines }
+  own-exchange = record { request = record { line = Whole line; more = [] }; lines = lines }
 
   own-as : n ≡ number → IsOwnAs number x own-exchange
   own-as e = record {
@@ -130,7 +130,7 @@ module _ (law : PinsStay) (size number n : ℕ) (x : Exchange) (before after : A
   own-answer : (calls : Calls) → calls ≡ x.calls → n ≡ number
       → RequestAnswer size (of_number number all_before) own-exchange.request calls lines (of_number number all_after)
   own-answer calls same e =
-      let request : Request = record { line = Whole line; molfile = [] } in
+      let request : Request = record { line = Whole line; more = [] } in
       let was : of_number number all_before ≡ cursors = its-own number before after cursors (sym e ∙ is) in
       let now : of_number number all_after ≡ cursors' = its-own number before after cursors' (sym e ∙ is) in
       subst (λ (c : List Cursor). RequestAnswer size c request calls lines (of_number number all_after)) (sym was)
@@ -196,7 +196,7 @@ module _ (law : PinsStay) (size number : ℕ) (x : Exchange) (all between : AllC
   of-session n line is a = elim a.answer [
     | inl r ↦ silent size number x all between s t ps steps alike run (made ∙ r.1) holding
         (a.left ∙ (ap (λ (c : List Cursor). a.before ++ c ∷ a.after) r.3 ∙ sym a.place))
-        (λ o. o.2 (subst StartsMolfile (one-line n number line o.0 (sym is ∙ o.1)) r.0))
+        (λ o. o.2 (subst TakesLines (one-line n number line o.0 (sym is ∙ o.1)) r.0))
     | inr r ↦ subst (λ (l : AllCursors). OneLine size number x l between s ps t) (sym a.place)
         (subst (λ (l : AllCursors). OneLine size number x (a.before ++ a.cursors ∷ a.after) l s ps t) (sym a.left)
         (spoken law size number n x a.before a.after a.cursors a.cursors' line a.lines s t ps steps alike run made

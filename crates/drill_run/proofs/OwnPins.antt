@@ -1,11 +1,13 @@
 -- The calls of a session name no pins but those of its cursors and those that they took themselves.
-use Rattle.std.proofs.Common.{◌≡◌, ◌++◌, ap, Bool, cond, inl, inr, List, [], ◌∷◌, refl, subst, sym, ℕ}
+use Rattle.std.proofs.Common.{◌≡◌, ◌+◌, ◌++◌, ap, Bool, cond, inl, inr, List, [], ◌∷◌, Option, refl, subst, suc, sym, ℕ}
 use Rattle.chem_core.specs.Molecule.{Molecule}
+use Rattle.io_edge.specs.Lines.{TextLine}
 use Rattle.lookup.specs.Fetches.{AreFetches, lookup_calls}
-use Rattle.session_run.specs.Acts.{Act, Advances, AllSame, AllSimilar, Asks, Closed, Does, Ended, IsLineOf, IsNew, Lines, ListedSame, ListedSimilar, ListsSame, ListsSimilar, Lost, NewLost, NotNew, Opened, Paged, RegisteredNew, RegistersNew, SameLost, Says, Searched, Searches, SimilarLost, Turned}
+use Rattle.session_run.specs.Acts.{Act, Advances, AllSame, AllSimilar, AnswersBy, Asks, Closed, Does, Ended, Faults, FoundData, IsLineOf, IsNew, Lines, ListedSame, ListedSimilar, ListsSame, ListsSimilar, Lost, NewLost, NotNew, Opened, Paged, Refuses, RegisteredEach, RegisteredNew, RegistersEach, RegistersNew, Replies, SameLost, Says, Searched, Searches, SimilarLost, Turned}
 use Rattle.session_run.specs.Cursors.{Calls, Cursor}
 use Rattle.session_run.specs.Lookups.{LooksUp}
 use Rattle.session_run.specs.Pins.{AreApart, AreHeld, Effect, HeldAfter, HeldBy, IsApart, Leaves, Returns, Takes, effect}
+use Rattle.session_run.specs.Records.{counted}
 use Rattle.session_run.proofs.Held.{after-under, held-at, leave-same}
 use Rattle.session_run.proofs.LookedUp.{fetches_leave}
 use Rattle.shell_lang.specs.Reply as line
@@ -153,6 +155,20 @@ ask-named a events.Prune reply said is = tt
 ask-named a (events.Look id) reply said is = tt
 ask-named a events.Stats reply said is = tt
 
+by-named : {act : Act} {calls : Calls} {said : line.Reply} (a : ℕ → ℕ → Type 0) → AnswersBy act calls said
+    → NamePins a calls
+by-named a (Refuses refusal) = tt
+by-named a Faults = tt
+by-named a (Replies event reply said is) = (ask-named a event reply said is, tt)
+
+-- the calls for the records of an SD file
+each-named : (a : ℕ → ℕ → Type 0) (id sum : ℕ) (records : List (Option (List TextLine))) (calls : Calls) (lines : Lines)
+    → RegistersEach id sum records calls lines → NamePins a calls
+each-named a id sum [] calls lines h = subst (NamePins a) (sym h.0) tt
+each-named a id sum (r ∷ records) calls lines (act, own, more, said, rest, may, by, e, f, next) =
+    subst (NamePins a) (sym e) (names-append a own more (by-named a by)
+    (each-named (HeldAfter a own) (suc id) (sum + counted r) records more rest next))
+
 advance-named : {size : ℕ} {c c' : Cursor} {calls : Calls} {lines : Lines} (a : ℕ → ℕ → Type 0) → a c.slot c.version
     → Advances size c calls lines c' → NamePins a calls
 advance-named a h (Ended at) = tt
@@ -173,3 +189,5 @@ act-named a (Closed name before after c named) h =
 act-named a (ListedSame m print calls lines s) h = same-named a s
 act-named a (RegisteredNew change m print calls lines s) h = new-named a s
 act-named a (ListedSimilar p q k print calls lines s) h = similar-named a s
+act-named a (RegisteredEach id records calls lines each) h = each-named a id 0 records calls lines each
+act-named a (FoundData id name reply said is) h = (tt, tt)

@@ -5,7 +5,7 @@ use Rattle.std.specs.Fmt.{decimal}
 use Rattle.io_edge.specs.Lines.{TextLine, Whole, TooLong}
 use Rattle.session_run.specs.Acts.{Lines, RequestAnswer}
 use Rattle.session_run.specs.Cursors.{Calls, Cursor}
-use Rattle.shell_lang.specs.Command.{StartsMolfile}
+use Rattle.shell_lang.specs.Command.{TakesLines}
 use Rattle.shell_lang.specs.Reply as reply
 use Rattle.shell_lang.specs.Reply.{reply_line, text_of}
 use Rattle.shell_lang.specs.declared.command.LineRefusal.TheVariants as refused
@@ -41,18 +41,18 @@ refused_text TooLong = reply_line (reply.Refused refusals.Long)
 abbrev pub Says : List ℕ → AllCursors → Calls → List ℕ → AllCursors → Type 0
 Says said all calls text all' = (calls ≡ []) × (text ≡ said) × (all' ≡ all)
 
--- the reply to a script line that would take a molfile
-abbrev pub molfile_refused : Lines
-molfile_refused = reply.Refused (refusals.Line refused.Syntax) ∷ []
+-- the reply to a script line that would take lines after it
+abbrev pub lines_refused : Lines
+lines_refused = reply.Refused (refusals.Line refused.Syntax) ∷ []
 
--- A script line is answered as in a session. One whose first part is `register-mol` or `revise-mol` is refused, and
--- takes no lines
+-- A script line is answered as in a session. One that would take lines after it, those of a molfile or of records, is
+-- refused, and takes none
 abbrev pub IsOwnAnswer : ℕ → List ℕ → List Cursor → Calls → Lines → List Cursor → Type 0
 IsOwnAnswer size line cursors calls lines cursors' =
-    (StartsMolfile line × (calls ≡ []) × (lines ≡ molfile_refused)
+    (TakesLines line × (calls ≡ []) × (lines ≡ lines_refused)
     × (cursors' ≡ cursors))
-    ⊎ (¬ StartsMolfile line
-    × RequestAnswer size cursors (record { line = Whole line; molfile = [] }) calls lines cursors')
+    ⊎ (¬ TakesLines line
+    × RequestAnswer size cursors (record { line = Whole line; more = [] }) calls lines cursors')
 
 -- a session's line is answered by that session's cursors, each line of the reply with the number of the session
 pub record IsSessionAnswer (size number : ℕ) (line : List ℕ) (all : AllCursors) (calls : Calls) (text : List ℕ)

@@ -5,7 +5,7 @@ use Rattle.io_edge.specs.Lines.{Whole}
 use Rattle.session_run.specs.Cursors.{Calls}
 use Rattle.session_run.specs.Dialogue as session
 use Rattle.session_run.specs.Truths.{AreTrue}
-use Rattle.shell_lang.specs.Command.{StartsMolfile}
+use Rattle.shell_lang.specs.Command.{TakesLines}
 use Rattle.shell_lang.specs.Reply.{text_of}
 use Rattle.store_machine.specs.History.{grown}
 use Rattle.store_machine.specs.Laws.{IsSound}
@@ -22,14 +22,14 @@ use Rattle.drill_run.specs.Numbers.{numbered}
 
 -- a line of this session that is answered as in a session
 abbrev pub IsOwn : ℕ → Exchange → Type 0
-IsOwn number x = (line : List ℕ) × (x.read ≡ Some (Session number line)) × ¬ StartsMolfile line
+IsOwn number x = (line : List ℕ) × (x.read ≡ Some (Session number line)) × ¬ TakesLines line
 
 -- the same line with its reply, as an exchange of that session alone
 pub record IsOwnAs (number : ℕ) (x : Exchange) (own : session.Exchange) : Type 0 where
   pub line : List ℕ
   pub read : x.read ≡ Some (Session number line)
-  pub alone : ¬ StartsMolfile line
-  pub request : own.request ≡ record { line = Whole line; molfile = [] }
+  pub alone : ¬ TakesLines line
+  pub request : own.request ≡ record { line = Whole line; more = [] }
   pub said : x.text ≡ numbered number (text_of own.lines)
 
 -- the session's own dialogue in a drill: its lines with their replies, in order

@@ -11,7 +11,7 @@ ghost use Rattle.shell_lang.specs.Reply.{text_of};
 ghost use Rattle.store_core.specs.Stored.{HoldsPin};
 ghost use Rattle.store_disk.specs.InMemory.{StandsInMemory};
 ghost use Rattle.store_machine.specs.declared.machine.State.{State};
-ghost use Rattle.drill_run.specs.Dialogue.{molfile_refused, reopened_text};
+ghost use Rattle.drill_run.specs.Dialogue.{lines_refused, reopened_text};
 ghost use Rattle.drill_run.specs.Drilled.{no_cursors};
 ghost use Rattle.drill_run.specs.Lines as lines;
 ghost use Rattle.drill_run.specs.Lines.{Reads};
@@ -217,7 +217,7 @@ impl Sessions {
     }
 }
 
-// Answers a session's line. One that would take a molfile is refused. The reply is then in `out` of the responder.
+// Answers a session's line. One that would take more lines is refused. The reply is then in `out` of the responder.
 fn answer_alone<R: Threads + Sync, M: Meter>(
     responder: &mut Responder,
     rt: &R,
@@ -237,14 +237,14 @@ fn answer_alone<R: Threads + Sync, M: Meter>(
     ensures settings { responder.new.cursors.settings ≡ responder.old.cursors.settings }
 {
     match taken_lines(line) {
-        Some(_) => refuse_molfile(responder),
+        Some(_) => refuse_lines(responder),
         None => answer_script_line(responder, rt, world, meter, line),
     }
 }
 
-// Refuses a line that would take a molfile.
-fn refuse_molfile(responder: &mut Responder) -> Result<(), AllocError>
-    ensures ok { OnOk result (responder.new.out.items ≡ text_of molfile_refused) }
+// Refuses a line that would take lines after it.
+fn refuse_lines(responder: &mut Responder) -> Result<(), AllocError>
+    ensures ok { OnOk result (responder.new.out.items ≡ text_of lines_refused) }
     ensures cursors { responder.new.cursors ≡ responder.old.cursors }
 {
     responder.out.clear();
@@ -254,7 +254,7 @@ fn refuse_molfile(responder: &mut Responder) -> Result<(), AllocError>
     )
 }
 
-// Answers a line that takes no molfile.
+// Answers a line that takes no lines.
 fn answer_script_line<R: Threads + Sync, M: Meter>(
     responder: &mut Responder,
     rt: &R,

@@ -133,6 +133,10 @@ fn lines_that_are_none_are_refused(rt: HostRuntime) -> Result<(), Fail> {
             "16 refused syntax\n2 refused syntax\n3 refused cursor\n",
         ),
         (
+            "1 register-sd 1 1\n2 register-sd 0 1\n3 register-sd 1\n1 register 7 C\n1 data 7 NAME",
+            "1 refused syntax\n2 refused syntax\n3 refused syntax\n1 ok 1\n1 refused data\n",
+        ),
+        (
             "stop 1000000\nfail 1000000\nreopen 4294967295",
             "set\nset\nreopened 0\n",
         ),

@@ -85,6 +85,12 @@ fn lines_of_no_drill(rt: HostRuntime) -> Result<(), Fail> {
         < refused drill\n\
         > 1 register-mol 1\n\
         < 1 refused syntax\n\
+        > 2 register-sd 1 1\n\
+        < 2 refused syntax\n\
+        > 1 register 7 C\n\
+        < 1 ok 1\n\
+        > 1 data 7 NAME\n\
+        < 1 refused data\n\
         ",
     )
 }

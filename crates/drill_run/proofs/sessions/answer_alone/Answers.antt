@@ -8,15 +8,15 @@ use Rattle.drill_run.proofs.sessions.answer_alone.Goals as goal
 pub returns-in-Some-clause-ok : goal.returns-in-Some-clause-ok
 returns-in-Some-clause-ok g c = λ size e.
     refused-ok size c.args.line.now c.args.world.now (cursors_of (opened c.args.responder.now.cursors))
-    (cursors_of (opened c.refuse_molfile.new.responder.cursors)) c.in-Some.ensures.some.0
-    (ap (λ (k : Cursors). cursors_of (opened k)) c.refuse_molfile.ensures.cursors) c.refuse_molfile.result
-    c.refuse_molfile.new.responder.out.items c.refuse_molfile.ensures.ok
+    (cursors_of (opened c.refuse_lines.new.responder.cursors)) c.in-Some.ensures.some.0
+    (ap (λ (k : Cursors). cursors_of (opened k)) c.refuse_lines.ensures.cursors) c.refuse_lines.result
+    c.refuse_lines.new.responder.out.items c.refuse_lines.ensures.ok
 
 pub returns-in-Some-clause-err : goal.returns-in-Some-clause-err
 returns-in-Some-clause-err g c = λ size e.
     refused-err size c.args.line.now c.args.world.now (cursors_of (opened c.args.responder.now.cursors))
-    (cursors_of (opened c.refuse_molfile.new.responder.cursors)) c.in-Some.ensures.some.0
-    (ap (λ (k : Cursors). cursors_of (opened k)) c.refuse_molfile.ensures.cursors) c.refuse_molfile.result
+    (cursors_of (opened c.refuse_lines.new.responder.cursors)) c.in-Some.ensures.some.0
+    (ap (λ (k : Cursors). cursors_of (opened k)) c.refuse_lines.ensures.cursors) c.refuse_lines.result
 
 pub returns-in-None-clause-ok : goal.returns-in-None-clause-ok
 returns-in-None-clause-ok g c = λ size e. rw e c.answer_script_line.ensures.ok
