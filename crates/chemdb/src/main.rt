@@ -45,6 +45,7 @@ Options, none for init, stand before or behind the command, as --page 3 or --pag
 example: printf 'register 1 CCO\\nsearch CO\\n' | chemdb mem --page=64";
 
 /// How the words were served: the overall status, and the place of damage in the file, 0 where there is none.
+#[derive(Clone, Copy, Debug)]
 struct Ended {
     status: u8,
     place: u64,
