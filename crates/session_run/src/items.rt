@@ -33,14 +33,14 @@ pub fn find_data<S: Service>(
 }
 
 // The data of the first item of a name in a record's text.
-fn item_of<'a>(record: &'a Record, name: &[u8]) -> Option<&'a [u8]>
-    ensures { MatchOption result (data_of record.now.format record.now.text name.now ≡ None)
-        (λ r. data_of record.now.format record.now.text name.now ≡ Some r.now) }
+fn item_of<'a>(entry: &'a Record, name: &[u8]) -> Option<&'a [u8]>
+    ensures { MatchOption result (data_of entry.now.format entry.now.text name.now ≡ None)
+        (λ r. data_of entry.now.format entry.now.text name.now ≡ Some r.now) }
 {
-    match record.format() {
+    match entry.format() {
         Format::Smiles => None,
         Format::Molfile => {
-            let text = record.text();
+            let text = entry.text();
             let (from, to) = item(text, name)?;
             Some(&text[from..to])
         }
