@@ -25,7 +25,10 @@ use Rattle.session_run.specs.declared.stop.Stop.TheVariants as stops
 use Rattle.session_run.proofs.ActPins.{act_held, act_others}
 use Rattle.session_run.proofs.Held.{held-same, moves-none, not_raised-same, same_others, same_others-more}
 use Rattle.shell_lang.specs.Command.{TakesLines}
+use Rattle.shell_lang.specs.CommandView.{Takes}
 use Rattle.shell_lang.specs.Reply.{text_of}
+use Rattle.shell_lang.specs.declared.command.TakenLines.{TakenLines}
+use Rattle.shell_lang.specs.declared.command.TakenLines.TheVariants as taken
 use Rattle.store_core.specs.Calls.{SameHeld}
 use Rattle.store_core.specs.Stored.{HoldsPin}
 use Rattle.store_core.specs.declared.service.Service as meaning
@@ -121,6 +124,11 @@ module _ {size : ℕ} {own : List ℕ} {old new : WorldTerm} {cursors cursors' :
 pub never-worn : {Made : Calls → Type 0} {IsWorn : Type 0} {Is : Calls → Lines → List Cursor → Type 0}
     {out out' : List ℕ} {after : List Cursor} → ¬ IsWorn → Answered Made IsWorn Is out out' after (Err stops.Worn) → ⊥
 never-worn not (Broken w) = not w.worn
+
+-- it would take more lines
+pub takes-lines : (own : List ℕ) (lines : TakenLines) → Takes lines own → TakesLines own
+takes-lines own (taken.Molfile read) h = inl h.0
+takes-lines own (taken.Records count first) ((part, h), line) = inr (part, count, h)
 
 -- it was refused
 uses-none : (world : WorldTerm) → Uses world world []
