@@ -56,6 +56,7 @@ opens_at model store s t stands doubt other image l told =
     (no_doubt model store s t stands doubt other) other.journal in
     record {
       history = other.memory.sound.history;
+      plain = other.plain;
       few = omega (arith, other.memory.stands.version, other.memory.stands.within);
       opens = (has.1 l told).each l (image l told);
     }
