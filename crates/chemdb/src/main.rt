@@ -8,7 +8,7 @@ mod files;
 mod tests;
 
 use crate::files::script_ends;
-use chem_shell::{End, PlanFault, Verb, chemdb, plan, status, word_fault};
+use chem_shell::{End, Outcome, PlanFault, Verb, chemdb, plan, status, word_fault};
 use disk_edge::FileDisk;
 use io_edge::{StdSink, StdSource};
 use std::alloc::{AllocError, Global};
@@ -44,13 +44,6 @@ options
 Options, none for init, stand before or behind the command, as --page 3 or --page=3.
 example: printf 'register 1 CCO\\nsearch CO\\n' | chemdb mem --page=64";
 
-/// How the words were served: the overall status, and the place of damage in the file, 0 where there is none.
-#[derive(Clone, Copy, Debug)]
-struct Ended {
-    status: u8,
-    place: u64,
-}
-
 fn main(rt: HostRuntime) -> ExitCode {
     ExitCode::from(run(&rt))
 }
@@ -72,7 +65,7 @@ where
     }
 }
 
-/// The same for these words. Where they ask for nothing it says why, and where the file is damaged, from which byte on.
+/// The same for these words. Where they ask for nothing, it says why.
 fn run_words<R: AllocGlobal + Files<File = File> + Input + Print + Eprint + Threads + Wait + Sync>(
     rt: &R,
     words: &[String],
@@ -85,39 +78,29 @@ where
     for word in words {
         texts.push(word.as_str())?;
     }
-    let ended = serve(rt, alloc, &texts)?;
-    match ended.status {
-        status::USAGE => match word_fault(alloc, &texts) {
+    let status = serve(rt, alloc, &texts)?;
+    if status == status::USAGE {
+        match word_fault(alloc, &texts) {
             Ok(Some(reason)) => explain(rt, reason.as_str()),
             _ => explain(rt, "the words ask for nothing"),
-        },
-        status::DAMAGED => {
-            let place = ended.place;
-            let _ = eprintln!(rt; "chemdb: the file is damaged from byte {place} on");
         }
-        _ => {}
     }
-    Ok(ended.status)
+    Ok(status)
 }
 
 /// The ends are the scripts that the words name, and their replies, or else standard input and output. The disk is the
-/// file that the words name: `init` makes it where it is not there.
-fn serve<R: AllocGlobal + Files<File = File> + Input + Print + Threads + Wait + Sync>(
+/// file that the words name: `init` makes it where it is not there. Where the file is damaged, it says from which byte on.
+fn serve<R: AllocGlobal + Files<File = File> + Input + Print + Eprint + Threads + Wait + Sync>(
     rt: &R,
     alloc: Global,
     words: &[&str],
-) -> Result<Ended, AllocError>
+) -> Result<u8, AllocError>
 where
     R::Reader: Send,
 {
     let plan = match plan(alloc, words) {
         Ok(plan) => plan,
-        Err(PlanFault::Usage) => {
-            return Ok(Ended {
-                status: status::USAGE,
-                place: 0,
-            });
-        }
+        Err(PlanFault::Usage) => return Ok(status::USAGE),
         Err(PlanFault::NoMemory) => return Err(AllocError),
     };
     let a = match plan.file {
@@ -128,21 +111,22 @@ where
     match plan.command {
         Verb::Serve => {
             let ends = script_ends(rt, alloc, &plan.scripts)?;
-            let outcome = chemdb(rt, alloc, words, a, b, ends);
-            Ok(Ended {
-                status: outcome.status,
-                place: outcome.place,
-            })
+            Ok(status_told(rt, chemdb(rt, alloc, words, a, b, ends)))
         }
         _ => {
             let ends = ends(rt, alloc, plan.ends)?;
-            let outcome = chemdb(rt, alloc, words, a, b, ends);
-            Ok(Ended {
-                status: outcome.status,
-                place: outcome.place,
-            })
+            Ok(status_told(rt, chemdb(rt, alloc, words, a, b, ends)))
         }
     }
+}
+
+/// The overall status of an outcome. Where the file is damaged, it prints from which byte on.
+fn status_told<R: Eprint, D: Drop, S: Drop, K: Drop>(rt: &R, outcome: Outcome<D, S, K>) -> u8 {
+    if outcome.status == status::DAMAGED {
+        let place = outcome.place;
+        let _ = eprintln!(rt; "chemdb: the file is damaged from byte {place} on");
+    }
+    outcome.status
 }
 
 /// Prints why the words ask for nothing, and what they may be. The status says it too, where standard error is gone.
