@@ -1,5 +1,6 @@
 mod Answered
 mod BaseTaken
+mod OneBase
 mod OneEntry
 mod OneLog
 mod Taken

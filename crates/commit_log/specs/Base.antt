@@ -64,3 +64,10 @@ pub record DamagesBase (h : Header) (before : List (List ℕ)) (left at : ℕ) (
   pub place : at ≡ length (front_of h (before ++ base_payloads entries))
   pub damage : BreaksBase (front_of h (before ++ base_payloads entries)) bytes
       ⊎ UnreadBase h.base_version (last_id 0 entries) (front_of h (before ++ base_payloads entries)) bytes
+
+-- The bytes begin with a whole base of these entries: as many as the header says.
+pub record HasBase (h : Header) (entries : List Entry) (bytes : List ℕ) : Type 0 where
+  pub rest : List ℕ
+  pub is : bytes ≡ front_of h (base_payloads entries) ++ rest
+  pub are : AreEntries h.base_version 0 entries
+  pub count : length entries ≡ h.base_count

@@ -118,6 +118,12 @@ impl Narrowing {
     }
 }
 
+/// Whether candidates are narrowed, if that pays for the pattern: those of many places, in a molecule of at most 64
+/// atoms.
+pub fn may_narrow(task: &Task) -> bool {
+    task.graph.atoms.len() >= MANY_PLACES && task.mol.atoms().len() <= MOST_BITS
+}
+
 impl Reach {
     ghost use Rattle.matcher.specs.Narrow.{IsNoted};
 

@@ -11,14 +11,15 @@ ghost use Rattle.matcher.specs.Task.{Completes, Embeds, IsReadyTask};
 
 use crate::class::may_be;
 use crate::fit::Task;
+use crate::narrow::may_narrow;
 
-/// Whether a ring of the graph can lie at no ring of the molecule, as far as lengths and classes show.
+/// Whether a ring of the graph can lie at no ring of the molecule, as far as lengths and classes show. It is not asked of
+/// a graph of few bonds, which mostly has no ring, and not where candidates may be narrowed: that shows more.
 pub fn lacks_ring(task: &Task) -> bool
     requires { IsReadyTask task.now }
     ensures { IsTrue result → ¬ Completes task.now [] }
 {
-    // most graphs of as few bonds have no ring
-    if task.graph.bonds.len() < task.graph.atoms.len() {
+    if task.graph.bonds.len() < task.graph.atoms.len() || may_narrow(task) {
         return false;
     }
     for place in 0..task.graph.bonds.len() {

@@ -7,3 +7,5 @@ pub mod Grown
 pub mod Ways
 pub mod Molecules
 pub mod Sheets
+pub mod Twins
+pub mod Neighbours

@@ -154,8 +154,8 @@ square_step bs b old new square size ha hb fresh cases x y hx hy =
 value_some : (e : Option ℕ) (f : ℕ) → e ≡ Some f → unwrap_or e 0 ≡ f
 value_some e f h = ap (λ o. unwrap_or o 0) h
 
-module _ (g : GraphTerm) (known : List Known) (square : List ℕ) (sheet : IsSheet g known square) (family : Family)
-    (x y : ℕ) (hx : x < length g.atoms) (hy : y < length g.atoms) where
+module _ (g : GraphTerm) (known : List Known) (square rows counts : List ℕ) (sheet : IsSheet g known square rows counts)
+    (family : Family) (x y : ℕ) (hx : x < length g.atoms) (hy : y < length g.atoms) where
   square_at : get_or square (256 * x + y) 0 ≡ value_of g.bonds x y
   square_at =
       let few = sheet.few in
@@ -201,6 +201,18 @@ byte_within g simple family x y b h =
       | inr r ↦ subst
           (λ z. z < length g.atoms) r.0 ok'.0
     ]
+
+-- a bond with a byte leads to a neighbour in the row of its other end
+pub row_neighbour : (g : GraphTerm) (known : List Known) (square rows counts : List ℕ)
+    → IsSheet g known square rows counts → (family : Family) (last x y b : ℕ) → last ≡ x → x < length g.atoms
+    → (graph_view g family).byte x y ≡ Some b
+    → (k : ℕ) × (k < get_or counts last 0) × (get_or rows (256 * last + k) 0 ≡ y)
+row_neighbour g known square rows counts sheet family last x y b is hx h =
+    let hy = byte_within g sheet.ends family x y b h in
+    let above : get_or square (256 * x + y) 0 ≢ 0 = λ e. no_byte_from_square g known square rows counts sheet family x y
+    hx hy e b h in
+    subst (λ z. (k : ℕ) × (k < get_or counts z 0) × (get_or rows (256 * z + k) 0 ≡ y)) (sym is)
+    ((sheet.neighbours x hx).each y hy above)
 
 pub graph_label_within : (g : GraphTerm) (family : Family) (x : ℕ) (l : ℕ × ℕ) → (graph_view g family).label x ≡ Some l
     → x < length g.atoms

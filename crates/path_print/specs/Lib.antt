@@ -3,3 +3,4 @@ pub mod Implied
 pub mod Prints
 pub mod Texts
 pub mod Squares
+pub mod Sheets

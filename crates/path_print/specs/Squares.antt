@@ -1,8 +1,9 @@
 -- What a pattern's expressions imply, worked out once, for private clauses alone.
-use Rattle.std.specs.Prelude.{◌≡◌, ℕ, ◌+◌, ◌*◌, ◌<◌, ◌≤◌, List, length, map, All, slice_get, slice_index, find, option_map, option_and_then, unwrap_or}
+use Rattle.std.specs.Prelude.{◌≡◌, ◌≢◌, ℕ, ◌+◌, ◌*◌, ◌<◌, ◌≤◌, List, length, map, All, Contains, slice_get, slice_index, find, option_map, option_and_then, unwrap_or}
 use Rattle.chem_core.specs.Graph.{JoinsAt}
 use Rattle.smarts_parse.specs.Pattern.{BondTerm, GraphTerm}
 use Rattle.path_print.specs.declared.known.Known.{Known}
+use Rattle.path_print.specs.Path.{flag_of}
 use Rattle.path_print.specs.Implied.{implied, implied_byte}
 use Rattle.path_print.specs.Prints.{are_ends}
 
@@ -22,11 +23,34 @@ pub record IsSimplePattern (n : ℕ) (bonds : List BondTerm) : Type 0 where
   pub once : (b c x y : ℕ) → JoinsAt (map (λ bond. (bond.a, bond.b)) bonds) b x y
       → JoinsAt (map (λ bond. (bond.a, bond.b)) bonds) c x y → b ≡ c
 
+-- a number that steps with the same byte and label share
+abbrev pub rank_of : ℕ → Known → ℕ
+rank_of byte k = 15 * unwrap_or k.number 255 + 5 * unwrap_or (option_map flag_of k.aromatic) 2 + byte
+
+-- the neighbours of the atom x, of so many atoms, each behind its rank
+pub record AreEnds (atoms : ℕ) (square : List ℕ) (x : ℕ) (ends : List (ℕ × ℕ)) : Type 0 where
+  pub within : All (λ end. end.1 < atoms) ends
+  pub each : (y : ℕ) → y < atoms → slice_index square (256 * x + y) ≢ 0 → (rank : ℕ) × Contains ends (rank, y)
+
+-- the neighbours of the atom x in its row, so many
+pub record IsRow (atoms : ℕ) (square rows : List ℕ) (x count : ℕ) : Type 0 where
+  pub short : count ≤ 256
+  pub within : (k : ℕ) → k < count → slice_index rows (256 * x + k) < atoms
+  pub each : (y : ℕ) → y < atoms → slice_index square (256 * x + y) ≢ 0
+      → (k : ℕ) × (k < count) × (slice_index rows (256 * x + k) ≡ y)
+
+-- the neighbours of each atom
+abbrev pub AreRows : ℕ → List ℕ → List ℕ → List ℕ → Type 0
+AreRows atoms square rows counts = (x : ℕ) → x < atoms → IsRow atoms square rows x (slice_index counts x)
+
 -- a graph, and what its expressions imply
-pub record IsSheet (g : GraphTerm) (known : List Known) (square : List ℕ) : Type 0 where
+pub record IsSheet (g : GraphTerm) (known : List Known) (square rows counts : List ℕ) : Type 0 where
   pub few : length g.atoms ≤ 256
   pub ends : IsSimplePattern (length g.atoms) g.bonds
   pub room : length known ≡ 256
   pub side : length square ≡ 65536
+  pub rows_room : length rows ≡ 65536
+  pub counts_room : length counts ≡ 256
   pub atoms : AreKnown g known
   pub bonds : IsSquare g.bonds square
+  pub neighbours : AreRows (length g.atoms) square rows counts

@@ -10,6 +10,8 @@ mod law;
 mod molecule;
 mod path;
 mod pattern;
+mod rows;
+mod step;
 mod text;
 
 pub use law::{implied_is_so, path_bit_is_set, path_is_carried, screen_law};

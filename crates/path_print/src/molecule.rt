@@ -8,6 +8,7 @@ ghost use Rattle.path_print.specs.Texts.{IsOn, IsOneLonger, IsBitFrom, IsMarked,
 
 use crate::known::Known;
 use crate::path::{MOST, More, Path};
+use crate::step::{Step, is_again};
 use chem_core::{Atom, BondKind, Mol, Print};
 
 /// The bits of all paths of the molecule.
@@ -100,24 +101,6 @@ fn mark_end(
             Some(step)
         }
         None => marked,
-    }
-}
-
-// What the texts of a path grow by: the byte of a bond, and what is known of the atom that it leads to.
-#[derive(Clone, Copy, PartialEq, Eq)]
-struct Step {
-    byte: u8,
-    known: Known,
-}
-
-// Whether it is the step that was marked last.
-#[inline(always)]
-fn is_again(marked: Option<Step>, step: Step) -> bool
-    ensures { IsTrue result → marked ≡ Some step }
-{
-    match marked {
-        Some(last) => last == step,
-        None => false,
     }
 }
 

@@ -1,5 +1,4 @@
-use Rattle.std.proofs.Common.{◌<◌, ap, arith, bit_and, length, refl, subst, sym}
-use Rattle.std.specs.Int.{bit_at}
+use Rattle.std.proofs.Common.{◌<◌, ap, arith, length, refl, subst, sym}
 use Rattle.std.proofs.lemmas.List.{length-map}
 use Rattle.std.proofs.lemmas.Nat.Bits.{bit_at-lt, bit_at_and}
 use Rattle.smarts_mean.specs.Table.{HoldsIn}

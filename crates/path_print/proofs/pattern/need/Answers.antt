@@ -3,7 +3,7 @@ use Rattle.std.proofs.lemmas.List.{length-map}
 use Rattle.smarts_parse.specs.Pattern.{pattern_of, graph_of}
 use Rattle.path_print.specs.declared.known.Known.{Known}
 use Rattle.path_print.specs.Prints.{graph_view}
-use Rattle.path_print.specs.Squares.{IsSheet}
+use Rattle.path_print.specs.Squares.{AreRows, IsSheet}
 use Rattle.path_print.specs.Texts.{IsBitFrom, IsOn, SetsBits}
 use Rattle.path_print.proofs.Sheets.{zeros, simple_within, simple_wider, label_from_known, graph_label_within}
 use Rattle.path_print.proofs.Ways.{IsBitBelow, start_on, below_more, below_all}
@@ -22,6 +22,7 @@ pub walk-requires-clause-sheet : goal.walk-requires-clause-sheet
 walk-requires-clause-sheet c =
     let p = pattern_of c.args.pattern.now in
     let few : length p.top.atoms ≤ 256 = let all = c.requires.few_atoms in omega arith in
+    let size : c.len.result ≡ length p.top.atoms = rw length-map (omega arith) in
     record {
       few = few;
       ends = simple_within p.top (length p.recs) c.requires.top;
@@ -29,6 +30,10 @@ walk-requires-clause-sheet c =
       side = c.fill.ensures.size;
       atoms = c.known_atoms-known.ensures.known;
       bonds = c.fill.ensures.square;
+      rows_room = c.fill_rows.ensures.room;
+      counts_room = c.fill_rows.ensures.counts_room;
+      neighbours = subst (λ n. AreRows n c.fill.new.square c.fill_rows.new.rows c.fill_rows.new.counts) size
+          c.fill_rows.ensures.rows;
     }
 
 pub walk-requires-clause-path : goal.walk-requires-clause-path
@@ -38,17 +43,24 @@ walk-requires-clause-path c =
     let within : c.loop-atom.atom < length g.atoms = rw length-map (omega arith) in
     let p = pattern_of c.args.pattern.now in
     let few : length p.top.atoms ≤ 256 = let all = c.requires.few_atoms in omega arith in
-    let sheet : IsSheet g c.known_atoms-known.result c.fill.new.square = record {
+    let size : c.len.result ≡ length p.top.atoms = rw length-map (omega arith) in
+    let sheet : IsSheet g c.known_atoms-known.result c.fill.new.square c.fill_rows.new.rows
+    c.fill_rows.new.counts = record {
       few = few;
       ends = simple_within p.top (length p.recs) c.requires.top;
       room = c.known_atoms-known.ensures.size;
       side = c.fill.ensures.size;
       atoms = c.known_atoms-known.ensures.known;
       bonds = c.fill.ensures.square;
+      rows_room = c.fill_rows.ensures.room;
+      counts_room = c.fill_rows.ensures.counts_room;
+      neighbours = subst (λ n. AreRows n c.fill.new.square c.fill_rows.new.rows c.fill_rows.new.counts) size
+          c.fill_rows.ensures.rows;
     } in
     subst (IsOn (graph_view g)) (sym c.start-path.ensures)
     (start_on (graph_view g) c.loop-atom.atom (get_or c.known_atoms-known.result c.loop-atom.atom d)
-    (λ family. label_from_known g c.known_atoms-known.result c.fill.new.square sheet family c.loop-atom.atom
+    (λ family. label_from_known g c.known_atoms-known.result c.fill.new.square c.fill_rows.new.rows
+    c.fill_rows.new.counts sheet family c.loop-atom.atom
     c.loop-atom.atom within within d))
 
 pub loop-atom-preserved : goal.loop-atom-preserved

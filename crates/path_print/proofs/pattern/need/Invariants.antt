@@ -6,4 +6,4 @@ use Rattle.path_print.proofs.pattern.need.Given as goal
 
 -- the bits of all paths that begin with the atoms so far are set
 abbrev pub invariant-loop-atom : goal.invariant-loop-atom
-invariant-loop-atom l = SetsBits (IsBitBelow (graph_view (graph_of l.graph)) l.atom) l.initial.print l.print
+invariant-loop-atom l = SetsBits (IsBitBelow (graph_view (graph_of l.pattern.top)) l.atom) l.initial.print l.print
