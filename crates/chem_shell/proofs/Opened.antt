@@ -1,5 +1,5 @@
 -- A store that was opened stands for no other state without pins than one that was just opened.
-use Rattle.std.proofs.Common.{◌≡◌, ◌∙◌, ◌≤◌, ◌<◌, ap, arith, Contains, inl, inr, List, [], map, MatchOption, None, Option, option_map, Some, refl, subst, sym, true, false, ℕ}
+use Rattle.std.proofs.Common.{◌≡◌, ◌∙◌, ◌++◌, ◌∷◌, ◌≤◌, ◌<◌, ap, arith, Contains, inl, inr, List, [], map, MatchOption, None, Option, option_map, Some, refl, subst, sym, true, false, ℕ}
 use Rattle.std.proofs.lemmas.List.Elements.{Contains-push, Contains-push_cases}
 use Rattle.std.specs.FinMap.{get}
 use Rattle.disk_edge.specs.Disk.{DiskModel}
@@ -9,12 +9,13 @@ use Rattle.store_core.specs.Stored.{served}
 use Rattle.store_disk.specs.OnDisk.{Has, StandsFor, StoreTerm}
 use Rattle.store_disk.specs.Payloads.{payload, payloads}
 use Rattle.store_machine.specs.History.{head, made_at, snapshot}
-use Rattle.store_machine.specs.Kept.{IsNeeded, in_use}
+use Rattle.store_machine.specs.Kept.{IsNeeded, copied, in_use}
 use Rattle.store_machine.specs.Machine.{AreNeeded}
 use Rattle.store_machine.specs.Laws.{KeptIsRead}
 use Rattle.store_machine.specs.Made.{IsKept, ReadsKept}
 use Rattle.store_machine.specs.Openings.{IsOpened}
 use Rattle.store_machine.specs.declared.machine.Change.{Change}
+use Rattle.store_machine.specs.declared.machine.Copying.{Copying}
 use Rattle.store_machine.specs.declared.machine.Entry.{Entry}
 use Rattle.store_machine.specs.declared.machine.Held.{Held}
 use Rattle.store_machine.specs.declared.machine.State.{State}
@@ -23,12 +24,18 @@ use Rattle.store_machine.specs.declared.machine.Status.{Status}
 none_in : {X : Type 0} (x : X) → Contains [] x → ⊥
 none_in x c = omega (arith, c.1)
 
--- without pins the head alone is in use
-head_alone : (s : State) (v : ℕ) → s.pins ≡ [] → Contains (in_use s) v → v ≡ head s.history
-head_alone s v none used =
+-- the versions in use where a copy runs or none
+abbrev used_with : State → Option Copying → List ℕ
+used_with s copy = map (λ (p : Held). p.version) s.pins ++ (copied copy ++ head s.history ∷ [])
+
+-- without pins and a copy the head alone is in use
+head_alone : (s : State) (v : ℕ) → s.pins ≡ [] → s.copy ≡ None → Contains (in_use s) v → v ≡ head s.history
+head_alone s v none uncopied used =
     let versions = map (λ (p : Held). p.version) s.pins in
-    elim (Contains-push_cases versions (head s.history) v used) [
-      | inl pinned ↦ absurd (none_in v (subst (λ (ps : List Held). Contains (map (λ (p : Held). p.version) ps) v) none pinned))
+    elim (Contains-push_cases versions (head s.history) v
+    (subst (λ (o : Option Copying). Contains (used_with s o) v) uncopied used)) [
+      | inl pinned ↦
+          absurd (none_in v (subst (λ (ps : List Held). Contains (map (λ (p : Held). p.version) ps) v) none pinned))
       | inr is ↦ sym is
     ]
 
@@ -47,7 +54,7 @@ module _ (law : KeptIsRead) (store : memory.StoreTerm) (s t : State) (a : memory
       × (made_at status ≡ e.version)
   made_by e c =
       let n = (needed.exactly e).0 (kept_of_s e c) in
-      let at = head_alone s n.at unpinned n.used in
+      let at = head_alone s n.at unpinned a.copy n.used in
       (n.status, subst (λ (v : ℕ). get (snapshot s.history v) e.id ≡ Some n.status) at n.state, n.made)
 
   one_entry : (id v w : ℕ) → IsKept t id v → IsKept t id w → v ≡ w
@@ -66,7 +73,8 @@ module _ (law : KeptIsRead) (store : memory.StoreTerm) (s t : State) (a : memory
   needed_by_t e c = by_state (get (snapshot t.history (head t.history)) e.id) refl
     where
       used : Contains (in_use t) (head t.history)
-      used = Contains-push (map (λ (p : Held). p.version) t.pins) (head t.history)
+      used = subst (λ (o : Option Copying). Contains (used_with t o) (head t.history)) (sym b.copy)
+          (Contains-push (map (λ (p : Held). p.version) t.pins) (head t.history))
 
       reads : ReadsKept t (head t.history) e.id
       reads = law t (head t.history) e.id b.sound b.serves used
@@ -119,12 +127,15 @@ no_doubt model store s t stands doubt other = by_doubt t.doubt refl
         other.journal in
         absurd (apart (sym settled ∙ has.0))
 
-pub one_opened : KeptIsRead → {D : Type 0} (model : DiskModel D) (n : ℕ) (store : StoreTerm D) (s t : State) → IsOpened n s
-    → StandsFor model store s → StandsFor model store t → t.pins ≡ [] → IsOpened n t
+pub one_opened : KeptIsRead → {D : Type 0} (model : DiskModel D) (n : ℕ) (store : StoreTerm D) (s t : State)
+    → IsOpened n s → StandsFor model store s → StandsFor model store t → t.pins ≡ [] → IsOpened n t
 one_opened law model n store s t opened stands other unpinned = record {
   serves = other.memory.serves;
   limit = sym other.memory.stands.limit ∙ (stands.memory.stands.limit ∙ opened.limit);
   pins = unpinned;
+  base = other.base;
+  copy = other.memory.copy;
+  finish = other.memory.finish;
   doubt = no_doubt model store s t stands opened.doubt other;
   kept = needed_kept law store.memory s t stands.memory other.memory
       (record { exactly = opened.kept.exactly; distinct = opened.kept.distinct }) opened.pins;

@@ -10,11 +10,11 @@ use Rattle.store_core.specs.Calls.{NotAbove, NotRaised}
 use Rattle.store_core.specs.Stored.{empty}
 use Rattle.store_disk.specs.OnDisk.{StoreTerm}
 use Rattle.store_disk.specs.Stored.{Stretches}
-use Rattle.store_machine.specs.Machine.{CommitGives, FetchGives, Gives, IsSure, LookGives, NoneFell, PinGives, PruneGives, Rose, SomeRose, StatsGives, UnpinGives}
+use Rattle.store_machine.specs.Machine.{CommitGives, CompactGives, FetchGives, Gives, IsSure, LookGives, NoneFell, PinGives, PruneGives, Rose, SomeRose, StatsGives, UnpinGives}
 use Rattle.store_machine.specs.Runs.{IsCalm, IsRun, calls_of, is_call}
 use Rattle.store_machine.specs.declared.machine.Change.{Change}
 use Rattle.store_machine.specs.declared.machine.Event.{Event}
-use Rattle.store_machine.specs.declared.machine.Event.TheVariants.{Commit, Crash, Fetch, Look, Open, Pin, Prune, Stats, Unpin}
+use Rattle.store_machine.specs.declared.machine.Event.TheVariants.{Commit, Compact, Crash, Fetch, Look, Open, Pin, Prune, Stats, Unpin}
 use Rattle.store_machine.specs.declared.machine.Faults.{Faults}
 use Rattle.store_machine.specs.declared.machine.Reply.{Reply}
 use Rattle.store_machine.specs.declared.machine.Reply.TheVariants.{DiskFault}
@@ -32,6 +32,7 @@ fell_of s owner (Unpin slot) r s' call g = g.0.1
 fell_of s owner Prune r s' call g = g.0.1
 fell_of s owner (Look id) r s' call g = g.0.1
 fell_of s owner Stats r s' call g = g.0.1
+fell_of s owner Compact r s' call g = g.0.1
 fell_of s owner Crash r s' call g = cc call
 fell_of s owner Open r s' call g = cc call
 
@@ -73,6 +74,11 @@ sure_stats : (s : State) (r : Reply) (s' : State) → StatsGives s r s' → IsSu
 sure_stats s (DiskFault doubt) s' g = absurd g
 sure_stats s _ s' g = tt
 
+sure_compact : (s : State) (r : Reply) (s' : State) → CompactGives s r s' → s'.faults.a ≡ 0 → s'.faults.b ≡ 0
+    → IsSure r
+sure_compact s (DiskFault doubt) s' g a b = absurd (none_risen s.faults s'.faults g.0 a b)
+sure_compact s _ s' g a b = tt
+
 -- where none was counted afterwards, no disk failed
 sure : (s : State) (owner : ℕ) (e : Event) (r : Reply) (s' : State) → is_call e ≡ true → Gives s owner e r s'
     → s'.faults.a ≡ 0 → s'.faults.b ≡ 0 → IsSure r
@@ -83,6 +89,7 @@ sure s owner (Unpin slot) r s' call g a b = sure_unpin s owner slot r s' g.1
 sure s owner Prune r s' call g a b = sure_prune s r s' g.1
 sure s owner (Look id) r s' call g a b = sure_look s id r s' g.1
 sure s owner Stats r s' call g a b = sure_stats s r s' g.1
+sure s owner Compact r s' call g a b = sure_compact s r s' g.1 a b
 sure s owner Crash r s' call g a b = cc call
 sure s owner Open r s' call g a b = cc call
 

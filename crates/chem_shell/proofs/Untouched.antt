@@ -19,8 +19,8 @@ stays_same model a a' same = (
 )
 
 -- the same run, by the commits of a plan that asks for the same
-abbrev on_same : {D : Type 0} (model : DiskModel D) (p q : Plan) (a a' b : D) (calls : Calls) → p.commits ≡ q.commits → AreOnDisk model q.commits a a' b calls
-    → AreOnDisk model p.commits a a' b calls
+abbrev on_same : {D : Type 0} (model : DiskModel D) (p q : Plan) (a a' b : D) (calls : Calls)
+    → p.commits ≡ q.commits → AreOnDisk model q.commits a a' b calls → AreOnDisk model p.commits a a' b calls
 on_same model p q a a' b calls commits on = record {
   first = on.first;
   steps = on.steps;
@@ -29,7 +29,10 @@ on_same model p q a a' b calls commits on = record {
     serves = on.opened.serves;
     limit = on.opened.limit ∙ sym commits;
     pins = on.opened.pins;
+    base = on.opened.base;
+    copy = on.opened.copy;
     doubt = on.opened.doubt;
+    finish = on.opened.finish;
     kept = on.opened.kept;
   };
   sound = on.sound;

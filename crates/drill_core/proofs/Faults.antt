@@ -6,7 +6,7 @@ use Rattle.std.specs.List.{AllByRecursion}
 use Rattle.store_machine.specs.Machine.{Gives, IsDiskFault, Rose}
 use Rattle.store_machine.specs.Runs.{IsCalm, IsRun, is_call}
 use Rattle.store_machine.specs.declared.machine.Event.{Event}
-use Rattle.store_machine.specs.declared.machine.Event.TheVariants.{Commit, Crash, Fetch, Look, Open, Pin, Prune, Stats, Unpin}
+use Rattle.store_machine.specs.declared.machine.Event.TheVariants.{Commit, Compact, Crash, Fetch, Look, Open, Pin, Prune, Stats, Unpin}
 use Rattle.store_machine.specs.declared.machine.Reply.{Reply}
 use Rattle.store_machine.specs.declared.machine.Reply.TheVariants.{DiskFault}
 use Rattle.store_machine.specs.declared.machine.State.{State}
@@ -23,6 +23,7 @@ none-fell s owner (Unpin slot) r s' call g = g.0.1.0
 none-fell s owner Prune r s' call g = g.0.1.0
 none-fell s owner (Look id) r s' call g = g.0.1.0
 none-fell s owner Stats r s' call g = g.0.1.0
+none-fell s owner Compact r s' call g = g.0.1.0
 none-fell s owner Crash r s' call g = absurd (true≢false (sym call))
 none-fell s owner Open r s' call g = absurd (true≢false (sym call))
 

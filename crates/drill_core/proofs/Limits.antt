@@ -1,12 +1,13 @@
 -- No step changes the limit of commits.
 use Rattle.std.proofs.Common.{◌≡◌, ◌∙◌, ap, Bool, false, inl, inr, List, [], ◌∷◌, None, Some, true, ℕ}
-use Rattle.store_machine.specs.Machine.{Becomes, CommitGives, CrashGives, DoubtAfter, EndsDoubt, FetchGives, Gives, LookGives, OpenGives, PinGives, PruneGives, StatsGives, UnpinGives}
+use Rattle.store_machine.specs.History.{head}
+use Rattle.store_machine.specs.Machine.{Becomes, CommitGives, CompactGives, CrashGives, DoubtAfter, EndsDoubts, FetchGives, Gives, GivesUp, LookGives, OpenGives, PinGives, PruneGives, StatsGives, UnpinGives, copying, replaced}
 use Rattle.store_machine.specs.Runs.{IsRun}
 use Rattle.store_machine.specs.declared.machine.Change.{Change}
 use Rattle.store_machine.specs.declared.machine.Event.{Event}
-use Rattle.store_machine.specs.declared.machine.Event.TheVariants.{Commit, Crash, Fetch, Look, Open, Pin, Prune, Stats, Unpin}
+use Rattle.store_machine.specs.declared.machine.Event.TheVariants.{Commit, Compact, Crash, Fetch, Look, Open, Pin, Prune, Stats, Unpin}
 use Rattle.store_machine.specs.declared.machine.Reply.{Reply}
-use Rattle.store_machine.specs.declared.machine.Reply.TheVariants.{Absent, Committed, Counted, Crashed, DiskFault, Full, Known, Looked, NoMemory, NoPin, Opened, Page, Pinned, Pruned, Unpinned, Withdrawn}
+use Rattle.store_machine.specs.declared.machine.Reply.TheVariants.{Absent, Committed, Counted, Crashed, DiskFault, Done, Full, Known, Last, Looked, More, NoMemory, NoPin, Opened, Page, Pinned, Pruned, Unpinned, Withdrawn}
 use Rattle.store_machine.specs.declared.machine.State.{State}
 use Rattle.store_machine.specs.declared.machine.Step.{Step}
 
@@ -16,12 +17,11 @@ Same s s' = s'.limit ≡ s.limit
 becomes-same : (t s' : State) → Becomes t s' → s'.limit ≡ t.limit
 becomes-same t s' b = ap (λ (x : State). x.limit) b
 
-doubt-same : (s s' : State) → EndsDoubt s s' → Same s s'
-doubt-same s s' (inl b) = becomes-same s s' b
-doubt-same s s' (inr b) = becomes-same (record s { doubt = None }) s' b
+doubt-same : (s s' : State) → EndsDoubts s s' → Same s s'
+doubt-same s s' g = becomes-same (record s { doubt = s'.doubt; finish = s'.finish }) s' g.2
 
 after-same : (s : State) (c : Change) (doubt : Bool) (s' : State) → DoubtAfter s c doubt s' → Same s s'
-after-same s c true s' b = becomes-same (record s { doubt = Some c }) s' b
+after-same s c true s' b = becomes-same (record s { doubt = Some c; finish = None }) s' b
 after-same s c false s' b = doubt-same s s' b
 
 commit-same : (s : State) (c : Change) (r : Reply) (s' : State) → CommitGives s c r s' → Same s s'
@@ -62,12 +62,25 @@ prune-same : (s : State) (r : Reply) (s' : State) → PruneGives s r s' → Same
 prune-same s (Pruned dropped) s' g = ap (λ (x : State). x.limit) g.2
 prune-same s _ s' g = absurd g
 
+given-up-same : (s : State) (doubt : Bool) (s' : State) → GivesUp s doubt s' → Same s s'
+given-up-same s true s' g = becomes-same (record s { copy = None; finish = Some g.0 }) s' g.2
+given-up-same s false s' g = becomes-same (record s { copy = None; finish = s'.finish }) s' g.1
+
+compact-same : (s : State) (r : Reply) (s' : State) → CompactGives s r s' → Same s s'
+compact-same s Last s' g = becomes-same s s' g.2
+compact-same s (More left) s' (inl g) = becomes-same (record (copying s (head s.history) left) { finish = None }) s' g.3
+compact-same s (More left) s' (inr g) = becomes-same (copying s g.0 left) s' g.5
+compact-same s (Done generation) s' g = becomes-same (replaced s g.1) s' g.3
+compact-same s (DiskFault doubt) s' g = given-up-same s doubt s' g.1
+compact-same s NoMemory s' g = becomes-same (record s { copy = s'.copy; finish = s'.finish }) s' g.2
+compact-same s _ s' g = absurd g
+
 crash-same : (s : State) (r : Reply) (s' : State) → CrashGives s r s' → Same s s'
 crash-same s Crashed s' g = ap (λ (x : State). x.limit) g.1
 crash-same s _ s' g = absurd g
 
 open-same : (s : State) (r : Reply) (s' : State) → OpenGives s r s' → Same s s'
-open-same s (Opened commits) s' g = ap (λ (x : State). x.limit) g.5
+open-same s (Opened commits) s' g = ap (λ (x : State). x.limit) g.8
 open-same s _ s' g = absurd g
 
 step-same : (s : State) (owner : ℕ) (e : Event) (r : Reply) (s' : State) → Gives s owner e r s' → Same s s'
@@ -78,6 +91,7 @@ step-same s owner (Unpin slot) r s' g = unpin-same s owner slot r s' g.1
 step-same s owner Prune r s' g = prune-same s r s' g.1
 step-same s owner (Look id) r s' g = look-same s id r s' g.1
 step-same s owner Stats r s' g = stats-same s r s' g.1
+step-same s owner Compact r s' g = compact-same s r s' g.1
 step-same s owner Crash r s' g = crash-same s r s' g
 step-same s owner Open r s' g = open-same s r s' g
 

@@ -16,7 +16,7 @@ use Rattle.store_machine.specs.declared.machine.History.{History}
 use Rattle.store_machine.specs.declared.machine.Reply.{Reply}
 use Rattle.store_machine.specs.declared.machine.State.{State}
 use Rattle.store_disk.specs.InMemory.{StandsInMemory}
-use Rattle.store_disk.specs.Loads.{Damages, OpensAfter, OpensTo}
+use Rattle.store_disk.specs.Loads.{Damages, MayLeave, OpensAfter, OpensTo}
 use Rattle.store_disk.specs.OnDisk.{StandsFor, StoreTerm}
 use Rattle.store_disk.specs.Stored.{Stretches}
 use Rattle.drill_core.proofs.Limits.{limits-stay}
@@ -80,12 +80,14 @@ no-fault d a bytes is n rose =
 
 -- a crash and an opening are a run to the state that was loaded
 pub reopens : CrashOpens → ((h k : History) (bytes : List ℕ) → OpensTo h bytes → OpensTo k bytes → h ≡ k)
-    → (store : StoreTerm Medium) (s t : State) (bytes : List ℕ) (commits count : ℕ) → OpensAfter s bytes
+    → (store : StoreTerm Medium) (s t : State) (bytes : List ℕ) (commits count : ℕ)
+    → ((h : History) → MayLeave s h → Recovers s h s.generation) → s.generation ≡ 0 → OpensAfter s bytes
     → s.limit ≡ commits → StandsInMemory store t → IsOpened commits t → OpensTo t.history bytes
     → count ≡ head t.history → Reopens s bytes store count
-reopens law one store s t bytes commits count o limit at loaded opens is =
-    let recovers : Recovers s t.history =
-    subst (λ h. Recovers s h) (one o.0 t.history bytes o.2 opens) o.1 in
+reopens law one store s t bytes commits count left format o limit at loaded opens is =
+    let recovers : Recovers s t.history t.generation =
+    subst (λ (g : ℕ). Recovers s t.history g) (format ∙ sym at.generation)
+    (left t.history (subst (λ (h : History). MayLeave s h) (one o.0 t.history bytes o.2 opens) o.1)) in
     let opened : IsOpened s.limit t = subst (λ n. IsOpened n t) (sym limit) loaded in
     record {
       after = t;

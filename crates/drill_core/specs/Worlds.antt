@@ -39,10 +39,10 @@ pub record Reopens (s : State) (bytes : List ℕ) (store : StoreTerm Medium) (co
   pub after : State
   pub stands : StandsInMemory store after
   -- the history is one that a crash may leave, and the one that the bytes open to
-  pub recovers : Recovers s after.history
+  pub recovers : Recovers s after.history after.generation
   pub opens : OpensTo after.history bytes
   pub version : count ≡ head after.history
-  -- nothing is pinned or in doubt, and the limit is as before
+  -- nothing is pinned, copied or in doubt, and the limit is as before
   pub opened : IsOpened s.limit after
   -- a Crash and an Open are a run, whatever their times
   pub run : (at begin end : Times) → IsRun s (reopening s after at begin end) after

@@ -27,7 +27,9 @@ use std::alloc::{AllocError, Global};
 use std::marker::Model;
 use std::sync::ledger::Ledger;
 use store_core::{CallFault, Change, CommitFault, Look, MOST_COMMITS, Page, Service, Stats, Steps};
-use store_disk::{Disks, Store, a_standing_store_opens, a_store_opens_one_way};
+use store_disk::{
+    Disks, Store, a_standing_store_opens, a_store_opens_one_way, what_is_left_is_recovered,
+};
 use store_machine::crash_opens;
 
 /// A store on disks in memory, with any number of callers. Contracts see its store.
@@ -92,9 +94,9 @@ impl World {
     }
 
     /// A crash that leaves the image of this number of each disk, and a loading. What a disk holds is then what
-    /// `MemDisk::image` of that number gives; no failure is set, nothing is pinned, and nothing is in doubt. Answers the
-    /// number of commits beside the world. The history is the one that the image of disk `a` opens to: that from before
-    /// the crash, or this and the commit in doubt. Fails where memory runs out, and only there.
+    /// `MemDisk::image` of that number gives; no failure is set, and nothing is pinned or in doubt. Answers the number
+    /// of commits beside the world. The history is the one that the image of disk `a` opens to: that from before the
+    /// crash, or this and the commit in doubt. Fails where memory runs out, and only there.
     pub fn reopen(self, image: u32) -> Result<(World, u32), AllocError>
         ensures opens { IfOk result (λ r. (s : State) → StandsInMemory self s
             → Reopens s (left_on self.journal.disk image) r.0 r.1) }
@@ -105,6 +107,7 @@ impl World {
     {
         a_standing_store_opens::<MemDisk>();
         a_store_opens_one_way();
+        what_is_left_is_recovered::<MemDisk>();
         crash_opens();
         let World {
             alloc,

@@ -13,7 +13,7 @@ use Rattle.store_machine.specs.Owners.{unowned}
 use Rattle.store_machine.specs.Runs.{IsCalm, IsRun, calls_of, is_call, is_own}
 use Rattle.store_machine.specs.Searches.{KeepsPin, unpins}
 use Rattle.store_machine.specs.declared.machine.Event.{Event}
-use Rattle.store_machine.specs.declared.machine.Event.TheVariants.{Commit, Crash, Fetch, Look, Open, Pin, Prune, Stats, Unpin}
+use Rattle.store_machine.specs.declared.machine.Event.TheVariants.{Commit, Compact, Crash, Fetch, Look, Open, Pin, Prune, Stats, Unpin}
 use Rattle.store_machine.specs.declared.machine.Held.{Held}
 use Rattle.store_machine.specs.declared.machine.Reply.{Reply}
 use Rattle.store_machine.specs.declared.machine.Reply.TheVariants as reply
@@ -32,6 +32,7 @@ named-call a (Unpin slot) names = refl
 named-call a Prune names = refl
 named-call a (Look id) names = refl
 named-call a Stats names = refl
+named-call a Compact names = absurd names
 named-call a Crash names = absurd names
 named-call a Open names = absurd names
 
@@ -97,6 +98,7 @@ keeps law s t n (Unpin at) r g calm slot v h =
 keeps law s t n Prune r g calm slot v h = holds-step law s n Prune r t slot n v g refl (λ _. refl) h
 keeps law s t n (Look id) r g calm slot v h = holds-step law s n (Look id) r t slot n v g refl (λ _. refl) h
 keeps law s t n Stats r g calm slot v h = holds-step law s n Stats r t slot n v g refl (λ _. refl) h
+keeps law s t n Compact r g calm slot v h = holds-step law s n Compact r t slot n v g refl (λ _. refl) h
 keeps law s t n Crash r g calm slot v h = absurd (true≢false (sym calm))
 keeps law s t n Open r g calm slot v h = absurd (true≢false (sym calm))
 
@@ -116,6 +118,7 @@ apart s t n (Unpin at) r g = tt
 apart s t n Prune r g = tt
 apart s t n (Look id) r g = tt
 apart s t n Stats r g = tt
+apart s t n Compact r g = tt
 apart s t n Crash r g = tt
 apart s t n Open r g = tt
 

@@ -1,14 +1,14 @@
 -- A step of the store's machine from a state whose pins are others' leads to the same but for the owners of pins, where
 -- the pin that it names is its own.
-use Rattle.std.proofs.Common.{◌≡◌, ◌==◌, ◌↔◌, ◌++◌, ◌∙◌, ap, arith, Bool, cond, Contains, false, filter, inl, inr, length, List, [], ◌∷◌, map, None, not, Option, refl, Some, subst, suc, sym, true, ℕ}
+use Rattle.std.proofs.Common.{◌≡◌, ◌==◌, ◌↔◌, ◌++◌, ◌∙◌, ap, arith, Bool, cond, Contains, false, filter, length, List, [], ◌∷◌, map, None, not, Option, refl, Some, subst, suc, sym, true, ℕ}
 use Rattle.std.proofs.lemmas.List.{map-append}
 use Rattle.store_machine.specs.History.{head}
-use Rattle.store_machine.specs.Kept.{IsNeeded}
-use Rattle.store_machine.specs.Machine.{AreNeeded, Becomes, CommitGives, DoubtAfter, EndsDoubt, FetchGives, Gives, LookGives, PruneGives, StatsGives, pin_in}
+use Rattle.store_machine.specs.Kept.{IsNeeded, copied}
+use Rattle.store_machine.specs.Machine.{AreNeeded, Becomes, CommitGives, DoubtAfter, EndsDoubts, FetchGives, Gives, LookGives, PruneGives, StatsGives, pin_in}
 use Rattle.store_machine.specs.Owners.{unowned}
 use Rattle.store_machine.specs.declared.machine.Change.{Change}
 use Rattle.store_machine.specs.declared.machine.Event.{Event}
-use Rattle.store_machine.specs.declared.machine.Event.TheVariants.{Commit, Crash, Fetch, Look, Open, Pin, Prune, Stats, Unpin}
+use Rattle.store_machine.specs.declared.machine.Event.TheVariants.{Commit, Compact, Crash, Fetch, Look, Open, Pin, Prune, Stats, Unpin}
 use Rattle.store_machine.specs.declared.machine.Held.{Held}
 use Rattle.store_machine.specs.declared.machine.Reply.{Reply}
 use Rattle.store_machine.specs.declared.machine.Reply.TheVariants as reply
@@ -123,12 +123,11 @@ module _ (s t : State) (ps : List Held) (n : ℕ) where
   becomes : (m : State) → Becomes m t → Becomes (with_pins m ps) (with_pins t ps)
   becomes m b = ap (λ (x : State). with_pins x ps) b
 
-  ends : (m : State) → EndsDoubt m t → EndsDoubt (with_pins m ps) (with_pins t ps)
-  ends m (inl b) = inl (becomes m b)
-  ends m (inr b) = inr (becomes (record m { doubt = None }) b)
+  ends : (m : State) → EndsDoubts m t → EndsDoubts (with_pins m ps) (with_pins t ps)
+  ends m g = (g.0, g.1, becomes (record m { doubt = t.doubt; finish = t.finish }) g.2)
 
   doubts : (c : Change) (doubt : Bool) → DoubtAfter s c doubt t → DoubtAfter (with_pins s ps) c doubt (with_pins t ps)
-  doubts c true b = becomes (record s { doubt = Some c }) b
+  doubts c true b = becomes (record s { doubt = Some c; finish = None }) b
   doubts c false b = ends s b
 
   commits : (c : Change) (r : Reply) → CommitGives s c r t → CommitGives (with_pins s ps) c r (with_pins t ps)
@@ -144,7 +143,8 @@ module _ (s t : State) (ps : List Held) (n : ℕ) where
   needed : Alike s.pins ps → AreNeeded s t.kept → AreNeeded (with_pins s ps) t.kept
   needed e g = record {
     exactly = λ entry.
-        subst (λ (l : List ℕ). Contains t.kept entry ↔ IsNeeded s.history (l ++ head s.history ∷ []) entry)
+        subst
+        (λ (l : List ℕ). Contains t.kept entry ↔ IsNeeded s.history (l ++ (copied s.copy ++ head s.history ∷ [])) entry)
         (sym (versions-alike s.pins ps e)) (g.exactly entry);
     distinct = g.distinct;
   }
@@ -173,9 +173,8 @@ module _ (s t : State) (ps : List Held) (n : ℕ) where
   fetches o slot want from limit _ v e h g = absurd g
 
 -- rows that leave the pins
-doubt-pins : (s t : State) → EndsDoubt s t → t.pins ≡ s.pins
-doubt-pins s t (inl b) = ap (λ (x : State). x.pins) b
-doubt-pins s t (inr b) = ap (λ (x : State). x.pins) b
+doubt-pins : (s t : State) → EndsDoubts s t → t.pins ≡ s.pins
+doubt-pins s t g = ap (λ (x : State). x.pins) g.2
 
 after-pins : (s : State) (c : Change) (doubt : Bool) (t : State) → DoubtAfter s c doubt t → t.pins ≡ s.pins
 after-pins s c true t b = ap (λ (x : State). x.pins) b
@@ -289,5 +288,6 @@ step-reowned s t ps o n Stats r e names g = record {
   gives = (g.0, stats s t ps n r e g.1);
   alike = same-pins s t ps e (stats-pins s r t g.1);
 }
+step-reowned s t ps o n Compact r e names g = absurd names
 step-reowned s t ps o n Crash r e names g = absurd names
 step-reowned s t ps o n Open r e names g = absurd names

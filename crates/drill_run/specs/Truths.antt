@@ -7,7 +7,8 @@ use Rattle.session_run.specs.Dialogue as session
 use Rattle.session_run.specs.Truths.{AreTrue}
 use Rattle.shell_lang.specs.Command.{TakesLines}
 use Rattle.shell_lang.specs.Reply.{text_of}
-use Rattle.store_machine.specs.History.{grown}
+use Rattle.store_machine.specs.History.{grown, rebase}
+use Rattle.store_machine.specs.Kept.{IsPast}
 use Rattle.store_machine.specs.Laws.{IsSound}
 use Rattle.store_machine.specs.Runs.{IsCalm, IsRun}
 use Rattle.store_machine.specs.Told.{acknowledged}
@@ -81,10 +82,13 @@ DrillsAreTrue =
     → events_of steps ≡ calls_of exchanges ++ more → AreAllTold s steps size exchanges
 
 -- A reopening leaves the history with what was acknowledged since the last one, in order, and at most one commit more,
--- the one in doubt
+-- the one in doubt; its base is moved to a version that was there. So what was committed up to that version is given
+-- through the base, and each snapshot from it on is the acknowledged one
 abbrev pub ReopeningsKeep : Type 0
 ReopeningsKeep =
     (s t u : State) (steps : List Step) (crash opening : Step)
-    → IsRun s steps t → IsCalm steps → IsRun t (crash ∷ opening ∷ []) u → crash.event ≡ Crash → opening.event ≡ Open
-    → (u.history ≡ grown s.history (acknowledged steps))
-    ⊎ ((c : Change) × (t.doubt ≡ Some c) × (u.history ≡ grown s.history (acknowledged steps ++ c ∷ [])))
+    → IsSound s → IsRun s steps t → IsCalm steps → IsRun t (crash ∷ opening ∷ []) u → crash.event ≡ Crash
+    → opening.event ≡ Open
+    → (v : ℕ) × IsPast t v
+    × ((u.history ≡ rebase (grown s.history (acknowledged steps)) v)
+    ⊎ ((c : Change) × (t.doubt ≡ Some c) × (u.history ≡ rebase (grown s.history (acknowledged steps ++ c ∷ [])) v)))

@@ -3,7 +3,7 @@
 ghost use Rattle.drill_run.specs.Truths.{DrillsAreTrue, ReopeningsKeep};
 
 use session_run::dialogues_are_true;
-use store_machine::{pins_stay, replies_tell, runs_stay_sound};
+use store_machine::{pins_stay, rebases_keep, replies_tell, runs_stay_sound};
 
 /// In each part of a drill, up to a reopening, each session's searches, cursors and lookups that came to their end told
 /// exactly what the history has, whatever the other sessions did meanwhile.
@@ -16,9 +16,11 @@ pub fn drills_are_true()
 }
 
 /// A reopening leaves the history with all commits that were acknowledged since the last one, in order, and at most one
-/// more, the one in doubt.
+/// more, the one in doubt. Its base may be at a later version: each snapshot from there on is that of these commits.
 pub fn reopenings_keep_commits()
     ensures { ReopeningsKeep }
 {
     replies_tell();
+    runs_stay_sound();
+    rebases_keep();
 }

@@ -4,7 +4,7 @@ use Rattle.disk_edge.specs.Disk.{DiskModel}
 use Rattle.store_machine.specs.Machine.{FetchGives, Gives, Holds, Rose, UnpinGives}
 use Rattle.store_machine.specs.Owners.{OwnersAreFree, SameButOwners}
 use Rattle.store_machine.specs.declared.machine.Event.{Event}
-use Rattle.store_machine.specs.declared.machine.Event.TheVariants.{Commit, Crash, Fetch, Look, Open, Pin, Prune, Stats, Unpin}
+use Rattle.store_machine.specs.declared.machine.Event.TheVariants.{Commit, Compact, Crash, Fetch, Look, Open, Pin, Prune, Stats, Unpin}
 use Rattle.store_machine.specs.declared.machine.Faults.{Faults}
 use Rattle.store_machine.specs.declared.machine.Held.{Held}
 use Rattle.store_machine.specs.declared.machine.Reply.{Reply}
@@ -58,6 +58,7 @@ reowned free s t o n Pin r may g = free s t o n Pin r refl g
 reowned free s t o n Prune r may g = free s t o n Prune r refl g
 reowned free s t o n (Look id) r may g = free s t o n (Look id) r refl g
 reowned free s t o n Stats r may g = free s t o n Stats r refl g
+reowned free s t o n Compact r may g = free s t o n Compact r refl g
 reowned free s t o n Crash r may g = free s t o n Crash r refl g
 reowned free s t o n Open r may g = free s t o n Open r refl g
 

@@ -2,21 +2,20 @@
 use Rattle.std.proofs.Common.{◌≡◌, ◌⊎◌, ◌++◌, ◌==◌, ◌∙◌, ap, Bool, cond, eqb-true, false, filter, inl, inr, List, [], ◌∷◌, None, not, refl, Some, sym, true, ℕ}
 use Rattle.std.proofs.lemmas.Bool.{cond-false, cond-true, true≢false}
 use Rattle.store_machine.specs.History.{head}
-use Rattle.store_machine.specs.Machine.{CommitGives, DoubtAfter, EndsDoubt, FetchGives, Gives, Holds, LookGives, PinGives, PruneGives, StatsGives, UnpinGives, pin_in}
+use Rattle.store_machine.specs.Machine.{CommitGives, CompactGives, DoubtAfter, EndsDoubts, FetchGives, Gives, GivesUp, Holds, LookGives, PinGives, PruneGives, StatsGives, UnpinGives, pin_in}
 use Rattle.store_machine.specs.Runs.{is_call}
 use Rattle.store_machine.specs.Searches.{unpins}
 use Rattle.store_machine.specs.declared.machine.Change.{Change}
 use Rattle.store_machine.specs.declared.machine.Event.{Event}
-use Rattle.store_machine.specs.declared.machine.Event.TheVariants.{Commit, Crash, Fetch, Look, Open, Pin, Prune, Stats, Unpin}
+use Rattle.store_machine.specs.declared.machine.Event.TheVariants.{Commit, Compact, Crash, Fetch, Look, Open, Pin, Prune, Stats, Unpin}
 use Rattle.store_machine.specs.declared.machine.Held.{Held}
 use Rattle.store_machine.specs.declared.machine.Reply.{Reply}
-use Rattle.store_machine.specs.declared.machine.Reply.TheVariants.{Absent, Committed, Counted, DiskFault, Full, Known, Looked, NoMemory, NoPin, Page, Pinned, Pruned, Unpinned, Withdrawn}
+use Rattle.store_machine.specs.declared.machine.Reply.TheVariants.{Absent, Committed, Counted, DiskFault, Done, Full, Known, Last, Looked, More, NoMemory, NoPin, Page, Pinned, Pruned, Unpinned, Withdrawn}
 use Rattle.store_machine.specs.declared.machine.State.{State}
 
--- Commits, pages, records, counts and prunings leave the pins.
-doubt-pins : (s t : State) → EndsDoubt s t → t.pins ≡ s.pins
-doubt-pins s t (inl b) = ap (λ (x : State). x.pins) b
-doubt-pins s t (inr b) = ap (λ (x : State). x.pins) b
+-- Commits, pages, records, counts, prunings and copies leave the pins.
+doubt-pins : (s t : State) → EndsDoubts s t → t.pins ≡ s.pins
+doubt-pins s t g = ap (λ (x : State). x.pins) g.2
 
 after-pins : (s : State) (c : Change) (doubt : Bool) (t : State) → DoubtAfter s c doubt t → t.pins ≡ s.pins
 after-pins s c true t b = ap (λ (x : State). x.pins) b
@@ -50,6 +49,19 @@ stats-pins s _ t g = absurd g
 prune-pins : (s : State) (r : Reply) (t : State) → PruneGives s r t → t.pins ≡ s.pins
 prune-pins s (Pruned dropped) t g = ap (λ (x : State). x.pins) g.2
 prune-pins s _ t g = absurd g
+
+given-up-pins : (s : State) (doubt : Bool) (t : State) → GivesUp s doubt t → t.pins ≡ s.pins
+given-up-pins s true t g = ap (λ (x : State). x.pins) g.2
+given-up-pins s false t g = ap (λ (x : State). x.pins) g.1
+
+compact-pins : (s : State) (r : Reply) (t : State) → CompactGives s r t → t.pins ≡ s.pins
+compact-pins s Last t g = ap (λ (x : State). x.pins) g.2
+compact-pins s (More left) t (inl g) = ap (λ (x : State). x.pins) g.3
+compact-pins s (More left) t (inr g) = ap (λ (x : State). x.pins) g.5
+compact-pins s (Done generation) t g = ap (λ (x : State). x.pins) g.3
+compact-pins s (DiskFault doubt) t g = given-up-pins s doubt t g.1
+compact-pins s NoMemory t g = ap (λ (x : State). x.pins) g.2
+compact-pins s _ t g = absurd g
 
 -- one pin more, in a list
 pub pin_in-last : (slot : ℕ) (p q : Held) (ps : List Held) → pin_in slot (ps ++ q ∷ []) ≡ Some p
@@ -117,7 +129,8 @@ kept-pins s t slot owner version e h = ap (pin_in slot) (sym e) ∙ h
 
 pin-before : (s : State) (by : ℕ) (r : Reply) (t : State) (slot owner version : ℕ) → PinGives s by r t
     → Holds t slot owner version → Before s by Pin r slot owner version
-pin-before s by NoPin t slot owner version g h = inl (kept-pins s t slot owner version (ap (λ (x : State). x.pins) g.1) h, refl)
+pin-before s by NoPin t slot owner version g h =
+    inl (kept-pins s t slot owner version (ap (λ (x : State). x.pins) g.1) h, refl)
 pin-before s by (Pinned other v) t slot owner version g h =
     let p : Held = record { slot = slot; owner = owner; version = version } in
     let q : Held = record { slot = other; owner = by; version = head s.history } in
@@ -161,6 +174,8 @@ step-before s by (Look id) r t slot owner version g calm h =
     inl (kept-pins s t slot owner version (look-pins s id r t g.1) h, refl)
 step-before s by Stats r t slot owner version g calm h =
     inl (kept-pins s t slot owner version (stats-pins s r t g.1) h, refl)
+step-before s by Compact r t slot owner version g calm h =
+    inl (kept-pins s t slot owner version (compact-pins s r t g.1) h, refl)
 step-before s by Crash r t slot owner version g calm h = absurd (true≢false (sym calm))
 step-before s by Open r t slot owner version g calm h = absurd (true≢false (sym calm))
 

@@ -3,7 +3,7 @@ use Rattle.std.proofs.Common.{◌≡◌, ◌≤◌, ◌∙◌, ap, arith, Err, f
 use Rattle.std.proofs.lemmas.Bool.{true≢false}
 use Rattle.store_machine.specs.History.{id_of}
 use Rattle.store_machine.specs.Laws.{KeptIsRead, StatesStay}
-use Rattle.store_machine.specs.Machine.{MayAdd, committed}
+use Rattle.store_machine.specs.Machine.{MayAdd, committed, one_more}
 use Rattle.store_machine.specs.declared.machine.Event.TheVariants as event
 use Rattle.store_machine.specs.declared.machine.Reply.{Reply}
 use Rattle.store_machine.specs.declared.machine.Reply.TheVariants as reply
@@ -71,25 +71,30 @@ refused-row store new s c fault.Full h n why = one-call store new s s 0
 refused-row store new s c (fault.DiskFault doubt) h n why = absurd why
 refused-row store new s c fault.Worn h n why = absurd why
 refused-row store new s c fault.NoMemory h n why = one-call store new s s 0
-    (event.Commit (change_of c)) reply.NoMemory refl h (serves s h.serves, inl refl) n
+    (event.Commit (change_of c)) reply.NoMemory refl h (serves s h.serves, (inl refl, inl refl, refl)) n
 
 pub refused-result : (store new : StoreTerm) (s : State) (c : Change) (f : CommitFault) (r : Result ℕ CommitFault)
     → IsErrAnd r (λ e. e ≡ f) → StandsFor new (served s) → IsAt store s → IsWhy s (change_of c) f
     → Calls Stretches (λ _. true) store new s (commit_calls c r)
 refused-result store new s c f (Ok x) is stands h why = absurd is
 refused-result store new s c f (Err e) is stands h why =
-    refused-row store new s c e h (record { sound = h.sound; serves = h.serves; stands = stands })
+    refused-row store new s c e h (record { sound = h.sound; serves = h.serves; copy = h.copy; finish = h.finish; stands = stands })
     (subst (IsWhy s (change_of c)) (sym is) why)
 
 pub committed-row : (store new : StoreTerm) (s : State) (c : Change) → IsAt store s → MayAdd s (change_of c)
     → StandsFor new (served (committed s (change_of c)))
     → Calls Stretches (λ _. true) store new s ((event.Commit (change_of c), reply.Committed new.version) ∷ [])
 committed-row store new s c h may stands =
+    let past = h.sound.bases.base in
+    let none : option_map one_more s.copy ≡ None = ap (option_map one_more) h.copy in
     one-call store new s (committed s (change_of c)) 0 (event.Commit (change_of c)) (reply.Committed new.version) refl h
     (serves s h.serves, (may, omega (arith, stands.version, length-append s.history.commits (change_of c ∷ [])), refl))
     (record {
-      sound = whole-sound (committed s (change_of c)) tt stands.sound;
+      sound = whole-sound (committed s (change_of c)) tt
+          (past.0, omega (arith, past.1, length-append s.history.commits (change_of c ∷ []))) none refl stands.sound;
       serves = h.serves;
+      copy = none;
+      finish = refl;
       stands = stands;
     })
 

@@ -20,7 +20,7 @@ use Rattle.store_machine.specs.declared.machine.Status.{Status}
 use Rattle.store_machine.specs.declared.machine.Status.TheVariants.{Live, Withdrawn}
 use Rattle.store_core.specs.Kept.{HasPrint, IsEntryOf, IsNextId, Kept, record_of, status_in, status_of}
 use Rattle.store_core.specs.Records.{IsRecord, Shared, found_of}
-use Rattle.store_core.specs.Stored.{StandsFor, StoreTerm, pin_of, served}
+use Rattle.store_core.specs.Stored.{StandsFor, StoreTerm, alone, pin_of, served}
 use Rattle.store_core.proofs.Bits.{decide-record}
 use Rattle.store_core.proofs.Found.{Rises, increases, on-first, on-from, on-none, rises}
 use Rattle.store_core.proofs.Screened.{OneStructure, screened}
@@ -37,7 +37,7 @@ pinned-version pin (p ∷ ps) c =
     ]
 
 pub pin-used : (store : StoreTerm) (s : State) (pin : Pin) → StandsFor store (served s) → Contains store.pins pin
-    → Contains (in_use s) pin.version
+    → Contains (in_use (alone (served s))) pin.version
 pin-used store s pin h held =
     Contains-append_left (map (λ (p : Held). p.version) s.pins) (head s.history ∷ []) pin.version
     (pinned-version pin s.pins (subst (λ l. Contains l pin) (sym h.pins) held))
@@ -130,7 +130,7 @@ found-in Asked unique decide (suc count) from = go (found-in Asked unique decide
     }
 
 module _ (read : KeptIsRead) (stay : StatesStay) (one : OneStructure) (store : StoreTerm) (s : State) (v : ℕ)
-    (h : StandsFor store (served s)) (used : Contains (in_use s) v) (want : List Bool) where
+    (h : StandsFor store (served s)) (used : Contains (in_use (alone (served s))) v) (want : List Bool) where
   abbrev states : Snapshot
   states = snapshot s.history v
 

@@ -40,6 +40,7 @@ empty-sound commits = record {
   doubt = tt;
   slots = tt;
   pins = λ v c. absurd (none-in v c);
+  bases = record { base = (omega arith, omega arith); copy = tt; finish = tt };
   kept = λ _ entry n. absurd (no-state n.at entry.id n.status n.state);
   made = λ _ entry k. absurd (none-in entry k);
 }

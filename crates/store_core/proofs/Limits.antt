@@ -10,6 +10,7 @@ relimited store s commits few h = record {
     doubt = tt;
     slots = h.sound.slots;
     pins = h.sound.pins;
+    bases = record { base = h.sound.bases.base; copy = tt; finish = tt };
     kept = h.sound.kept;
     made = h.sound.made;
   };

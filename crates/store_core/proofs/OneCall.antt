@@ -1,8 +1,11 @@
 -- One call of a store is one step of its run; and the part of a state that is in memory.
-use Rattle.std.proofs.Common.{◌≡◌, ◌&&◌, ap, arith, cond, [], ◌∷◌, MatchOption, refl, true, ℕ}
+use Rattle.std.proofs.Common.{◌≡◌, ◌&&◌, ◌++◌, ap, arith, cond, List, [], ◌∷◌, map, MatchOption, None, Option, refl, subst, sym, true, ℕ}
+use Rattle.store_machine.specs.History.{head}
+use Rattle.store_machine.specs.Kept.{IsNeeded, IsPast, copied}
 use Rattle.store_machine.specs.Laws.{IsSound}
 use Rattle.store_machine.specs.Machine.{Gives, MayAdd, Serves}
 use Rattle.store_machine.specs.Runs.{is_call}
+use Rattle.store_machine.specs.declared.machine.Copying.{Copying}
 use Rattle.store_machine.specs.declared.machine.Event.{Event}
 use Rattle.store_machine.specs.declared.machine.Reply.{Reply}
 use Rattle.store_machine.specs.declared.machine.State.{State}
@@ -37,26 +40,39 @@ one-call old new s t owner e r call stands gives after = record {
 pub serves : (s : State) → s.serves ≡ true → Serves s s
 serves s e = (e, (omega arith, omega arith))
 
--- a sound state is so alone, and with a doubt that may be added
-pub alone-sound : (s : State) → IsSound s → s.serves ≡ true → IsSound (alone (served s))
-alone-sound s h serves = record {
+-- the versions in use where a copy runs or none
+abbrev pub used_with : State → Option Copying → List ℕ
+used_with s copy = map (λ p. p.version) s.pins ++ (copied copy ++ head s.history ∷ [])
+
+-- a sound state without a copy is so alone, and with a doubt that may be added
+pub alone-sound : (s : State) → IsSound s → s.serves ≡ true → s.copy ≡ None → IsSound (alone (served s))
+alone-sound s h serves none = record {
   history = h.history;
   doubt = tt;
   slots = h.slots;
   pins = h.pins;
-  kept = λ _. h.kept serves;
+  bases = record { base = (omega arith, omega arith); copy = tt; finish = tt };
+  kept = λ _ entry n. h.kept serves entry
+      (subst (λ (o : Option Copying). IsNeeded s.history (used_with s o) entry) (sym none) n);
   made = λ _. h.made serves;
 }
 
-pub whole-sound : (s : State) → MatchOption s.doubt (Unit {0}) (MayAdd s) → IsSound (alone (served s)) → IsSound s
-whole-sound s doubt h = record {
+pub whole-sound : (s : State) → MatchOption s.doubt (Unit {0}) (MayAdd s) → IsPast s s.base → s.copy ≡ None
+    → s.finish ≡ None → IsSound (alone (served s)) → IsSound s
+whole-sound s doubt base none finish h = record {
   history = h.history;
   doubt = doubt;
   slots = h.slots;
   pins = h.pins;
-  kept = λ _. h.kept refl;
+  bases = record {
+    base = base;
+    copy = subst (λ (o : Option Copying). MatchOption o (Unit {0}) (λ c. IsPast s c.version)) (sym none) tt;
+    finish = subst (λ (o : Option ℕ). MatchOption o (Unit {0}) (IsPast s)) (sym finish) tt;
+  };
+  kept = λ _ entry n. h.kept refl entry
+      (subst (λ (o : Option Copying). IsNeeded s.history (used_with s o) entry) none n);
   made = λ _. h.made refl;
 }
 
 pub at-alone : (store : StoreTerm) (s : Served) → StandsFor store s → IsAt store (alone s)
-at-alone store s h = record { sound = h.sound; serves = refl; stands = h }
+at-alone store s h = record { sound = h.sound; serves = refl; copy = refl; finish = refl; stands = h }

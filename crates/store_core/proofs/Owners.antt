@@ -35,6 +35,8 @@ asks-no-owner law store s t same = (
   λ at. record {
     sound = law s t same at.sound;
     serves = ap (λ (x : State). x.serves) same.rest ∙ at.serves;
+    copy = ap (λ (x : State). x.copy) same.rest ∙ at.copy;
+    finish = ap (λ (x : State). x.finish) same.rest ∙ at.finish;
     stands = stands-too law store s t same at.stands;
   },
 )

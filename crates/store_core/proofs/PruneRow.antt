@@ -1,5 +1,5 @@
 -- The row of Prune, as a store makes it.
-use Rattle.std.proofs.Common.{◌≡◌, ◌+◌, ◌++◌, ◌-◌, ◌≤◌, ◌↔◌, ◌∙◌, ap, arith, Contains, drop, length, List, [], ◌∷◌, map, refl, replicate, Some, subst, suc, sym, take, true, zero, ℕ}
+use Rattle.std.proofs.Common.{◌≡◌, ◌+◌, ◌++◌, ◌-◌, ◌≤◌, ◌↔◌, ◌∙◌, ap, arith, Contains, drop, length, List, [], ◌∷◌, map, Option, refl, replicate, Some, subst, suc, sym, take, true, zero, ℕ}
 use Rattle.std.proofs.Math.Seq.{take-append-add}
 use Rattle.std.proofs.lemmas.List.{drop-replicate}
 use Rattle.record_versions.specs.Entries.{IsRead, chain_of}
@@ -7,6 +7,7 @@ use Rattle.snap_registry.specs.declared.Pin.{Pin}
 use Rattle.store_machine.specs.Kept.{IsNeeded, in_use}
 use Rattle.store_machine.specs.Laws.{IsSound, KeptIsRead, RunsStaySound, StatesStay}
 use Rattle.store_machine.specs.Machine.{AreNeeded, Gives}
+use Rattle.store_machine.specs.declared.machine.Copying.{Copying}
 use Rattle.store_machine.specs.declared.machine.Entry.{Entry}
 use Rattle.store_machine.specs.declared.machine.Event.TheVariants as event
 use Rattle.store_machine.specs.declared.machine.Held.{Held}
@@ -14,8 +15,8 @@ use Rattle.store_machine.specs.declared.machine.Reply.TheVariants as reply
 use Rattle.store_machine.specs.declared.machine.State.{State}
 use Rattle.store_core.specs.Calls.{Calls}
 use Rattle.store_core.specs.Kept.{HasEntry, Kept, KeptTerm, Lists, status_of}
-use Rattle.store_core.specs.Stored.{IsAt, StoreTerm, Stretches, pin_of}
-use Rattle.store_core.proofs.OneCall.{alone-sound, one-call, serves}
+use Rattle.store_core.specs.Stored.{IsAt, StoreTerm, Stretches, alone, pin_of, served}
+use Rattle.store_core.proofs.OneCall.{alone-sound, one-call, serves, used_with}
 use Rattle.store_core.proofs.Rows.{sound-after}
 use Rattle.store_core.proofs.Sees.{latest-of, made-of, sees}
 
@@ -48,12 +49,12 @@ module _ (read : KeptIsRead) (stay : StatesStay) (sound : RunsStaySound) (store 
     (h : IsAt store s) (live : List ℕ) (is : live ≡ versions store.pins ++ store.version ∷ []) (kept : KeptTerm)
     (left : Left live store.kept kept) where
   -- these versions are those in use
-  all-used : live ≡ in_use s
+  all-used : live ≡ in_use (alone (served s))
   all-used = is ∙ (ap (λ ps. versions ps ++ store.version ∷ []) (sym h.stands.pins)
       ∙ (ap (λ vs. vs ++ store.version ∷ []) (same-versions s.pins)
       ∙ ap (λ v. map (λ (p : Held). p.version) s.pins ++ v ∷ []) h.stands.version))
 
-  is-needed : (e : Entry) → HasEntry kept.chains e → IsNeeded s.history (in_use s) e
+  is-needed : (e : Entry) → HasEntry kept.chains e → IsNeeded s.history (in_use (alone (served s))) e
   is-needed e (k, c, version) =
       let r = ((left e.id k).0 c).1 in
       let used = subst (λ vs. Contains vs r.0) all-used r.1 in record {
@@ -64,7 +65,7 @@ module _ (read : KeptIsRead) (stay : StatesStay) (sound : RunsStaySound) (store 
         made = made-of k ∙ version;
       }
 
-  needed-is : (e : Entry) → IsNeeded s.history (in_use s) e → HasEntry kept.chains e
+  needed-is : (e : Entry) → IsNeeded s.history (in_use (alone (served s))) e → HasEntry kept.chains e
   needed-is e n =
       let r = latest-of read store s n.at e.id h.stands n.used n.status n.state in (
         r.k,
@@ -81,7 +82,9 @@ module _ (read : KeptIsRead) (stay : StatesStay) (sound : RunsStaySound) (store 
 
     are-needed : AreNeeded s es
     are-needed = record {
-      exactly = λ e. ((λ c. is-needed e ((l.exactly e).0 c)), (λ n. (l.exactly e).1 (needed-is e n)));
+      exactly = λ e. subst
+          (λ (o : Option Copying). (Contains es e ↔ IsNeeded s.history (used_with s o) e)) (sym h.copy)
+          ((λ c. is-needed e ((l.exactly e).0 c)), (λ n. (l.exactly e).1 (needed-is e n)));
       distinct = l.distinct;
     }
 
@@ -94,8 +97,10 @@ module _ (read : KeptIsRead) (stay : StatesStay) (sound : RunsStaySound) (store 
         record {
           sound = whole;
           serves = h.serves;
+          copy = h.copy;
+          finish = h.finish;
           stands = record {
-            sound = alone-sound after whole h.serves;
+            sound = alone-sound after whole h.serves h.copy;
             version = h.stands.version;
             limit = h.stands.limit;
             most = h.stands.most;

@@ -86,8 +86,10 @@ pub other-pins : (store : StoreTerm) (s : State) (pins : List Held) (held : List
 other-pins store s pins held h sound e = record {
   sound = sound;
   serves = h.serves;
+  copy = h.copy;
+  finish = h.finish;
   stands = pins-stand store (served s) pins held h.stands
-      (alone-sound (record s { pins = pins }) sound h.serves) e;
+      (alone-sound (record s { pins = pins }) sound h.serves h.copy) e;
 }
 
 -- a slot that no pin of a registry has

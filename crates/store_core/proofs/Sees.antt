@@ -65,7 +65,7 @@ Reads s v id o = MatchOption o ((version : ℕ) → IsKept (alone s) id version 
     × ((version : ℕ) → IsKept (alone s) id version → version ≤ v → version ≤ made_at status))
 
 module _ (read : KeptIsRead) (store : StoreTerm) (s : State) (v id : ℕ) (h : StandsFor store (served s))
-    (used : Contains (in_use s) v) where
+    (used : Contains (in_use (alone (served s))) v) where
   reads : Reads (served s) v id (get (snapshot s.history v) id)
   reads = read (alone (served s)) v id h.sound refl used
 
@@ -109,5 +109,5 @@ module _ (read : KeptIsRead) (store : StoreTerm) (s : State) (v id : ℕ) (h : S
           e ∙ ap (λ x. Some x) (same-state status (status_of k) (sym then ∙ (h.chains id).states k l.0))
 
 -- the head is in use
-pub head-used : (s : State) → Contains (in_use s) (head s.history)
+pub head-used : (s : State) → Contains (in_use (alone (served s))) (head s.history)
 head-used s = Contains-push (map (λ (p : Held). p.version) s.pins) (head s.history)

@@ -35,14 +35,18 @@ pub record Served : Type 0 where
 abbrev pub served : State → Served
 served s = record { history = s.history; limit = s.limit; pins = s.pins; kept = s.kept }
 
--- it alone as a state: with no doubt and no fault
+-- it alone as a state: with nothing copied or in doubt and no fault, and the whole history on the disk
 abbrev pub alone : Served → State
 alone s = record {
   history = s.history;
   limit = s.limit;
   pins = s.pins;
   kept = s.kept;
+  base = s.history.version;
+  generation = 0;
+  copy = None;
   doubt = None;
+  finish = None;
   faults = record
       { a = 0; b = 0 };
   serves = true;
@@ -75,10 +79,12 @@ pub record StandsFor (store : StoreTerm) (s : Served) : Type 0 where
 abbrev pub IsStore : StoreTerm → Type 0
 IsStore store = (s : Served) × StandsFor store s
 
--- the store is at a state, which serves
+-- the store is at a state, which serves, and in which no copy runs and none's finish is in doubt
 pub record IsAt (store : StoreTerm) (s : State) : Type 0 where
   pub sound : IsSound s
   pub serves : s.serves ≡ true
+  pub copy : s.copy ≡ None
+  pub finish : s.finish ≡ None
   pub stands : StandsFor store (served s)
 
 -- it is so too at a state with other owners
@@ -93,7 +99,11 @@ empty commits = record {
   limit = commits;
   pins = [];
   kept = [];
+  base = 0;
+  generation = 0;
+  copy = None;
   doubt = None;
+  finish = None;
   faults = record
       { a = 0; b = 0 };
   serves = true;

@@ -15,7 +15,7 @@ use Rattle.store_core.specs.declared.words.CommitFault.{CommitFault}
 use Rattle.store_core.specs.declared.words.CommitFault.TheVariants as fault
 use Rattle.store_machine.specs.Laws.{RunsStaySound}
 use Rattle.store_machine.specs.History.{grown}
-use Rattle.store_machine.specs.Machine.{CommitGives, EndsDoubt, Gives, IsDiskFault, MayAdd, Serves, SomeRose, Rose, committed}
+use Rattle.store_machine.specs.Machine.{CommitGives, EndsDoubts, Gives, IsDiskFault, MayAdd, Serves, SomeRose, Rose, committed, one_more}
 use Rattle.store_machine.specs.declared.machine.Change.{Change}
 use Rattle.store_machine.specs.declared.machine.Event.TheVariants as event
 use Rattle.store_machine.specs.declared.machine.Faults.{Faults}
@@ -47,8 +47,16 @@ module _ {D : Type 0} (model : DiskModel D)
   with-memory : (store : StoreTerm D) (m : Memory) (s : State) → StandsFor model store s
       → memory.StandsFor m (served s) → StandsFor model (With store m) s
   with-memory store m s h stands = record {
-    memory = record { sound = h.memory.sound; serves = h.memory.serves; stands = stands };
+    memory = record {
+      sound = h.memory.sound;
+      serves = h.memory.serves;
+      copy = h.memory.copy;
+      finish = h.memory.finish;
+      stands = stands;
+    };
     plain = h.plain;
+    base = h.base;
+    generation = h.generation;
     journal = h.journal;
     counts = h.counts;
   }
@@ -67,7 +75,8 @@ module _ {D : Type 0} (model : DiskModel D)
   refused law store m s c (fault.DiskFault doubt) h n why = absurd why
   refused law store m s c fault.Worn h n why = absurd why
   refused law store m s c fault.NoMemory h n why = still-call model only-now law store (With store m) s s 0
-      (event.Commit (change_of c)) reply.NoMemory refl (λ f. f) h (stays store s h, inl refl) n refl refl
+      (event.Commit (change_of c)) reply.NoMemory refl (λ f. f) h (stays store s h, (inl refl, inl refl, refl)) n refl
+      refl
 
   -- by the result of a `?`
   pub refused-result : RunsStaySound → (store : StoreTerm D) (m : Memory) (s : State) (c : Asked) (f : CommitFault)
@@ -109,20 +118,25 @@ module _ {D : Type 0} (model : DiskModel D)
     -- the step of this commit, with its row
     step : (t : State) (r : Reply) → t.faults ≡ record { a = model.faults journal.disk; b = model.faults store.b }
         → Gives s 0 (event.Commit (change_of c)) r t → memory.StandsFor m (served t) → t.serves ≡ true
+        → t.copy ≡ None → t.finish ≡ None → t.base ≡ t.history.version → t.generation ≡ 0
         → IsPlain t.history → Has model journal (payloads t.history) (option_map payload t.doubt)
         → (IsDiskFault r → disk.Rose (model.faults store.journal.disk) (model.faults journal.disk))
         → Calls (Stretches model) all store (record { memory = m; journal = journal; b = store.b }) s
         ((event.Commit (change_of c), r) ∷ [])
-    step t r counts gives stands serving flat has fault =
+    step t r counts gives stands serving copy finish base generation flat has fault =
         let new : StoreTerm D = record { memory = m; journal = journal; b = store.b } in
         one-call model store new s t 0 (event.Commit (change_of c)) r refl h gives
         (record {
           memory = record {
             sound = sound-after law s t 0 (event.Commit (change_of c)) r gives h.memory.sound;
             serves = serving;
+            copy = copy;
+            finish = finish;
             stands = stands;
           };
           plain = flat;
+          base = base;
+          generation = generation;
           journal = has;
           counts = counts;
         })
@@ -144,7 +158,8 @@ module _ {D : Type 0} (model : DiskModel D)
         let t : State = record (committed s told) { faults = f } in
         step t (reply.Committed m.version) refl
         (serves t refl, (may, omega (arith, ends.version, length-append s.history.commits (told ∷ [])), refl))
-        ends h.memory.serves (ap (λ k. grown k (told ∷ [])) h.plain)
+        ends h.memory.serves (ap (option_map one_more) h.memory.copy) refl h.base h.generation
+        (ap (λ k. grown k (told ∷ [])) h.plain)
         (subst (λ ps. Has model journal ps None) (sym (map-append payload s.history.commits (told ∷ [])))
         (subst (λ q. Has model journal (payloads s.history ++ q ∷ []) None) written has))
         (λ f. absurd f)
@@ -154,6 +169,7 @@ module _ {D : Type 0} (model : DiskModel D)
       abbrev then : Option Change → State
       then doubt = record s {
         doubt = doubt;
+        finish = None;
         faults = record { a = model.faults journal.disk; b = model.faults store.b };
       }
 
@@ -163,17 +179,18 @@ module _ {D : Type 0} (model : DiskModel D)
           → Calls (Stretches model) all store
           (record { memory = m; journal = journal; b = store.b }) s ((event.Commit (change_of c), r) ∷ [])
       with-doubt doubt r row has fault =
-          step (then doubt) r refl (serves (then doubt) refl, row) ends h.memory.serves h.plain has fault
+          step (then doubt) r refl (serves (then doubt) refl, row) ends h.memory.serves h.memory.copy refl h.base
+          h.generation h.plain has fault
 
       older : (r : Reply)
-          → ((doubt : Option Change) → EndsDoubt s (then doubt) → CommitGives s (change_of c) r (then doubt))
+          → ((doubt : Option Change) → EndsDoubts s (then doubt) → CommitGives s (change_of c) r (then doubt))
           → EndsOlder (Has model journal) (payloads s.history) (option_map payload s.doubt)
           → (IsDiskFault r → disk.Rose (model.faults store.journal.disk) (model.faults journal.disk))
           → Calls (Stretches model) all store
           (record { memory = m; journal = journal; b = store.b }) s ((event.Commit (change_of c), r) ∷ [])
       older r row e fault = elim e [
-        | inl has ↦ with-doubt s.doubt r (row s.doubt (inl refl)) has fault
-        | inr has ↦ with-doubt None r (row None (inr refl)) has fault
+        | inl has ↦ with-doubt s.doubt r (row s.doubt (inl refl, inr refl, refl)) has fault
+        | inr has ↦ with-doubt None r (row None (inr refl, inr refl, refl)) has fault
       ]
 
       some-rose : disk.Rose (model.faults store.journal.disk) (model.faults journal.disk) → (doubt : Option Change)

@@ -18,6 +18,7 @@ use Rattle.store_machine.specs.History.{after_changes, begun, of_commits, snapsh
 use Rattle.store_machine.specs.Machine.{AreNeeded}
 use Rattle.store_machine.specs.Openings.{IsOpened}
 use Rattle.store_machine.specs.declared.machine.Change.{Change}
+use Rattle.store_machine.specs.declared.machine.Copying.{Copying}
 use Rattle.store_machine.specs.declared.machine.Entry.{Entry}
 use Rattle.store_machine.specs.declared.machine.Faults.{Faults}
 use Rattle.store_machine.specs.declared.machine.Held.{Held}
@@ -57,6 +58,8 @@ pub once-set : (store : StoreTerm Medium) (call : Option ℕ) (s : State) → St
 once-set store call s h = record {
   memory = h.memory;
   plain = h.plain;
+  base = h.base;
+  generation = h.generation;
   journal = has-still store.journal (record store.journal.disk.failures { once = call }) (payloads s.history)
       (option_map payload s.doubt) h.journal;
   counts = h.counts;
@@ -67,6 +70,8 @@ pub passes-set : (store : StoreTerm Medium) (calls : Option ℕ) (s : State) →
 passes-set store calls s h = record {
   memory = h.memory;
   plain = h.plain;
+  base = h.base;
+  generation = h.generation;
   journal = has-still store.journal (record store.journal.disk.failures { passes = calls }) (payloads s.history)
       (option_map payload s.doubt) h.journal;
   counts = h.counts;
@@ -120,20 +125,25 @@ none-needed s (entry ∷ kept) is needed =
     absurd (no-state n.at entry.id n.status
     (subst (λ h. get (snapshot h n.at) entry.id ≡ Some n.status) is n.state))
 
-first-state : (commits limit : ℕ) (h : History) (pins : List Held) (kept : List Entry) (doubt : Option Change)
-    (faults : Faults) (serves : Bool)
-    → h ≡ begun → limit ≡ commits → pins ≡ [] → kept ≡ [] → doubt ≡ None → faults ≡ record { a = 0; b = 0 }
-    → serves ≡ true
+first-state : (commits limit : ℕ) (h : History) (pins : List Held) (kept : List Entry) (base generation : ℕ)
+    (copy : Option Copying) (doubt : Option Change) (finish : Option ℕ) (faults : Faults) (serves : Bool)
+    → h ≡ begun → limit ≡ commits → pins ≡ [] → kept ≡ [] → base ≡ 0 → generation ≡ 0 → copy ≡ None → doubt ≡ None
+    → finish ≡ None → faults ≡ record { a = 0; b = 0 } → serves ≡ true
     → record {
       history = h;
       limit = limit;
       pins = pins;
       kept = kept;
+      base = base;
+      generation = generation;
+      copy = copy;
       doubt = doubt;
+      finish = finish;
       faults = faults;
       serves = serves;
     } ≡ empty commits
-first-state commits limit h pins kept doubt faults serves e1 e2 e3 e4 e5 e6 e7 = rw (e1, e2, e3, e4, e5, e6, e7) refl
+first-state commits limit h pins kept base generation copy doubt finish faults serves e1 e2 e3 e4 e5 e6 e7 e8 e9 e10
+    e11 = rw (e1, e2, e3, e4, e5, e6, e7, e8, e9, e10, e11) refl
 
 -- a store that was just opened, without commits and failures, stands for the state with which the machine begins
 pub stands-empty : (store : StoreTerm Medium) (commits : ℕ) (s : State) → StandsInMemory store s → IsOpened commits s
@@ -143,6 +153,8 @@ stands-empty store commits s stands opened none a b =
     let none_kept : s.kept ≡ [] = none-needed s s.kept none opened.kept in
     let zero : s.faults ≡ record { a = 0; b = 0 } = stands.counts
     ∙ rw (no-fault store.journal.disk a, no-fault store.b b) refl in
-    let is : s ≡ empty commits = first-state commits s.limit s.history s.pins s.kept s.doubt s.faults s.serves none
-    opened.limit opened.pins none_kept opened.doubt zero stands.memory.serves in
+    let base : s.base ≡ 0 = stands.base ∙ ap (λ (h : History). h.version) none in
+    let is : s ≡ empty commits = first-state commits s.limit s.history s.pins s.kept s.base s.generation s.copy s.doubt
+    s.finish s.faults s.serves none opened.limit opened.pins none_kept base stands.generation opened.copy opened.doubt
+    opened.finish zero stands.memory.serves in
     subst (StandsInMemory store) is stands

@@ -7,6 +7,7 @@ mod Logged
 mod OneWay
 mod Payloads
 mod Puts
+mod Recovered
 mod Replayed
 mod Rows
 mod Steps

@@ -10,17 +10,18 @@ use Rattle.store_core.specs.Stored as memory
 use Rattle.store_core.specs.Stored.{IsStore, StoreTerm as Memory, alone, served}
 use Rattle.store_machine.specs.Laws.{IsSound, RunsStaySound}
 use Rattle.store_machine.specs.History.{IsHistory, grown, head}
-use Rattle.store_machine.specs.Machine.{Gives, IsDiskFault, MayAdd, Recovers, committed}
+use Rattle.store_machine.specs.Machine.{Gives, IsDiskFault, MayAdd, committed}
 use Rattle.store_machine.specs.Runs.{is_call}
 use Rattle.store_machine.specs.declared.machine.Change.{Change}
 use Rattle.store_machine.specs.declared.machine.Event.{Event}
-use Rattle.store_machine.specs.declared.machine.Event.TheVariants.{Commit, Crash, Fetch, Look, Open, Pin, Prune, Stats, Unpin}
+use Rattle.store_machine.specs.declared.machine.Event.TheVariants.{Commit, Compact, Crash, Fetch, Look, Open, Pin, Prune, Stats, Unpin}
+use Rattle.store_machine.specs.declared.machine.History.{History}
 use Rattle.store_machine.specs.declared.machine.Reply.{Reply}
 use Rattle.store_machine.specs.declared.machine.Reply.TheVariants.{Committed, DiskFault}
 use Rattle.store_machine.specs.declared.machine.State.{State}
 use Rattle.store_machine.specs.declared.machine.Step.{Step}
 use Rattle.store_machine.specs.declared.machine.Times.{Times}
-use Rattle.store_disk.specs.Loads.{OpensAfter, OpensTo}
+use Rattle.store_disk.specs.Loads.{MayLeave, OpensAfter, OpensTo}
 use Rattle.store_disk.specs.OnDisk.{Has, IsPlain, StandsFor, StoreTerm}
 use Rattle.store_disk.specs.Payloads.{payload, payloads}
 use Rattle.store_disk.specs.Puts.{ShowsDoubt, ShowsOne}
@@ -44,7 +45,7 @@ sound-after law s t owner e r gives sound =
 -- a step as it is lifted
 abbrev pub Lifts : State → Event → Reply → Type 0
 Lifts s e r = (owner : ℕ) (t : State) → Gives s owner e r t → Gives s owner e r (back s t)
-    × (t.history ≡ s.history) × (t.doubt ≡ s.doubt)
+    × (t.history ≡ s.history) × (t.doubt ≡ s.doubt) × (t.base ≡ s.base) × (t.generation ≡ s.generation)
 
 -- a call that is lifted leaves a store of the same version
 pub still : (old new : Memory) (e : Event) (r : Reply) → ((s : State) → Lifts s e r)
@@ -52,7 +53,8 @@ pub still : (old new : Memory) (e : Event) (r : Reply) → ((s : State) → Lift
     → IsStore new × (new.version ≡ old.version)
 still old new e r lifts c was =
     let s : State = alone was.0 in
-    let h : memory.IsAt old s = record { sound = was.1.sound; serves = refl; stands = was.1 } in
+    let h : memory.IsAt old s =
+    record { sound = was.1.sound; serves = refl; copy = refl; finish = refl; stands = was.1 } in
     let x = one old new s e r (c s h) in (
       (served x.after, x.ends.stands),
       x.ends.stands.version ∙ (ap head (lifts s x.owner x.after x.gives).1 ∙ sym was.1.version),
@@ -76,8 +78,8 @@ module _ (law : RunsStaySound) (m : Memory) (s : State) (h : memory.IsAt m s) (f
     opens = o;
   }
 
-  pub opens-with : (c : Change) (bytes : List ℕ) → MayAdd s c → Opens header (payloads s.history ++ payload c ∷ []) bytes
-      → OpensTo (grown s.history (c ∷ [])) bytes
+  pub opens-with : (c : Change) (bytes : List ℕ) → MayAdd s c
+      → Opens header (payloads s.history ++ payload c ∷ []) bytes → OpensTo (grown s.history (c ∷ [])) bytes
   opens-with c bytes may o = record {
     history = history-after law s c h.sound h.serves may;
     plain = ap (λ k. grown k (c ∷ [])) flat;
@@ -104,7 +106,7 @@ module _ (law : RunsStaySound) (m : Memory) (s : State) (h : memory.IsAt m s) (f
       same p q e = cc e
 
   pub shows-after : (x : Step) (image : List ℕ) → x.before ≡ s → OpensAfter s image → Shows x image
-  shows-after x image is o = (o.0, o.2, inl (subst (λ t. Recovers t o.0) (sym is) o.1))
+  shows-after x image is o = (o.0, o.2, inl (subst (λ t. MayLeave t o.0) (sym is) o.1))
 
   pub shows-one : (x : Step) (c : Change) (image : List ℕ) → x.before ≡ s → x.event ≡ Commit c → MayAdd s c
       → ShowsOne (payloads s.history) (option_map payload s.doubt) (payload c) image → Shows x image
@@ -115,8 +117,13 @@ module _ (law : RunsStaySound) (m : Memory) (s : State) (h : memory.IsAt m s) (f
     inr (c, is, subst (λ t. MayAdd t c) (sym at) may, ap (λ (t : State). grown t.history (c ∷ [])) (sym at)),
   )
 
--- only a commit is answered that a disk failed
-pub no-fault : (s t : State) (owner : ℕ) (e : Event) (r : Reply) → ¬ IsCommit e → is_call e ≡ true
+-- only a commit and a copy are answered that a disk failed
+abbrev pub CallsDisk : Event → Type 0
+CallsDisk (Commit c) = Unit {0}
+CallsDisk Compact = Unit {0}
+CallsDisk _ = ⊥
+
+pub no-fault : (s t : State) (owner : ℕ) (e : Event) (r : Reply) → ¬ CallsDisk e → is_call e ≡ true
     → Gives s owner e r t → IsDiskFault r → ⊥
 no-fault s t owner (Commit c) (DiskFault doubt) other call g f = other tt
 no-fault s t owner Pin (DiskFault doubt) other call g f = g.1
@@ -125,6 +132,7 @@ no-fault s t owner (Unpin slot) (DiskFault doubt) other call g f = g.1
 no-fault s t owner Prune (DiskFault doubt) other call g f = g.1
 no-fault s t owner (Look id) (DiskFault doubt) other call g f = g.1
 no-fault s t owner Stats (DiskFault doubt) other call g f = g.1
+no-fault s t owner Compact (DiskFault doubt) other call g f = other tt
 no-fault s t owner Crash (DiskFault doubt) other call g f = g
 no-fault s t owner Open (DiskFault doubt) other call g f = g
 no-fault s t owner e _ other call g f = absurd f
@@ -192,7 +200,7 @@ module _ {D : Type 0} (model : DiskModel D) where
         (sym (ap model.content disk) ∙ is) stands.journal image (only-now old.journal.disk image b)))))
 
     pub lifted : RunsStaySound → (store : StoreTerm D) (m : Memory) (s : State) (e : Event) (r : Reply)
-        → is_call e ≡ true → ¬ IsCommit e → StandsFor model store s → Lifts s e r
+        → is_call e ≡ true → ¬ CallsDisk e → StandsFor model store s → Lifts s e r
         → Calls memory.Stretches all store.memory m s ((e, r) ∷ [])
         → Calls (Stretches model) all store (record store { memory = m }) s ((e, r) ∷ [])
     lifted law store m s e r call other h lifts c =
@@ -205,9 +213,13 @@ module _ {D : Type 0} (model : DiskModel D) where
           memory = record {
             sound = sound-after law s t x.owner e r l.0 h.memory.sound;
             serves = x.ends.serves;
+            copy = x.ends.copy;
+            finish = x.ends.finish;
             stands = x.ends.stands;
           };
           plain = subst IsPlain (sym l.1) h.plain;
+          base = l.3 ∙ (h.base ∙ sym (ap (λ (k : History). k.version) l.1));
+          generation = l.4 ∙ h.generation;
           journal = subst (λ d. Has model store.journal (payloads x.after.history) (option_map payload d)) (sym l.2)
               (subst (λ g. Has model store.journal (payloads g) (option_map payload s.doubt)) (sym l.1) h.journal);
           counts = h.counts;

@@ -1,5 +1,5 @@
 -- A loading: what is read, made again, and opened.
-use Rattle.std.proofs.Common.{◌≡◌, ◌∙◌, ◌++◌, ap, arith, Err, false, length, List, [], MatchOption, None, Ok, Option, refl, Result, Some, subst, sym, true, ℕ, map}
+use Rattle.std.proofs.Common.{◌≡◌, ◌↔◌, ◌∙◌, ◌++◌, ap, arith, Contains, Err, false, length, List, [], ◌∷◌, None, Ok, Option, refl, Result, Some, subst, sym, true, ℕ, map}
 use Rattle.std.proofs.lemmas.List.{length-map}
 use Rattle.std.specs.List.{AllByRecursion}
 use Rattle.commit_log.specs.Change.{Change as Logged}
@@ -22,9 +22,12 @@ use Rattle.store_core.specs.Stored.{StoreTerm as Memory, served}
 use Rattle.store_core.specs.declared.words.CallFault.{CallFault}
 use Rattle.store_core.specs.declared.words.CallFault.TheVariants as call
 use Rattle.store_machine.specs.History.{head, of_commits}
+use Rattle.store_machine.specs.Kept.{IsNeeded, copied}
 use Rattle.store_machine.specs.declared.machine.Change.{Change}
+use Rattle.store_machine.specs.declared.machine.Copying.{Copying}
+use Rattle.store_machine.specs.declared.machine.Faults.{Faults}
 use Rattle.store_machine.specs.declared.machine.History.{History}
-use Rattle.store_machine.specs.Machine.{AreNeeded, MayAdd}
+use Rattle.store_machine.specs.Machine.{AreNeeded}
 use Rattle.store_machine.specs.Openings.{IsOpened}
 use Rattle.store_machine.specs.declared.machine.Entry.{Entry}
 use Rattle.store_machine.specs.declared.machine.Event.TheVariants as event
@@ -43,10 +46,36 @@ still-needed : (s t : State) (kept : List Entry) → t ≡ record s { kept = t.k
 still-needed s t kept is n =
     subst (λ (x : State). AreNeeded x kept) (sym is) (record { exactly = n.exactly; distinct = n.distinct })
 
+-- a state as an opening leaves it, of what another has in memory
+abbrev pub rested : State → ℕ → Faults → State
+rested s commits faults = record {
+  history = s.history;
+  limit = commits;
+  pins = s.pins;
+  kept = s.kept;
+  base = s.history.version;
+  generation = 0;
+  copy = None;
+  doubt = None;
+  finish = None;
+  faults = faults;
+  serves = true;
+}
+
+-- it needs the same, where no copy ran
+needed-rested : (s : State) (commits : ℕ) (faults : Faults) → s.copy ≡ None → AreNeeded s s.kept
+    → AreNeeded (rested s commits faults) s.kept
+needed-rested s commits faults none n = record {
+  exactly = λ entry. subst
+      (λ (o : Option Copying). (Contains s.kept entry ↔ IsNeeded s.history
+      (map (λ p. p.version) s.pins ++ (copied o ++ head s.history ∷ [])) entry)) none (n.exactly entry);
+  distinct = n.distinct;
+}
+
 -- what a prune leaves of a store that has no pins, with its limit
 pub opened-after : (old new : Memory) (s : State) (commits : ℕ) (r : Result ℕ CallFault) → NeedsNone r
     → (is_worn r ≡ true → ⊥) → s.pins ≡ [] → s.doubt ≡ None → Calls memory.Stretches all old new s (prune_calls r)
-    → (t : State) × memory.IsAt new t × (t.history ≡ s.history) × IsOpened commits (record t { limit = commits })
+    → (t : State) × memory.IsAt new t × (t.history ≡ s.history) × IsOpened commits (rested t commits t.faults)
 opened-after old new s commits (Err call.Worn) none worn pins doubt c = absurd (worn refl)
 opened-after old new s commits (Err call.NoMemory) none worn pins doubt c = absurd none
 opened-after old new s commits (Ok n) none worn pins doubt c =
@@ -57,27 +86,33 @@ opened-after old new s commits (Ok n) none worn pins doubt c =
       x.ends,
       ap (λ (y : State). y.history) x.gives.1.2,
       record {
-        serves = x.ends.serves;
+        serves = refl;
         limit = refl;
         pins = ap (λ (y : State). y.pins) x.gives.1.2 ∙ pins;
-        doubt = ap (λ (y : State). y.doubt) x.gives.1.2 ∙ doubt;
-        kept = record { exactly = needed.exactly; distinct = needed.distinct };
+        base = refl;
+        copy = refl;
+        doubt = refl;
+        finish = refl;
+        kept = needed-rested t commits t.faults x.ends.copy needed;
       },
     )
 
--- what is in memory is at each state of that part that serves and has nothing in doubt
-pub at-rest : (m : Memory) (s : State) → memory.StandsFor m (served s) → s.doubt ≡ None → s.serves ≡ true
-    → memory.IsAt m s
-at-rest m s h doubt serves = record {
+-- what is in memory is at that state
+pub at-rest : (m : Memory) (s : State) (commits : ℕ) (faults : Faults)
+    → memory.StandsFor m (served (rested s commits faults)) → memory.IsAt m (rested s commits faults)
+at-rest m s commits faults h = record {
   sound = record {
     history = h.sound.history;
-    doubt = subst (λ d. MatchOption d (Unit {0}) (MayAdd s)) (sym doubt) tt;
+    doubt = tt;
     slots = h.sound.slots;
     pins = h.sound.pins;
+    bases = record { base = (omega arith, omega arith); copy = tt; finish = tt };
     kept = λ _. h.sound.kept refl;
     made = λ _. h.sound.made refl;
   };
-  serves = serves;
+  serves = refl;
+  copy = refl;
+  finish = refl;
   stands = h;
 }
 
@@ -156,20 +191,25 @@ module _ {D : Type 0} (model : DiskModel D) where
       × IsOpened commits s × IfTold (model.content a) (OpensTo s.history)
   opened-store memory commits a b old new x first second reads flag =
       let t : State = x.state in
-      let s : State = record t { doubt = None; faults = record { a = model.faults new.disk; b = model.faults b } } in (
-        s,
+      let faults : Faults = record { a = model.faults new.disk; b = model.faults b } in (
+        rested t t.limit faults,
         record {
-          memory = at-rest memory s x.at.stands refl x.opened.serves;
+          memory = at-rest memory t t.limit faults x.at.stands;
           plain = x.plain;
+          base = refl;
+          generation = refl;
           journal = (flag, λ l is. x.rests (reads l (sym (second ∙ first) ∙ is)));
           counts = refl;
         },
         record {
-          serves = x.opened.serves;
+          serves = refl;
           limit = x.opened.limit;
           pins = x.opened.pins;
+          base = refl;
+          copy = refl;
           doubt = refl;
-          kept = record { exactly = x.opened.kept.exactly; distinct = x.opened.kept.distinct };
+          finish = refl;
+          kept = needed-rested t t.limit faults x.opened.copy x.opened.kept;
         },
         λ l is. x.opens (reads l is) l (first ∙ is),
       )

@@ -112,8 +112,8 @@ at-add {X} log i c less is memory m f (Err e) same damaged =
     subst (λ g. OnDamaged {T = X} (Err g) (Stops log)) (sym same) (go f damaged)
   where
     go : (f : LoadFault) → OnDamaged {T = Unit {0}} (Err f) (λ at. (at ≡ c.at)
-        × ((s : State) → StandsFor memory (served s) → ¬ MayAdd s (told (change_of c.wire)))) → OnDamaged {T = X} (Err f)
-        (Stops log)
+        × ((s : State) → StandsFor memory (served s) → ¬ MayAdd s (told (change_of c.wire))))
+        → OnDamaged {T = X} (Err f) (Stops log)
     go fault.Disk d = tt
     go fault.NotAStore d = tt
     go (fault.Damaged at) d = stops log (take i log) c (drop (i + 1) log) memory at (split-is log i c less is) d.0 m d.1
@@ -127,7 +127,8 @@ pub replayed : (memory result : Memory) (commits : ℕ) (log : List Commit) (i :
     → IsReplayed result commits (changes_of log)
 replayed memory result commits log i all m opened =
     let s : State = alone m.part in
-    let at : IsAt memory s = record { sound = m.stands.sound; serves = refl; stands = m.stands } in
+    let at : IsAt memory s =
+    record { sound = m.stands.sound; serves = refl; copy = refl; finish = refl; stands = m.stands } in
     let o = opened s at m.pins refl in
     record {
       state = o.0;

@@ -22,56 +22,63 @@ use Rattle.store_machine.specs.declared.machine.Reply.TheVariants as reply
 use Rattle.store_machine.specs.declared.machine.State.{State}
 use Rattle.store_machine.specs.declared.machine.Status.{Status}
 use Rattle.store_disk.specs.OnDisk.{IsReady, StandsFor, StoreTerm}
-use Rattle.store_disk.specs.Stored.{IsCommit, Stretches}
-use Rattle.store_disk.proofs.Lifts.{Lifts, back, lifted, still}
+use Rattle.store_disk.specs.Stored.{Stretches}
+use Rattle.store_disk.proofs.Lifts.{CallsDisk, Lifts, back, lifted, still}
 use Rattle.store_disk.proofs.Steps.{all}
 
 serves : (s t : State) → Serves s t → Serves s (back s t)
 serves s t g = (g.0, (omega arith, omega arith))
 
--- the history and the doubt stay
-same-kept : {u : State} (s t : State) → t ≡ u → u.history ≡ s.history → u.doubt ≡ s.doubt
-    → (t.history ≡ s.history) × (t.doubt ≡ s.doubt)
-same-kept s t e h d = (ap (λ (x : State). x.history) e ∙ h, ap (λ (x : State). x.doubt) e ∙ d)
+-- the history, the doubt and the disk's base and generation stay
+same-kept : {u : State} (s t : State) → t ≡ u → u.history ≡ s.history → u.doubt ≡ s.doubt → u.base ≡ s.base
+    → u.generation ≡ s.generation
+    → (t.history ≡ s.history) × (t.doubt ≡ s.doubt) × (t.base ≡ s.base) × (t.generation ≡ s.generation)
+same-kept s t e h d b g = (
+  ap (λ (x : State). x.history) e ∙ h,
+  ap (λ (x : State). x.doubt) e ∙ d,
+  ap (λ (x : State). x.base) e ∙ b,
+  ap (λ (x : State). x.generation) e ∙ g,
+)
 
--- one tuple of three
-three : {A B C : Type 0} → A → B × C → A × B × C
-three a k = (a, k.0, k.1)
+-- one tuple of five
+five : {A B C D E : Type 0} → A → B × C × D × E → A × B × C × D × E
+five a k = (a, k.0, k.1, k.2, k.3)
 
 lift-pin : (s : State) (o : Option Pin) → Lifts s event.Pin (pin_reply o)
-lift-pin s None owner t g = three (serves s t g.0, (g.1.0, ap (back s) g.1.1)) (same-kept s t g.1.1 refl refl)
+lift-pin s None owner t g = five (serves s t g.0, (g.1.0, ap (back s) g.1.1)) (same-kept s t g.1.1 refl refl refl refl)
 lift-pin s (Some p) owner t g =
-    three (serves s t g.0, (g.1.0, g.1.1, g.1.2, g.1.3, ap (back s) g.1.4)) (same-kept s t g.1.4 refl refl)
+    five (serves s t g.0, (g.1.0, g.1.1, g.1.2, g.1.3, ap (back s) g.1.4)) (same-kept s t g.1.4 refl refl refl refl)
 
 lift-page : (s : State) (slot : ℕ) (want : List Bool) (from limit : ℕ) (records : List Shared) (last : Bool)
     → Lifts s (event.Fetch slot want from limit) (reply.Page (founds records) last)
 lift-page s slot want from limit records last owner t g =
-    three (serves s t g.0, (g.1.0, g.1.1, g.1.2, ap (back s) g.1.3)) (same-kept s t g.1.3 refl refl)
+    five (serves s t g.0, (g.1.0, g.1.1, g.1.2, ap (back s) g.1.3)) (same-kept s t g.1.3 refl refl refl refl)
 
 lift-no-page : (s : State) (slot : ℕ) (want : List Bool) (from limit : ℕ)
     → Lifts s (event.Fetch slot want from limit) reply.NoMemory
 lift-no-page s slot want from limit owner t g =
-    three (serves s t g.0, (g.1.0, g.1.1, ap (back s) g.1.2)) (same-kept s t g.1.2 refl refl)
+    five (serves s t g.0, (g.1.0, g.1.1, ap (back s) g.1.2)) (same-kept s t g.1.2 refl refl refl refl)
 
 lift-unpin : (s : State) (slot : ℕ) → Lifts s (event.Unpin slot) reply.Unpinned
 lift-unpin s slot owner t g =
-    three (serves s t g.0, (g.1.0, g.1.1, ap (back s) g.1.2)) (same-kept s t g.1.2 refl refl)
+    five (serves s t g.0, (g.1.0, g.1.1, ap (back s) g.1.2)) (same-kept s t g.1.2 refl refl refl refl)
 
 lift-prune : (s : State) (dropped : ℕ) → Lifts s event.Prune (reply.Pruned dropped)
-lift-prune s dropped owner t g = three
+lift-prune s dropped owner t g = five
     (serves s t g.0, (record { exactly = g.1.0.exactly; distinct = g.1.0.distinct }, g.1.1, ap (back s) g.1.2))
-    (same-kept s t g.1.2 refl refl)
+    (same-kept s t g.1.2 refl refl refl refl)
 
 lift-look : (s : State) (id : ℕ) (status : Option Status) → Lifts s (event.Look id) (reply.Looked status)
 lift-look s id status owner t g =
-    three (serves s t g.0, (g.1.0, ap (back s) g.1.1)) (same-kept s t g.1.1 refl refl)
+    five (serves s t g.0, (g.1.0, ap (back s) g.1.1)) (same-kept s t g.1.1 refl refl refl refl)
 
 lift-no-look : (s : State) (id : ℕ) → Lifts s (event.Look id) reply.NoMemory
-lift-no-look s id owner t g = three (serves s t g.0, ap (back s) g.1) (same-kept s t g.1 refl refl)
+lift-no-look s id owner t g = five (serves s t g.0, ap (back s) g.1) (same-kept s t g.1 refl refl refl refl)
 
 lift-stats : (s : State) (n : Stats) → Lifts s event.Stats (reply.Counted n.version n.live n.withdrawn n.kept n.pins)
 lift-stats s n owner t g =
-    three (serves s t g.0, (g.1.0, g.1.1, g.1.2, g.1.3, g.1.4, ap (back s) g.1.5)) (same-kept s t g.1.5 refl refl)
+    five (serves s t g.0, (g.1.0, g.1.1, g.1.2, g.1.3, g.1.4, ap (back s) g.1.5))
+    (same-kept s t g.1.5 refl refl refl refl)
 
 -- each reply of a call is lifted
 abbrev pub AllLift : {X : Type 0} → Event → (X → Reply) → Result X CallFault → Type 0
@@ -140,7 +147,7 @@ pub lifted-call : {X D : Type 0} (model : DiskModel D)
     → ((d : D) (c : List ℕ) → model.images_between d (model.clock d) (model.clock d) c → model.images d c)
     → RunsStaySound
     → (store : StoreTerm D) (m : Memory) (s : State) → StandsFor model store s
-    → (e : Event) (of : X → Reply) → is_call e ≡ true → ¬ IsCommit e → (r : Result X CallFault) → AllLift e of r
+    → (e : Event) (of : X → Reply) → is_call e ≡ true → ¬ CallsDisk e → (r : Result X CallFault) → AllLift e of r
     → Calls memory.Stretches all store.memory m s (calls e of r)
     → Calls (Stretches model) all store (record store { memory = m }) s (calls e of r)
 lifted-call model only-now law store m s h e of is other (Ok x) lifts c =

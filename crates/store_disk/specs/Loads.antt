@@ -1,11 +1,10 @@
 -- What the bytes of a disk open to as a store, and where they are damaged. For callers.
-use Rattle.std.specs.Prelude.{◌≡◌, ◌⊎◌, ◌++◌, ◌<◌, ◌≤◌, Err, List, [], ◌∷◌, length, Ok, Result, ℕ}
+use Rattle.std.specs.Prelude.{◌≡◌, ◌⊎◌, ◌++◌, ◌<◌, ◌≤◌, Err, List, [], ◌∷◌, length, Ok, Result, Some, ℕ}
 use Rattle.commit_log.specs.Change.{Change as Logged}
 use Rattle.commit_log.specs.Log.{DamagesLog, IsLog, payloads as log_payloads}
 use Rattle.journal_core.specs.Records.{Opens, header, prefix}
 use Rattle.journal_core.specs.declared.faults.LoadFault.{LoadFault}
-use Rattle.store_machine.specs.History.{IsAllowed, IsHistory, IsValid, head, snapshot}
-use Rattle.store_machine.specs.Machine.{Recovers}
+use Rattle.store_machine.specs.History.{IsAllowed, IsHistory, IsValid, grown, head, snapshot}
 use Rattle.store_machine.specs.declared.machine.Change.{Change}
 use Rattle.store_machine.specs.declared.machine.History.{History}
 use Rattle.store_machine.specs.declared.machine.State.{State}
@@ -39,9 +38,14 @@ pub record Disallows (at : ℕ) (bytes : List ℕ) : Type 0 where
 abbrev pub Damages : ℕ → List ℕ → Type 0
 Damages at bytes = DamagesLog header [] at bytes ⊎ Disallows at bytes
 
--- the bytes open to what a crash may recover of a state: its history, or this and the commit in doubt
+-- what a crash may leave of a state whose disk has the whole history, and beside which no copy is on its way: the
+-- history, or this and the commit in doubt
+abbrev pub MayLeave : State → History → Type 0
+MayLeave s h = (h ≡ s.history) ⊎ ((c : Change) × (s.doubt ≡ Some c) × (h ≡ grown s.history (c ∷ [])))
+
+-- the bytes open to that
 abbrev pub OpensAfter : State → List ℕ → Type 0
-OpensAfter s bytes = (h : History) × Recovers s h × OpensTo h bytes
+OpensAfter s bytes = (h : History) × MayLeave s h × OpensTo h bytes
 
 -- the disks that a loading leaves, in the store or beside the fault
 abbrev pub a_after : {D : Type 0} → Result (StoreTerm D) (LoadFault × Disks D) → D

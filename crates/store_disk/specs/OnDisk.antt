@@ -29,11 +29,14 @@ Has model journal payloads (Some p) =
 abbrev pub IsPlain : History → Type 0
 IsPlain h = h ≡ of_commits h.commits
 
--- The store stands for a state: what is in memory is at it; the journal has the history, which has no base, and the
--- commit in doubt; the counts of faults are those of the disks. Whose the pins are is free.
+-- The store stands for a state: what is in memory is at it; the journal has the history, which has no base, all of it,
+-- and the commit in doubt; the disk is in format 1, whose generation is 0; the counts of faults are those of the disks.
+-- Whose the pins are is free.
 pub record StandsFor {D : Type 0} (model : DiskModel D) (store : StoreTerm D) (s : State) : Type 0 where
   pub memory : IsAt store.memory s
   pub plain : IsPlain s.history
+  pub base : s.base ≡ s.history.version
+  pub generation : s.generation ≡ 0
   pub journal : Has model store.journal (payloads s.history) (option_map payload s.doubt)
   pub counts : s.faults ≡ record { a = model.faults store.journal.disk; b = model.faults store.b }
 

@@ -6,7 +6,7 @@ use Rattle.std.specs.List.{AllByRecursion}
 use Rattle.disk_edge.specs.Disk.{DiskModel, IfTold, Keeps}
 use Rattle.store_machine.proofs.Joins.{calms-join, runs-join}
 use Rattle.store_machine.specs.History.{grown}
-use Rattle.store_machine.specs.Machine.{IsDiskFault, MayAdd, Recovers, Rose}
+use Rattle.store_machine.specs.Machine.{IsDiskFault, MayAdd, Rose}
 use Rattle.store_machine.specs.Runs.{IsCalm, IsRun}
 use Rattle.store_machine.specs.declared.machine.Change.{Change}
 use Rattle.store_machine.specs.declared.machine.Event.{Event}
@@ -15,7 +15,7 @@ use Rattle.store_machine.specs.declared.machine.History.{History}
 use Rattle.store_machine.specs.declared.machine.State.{State}
 use Rattle.store_machine.specs.declared.machine.Step.{Step}
 use Rattle.store_machine.specs.declared.machine.Times.{Times}
-use Rattle.store_disk.specs.Loads.{OpensTo}
+use Rattle.store_disk.specs.Loads.{MayLeave, OpensTo}
 use Rattle.store_disk.specs.OnDisk.{StandsFor, StoreTerm}
 
 abbrev pub IsCommit : Event → Type 0
@@ -25,7 +25,7 @@ IsCommit _ = ⊥
 -- A crash at a moment of a step shows the history from before it, or this and the commit in doubt, or this and the
 -- commit that the step asks for, where it may be added.
 abbrev pub MayShow : Step → History → Type 0
-MayShow x h = Recovers x.before h
+MayShow x h = MayLeave x.before h
     ⊎ ((c : Change) × (x.event ≡ Commit c) × MayAdd x.before c × (h ≡ grown x.before.history (c ∷ [])))
 
 abbrev pub Shows : Step → List ℕ → Type 0
@@ -141,7 +141,8 @@ module _ {D : Type 0} (model : DiskModel D) where
         let k = told-before (model.content b.journal.disk) (model.content c.journal.disk) q.untold l is in
         timed-joins model b.journal.disk c.journal.disk q.past xs ys (r.moments k.0 k.1) (q.moments l is);
     causes = all-joins IsCaused xs ys r.causes q.causes;
-    untouched = λ none. let parts = all-parts (λ x. ¬ IsCommit x.event) xs ys none in q.untouched parts.1 ∙ r.untouched parts.0;
+    untouched = λ none.
+        let parts = all-parts (λ x. ¬ IsCommit x.event) xs ys none in q.untouched parts.1 ∙ r.untouched parts.0;
     past = keeps-twice model a.journal.disk b.journal.disk c.journal.disk r.past q.past;
     untold = λ e. q.untold (r.untold e);
     other = q.other ∙ r.other;

@@ -1,20 +1,22 @@
-//! What the bytes of a disk open to, as laws of any bytes and of any store, and the law on which the store's proofs stand.
+//! What the bytes of a disk open to, as laws of any bytes and of any store, and the law on which the store's proofs
+//! stand.
 ghost use Rattle.std.specs.Prelude.{◌≡◌, ◌≤◌, ◌++◌, List, length, ℕ};
 ghost use Rattle.disk_edge.specs.Disk.{IfTold};
 ghost use Rattle.journal_core.specs.Records.{IsNoJournal, header, text};
 ghost use Rattle.store_machine.specs.History.{IsHistory};
 ghost use Rattle.store_machine.specs.Laws.{RunsStaySound};
+ghost use Rattle.store_machine.specs.Machine.{Recovers};
 ghost use Rattle.store_machine.specs.Owners.{SameButOwners};
 ghost use Rattle.store_machine.specs.declared.machine.History.{History};
 ghost use Rattle.store_machine.specs.declared.machine.State.{State};
-ghost use Rattle.store_disk.specs.Loads.{Damages, OpensAfter, OpensTo};
+ghost use Rattle.store_disk.specs.Loads.{Damages, MayLeave, OpensAfter, OpensTo};
 ghost use Rattle.store_disk.specs.OnDisk.{IsPlain, StandsFor, StoreTerm};
 ghost use Rattle.store_disk.specs.Payloads.{payloads};
 
 use commit_log::a_log_reads_one_way;
 use disk_edge::Disk;
 use journal_core::{a_text_opens, bytes_open_one_way};
-use store_machine::runs_stay_sound;
+use store_machine::{rebases_keep, runs_stay_sound};
 
 /// Bytes open to one history, or are damaged at one place, or are no store, and never two of these.
 pub fn a_store_opens_one_way()
@@ -44,6 +46,14 @@ pub fn a_standing_store_opens<D: Disk>()
         → D.model.images store.journal.disk image → OpensAfter s image) }
 {
     runs_stay_sound();
+}
+
+/// What is left of a store's state is what the machine may recover: the disk has the whole history.
+pub fn what_is_left_is_recovered<D: Disk>()
+    ensures { (store : StoreTerm D) (s : State) → StandsFor D.model store s
+        → (h : History) → MayLeave s h → Recovers s h s.generation }
+{
+    rebases_keep();
 }
 
 /// Whose the pins are makes no difference: a store stands for a state as for one with other owners.

@@ -17,6 +17,7 @@ mod tests;
 
 pub use disks::Disks;
 pub use laws::{
-    a_standing_store_opens, a_store_opens_one_way, stores_ask_no_owner, what_was_written_opens,
+    a_standing_store_opens, a_store_opens_one_way, stores_ask_no_owner, what_is_left_is_recovered,
+    what_was_written_opens,
 };
 pub use store::Store;

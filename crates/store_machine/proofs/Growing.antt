@@ -3,17 +3,17 @@ use Rattle.std.proofs.Common.{◌≡◌, ◌++◌, ◌∙◌, ap, append-nil, ap
 use Rattle.std.proofs.lemmas.Bool.{true≢false}
 use Rattle.store_machine.specs.History.{grown}
 use Rattle.store_machine.specs.Laws.{RunsGrow}
-use Rattle.store_machine.specs.Machine.{Becomes, CommitGives, DoubtAfter, EndsDoubt, Gives, PinGives, PruneGives, UnpinGives, pinned, unpinned}
+use Rattle.store_machine.specs.Machine.{Becomes, CommitGives, DoubtAfter, EndsDoubts, Gives, PinGives, PruneGives, UnpinGives, pinned, unpinned}
 use Rattle.store_machine.specs.Runs.{is_call}
 use Rattle.store_machine.specs.Told.{RunsAdd, acknowledged, made}
 use Rattle.store_machine.specs.declared.machine.Change.{Change}
 use Rattle.store_machine.specs.declared.machine.Event.{Event}
-use Rattle.store_machine.specs.declared.machine.Event.TheVariants.{Commit, Crash, Fetch, Look, Open, Pin, Prune, Stats, Unpin}
+use Rattle.store_machine.specs.declared.machine.Event.TheVariants.{Commit, Compact, Crash, Fetch, Look, Open, Pin, Prune, Stats, Unpin}
 use Rattle.store_machine.specs.declared.machine.History.{History}
 use Rattle.store_machine.specs.declared.machine.Reply.{Reply}
 use Rattle.store_machine.specs.declared.machine.Reply.TheVariants.{Absent, Committed, DiskFault, Full, Known, NoMemory, NoPin, Pinned, Pruned, Unpinned, Withdrawn}
 use Rattle.store_machine.specs.declared.machine.State.{State}
-use Rattle.store_machine.proofs.Pins.{fetch-same, look-same, stats-same}
+use Rattle.store_machine.proofs.Pins.{compact-aside, fetch-same, look-same, stats-same}
 
 grown-none : (h : History) → grown h [] ≡ h
 grown-none h = ap (λ (cs : List Change). record h { commits = cs }) (append-nil h.commits)
@@ -31,12 +31,11 @@ same-adds s s' e = e ∙ sym (grown-none s.history)
 becomes-adds : (s t s' : State) → t.history ≡ s.history → Becomes t s' → Adds s [] s'
 becomes-adds s t s' e b = same-adds s s' (ap (λ x. x.history) b ∙ e)
 
-doubt-adds : (s s' : State) → EndsDoubt s s' → Adds s [] s'
-doubt-adds s s' (inl b) = becomes-adds s s s' refl b
-doubt-adds s s' (inr b) = becomes-adds s (record s { doubt = None }) s' refl b
+doubt-adds : (s s' : State) → EndsDoubts s s' → Adds s [] s'
+doubt-adds s s' g = becomes-adds s (record s { doubt = s'.doubt; finish = s'.finish }) s' refl g.2
 
 after-adds : (s : State) (c : Change) (doubt : Bool) (s' : State) → DoubtAfter s c doubt s' → Adds s [] s'
-after-adds s c true s' b = becomes-adds s (record s { doubt = Some c }) s' refl b
+after-adds s c true s' b = becomes-adds s (record s { doubt = Some c; finish = None }) s' refl b
 after-adds s c false s' b = doubt-adds s s' b
 
 commit-adds : (s : State) (c : Change) (r : Reply) (s' : State) → CommitGives s c r s' → Adds s (made (Commit c) r) s'
@@ -72,6 +71,7 @@ adds s owner (Unpin slot) r s' g calm = unpin-adds s owner slot r s' g.1
 adds s owner Prune r s' g calm = prune-adds s r s' g.1
 adds s owner (Look id) r s' g calm = becomes-adds s s s' refl (look-same s id r s' g.1)
 adds s owner Stats r s' g calm = becomes-adds s s s' refl (stats-same s r s' g.1)
+adds s owner Compact r s' g calm = same-adds s s' (compact-aside s r s' g.1).1
 adds s owner Crash r s' g calm = absurd (true≢false (sym calm))
 adds s owner Open r s' g calm = absurd (true≢false (sym calm))
 

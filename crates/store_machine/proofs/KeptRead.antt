@@ -39,7 +39,7 @@ read s v id None e sound serves used = λ version kept. later v version
 read s v id (Some status) e sound serves used = (
   sound.kept serves (record { id = id; version = made_at status })
       (record { at = v; used = used; status = status; state = e; made = refl }),
-  (snapshot-made s.history v id status sound.history (in_use-past s v sound.pins used).0 e).1,
+  (snapshot-made s.history v id status sound.history (in_use-past s v sound.pins sound.bases used).0 e).1,
   λ version kept le. same-made _ status version e
       (made-before s.history v id version sound.history (sound.made serves _ kept) le),
 )

@@ -2,11 +2,11 @@
 use Rattle.std.proofs.Common.{◌≡◌, ◌∙◌, ◌++◌, ◌==◌, ◌<◌, ap, Bool, Contains, false, if◌then◌else◌, List, [], ◌∷◌, map, None, Option, refl, Some, subst, sym, true, ℕ}
 use Rattle.std.proofs.lemmas.List.{map-append}
 use Rattle.store_machine.specs.History.{head}
-use Rattle.store_machine.specs.Kept.{IsNeeded}
+use Rattle.store_machine.specs.Kept.{IsNeeded, copied}
 use Rattle.store_machine.specs.Laws.{IsSound}
 use Rattle.store_machine.specs.Machine.{Gives, SlotsApart, pin_in, pinned}
 use Rattle.store_machine.specs.declared.machine.Event.{Event}
-use Rattle.store_machine.specs.declared.machine.Event.TheVariants.{Commit, Crash, Fetch, Look, Open, Pin, Prune, Stats, Unpin}
+use Rattle.store_machine.specs.declared.machine.Event.TheVariants.{Commit, Compact, Crash, Fetch, Look, Open, Pin, Prune, Stats, Unpin}
 use Rattle.store_machine.specs.declared.machine.Held.{Held}
 use Rattle.store_machine.specs.declared.machine.Reply.{Reply}
 use Rattle.store_machine.specs.declared.machine.Reply.TheVariants as reply
@@ -48,6 +48,7 @@ reown s t o o' (Unpin slot) r any g = not_true any
 reown s t o o' Prune r any g = (t, g, itself t)
 reown s t o o' (Look id) r any g = (t, g, itself t)
 reown s t o o' Stats r any g = (t, g, itself t)
+reown s t o o' Compact r any g = (t, g, itself t)
 reown s t o o' Crash r any g = (t, g, itself t)
 reown s t o o' Open r any g = (t, g, itself t)
 
@@ -93,8 +94,10 @@ sound-same s ps e i = record {
   doubt = i.doubt;
   slots = apart-same s.pins ps e i.slots;
   pins = λ v c. i.pins v (subst (λ l. Contains l v) (versions-same s.pins ps e) c);
+  bases = record { base = i.bases.base; copy = i.bases.copy; finish = i.bases.finish };
   kept = λ serves entry needed. i.kept serves entry
-      (subst (λ l. IsNeeded s.history l entry) (ap (λ l. l ++ head s.history ∷ []) (versions-same s.pins ps e)) needed);
+      (subst (λ l. IsNeeded s.history l entry)
+      (ap (λ l. l ++ (copied s.copy ++ head s.history ∷ [])) (versions-same s.pins ps e)) needed);
   made = i.made;
 }
 

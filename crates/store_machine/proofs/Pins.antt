@@ -1,15 +1,17 @@
 -- What each step keeps: a pin that its owner does not give back is held.
 use Rattle.std.proofs.Common.{◌≡◌, ◌++◌, ◌==◌, ◌∙◌, ap, Bool, cond, eqb-true, false, filter, inl, inr, List, [], ◌∷◌, None, not, Option, refl, Some, sym, true, ℕ, subst}
 use Rattle.std.proofs.lemmas.Bool.{cond-false, true≢false}
-use Rattle.store_machine.specs.Machine.{Becomes, CommitGives, DoubtAfter, EndsDoubt, FetchGives, Gives, Holds, LookGives, PinGives, PruneGives, StatsGives, UnpinGives, pin_in}
+use Rattle.store_machine.specs.History.{head}
+use Rattle.store_machine.specs.Machine.{Becomes, CommitGives, CompactGives, DoubtAfter, EndsDoubts, FetchGives, Gives, GivesUp, Holds, LookGives, PinGives, PruneGives, StatsGives, UnpinGives, copying, pin_in, replaced}
 use Rattle.store_machine.specs.Runs.{is_call}
 use Rattle.store_machine.specs.Searches.{unpins}
 use Rattle.store_machine.specs.declared.machine.Change.{Change}
 use Rattle.store_machine.specs.declared.machine.Event.{Event}
-use Rattle.store_machine.specs.declared.machine.Event.TheVariants.{Commit, Crash, Fetch, Look, Open, Pin, Prune, Stats, Unpin}
+use Rattle.store_machine.specs.declared.machine.Event.TheVariants.{Commit, Compact, Crash, Fetch, Look, Open, Pin, Prune, Stats, Unpin}
 use Rattle.store_machine.specs.declared.machine.Held.{Held}
+use Rattle.store_machine.specs.declared.machine.History.{History}
 use Rattle.store_machine.specs.declared.machine.Reply.{Reply}
-use Rattle.store_machine.specs.declared.machine.Reply.TheVariants.{Absent, Committed, Counted, DiskFault, Full, Known, Looked, NoMemory, NoPin, Page, Pinned, Pruned, Unpinned, Withdrawn}
+use Rattle.store_machine.specs.declared.machine.Reply.TheVariants.{Absent, Committed, Counted, DiskFault, Done, Full, Known, Last, Looked, More, NoMemory, NoPin, Page, Pinned, Pruned, Unpinned, Withdrawn}
 use Rattle.store_machine.specs.declared.machine.State.{State}
 
 -- a page, a record and the counts change nothing
@@ -27,6 +29,27 @@ look-same s id _ s' g = absurd g
 pub stats-same : (s : State) (r : Reply) (s' : State) → StatsGives s r s' → Becomes s s'
 stats-same s (Counted version live withdrawn kept pins) s' g = g.5
 stats-same s _ s' g = absurd g
+
+-- what a copy does changes neither pins nor the history
+abbrev pub IsAside : State → State → Type 0
+IsAside s s' = (s'.pins ≡ s.pins) × (s'.history ≡ s.history)
+
+aside : (s t s' : State) → t.pins ≡ s.pins → t.history ≡ s.history → Becomes t s' → IsAside s s'
+aside s t s' pins history b = (ap (λ (x : State). x.pins) b ∙ pins, ap (λ (x : State). x.history) b ∙ history)
+
+given-up : (s : State) (doubt : Bool) (s' : State) → GivesUp s doubt s' → IsAside s s'
+given-up s true s' g = aside s (record s { copy = None; finish = Some g.0 }) s' refl refl g.2
+given-up s false s' g = aside s (record s { copy = None; finish = s'.finish }) s' refl refl g.1
+
+pub compact-aside : (s : State) (r : Reply) (s' : State) → CompactGives s r s' → IsAside s s'
+compact-aside s Last s' g = aside s s s' refl refl g.2
+compact-aside s (More left) s' (inl g) = aside s (record (copying s (head s.history) left) { finish = None }) s' refl refl
+    g.3
+compact-aside s (More left) s' (inr g) = aside s (copying s g.0 left) s' refl refl g.5
+compact-aside s (Done generation) s' g = aside s (replaced s g.1) s' refl refl g.3
+compact-aside s (DiskFault doubt) s' g = given-up s doubt s' g.1
+compact-aside s NoMemory s' g = aside s (record s { copy = s'.copy; finish = s'.finish }) s' refl refl g.2
+compact-aside s _ s' g = absurd g
 
 -- one slot has one owner and one version
 owner_in : Option Held → ℕ
@@ -72,9 +95,8 @@ pin_in-others slot other (x ∷ xs) apart =
       | false ↦ λ e. ap (λ l. cond (x.slot == slot) (Some x) l) same
     ] refl
 
-doubt-pins : (s s' : State) → EndsDoubt s s' → s'.pins ≡ s.pins
-doubt-pins s s' (inl b) = ap (λ x. x.pins) b
-doubt-pins s s' (inr b) = ap (λ x. x.pins) b
+doubt-pins : (s s' : State) → EndsDoubts s s' → s'.pins ≡ s.pins
+doubt-pins s s' g = ap (λ x. x.pins) g.2
 
 after-pins : (s : State) (c : Change) (doubt : Bool) (s' : State) → DoubtAfter s c doubt s' → s'.pins ≡ s.pins
 after-pins s c true s' b = ap (λ x. x.pins) b
@@ -128,5 +150,6 @@ holds-step s by (Unpin other) r s' slot owner version g calm keeps h = unpin-hol
 holds-step s by Prune r s' slot owner version g calm keeps h = ap (pin_in slot) (prune-pins s r s' g.1) ∙ h
 holds-step s by (Look id) r s' slot owner version g calm keeps h = same-pins slot s s' (look-same s id r s' g.1) ∙ h
 holds-step s by Stats r s' slot owner version g calm keeps h = same-pins slot s s' (stats-same s r s' g.1) ∙ h
+holds-step s by Compact r s' slot owner version g calm keeps h = ap (pin_in slot) (compact-aside s r s' g.1).0 ∙ h
 holds-step s by Crash r s' slot owner version g calm keeps h = absurd (true≢false (sym calm))
 holds-step s by Open r s' slot owner version g calm keeps h = absurd (true≢false (sym calm))

@@ -1,12 +1,17 @@
 -- What stays where a history's base is moved.
-use Rattle.std.proofs.Common.{◌≡◌, ◌≤◌, ◌+◌, ◌++◌, ◌-◌, ◌∙◌, ap, arith, drop, length, length-drop, List, [], ◌∷◌, refl, subst, suc, sym, take, zero, ℕ}
+use Rattle.std.proofs.Common.{◌≡◌, ◌≤◌, ◌+◌, ◌++◌, ◌-◌, ◌∙◌, ap, arith, cond, drop, false, length, length-drop, List, [], ◌∷◌, nat_cmp, refl, Some, subst, suc, sym, take, true, zero, ℕ}
 use Rattle.std.proofs.lemmas.List.{drop-drop}
 use Rattle.std.specs.Cmp.{nat_cmp_total}
-use Rattle.std.specs.FinMap.{entries, from_entries, get-entries, get-from_entries, nat_cmp-IsAntisymmetric, same_map}
-use Rattle.store_machine.specs.History.{AreAllowed, Snapshot, after_change, after_changes, base_states, snapshot}
-use Rattle.store_machine.specs.Rebases.{BasesReadBack, LaterRebasesStand, RebasesGrow, RebasesKeepAllowed, RebasesKeepHeads, RebasesKeepSnapshots}
+use Rattle.std.specs.FinMap.{entries, from_entries, get, get-entries, get-from_entries, get-insert, insert, nat_cmp-IsAntisymmetric, same_map}
+use Rattle.std.specs.Ordering.{eq_by_cmp}
+use Rattle.store_machine.specs.History.{AreAllowed, HasText, IsBased, IsHistory, IsValid, Snapshot, after_change, after_changes, base_states, head, rebase, snapshot}
+use Rattle.store_machine.specs.Rebases.{BasesReadBack, LaterRebasesStand, RebasesGrow, RebasesKeepAllowed, RebasesKeepHeads, RebasesKeepSnapshots, RebasesStay}
 use Rattle.store_machine.specs.declared.machine.Change.{Change}
+use Rattle.store_machine.specs.declared.machine.Change.TheVariants.{Register, Revise, Withdraw}
 use Rattle.store_machine.specs.declared.machine.History.{History}
+use Rattle.store_machine.specs.declared.machine.Status.{Status}
+use Rattle.store_machine.specs.declared.machine.Status.TheVariants.{Live, Withdrawn}
+use Rattle.store_machine.proofs.Made.{states-stay}
 use Rattle.store_machine.proofs.PagesRead.{snapshots-stay}
 
 pub bases-read-back : BasesReadBack
@@ -83,3 +88,61 @@ later-rebases-stand h d e le more =
     let commits : drop (e - d) (drop (d - h.version) h.commits) ≡ drop (e - h.version) h.commits =
     drop-drop (e - d) (d - h.version) h.commits ∙ ap (λ (k : ℕ). drop k h.commits) sum in
     λ i. record { base = entries (states i); version = e; commits = commits i }
+
+pub rebases-stay : RebasesStay
+rebases-stay h good =
+    let none : h.version - h.version ≡ 0 = omega arith in
+    let states : snapshot h h.version ≡ base_states h =
+    ap (λ (k : ℕ). after_changes h.version (take k h.commits) (base_states h)) none in
+    let base = ap entries states ∙ good.base in
+    let commits : drop (h.version - h.version) h.commits ≡ h.commits = ap (λ (k : ℕ). drop k h.commits) none in
+    λ i. record { base = base i; version = h.version; commits = commits i }
+
+-- the text of each state has a structure
+abbrev HaveText : Snapshot → Type 0
+HaveText states = (id : ℕ) (status : Status) → get states id ≡ Some status → HasText status
+
+inserted-text : (states : Snapshot) (key : ℕ) (new : Status) → HasText new → HaveText states
+    → HaveText (insert states key new)
+inserted-text states key new text all id status e =
+    elim (eq_by_cmp nat_cmp id key) as (λ b. cond b (Some new) (get states id) ≡ Some status → HasText status)
+    [ true ↦ λ f. subst HasText (the_one f) text | false ↦ λ f. all id status f ]
+    (sym (get-insert nat_cmp_total states key new id) ∙ e)
+  where
+    the_one : {x y : Status} → Some x ≡ Some y → x ≡ y
+    the_one f = cc
+
+changed-text : (version : ℕ) (c : Change) (states : Snapshot) → IsValid c → HaveText states
+    → HaveText (after_change version c states)
+changed-text version (Register id format text) states valid all = inserted-text states id (Live version format text)
+    valid.1 all
+changed-text version (Revise id format text) states valid all = inserted-text states id (Live version format text)
+    valid.1 all
+changed-text version (Withdraw id) states valid all = inserted-text states id (Withdrawn version) tt all
+
+later-text : (n version : ℕ) (cs : List Change) (states : Snapshot) → AreAllowed version cs states → HaveText states
+    → HaveText (after_changes version (take n cs) states)
+later-text zero version cs states allowed all = all
+later-text (suc n) version [] states allowed all = all
+later-text (suc n) version (c ∷ cs) states allowed all =
+    later-text n (version + 1) cs (after_change (version + 1) c states) allowed.2
+    (changed-text (version + 1) c states allowed.0 all)
+
+-- a history whose base is moved to a version that it has is one
+pub rebased : (h : History) (d : ℕ) → IsHistory h → h.version ≤ d → d ≤ head h → IsHistory (rebase h d)
+rebased h d good from most =
+    let back = bases-read-back (snapshot h d) in
+    record {
+      base = ap entries back;
+      states = λ id status e.
+          let there : get (snapshot h d) id ≡ Some status = ap (λ (m : Snapshot). get m id) (sym back) ∙ e in
+          let stays = states-stay h d id status good there in
+          record {
+            in_range = stays.0;
+            since = stays.1;
+            until = stays.2 from;
+            text = later-text (d - h.version) h.version h.commits (base_states h) good.allowed
+                (λ k s f. (good.states k s f).text) id status there;
+          };
+      allowed = rebases-keep-allowed h d from most good.allowed;
+    }

@@ -2,12 +2,12 @@
 use Rattle.std.proofs.Common.{◌≡◌, ◌≤◌, ap, arith, Bool, cond, false, inl, inr, le_of_eq, List, [], ◌∷◌, refl, Some, subst, sym, true, ℕ}
 use Rattle.store_machine.specs.History.{IsHistory, grown, head, made_at}
 use Rattle.store_machine.specs.Laws.{IsSound}
-use Rattle.store_machine.specs.Machine.{CommitGives, CrashGives, FetchGives, Gives, LookGives, OpenGives, PinGives, PruneGives, StatsGives, UnpinGives}
+use Rattle.store_machine.specs.Machine.{CommitGives, CompactGives, CrashGives, FetchGives, Gives, LookGives, OpenGives, PinGives, PruneGives, StatsGives, UnpinGives}
 use Rattle.store_machine.specs.Runs.{IsCalm, IsRun, calls_of, is_own}
 use Rattle.store_machine.specs.Told.{IsTold, TellsVersion, ToldIsThere, acknowledged}
 use Rattle.store_machine.specs.declared.machine.Change.{Change}
 use Rattle.store_machine.specs.declared.machine.Event.{Event}
-use Rattle.store_machine.specs.declared.machine.Event.TheVariants.{Commit, Crash, Fetch, Look, Open, Pin, Prune, Stats, Unpin}
+use Rattle.store_machine.specs.declared.machine.Event.TheVariants.{Commit, Compact, Crash, Fetch, Look, Open, Pin, Prune, Stats, Unpin}
 use Rattle.store_machine.specs.declared.machine.Reply.{Reply}
 use Rattle.store_machine.specs.declared.machine.Reply.TheVariants.{Committed, Counted, Looked, Pinned}
 use Rattle.store_machine.specs.declared.machine.State.{State}
@@ -84,6 +84,13 @@ prune-untold s (Counted version live withdrawn kept pins) s' v g e = g
 prune-untold s (Looked (Some status)) s' v g e = g
 prune-untold s _ s' v g e = e
 
+compact-untold : (s : State) (r : Reply) (s' : State) (v : ℕ) → CompactGives s r s' → ¬ TellsVersion r v
+compact-untold s (Committed version) s' v g e = g
+compact-untold s (Pinned slot version) s' v g e = g
+compact-untold s (Counted version live withdrawn kept pins) s' v g e = g
+compact-untold s (Looked (Some status)) s' v g e = g
+compact-untold s _ s' v g e = e
+
 crash-untold : (s : State) (r : Reply) (s' : State) (v : ℕ) → CrashGives s r s' → ¬ TellsVersion r v
 crash-untold s (Committed version) s' v g e = g
 crash-untold s (Pinned slot version) s' v g e = g
@@ -108,6 +115,7 @@ told s owner (Unpin slot) r s' v h g t = absurd (unpin-untold s owner slot r s' 
 told s owner Prune r s' v h g t = absurd (prune-untold s r s' v g.1 t)
 told s owner (Look id) r s' v h g t = look-told s id r s' v h g.1 t
 told s owner Stats r s' v h g t = stats-told s r s' v g.1 t
+told s owner Compact r s' v h g t = absurd (compact-untold s r s' v g.1 t)
 told s owner Crash r s' v h g t = absurd (crash-untold s r s' v g t)
 told s owner Open r s' v h g t = absurd (open-untold s r s' v g t)
 

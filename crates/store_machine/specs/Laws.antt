@@ -5,7 +5,7 @@ use Rattle.std.specs.Prelude.{Contains, ◌≡◌, ◌+◌, ◌++◌, ◌≤◌,
 use Rattle.smarts_parse.specs.Pattern.{PatternTerm}
 use Rattle.store_machine.specs.Answers.{AreFound, AreHits, AreMatched, AreTried, ids}
 use Rattle.store_machine.specs.History.{IsHistory, IsId, Snapshot, after_change, grown, head, made_at, snapshot}
-use Rattle.store_machine.specs.Kept.{KeepsNeeded, PinsThePast, in_use}
+use Rattle.store_machine.specs.Kept.{BasesArePast, KeepsNeeded, PinsThePast, in_use}
 use Rattle.store_machine.specs.Made.{KeepsMade, ReadsKept}
 use Rattle.store_machine.specs.Machine.{Holds, MayAdd, SlotsApart}
 use Rattle.store_machine.specs.Runs.{IsCalm, IsRun, calls_of}
@@ -46,6 +46,7 @@ pub record IsSound (s : State) : Type 0 where
   pub doubt : MatchOption s.doubt (Unit {0}) (MayAdd s)
   pub slots : SlotsApart s.pins
   pub pins : PinsThePast s
+  pub bases : BasesArePast s
   pub kept : s.serves ≡ true → KeepsNeeded s
   pub made : s.serves ≡ true → KeepsMade s
 

@@ -1,24 +1,26 @@
 -- The machine: from a state, an owner's call may be answered so, and leave this state. One definition for each row of
 -- the table; what a row does not name is never answered.
-use Rattle.std.specs.Prelude.{◌≡◌, ◌+◌, ◌++◌, ◌<◌, ◌≤◌, ◌==◌, ◌^◌, ◌⊎◌, ◌↔◌, AllPairs, Bool, Contains, List, [], ◌∷◌, count_by, false, filter, if◌then◌else◌, length, nat_le, None, not, Option, Some, take, true, ℕ, ◌≢◌}
+use Rattle.std.specs.Prelude.{◌≡◌, ◌+◌, ◌++◌, ◌-◌, ◌<◌, ◌≤◌, ◌==◌, ◌^◌, ◌⊎◌, ◌↔◌, AllPairs, Bool, Contains, List, [], ◌∷◌, count_by, false, filter, if◌then◌else◌, length, nat_le, None, not, Option, option_map, Some, take, true, ℕ, ◌≢◌}
 use Rattle.std.specs.FinMap.{entries, get}
 use Rattle.store_machine.specs.Answers.{AreFound, from_on}
-use Rattle.store_machine.specs.History.{IsAllowed, IsValid, Snapshot, grown, head, id_of, refusal, snapshot}
+use Rattle.store_machine.specs.History.{IsAllowed, IsValid, Snapshot, grown, head, id_of, rebase, refusal, snapshot}
 use Rattle.store_machine.specs.Kept.{IsNeeded, in_use}
 use Rattle.store_machine.specs.Structures.{IsScreened}
 use Rattle.store_machine.specs.declared.machine.Change.{Change}
+use Rattle.store_machine.specs.declared.machine.Copying.{Copying}
 use Rattle.store_machine.specs.declared.machine.Entry.{Entry}
 use Rattle.store_machine.specs.declared.machine.Event.{Event}
-use Rattle.store_machine.specs.declared.machine.Event.TheVariants.{Commit, Crash, Fetch, Look, Open, Pin, Prune, Stats, Unpin}
+use Rattle.store_machine.specs.declared.machine.Event.TheVariants.{Commit, Compact, Crash, Fetch, Look, Open, Pin, Prune, Stats, Unpin}
 use Rattle.store_machine.specs.declared.machine.Faults.{Faults}
 use Rattle.store_machine.specs.declared.machine.Found.{Found}
 use Rattle.store_machine.specs.declared.machine.Held.{Held}
 use Rattle.store_machine.specs.declared.machine.History.{History}
 use Rattle.store_machine.specs.declared.machine.Reply.{Reply}
-use Rattle.store_machine.specs.declared.machine.Reply.TheVariants.{Absent, Committed, Counted, Crashed, DiskFault, Full, Known, Looked, NoMemory, NoPin, Opened, Page, Pinned, Pruned, Unpinned, Withdrawn}
+use Rattle.store_machine.specs.declared.machine.Reply.TheVariants.{Absent, Committed, Counted, Crashed, DiskFault, Done, Full, Known, Last, Looked, More, NoMemory, NoPin, Opened, Page, Pinned, Pruned, Unpinned, Withdrawn}
 use Rattle.store_machine.specs.declared.machine.State.{State}
 use Rattle.store_machine.specs.declared.machine.Status.{Status}
 use Rattle.store_machine.specs.declared.machine.Status.TheVariants as status
+use Rattle.store_machine.specs.declared.machine.TheConstants.{ITEMS_A_STEP, LAST_GENERATION}
 
 abbrev pub now : State → Snapshot
 now s = snapshot s.history (head s.history)
@@ -37,9 +39,13 @@ NoneFell old new = (old.a ≤ new.a) × (old.b ≤ new.b)
 abbrev pub Becomes : State → State → Type 0
 Becomes s s' = s' ≡ record s { faults = s'.faults }
 
--- an older doubt stays or is ended, and the rest stays
-abbrev pub EndsDoubt : State → State → Type 0
-EndsDoubt s s' = Becomes s s' ⊎ Becomes (record s { doubt = None }) s'
+-- an older doubt of a commit, and one of a finish, stays or is ended, and the rest stays
+abbrev pub StaysOrEnds : {X : Type 0} → Option X → Option X → Type 0
+StaysOrEnds old new = (new ≡ old) ⊎ (new ≡ None)
+
+abbrev pub EndsDoubts : State → State → Type 0
+EndsDoubts s s' = StaysOrEnds s.doubt s'.doubt × StaysOrEnds s.finish s'.finish
+    × Becomes (record s { doubt = s'.doubt; finish = s'.finish }) s'
 
 -- the answer is that a disk failed, and that none did
 abbrev pub IsDiskFault : Reply → Type 0
@@ -54,17 +60,23 @@ IsSure _ = Unit {0}
 abbrev pub MayAdd : State → Change → Type 0
 MayAdd s c = IsValid c × IsAllowed (now s) c × (head s.history < s.limit)
 
+-- a copy that runs has one item more to take
+abbrev pub one_more : Copying → Copying
+one_more copy = record copy { left = copy.left + 1 }
+
 abbrev pub committed : State → Change → State
 committed s c = record s {
   history = grown s.history (c ∷ []);
   kept = s.kept
       ++ record { id = id_of c; version = head s.history + 1 } ∷ [];
+  copy = option_map one_more s.copy;
   doubt = None;
+  finish = None;
 }
 
 abbrev pub DoubtAfter : State → Change → Bool → State → Type 0
-DoubtAfter s c true s' = Becomes (record s { doubt = Some c }) s'
-DoubtAfter s c false s' = EndsDoubt s s'
+DoubtAfter s c true s' = Becomes (record s { doubt = Some c; finish = None }) s'
+DoubtAfter s c false s' = EndsDoubts s s'
 
 abbrev pub CommitGives : State → Change → Reply → State → Type 0
 CommitGives s c Known s' = (refusal (now s) c ≡ Some Known) × Becomes s s'
@@ -72,7 +84,7 @@ CommitGives s c Absent s' = (refusal (now s) c ≡ Some Absent) × Becomes s s'
 CommitGives s c Withdrawn s' = (refusal (now s) c ≡ Some Withdrawn) × Becomes s s'
 CommitGives s c Full s' = IsAllowed (now s) c × (s.limit ≤ head s.history) × Becomes s s'
 CommitGives s c (DiskFault doubt) s' = MayAdd s c × SomeRose s.faults s'.faults × DoubtAfter s c doubt s'
-CommitGives s c NoMemory s' = EndsDoubt s s'
+CommitGives s c NoMemory s' = EndsDoubts s s'
 CommitGives s c (Committed version) s' = MayAdd s c × (version ≡ head s.history + 1) × Becomes (committed s c) s'
 CommitGives s c _ s' = ⊥
 
@@ -152,28 +164,93 @@ StatsGives s (Counted version live withdrawn kept pins) s' =
     × (kept ≡ length s.kept) × (pins ≡ length s.pins) × Becomes s s'
 StatsGives s _ s' = ⊥
 
--- Crash: the history, or this and the commit in doubt
-abbrev pub Recovers : State → History → Type 0
-Recovers s h = (h ≡ s.history) ⊎ ((c : Change) × (s.doubt ≡ Some c) × (h ≡ grown s.history (c ∷ [])))
+-- Compact. No copy runs: one starts at the head, unless no generation is left. Its items are the states there
+abbrev pub copying : State → ℕ → ℕ → State
+copying s version left = record s { copy = Some (record { version = version; left = left }) }
 
-abbrev pub crashed : State → History → State
-crashed s h = record s {
+abbrev pub Starts : State → ℕ → State → Type 0
+Starts s left s' = (s.copy ≡ None) × (s.generation < LAST_GENERATION) × (left ≡ length (entries (now s)))
+    × Becomes (record (copying s (head s.history) left) { finish = None }) s'
+
+-- one runs, and takes the next of its items
+abbrev pub GoesOn : State → ℕ → State → Type 0
+GoesOn s left s' = (version before : ℕ) × (s.copy ≡ Some (record { version = version; left = before })) × (1 ≤ before)
+    × (left ≡ before - ITEMS_A_STEP) × Becomes (copying s version left) s'
+
+-- one runs that lacks nothing: it may take the place of the disk that is read
+abbrev pub IsWhole : State → ℕ → Type 0
+IsWhole s version = s.copy ≡ Some (record { version = version; left = 0 })
+
+abbrev pub replaced : State → ℕ → State
+replaced s version = record s {
+  base = version;
+  generation = s.generation + 1;
+  copy = None;
+  doubt = None;
+  finish = None;
+}
+
+-- it is given up, and its finish is in doubt, or an older one's doubt stays or is ended
+abbrev pub GivesUp : State → Bool → State → Type 0
+GivesUp s true s' = (version : ℕ) × IsWhole s version
+    × Becomes (record s { copy = None; finish = Some version }) s'
+GivesUp s false s' = StaysOrEnds s.finish s'.finish × Becomes (record s { copy = None; finish = s'.finish }) s'
+
+-- memory ran out: some of the step's items may be written
+abbrev pub TakesSome : Option Copying → Option Copying → Type 0
+TakesSome None new = new ≡ None
+TakesSome (Some old) new = (left : ℕ) × (new ≡ Some (record old { left = left })) × (left ≤ old.left)
+    × (old.left ≤ left + ITEMS_A_STEP)
+
+abbrev pub CompactGives : State → Reply → State → Type 0
+CompactGives s Last s' = (s.copy ≡ None) × (s.generation ≡ LAST_GENERATION) × Becomes s s'
+CompactGives s (More left) s' = Starts s left s' ⊎ GoesOn s left s'
+CompactGives s (Done generation) s' = (generation ≡ s.generation + 1) × (version : ℕ) × IsWhole s version
+    × Becomes (replaced s version) s'
+CompactGives s (DiskFault doubt) s' = SomeRose s.faults s'.faults × GivesUp s doubt s'
+CompactGives s NoMemory s' = TakesSome s.copy s'.copy × StaysOrEnds s.finish s'.finish
+    × Becomes (record s { copy = s'.copy; finish = s'.finish }) s'
+CompactGives s _ s' = ⊥
+
+-- Crash. What the disk that is read has: the history from its base on
+abbrev pub on_disk : State → History
+on_disk s = rebase s.history s.base
+
+-- the copy of a version is on its way to take that disk's place
+abbrev pub MayFinish : State → ℕ → Type 0
+MayFinish s version = (s.finish ≡ Some version) ⊎ IsWhole s version
+
+-- that history, or this and the commit in doubt; or that of a copy whose finish is in doubt or under way, in the next
+-- generation
+abbrev pub Recovers : State → History → ℕ → Type 0
+Recovers s h generation =
+    ((h ≡ on_disk s) × (generation ≡ s.generation))
+    ⊎ (((c : Change) × (s.doubt ≡ Some c) × (h ≡ grown (on_disk s) (c ∷ [])) × (generation ≡ s.generation))
+    ⊎ ((version : ℕ) × MayFinish s version × (h ≡ rebase s.history version) × (generation ≡ s.generation + 1)))
+
+abbrev pub crashed : State → History → ℕ → State
+crashed s h generation = record s {
   history = h;
   pins = [];
+  base = h.version;
+  generation = generation;
+  copy = None;
   doubt = None;
+  finish = None;
   faults = record
       { a = 0; b = 0 };
   serves = false;
 }
 
 abbrev pub CrashGives : State → Reply → State → Type 0
-CrashGives s Crashed s' = Recovers s s'.history × (s' ≡ crashed s s'.history)
+CrashGives s Crashed s' = Recovers s s'.history s'.generation × (s' ≡ crashed s s'.history s'.generation)
 CrashGives s _ s' = ⊥
 
--- Open
+-- Open: nothing is pinned, copied or in doubt, and the base is the disk's
 abbrev pub OpenGives : State → Reply → State → Type 0
 OpenGives s (Opened version) s' =
-    (s.pins ≡ []) × (s.doubt ≡ None) × AreNeeded s s'.kept × (version ≡ head s.history)
+    (s.pins ≡ []) × (s.copy ≡ None) × (s.doubt ≡ None) × (s.finish ≡ None) × (s.base ≡ s.history.version)
+    × AreNeeded s s'.kept × (version ≡ head s.history)
     × NoneFell s.faults s'.faults × Becomes (record s { kept = s'.kept; serves = true }) s'
 OpenGives s _ s' = ⊥
 
@@ -189,5 +266,6 @@ Gives s owner (Unpin slot) reply s' = Serves s s' × UnpinGives s owner slot rep
 Gives s owner Prune reply s' = Serves s s' × PruneGives s reply s'
 Gives s owner (Look id) reply s' = Serves s s' × LookGives s id reply s'
 Gives s owner Stats reply s' = Serves s s' × StatsGives s reply s'
+Gives s owner Compact reply s' = Serves s s' × CompactGives s reply s'
 Gives s owner Crash reply s' = CrashGives s reply s'
 Gives s owner Open reply s' = OpenGives s reply s'

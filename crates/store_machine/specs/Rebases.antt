@@ -1,7 +1,7 @@
 -- What stays where a history's base is moved to a later version.
 use Rattle.std.specs.Prelude.{◌≡◌, ◌≤◌, List, ℕ}
 use Rattle.std.specs.FinMap.{entries, from_entries}
-use Rattle.store_machine.specs.History.{AreAllowed, Snapshot, base_states, grown, head, rebase, snapshot}
+use Rattle.store_machine.specs.History.{AreAllowed, IsHistory, Snapshot, base_states, grown, head, rebase, snapshot}
 use Rattle.store_machine.specs.declared.machine.Change.{Change}
 use Rattle.store_machine.specs.declared.machine.History.{History}
 
@@ -31,3 +31,7 @@ LaterRebasesStand = (h : History) (d e : ℕ) → h.version ≤ d → d ≤ e �
 -- the entries of a snapshot, as a base has them, are read to that snapshot
 abbrev pub BasesReadBack : Type 0
 BasesReadBack = (states : Snapshot) → from_entries (entries states) ≡ states
+
+-- a base that is moved to where it stands stays
+abbrev pub RebasesStay : Type 0
+RebasesStay = (h : History) → IsHistory h → rebase h h.version ≡ h

@@ -3,7 +3,7 @@ ghost use Rattle.store_machine.specs.ByCalls.{CallsGivePages};
 ghost use Rattle.store_machine.specs.Laws.{AnswersAreOne, CommitsChange, KeptIsRead, NeedsScreen, PagesAreAPrefix, PagesArePieces, PagesAreTheAnswer, PinsStay, RunsGrow, RunsStaySound, SnapshotsStay, StatesStay};
 ghost use Rattle.store_machine.specs.Openings.{CrashOpens};
 ghost use Rattle.store_machine.specs.Owners.{OwnersAreFree, SoundnessAsksNoOwner};
-ghost use Rattle.store_machine.specs.Rebases.{BasesReadBack, LaterRebasesStand, RebasesGrow, RebasesKeepAllowed, RebasesKeepHeads, RebasesKeepSnapshots};
+ghost use Rattle.store_machine.specs.Rebases.{BasesReadBack, LaterRebasesStand, RebasesGrow, RebasesKeepAllowed, RebasesKeepHeads, RebasesKeepSnapshots, RebasesStay};
 ghost use Rattle.store_machine.specs.Runs.{CalmsJoin, RunsJoin};
 ghost use Rattle.store_machine.specs.Told.{PinsAreNew, RunsAdd, SlotsWereFree, ToldIsThere};
 
@@ -66,7 +66,8 @@ pub fn owners_are_free()
 {}
 
 /// A base moved to a later version keeps the snapshots from there on, the head, and that each commit is allowed. It may
-/// be moved before or after more commits, and of two moves the later says all. A base is read to its snapshot.
+/// be moved before or after more commits, and of two moves the later says all. A base is read to its snapshot, and one
+/// that is moved to where it stands stays.
 pub fn rebases_keep()
     ensures snapshots { RebasesKeepSnapshots }
     ensures heads { RebasesKeepHeads }
@@ -74,6 +75,7 @@ pub fn rebases_keep()
     ensures grown { RebasesGrow }
     ensures twice { LaterRebasesStand }
     ensures read { BasesReadBack }
+    ensures stays { RebasesStay }
 {}
 
 /// At each version in use a store reads the snapshot from what is kept.

@@ -14,6 +14,6 @@ pub use laws::{
     rebases_keep, replies_tell, runs_grow, runs_join, runs_stay_sound, snapshots_stay, states_stay,
 };
 pub use machine::{
-    Change, Entry, Event, Faults, Found, Held, History, LAST_IDENTIFIER, Reply, State, Status,
-    Step, Times,
+    Change, Copying, Entry, Event, Faults, Found, Held, History, ITEMS_A_STEP, LAST_GENERATION,
+    LAST_IDENTIFIER, Reply, State, Status, Step, Times,
 };

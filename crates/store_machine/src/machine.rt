@@ -5,6 +5,12 @@ use std::collections::LinkedList;
 /// The greatest identifier.
 pub const LAST_IDENTIFIER: u32 = 999_999_999;
 
+/// The greatest generation of a disk.
+pub const LAST_GENERATION: u32 = 4_294_967_295;
+
+/// How many items a step of a copy writes.
+pub const ITEMS_A_STEP: u32 = 256;
+
 /// A commit's change: a text is registered under an identifier or replaces the one there, or it is withdrawn.
 pub enum Change {
     Register {
@@ -68,13 +74,25 @@ pub struct Faults {
     pub b: u64,
 }
 
-/// A state of the machine. Between a Crash and the next Open nothing is served.
+/// A copy that runs: the version that its base is the snapshot of, and how many items it lacks.
+pub struct Copying {
+    pub version: u32,
+    pub left: u32,
+}
+
+/// A state of the machine: `base` and `generation` are those of the disk that is read, `doubt` a commit and `finish` the
+/// version of a copy of which nobody knows whether the disks have them. Between a Crash and the next Open nothing is
+/// served.
 pub struct State {
     pub history: History,
     pub limit: u32,
     pub pins: LinkedList<Held>,
     pub kept: LinkedList<Entry>,
+    pub base: u32,
+    pub generation: u32,
+    pub copy: Option<Copying>,
     pub doubt: Option<Change>,
+    pub finish: Option<u32>,
     pub faults: Faults,
     pub serves: bool,
 }
@@ -99,6 +117,7 @@ pub enum Event {
         id: u32,
     },
     Stats,
+    Compact,
     Crash,
     Open,
 }
@@ -138,6 +157,13 @@ pub enum Reply {
         kept: u32,
         pins: u32,
     },
+    More {
+        left: u32,
+    },
+    Done {
+        generation: u32,
+    },
+    Last,
     Crashed,
     Opened {
         version: u32,

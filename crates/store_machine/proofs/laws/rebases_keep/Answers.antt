@@ -1,4 +1,4 @@
-use Rattle.store_machine.proofs.Rebases.{bases-read-back, later-rebases-stand, rebases-grow, rebases-keep-allowed, rebases-keep-heads, rebases-keep-snapshots}
+use Rattle.store_machine.proofs.Rebases.{bases-read-back, later-rebases-stand, rebases-grow, rebases-keep-allowed, rebases-keep-heads, rebases-keep-snapshots, rebases-stay}
 use Rattle.store_machine.proofs.laws.rebases_keep.Goals as goal
 
 pub returns-clause-snapshots : goal.returns-clause-snapshots
@@ -18,3 +18,6 @@ returns-clause-twice c = later-rebases-stand
 
 pub returns-clause-read : goal.returns-clause-read
 returns-clause-read c = bases-read-back
+
+pub returns-clause-stays : goal.returns-clause-stays
+returns-clause-stays c = rebases-stay

@@ -12,6 +12,7 @@ returns-in-Ok-clause-opens c = rw (sym c.self.view_is) (λ s h. rw (sym c.into_d
     let o = c.in-Ok.ensures.opened in
     reopens c.crash_opens.ensures c.a_store_opens_one_way.ensures.one_history
     c.in-Ok.store s o.0 bytes c.self.inside.commits c.version-version.result
+    (c.what_is_left_is_recovered.ensures store s h) h.generation
     (opens-after c.a_standing_store_opens.ensures store s a bytes c.into_disks.ensures.a
     c.after_crash-disks.ensures.image h)
     (limit-of store c.self.inside.commits s c.self.invariant h) o.1 o.2

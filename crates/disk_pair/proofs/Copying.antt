@@ -1,0 +1,185 @@
+-- A copy on two disks: its start, its items and its finish, by their answers.
+use Rattle.std.proofs.Common.{◌≡◌, ◌⊎◌, inl, inr, ◌<◌, ◌+◌, Bool, false, true, not, ℕ, List, Option, Some, None, Result, Ok, Err, refl, sym, ◌∙◌, ap, subst, arith}
+use Rattle.disk_edge.specs.Disk.{DiskModel, IfTold}
+use Rattle.disk_edge.specs.Moments.{AtEachMoment}
+use Rattle.journal_core.specs.Fronts.{IsFront, front_of}
+use Rattle.journal_core.specs.Journal.{Rests}
+use Rattle.journal_core.specs.Standing.{Standing}
+use Rattle.journal_core.specs.declared.header.Header.{Header}
+use Rattle.compact_core.specs.Carrying.{Carrying}
+use Rattle.disk_pair.specs.Gives.{CopyGives, EndsOlder, FinishGives, StartGives, empty_copy}
+use Rattle.disk_pair.specs.Pairs.{History, Loses, MayShow, PairOpensTo, State, with_commit}
+use Rattle.disk_pair.specs.Puts.{BesideCopy, BesideFault, BesideStart, IsOther, ShowsDoubt}
+use Rattle.disk_pair.specs.Stands.{Beside, Carries, StandsFor}
+use Rattle.disk_pair.specs.Term.{OfEachPair, Paired, first_of}
+use Rattle.disk_pair.specs.declared.fault.PutFault.{PutFault}
+use Rattle.disk_pair.specs.declared.fault.PutFault.TheVariants.{DiskFault, NoMemory}
+use Rattle.disk_pair.specs.declared.other.Other.{Other}
+use Rattle.disk_pair.specs.declared.other.Other.TheVariants.{Idle, Copy}
+use Rattle.disk_pair.proofs.Calls.{other_moments, paired, sure_shows}
+use Rattle.disk_pair.proofs.Commits.{has_shows}
+use Rattle.disk_pair.proofs.Readings.{older_loses}
+
+module _ {D : Type 0} (model : DiskModel D) (journal : Standing D) (second : Bool) (s : State) where
+  -- the other disk was changed
+  restand : (other new : Other D) → StandsFor model (paired journal other second) s → (f copy : Option History)
+      → Beside model second s.now.header.generation f copy new
+      → StandsFor model (paired journal new second) (record s { finish = f; copy = copy })
+  restand other new st f copy beside = record {
+    front = st.front;
+    is_front = st.is_front;
+    header = st.header;
+    journal = st.journal;
+    other = beside;
+  }
+
+  -- a start
+  module _ (disk : D) (doubtful : Bool) (new : Other D)
+      (st : StandsFor model (paired journal (Idle disk doubtful) second) s) where
+    pub idle_beside : Beside model second s.now.header.generation s.finish None (Idle disk doubtful)
+    idle_beside = (refl, st.other.1, st.other.2)
+
+    pub next_generation : journal.header.generation + 1 ≡ s.now.header.generation + 1
+    next_generation = ap (λ (h : Header). h.generation + 1) st.header
+
+    older : (f : Option History) → (f ≡ s.finish) ⊎ (f ≡ None)
+        → Beside model second s.now.header.generation f None new
+        → EndsOlder (StandsFor model (paired journal new second)) s
+    older f is beside = record {
+      commit = s.commit;
+      finish = f;
+      commit_is = inl refl;
+      finish_is = is;
+      stands = restand (Idle disk doubtful) new st f s.copy
+          (subst (λ (c : Option History). Beside model second s.now.header.generation f c new) (sym st.other.0) beside);
+    }
+
+    refused : Beside model second s.now.header.generation s.finish None new
+        ⊎ Beside model second s.now.header.generation None None new
+        → EndsOlder (StandsFor model (paired journal new second)) s
+    refused (inl stays) = older s.finish (inl refl) stays
+    refused (inr ended) = older None (inr refl) ended
+
+    pub start_gives : (header : Header) (result : Result (Unit {0}) PutFault)
+        → BesideStart result (λ f copy. Beside model second s.now.header.generation f copy new) s.finish header
+        → StartGives result (StandsFor model (paired journal new second)) s header
+    start_gives header (Ok _) beside =
+        restand (Idle disk doubtful) new st None (Some (empty_copy header)) beside
+    start_gives header (Err (DiskFault true)) none = none
+    start_gives header (Err (DiskFault false)) beside = refused beside
+    start_gives header (Err NoMemory) beside = refused beside
+
+  -- a call on a running copy
+  module _ (carry : Carrying D) (st : StandsFor model (paired journal (Copy carry) second) s) where
+    abbrev pub running : History
+    running = st.other.1.0
+
+    pub runs : Carries model s.now.header.generation carry running
+    runs = st.other.1.2
+
+    pub carried : (copy : History) → s.copy ≡ Some copy → Carries model s.now.header.generation carry copy
+    carried copy is =
+        let same : running ≡ copy = cc (st.other.1.1, is) in
+        subst (Carries model s.now.header.generation carry) same runs
+
+    none_now : (copy : Option History) (new : Other D) → Beside model second s.now.header.generation None copy new
+        → StandsFor model (paired journal new second) (record s { copy = copy })
+    none_now copy new beside = restand (Copy carry) new st s.finish copy
+        (subst (λ (f : Option History). Beside model second s.now.header.generation f copy new) (sym st.other.0) beside)
+
+    as_before : (copy : History) → s.copy ≡ Some copy → (new : Other D)
+        → Beside model second s.now.header.generation None (Some copy) new
+        → StandsFor model (paired journal new second) s
+    as_before copy is new beside = none_now s.copy new
+        (subst (λ (c : Option History). Beside model second s.now.header.generation None c new) (sym is) beside)
+
+    pub copy_gives : (copy after : History) → s.copy ≡ Some copy → (new : Other D)
+        (result : Result (Unit {0}) PutFault)
+        → BesideCopy result (λ c. Beside model second s.now.header.generation None c new) copy after
+        → CopyGives result (StandsFor model (paired journal new second)) s after
+    copy_gives copy after is new (Ok _) beside = none_now (Some after) new beside
+    copy_gives copy after is new (Err (DiskFault true)) none = none
+    copy_gives copy after is new (Err (DiskFault false)) beside = none_now None new beside
+    copy_gives copy after is new (Err NoMemory) beside = as_before copy is new beside
+
+    pub fault_gives : (copy : History) → s.copy ≡ Some copy → (new : Other D) (fault : PutFault)
+        → BesideFault fault (λ f c. Beside model second s.now.header.generation f c new) copy
+        → FinishGives (Err fault) (StandsFor model (paired journal new second)) s copy
+    fault_gives copy is new (DiskFault true) beside = restand (Copy carry) new st (Some copy) None beside
+    fault_gives copy is new (DiskFault false) beside = none_now None new beside
+    fault_gives copy is new NoMemory beside = as_before copy is new beside
+
+    pub no_finish : (y : List ℕ) → IsOther second s.now.header.generation None y
+        → IsOther second s.now.header.generation s.finish y
+    no_finish y = subst (λ (f : Option History). IsOther second s.now.header.generation f y) (sym st.other.0)
+
+    -- what was the current disk is not read beside the copy
+    old_loses : (flag : Bool) (g : ℕ) → s.now.header.generation < g → (x : List ℕ)
+        → ShowsDoubt st.front s.now.commits s.commit x → Loses flag g x
+    old_loses flag g less x (inl now) =
+        older_loses flag g s.now x (record { front = st.front; is = st.is_front; opens = now }) less
+    old_loses flag g less x (inr doubt) = older_loses flag g (with_commit s.now doubt.0) x
+        (record { front = st.front; is = st.is_front; opens = doubt.2 }) less
+
+    pub done_stands : (copy : History) → s.copy ≡ Some copy → (next : Standing D) → next.header ≡ carry.header
+        → next.doubt ≡ false → (Carries model s.now.header.generation carry copy
+        → IsFront copy.header copy.base (front_of copy.header copy.base)
+        × IfTold (model.content next.disk) (λ _. Rests model next (front_of copy.header copy.base) copy.commits))
+        → (flag : Bool) → StandsFor model (paired next (Idle journal.disk false) flag)
+        (record { now = copy; commit = None; finish = None; copy = None })
+    done_stands copy is next header sure whole flag =
+        let r = carried copy is in
+        let w = whole r in
+        record {
+          front = front_of copy.header copy.base;
+          is_front = w.0;
+          header = header ∙ r.header;
+          journal = (sure, w.1);
+          other = (
+            refl,
+            λ _. refl,
+            λ l told x i. old_loses flag copy.header.generation (omega (arith, r.next)) x
+                (has_shows model journal st.front s.now.commits s.commit st.journal l told x i),
+          );
+        }
+
+    may_finish : (copy k : History) → s.copy ≡ Some copy → MayShow (record s { finish = Some copy }) k
+        → MayShow s k ⊎ (s.copy ≡ Some k)
+    may_finish copy k is (inl now) = inl (inl now)
+    may_finish copy k is (inr (inl doubt)) = inl (inr (inl doubt))
+    may_finish copy k is (inr (inr same)) = inr (is ∙ same)
+
+    -- at a moment of a finish
+    pub finish_moments : (only_now : (d : D) (c : List ℕ) → model.images_between d (model.clock d) (model.clock d) c
+        → model.images d c) (after : D)
+        → (Carries model s.now.header.generation carry running → IfTold (model.content after)
+        (λ _. AtEachMoment model carry.disk after (IsOther second s.now.header.generation (Some running))))
+        → IfTold (model.content (first_of second journal.disk after))
+        (λ _. IfTold (model.content (first_of second after journal.disk)) (λ _.
+        AtEachMoment model (first_of second journal.disk carry.disk) (first_of second journal.disk after) (λ x.
+        AtEachMoment model (first_of second carry.disk journal.disk) (first_of second after journal.disk) (λ y.
+        PairOpensTo (λ h. MayShow s h ⊎ (s.copy ≡ Some h)) x y))))
+    finish_moments only_now after moments l told k told_other x m y n =
+        let shown = other_moments model only_now journal second (Copy carry) after s st (Some running) (moments runs)
+        l told k told_other x m y n in
+        (shown.0, may_finish running shown.0 st.other.1.1 shown.1, shown.2)
+
+  -- at Ok each pair of images opens to the copy
+  pub finish_sure : (copy : History) (pair : Paired D)
+      → StandsFor model pair (record { now = copy; commit = None; finish = None; copy = None })
+      → OfEachPair model pair (PairOpensTo (λ h. h ≡ copy))
+  finish_sure copy pair st =
+      sure_shows model pair (record { now = copy; commit = None; finish = None; copy = None }) refl refl st
+
+-- where the roles are changed
+pub turned_moments : {D : Type 0} (model : DiskModel D) (second : Bool) (c o after : D)
+    (P : List ℕ → List ℕ → Type 0)
+    → IfTold (model.content (first_of second c after)) (λ _. IfTold (model.content (first_of second after c)) (λ _.
+    AtEachMoment model (first_of second c o) (first_of second c after) (λ x.
+    AtEachMoment model (first_of second o c) (first_of second after c) (λ y. P x y))))
+    → IfTold (model.content (first_of (not second) after c)) (λ _.
+    IfTold (model.content (first_of (not second) c after)) (λ _.
+    AtEachMoment model (first_of second c o) (first_of (not second) after c) (λ x.
+    AtEachMoment model (first_of second o c) (first_of (not second) c after) (λ y. P x y))))
+turned_moments model false c o after P f = f
+turned_moments model true c o after P f = f

@@ -1,0 +1,10 @@
+mod Calls
+mod Commits
+mod Copying
+mod Ends
+mod Lifts
+mod OnePair
+mod Openings
+mod Others
+mod Puts
+mod Readings

@@ -1,0 +1,60 @@
+-- What a call on two disks leaves, by its answer. For callers.
+use Rattle.std.specs.Prelude.{◌≡◌, ◌⊎◌, [], Err, false, List, None, Ok, Option, Result, Some, true, ℕ}
+use Rattle.journal_core.specs.declared.header.Header.{Header}
+use Rattle.disk_pair.specs.Pairs.{History, State, with_commit}
+use Rattle.disk_pair.specs.Term.{Progress}
+use Rattle.disk_pair.specs.declared.fault.PutFault.{PutFault}
+use Rattle.disk_pair.specs.declared.fault.PutFault.TheVariants.{DiskFault, NoMemory}
+
+-- an older commit or finish in doubt stays, or is ended
+pub record EndsOlder (Stands : State → Type 0) (s : State) : Type 0 where
+  pub commit : Option (List ℕ)
+  pub finish : Option History
+  pub commit_is : (commit ≡ s.commit) ⊎ (commit ≡ None)
+  pub finish_is : (finish ≡ s.finish) ⊎ (finish ≡ None)
+  pub stands : Stands (record s { commit = commit; finish = finish })
+
+-- a commit is made, or is in doubt, or not
+abbrev pub AppendGives : Result (Unit {0}) PutFault → (State → Type 0) → State → List ℕ → Type 0
+AppendGives (Ok _) Stands s payload =
+    Stands (record s { now = with_commit s.now payload; commit = None; finish = None })
+AppendGives (Err (DiskFault true)) Stands s payload = Stands (record s { commit = Some payload; finish = None })
+AppendGives (Err (DiskFault false)) Stands s payload = EndsOlder Stands s
+AppendGives (Err NoMemory) Stands s payload = EndsOlder Stands s
+
+-- a copy that has nothing yet
+abbrev pub empty_copy : Header → History
+empty_copy header = record { header = header; base = []; commits = [] }
+
+-- a copy runs, or not
+abbrev pub StartGives : Result (Unit {0}) PutFault → (State → Type 0) → State → Header → Type 0
+StartGives (Ok _) Stands s header = Stands (record s { finish = None; copy = Some (empty_copy header) })
+StartGives (Err (DiskFault true)) Stands s header = ⊥
+StartGives (Err (DiskFault false)) Stands s header = EndsOlder Stands s
+StartGives (Err NoMemory) Stands s header = EndsOlder Stands s
+
+-- The running copy has this history, or is given up, or is as it was.
+abbrev pub CopyGives : Result (Unit {0}) PutFault → (State → Type 0) → State → History → Type 0
+CopyGives (Ok _) Stands s copy = Stands (record s { copy = Some copy })
+CopyGives (Err (DiskFault true)) Stands s copy = ⊥
+CopyGives (Err (DiskFault false)) Stands s copy = Stands (record s { copy = None })
+CopyGives (Err NoMemory) Stands s copy = Stands s
+
+-- The copy is what two disks have, or its finish is in doubt, or it is given up, or goes on.
+abbrev pub FinishGives : Result (Unit {0}) PutFault → (State → Type 0) → State → History → Type 0
+FinishGives (Ok _) Stands s copy = Stands (record { now = copy; commit = None; finish = None; copy = None })
+FinishGives (Err (DiskFault true)) Stands s copy = Stands (record s { finish = Some copy; copy = None })
+FinishGives (Err (DiskFault false)) Stands s copy = Stands (record s { copy = None })
+FinishGives (Err NoMemory) Stands s copy = Stands s
+
+-- how far the copy is after a call that adds to it
+abbrev pub progress_after : Result (Unit {0}) PutFault → Option Progress → Option Progress → Option Progress
+progress_after (Ok _) old new = new
+progress_after (Err (DiskFault doubt)) old new = None
+progress_after (Err NoMemory) old new = old
+
+-- P holds at a fault of a disk
+abbrev pub OnFault : Result (Unit {0}) PutFault → Type 0 → Type 0
+OnFault (Ok _) P = Unit {0}
+OnFault (Err (DiskFault doubt)) P = P
+OnFault (Err NoMemory) P = Unit {0}

@@ -1,0 +1,33 @@
+//! Which of two disks is read.
+
+ghost use Rattle.std.specs.Prelude.{List, ℕ};
+ghost use Rattle.journal_core.specs.Fronts.{IsPeeked};
+ghost use Rattle.disk_pair.specs.Choices.{Chosen};
+
+use journal_core::Header;
+
+/// One of two disks.
+#[derive(Clone, Copy, Debug, PartialEq, Eq)]
+pub enum Which {
+    First,
+    Second,
+}
+
+/// Which of two disks is read, by the header of each that is open: that of the greater generation, and the first where
+/// both are equal. `None` where neither is open.
+pub(crate) fn choose(first: Option<Header>, second: Option<Header>) -> Option<Which>
+    ensures { (a b : List ℕ) → IsPeeked first a → IsPeeked second b → Chosen result a b }
+{
+    match (first, second) {
+        (None, None) => None,
+        (Some(_), None) => Some(Which::First),
+        (None, Some(_)) => Some(Which::Second),
+        (Some(a), Some(b)) => {
+            if b.generation > a.generation {
+                Some(Which::Second)
+            } else {
+                Some(Which::First)
+            }
+        }
+    }
+}

@@ -1,0 +1,32 @@
+//! What two disks open to.
+
+ghost use Rattle.std.specs.Prelude.{◌≡◌, ◌⊎◌, ◌++◌, ◌∷◌, ℕ, List};
+ghost use Rattle.std.specs.List.{AllByRecursion};
+ghost use Rattle.journal_core.specs.Fronts.{IsFront, IsOpen};
+ghost use Rattle.journal_core.specs.Records.{IsShort, prefix};
+ghost use Rattle.journal_core.specs.declared.format.TheConstants.{CLOSED};
+ghost use Rattle.disk_pair.specs.Pairs.{History, MayShow, PairOpens, PairOpensTo, Picks, State};
+ghost use Rattle.disk_pair.specs.Stands.{StandsFor};
+ghost use Rattle.disk_pair.specs.Term.{OfEachPair};
+
+use crate::pair::Pair;
+use disk_edge::Disk;
+
+/// Two disks open to one history. Where one of them is open, one is read. What was written on one disk, behind which any
+/// bytes may stand, is read where the other one is not open.
+pub fn a_pair_opens_one_way()
+    ensures one_history { (h k : History) (a b : List ℕ) → PairOpens h a b → PairOpens k a b → h ≡ k }
+    ensures some { (a b : List ℕ) → IsOpen a ⊎ IsOpen b → (c : List ℕ) × Picks a b c }
+    ensures first { (h : History) (front rest b : List ℕ) → IsFront h.header h.base front
+        → AllByRecursion IsShort h.commits → ¬ IsOpen b
+        → PairOpens h (prefix front h.commits ++ CLOSED ∷ rest) b }
+    ensures second { (h : History) (front rest a : List ℕ) → IsFront h.header h.base front
+        → AllByRecursion IsShort h.commits → ¬ IsOpen a
+        → PairOpens h a (prefix front h.commits ++ CLOSED ∷ rest) }
+{}
+
+/// Each two images that a crash now may leave open to one of the histories of the state that the pair stands for.
+pub fn a_crash_leaves_one<D: Disk>(_pair: &Pair<D>)
+    ensures { (s : State) → StandsFor D.model _pair.now s
+        → OfEachPair D.model _pair.now (PairOpensTo (MayShow s)) }
+{}

@@ -1,0 +1,24 @@
+//! The two disks of a store. One of them is read, the current one: of two that are open the one of greater generation,
+//! and the first where both are equal. A commit is appended to it. A copy of the store is made on the other one, and
+//! once it is whole it is read in the place of the first: so a store gets rid of what it no longer needs.
+//!
+//! At every moment of every call a crash leaves two disks that open to a history that may be there: that from before
+//! the call, with the commit in doubt or without; the copy whose finish is in doubt; or what the call makes. It knows
+//! payloads alone, and decodes none. It stands on `journal_core` and `compact_core`; no command copies yet.
+#![tactic(auto)]
+
+mod choice;
+mod fault;
+mod law;
+mod opening;
+mod other;
+mod pair;
+mod put;
+#[cfg(test)]
+mod tests;
+
+pub use choice::Which;
+pub use fault::PutFault;
+pub use law::{a_crash_leaves_one, a_pair_opens_one_way};
+pub use opening::{Picked, load};
+pub use pair::Pair;

@@ -1,0 +1,122 @@
+//! A finish that is stopped at each call of its disk, and a crash to each image; and a commit behind a doubtful finish.
+
+ghost use Rattle.std.specs.Prelude.{◌≡◌, ◌<◌, ◌^◌, IfOk, None};
+ghost use Rattle.disk_pair.specs.Term.{IsBased, progress_of};
+
+use crate::choice::Which;
+use crate::fault::PutFault;
+use crate::opening::{Picked, load};
+use crate::pair::Pair;
+use disk_edge::MemDisk;
+use journal_core::{Header, Journal};
+use std::alloc::Global;
+use std::test::Fail;
+
+// A store of format 1 with one commit, and the payloads of a base record and of a second commit.
+const FILE: [u8; 15] = *b"\x5aCHEMDB1\x5a\x01\0\0\0a\0";
+
+const BASE: [u8; 3] = *b"BCD";
+
+const SECOND: [u8; 2] = *b"ef";
+
+// The store on the first of two disks.
+fn pair(alloc: Global) -> Result<Pair<MemDisk>, Fail>
+    ensures idle { IfOk result (λ pair. progress_of pair.other ≡ None) }
+    ensures place { IfOk result (λ pair. pair.journal.place ≡ 14) }
+    ensures first { IfOk result (λ pair. pair.journal.header.generation ≡ 0) }
+{
+    let disk = MemDisk::of(alloc, FILE.to_vec(alloc)?)?;
+    let header = Header {
+        generation: 0,
+        base_version: 0,
+        base_count: 0,
+    };
+    Ok(Pair::new(
+        alloc,
+        Picked {
+            journal: Journal::at_gate(alloc, disk, header, 14),
+            other: MemDisk::new(alloc),
+            second: false,
+        },
+    ))
+}
+
+// A copy of it that lacks nothing, with the second commit.
+fn copied(alloc: Global) -> Result<Pair<MemDisk>, Fail>
+    ensures based { IfOk result (λ pair. IsBased (progress_of pair.other)) }
+    ensures place { IfOk result (λ pair. pair.journal.place < 2 ^ 62) }
+{
+    let mut pair = pair(alloc)?;
+    if pair.start_copy(1, 1).is_err() {
+        return Err(Fail::new("not started"));
+    }
+    if pair.put_base(&BASE).is_err() {
+        return Err(Fail::new("no base record"));
+    }
+    if pair.append(&SECOND).is_err() {
+        return Err(Fail::new("no commit"));
+    }
+    if pair.add(&SECOND).is_err() {
+        return Err(Fail::new("no commit in the copy"));
+    }
+    Ok(pair)
+}
+
+// The generation of the disk that is read after a crash to these images.
+fn generation(alloc: Global, pair: Pair<MemDisk>, image: u32) -> Result<u32, Fail> {
+    let (a, b) = pair.into_disks();
+    match load(alloc, a.image(image), b.image(image)) {
+        Ok(picked) => Ok(picked.journal.header().generation),
+        Err(_) => Err(Fail::new("not a store")),
+    }
+}
+
+#[test]
+fn a_stopped_finish_is_there_or_not(rt: HostRuntime) -> Result<(), Fail> {
+    let sure = Err(PutFault::DiskFault { doubt: false });
+    let doubt = Err(PutFault::DiskFault { doubt: true });
+    let rows: [(u64, Result<(), PutFault>, [u32; 4]); 5] = [
+        (0, sure, [0, 0, 0, 0]),
+        (1, sure, [0, 0, 0, 0]),
+        (2, doubt, [0, 0, 1, 0]),
+        (3, doubt, [1, 0, 1, 0]),
+        (4, Ok(()), [1, 1, 1, 1]),
+    ];
+    for (calls, outcome, left) in rows {
+        for image in 0..4 {
+            let mut pair = copied(rt.alloc())?;
+            pair.stop_after(Which::Second, calls);
+            assert_eq!(rt; pair.finish(), outcome, "{calls}");
+            let read = generation(rt.alloc(), pair, image)?;
+            assert_eq!(rt; read, left[image as usize], "{calls} {image}");
+        }
+    }
+    Ok(())
+}
+
+#[test]
+fn a_commit_ends_a_doubtful_finish(rt: HostRuntime) -> Result<(), Fail> {
+    for image in 0..4 {
+        let mut pair = copied(rt.alloc())?;
+        pair.fail_once(Which::Second, 3);
+        assert_eq!(rt; pair.finish(), Err(PutFault::DiskFault { doubt: true }));
+        assert!(rt; !pair.is_copying());
+        assert_eq!(rt; pair.append(&SECOND), Ok(()));
+        assert_eq!(rt; generation(rt.alloc(), pair, image)?, 0, "{image}");
+    }
+    Ok(())
+}
+
+#[test]
+fn a_copy_that_failed_is_given_up(rt: HostRuntime) -> Result<(), Fail> {
+    let mut pair = pair(rt.alloc())?;
+    assert_eq!(rt; pair.start_copy(1, 1), Ok(()));
+    pair.fail_once(Which::Second, 1);
+    assert_eq!(rt;
+        pair.put_base(&BASE),
+        Err(PutFault::DiskFault { doubt: false })
+    );
+    assert!(rt; !pair.is_copying());
+    assert_eq!(rt; generation(rt.alloc(), pair, 0)?, 0);
+    Ok(())
+}
