@@ -27,6 +27,7 @@ mod refused;
 mod sd;
 mod structures;
 mod turns;
+mod watches;
 mod words;
 
 // What a call left of its one end.

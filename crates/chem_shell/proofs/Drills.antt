@@ -1,8 +1,8 @@
 -- What a drill leaves of an end: whole dialogues and beginnings, true by the run; and where none was begun.
 use Rattle.std.proofs.Common.{◌≡◌, ◌≢◌, ◌∙◌, ℕ, List, [], ◌∷◌, ◌++◌, Option, None, Some, IfSome, refl, sym, ap, subst, inl, inr, append-nil, arith}
 use Rattle.drill_run.specs.Causes.{AreCaused, nothing_set}
-use Rattle.drill_run.specs.Dialogue.{AllCursors, AreExchanged, Exchange, calls_of, replies_of}
-use Rattle.drill_run.specs.Drilled.{IsDialogue, IsDialoguePrefix, IsDrilled, IsDrilledBy, no_cursors}
+use Rattle.drill_run.specs.Dialogue.{AllKept, AreExchanged, Exchange, calls_of, replies_of}
+use Rattle.drill_run.specs.Drilled.{IsDialogue, IsDialoguePrefix, IsDrilled, IsDrilledBy, all_empty}
 use Rattle.drill_run.specs.Truths.{AreAllTold, DrillsAreTrue}
 use Rattle.drill_run.proofs.Parts.{calls-parts}
 use Rattle.io_edge.specs.Lines.{TextLine, lines_of}
@@ -45,7 +45,7 @@ answered_begins size lines left calls text d =
 abbrev nothing_begins : (size : ℕ) (lines : List TextLine) → IsDialoguePrefix size lines [] []
 nothing_begins size lines = record {
   exchanges = [];
-  all = no_cursors;
+  all = all_empty;
   last = [];
   left = lines;
   begin = refl;
@@ -68,7 +68,7 @@ drilled_begins Worn size lines calls text d = absurd d
 
 -- lines that were answered told what the run has
 told : DrillsAreTrue → (commits page : ℕ) (calls more : Calls) (run : AreOfDrill commits calls)
-    (exchanges : List Exchange) (all : AllCursors) → AreExchanged page no_cursors exchanges all
+    (exchanges : List Exchange) (all : AllKept) → AreExchanged page all_empty exchanges all
     → calls ≡ calls_of exchanges ++ more → AreAllTold (empty commits) run.steps page exchanges
 told law commits page calls more run exchanges all h made =
     law page exchanges all (empty commits) run.last run.steps more h (empty-sound commits) run.run (run.all ∙ made)

@@ -6,6 +6,7 @@ use Rattle.session_run.specs.Served as session
 use Rattle.session_run.specs.Served.{TakesAll, TakesAtMost, Writes, WritesForTaken}
 use Rattle.session_run.specs.Transcript as script
 use Rattle.session_run.specs.Truths.{AreTrue, IsInRun, IsTrueBeginning, IsTrueService, ServicesAreTrue}
+use Rattle.session_run.specs.Watching.{nothing_kept}
 use Rattle.session_run.specs.declared.settings.EndStatus.{EndStatus}
 use Rattle.session_run.specs.declared.settings.EndStatus.TheVariants.{Done, SourceFault, SinkFault, NoMemory, InputTooLong, Worn}
 use Rattle.store_core.specs.Stored.{empty}
@@ -23,14 +24,14 @@ use Rattle.serve_ends.specs.declared.status.TheConstants.{DONE}
 -- requests that were answered whole are a beginning
 answered_begins : (page : ℕ) (lines : List TextLine) (calls : Calls) (text : List ℕ)
     → session.IsWholePrefix page lines calls text → script.IsTranscriptPrefix page lines calls text
-answered_begins page lines calls text (left, own, cursors, dialogue, all) = (
+answered_begins page lines calls text (left, own, standing, dialogue, all) = (
   own,
-  cursors,
+  standing,
   record {
     left = left;
     own = own;
     replies = text;
-    cursors_open = cursors;
+    kept = standing;
     answered = dialogue;
     last = inl (refl, refl, refl);
   },
@@ -39,18 +40,18 @@ answered_begins page lines calls text (left, own, cursors, dialogue, all) = (
 
 whole_begins : (page : ℕ) (lines : List TextLine) (calls : Calls) (text : List ℕ)
     → script.IsTranscript page lines calls text → script.IsTranscriptPrefix page lines calls text
-whole_begins page lines calls text (own, cursors, dialogue, all) =
-    answered_begins page lines calls text ([], own, cursors, dialogue, all)
+whole_begins page lines calls text (own, standing, dialogue, all) =
+    answered_begins page lines calls text ([], own, standing, dialogue, all)
 
 nothing_begins : (page : ℕ) (lines : List TextLine) → script.IsTranscriptPrefix page lines [] []
 nothing_begins page lines = (
   [],
-  [],
+  nothing_kept,
   record {
     left = lines;
     own = [];
     replies = [];
-    cursors_open = [];
+    kept = nothing_kept;
     answered = record { exchanges = []; begin = refl; exchanged = (refl, refl); said = refl };
     last = inl (refl, refl, refl);
   },
@@ -75,7 +76,7 @@ true_begins Done h page lines calls text t = record {
   left = [];
   own = t.own;
   replies = text;
-  left_open = t.left_open;
+  left_kept = t.left_kept;
   dialogue = t.dialogue;
   said = ([], append-nil text);
   made = t.made;
@@ -101,6 +102,9 @@ none_true h page = record {
   sames = λ before after x text version tried count e is ends. absurd (nothing_inside before x after e);
   registrations = λ before after x id text e is. absurd (nothing_inside before x after e);
   similars = λ before after x p q k text version scored count e is ends. absurd (nothing_inside before x after e);
+  watchings = λ before after x name text version count e is tells. absurd (nothing_inside before x after e);
+  watches = λ before between after x y name text first found version count rebuilt e began tells stays last ends.
+      absurd (nothing_inside before x (between ++ y ∷ after) e);
 }
 
 nothing_is_true : (h : History) (page : ℕ) (lines : List TextLine) → IsTrueBeginning h page lines [] []
@@ -108,7 +112,7 @@ nothing_is_true h page lines = record {
   left = lines;
   own = [];
   replies = [];
-  left_open = [];
+  left_kept = nothing_kept;
   dialogue = record { exchanges = []; begin = refl; exchanged = (refl, refl); said = refl };
   said = ([], refl);
   made = ([], refl);

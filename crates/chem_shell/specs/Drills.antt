@@ -32,8 +32,8 @@ IsDrillBy page script calls text = IsDialogue page (lines_of script) [] calls te
 abbrev pub IsDrillPrefixBy : ℕ → List ℕ → Calls → List ℕ → Type 0
 IsDrillPrefixBy page script calls text = IsDialoguePrefix page (lines_of script) calls text
 
--- Such a text by the calls of a run from a state: each session's searches, cursors and lookups in it that came to their
--- end told exactly what the history has, in each part of the drill
+-- Such a text by the calls of a run from a state: each session's searches, cursors, lookups and watches in it that came
+-- to their end told exactly what the history has, in each part of the drill
 abbrev pub IsTrueDrill : State → List Step → ℕ → List ℕ → Calls → List ℕ → Type 0
 IsTrueDrill first steps page script calls text =
     (drill : IsDrillBy page script calls text) × AreAllTold first steps page drill.exchanges

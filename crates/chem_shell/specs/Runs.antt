@@ -13,7 +13,7 @@ use Rattle.store_machine.specs.declared.machine.History.{History}
 use Rattle.store_machine.specs.declared.machine.State.{State}
 use Rattle.store_machine.specs.declared.machine.Step.{Step}
 
--- The text is a transcript of the script by these calls, by pages of a size. Each search and each cursor in it listed
+-- The text is a transcript of the script by these calls, by pages of a size. Each search, cursor and watch in it listed
 -- the hits of the history
 abbrev pub IsTranscriptBy : ℕ → List ℕ → Calls → History → List ℕ → Type 0
 IsTranscriptBy page script calls history text =

@@ -114,8 +114,8 @@ pub fn chemdb<
 
     // `drill`: what was written is a prefix of a drill of the source's bytes, by pages of the plan, in a run of a store
     // in memory that begins empty and may have the plan's commits, with a crash and an opening for each reopening; all
-    // of one where the status is 0. Each session's searches, cursors and lookups that ended told exactly what the
-    // run's history has. A disk fault comes only where the lines `stop` and `fail` before it allow it.
+    // of one where the status is 0. Each session's searches, cursors, lookups and watches that ended told exactly what
+    // the run's history has. A disk fault comes only where the lines `stop` and `fail` before it allow it.
     ensures drill { OnPlan (texts words.now) Verb.Drill (λ plan. (result.a ≡ a)
         × AllZip (ServesDrill plan S.left K.written) ends.items result.ends.items) }
 {

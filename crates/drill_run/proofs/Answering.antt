@@ -12,17 +12,19 @@ use Rattle.drill_core.specs.Faults.{FaultsAreCounted, disk_faults}
 use Rattle.drill_core.specs.Worlds.{HasNoFailures, Reopens}
 use Rattle.io_edge.specs.Lines.{TextLine, Whole}
 use Rattle.session_run.specs.Acts.{Lines, RequestAnswer}
-use Rattle.session_run.specs.Cursors.{Calls, Cursor}
+use Rattle.session_run.specs.Cursors.{Calls}
 use Rattle.session_run.specs.Made as made
 use Rattle.session_run.specs.Made.{Answered, AnsweredBy, Broken, Did, Said, Unsaid}
 use Rattle.session_run.specs.Pins.{AreHeld, HeldAfter}
 use Rattle.session_run.specs.Opened.{opened}
 use Rattle.session_run.specs.Responds.{IsFit, KeepsPins}
+use Rattle.session_run.specs.Standings.{standing_of}
 use Rattle.session_run.specs.Walks.{cursors_of}
+use Rattle.session_run.specs.Watching.{Standing, nothing_kept}
 use Rattle.session_run.specs.declared.respond.Responder.{Responder}
 use Rattle.session_run.specs.declared.settings.Settings.{Settings}
 use Rattle.session_run.specs.declared.stop.Stop.TheVariants as stops
-use Rattle.session_run.proofs.ActPins.{act_held, act_others}
+use Rattle.session_run.proofs.ActPins.{all_held, all_others}
 use Rattle.session_run.proofs.Held.{held-same, moves-none, not_raised-same, same_others, same_others-more}
 use Rattle.shell_lang.specs.Command.{TakesLines}
 use Rattle.shell_lang.specs.CommandView.{Takes}
@@ -40,12 +42,12 @@ use Rattle.store_machine.specs.declared.machine.Times.{Times}
 use Rattle.store_disk.specs.InMemory.{StandsInMemory}
 use Rattle.store_disk.specs.Stored.{stays}
 use Rattle.drill_run.specs.Causes.{Tally, faults_in, tally_after}
-use Rattle.drill_run.specs.Dialogue.{AllCursors, Does, IsOwnAnswer, lines_refused, reopened_text}
+use Rattle.drill_run.specs.Dialogue.{AllKept, Does, IsOwnAnswer, lines_refused, reopened_text}
 use Rattle.drill_run.specs.Lines.{DrillLine, Reads, Reopen, Session}
 use Rattle.drill_run.specs.Numbers.{numbered}
 use Rattle.drill_run.specs.Turns as turns
 use Rattle.drill_run.specs.Turns.{AnswersOwn, AreReady, Breaks, Goes, IsSessionOf, IsTallied, Uses, WorldTerm, all_of}
-use Rattle.drill_run.specs.Views.{cursors_in}
+use Rattle.drill_run.specs.Views.{kept_in}
 use Rattle.drill_run.specs.declared.line.TheConstants.{SESSIONS}
 use Rattle.drill_run.specs.declared.sessions.Sessions.{Sessions}
 use Rattle.drill_run.proofs.Events.{calm-events, same-faults}
@@ -54,7 +56,7 @@ use Rattle.drill_run.proofs.Tallies.{tally-new, tally-session}
 use Rattle.drill_run.proofs.Pins.{session-held, sessions-held}
 
 -- nothing is asked of the store's machine
-pub says : (size : ℕ) (line : TextLine) (read : Option DrillLine) (old new : WorldTerm) (all : AllCursors)
+pub says : (size : ℕ) (line : TextLine) (read : Option DrillLine) (old new : WorldTerm) (all : AllKept)
     (text : List ℕ) → Reads line read → Does size line read all [] text all
     → ((s : State) → StandsInMemory old s → StandsInMemory new s)
     → ((t : Tally) → IsTallied t old → IsTallied (tally_after t read []) new)
@@ -69,17 +71,17 @@ says size line read old new all text reads does stands tallied = record {
 }
 
 -- memory ran out for the reply: all was done, and nothing is put
-pub lost : {size : ℕ} {line : TextLine} {old new : WorldTerm} {all all' : AllCursors} {text : List ℕ}
+pub lost : {size : ℕ} {line : TextLine} {old new : WorldTerm} {all all' : AllKept} {text : List ℕ}
     → Goes size line old new all all' text → Breaks size line old all []
 lost {text = text} g = cut_off g [] text refl
 
 pub lost-by : (a b : Sessions) (old : WorldTerm) (line : TextLine) (r : Result WorldTerm AllocError) → IsErr r
-    → Breaks a.settings.page line old (cursors_in a.responders.items) [] → turns.Answered a b old line r
+    → Breaks a.settings.page line old (kept_in a.responders.items) [] → turns.Answered a b old line r
 lost-by a b old line (Ok after) is h = absurd (true≢false (sym is))
 lost-by a b old line (Err fault) is h = h
 
 -- the text that is put is that of the answer
-pub goes-as : {size : ℕ} {line : TextLine} {old new : WorldTerm} {all all' : AllCursors} {text said : List ℕ}
+pub goes-as : {size : ℕ} {line : TextLine} {old new : WorldTerm} {all all' : AllKept} {text said : List ℕ}
     → said ≡ text → Goes size line old new all all' text → Goes size line old new all all' said
 goes-as {size} {line} {old} {new} {all} {all'} e g =
     subst (λ (t : List ℕ). Goes size line old new all all' t) (sym e) g
@@ -97,11 +99,11 @@ ready-same old new a b h stands memory responders settings = record {
 }
 
 -- a session's line was answered, as a session answers it, by the service of a world
-module _ {size : ℕ} {own : List ℕ} {old new : WorldTerm} {cursors cursors' : List Cursor}
+module _ {size : ℕ} {own : List ℕ} {old new : WorldTerm} {kept kept' : Standing}
     (of : meaning.Ghosts WorldTerm) (convert : (calls : Calls) → made.Uses of old new calls → Uses old new calls)
     (other : ¬ TakesLines own) where
-  of-did : Did (made.Uses of old new) (RequestAnswer size cursors (record { line = Whole own; more = [] })) cursors'
-      → AnswersOwn size own old new cursors cursors'
+  of-did : Did (made.Uses of old new) (RequestAnswer size kept (record { line = Whole own; more = [] })) kept'
+      → AnswersOwn size own old new kept kept'
   of-did d = record {
     calls = d.calls;
     lines = d.lines;
@@ -110,19 +112,19 @@ module _ {size : ℕ} {own : List ℕ} {old new : WorldTerm} {cursors cursors' :
   }
 
   pub own-said : (out : List ℕ)
-      → AnsweredBy of old new (RequestAnswer size cursors (record { line = Whole own; more = [] })) [] out cursors'
-      (Ok tt) → (a : AnswersOwn size own old new cursors cursors') × (out ≡ text_of a.lines)
+      → AnsweredBy of old new (RequestAnswer size kept (record { line = Whole own; more = [] })) [] out kept'
+      (Ok tt) → (a : AnswersOwn size own old new kept kept') × (out ≡ text_of a.lines)
   unfolding of-did
   own-said out (Said u did e) = (of-did did, e)
 
   pub own-unsaid : (out : List ℕ)
-      → AnsweredBy of old new (RequestAnswer size cursors (record { line = Whole own; more = [] })) [] out cursors'
-      (Err stops.NoMemory) → AnswersOwn size own old new cursors cursors'
+      → AnsweredBy of old new (RequestAnswer size kept (record { line = Whole own; more = [] })) [] out kept'
+      (Err stops.NoMemory) → AnswersOwn size own old new kept kept'
   own-unsaid out (Unsaid did) = of-did did
 
 -- a service that is never worn
-pub never-worn : {Made : Calls → Type 0} {IsWorn : Type 0} {Is : Calls → Lines → List Cursor → Type 0}
-    {out out' : List ℕ} {after : List Cursor} → ¬ IsWorn → Answered Made IsWorn Is out out' after (Err stops.Worn) → ⊥
+pub never-worn : {Made : Calls → Type 0} {IsWorn : Type 0} {Is : Calls → Lines → Standing → Type 0}
+    {out out' : List ℕ} {after : Standing} → ¬ IsWorn → Answered Made IsWorn Is out out' after (Err stops.Worn) → ⊥
 never-worn not (Broken w) = not w.worn
 
 -- it would take more lines
@@ -140,60 +142,64 @@ uses-none world = record {
   bounds = not_raised-same (bound_of world.journal.disk.failures, bound_of world.b.failures);
 }
 
-refused : (size : ℕ) (own : List ℕ) (world : WorldTerm) (cursors : List Cursor) → TakesLines own
-    → (a : AnswersOwn size own world world cursors cursors) × (text_of lines_refused ≡ text_of a.lines)
-refused size own world cursors starts = (
+refused : (size : ℕ) (own : List ℕ) (world : WorldTerm) (kept : Standing) → TakesLines own
+    → (a : AnswersOwn size own world world kept kept) × (text_of lines_refused ≡ text_of a.lines)
+refused size own world kept starts = (
   record { calls = []; lines = lines_refused; is = inl (starts, refl, refl, refl); uses = uses-none world },
   refl,
 )
 
-module _ (size : ℕ) (own : List ℕ) (world : WorldTerm) (cursors cursors' : List Cursor)
-    (starts : TakesLines own) (same : cursors' ≡ cursors) where
-  answer : (a : AnswersOwn size own world world cursors cursors') × (text_of lines_refused ≡ text_of a.lines)
-  answer = subst (λ (c : List Cursor). (a : AnswersOwn size own world world cursors c)
-      × (text_of lines_refused ≡ text_of a.lines)) (sym same) (refused size own world cursors starts)
+module _ (size : ℕ) (own : List ℕ) (world : WorldTerm) (kept kept' : Standing) (starts : TakesLines own)
+    (same : kept' ≡ kept) where
+  answer : (a : AnswersOwn size own world world kept kept') × (text_of lines_refused ≡ text_of a.lines)
+  answer = subst (λ (k : Standing). (a : AnswersOwn size own world world kept k)
+      × (text_of lines_refused ≡ text_of a.lines)) (sym same) (refused size own world kept starts)
 
   pub refused-ok : {A E : Type 0} (r : Result A E) (out : List ℕ) → OnOk r (out ≡ text_of lines_refused)
-      → OnOk r ((a : AnswersOwn size own world world cursors cursors') × (out ≡ text_of a.lines))
+      → OnOk r ((a : AnswersOwn size own world world kept kept') × (out ≡ text_of a.lines))
   refused-ok (Ok u) out h = (answer.0, h ∙ answer.1)
   refused-ok (Err e) out h = tt
 
-  pub refused-err : {A E : Type 0} (r : Result A E) → OnErr r (AnswersOwn size own world world cursors cursors')
+  pub refused-err : {A E : Type 0} (r : Result A E) → OnErr r (AnswersOwn size own world world kept kept')
   refused-err (Ok u) = tt
   refused-err (Err e) = answer.0
 
 -- the pins of its cursors
-pub own-keeps : {size : ℕ} {own : List ℕ} {old new : WorldTerm} {cursors cursors' : List Cursor}
-    → AnswersOwn size own old new cursors cursors' → AreHeld (HoldsPin old.memory) cursors
-    → KeepsPins (HoldsPin old.memory) cursors (HoldsPin new.memory) cursors'
-own-keeps {size} {own} {old} {new} {cursors} {cursors'} a h = by a.is where
+pub own-keeps : {size : ℕ} {own : List ℕ} {old new : WorldTerm} {kept kept' : Standing}
+    → AnswersOwn size own old new kept kept' → AreHeld (HoldsPin old.memory) kept.cursors
+    → KeepsPins (HoldsPin old.memory) kept.cursors (HoldsPin new.memory) kept'.cursors
+own-keeps {size} {own} {old} {new} {kept} {kept'} a h = by a.is where
   before : ℕ → ℕ → Type 0
   before = HoldsPin old.memory
 
   after : ℕ → ℕ → Type 0
   after = HoldsPin new.memory
 
-  by : IsOwnAnswer size own cursors a.calls a.lines cursors' → KeepsPins before cursors after cursors'
+  by : IsOwnAnswer size own kept a.calls a.lines kept' → KeepsPins before kept.cursors after kept'.cursors
   by (inl r) =
       let now : SameHeld before after =
       subst (λ (c : Calls). SameHeld (HeldAfter before c) after) r.1 a.uses.pins.now in
-      subst (λ (c : List Cursor). KeepsPins before cursors after c) (sym r.3)
-      (record { are_held = held-same before after cursors now h; others = same_others before after cursors now })
+      subst (λ (k : Standing). KeepsPins before kept.cursors after k.cursors) (sym r.3) (record {
+        are_held = held-same before after kept.cursors now h;
+        others = same_others before after kept.cursors now;
+      })
   by (inr r) =
       let then = HeldAfter before a.calls in record {
-        are_held = held-same then after cursors' a.uses.pins.now (act_held before r.1.does a.uses.pins.apart h);
-        others = same_others-more before then after cursors cursors' cursors'
-            (act_others before r.1.does a.uses.pins.apart) (same_others then after cursors' a.uses.pins.now);
+        are_held = held-same then after kept'.cursors a.uses.pins.now
+            (all_held before r.1.does a.uses.pins.apart h);
+        others = same_others-more before then after kept.cursors kept'.cursors kept'.cursors
+            (all_others before r.1.does a.uses.pins.apart)
+            (same_others then after kept'.cursors a.uses.pins.now);
       }
 
 -- what it does of the drill
-pub goes-session : {size : ℕ} {own : List ℕ} {old new : WorldTerm} {cursors cursors' : List Cursor}
-    (a : AnswersOwn size own old new cursors cursors') (line : TextLine) (number : ℕ) (before after : AllCursors)
-    (all all' : AllCursors) → FaultsAreCounted → (s : State) → StandsInMemory old s
-    → Reads line (Some (Session number own)) → all ≡ before ++ cursors ∷ after → number ≡ length before + 1
-    → all' ≡ before ++ cursors' ∷ after → Goes size line old new all all' (numbered number (text_of a.lines))
-goes-session {size} {own} {old} {new} {cursors} {cursors'} a line number before after all all' counted s at reads place
-    is left =
+pub goes-session : {size : ℕ} {own : List ℕ} {old new : WorldTerm} {kept kept' : Standing}
+    (a : AnswersOwn size own old new kept kept') (line : TextLine) (number : ℕ) (before after : AllKept)
+    (all all' : AllKept) → FaultsAreCounted → (s : State) → StandsInMemory old s
+    → Reads line (Some (Session number own)) → all ≡ before ++ kept ∷ after → number ≡ length before + 1
+    → all' ≡ before ++ kept' ∷ after → Goes size line old new all all' (numbered number (text_of a.lines))
+goes-session {size} {own} {old} {new} {kept} {kept'} a line number before after all all' counted s at reads place is
+    left =
     let k = a.uses.makes.made s at in record {
       exchange = record {
         line = line;
@@ -207,8 +213,8 @@ goes-session {size} {own} {old} {new} {cursors} {cursors'} a line number before 
         reads,
         record {
           before = before;
-          cursors = cursors;
-          cursors' = cursors';
+          standing = kept;
+          standing' = kept';
           after = after;
           lines = a.lines;
           place = place;
@@ -259,26 +265,26 @@ pub all-set : {X : Type 0} (P : X → Type 0) (xs ys : List X) (x y : X) → All
 all-set P [] ys x y h p = (p, h.1)
 all-set P (z ∷ xs) ys x y h p = (h.0, all-set P xs ys x y h.1 p)
 
-pub cursors-append : (xs ys : List Responder) → cursors_in (xs ++ ys) ≡ cursors_in xs ++ cursors_in ys
-cursors-append xs ys = map-append _ xs ys
+pub kept-append : (xs ys : List Responder) → kept_in (xs ++ ys) ≡ kept_in xs ++ kept_in ys
+kept-append xs ys = map-append _ xs ys
 
 -- ---- the answers of the sessions, whole
 
 -- a line for which the machine is asked nothing
 module _ (a b : Sessions) (old new : WorldTerm) (line : TextLine) (read : Option DrillLine) (text : List ℕ)
     (ready : AreReady old a) (empty : a.out.items ≡ []) (reads : Reads line read)
-    (does : Does a.settings.page line read (cursors_in a.responders.items) [] text (cursors_in a.responders.items))
+    (does : Does a.settings.page line read (kept_in a.responders.items) [] text (kept_in a.responders.items))
     (stands : (s : State) → StandsInMemory old s → StandsInMemory new s) (memory : new.memory ≡ old.memory)
     (tallied : (t : Tally) → IsTallied t old → IsTallied (tally_after t read []) new) where
-  goes-quiet : Goes a.settings.page line old new (cursors_in a.responders.items) (cursors_in a.responders.items) text
-  goes-quiet = says a.settings.page line read old new (cursors_in a.responders.items) text reads does stands tallied
+  goes-quiet : Goes a.settings.page line old new (kept_in a.responders.items) (kept_in a.responders.items) text
+  goes-quiet = says a.settings.page line read old new (kept_in a.responders.items) text reads does stands tallied
 
   pub quiet : b.responders ≡ a.responders → b.settings ≡ a.settings → b.out.items ≡ a.out.items ++ text
       → turns.Answered a b old line (Ok new)
   quiet responders settings out = (
     goes-as (out ∙ ap (λ (l : List ℕ). l ++ text) empty)
-        (subst (λ (r : Vec Responder Global). Goes a.settings.page line old new (cursors_in a.responders.items)
-        (cursors_in r.items) text) (sym responders) goes-quiet),
+        (subst (λ (r : Vec Responder Global). Goes a.settings.page line old new (kept_in a.responders.items)
+        (kept_in r.items) text) (sym responders) goes-quiet),
     ready-same old new a b ready stands memory responders settings,
     settings,
   )
@@ -294,15 +300,15 @@ module _ (a b : Sessions) (old new : WorldTerm) (line : TextLine) (read : Option
 abbrev no_time : Times
 no_time = record { a = 0; b = 0 }
 
-abbrev no_cursor : Responder → List Cursor
-no_cursor r = []
+abbrev none_kept : Responder → Standing
+none_kept r = nothing_kept
 
 module _ (a b : Sessions) (old : WorldTerm) (line : TextLine) (image : ℕ) (ready : AreReady old a)
     (empty : a.out.items ≡ []) (reads : Reads line (Some (Reopen image))) where
   module _ (new : WorldTerm) (bytes : List ℕ) (version : ℕ)
       (reopens : (s : State) → StandsInMemory old s → Reopens s bytes new version) (unset : HasNoFailures new) where
-    goes-open : (none : cursors_in b.responders.items ≡ map no_cursor a.responders.items)
-        → Goes a.settings.page line old new (cursors_in a.responders.items) (cursors_in b.responders.items)
+    goes-open : (none : kept_in b.responders.items ≡ map none_kept a.responders.items)
+        → Goes a.settings.page line old new (kept_in a.responders.items) (kept_in b.responders.items)
         (reopened_text version)
     goes-open none = record {
       exchange = record {
@@ -323,17 +329,17 @@ module _ (a b : Sessions) (old : WorldTerm) (line : TextLine) (image : ℕ) (rea
       );
       tallied = λ t h small. (inl refl, tally-new new.journal.disk.failures unset.0);
     } where
-      none-again : (xs : List Responder) → map (λ _. []) (cursors_in xs) ≡ map no_cursor xs
+      none-again : (xs : List Responder) → map (λ _. nothing_kept) (kept_in xs) ≡ map none_kept xs
       none-again [] = refl
-      none-again (x ∷ xs) = ap (λ (l : AllCursors). [] ∷ l) (none-again xs)
+      none-again (x ∷ xs) = ap (λ (l : AllKept). nothing_kept ∷ l) (none-again xs)
 
-    none-held : (xs : List Responder) → all_of (map no_cursor xs) ≡ []
+    none-held : (xs : List Responder) → all_of (map none_kept xs) ≡ []
     none-held [] = refl
     none-held (x ∷ xs) = none-held xs
 
     pub opened-again : length b.responders.items ≡ length a.responders.items
         → AllByRecursion (IsSessionOf a.settings) b.responders.items
-        → cursors_in b.responders.items ≡ map no_cursor a.responders.items → b.settings ≡ a.settings
+        → kept_in b.responders.items ≡ map none_kept a.responders.items → b.settings ≡ a.settings
         → b.out.items ≡ a.out.items ++ reopened_text version → turns.Answered a b old line (Ok new)
     opened-again number fit none settings out = (
       goes-as (out ∙ ap (λ (l : List ℕ). l ++ reopened_text version) empty) (goes-open none),
@@ -349,7 +355,7 @@ module _ (a b : Sessions) (old : WorldTerm) (line : TextLine) (image : ℕ) (rea
 
     pub opened-by : length b.responders.items ≡ length a.responders.items
         → AllByRecursion (IsSessionOf a.settings) b.responders.items
-        → cursors_in b.responders.items ≡ map no_cursor a.responders.items → b.settings ≡ a.settings
+        → kept_in b.responders.items ≡ map none_kept a.responders.items → b.settings ≡ a.settings
         → (result : Result WorldTerm AllocError)
         → IfOk result (λ after. (after ≡ new) × (b.out.items ≡ a.out.items ++ reopened_text version))
         → turns.Answered a b old line result
@@ -368,7 +374,7 @@ module _ (a b : Sessions) (old : WorldTerm) (line : TextLine) (image : ℕ) (rea
       text = reopened_text 0;
     };
     cut = record { line = line; read = Some (Reopen image); calls = []; text = [] };
-    all' = map (λ _. []) (cursors_in a.responders.items);
+    all' = map (λ _. nothing_kept) (kept_in a.responders.items);
     line_is = refl;
     text_is = refl;
     is = (reads, (0, refl, refl, refl));
@@ -387,7 +393,7 @@ module _ (a : Sessions) (rs : List Responder) (old new : WorldTerm) (number : �
     (ready : AreReady old a) (counted : FaultsAreCounted) (some : 1 ≤ number) (few : number ≤ SESSIONS)
     (is : r ≡ get_or a.responders.items (number - 1) r) (written : rs ≡ set a.responders.items (number - 1) r')
     (fit : IsFit r'.cursors) (same : r'.cursors.settings ≡ r.cursors.settings)
-    (sized : AnswersOwn a.settings.page own old new (cursors_of (opened r.cursors)) (cursors_of (opened r'.cursors)))
+    (sized : AnswersOwn a.settings.page own old new (standing_of r) (standing_of r'))
   where
     within : number - 1 < length a.responders.items
     within = omega (arith, ready.number, some, few)
@@ -402,23 +408,22 @@ module _ (a : Sessions) (rs : List Responder) (old new : WorldTerm) (number : �
     left : rs ≡ place.before ++ r' ∷ place.after
     left = written ∙ place.changed r'
 
-    before : cursors_in a.responders.items
-        ≡ cursors_in place.before ++ cursors_of (opened r.cursors) ∷ cursors_in place.after
-    before = ap cursors_in place.place ∙ cursors-append place.before (r ∷ place.after)
+    before : kept_in a.responders.items ≡ kept_in place.before ++ standing_of r ∷ kept_in place.after
+    before = ap kept_in place.place ∙ kept-append place.before (r ∷ place.after)
 
-    after : cursors_in rs ≡ cursors_in place.before ++ cursors_of (opened r'.cursors) ∷ cursors_in place.after
-    after = ap cursors_in left ∙ cursors-append place.before (r' ∷ place.after)
+    after : kept_in rs ≡ kept_in place.before ++ standing_of r' ∷ kept_in place.after
+    after = ap kept_in left ∙ kept-append place.before (r' ∷ place.after)
 
-    number-at : (xs : List Responder) → length (cursors_in xs) ≡ length xs
+    number-at : (xs : List Responder) → length (kept_in xs) ≡ length xs
     number-at [] = refl
     number-at (x ∷ xs) = ap suc (number-at xs)
 
     goes-asked : (line : TextLine) → Reads line (Some (Session number own))
-        → Goes a.settings.page line old new (cursors_in a.responders.items) (cursors_in rs)
+        → Goes a.settings.page line old new (kept_in a.responders.items) (kept_in rs)
         (numbered number (text_of sized.lines))
     goes-asked line reads =
-        goes-session sized line number (cursors_in place.before) (cursors_in place.after)
-        (cursors_in a.responders.items) (cursors_in rs) counted ready.state ready.stands reads before
+        goes-session sized line number (kept_in place.before) (kept_in place.after)
+        (kept_in a.responders.items) (kept_in rs) counted ready.state ready.stands reads before
         (omega (arith, some, place.number, number-at place.before)) after
 
     length-changed : (xs ys : List Responder) → length (xs ++ r' ∷ ys) ≡ length (xs ++ r ∷ ys)
@@ -426,17 +431,17 @@ module _ (a : Sessions) (rs : List Responder) (old new : WorldTerm) (number : �
     length-changed (x ∷ xs) ys = ap suc (length-changed xs ys)
 
     held-before : AreHeld (HoldsPin old.memory)
-        (all_of (cursors_in place.before ++ cursors_of (opened r.cursors) ∷ cursors_in place.after))
-    held-before = subst (λ (c : AllCursors). AreHeld (HoldsPin old.memory) (all_of c)) before ready.held
+        (all_of (kept_in place.before ++ standing_of r ∷ kept_in place.after))
+    held-before = subst (λ (c : AllKept). AreHeld (HoldsPin old.memory) (all_of c)) before ready.held
 
     held-own : AreHeld (HoldsPin old.memory) (cursors_of (opened r.cursors))
-    held-own = session-held (HoldsPin old.memory) (cursors_in place.before) (cursors_in place.after)
-        (cursors_of (opened r.cursors)) held-before
+    held-own = session-held (HoldsPin old.memory) (kept_in place.before) (kept_in place.after) (standing_of r)
+        held-before
 
-    held-after : AreHeld (HoldsPin new.memory) (all_of (cursors_in rs))
-    held-after = subst (λ (c : AllCursors). AreHeld (HoldsPin new.memory) (all_of c)) (sym after)
-        (sessions-held (HoldsPin old.memory) (HoldsPin new.memory) (cursors_in place.before) (cursors_in place.after)
-        (cursors_of (opened r.cursors)) (cursors_of (opened r'.cursors)) (own-keeps sized held-own) held-before)
+    held-after : AreHeld (HoldsPin new.memory) (all_of (kept_in rs))
+    held-after = subst (λ (c : AllKept). AreHeld (HoldsPin new.memory) (all_of c)) (sym after)
+        (sessions-held (HoldsPin old.memory) (HoldsPin new.memory) (kept_in place.before) (kept_in place.after)
+        (standing_of r) (standing_of r') (own-keeps sized held-own) held-before)
 
     fit-after : AllByRecursion (IsSessionOf a.settings) rs
     fit-after = subst (AllByRecursion (IsSessionOf a.settings)) (sym left)
@@ -456,7 +461,7 @@ module _ (a : Sessions) (rs : List Responder) (old new : WorldTerm) (number : �
           number = ap length is ∙ number-after;
           fit = subst (λ (xs : List Responder). AllByRecursion (IsSessionOf b.settings) xs) (sym is)
               (subst (λ (k : Settings). AllByRecursion (IsSessionOf k) rs) (sym settings) fit-after);
-          held = subst (λ (xs : List Responder). AreHeld (HoldsPin new.memory) (all_of (cursors_in xs))) (sym is)
+          held = subst (λ (xs : List Responder). AreHeld (HoldsPin new.memory) (all_of (kept_in xs))) (sym is)
               held-after;
         }
 
@@ -465,15 +470,15 @@ module _ (a : Sessions) (rs : List Responder) (old new : WorldTerm) (number : �
         → b.out.items ≡ a.out.items ++ numbered number out → turns.Answered a b old line (Ok new)
     asked b line is settings reads empty out said wrote = (
       goes-as (wrote ∙ (ap (λ (l : List ℕ). l ++ numbered number out) empty ∙ ap (numbered number) said))
-          (subst (λ (xs : List Responder). Goes a.settings.page line old new (cursors_in a.responders.items)
-          (cursors_in xs) (numbered number (text_of sized.lines))) (sym is) (goes-asked line reads)),
+          (subst (λ (xs : List Responder). Goes a.settings.page line old new (kept_in a.responders.items)
+          (kept_in xs) (numbered number (text_of sized.lines))) (sym is) (goes-asked line reads)),
       ready-asked b is settings,
       settings,
     )
 
     -- memory ran out for the reply
     pub asked-lost : (line : TextLine) → Reads line (Some (Session number own))
-        → Breaks a.settings.page line old (cursors_in a.responders.items) []
+        → Breaks a.settings.page line old (kept_in a.responders.items) []
     asked-lost line reads = lost (goes-asked line reads)
 
 -- the session that is asked
@@ -493,7 +498,7 @@ asks-fit a old number r ready some few is =
     let p = subst (IsAt a.responders.items (number - 1)) (sym is) (at-place a.responders.items (number - 1) r less) in (
       (all-at (IsSessionOf a.settings) p.before p.after r
           (subst (AllByRecursion (IsSessionOf a.settings)) p.place ready.fit)).0,
-      session-held (HoldsPin old.memory) (cursors_in p.before) (cursors_in p.after) (cursors_of (opened r.cursors))
-          (subst (λ (c : AllCursors). AreHeld (HoldsPin old.memory) (all_of c))
-          (ap cursors_in p.place ∙ cursors-append p.before (r ∷ p.after)) ready.held),
+      session-held (HoldsPin old.memory) (kept_in p.before) (kept_in p.after) (standing_of r)
+          (subst (λ (c : AllKept). AreHeld (HoldsPin old.memory) (all_of c))
+          (ap kept_in p.place ∙ kept-append p.before (r ∷ p.after)) ready.held),
     )

@@ -3,7 +3,7 @@ use Rattle.std.proofs.Common.{◌≡◌, ◌++◌, ◌∙◌, ap, append-nil, ap
 use Rattle.io_edge.specs.Lines.{TextLine}
 use Rattle.session_run.specs.Cursors.{Calls}
 use Rattle.drill_run.specs.Causes.{AreCaused, MayFail, Tally, faults_in, tally_after}
-use Rattle.drill_run.specs.Dialogue.{AllCursors, AreExchanged, Exchange, IsExchange, calls_of, lines_of, replies_of}
+use Rattle.drill_run.specs.Dialogue.{AllKept, AreExchanged, Exchange, IsExchange, calls_of, lines_of, replies_of}
 
 pub lines_more : (xs : List Exchange) (x : Exchange) → lines_of (xs ++ x ∷ []) ≡ lines_of xs ++ x.line ∷ []
 lines_more [] x = refl
@@ -19,10 +19,10 @@ replies_more [] ys = refl
 replies_more (x ∷ xs) ys =
     ap (λ (l : List ℕ). x.text ++ l) (replies_more xs ys) ∙ sym (append_assoc x.text (replies_of xs) (replies_of ys))
 
-pub exchanged_more : (size : ℕ) (all between after : AllCursors) (xs : List Exchange) (x : Exchange)
+pub exchanged_more : (size : ℕ) (all between after : AllKept) (xs : List Exchange) (x : Exchange)
     → AreExchanged size all xs between → IsExchange size between x after → AreExchanged size all (xs ++ x ∷ []) after
 exchanged_more size all between after [] x h e =
-    (after, subst (λ (c : AllCursors). IsExchange size c x after) h e, refl)
+    (after, subst (λ (c : AllKept). IsExchange size c x after) h e, refl)
 exchanged_more size all between after (y ∷ ys) x h e =
     (h.0, h.1, exchanged_more size h.0 between after ys x h.2 e)
 

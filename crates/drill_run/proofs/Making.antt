@@ -1,17 +1,17 @@
--- Sessions that are made, and that forget their cursors.
+-- Sessions that are made, and that forget their cursors and watches.
 use Rattle.std.proofs.Common.{◌≡◌, ◌≤◌, ◌<◌, ◌+◌, ◌++◌, ◌∙◌, ap, arith, get_or, length, List, [], ◌∷◌, map, refl, replicate, set, subst, suc, sym, zero, ℕ}
 use Rattle.std.specs.List.{AllByRecursion}
 use Rattle.session_run.specs.Cursors.{Cursor}
 use Rattle.session_run.specs.Opened.{opened}
 use Rattle.session_run.specs.Responds.{IsFit}
+use Rattle.session_run.specs.Standings.{both, standing_of, watched_all}
 use Rattle.session_run.specs.Walks.{AreSized, cursors_of}
-use Rattle.session_run.specs.declared.cursors.Cursor as rust
-use Rattle.session_run.specs.declared.cursors.Cursors.{Cursors}
+use Rattle.session_run.specs.Watching.{Standing, Watched, nothing_kept}
 use Rattle.session_run.specs.declared.respond.Responder.{Responder}
 use Rattle.session_run.specs.declared.settings.Settings.{Settings}
-use Rattle.drill_run.specs.Dialogue.{AllCursors}
+use Rattle.drill_run.specs.Dialogue.{AllKept}
 use Rattle.drill_run.specs.Turns.{IsSessionOf}
-use Rattle.drill_run.specs.Views.{cursors_in}
+use Rattle.drill_run.specs.Views.{kept_in}
 
 -- a session without cursors, whose settings are within the limits
 pub session-new : (settings : Settings) (r : Responder) → 1 ≤ settings.workers → settings.workers ≤ 16
@@ -28,11 +28,17 @@ session-new settings r a b c d same none = (
   same,
 )
 
--- so many sessions without cursors
+-- one that keeps nothing
+pub keeps-none : (r : Responder) → opened r.cursors ≡ [] → r.watches.watches ≡ [] → standing_of r ≡ nothing_kept
+keeps-none r e f =
+    ap (λ (c : List Cursor). both c (watched_all r.watches.watches)) (ap cursors_of e)
+    ∙ ap (λ (w : List Watched). both [] w) (ap watched_all f)
+
+-- so many sessions that keep nothing
 pub record AreNew (settings : Settings) (n : ℕ) (xs : List Responder) : Type 0 where
   pub number : length xs ≡ n
   pub fit : AllByRecursion (IsSessionOf settings) xs
-  pub none : cursors_in xs ≡ replicate n []
+  pub none : kept_in xs ≡ replicate n nothing_kept
 
 pub new-none : (settings : Settings) → AreNew settings 0 []
 new-none settings = record { number = refl; fit = tt; none = refl }
@@ -46,49 +52,56 @@ fit-more : (settings : Settings) (xs : List Responder) (r : Responder) → AllBy
 fit-more settings [] r h k = (k, tt)
 fit-more settings (x ∷ xs) r h k = (h.0, fit-more settings xs r h.1 k)
 
-none-more : (xs : List Responder) (r : Responder) (n : ℕ) → cursors_in xs ≡ replicate n [] → length xs ≡ n
-    → opened r.cursors ≡ [] → cursors_in (xs ++ r ∷ []) ≡ replicate (suc n) []
-none-more [] r zero e l none = ap (λ (c : List rust.Cursor). cursors_of c ∷ []) none
+first-same : (j k : Standing) (js ks : AllKept) → j ∷ js ≡ k ∷ ks → j ≡ k
+first-same j k js ks e = cc e
+
+rest-same : (j k : Standing) (js ks : AllKept) → j ∷ js ≡ k ∷ ks → js ≡ ks
+rest-same j k js ks e = cc e
+
+none-more : (xs : List Responder) (r : Responder) (n : ℕ) → kept_in xs ≡ replicate n nothing_kept → length xs ≡ n
+    → standing_of r ≡ nothing_kept → kept_in (xs ++ r ∷ []) ≡ replicate (suc n) nothing_kept
+none-more [] r zero e l none = ap (λ (k : Standing). k ∷ []) none
 none-more [] r (suc n) e l none = absurd (omega (arith, l))
 none-more (x ∷ xs) r zero e l none = absurd (omega (arith, l))
 none-more (x ∷ xs) r (suc n) e l none =
-    let head : cursors_of (opened x.cursors) ≡ [] = cc in
-    let tail : cursors_in xs ≡ replicate n [] = cc in
-    rw (head, none-more xs r n tail (omega (arith, l)) none) refl
+    ap (λ (k : Standing). k ∷ kept_in (xs ++ r ∷ [])) (first-same (standing_of x) nothing_kept _ _ e)
+    ∙ ap (λ (l : AllKept). nothing_kept ∷ l)
+    (none-more xs r n (rest-same (standing_of x) nothing_kept _ _ e) (omega (arith, l)) none)
 
 pub new-more : (settings : Settings) (n : ℕ) (xs : List Responder) (r : Responder) → AreNew settings n xs
-    → IsSessionOf settings r → opened r.cursors ≡ [] → AreNew settings (suc n) (xs ++ r ∷ [])
+    → IsSessionOf settings r → standing_of r ≡ nothing_kept → AreNew settings (suc n) (xs ++ r ∷ [])
 new-more settings n xs r h fit none = record {
   number = length-more xs r n h.number;
   fit = fit-more settings xs r h.fit fit;
   none = none-more xs r n h.none h.number none;
 }
 
--- the first sessions have no cursors
+-- the first sessions keep nothing
 abbrev pub AreForgotten : ℕ → List Responder → Type 0
 AreForgotten zero xs = Unit {0}
 AreForgotten (suc n) [] = Unit {0}
-AreForgotten (suc n) (x ∷ xs) = (opened x.cursors ≡ []) × AreForgotten n xs
+AreForgotten (suc n) (x ∷ xs) = (standing_of x ≡ nothing_kept) × AreForgotten n xs
 
 pub forgotten-more : (n : ℕ) (xs : List Responder) (y : Responder) → n < length xs → AreForgotten n xs
-    → opened y.cursors ≡ [] → AreForgotten (suc n) (set xs n y)
+    → standing_of y ≡ nothing_kept → AreForgotten (suc n) (set xs n y)
 forgotten-more n [] y less h none = absurd (omega (arith, less))
 forgotten-more zero (x ∷ xs) y less h none = (none, tt)
 forgotten-more (suc n) (x ∷ xs) y less h none = (h.0, forgotten-more n xs y (omega (arith, less)) h.1 none)
 
 pub forgotten-all : (n : ℕ) (xs : List Responder) → length xs ≤ n → AreForgotten n xs
-    → cursors_in xs ≡ map (λ _. []) xs
+    → kept_in xs ≡ map (λ _. nothing_kept) xs
 forgotten-all n [] less h = refl
 forgotten-all zero (x ∷ xs) less h = absurd (omega (arith, less))
 forgotten-all (suc n) (x ∷ xs) less h =
-    rw (ap cursors_of h.0, forgotten-all n xs (omega (arith, less)) h.1) refl
+    ap (λ (k : Standing). k ∷ kept_in xs) h.0
+    ∙ ap (λ (l : AllKept). nothing_kept ∷ l) (forgotten-all n xs (omega (arith, less)) h.1)
 
 pub same-none : {X Y : Type 0} (xs : List X) (ys : List Y) → length xs ≡ length ys
-    → map (λ (x : X). (let e : List Cursor = [] in e)) xs ≡ map (λ (y : Y). (let e : List Cursor = [] in e)) ys
+    → map (λ (x : X). nothing_kept) xs ≡ map (λ (y : Y). nothing_kept) ys
 same-none [] [] e = refl
 same-none [] (y ∷ ys) e = absurd (omega (arith, e))
 same-none (x ∷ xs) [] e = absurd (omega (arith, e))
-same-none (x ∷ xs) (y ∷ ys) e = ap (λ (l : AllCursors). [] ∷ l) (same-none xs ys (omega (arith, e)))
+same-none (x ∷ xs) (y ∷ ys) e = ap (λ (l : AllKept). nothing_kept ∷ l) (same-none xs ys (omega (arith, e)))
 
 pub set-all : {X : Type 0} (P : X → Type 0) (xs : List X) (i : ℕ) (y : X) → AllByRecursion P xs → P y
     → AllByRecursion P (set xs i y)

@@ -4,11 +4,12 @@ use Rattle.std.proofs.Common.{◌≡◌, ◌+◌, ◌==◌, ◌⊎◌, ◌++◌,
 use Rattle.std.proofs.lemmas.Bool.{true≢false}
 use Rattle.io_edge.specs.Lines.{Whole}
 use Rattle.session_run.specs.Acts.{Lines, RequestAnswer}
-use Rattle.session_run.specs.Cursors.{Calls, Cursor}
+use Rattle.session_run.specs.Cursors.{Calls}
 use Rattle.session_run.specs.Dialogue as session
 use Rattle.session_run.specs.Pins.{AreApart, AreHeld, HeldAfter}
 use Rattle.session_run.specs.Requests.{Request}
-use Rattle.session_run.proofs.ActPins.{act_held}
+use Rattle.session_run.specs.Watching.{Standing}
+use Rattle.session_run.proofs.ActPins.{all_held}
 use Rattle.shell_lang.specs.Command.{TakesLines}
 use Rattle.shell_lang.specs.Reply.{text_of}
 use Rattle.store_machine.specs.Laws.{PinsStay}
@@ -17,29 +18,29 @@ use Rattle.store_machine.specs.declared.machine.Held.{Held}
 use Rattle.store_machine.specs.declared.machine.State.{State}
 use Rattle.store_machine.specs.declared.machine.Step.{Step}
 use Rattle.drill_run.specs.Dialogue as drill
-use Rattle.drill_run.specs.Dialogue.{AllCursors, Does, Exchange}
+use Rattle.drill_run.specs.Dialogue.{AllKept, Does, Exchange}
 use Rattle.drill_run.specs.Drilled.{events_of}
 use Rattle.drill_run.specs.Lines.{DrillLine, Empty, Fail, Reopen, Session, Stop}
 use Rattle.drill_run.specs.Numbers.{numbered}
 use Rattle.drill_run.specs.Truths.{IsOwn, IsOwnAs, IsReopen}
-use Rattle.drill_run.proofs.OwnPins.{NamePins, act-named, held-under}
+use Rattle.drill_run.proofs.OwnPins.{NamePins, all-named, held-under}
 use Rattle.drill_run.proofs.Owners.{OwnRun, other-calls, own-calls, own-run}
 use Rattle.drill_run.proofs.Parts.{its-own, of-others, of_number}
 use Rattle.drill_run.proofs.Reowned.{Alike, IsHeld, with_pins}
 
 -- each session's cursors hold their pins under its number
-abbrev pub AreHolding : List Held → AllCursors → Type 0
-AreHolding ps all = (n : ℕ) → AreHeld (IsHeld ps n) (of_number n all)
+abbrev pub AreHolding : List Held → AllKept → Type 0
+AreHolding ps all = (n : ℕ) → AreHeld (IsHeld ps n) (of_number n all).cursors
 
 -- what a line is to the session of a number, where these are its calls
-abbrev pub IsToldOf : ℕ → ℕ → Exchange → AllCursors → Calls → AllCursors → Type 0
+abbrev pub IsToldOf : ℕ → ℕ → Exchange → AllKept → Calls → AllKept → Type 0
 IsToldOf size number x all calls between =
     ((y : session.Exchange) × IsOwnAs number x y
     × RequestAnswer size (of_number number all) y.request calls y.lines (of_number number between))
     ⊎ (¬ IsOwn number x × (calls ≡ []) × (of_number number between ≡ of_number number all))
 
 -- the steps of a line, with its session's number
-pub record OneLine (size number : ℕ) (x : Exchange) (all between : AllCursors) (s : State) (ps : List Held) (t : State)
+pub record OneLine (size number : ℕ) (x : Exchange) (all between : AllKept) (s : State) (ps : List Held) (t : State)
     : Type 0 where
   pub pins : List Held
   pub own : List Step
@@ -57,7 +58,7 @@ no-event s t [] run e = run
 no-event s t (x ∷ xs) run e = absurd (cc e)
 
 -- a line for which nothing is asked
-silent : (size number : ℕ) (x : Exchange) (all between : AllCursors) (s t : State) (ps : List Held)
+silent : (size number : ℕ) (x : Exchange) (all between : AllKept) (s t : State) (ps : List Held)
     (steps : List Step) → Alike s.pins ps → IsRun s steps t → events_of steps ≡ [] → AreHolding ps all
     → between ≡ all → ¬ IsOwn number x → OneLine size number x all between s ps t
 silent size number x all between s t ps steps alike run none holding same other =
@@ -68,47 +69,49 @@ silent size number x all between s t ps steps alike run none holding same other 
       calm = tt;
       alike = subst (λ (y : State). Alike y.pins ps) (sym stays) alike;
       holding = subst (AreHolding ps) (sym same) holding;
-      told = inr (other, refl, ap (λ (l : AllCursors). of_number number l) same);
+      told = inr (other, refl, ap (λ (l : AllKept). of_number number l) same);
     }
 
 -- a line of a session
-module _ (law : PinsStay) (size number n : ℕ) (x : Exchange) (before after : AllCursors)
-    (cursors cursors' : List Cursor) (line : List ℕ) (lines : Lines) (s t : State) (ps : List Held)
+module _ (law : PinsStay) (size number n : ℕ) (x : Exchange) (before after : AllKept)
+    (kept kept' : Standing) (line : List ℕ) (lines : Lines) (s t : State) (ps : List Held)
     (steps : List Step) (alike : Alike s.pins ps) (run : IsRun s steps t) (made : events_of steps ≡ x.calls)
-    (holding : AreHolding ps (before ++ cursors ∷ after)) (is : n ≡ length before + 1)
+    (holding : AreHolding ps (before ++ kept ∷ after)) (is : n ≡ length before + 1)
     (read : x.read ≡ Some (Session n line)) (alone : ¬ TakesLines line)
-    (answer : RequestAnswer size cursors (record { line = Whole line; more = [] }) x.calls lines cursors')
+    (answer : RequestAnswer size kept (record { line = Whole line; more = [] }) x.calls lines kept')
     (said : x.text ≡ numbered n (text_of lines)) where
-  abbrev all_before : AllCursors
-  all_before = before ++ cursors ∷ after
+  abbrev all_before : AllKept
+  all_before = before ++ kept ∷ after
 
-  abbrev all_after : AllCursors
-  all_after = before ++ cursors' ∷ after
+  abbrev all_after : AllKept
+  all_after = before ++ kept' ∷ after
 
-  held : AreHeld (IsHeld ps n) cursors
-  held = subst (AreHeld (IsHeld ps n)) (its-own n before after cursors is) (holding n)
+  held : AreHeld (IsHeld ps n) kept.cursors
+  held = subst (λ (k : Standing). AreHeld (IsHeld ps n) k.cursors) (its-own n before after kept is) (holding n)
 
   its : OwnRun n s ps steps t
   its = own-run law n s t ps steps alike run
-      (subst (NamePins (IsHeld ps n)) (sym made) (act-named (IsHeld ps n) answer.does held))
+      (subst (NamePins (IsHeld ps n)) (sym made) (all-named (IsHeld ps n) answer.does held))
 
   -- its pins afterwards
-  held-now : (k : OwnRun n s ps steps t) → AreHeld (IsHeld k.pins n) cursors'
+  held-now : (k : OwnRun n s ps steps t) → AreHeld (IsHeld k.pins n) kept'.cursors
   held-now k =
       let then : ℕ → ℕ → Type 0 = HeldAfter (IsHeld ps n) x.calls in
-      held-under then (IsHeld k.pins n) cursors'
+      held-under then (IsHeld k.pins n) kept'.cursors
       (λ slot v h. k.now slot v (subst (λ (c : Calls). HeldAfter (IsHeld ps n) c slot v) (sym made) h))
-      (act_held (IsHeld ps n) answer.does (subst (AreApart (IsHeld ps n)) made k.apart) held)
+      (all_held (IsHeld ps n) answer.does (subst (AreApart (IsHeld ps n)) made k.apart) held)
 
   -- and those of every session
   holding-now : (k : OwnRun n s ps steps t) → AreHolding k.pins all_after
   holding-now k m =
-      elim (m == n) as (λ b. (m == n) ≡ b → AreHeld (IsHeld k.pins m) (of_number m all_after)) [
-        | true ↦ λ e. subst (λ (q : ℕ). AreHeld (IsHeld k.pins q) (of_number q all_after)) (sym (eqb-true m n e))
-            (subst (AreHeld (IsHeld k.pins n)) (sym (its-own n before after cursors' is)) (held-now k))
-        | false ↦ λ e. subst (AreHeld (IsHeld k.pins m))
-            (sym (of-others m n before after cursors cursors' is (differ m n e)))
-            (held-under (IsHeld ps m) (IsHeld k.pins m) (of_number m all_before)
+      elim (m == n) as (λ b. (m == n) ≡ b → AreHeld (IsHeld k.pins m) (of_number m all_after).cursors) [
+        | true ↦ λ e. subst (λ (q : ℕ). AreHeld (IsHeld k.pins q) (of_number q all_after).cursors)
+            (sym (eqb-true m n e))
+            (subst (λ (l : Standing). AreHeld (IsHeld k.pins n) l.cursors) (sym (its-own n before after kept' is))
+            (held-now k))
+        | false ↦ λ e. subst (λ (l : Standing). AreHeld (IsHeld k.pins m) l.cursors)
+            (sym (of-others m n before after kept kept' is (differ m n e)))
+            (held-under (IsHeld ps m) (IsHeld k.pins m) (of_number m all_before).cursors
             (λ slot v h. k.others m slot v (differ m n e) h) (holding m))
       ] refl
 
@@ -131,11 +134,11 @@ module _ (law : PinsStay) (size number n : ℕ) (x : Exchange) (before after : A
       → RequestAnswer size (of_number number all_before) own-exchange.request calls lines (of_number number all_after)
   own-answer calls same e =
       let request : Request = record { line = Whole line; more = [] } in
-      let was : of_number number all_before ≡ cursors = its-own number before after cursors (sym e ∙ is) in
-      let now : of_number number all_after ≡ cursors' = its-own number before after cursors' (sym e ∙ is) in
-      subst (λ (c : List Cursor). RequestAnswer size c request calls lines (of_number number all_after)) (sym was)
-      (subst (λ (c : List Cursor). RequestAnswer size cursors request calls lines c) (sym now)
-      (subst (λ (c : Calls). RequestAnswer size cursors request c lines cursors') (sym same) answer))
+      let was : of_number number all_before ≡ kept = its-own number before after kept (sym e ∙ is) in
+      let now : of_number number all_after ≡ kept' = its-own number before after kept' (sym e ∙ is) in
+      subst (λ (k : Standing). RequestAnswer size k request calls lines (of_number number all_after)) (sym was)
+      (subst (λ (k : Standing). RequestAnswer size kept request calls lines k) (sym now)
+      (subst (λ (c : Calls). RequestAnswer size kept request c lines kept') (sym same) answer))
 
   told-of : (k : OwnRun n s ps steps t)
       → IsToldOf size number x all_before (calls_of (λ o. o == number) k.own) all_after
@@ -155,7 +158,7 @@ module _ (law : PinsStay) (size number n : ℕ) (x : Exchange) (before after : A
             inr (
               λ o. other (one-session n number line o.0 (sym read ∙ o.1)),
               other-calls n number k.own other k.calm k.by,
-              of-others number n before after cursors cursors' is (λ q. other (sym q)),
+              of-others number n before after kept kept' is (λ q. other (sym q)),
             )
       ] refl
 
@@ -182,7 +185,7 @@ one-line : (a b : ℕ) (l k : List ℕ) → Some (Session a l) ≡ Some (Session
 one-line a b l k e = cc e
 
 -- any line but a reopening
-module _ (law : PinsStay) (size number : ℕ) (x : Exchange) (all between : AllCursors) (s t : State) (ps : List Held)
+module _ (law : PinsStay) (size number : ℕ) (x : Exchange) (all between : AllKept) (s t : State) (ps : List Held)
     (steps : List Step) (alike : Alike s.pins ps) (run : IsRun s steps t) (made : events_of steps ≡ x.calls)
     (holding : AreHolding ps all) where
   quiet : (read : Option DrillLine) (text : List ℕ) → x.read ≡ read → IsNoSession read
@@ -195,11 +198,11 @@ module _ (law : PinsStay) (size number : ℕ) (x : Exchange) (all between : AllC
       → (a : drill.IsSessionAnswer size n line all x.calls x.text between) → OneLine size number x all between s ps t
   of-session n line is a = elim a.answer [
     | inl r ↦ silent size number x all between s t ps steps alike run (made ∙ r.1) holding
-        (a.left ∙ (ap (λ (c : List Cursor). a.before ++ c ∷ a.after) r.3 ∙ sym a.place))
+        (a.left ∙ (ap (λ (k : Standing). a.before ++ k ∷ a.after) r.3 ∙ sym a.place))
         (λ o. o.2 (subst TakesLines (one-line n number line o.0 (sym is ∙ o.1)) r.0))
-    | inr r ↦ subst (λ (l : AllCursors). OneLine size number x l between s ps t) (sym a.place)
-        (subst (λ (l : AllCursors). OneLine size number x (a.before ++ a.cursors ∷ a.after) l s ps t) (sym a.left)
-        (spoken law size number n x a.before a.after a.cursors a.cursors' line a.lines s t ps steps alike run made
+    | inr r ↦ subst (λ (l : AllKept). OneLine size number x l between s ps t) (sym a.place)
+        (subst (λ (l : AllKept). OneLine size number x (a.before ++ a.standing ∷ a.after) l s ps t) (sym a.left)
+        (spoken law size number n x a.before a.after a.standing a.standing' line a.lines s t ps steps alike run made
         (subst (AreHolding ps) a.place holding) a.number_is is r.0 r.1 a.said))
   ]
 

@@ -3,11 +3,12 @@ use Rattle.std.proofs.Common.{◌≡◌, ◌+◌, ◌++◌, ap, Bool, cond, inl,
 use Rattle.chem_core.specs.Molecule.{Molecule}
 use Rattle.io_edge.specs.Lines.{TextLine}
 use Rattle.lookup.specs.Fetches.{AreFetches, lookup_calls}
-use Rattle.session_run.specs.Acts.{Act, Advances, AllSame, AllSimilar, AnswersBy, Asks, Closed, Does, Ended, Faults, FoundData, IsLineOf, IsNew, Lines, ListedSame, ListedSimilar, ListsSame, ListsSimilar, Lost, NewLost, NotNew, Opened, Paged, Refuses, RegisteredEach, RegisteredNew, RegistersEach, RegistersNew, Replies, SameLost, Says, Searched, Searches, SimilarLost, Turned}
+use Rattle.session_run.specs.Acts.{Act, Advances, AllSame, AllSimilar, AnswersBy, Asks, Closed, Current, Does, DoesAll, DoesWatch, Ended, Faults, FoundData, HitsLost, IsLineOf, IsNew, Lines, ListedSame, ListedSimilar, ListsSame, ListsSimilar, Lost, NewLost, NotNew, Opened, Paged, Refilled, Refuses, RegisteredEach, RegisteredNew, RegistersEach, RegistersNew, Replies, SameLost, Says, Searched, Searches, SimilarLost, TakenOut, Turned, WatchLost, WatchedAll}
 use Rattle.session_run.specs.Cursors.{Calls, Cursor}
 use Rattle.session_run.specs.Lookups.{LooksUp}
 use Rattle.session_run.specs.Pins.{AreApart, AreHeld, Effect, HeldAfter, HeldBy, IsApart, Leaves, Returns, Takes, effect}
 use Rattle.session_run.specs.Records.{counted}
+use Rattle.session_run.specs.Watching.{Standing, Watched}
 use Rattle.session_run.proofs.Held.{after-under, held-at, leave-same}
 use Rattle.session_run.proofs.LookedUp.{fetches_leave}
 use Rattle.shell_lang.specs.Reply as line
@@ -179,7 +180,7 @@ advance-named {c = c} a h (Paged from records last hits at matched) = ((c.versio
 advance-named {c = c} a h (Lost from at) = ((c.version, h), tt)
 
 -- an act where the pins of the cursors are held
-pub act-named : {size : ℕ} {cursors cursors' : List Cursor} {act : Act} {calls : Calls} {lines : Lines}
+act-named : {size : ℕ} {cursors cursors' : List Cursor} {act : Act} {calls : Calls} {lines : Lines}
     (a : ℕ → ℕ → Type 0) → Does size cursors act calls lines cursors' → AreHeld a cursors → NamePins a calls
 act-named a (Says note) h = tt
 act-named a (Asks event reply said is) h = (ask-named a event reply said is, tt)
@@ -194,3 +195,19 @@ act-named a (RegisteredNew change m print calls lines s) h = new-named a s
 act-named a (ListedSimilar p q k print calls lines s) h = similar-named a s
 act-named a (RegisteredEach id records calls lines each) h = each-named a id 0 records calls lines each
 act-named a (FoundData id name reply said is) h = (tt, tt)
+
+-- what is done by the watches
+watch-named : {size : ℕ} {watches watches' : List Watched} {act : Act} {calls : Calls} {lines : Lines}
+    (a : ℕ → ℕ → Type 0) → DoesWatch size watches act calls lines watches' → NamePins a calls
+watch-named a (WatchedAll name pattern calls version hits new few found) = looked-named a found.lookup
+watch-named a (WatchLost name pattern calls want place need lookup) = looked-named a lookup
+watch-named a (Current name w slot named) = (tt, ((w.version, inr (refl, refl)), tt))
+watch-named a (Refilled name w calls version hits named other found) = looked-named a found.lookup
+watch-named a (HitsLost name w calls want place named need lookup) = looked-named a lookup
+watch-named a (TakenOut name w named) = tt
+
+pub all-named : {size : ℕ} {standing standing' : Standing} {act : Act} {calls : Calls} {lines : Lines}
+    (a : ℕ → ℕ → Type 0) → DoesAll size standing act calls lines standing' → AreHeld a standing.cursors
+    → NamePins a calls
+all-named a (inl d) h = act-named a d.0 h
+all-named a (inr d) h = watch-named a d.0

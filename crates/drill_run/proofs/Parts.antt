@@ -1,71 +1,73 @@
--- A drill in parts, and the cursors of one session.
+-- A drill in parts, and what one session keeps.
 use Rattle.std.proofs.Common.{◌≡◌, ◌+◌, ◌++◌, ◌∙◌, ap, append_assoc, arith, inl, inr, length, List, [], ◌∷◌, map, Option, refl, replicate, subst, suc, sym, zero, ℕ}
-use Rattle.session_run.specs.Cursors.{Calls, Cursor}
+use Rattle.session_run.specs.Cursors.{Calls}
+use Rattle.session_run.specs.Watching.{Standing, nothing_kept}
 use Rattle.store_machine.specs.Runs.{IsRun}
 use Rattle.store_machine.specs.declared.machine.Event.{Event}
 use Rattle.store_machine.specs.declared.machine.Reply.{Reply}
 use Rattle.store_machine.specs.declared.machine.State.{State}
 use Rattle.store_machine.specs.declared.machine.Step.{Step}
-use Rattle.drill_run.specs.Dialogue.{AllCursors, AreExchanged, Does, Exchange, calls_of}
-use Rattle.drill_run.specs.Drilled.{events_of, no_cursors}
+use Rattle.drill_run.specs.Dialogue.{AllKept, AreExchanged, Does, Exchange, calls_of}
+use Rattle.drill_run.specs.Drilled.{events_of, all_empty}
 use Rattle.drill_run.specs.Lines.{DrillLine}
 use Rattle.drill_run.specs.Truths.{BeginsAnew}
 use Rattle.drill_run.specs.declared.line.TheConstants.{SESSIONS}
 
-abbrev pub cursors_at : ℕ → AllCursors → List Cursor
-cursors_at n [] = []
-cursors_at zero (c ∷ cs) = c
-cursors_at (suc n) (c ∷ cs) = cursors_at n cs
+abbrev pub kept_at : ℕ → AllKept → Standing
+kept_at n [] = nothing_kept
+kept_at zero (k ∷ ks) = k
+kept_at (suc n) (k ∷ ks) = kept_at n ks
 
--- those of the session of a number, from 1
-abbrev pub of_number : ℕ → AllCursors → List Cursor
-of_number number all = cursors_at number ([] ∷ all)
+-- what the session of a number keeps, from 1
+abbrev pub of_number : ℕ → AllKept → Standing
+of_number number all = kept_at number (nothing_kept ∷ all)
 
-at-here : (before after : AllCursors) (c : List Cursor) → cursors_at (length before) (before ++ c ∷ after) ≡ c
-at-here [] after c = refl
-at-here (b ∷ bs) after c = at-here bs after c
+at-here : (before after : AllKept) (k : Standing) → kept_at (length before) (before ++ k ∷ after) ≡ k
+at-here [] after k = refl
+at-here (b ∷ bs) after k = at-here bs after k
 
-at-other : (n : ℕ) (before after : AllCursors) (c c' : List Cursor) → ¬ (n ≡ length before)
-    → cursors_at n (before ++ c ∷ after) ≡ cursors_at n (before ++ c' ∷ after)
-at-other zero [] after c c' other = absurd (other refl)
-at-other zero (b ∷ bs) after c c' other = refl
-at-other (suc n) [] after c c' other = refl
-at-other (suc n) (b ∷ bs) after c c' other = at-other n bs after c c' (λ e. other (ap suc e))
+at-other : (n : ℕ) (before after : AllKept) (k k' : Standing) → ¬ (n ≡ length before)
+    → kept_at n (before ++ k ∷ after) ≡ kept_at n (before ++ k' ∷ after)
+at-other zero [] after k k' other = absurd (other refl)
+at-other zero (b ∷ bs) after k k' other = refl
+at-other (suc n) [] after k k' other = refl
+at-other (suc n) (b ∷ bs) after k k' other = at-other n bs after k k' (λ e. other (ap suc e))
 
-one_more : (before : AllCursors) → length before + 1 ≡ suc (length before)
+one_more : (before : AllKept) → length before + 1 ≡ suc (length before)
 one_more before = omega arith
 
-pub its-own : (number : ℕ) (before after : AllCursors) (c : List Cursor) → number ≡ length before + 1
-    → of_number number (before ++ c ∷ after) ≡ c
-its-own number before after c is =
-    ap (λ (n : ℕ). of_number n (before ++ c ∷ after)) (is ∙ one_more before) ∙ at-here ([] ∷ before) after c
+pub its-own : (number : ℕ) (before after : AllKept) (k : Standing) → number ≡ length before + 1
+    → of_number number (before ++ k ∷ after) ≡ k
+its-own number before after k is =
+    ap (λ (n : ℕ). of_number n (before ++ k ∷ after)) (is ∙ one_more before) ∙ at-here (nothing_kept ∷ before) after k
 
-pub of-others : (m number : ℕ) (before after : AllCursors) (c c' : List Cursor) → number ≡ length before + 1
-    → ¬ (m ≡ number) → of_number m (before ++ c' ∷ after) ≡ of_number m (before ++ c ∷ after)
-of-others m number before after c c' is other =
-    at-other m ([] ∷ before) after c' c (λ e. other (e ∙ sym (is ∙ one_more before)))
+pub of-others : (m number : ℕ) (before after : AllKept) (k k' : Standing) → number ≡ length before + 1
+    → ¬ (m ≡ number) → of_number m (before ++ k' ∷ after) ≡ of_number m (before ++ k ∷ after)
+of-others m number before after k k' is other =
+    at-other m (nothing_kept ∷ before) after k' k (λ e. other (e ∙ sym (is ∙ one_more before)))
 
--- no session has a cursor
-abbrev pub AreNone : AllCursors → Type 0
-AreNone all = (number : ℕ) → of_number number all ≡ []
+-- no session keeps anything
+abbrev pub AreNone : AllKept → Type 0
+AreNone all = (number : ℕ) → of_number number all ≡ nothing_kept
 
-none-at : (n k : ℕ) → cursors_at n (replicate k []) ≡ []
+none-at : (n k : ℕ) → kept_at n (replicate k nothing_kept) ≡ nothing_kept
 none-at n zero = refl
 none-at zero (suc k) = refl
 none-at (suc n) (suc k) = none-at n k
 
-none-left : (n : ℕ) (all : AllCursors) → cursors_at n (map (λ _. []) all) ≡ []
+none-left : (n : ℕ) (all : AllKept) → kept_at n (map (λ _. nothing_kept) all) ≡ nothing_kept
 none-left n [] = refl
-none-left zero (c ∷ cs) = refl
-none-left (suc n) (c ∷ cs) = none-left n cs
+none-left zero (k ∷ ks) = refl
+none-left (suc n) (k ∷ ks) = none-left n ks
 
-first-none : (number : ℕ) (all : AllCursors) → ((n : ℕ) → cursors_at n all ≡ []) → of_number number all ≡ []
+first-none : (number : ℕ) (all : AllKept) → ((n : ℕ) → kept_at n all ≡ nothing_kept)
+    → of_number number all ≡ nothing_kept
 first-none zero all h = refl
 first-none (suc n) all h = h n
 
 -- a drill in two parts
-pub exchanged-parts : (size : ℕ) (all all' : AllCursors) (xs ys : List Exchange) → AreExchanged size all (xs ++ ys) all'
-    → (between : AllCursors) × AreExchanged size all xs between × AreExchanged size between ys all'
+pub exchanged-parts : (size : ℕ) (all all' : AllKept) (xs ys : List Exchange) → AreExchanged size all (xs ++ ys) all'
+    → (between : AllKept) × AreExchanged size all xs between × AreExchanged size between ys all'
 exchanged-parts size all all' [] ys h = (all, refl, h)
 exchanged-parts size all all' (x ∷ xs) ys h =
     let r = exchanged-parts size h.0 all' xs ys h.2 in (r.0, (h.0, h.1, r.1), r.2)
@@ -75,22 +77,22 @@ calls-parts [] ys = refl
 calls-parts (x ∷ xs) ys =
     ap (λ (l : Calls). x.calls ++ l) (calls-parts xs ys) ∙ sym (append_assoc x.calls (calls_of xs) (calls_of ys))
 
--- behind a reopening no cursor is open
-pub none-open : (size : ℕ) (before : List Exchange) (between : AllCursors) → BeginsAnew before
-    → AreExchanged size no_cursors before between → AreNone between
+-- behind a reopening nothing is kept
+pub none-open : (size : ℕ) (before : List Exchange) (between : AllKept) → BeginsAnew before
+    → AreExchanged size all_empty before between → AreNone between
 none-open size before between (inl e) h = λ number.
-    let same : between ≡ no_cursors =
-    subst (λ (l : List Exchange). AreExchanged size no_cursors l between) e h in
-    subst (λ (all : AllCursors). of_number number all ≡ []) (sym same)
-    (first-none number no_cursors (λ n. none-at n SESSIONS))
+    let same : between ≡ all_empty =
+    subst (λ (l : List Exchange). AreExchanged size all_empty l between) e h in
+    subst (λ (all : AllKept). of_number number all ≡ nothing_kept) (sym same)
+    (first-none number all_empty (λ n. none-at n SESSIONS))
 none-open size before between (inr (front, last, e, (image, is))) h = λ number.
-    let r = exchanged-parts size no_cursors between front (last ∷ [])
-    (subst (λ (l : List Exchange). AreExchanged size no_cursors l between) e h) in
+    let r = exchanged-parts size all_empty between front (last ∷ [])
+    (subst (λ (l : List Exchange). AreExchanged size all_empty l between) e h) in
     let x = r.2 in
     let does = subst (λ (read : Option DrillLine). Does size last.line read r.0 last.calls last.text x.0) is x.1.1 in
-    let same : between ≡ map (λ _. []) r.0 = x.2 ∙ does.3 in
-    subst (λ (all : AllCursors). of_number number all ≡ []) (sym same)
-    (first-none number (map (λ _. []) r.0) (λ n. none-left n r.0))
+    let same : between ≡ map (λ _. nothing_kept) r.0 = x.2 ∙ does.3 in
+    subst (λ (all : AllKept). of_number number all ≡ nothing_kept) (sym same)
+    (first-none number (map (λ _. nothing_kept) r.0) (λ n. none-left n r.0))
 
 -- A run cut where some events end
 pub record Halves (s t : State) (steps : List Step) (xs ys : Calls) : Type 0 where

@@ -3,8 +3,9 @@ use Rattle.std.proofs.Common.{◌≡◌, ◌⊎◌, ◌++◌, ◌∙◌, ap, app
 use Rattle.session_run.specs.Cursors.{Cursor}
 use Rattle.session_run.specs.Pins.{AreHeld, HasSlot, SameOthers}
 use Rattle.session_run.specs.Responds.{KeepsPins}
+use Rattle.session_run.specs.Watching.{Standing, nothing_kept}
 use Rattle.session_run.proofs.Held.{slot-left, slot-right}
-use Rattle.drill_run.specs.Dialogue.{AllCursors}
+use Rattle.drill_run.specs.Dialogue.{AllKept}
 use Rattle.drill_run.specs.Turns.{all_of}
 
 slot-cases : (xs ys : List Cursor) (s : ℕ) → HasSlot (xs ++ ys) s → HasSlot xs s ⊎ HasSlot ys s
@@ -62,26 +63,26 @@ module _ (old new : ℕ → ℕ → Type 0) (cs cs' : List Cursor) (others : Sam
         | inr r ↦ slots-apart old xs (cs ++ ys) h s k (slot-right cs ys s r)
       ])
 
-pub all-append : (xs ys : AllCursors) → all_of (xs ++ ys) ≡ all_of xs ++ all_of ys
+pub all-append : (xs ys : AllKept) → all_of (xs ++ ys) ≡ all_of xs ++ all_of ys
 all-append [] ys = refl
 all-append (x ∷ xs) ys =
-    ap (λ (l : List Cursor). x ++ l) (all-append xs ys) ∙ sym (append_assoc x (all_of xs) (all_of ys))
+    ap (λ (l : List Cursor). x.cursors ++ l) (all-append xs ys) ∙ sym (append_assoc x.cursors (all_of xs) (all_of ys))
 
-pub all-none : {X : Type 0} (xs : List X) → all_of (map (λ _. []) xs) ≡ []
+pub all-none : {X : Type 0} (xs : List X) → all_of (map (λ _. nothing_kept) xs) ≡ []
 all-none [] = refl
 all-none (x ∷ xs) = all-none xs
 
 -- the pins of one session, among those of all
-pub session-held : (a : ℕ → ℕ → Type 0) (before after : AllCursors) (cs : List Cursor)
-    → AreHeld a (all_of (before ++ cs ∷ after)) → AreHeld a cs
-session-held a before after cs h =
-    held-left a cs (all_of after) (held-right a (all_of before) (cs ++ all_of after)
-    (subst (AreHeld a) (all-append before (cs ∷ after)) h))
+pub session-held : (a : ℕ → ℕ → Type 0) (before after : AllKept) (k : Standing)
+    → AreHeld a (all_of (before ++ k ∷ after)) → AreHeld a k.cursors
+session-held a before after k h =
+    held-left a k.cursors (all_of after) (held-right a (all_of before) (k.cursors ++ all_of after)
+    (subst (AreHeld a) (all-append before (k ∷ after)) h))
 
-pub sessions-held : (old new : ℕ → ℕ → Type 0) (before after : AllCursors) (cs cs' : List Cursor)
-    → KeepsPins old cs new cs' → AreHeld old (all_of (before ++ cs ∷ after))
-    → AreHeld new (all_of (before ++ cs' ∷ after))
-sessions-held old new before after cs cs' keeps h =
-    subst (AreHeld new) (sym (all-append before (cs' ∷ after)))
-    (among-held old new cs cs' keeps.others (all_of before) (all_of after) keeps.are_held
-    (subst (AreHeld old) (all-append before (cs ∷ after)) h))
+pub sessions-held : (old new : ℕ → ℕ → Type 0) (before after : AllKept) (k k' : Standing)
+    → KeepsPins old k.cursors new k'.cursors → AreHeld old (all_of (before ++ k ∷ after))
+    → AreHeld new (all_of (before ++ k' ∷ after))
+sessions-held old new before after k k' keeps h =
+    subst (AreHeld new) (sym (all-append before (k' ∷ after)))
+    (among-held old new k.cursors k'.cursors keeps.others (all_of before) (all_of after) keeps.are_held
+    (subst (AreHeld old) (all-append before (k ∷ after)) h))

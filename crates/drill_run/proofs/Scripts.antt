@@ -16,8 +16,8 @@ use Rattle.session_run.proofs.Continued.{leaves, none_more}
 use Rattle.session_run.proofs.Wholes.{one_left, same_before, whole_and_one}
 use Rattle.store_disk.specs.InMemory.{StandsInMemory}
 use Rattle.drill_run.specs.Causes.{AreCaused, MayFail, Tally, faults_in, nothing_set, tally_after}
-use Rattle.drill_run.specs.Dialogue.{AllCursors, AreExchanged, Exchange, calls_of, lines_of, replies_of}
-use Rattle.drill_run.specs.Drilled.{IsAllOfTaken, IsBegun, IsDialogue, IsDialoguePrefix, IsDrilled, IsDrilledBy, Runs, RunsTo, no_cursors}
+use Rattle.drill_run.specs.Dialogue.{AllKept, AreExchanged, Exchange, calls_of, lines_of, replies_of}
+use Rattle.drill_run.specs.Drilled.{IsAllOfTaken, IsBegun, IsDialogue, IsDialoguePrefix, IsDrilled, IsDrilledBy, Runs, RunsTo, all_empty}
 use Rattle.drill_run.specs.Lines.{DrillLine, Empty, Session, Stop, Fail, Reopen}
 use Rattle.drill_run.specs.Turns.{BreaksOff, Ends, GoesOn, IsSmall, IsTallied, TakesLine, TakesNoLine, WorldTerm}
 use Rattle.drill_run.proofs.Events.{runs-more, runs-none, runs-under}
@@ -38,9 +38,9 @@ pub record Told (exchanges : List Exchange) (input : List ℕ) (now : Option (Li
 -- A drill under way: the world at its start and now, what was left and put at its start and is now, how far its source
 -- was read, and its all cursors
 pub record IsUnderWay (size limit : ℕ) (start world : WorldTerm) (before now put0 put : Option (List ℕ))
-    (reading : Reading) (all : AllCursors) : Type 0 where
+    (reading : Reading) (all : AllKept) : Type 0 where
   pub exchanges : List Exchange
-  pub exchanged : AreExchanged size no_cursors exchanges all
+  pub exchanged : AreExchanged size all_empty exchanges all
   pub caused : AreCaused nothing_set exchanges
   pub tallied : IsTallied (tally_of nothing_set exchanges) world
   pub few : (tally_of nothing_set exchanges).fails ≤ done_bytes reading
@@ -58,8 +58,8 @@ appends-none None = tt
 appends-none (Some x) = sym (append-nil x)
 
 -- the start
-pub under_way-start : (size : ℕ) (start : WorldTerm) (before put : Option (List ℕ)) (r : Reading) (all : AllCursors)
-    → IsFresh r → all ≡ no_cursors → bound_of start.journal.disk.failures ≡ Some 0
+pub under_way-start : (size : ℕ) (start : WorldTerm) (before put : Option (List ℕ)) (r : Reading) (all : AllKept)
+    → IsFresh r → all ≡ all_empty → bound_of start.journal.disk.failures ≡ Some 0
     → IsUnderWay size r.limit start start before before put put r all
 under_way-start size start before put r all fresh none unset = record {
   exchanges = [];
@@ -111,7 +111,7 @@ appended (Some m) None text P h p = absurd h
 appended (Some m) (Some n) text P h p = (text, ap Some h, p)
 
 module _ {size limit : ℕ} {start world : WorldTerm} {before now put0 put : Option (List ℕ)} {r : Reading}
-    {all : AllCursors} (u : IsUnderWay size limit start world before now put0 put r all)
+    {all : AllKept} (u : IsUnderWay size limit start world before now put0 put r all)
     {now' : Option (List ℕ)} {r' : Reading} {f f' : ℕ} (reads : ReadsOn now now' f f' r r') where
   -- where the source is now
   taken_on : (input : List ℕ) → before ≡ Some input → (got l : List ℕ) × (input ≡ got ++ l) × (now' ≡ Some l)
@@ -133,7 +133,7 @@ module _ {size limit : ℕ} {start world : WorldTerm} {before now put0 put : Opt
       (arith, u.few, progress, below, reads.counts.within, reads.counts.limit, u.limit_is)
 
   -- a line was answered
-  pub under_way-line : (line : TextLine) (world' : WorldTerm) (all' : AllCursors) (put' : Option (List ℕ))
+  pub under_way-line : (line : TextLine) (world' : WorldTerm) (all' : AllKept) (put' : Option (List ℕ))
       → TakesLine r r' now now' line → GoesOn size line world world' all all' put put'
       → done_bytes r < done_bytes r' → limit < 2 ^ 64
       → IsUnderWay size limit start world' before now' put0 put' r' all'
@@ -144,7 +144,7 @@ module _ {size limit : ℕ} {start world : WorldTerm} {before now put0 put : Opt
       let tallied = g.tallied t u.tallied (small progress below) in
       let then = tally_more nothing_set u.exchanges x in record {
         exchanges = u.exchanges ++ x ∷ [];
-        exchanged = exchanged_more size no_cursors all all' u.exchanges x u.exchanged g.is;
+        exchanged = exchanged_more size all_empty all all' u.exchanges x u.exchanged g.is;
         caused = caused_more nothing_set u.exchanges x u.caused tallied.0;
         tallied = subst (λ (k : Tally). IsTallied k world') (sym then) tallied.1;
         few = subst (λ (k : Tally). k.fails ≤ done_bytes r') (sym then)
@@ -367,7 +367,7 @@ drilled-none size start before put = (
   record {
     script = if_told before _ (λ input e. appended put put [] _ (appends-none put) (record {
       exchanges = [];
-      all = no_cursors;
+      all = all_empty;
       last = [];
       left = io.lines_of input;
       begin = refl;

@@ -1,10 +1,11 @@
 -- The sessions of a drill share one run: where its steps have the numbers of their sessions, each session's calls are
 -- those of its own dialogue.
 use Rattle.std.proofs.Common.{◌≡◌, ◌==◌, ◌++◌, ◌∙◌, ap, append-nil, inl, inr, List, [], ◌∷◌, refl, subst, sym, ℕ}
-use Rattle.session_run.specs.Cursors.{Calls, Cursor}
+use Rattle.session_run.specs.Cursors.{Calls}
 use Rattle.session_run.specs.Dialogue as session
 use Rattle.session_run.specs.Pins.{AreHeld}
 use Rattle.session_run.specs.Truths.{AreTrue, DialoguesAreTrue}
+use Rattle.session_run.specs.Watching.{Standing}
 use Rattle.store_machine.proofs.Joins.{calms-join, runs-join}
 use Rattle.store_machine.specs.Laws.{IsSound, PinsStay, RunsStaySound}
 use Rattle.store_machine.specs.Runs.{IsCalm, IsRun, calls_of}
@@ -12,8 +13,8 @@ use Rattle.store_machine.specs.declared.machine.Held.{Held}
 use Rattle.store_machine.specs.declared.machine.State.{State}
 use Rattle.store_machine.specs.declared.machine.Step.{Step}
 use Rattle.drill_run.specs.Dialogue as drill
-use Rattle.drill_run.specs.Dialogue.{AllCursors, AreExchanged, Exchange}
-use Rattle.drill_run.specs.Drilled.{events_of, no_cursors}
+use Rattle.drill_run.specs.Dialogue.{AllKept, AreExchanged, Exchange}
+use Rattle.drill_run.specs.Drilled.{events_of, all_empty}
 use Rattle.drill_run.specs.Truths.{AreOwn, BeginsAnew, IsPart}
 use Rattle.drill_run.proofs.Owners.{calls-join}
 use Rattle.drill_run.proofs.Parts.{AreNone, Halves, calls-parts, exchanged-parts, halves, none-open, of_number}
@@ -21,7 +22,7 @@ use Rattle.drill_run.proofs.Reowned.{Alike, IsHeld, with_pins}
 use Rattle.drill_run.proofs.OneLine.{AreHolding, IsToldOf, OneLine, by-read, no-event}
 
 -- the steps of a part, with their sessions' numbers, and the dialogue of one session
-record InPart (size number : ℕ) (part : List Exchange) (all all' : AllCursors) (s : State) (ps : List Held) (t : State)
+record InPart (size number : ℕ) (part : List Exchange) (all all' : AllKept) (s : State) (ps : List Held) (t : State)
     : Type 0 where
   pins : List Held
   own : List Step
@@ -33,7 +34,7 @@ record InPart (size number : ℕ) (part : List Exchange) (all all' : AllCursors)
       (of_number number all')
 
 -- a line, and those behind it
-before-part : (size number : ℕ) (x : Exchange) (xs : List Exchange) (all between all' : AllCursors) (s m t : State)
+before-part : (size number : ℕ) (x : Exchange) (xs : List Exchange) (all between all' : AllKept) (s m t : State)
     (ps : List Held) → (o : OneLine size number x all between s ps m)
     → InPart size number xs between all' m o.pins t → InPart size number (x ∷ xs) all all' s ps t
 before-part size number x xs all between all' s m t ps o p = by o.told where
@@ -71,11 +72,11 @@ before-part size number x xs all between all' s m t ps o p = by o.told where
         are = inr (other, p.are);
         exchanged = subst (λ (l : Calls). session.AreExchanged size (of_number number all) p.dialogue l
             (of_number number all')) (sym calls)
-            (subst (λ (c : List Cursor). session.AreExchanged size c p.dialogue (calls_of (λ n. n == number) p.own)
+            (subst (λ (k : Standing). session.AreExchanged size k p.dialogue (calls_of (λ n. n == number) p.own)
             (of_number number all')) same p.exchanged);
       }
 
-in-part : PinsStay → (size number : ℕ) (part : List Exchange) (all all' : AllCursors) (s t : State) (ps : List Held)
+in-part : PinsStay → (size number : ℕ) (part : List Exchange) (all all' : AllKept) (s t : State) (ps : List Held)
     (steps : List Step) → Alike s.pins ps → IsRun s steps t → events_of steps ≡ drill.calls_of part
     → AreHolding ps all → IsPart part → AreExchanged size all part all' → InPart size number part all all' s ps t
 in-part law size number [] all all' s t ps steps alike run made holding is h = record {
@@ -85,7 +86,7 @@ in-part law size number [] all all' s t ps steps alike run made holding is h = r
   calm = tt;
   dialogue = [];
   are = refl;
-  exchanged = (refl, ap (λ (l : AllCursors). of_number number l) h);
+  exchanged = (refl, ap (λ (l : AllKept). of_number number l) h);
 }
 in-part law size number (x ∷ xs) all all' s t ps steps alike run made holding is h =
     let k : Halves s t steps x.calls (drill.calls_of xs) = halves s t steps x.calls (drill.calls_of xs) run made in
@@ -97,14 +98,14 @@ in-part law size number (x ∷ xs) all all' s t ps steps alike run made holding 
 -- the whole of a drill's steps, and its last part
 abbrev pub LastPartIsTrue : Type 0
 LastPartIsTrue =
-    (size number : ℕ) (before part : List Exchange) (all : AllCursors) (s t : State) (steps : List Step)
-    → AreExchanged size no_cursors (before ++ part) all → BeginsAnew before → IsPart part
+    (size number : ℕ) (before part : List Exchange) (all : AllKept) (s t : State) (steps : List Step)
+    → AreExchanged size all_empty (before ++ part) all → BeginsAnew before → IsPart part
     → IsSound s → IsRun s steps t → events_of steps ≡ drill.calls_of (before ++ part)
     → (own : List session.Exchange) × AreOwn number part own × AreTrue t.history size own
 
 pub last-part : DialoguesAreTrue → RunsStaySound → PinsStay → LastPartIsTrue
 last-part dialogues sound_law pins size number before part all s t steps h anew is sound run made =
-    let r = exchanged-parts size no_cursors all before part h in
+    let r = exchanged-parts size all_empty all before part h in
     let none : AreNone r.0 = none-open size before r.0 anew r.1 in
     let k : Halves s t steps (drill.calls_of before) (drill.calls_of part) =
     halves s t steps (drill.calls_of before) (drill.calls_of part) run (made ∙ calls-parts before part) in
@@ -112,12 +113,13 @@ last-part dialogues sound_law pins size number before part all s t steps h anew 
     let there : IsSound m = sound_law s m k.front k.to sound in
     let p : InPart size number part r.0 all m m.pins t =
     in-part pins size number part r.0 all m t m.pins k.back refl k.from k.rest
-    (λ n. subst (AreHeld (IsHeld m.pins n)) (sym (none n)) tt) is r.2 in
+    (λ n. subst (λ (kept : Standing). AreHeld (IsHeld m.pins n) kept.cursors) (sym (none n)) tt) is r.2 in
     let calls : Calls = calls_of (λ o. o == number) p.own in
-    let left : List Cursor = of_number number all in (
+    let left : Standing = of_number number all in (
       p.dialogue,
       p.are,
       dialogues m (with_pins t p.pins) p.own (λ o. o == number) size p.dialogue calls [] left there p.run p.calm
           (sym (append-nil calls))
-          (subst (λ (c : List Cursor). session.AreExchanged size c p.dialogue calls left) (none number) p.exchanged),
+          (subst (λ (kept : Standing). session.AreExchanged size kept p.dialogue calls left) (none number)
+          p.exchanged),
     )

@@ -2,7 +2,7 @@
 use Rattle.std.proofs.Common.{◌≡◌, ◌++◌, ◌∙◌, ap, append_assoc, List, subst, sym, ℕ}
 use Rattle.session_run.specs.Cursors.{Calls}
 use Rattle.drill_run.specs.Dialogue.{AreExchanged, Exchange, calls_of}
-use Rattle.drill_run.specs.Drilled.{no_cursors}
+use Rattle.drill_run.specs.Drilled.{all_empty}
 use Rattle.drill_run.specs.Truths.{DrillsAreTrue}
 use Rattle.drill_run.proofs.Parts.{Halves, calls-parts, exchanged-parts, halves}
 use Rattle.drill_run.proofs.Shared.{LastPartIsTrue}
@@ -11,8 +11,8 @@ pub drills-are-true : LastPartIsTrue → DrillsAreTrue
 drills-are-true law size exchanges all s t steps more h sound run made number before part after e anew is =
     let so_far : List Exchange = before ++ part in
     let cut : exchanges ≡ so_far ++ after = e ∙ sym (append_assoc before part after) in
-    let own = exchanged-parts size no_cursors all so_far after
-    (subst (λ (l : List Exchange). AreExchanged size no_cursors l all) cut h) in
+    let own = exchanged-parts size all_empty all so_far after
+    (subst (λ (l : List Exchange). AreExchanged size all_empty l all) cut h) in
     let calls : calls_of exchanges ++ more ≡ calls_of so_far ++ (calls_of after ++ more) =
     ap (λ (l : List Exchange). calls_of l ++ more) cut
     ∙ (ap (λ (l : Calls). l ++ more) (calls-parts so_far after)

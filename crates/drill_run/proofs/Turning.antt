@@ -10,7 +10,7 @@ use Rattle.session_run.specs.Turn.{IsNextLine}
 use Rattle.session_run.specs.declared.settings.EndStatus.{EndStatus}
 use Rattle.session_run.specs.declared.settings.EndStatus.TheVariants.{Done, SourceFault, SinkFault, NoMemory, InputTooLong, Worn}
 use Rattle.store_disk.specs.InMemory.{StandsInMemory}
-use Rattle.drill_run.specs.Dialogue.{AllCursors}
+use Rattle.drill_run.specs.Dialogue.{AllKept}
 use Rattle.drill_run.specs.Turns.{Breaks, Ends, EndsIn, Goes, Puts, TakesLine, WorldTerm, line_by}
 use Rattle.drill_run.proofs.Events.{runs-under}
 
@@ -34,7 +34,7 @@ if_err (Ok a) P Q f h = tt
 if_err (Err e) P Q f h = f e h
 
 -- a part of the reply was put
-pub cut_off : {size : ℕ} {line : TextLine} {old new : WorldTerm} {all all' : AllCursors} {text : List ℕ}
+pub cut_off : {size : ℕ} {line : TextLine} {old new : WorldTerm} {all all' : AllKept} {text : List ℕ}
     → Goes size line old new all all' text → (done rest : List ℕ) → text ≡ done ++ rest → Breaks size line old all done
 cut_off {old = old} {new = new} {all' = all'} g done rest e = record {
   whole = g.exchange;
@@ -53,14 +53,14 @@ cut_off {old = old} {new = new} {all' = all'} g done rest e = record {
   tallied = λ t h small. (g.tallied t h small).0;
 }
 
-module _ {size : ℕ} {line : TextLine} {old : WorldTerm} {all : AllCursors} (put put' : Option (List ℕ)) where
-  pub put_broken : {new : WorldTerm} {all' : AllCursors} {text : List ℕ} → Goes size line old new all all' text
+module _ {size : ℕ} {line : TextLine} {old : WorldTerm} {all : AllKept} (put put' : Option (List ℕ)) where
+  pub put_broken : {new : WorldTerm} {all' : AllKept} {text : List ℕ} → Goes size line old new all all' text
       → (end : EndStatus) → Puts put put' text (Err end) → EndsIn size line old all put put' end
   put_broken g SinkFault p = record { text = p.0; breaks = cut_off g p.0 p.1 p.2; appends = p.3 }
   put_broken {text = text} g NoMemory p = record { text = []; breaks = cut_off g [] text refl; appends = p }
   put_broken g _ p = absurd p
 
-pub ends_in : (size : ℕ) (line : TextLine) (old : WorldTerm) (all : AllCursors) (put put' : Option (List ℕ))
+pub ends_in : (size : ℕ) (line : TextLine) (old : WorldTerm) (all : AllKept) (put put' : Option (List ℕ))
     (Takes : TextLine → Type 0) (AtEnd NoLine : Type 0) → Takes line → (end : EndStatus)
     → EndsIn size line old all put put' end → Ends size Takes AtEnd NoLine old all put put' end
 ends_in size line old all put put' Takes AtEnd NoLine takes SinkFault h = (line, takes, h)

@@ -1,10 +1,11 @@
 -- For callers: a drill as a dialogue, each line with what is done for it and the text that it is answered. Sessions are
--- counted from 1; each has cursors of its own.
+-- counted from 1; each has cursors and watches of its own.
 use Rattle.std.specs.Prelude.{◌≡◌, ◌⊎◌, ◌+◌, ℕ, List, [], ◌∷◌, ◌++◌, length, map, Option, None, Some, codes}
 use Rattle.std.specs.Fmt.{decimal}
 use Rattle.io_edge.specs.Lines.{TextLine, Whole, TooLong}
 use Rattle.session_run.specs.Acts.{Lines, RequestAnswer}
-use Rattle.session_run.specs.Cursors.{Calls, Cursor}
+use Rattle.session_run.specs.Cursors.{Calls}
+use Rattle.session_run.specs.Watching.{Standing, nothing_kept}
 use Rattle.shell_lang.specs.Command.{TakesLines}
 use Rattle.shell_lang.specs.Reply as reply
 use Rattle.shell_lang.specs.Reply.{reply_line, text_of}
@@ -15,9 +16,9 @@ use Rattle.store_machine.specs.declared.machine.Reply.TheVariants.{Crashed, Open
 use Rattle.drill_run.specs.Lines.{DrillLine, Empty, Session, Stop, Fail, Reopen, Reads}
 use Rattle.drill_run.specs.Numbers.{numbered}
 
--- the cursors that are open, a list for each session
-abbrev pub AllCursors : Type 0
-AllCursors = List (List Cursor)
+-- what the sessions keep between their lines, for each session its own
+abbrev pub AllKept : Type 0
+AllKept = List Standing
 
 -- a line, what it is read as, the events of the store's machine with their replies, and the text of the answer
 pub record Exchange : Type 0 where
@@ -38,7 +39,7 @@ refused_text (Whole text) = codes "refused drill" ++ 10 ∷ []
 refused_text TooLong = reply_line (reply.Refused refusals.Long)
 
 -- nothing is done, and this is answered
-abbrev pub Says : List ℕ → AllCursors → Calls → List ℕ → AllCursors → Type 0
+abbrev pub Says : List ℕ → AllKept → Calls → List ℕ → AllKept → Type 0
 Says said all calls text all' = (calls ≡ []) × (text ≡ said) × (all' ≡ all)
 
 -- the reply to a script line that would take lines after it
@@ -47,35 +48,35 @@ lines_refused = reply.Refused (refusals.Line refused.Syntax) ∷ []
 
 -- A script line is answered as in a session. One that would take lines after it, those of a molfile or of records, is
 -- refused, and takes none
-abbrev pub IsOwnAnswer : ℕ → List ℕ → List Cursor → Calls → Lines → List Cursor → Type 0
-IsOwnAnswer size line cursors calls lines cursors' =
+abbrev pub IsOwnAnswer : ℕ → List ℕ → Standing → Calls → Lines → Standing → Type 0
+IsOwnAnswer size line standing calls lines standing' =
     (TakesLines line × (calls ≡ []) × (lines ≡ lines_refused)
-    × (cursors' ≡ cursors))
+    × (standing' ≡ standing))
     ⊎ (¬ TakesLines line
-    × RequestAnswer size cursors (record { line = Whole line; more = [] }) calls lines cursors')
+    × RequestAnswer size standing (record { line = Whole line; more = [] }) calls lines standing')
 
--- a session's line is answered by that session's cursors, each line of the reply with the number of the session
-pub record IsSessionAnswer (size number : ℕ) (line : List ℕ) (all : AllCursors) (calls : Calls) (text : List ℕ)
-    (all' : AllCursors) : Type 0 where
-  pub before : AllCursors
-  pub cursors : List Cursor
-  pub cursors' : List Cursor
-  pub after : AllCursors
+-- a session's line is answered by what that session keeps, each line of the reply with the number of the session
+pub record IsSessionAnswer (size number : ℕ) (line : List ℕ) (all : AllKept) (calls : Calls) (text : List ℕ)
+    (all' : AllKept) : Type 0 where
+  pub before : AllKept
+  pub standing : Standing
+  pub standing' : Standing
+  pub after : AllKept
   pub lines : Lines
-  pub place : all ≡ before ++ cursors ∷ after
+  pub place : all ≡ before ++ standing ∷ after
   pub number_is : number ≡ length before + 1
-  pub answer : IsOwnAnswer size line cursors calls lines cursors'
+  pub answer : IsOwnAnswer size line standing calls lines standing'
   pub said : text ≡ numbered number (text_of lines)
-  pub left : all' ≡ before ++ cursors' ∷ after
+  pub left : all' ≡ before ++ standing' ∷ after
 
--- a crash and an opening: the number of commits is answered, and no cursor is left
-abbrev pub IsReopening : AllCursors → Calls → List ℕ → AllCursors → Type 0
+-- a crash and an opening: the number of commits is answered, and no cursor and no watch is left
+abbrev pub IsReopening : AllKept → Calls → List ℕ → AllKept → Type 0
 IsReopening all calls text all' =
     (version : ℕ) × (calls ≡ (Crash, Crashed) ∷ (Open, Opened version) ∷ []) × (text ≡ reopened_text version)
-    × (all' ≡ map (λ _. []) all)
+    × (all' ≡ map (λ _. nothing_kept) all)
 
 -- what is done for a line, by what it is read as, and how it is answered; pages have a size
-abbrev pub Does : ℕ → TextLine → Option DrillLine → AllCursors → Calls → List ℕ → AllCursors → Type 0
+abbrev pub Does : ℕ → TextLine → Option DrillLine → AllKept → Calls → List ℕ → AllKept → Type 0
 Does size line (Some Empty) all calls text all' = Says [] all calls text all'
 Does size line (Some (Session number own)) all calls text all' =
     IsSessionAnswer size number own all calls text all'
@@ -84,14 +85,14 @@ Does size line (Some (Fail call)) all calls text all' = Says set_text all calls 
 Does size line (Some (Reopen image)) all calls text all' = IsReopening all calls text all'
 Does size line None all calls text all' = Says (refused_text line) all calls text all'
 
-abbrev pub IsExchange : ℕ → AllCursors → Exchange → AllCursors → Type 0
+abbrev pub IsExchange : ℕ → AllKept → Exchange → AllKept → Type 0
 IsExchange size all x all' = Reads x.line x.read × Does size x.line x.read all x.calls x.text all'
 
--- lines were answered one after another, and these cursors are then open
-abbrev pub AreExchanged : ℕ → AllCursors → List Exchange → AllCursors → Type 0
+-- lines were answered one after another, and this is kept then
+abbrev pub AreExchanged : ℕ → AllKept → List Exchange → AllKept → Type 0
 AreExchanged size all [] all' = all' ≡ all
 AreExchanged size all (x ∷ xs) all' =
-    (between : AllCursors) × IsExchange size all x between × AreExchanged size between xs all'
+    (between : AllKept) × IsExchange size all x between × AreExchanged size between xs all'
 
 abbrev pub lines_of : List Exchange → List TextLine
 lines_of exchanges = map (λ x. x.line) exchanges

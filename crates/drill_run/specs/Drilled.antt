@@ -7,6 +7,7 @@ use Rattle.io_edge.specs.Lines.{TextLine, whole_lines}
 use Rattle.session_run.specs.Cursors.{Calls}
 use Rattle.session_run.specs.Served.{IsInputFault, Writes, WritesForTaken}
 use Rattle.session_run.specs.Transcript.{IsPrefixOf}
+use Rattle.session_run.specs.Watching.{nothing_kept}
 use Rattle.session_run.specs.declared.settings.EndStatus.{EndStatus}
 use Rattle.session_run.specs.declared.settings.EndStatus.TheVariants.{Done, InputTooLong, SourceFault, Worn}
 use Rattle.store_machine.specs.Runs.{IsRun}
@@ -15,7 +16,7 @@ use Rattle.store_machine.specs.declared.machine.Step.{Step}
 use Rattle.store_disk.specs.InMemory.{StandsInMemory}
 use Rattle.store_disk.specs.OnDisk.{StoreTerm}
 use Rattle.drill_run.specs.Causes.{AreCaused, nothing_set}
-use Rattle.drill_run.specs.Dialogue.{AreExchanged, Exchange, IsExchange, AllCursors, calls_of, lines_of, replies_of}
+use Rattle.drill_run.specs.Dialogue.{AreExchanged, Exchange, IsExchange, AllKept, calls_of, lines_of, replies_of}
 use Rattle.drill_run.specs.declared.line.TheConstants.{SESSIONS}
 
 -- the events of a run with their replies, those of reopenings too
@@ -30,16 +31,16 @@ RunsTo world calls P = (s : State) → StandsInMemory world s
 abbrev pub Runs : StoreTerm Medium → Calls → Type 0
 Runs world calls = RunsTo world calls (λ _. Unit {0})
 
--- no session has a cursor
-abbrev pub no_cursors : AllCursors
-no_cursors = replicate SESSIONS []
+-- no session has a cursor or a watch
+abbrev pub all_empty : AllKept
+all_empty = replicate SESSIONS nothing_kept
 
 -- The first lines were answered, these are left. Each disk fault was caused by the lines
 pub record IsDialogue (size : ℕ) (lines left : List TextLine) (calls : Calls) (text : List ℕ) : Type 0 where
   pub exchanges : List Exchange
-  pub all : AllCursors
+  pub all : AllKept
   pub begin : lines ≡ lines_of exchanges ++ left
-  pub exchanged : AreExchanged size no_cursors exchanges all
+  pub exchanged : AreExchanged size all_empty exchanges all
   pub caused : AreCaused nothing_set exchanges
   pub made : calls ≡ calls_of exchanges
   pub said : text ≡ replies_of exchanges
@@ -52,9 +53,9 @@ pub record IsCutOf (x cut : Exchange) : Type 0 where
   pub text : IsPrefixOf cut.text x.text
 
 -- the answer to the next line was begun
-pub record IsBegun (size : ℕ) (all : AllCursors) (left : List TextLine) (cut : Exchange) : Type 0 where
+pub record IsBegun (size : ℕ) (all : AllKept) (left : List TextLine) (cut : Exchange) : Type 0 where
   pub whole : Exchange
-  pub all' : AllCursors
+  pub all' : AllKept
   pub more : List TextLine
   pub next : left ≡ whole.line ∷ more
   pub exchange : IsExchange size all whole all'
@@ -63,11 +64,11 @@ pub record IsBegun (size : ℕ) (all : AllCursors) (left : List TextLine) (cut :
 -- A beginning of a dialogue: whole lines, and then perhaps a beginning of the answer to the next one
 pub record IsDialoguePrefix (size : ℕ) (lines : List TextLine) (calls : Calls) (text : List ℕ) : Type 0 where
   pub exchanges : List Exchange
-  pub all : AllCursors
+  pub all : AllKept
   pub last : List Exchange
   pub left : List TextLine
   pub begin : lines ≡ lines_of exchanges ++ left
-  pub exchanged : AreExchanged size no_cursors exchanges all
+  pub exchanged : AreExchanged size all_empty exchanges all
   pub begun : (last ≡ []) ⊎ ((cut : Exchange) × (last ≡ cut ∷ []) × IsBegun size all left cut)
   pub caused : AreCaused nothing_set (exchanges ++ last)
   pub made : calls ≡ calls_of (exchanges ++ last)

@@ -1,5 +1,5 @@
 -- For callers: the laws of a drill. A reopening keeps what was acknowledged, and between two reopenings each session's
--- searches, cursors and lookups tell what the history has.
+-- searches, cursors, lookups and watches tell what the history has.
 use Rattle.std.specs.Prelude.{◌≡◌, ◌⊎◌, ℕ, List, [], ◌∷◌, ◌++◌, Some}
 use Rattle.io_edge.specs.Lines.{Whole}
 use Rattle.session_run.specs.Cursors.{Calls}
@@ -16,8 +16,8 @@ use Rattle.store_machine.specs.declared.machine.Change.{Change}
 use Rattle.store_machine.specs.declared.machine.Event.TheVariants.{Crash, Open}
 use Rattle.store_machine.specs.declared.machine.State.{State}
 use Rattle.store_machine.specs.declared.machine.Step.{Step}
-use Rattle.drill_run.specs.Dialogue.{AllCursors, AreExchanged, Exchange, calls_of}
-use Rattle.drill_run.specs.Drilled.{events_of, no_cursors}
+use Rattle.drill_run.specs.Dialogue.{AllKept, AreExchanged, Exchange, calls_of}
+use Rattle.drill_run.specs.Drilled.{events_of, all_empty}
 use Rattle.drill_run.specs.Lines.{Reopen, Session}
 use Rattle.drill_run.specs.Numbers.{numbered}
 
@@ -67,8 +67,8 @@ pub record IsTold (s : State) (steps : List Step) (size number : ℕ) (before pa
   pub are : AreOwn number part own
   pub are_true : AreTrue there.history size own
 
--- In each part of a drill, from the beginning or a reopening on and however far, each session's searches, cursors and
--- lookups that came to their end told exactly what the history has
+-- In each part of a drill, from the beginning or a reopening on and however far, each session's searches, cursors,
+-- lookups and watches that came to their end told exactly what the history has
 abbrev pub AreAllTold : State → List Step → ℕ → List Exchange → Type 0
 AreAllTold s steps size exchanges =
     (number : ℕ) (before part after : List Exchange) → exchanges ≡ before ++ (part ++ after) → BeginsAnew before
@@ -77,8 +77,8 @@ AreAllTold s steps size exchanges =
 -- a drill's lines were answered by the first events of a run
 abbrev pub DrillsAreTrue : Type 0
 DrillsAreTrue =
-    (size : ℕ) (exchanges : List Exchange) (all : AllCursors) (s t : State) (steps : List Step) (more : Calls)
-    → AreExchanged size no_cursors exchanges all → IsSound s → IsRun s steps t
+    (size : ℕ) (exchanges : List Exchange) (all : AllKept) (s t : State) (steps : List Step) (more : Calls)
+    → AreExchanged size all_empty exchanges all → IsSound s → IsRun s steps t
     → events_of steps ≡ calls_of exchanges ++ more → AreAllTold s steps size exchanges
 
 -- A reopening leaves the history with what was acknowledged since the last one, in order, and at most one commit more,

@@ -15,6 +15,7 @@ use Rattle.session_run.specs.Opened.{opened}
 use Rattle.session_run.specs.Pins.{AreHeld, MovePins}
 use Rattle.session_run.specs.Responds.{IsFit}
 use Rattle.session_run.specs.Turn.{ReadsLines, TakesNone}
+use Rattle.session_run.specs.Watching.{Standing}
 use Rattle.session_run.specs.declared.respond.Responder.{Responder}
 use Rattle.session_run.specs.declared.settings.EndStatus.{EndStatus}
 use Rattle.session_run.specs.declared.settings.EndStatus.TheVariants.{Done, SourceFault, SinkFault, NoMemory, InputTooLong, Worn}
@@ -27,9 +28,9 @@ use Rattle.store_disk.specs.InMemory.{StandsInMemory}
 use Rattle.store_disk.specs.OnDisk.{StoreTerm}
 use Rattle.store_disk.specs.Stored.{Stretches}
 use Rattle.drill_run.specs.Causes.{MayFail, Tally, faults_in, tally_after}
-use Rattle.drill_run.specs.Dialogue.{AllCursors, Exchange, IsExchange, IsOwnAnswer}
+use Rattle.drill_run.specs.Dialogue.{AllKept, Exchange, IsExchange, IsOwnAnswer}
 use Rattle.drill_run.specs.Drilled.{IsCutOf, Runs, RunsTo}
-use Rattle.drill_run.specs.Views.{cursors_in}
+use Rattle.drill_run.specs.Views.{kept_in}
 use Rattle.drill_run.specs.declared.line.TheConstants.{SESSIONS}
 use Rattle.drill_run.specs.declared.sessions.Sessions.{Sessions}
 
@@ -41,9 +42,9 @@ abbrev pub IsSessionOf : Settings → Responder → Type 0
 IsSessionOf settings r = IsFit r.cursors × (r.cursors.settings ≡ settings)
 
 -- the cursors of all sessions
-abbrev pub all_of : AllCursors → List Cursor
+abbrev pub all_of : AllKept → List Cursor
 all_of [] = []
-all_of (cursors ∷ all) = cursors ++ all_of all
+all_of (standing ∷ all) = standing.cursors ++ all_of all
 
 -- the sessions can be answered: the pins of all their cursors are held by the world, in slots of their own
 pub record AreReady (world : WorldTerm) (sessions : Sessions) : Type 0 where
@@ -51,7 +52,7 @@ pub record AreReady (world : WorldTerm) (sessions : Sessions) : Type 0 where
   pub stands : StandsInMemory world state
   pub number : length sessions.responders.items ≡ SESSIONS
   pub fit : AllByRecursion (IsSessionOf sessions.settings) sessions.responders.items
-  pub held : AreHeld (HoldsPin world.memory) (all_of (cursors_in sessions.responders.items))
+  pub held : AreHeld (HoldsPin world.memory) (all_of (kept_in sessions.responders.items))
 
 -- Without a stop, the disk has no more faults to count than the part has lines `fail`, and the events with a disk fault
 -- are among those it counted
@@ -72,14 +73,14 @@ pub record Uses (old new : WorldTerm) (calls : Calls) : Type 0 where
       (bound_of new.journal.disk.failures, bound_of new.b.failures)
 
 -- a session's line was answered
-pub record AnswersOwn (size : ℕ) (line : List ℕ) (old new : WorldTerm) (cursors cursors' : List Cursor) : Type 0 where
+pub record AnswersOwn (size : ℕ) (line : List ℕ) (old new : WorldTerm) (standing standing' : Standing) : Type 0 where
   pub calls : Calls
   pub lines : Lines
-  pub is : IsOwnAnswer size line cursors calls lines cursors'
+  pub is : IsOwnAnswer size line standing calls lines standing'
   pub uses : Uses old new calls
 
 -- a line was answered, and the world goes on
-pub record Goes (size : ℕ) (line : TextLine) (old new : WorldTerm) (all all' : AllCursors) (text : List ℕ)
+pub record Goes (size : ℕ) (line : TextLine) (old new : WorldTerm) (all all' : AllKept) (text : List ℕ)
     : Type 0 where
   pub exchange : Exchange
   pub line_is : exchange.line ≡ line
@@ -90,10 +91,10 @@ pub record Goes (size : ℕ) (line : TextLine) (old new : WorldTerm) (all all' :
       → MayFail t (faults_in exchange.calls) × IsTallied (tally_after t exchange.read exchange.calls) new
 
 -- the answer to a line was begun, and the world is gone
-pub record Breaks (size : ℕ) (line : TextLine) (old : WorldTerm) (all : AllCursors) (text : List ℕ) : Type 0 where
+pub record Breaks (size : ℕ) (line : TextLine) (old : WorldTerm) (all : AllKept) (text : List ℕ) : Type 0 where
   pub whole : Exchange
   pub cut : Exchange
-  pub all' : AllCursors
+  pub all' : AllKept
   pub line_is : whole.line ≡ line
   pub text_is : text ≡ cut.text
   pub is : IsExchange size all whole all'
@@ -103,10 +104,10 @@ pub record Breaks (size : ℕ) (line : TextLine) (old : WorldTerm) (all : AllCur
 
 -- what a line leaves of the sessions and of the world, or where its answer broke off
 abbrev pub Answered : Sessions → Sessions → WorldTerm → TextLine → Result WorldTerm AllocError → Type 0
-Answered old new world line (Ok after) = Goes old.settings.page line world after (cursors_in old.responders.items)
-    (cursors_in new.responders.items) new.out.items × AreReady after new × (new.settings ≡ old.settings)
+Answered old new world line (Ok after) = Goes old.settings.page line world after (kept_in old.responders.items)
+    (kept_in new.responders.items) new.out.items × AreReady after new × (new.settings ≡ old.settings)
 Answered old new world line (Err fault) =
-    Breaks old.settings.page line world (cursors_in old.responders.items) []
+    Breaks old.settings.page line world (kept_in old.responders.items) []
 
 -- the line that was read
 abbrev pub line_by : Line → List ℕ → TextLine
@@ -115,21 +116,21 @@ line_by one.Long text = TooLong
 line_by one.End text = TooLong
 
 -- a line was answered, and its reply put
-pub record GoesOn (size : ℕ) (line : TextLine) (old new : WorldTerm) (all all' : AllCursors)
+pub record GoesOn (size : ℕ) (line : TextLine) (old new : WorldTerm) (all all' : AllKept)
     (put put' : Option (List ℕ)) : Type 0 where
   pub text : List ℕ
   pub goes : Goes size line old new all all' text
   pub appends : Appends put put' text
 
 -- the answer to a line was begun, or its reply was not put whole
-pub record BreaksOff (size : ℕ) (line : TextLine) (old : WorldTerm) (all : AllCursors) (put put' : Option (List ℕ))
+pub record BreaksOff (size : ℕ) (line : TextLine) (old : WorldTerm) (all : AllKept) (put put' : Option (List ℕ))
     : Type 0 where
   pub text : List ℕ
   pub breaks : Breaks size line old all text
   pub appends : Appends put put' text
 
 -- how a line ends a drill, if it does
-abbrev pub EndsIn : ℕ → TextLine → WorldTerm → AllCursors → Option (List ℕ) → Option (List ℕ) → EndStatus → Type 0
+abbrev pub EndsIn : ℕ → TextLine → WorldTerm → AllKept → Option (List ℕ) → Option (List ℕ) → EndStatus → Type 0
 EndsIn size line old all put put' SinkFault = BreaksOff size line old all put put'
 EndsIn size line old all put put' NoMemory = BreaksOff size line old all put put'
 EndsIn size line old all put put' _ = ⊥
@@ -143,7 +144,7 @@ abbrev pub TakesNoLine : Reading → Reading → Option (List ℕ) → Option (L
 TakesNoLine old new before after = ReadsLines old new before after (λ all left. all ≡ left) × AwaitsBytes new
 
 -- how a turn ends a drill
-abbrev pub Ends : ℕ → (TextLine → Type 0) → Type 0 → Type 0 → WorldTerm → AllCursors → Option (List ℕ) → Option (List ℕ)
+abbrev pub Ends : ℕ → (TextLine → Type 0) → Type 0 → Type 0 → WorldTerm → AllKept → Option (List ℕ) → Option (List ℕ)
     → EndStatus → Type 0
 Ends size Takes AtEnd NoLine old all put put' Done = AtEnd × Appends put put' []
 Ends size Takes AtEnd NoLine old all put put' SourceFault = NoLine × Appends put put' []

@@ -1,10 +1,9 @@
 -- A line of a drill as it is read, without where its parts lie; the sessions as contracts see them. For private clauses
 -- alone.
 use Rattle.std.specs.Prelude.{List, map}
-use Rattle.session_run.specs.Opened.{opened}
-use Rattle.session_run.specs.Walks.{cursors_of}
+use Rattle.session_run.specs.Standings.{standing_of}
 use Rattle.session_run.specs.declared.respond.Responder.{Responder}
-use Rattle.drill_run.specs.Dialogue.{AllCursors}
+use Rattle.drill_run.specs.Dialogue.{AllKept}
 use Rattle.drill_run.specs.Lines.{DrillLine, Empty, Session, Stop, Fail, Reopen}
 use Rattle.drill_run.specs.declared.line.DrillLine as read
 use Rattle.drill_run.specs.declared.line.DrillLine.TheVariants as lines
@@ -16,5 +15,5 @@ line_of (lines.Stop calls) = Stop calls
 line_of (lines.Fail call) = Fail call
 line_of (lines.Reopen image) = Reopen image
 
-abbrev pub cursors_in : List Responder → AllCursors
-cursors_in responders = map (λ (r : Responder). cursors_of (opened r.cursors)) responders
+abbrev pub kept_in : List Responder → AllKept
+kept_in responders = map standing_of responders

@@ -5,8 +5,8 @@ ghost use Rattle.drill_run.specs.Truths.{DrillsAreTrue, ReopeningsKeep};
 use session_run::dialogues_are_true;
 use store_machine::{pins_stay, rebases_keep, replies_tell, runs_stay_sound};
 
-/// In each part of a drill, up to a reopening, each session's searches, cursors and lookups that came to their end told
-/// exactly what the history has, whatever the other sessions did meanwhile.
+/// In each part of a drill, up to a reopening, each session's searches, cursors, lookups and watches that came to their
+/// end told exactly what the history has, whatever the other sessions did meanwhile.
 pub fn drills_are_true()
     ensures { DrillsAreTrue }
 {

@@ -9,9 +9,9 @@ ghost use Rattle.session_run.specs.Serving.{IsFresh};
 ghost use Rattle.session_run.specs.Turn.{IsNextLine, ReadsOn, TakesNone};
 ghost use Rattle.store_core.specs.Stored.{empty};
 ghost use Rattle.store_disk.specs.InMemory.{StandsInMemory};
-ghost use Rattle.drill_run.specs.Drilled.{IsDrilledBy, Runs, no_cursors};
+ghost use Rattle.drill_run.specs.Drilled.{IsDrilledBy, Runs, all_empty};
 ghost use Rattle.drill_run.specs.Turns.{AreReady, Ends, EndsIn, GoesOn, Puts, TakesLine, TakesNoLine, line_by};
-ghost use Rattle.drill_run.specs.Views.{cursors_in};
+ghost use Rattle.drill_run.specs.Views.{kept_in};
 ghost use Rattle.io_edge.specs.NextLine.{OnLine};
 
 use crate::sessions::Sessions;
@@ -70,7 +70,7 @@ fn serve<R: Threads + Sync, I: Source, O: Sink, M: Meter>(
     sessions: &mut Sessions,
 ) -> EndStatus
     requires ready { AreReady world sessions.old }
-    requires none { cursors_in sessions.old.responders.items ≡ no_cursors }
+    requires none { kept_in sessions.old.responders.items ≡ all_empty }
     requires no_failures { bound_of world.journal.disk.failures ≡ Some 0 }
     requires fresh { IsFresh lines.old }
     requires limit { lines.old.limit < 2 ^ 64 }
@@ -107,15 +107,15 @@ fn turn<R: Threads + Sync, I: Source, O: Sink, M: Meter>(
     requires { AreReady world sessions.old }
     ensures goes { IfOk result (λ after. (line : TextLine)
         × TakesLine lines.old lines.new (I.left source.old) (I.left source.new) line
-        × GoesOn sessions.old.settings.page line world after (cursors_in sessions.old.responders.items)
-        (cursors_in sessions.new.responders.items) (O.written sink.old) (O.written sink.new)) }
+        × GoesOn sessions.old.settings.page line world after (kept_in sessions.old.responders.items)
+        (kept_in sessions.new.responders.items) (O.written sink.old) (O.written sink.new)) }
     ensures ready { IfOk result (λ after. AreReady after sessions.new) }
     ensures settings { OnOk result (sessions.new.settings ≡ sessions.old.settings) }
     ensures ends { IfErr result (Ends sessions.old.settings.page
         (TakesLine lines.old lines.new (I.left source.old) (I.left source.new))
         (TakesNone lines.old (I.left source.old))
         (TakesNoLine lines.old lines.new (I.left source.old) (I.left source.new))
-        world (cursors_in sessions.old.responders.items) (O.written sink.old) (O.written sink.new)) }
+        world (kept_in sessions.old.responders.items) (O.written sink.old) (O.written sink.new)) }
     ensures reads { ReadsOn (I.left source.old) (I.left source.new) (I.faults source.old) (I.faults source.new)
         lines.old lines.new }
     ensures progress { result ≢ Err EndStatus.Done → result ≢ Err EndStatus.SourceFault
@@ -163,12 +163,12 @@ fn answer_and_put<R: Threads + Sync, O: Sink, M: Meter>(
 ) -> Result<World, EndStatus>
     requires { AreReady world sessions.old }
     ensures goes { IfOk result (λ after. GoesOn sessions.old.settings.page (line_by line text.now) world after
-        (cursors_in sessions.old.responders.items) (cursors_in sessions.new.responders.items)
+        (kept_in sessions.old.responders.items) (kept_in sessions.new.responders.items)
         (O.written sink.old) (O.written sink.new)) }
     ensures ready { IfOk result (λ after. AreReady after sessions.new) }
     ensures settings { OnOk result (sessions.new.settings ≡ sessions.old.settings) }
     ensures ends { IfErr result (EndsIn sessions.old.settings.page (line_by line text.now) world
-        (cursors_in sessions.old.responders.items) (O.written sink.old) (O.written sink.new)) }
+        (kept_in sessions.old.responders.items) (O.written sink.old) (O.written sink.new)) }
     ensures sink_fault { result ≡ Err EndStatus.SinkFault → Rose (O.faults sink.old) (O.faults sink.new) }
     ensures sink_count { O.faults sink.old ≤ O.faults sink.new }
 {

@@ -5,18 +5,20 @@ ghost use Rattle.io_edge.specs.Lines.{TextLine, TooLong, Whole};
 ghost use Rattle.session_run.specs.Opened.{opened};
 ghost use Rattle.session_run.specs.Pins.{AreHeld};
 ghost use Rattle.session_run.specs.Responds.{IsFit};
+ghost use Rattle.session_run.specs.Standings.{standing_of};
 ghost use Rattle.session_run.specs.Walks.{cursors_of};
+ghost use Rattle.session_run.specs.Watching.{nothing_kept};
 ghost use Rattle.shell_lang.specs.Command.{TakesLines};
 ghost use Rattle.shell_lang.specs.Reply.{text_of};
 ghost use Rattle.store_core.specs.Stored.{HoldsPin};
 ghost use Rattle.store_disk.specs.InMemory.{StandsInMemory};
 ghost use Rattle.store_machine.specs.declared.machine.State.{State};
 ghost use Rattle.drill_run.specs.Dialogue.{lines_refused, reopened_text};
-ghost use Rattle.drill_run.specs.Drilled.{no_cursors};
+ghost use Rattle.drill_run.specs.Drilled.{all_empty};
 ghost use Rattle.drill_run.specs.Lines as lines;
 ghost use Rattle.drill_run.specs.Lines.{Reads};
 ghost use Rattle.drill_run.specs.Turns.{Answered, AnswersOwn, AreReady, IsSessionOf, WorldTerm, line_by};
-ghost use Rattle.drill_run.specs.Views.{cursors_in};
+ghost use Rattle.drill_run.specs.Views.{kept_in};
 
 use crate::line::{DrillLine, SESSIONS, drill_line};
 use crate::numbers::push_numbered;
@@ -39,14 +41,14 @@ pub struct Sessions {
 }
 
 impl Sessions {
-    /// Without cursors.
+    /// Without cursors and watches.
     pub fn new(alloc: Global, settings: Settings) -> Result<Sessions, AllocError>
         requires some_workers { 1 ≤ settings.workers }
         requires few_workers { settings.workers ≤ 16 }
         requires some { 1 ≤ settings.page }
         requires few { settings.page ≤ 256 }
         ensures settings { IfOk result (λ sessions. sessions.settings ≡ settings) }
-        ensures none { IfOk result (λ sessions. cursors_in sessions.responders.items ≡ no_cursors) }
+        ensures none { IfOk result (λ sessions. kept_in sessions.responders.items ≡ all_empty) }
         ensures ready { IfOk result (λ sessions. (world : WorldTerm) (s : State) → StandsInMemory world s
             → AreReady world sessions) }
     {
@@ -139,7 +141,7 @@ impl Sessions {
         self.say(world, b"set\n")
     }
 
-    // Opens the world again. All cursors are gone.
+    // Opens the world again. All cursors and watches are gone.
     fn reopen(&mut self, world: World, image: u32) -> Result<World, AllocError>
         requires ready { AreReady world self.old }
         requires empty { self.old.out.items ≡ [] }
@@ -179,12 +181,12 @@ impl Sessions {
         Ok(world)
     }
 
-    // Forgets the cursors of all sessions.
+    // Forgets the cursors and watches of all sessions.
     fn forget(&mut self)
         requires fit { AllByRecursion (IsSessionOf self.old.settings) self.old.responders.items }
         ensures fit { AllByRecursion (IsSessionOf self.old.settings) self.new.responders.items }
         ensures number { length self.new.responders.items ≡ length self.old.responders.items }
-        ensures none { cursors_in self.new.responders.items ≡ map (λ _. []) self.old.responders.items }
+        ensures none { kept_in self.new.responders.items ≡ map (λ _. nothing_kept) self.old.responders.items }
         ensures settings { self.new.settings ≡ self.old.settings }
         ensures out { self.new.out ≡ self.old.out }
     {
@@ -228,11 +230,11 @@ fn answer_alone<R: Threads + Sync, M: Meter>(
     requires fit { IsFit responder.old.cursors }
     requires held { AreHeld (HoldsPin world.old.memory) (cursors_of (opened responder.old.cursors)) }
     ensures ok { (size : ℕ) → size ≡ responder.old.cursors.settings.page
-        → OnOk result ((a : AnswersOwn size line.now world.old world.new (cursors_of (opened responder.old.cursors))
-        (cursors_of (opened responder.new.cursors))) × (responder.new.out.items ≡ text_of a.lines)) }
+        → OnOk result ((a : AnswersOwn size line.now world.old world.new (standing_of responder.old)
+        (standing_of responder.new)) × (responder.new.out.items ≡ text_of a.lines)) }
     ensures err { (size : ℕ) → size ≡ responder.old.cursors.settings.page
-        → OnErr result (AnswersOwn size line.now world.old world.new (cursors_of (opened responder.old.cursors))
-        (cursors_of (opened responder.new.cursors))) }
+        → OnErr result (AnswersOwn size line.now world.old world.new (standing_of responder.old)
+        (standing_of responder.new)) }
     ensures fit { IsFit responder.new.cursors }
     ensures settings { responder.new.cursors.settings ≡ responder.old.cursors.settings }
 {
@@ -246,6 +248,7 @@ fn answer_alone<R: Threads + Sync, M: Meter>(
 fn refuse_lines(responder: &mut Responder) -> Result<(), AllocError>
     ensures ok { OnOk result (responder.new.out.items ≡ text_of lines_refused) }
     ensures cursors { responder.new.cursors ≡ responder.old.cursors }
+    ensures kept { standing_of responder.new ≡ standing_of responder.old }
 {
     responder.out.clear();
     reply_text(
@@ -266,10 +269,9 @@ fn answer_script_line<R: Threads + Sync, M: Meter>(
     requires held { AreHeld (HoldsPin world.old.memory) (cursors_of (opened responder.old.cursors)) }
     requires alone { ¬ TakesLines line.now }
     ensures ok { OnOk result ((a : AnswersOwn responder.old.cursors.settings.page line.now world.old world.new
-        (cursors_of (opened responder.old.cursors)) (cursors_of (opened responder.new.cursors)))
-        × (responder.new.out.items ≡ text_of a.lines)) }
+        (standing_of responder.old) (standing_of responder.new)) × (responder.new.out.items ≡ text_of a.lines)) }
     ensures err { OnErr result (AnswersOwn responder.old.cursors.settings.page line.now world.old world.new
-        (cursors_of (opened responder.old.cursors)) (cursors_of (opened responder.new.cursors))) }
+        (standing_of responder.old) (standing_of responder.new)) }
     ensures fit { IsFit responder.new.cursors }
     ensures settings { responder.new.cursors.settings ≡ responder.old.cursors.settings }
 {

@@ -1,21 +1,21 @@
 -- What a lookup did, by its parts: a pin, its pages, and the pin is given back.
-use Rattle.std.proofs.Common.{◌≡◌, ◌⊎◌, ◌↔◌, ◌++◌, append-nil, Bool, Err, length, List, [], Ok, Option, refl, Result, Some, subst, sym, ℕ}
+use Rattle.std.proofs.Common.{◌≡◌, ◌≢◌, ◌⊎◌, ◌↔◌, ◌++◌, append-nil, Bool, Err, length, List, [], None, Ok, Option, refl, Result, Some, subst, sym, ℕ}
 use Rattle.par_search.specs.Faults.{fault_of}
 use Rattle.par_search.specs.declared.fault.SearchFault.{SearchFault}
+use Rattle.par_search.specs.declared.fault.SearchFault.TheVariants as faults
 use Rattle.snap_registry.specs.declared.Pin.{Pin}
 use Rattle.store_core.specs.Calls.{NeedsNone, SameHeld}
-use Rattle.store_core.specs.Records.{RecordTerm}
 use Rattle.store_core.specs.Replies.{pin_calls, unpin_calls}
 use Rattle.store_core.specs.declared.service.Service as meaning
 use Rattle.store_core.specs.declared.words.CallFault.{CallFault}
 use Rattle.store_core.specs.declared.words.CallFault.TheVariants as call
-use Rattle.store_machine.specs.Searches.{End, Place, fetched, records_of}
+use Rattle.store_machine.specs.Searches.{At, End, Place, fetched, records_of}
 use Rattle.store_machine.specs.declared.machine.Found.{Found}
-use Rattle.lookup.specs.Fetches.{Calls, CutShort, Fetches, HeldBesides, Looks, Makes, begun_calls, lookup_calls}
-use Rattle.lookup.specs.Fetches.{CutShort, NoneFree, Unasked, Whole, WornAfter, WornBefore}
-use Rattle.lookup.specs.Walks.{Saw, Walked, Walks}
+use Rattle.lookup.specs.Fetches.{Calls, Fetches, HeldBesides, Looks, LooksUnless, Makes, begun_calls, lookup_calls}
+use Rattle.lookup.specs.Fetches.{CutShort, Failed, Known, Looked, NoneFree, Unasked, Whole, WornAfter, WornBefore}
+use Rattle.lookup.specs.Walks.{IsPinnedFrom, Saw, Walked, Walks}
 use Rattle.lookup.specs.declared.pages.Seen.{Seen}
-use Rattle.lookup.proofs.Held.{held_on, kept_on, none_taken, returned}
+use Rattle.lookup.proofs.Held.{held-same, held_on, kept_on, none_taken, not_raised-same, returned}
 
 abbrev pub result_as : {X Y E : Type 0} → (X → Y) → Result X E → Result Y E
 result_as f (Ok x) = Ok (f x)
@@ -28,10 +28,16 @@ abbrev pub unpin_of : CallFault → Result (Unit {0}) CallFault
 unpin_of fault = Err fault
 
 -- the version, how many records there were, and that all were seen
-abbrev pub SeenAll : {V : Type 0} → (V → RecordTerm → V → List Found → Type 0) → RecordTerm → V → V → ℕ → List Found
+abbrev pub SeenAll : {V G : Type 0} → (V → G → V → List Found → Type 0) → G → V → V → ℕ → List Found
     → Seen → Type 0
 SeenAll has_seen given old new version records seen =
     (seen.version ≡ version) × (seen.count ≡ length records) × Saw has_seen given old new records
+
+-- the same of a pin's version
+abbrev pub SeenFrom : {V G : Type 0} → ℕ → (V → G → V → List Found → Type 0) → G → V → V → ℕ → List Found → Seen
+    → Type 0
+SeenFrom at has_seen given old new version records seen =
+    (version ≡ at) × (seen.version ≡ version) × (seen.count ≡ length records) × Saw has_seen given old new records
 
 pub same-fault : {S X : Type 0} {of : meaning.Ghosts S} {old new : S} {size : ℕ} {want : List Bool}
     {Is : ℕ → List Found → X → Type 0} (e e' : SearchFault) → e' ≡ e
@@ -51,6 +57,51 @@ looks-as (Unasked made held) Is' f h = Unasked made held
 looks-as (NoneFree made held) Is' f h = NoneFree made held
 looks-as (WornBefore made held worn) Is' f h = WornBefore made held worn
 looks-as (WornAfter place k made held worn) Is' f h = WornAfter place k made held worn
+
+-- what is said of less
+pub looks-is : {S X : Type 0} {of : meaning.Ghosts S} {old new : S} {size : ℕ} {want : List Bool}
+    {Is : ℕ → List Found → X → Type 0} {r : Result X SearchFault} → Looks of old new size want Is r
+    → (Is' : ℕ → List Found → X → Type 0)
+    → ((version : ℕ) (records : List Found) (x : X) → Is version records x → Is' version records x)
+    → Looks of old new size want Is' r
+looks-is (Whole x k made held is) Is' h = Whole x k made held (h _ _ x is)
+looks-is (CutShort place k made held) Is' h = CutShort place k made held
+looks-is (Unasked made held) Is' h = Unasked made held
+looks-is (NoneFree made held) Is' h = NoneFree made held
+looks-is (WornBefore made held worn) Is' h = WornBefore made held worn
+looks-is (WornAfter place k made held worn) Is' h = WornAfter place k made held worn
+
+-- what was found is of no use
+pub looks-short : {S X Y : Type 0} {of : meaning.Ghosts S} {old new : S} {size : ℕ} {want : List Bool}
+    {Is : ℕ → List Found → X → Type 0} {x : X} (Is' : ℕ → List Found → Y → Type 0)
+    → Looks of old new size want Is (Ok x) → Looks of old new size want Is' (Err faults.NoMemory)
+looks-short Is' (Whole x k made held is) = CutShort End k made held
+
+-- a fault, whatever was asked
+pub looks-fault : {S X Y : Type 0} {of : meaning.Ghosts S} {old new : S} {size : ℕ} {want : List Bool}
+    {Is : ℕ → List Found → X → Type 0} {fault : SearchFault} (Is' : ℕ → List Found → Y → Type 0)
+    → Looks of old new size want Is (Err fault) → Looks of old new size want Is' (Err fault)
+looks-fault Is' (CutShort place k made held) = CutShort place k made held
+looks-fault Is' (Unasked made held) = Unasked made held
+looks-fault Is' (NoneFree made held) = NoneFree made held
+looks-fault Is' (WornBefore made held worn) = WornBefore made held worn
+looks-fault Is' (WornAfter place k made held worn) = WornAfter place k made held worn
+
+-- a lookup unless a version is known
+pub looked-some : {S X : Type 0} {of : meaning.Ghosts S} {old new : S} {size known : ℕ} {want : List Bool}
+    {Is : ℕ → List Found → X → Type 0} {x : X} → LooksUnless known of old new size want Is (Ok (Some x))
+    → Looks of old new size want (λ version records y. (version ≢ known) × Is version records y) (Ok x)
+looked-some (Looked x looks) = looks
+
+pub looked-none : {S X Y : Type 0} {of : meaning.Ghosts S} {old new : S} {size known : ℕ} {want : List Bool}
+    {Is : ℕ → List Found → X → Type 0} (Is' : ℕ → List Found → Y → Type 0)
+    → LooksUnless known of old new size want Is (Ok None) → LooksUnless known of old new size want Is' (Ok None)
+looked-none Is' (Known f none is made held) = Known f none is made held
+
+pub looked-fault : {S X : Type 0} {of : meaning.Ghosts S} {old new : S} {size known : ℕ} {want : List Bool}
+    {Is : ℕ → List Found → X → Type 0} {fault : SearchFault} → LooksUnless known of old new size want Is (Err fault)
+    → Looks of old new size want Is (Err fault)
+looked-fault (Failed fault looks) = looks
 
 -- where the fetches came to, whatever they gave
 pub any-walked : {S : Type 0} (of : meaning.Ghosts S) (mid then : S) (slot size : ℕ) (want : List Bool)
@@ -134,3 +185,32 @@ module _ {S X : Type 0} {of : meaning.Ghosts S} (size : ℕ) (want : List Bool) 
         (kept_on (of.holds old) (of.holds then) (of.holds new) p.slot p.version
         (held_on (of.holds old) (of.holds mid) (of.holds then) p.slot p.version held any.1.held) kept)
         (worn refl)
+
+  -- where nothing is fetched
+  module _ (joins : (a b c : S) (xs ys : Calls) → Makes of a b xs → Makes of b c ys → Makes of a c (xs ++ ys))
+      (old mid new : S) (p : Pin) (none : Makes of mid mid []) (pinned : IsPinnedFrom of old mid p) where
+    abbrev no_walk : Walked of mid mid p.slot size want (At 0)
+    no_walk = record {
+      pages = [];
+      made = none;
+      are = refl;
+      held = held-same (of.holds mid);
+      bounds = not_raised-same (of.bounds mid);
+    }
+
+    -- the version that was pinned is known
+    pub left_known : (known : ℕ) → p.version ≡ known → Makes of mid new (unpin_calls p.slot (Ok tt))
+        → ((s v : ℕ) → of.holds new s v ↔ (of.holds mid s v × ¬ (p.slot ≡ s)))
+        → LooksUnless known of old new size want Is (Ok None)
+    left_known known is unpin back =
+        Known (record { slot = p.slot; version = p.version; pages = []; free = pinned.free; are = refl }) refl is
+        (joins old mid new (begun_calls p.slot p.version []) (unpin_calls p.slot (Ok tt)) pinned.made unpin)
+        (returned (of.holds old) (of.holds mid) (of.holds new) p.slot p.version pinned.free pinned.held back)
+
+    -- or the service is worn then
+    pub left_worn : (fault : CallFault) → Makes of mid new (unpin_calls p.slot (Err fault))
+        → NeedsNone (unpin_of fault) → ((s v : ℕ) → of.holds new s v ↔ (of.holds mid s v × ¬ ⊥))
+        → (fault ≡ call.Worn → of.worn new) → Looks of old new size want Is (Err (fault_of fault))
+    left_worn fault unpin needs kept worn =
+        looked_worn joins old mid mid new p pinned.made pinned.held pinned.free (λ records n. Unit {0})
+        (Err call.NoMemory) (At 0, no_walk) fault unpin needs kept worn

@@ -2,11 +2,11 @@
 use Rattle.std.proofs.Common.{◌≡◌, ◌++◌, ◌<◌, ◌+◌, ◌∙◌, ap, append-nil, append_assoc, get_or, length, List, [], ◌∷◌, subst, sym, take, ℕ}
 use Rattle.std.proofs.lemmas.List.{map_more}
 use Rattle.std.specs.Arc.{arc_value}
-use Rattle.store_core.specs.Records.{RecordTerm, Shared, found_of, founds}
+use Rattle.store_core.specs.Records.{Shared, found_of, founds}
 use Rattle.store_machine.specs.declared.machine.Found.{Found}
 use Rattle.lookup.specs.Walks.{Saw}
 
-module _ {V : Type 0} (has_seen : V → RecordTerm → V → List Found → Type 0) (given : RecordTerm) where
+module _ {V G : Type 0} (has_seen : V → G → V → List Found → Type 0) (given : G) where
   pub saw-none : (a : V) → Saw has_seen given a a []
   saw-none a start before s = subst (λ (l : List Found). has_seen start given a l) (sym (append-nil before)) s
 

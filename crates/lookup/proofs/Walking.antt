@@ -3,7 +3,7 @@ use Rattle.std.proofs.Common.{◌≡◌, ◌++◌, ◌+◌, ◌∙◌, ap, appen
 use Rattle.std.proofs.lemmas.List.{length-map}
 use Rattle.std.specs.Arc.{arc_value}
 use Rattle.store_core.specs.Calls.{NotRaised, SameHeld, is_worn}
-use Rattle.store_core.specs.Records.{RecordTerm, Shared, found_of, founds}
+use Rattle.store_core.specs.Records.{Shared, found_of, founds}
 use Rattle.store_core.specs.Replies.{fetch_calls}
 use Rattle.store_core.specs.declared.service.Service as meaning
 use Rattle.store_core.specs.declared.words.CallFault.{CallFault}
@@ -21,8 +21,8 @@ use Rattle.lookup.proofs.Paged.{ArePages, fetches_lost, fetches_page, pages_more
 use Rattle.lookup.proofs.Seen.{saw-more, saw-none}
 
 -- the calls so far, each answered by a page, and what was seen of the pages
-pub record Walking {S V : Type 0} (of : meaning.Ghosts S) (has_seen : V → RecordTerm → V → List Found → Type 0)
-    (given : RecordTerm) (old now : S) (first seen : V) (slot size : ℕ) (want : List Bool) (place : Place) (count : ℕ)
+pub record Walking {S V G : Type 0} (of : meaning.Ghosts S) (has_seen : V → G → V → List Found → Type 0)
+    (given : G) (old now : S) (first seen : V) (slot size : ℕ) (want : List Bool) (place : Place) (count : ℕ)
     : Type 0 where
   pub pages : Calls
   pub made : Makes of old now pages
@@ -34,12 +34,12 @@ pub record Walking {S V : Type 0} (of : meaning.Ghosts S) (has_seen : V → Reco
   pub bounds : NotRaised (of.bounds old) (of.bounds now)
 
 -- what all pages gave
-abbrev pub Gave : {V : Type 0} → (V → RecordTerm → V → List Found → Type 0) → RecordTerm → V → V → List Found → ℕ
+abbrev pub Gave : {V G : Type 0} → (V → G → V → List Found → Type 0) → G → V → V → List Found → ℕ
     → Type 0
 Gave has_seen given first seen records n = (n ≡ length records) × Saw has_seen given first seen records
 
-module _ {S V : Type 0} {of : meaning.Ghosts S} (has_seen : V → RecordTerm → V → List Found → Type 0)
-    (given : RecordTerm) (first : V) (slot size : ℕ) (want : List Bool) where
+module _ {S V G : Type 0} {of : meaning.Ghosts S} (has_seen : V → G → V → List Found → Type 0)
+    (given : G) (first : V) (slot size : ℕ) (want : List Bool) where
   pub walking-none : (old : S) → Makes of old old []
       → Walking of has_seen given old old first first slot size want (At 0) 0
   walking-none old made = record {

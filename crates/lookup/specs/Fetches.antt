@@ -1,5 +1,5 @@
 -- For callers: the calls of a lookup, and its answers by them.
-use Rattle.std.specs.Prelude.{◌≡◌, ◌⊎◌, ◌↔◌, ◌++◌, ℕ, Bool, List, [], ◌∷◌, Result, Ok, Err, if◌then◌else◌}
+use Rattle.std.specs.Prelude.{◌≡◌, ◌≢◌, ◌⊎◌, ◌↔◌, ◌++◌, ℕ, Bool, List, [], ◌∷◌, None, Option, Some, Result, Ok, Err, if◌then◌else◌}
 use Rattle.par_search.specs.declared.fault.SearchFault.{SearchFault}
 use Rattle.par_search.specs.declared.fault.SearchFault.TheVariants as faults
 use Rattle.store_core.specs.Calls as core
@@ -71,3 +71,15 @@ pub data Looks {S X : Type 0} (of : meaning.Ghosts S) (old new : S) (size : ℕ)
       (made : Makes of old new (begun_calls f.slot f.version f.pages))
       (held : HeldBesides (of.holds old) f.slot f.version (of.holds new)) (worn : of.worn new)
       → Looks of old new size want Is (Err faults.Worn)
+
+-- The same, unless the version that was pinned is the one that is known: then the pin is given back at once
+pub data LooksUnless {S X : Type 0} (known : ℕ) (of : meaning.Ghosts S) (old new : S) (size : ℕ) (want : List Bool)
+    (Is : ℕ → List Found → X → Type 0) : Result (Option X) SearchFault → Type 0 where
+  Known : (f : Fetches (of.holds old) size want (At 0)) (none : f.pages ≡ []) (is : f.version ≡ known)
+      (made : Makes of old new (lookup_calls f.slot f.version f.pages)) (held : SameHeld (of.holds old) (of.holds new))
+      → LooksUnless known of old new size want Is (Ok None)
+  Looked : (x : X) (looks : Looks of old new size want
+      (λ version records y. (version ≢ known) × Is version records y) (Ok x))
+      → LooksUnless known of old new size want Is (Ok (Some x))
+  Failed : (fault : SearchFault) (looks : Looks of old new size want Is (Err fault))
+      → LooksUnless known of old new size want Is (Err fault)

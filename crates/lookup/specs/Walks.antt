@@ -1,18 +1,25 @@
 -- For private clauses alone: the fetches of a lookup under way, and what a visitor keeps of the records that it saw.
-use Rattle.std.specs.Prelude.{◌≡◌, ◌++◌, Bool, List, Result, Ok, Err, ℕ}
+use Rattle.std.specs.Prelude.{◌≡◌, ◌++◌, [], Bool, List, Result, Ok, Err, ℕ}
 use Rattle.chem_core.specs.Molecule.{IsMolecule, Molecule}
 use Rattle.exact_find.specs.Key.{IsKey}
 use Rattle.exact_find.specs.declared.key.Key.{Key}
 use Rattle.lookup.specs.Asked.{ArePicked, AreScored, IsSameAs}
-use Rattle.lookup.specs.Fetches.{AreFetches, Calls, Makes}
+use Rattle.lookup.specs.Fetches.{AreFetches, Calls, HeldBesides, Makes, begun_calls}
 use Rattle.similar_find.specs.Board.{AreOffers, Board, IsBest, Offer}
+use Rattle.snap_registry.specs.declared.Pin.{Pin}
 use Rattle.store_core.specs.Calls.{NotRaised, SameHeld}
-use Rattle.store_core.specs.Records.{RecordTerm}
 use Rattle.store_core.specs.declared.service.Service as meaning
 use Rattle.store_core.specs.declared.words.CallFault.{CallFault}
 use Rattle.store_core.specs.declared.words.CallFault.TheVariants as call
 use Rattle.store_machine.specs.Searches.{Place, At, End, fetched, records_of}
 use Rattle.store_machine.specs.declared.machine.Found.{Found}
+
+-- the head was pinned, in a slot that held no pin
+pub record IsPinnedFrom {S : Type 0} (of : meaning.Ghosts S) (old new : S) (p : Pin) : Type 0 where
+  pub made : Makes of old new (begun_calls p.slot p.version [])
+  pub held : HeldBesides (of.holds old) p.slot p.version (of.holds new)
+  pub free : (other : ℕ) → of.holds old p.slot other → ⊥
+  pub bounds : NotRaised (of.bounds old) (of.bounds new)
 
 -- fetches of a pin were made, from the beginning to a place; the same pins are held, and no bound is raised
 pub record Walked {S : Type 0} (of : meaning.Ghosts S) (old new : S) (slot size : ℕ) (want : List Bool) (place : Place)
@@ -33,7 +40,7 @@ Walks of old new slot size want Is (Err call.Worn) =
     (place : Place) × Walked of old new slot size want place × of.worn new
 
 -- from one visitor to a later one these records were seen, behind any others
-abbrev pub Saw : {V : Type 0} → (V → RecordTerm → V → List Found → Type 0) → RecordTerm → V → V → List Found → Type 0
+abbrev pub Saw : {V G : Type 0} → (V → G → V → List Found → Type 0) → G → V → V → List Found → Type 0
 Saw {V} has_seen given old new records = (start : V) (before : List Found) → has_seen start given old before
     → has_seen start given new (before ++ records)
 

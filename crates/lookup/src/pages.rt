@@ -1,11 +1,11 @@
 //! The pages of one pin, each record of which is shown to a visitor.
-ghost use Rattle.std.specs.Prelude.{◌≡◌, ◌≤◌, ◌∷◌, [], List, OnOk, length};
+ghost use Rattle.std.specs.Prelude.{◌≡◌, ◌≢◌, ◌≤◌, ◌∷◌, [], List, OnOk, length};
 ghost use Rattle.store_core.specs.Calls.{NotRaised};
-ghost use Rattle.store_core.specs.Records.{RecordTerm, found_of, founds};
+ghost use Rattle.store_core.specs.Records.{found_of, founds};
 ghost use Rattle.store_machine.specs.Searches.{past};
 ghost use Rattle.store_machine.specs.declared.machine.Found.{Found};
-ghost use Rattle.lookup.specs.Fetches.{Looks};
-ghost use Rattle.lookup.specs.Walks.{Saw, Walks};
+ghost use Rattle.lookup.specs.Fetches.{Looks, LooksUnless};
+ghost use Rattle.lookup.specs.Walks.{IsPinnedFrom, Saw, Walks};
 
 use chem_core::Print;
 use par_search::{SearchFault, fetch};
@@ -14,13 +14,17 @@ use std::alloc::{AllocError, Global};
 use std::sync::Arc;
 use store_core::{CallFault, MOST_COMMITS, Page, Record, Service};
 
-/// What looks at records, one after another, beside a given one.
-pub trait Visit {
+/// What looks at records, one after another, beside a given record or pattern.
+pub trait Visit<G> {
+    /// What it may be given.
+    ghost may_be: { G → Type 0 };
+
     /// What it is once it has seen these, where it was the first of the two.
-    ghost has_seen: { Self → RecordTerm → Self → List Found → Type 0 };
+    ghost has_seen: { Self → G → Self → List Found → Type 0 };
 
     /// Looks at one record more.
-    fn see(&mut self, given: &Record, other: &Record) -> Result<(), AllocError>
+    fn see(&mut self, given: &G, other: &Record) -> Result<(), AllocError>
+        requires { may_be given.now }
         ensures { OnOk result (Saw has_seen given.now self.old self.new (found_of other.now ∷ [])) };
 }
 
@@ -33,16 +37,17 @@ pub struct Seen {
 
 /// Shows a visitor all records of the head whose print holds what is wanted, ascending, by pages of a size: a pin,
 /// fetches, and the pin is given back. The page's memory is taken first.
-pub fn see_head<S: Service, V: Visit>(
+pub fn see_head<S: Service, G, V: Visit<G>>(
     alloc: Global,
     service: &mut S,
-    given: &Record,
+    given: &G,
     want: &Print,
     size: u32,
     visitor: &mut V,
 ) -> Result<Seen, SearchFault>
     requires some { 1 ≤ size }
     requires few { size ≤ 256 }
+    requires given { V.may_be given.now }
     ensures looks { Looks S.Service service.old service.new size want.now
         (λ version records seen. (seen.version ≡ version) × (seen.count ≡ length records)
         × Saw V.has_seen given.now visitor.old visitor.new records) result }
@@ -56,8 +61,72 @@ pub fn see_head<S: Service, V: Visit>(
         Ok(None) => return Err(SearchFault::Pins),
         Err(fault) => return Err(SearchFault::from(fault)),
     };
+    see_pinned(service, pin, given, want, size, &mut page, visitor)
+}
+
+/// The same, unless the version that is pinned is the one that is known: then the pin is given back at once, and there
+/// is nothing to show.
+pub fn see_newer<S: Service, G, V: Visit<G>>(
+    alloc: Global,
+    service: &mut S,
+    given: &G,
+    want: &Print,
+    size: u32,
+    known: u32,
+    visitor: &mut V,
+) -> Result<Option<Seen>, SearchFault>
+    requires some { 1 ≤ size }
+    requires few { size ≤ 256 }
+    requires given { V.may_be given.now }
+    ensures looks { LooksUnless known S.Service service.old service.new size want.now
+        (λ version records seen. (seen.version ≡ version) × (seen.count ≡ length records)
+        × Saw V.has_seen given.now visitor.old visitor.new records) result }
+    ensures bounds { NotRaised (S.bounds service.old) (S.bounds service.new) }
+{
+    let Ok(mut page) = Page::reserve(alloc, size) else {
+        return Err(SearchFault::NoMemory);
+    };
+    let pin = match service.pin() {
+        Ok(Some(pin)) => pin,
+        Ok(None) => return Err(SearchFault::Pins),
+        Err(fault) => return Err(SearchFault::from(fault)),
+    };
+    let is_known = pin.version == known;
+    if is_known {
+        match service.unpin(pin) {
+            Ok(()) => return Ok(None),
+            Err(fault) => return Err(SearchFault::from(fault)),
+        }
+    }
+    match see_pinned(service, pin, given, want, size, &mut page, visitor) {
+        Ok(seen) => Ok(Some(seen)),
+        Err(fault) => Err(fault),
+    }
+}
+
+// From the pin on.
+fn see_pinned<S: Service, G, V: Visit<G>>(
+    service: &mut S,
+    pin: Pin,
+    given: &G,
+    want: &Print,
+    size: u32,
+    page: &mut Page,
+    visitor: &mut V,
+) -> Result<Seen, SearchFault>
+    requires held { S.holds service.old pin.slot pin.version }
+    requires some { 1 ≤ size }
+    requires few { size ≤ 256 }
+    requires room { size ≤ page.old.room }
+    requires given { V.may_be given.now }
+    ensures looks { (before : S) → IsPinnedFrom S.Service before service.old pin
+        → Looks S.Service before service.new size want.now
+        (λ version records seen. (version ≡ pin.version) × (seen.version ≡ version) × (seen.count ≡ length records)
+        × Saw V.has_seen given.now visitor.old visitor.new records) result }
+    ensures bounds { NotRaised (S.bounds service.old) (S.bounds service.new) }
+{
     let version = pin.version;
-    let seen = see_pages(service, &pin, given, want, size, &mut page, visitor);
+    let seen = see_pages(service, &pin, given, want, size, page, visitor);
     match service.unpin(pin) {
         Ok(()) => {}
         Err(fault) => return Err(SearchFault::from(fault)),
@@ -69,10 +138,10 @@ pub fn see_head<S: Service, V: Visit>(
 }
 
 // Shows the records of all pages, and answers how many there were. A store has no more pages than commits.
-fn see_pages<S: Service, V: Visit>(
+fn see_pages<S: Service, G, V: Visit<G>>(
     service: &mut S,
     pin: &Pin,
-    given: &Record,
+    given: &G,
     want: &Print,
     size: u32,
     page: &mut Page,
@@ -82,6 +151,7 @@ fn see_pages<S: Service, V: Visit>(
     requires some { 1 ≤ size }
     requires few { size ≤ 256 }
     requires room { size ≤ page.old.room }
+    requires given { V.may_be given.now }
     ensures { Walks S.Service service.old service.new pin.now.slot size want.now
         (λ records n. (n ≡ length records) × Saw V.has_seen given.now visitor.old visitor.new records)
         result }
@@ -107,11 +177,12 @@ fn see_pages<S: Service, V: Visit>(
 }
 
 // Shows the records of a page.
-fn see_all<V: Visit>(
-    given: &Record,
+fn see_all<G, V: Visit<G>>(
+    given: &G,
     records: &[Arc<Record>],
     visitor: &mut V,
 ) -> Result<(), AllocError>
+    requires { V.may_be given.now }
     ensures { OnOk result (Saw V.has_seen given.now visitor.old visitor.new (founds records.now)) }
 {
     for record in records {

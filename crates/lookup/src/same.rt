@@ -97,8 +97,10 @@ impl Sames {
     }
 }
 
-impl Visit for Sames {
+impl Visit<Record> for Sames {
     ghost use Rattle.lookup.specs.Walks.{HasPicked};
+
+    ghost may_be = { λ _. Unit {0} };
 
     ghost has_seen = { λ _ given sames records. HasPicked given.mol sames.key records sames.hits.items };
 

@@ -65,8 +65,10 @@ struct Likes {
     best: Best,
 }
 
-impl Visit for Likes {
+impl Visit<Record> for Likes {
     ghost use Rattle.lookup.specs.Walks.{HasOffered};
+
+    ghost may_be = { λ _. Unit {0} };
 
     ghost has_seen = { λ start given likes records. HasOffered start.best given.print records likes.best };
 

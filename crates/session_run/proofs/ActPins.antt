@@ -1,16 +1,18 @@
 -- What an act does to the pins of the open cursors, and leaves of others.
-use Rattle.std.proofs.Common.{◌++◌, List, [], ◌∷◌, subst, sym, ℕ}
+use Rattle.std.proofs.Common.{◌++◌, inl, inr, List, [], ◌∷◌, subst, sym, ℕ}
 use Rattle.smarts_parse.specs.Pattern.{PatternTerm}
 use Rattle.store_core.specs.Calls.{SameHeld}
 use Rattle.store_machine.specs.declared.machine.Event.TheVariants as events
-use Rattle.session_run.specs.Acts.{Act, Asks, Closed, Does, FoundData, Lines, ListedSame, ListedSimilar, Opened, RegisteredEach, RegisteredNew, Says, Searched, Searches, Turned}
+use Rattle.session_run.specs.Acts.{Act, Asks, Closed, Does, DoesAll, DoesWatch, FoundData, Lines, ListedSame, ListedSimilar, Opened, RegisteredEach, RegisteredNew, Says, Searched, Searches, Turned}
 use Rattle.session_run.specs.Cursors.{Calls, Cursor}
 use Rattle.session_run.specs.Dialogue.{AreExchanged, Exchange}
 use Rattle.session_run.specs.Pins.{AreApart, AreHeld, HeldAfter, HeldBy, Returns, SameOthers}
+use Rattle.session_run.specs.Watching.{Standing, Watched}
 use Rattle.session_run.proofs.Acts.{quiet_ask, quiet_data, quiet_each}
 use Rattle.session_run.proofs.Held.{after-append, apart-parts, held-added, held-moved, held-same, held-without, leave-same, others-added, others-moved, others-without, same_held, same_others, same_others-more}
 use Rattle.session_run.proofs.LookedUp.{fetches_leave, looked_held, new_looks, pin_returned, same_looks, similar_looks}
 use Rattle.session_run.proofs.Passing.{advances_fetch, advances_same}
+use Rattle.session_run.proofs.WatchActs.{watch_looks}
 
 -- a search gives its pin back
 search_same : (a : ℕ → ℕ → Type 0) (size : ℕ) (pattern : PatternTerm) (calls : Calls) (lines : Lines)
@@ -84,14 +86,39 @@ act_others a (Closed name before after c named) apart =
     subst (λ (l : List Cursor). SameOthers a l (HeldBy a (Returns c.slot)) (before ++ after)) (sym named.place)
     (others-without a before after c)
 
+-- of all acts
+watch_same : {size : ℕ} {w w' : List Watched} {act : Act} {calls : Calls} {lines : Lines} (a : ℕ → ℕ → Type 0)
+    → DoesWatch size w act calls lines w' → AreApart a calls → SameHeld a (HeldAfter a calls)
+watch_same {calls = calls} a d apart = elim (watch_looks d) [
+  | inl e ↦ subst (λ (cs : Calls). SameHeld a (HeldAfter a cs)) (sym e) (same_held a)
+  | inr l ↦ looked_held a l apart
+]
+
+pub all_held : {size : ℕ} {standing standing' : Standing} {act : Act} {calls : Calls} {lines : Lines}
+    (a : ℕ → ℕ → Type 0) → DoesAll size standing act calls lines standing' → AreApart a calls
+    → AreHeld a standing.cursors → AreHeld (HeldAfter a calls) standing'.cursors
+all_held a (inl d) apart h = act_held a d.0 apart h
+all_held {standing = standing} {calls = calls} a (inr d) apart h =
+    subst (AreHeld (HeldAfter a calls)) (sym d.1)
+    (held-same a (HeldAfter a calls) standing.cursors (watch_same a d.0 apart) h)
+
+pub all_others : {size : ℕ} {standing standing' : Standing} {act : Act} {calls : Calls} {lines : Lines}
+    (a : ℕ → ℕ → Type 0) → DoesAll size standing act calls lines standing' → AreApart a calls
+    → SameOthers a standing.cursors (HeldAfter a calls) standing'.cursors
+all_others a (inl d) apart = act_others a d.0 apart
+all_others {standing = standing} {calls = calls} a (inr d) apart =
+    subst (λ (l : List Cursor). SameOthers a standing.cursors (HeldAfter a calls) l) (sym d.1)
+    (same_others a (HeldAfter a calls) standing.cursors (watch_same a d.0 apart))
+
 -- those of a dialogue
-pub dialogue_held : (a : ℕ → ℕ → Type 0) (size : ℕ) (xs : List Exchange) (calls : Calls) (cursors cursors' : List Cursor)
-    → AreExchanged size cursors xs calls cursors' → AreApart a calls → AreHeld a cursors
-    → AreHeld (HeldAfter a calls) cursors'
-dialogue_held a size [] calls cursors cursors' x apart h =
-    subst (λ (cs : Calls). AreHeld (HeldAfter a cs) cursors') (sym x.0) (subst (AreHeld a) (sym x.1) h)
-dialogue_held a size (x ∷ xs) calls cursors cursors' d apart h =
+pub dialogue_held : (a : ℕ → ℕ → Type 0) (size : ℕ) (xs : List Exchange) (calls : Calls) (standing standing' : Standing)
+    → AreExchanged size standing xs calls standing' → AreApart a calls → AreHeld a standing.cursors
+    → AreHeld (HeldAfter a calls) standing'.cursors
+dialogue_held a size [] calls standing standing' x apart h =
+    subst (λ (cs : Calls). AreHeld (HeldAfter a cs) standing'.cursors) (sym x.0)
+    (subst (λ (k : Standing). AreHeld a k.cursors) (sym x.1) h)
+dialogue_held a size (x ∷ xs) calls standing standing' d apart h =
     let parts = apart-parts a d.0 d.1 (subst (AreApart a) d.4 apart) in
-    subst (λ (cs : Calls). AreHeld (HeldAfter a cs) cursors') (sym d.4)
-    (subst (λ (f : ℕ → ℕ → Type 0). AreHeld f cursors') (sym (after-append a d.0 d.1))
-    (dialogue_held (HeldAfter a d.0) size xs d.1 d.2 cursors' d.5 parts.1 (act_held a d.3.does parts.0 h)))
+    subst (λ (cs : Calls). AreHeld (HeldAfter a cs) standing'.cursors) (sym d.4)
+    (subst (λ (f : ℕ → ℕ → Type 0). AreHeld f standing'.cursors) (sym (after-append a d.0 d.1))
+    (dialogue_held (HeldAfter a d.0) size xs d.1 d.2 standing' d.5 parts.1 (all_held a d.3.does parts.0 h)))

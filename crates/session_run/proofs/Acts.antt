@@ -13,15 +13,16 @@ use Rattle.store_machine.specs.declared.machine.Status.{Status}
 use Rattle.store_machine.specs.declared.machine.Status.TheVariants as status
 use Rattle.store_machine.specs.Told.{IsTold, TellsVersion}
 use Rattle.session_run.specs.Acts.{Act, Allows, AnswersBy, Fault, Faults, IsDataLine, IsLineOf, Lines, Note, Refused, Refuses, RegistersEach, Replies, RequestAllows, Say, Silence, data_line, item_line, note_lines, shown}
-use Rattle.session_run.specs.Cursors.{Calls, Cursor}
+use Rattle.session_run.specs.Cursors.{Calls}
 use Rattle.session_run.specs.Dialogue.{IsCommand, IsShownIn, ShowsVersion, hits_in}
 use Rattle.session_run.specs.Requests.{Request}
 use Rattle.session_run.specs.Pins.{Leaves, effect}
 use Rattle.session_run.specs.Records.{counted, data_of}
+use Rattle.session_run.specs.Watching.{Standing}
 use Rattle.session_run.proofs.Held.{Leave}
 use Rattle.session_run.proofs.Passing.{PassBy, none_in, one_in, passes-append}
 
--- lines that are of no search, no cursor and no lookup of what is similar
+-- lines that are of no search, no cursor, no watch and no lookup of what is similar
 abbrev pub IsPlainLine : line.Reply → Type 0
 IsPlainLine (line.Hit id) = ⊥
 IsPlainLine (line.End version tried hits) = ⊥
@@ -29,6 +30,8 @@ IsPlainLine (line.Like id c u) = ⊥
 IsPlainLine (line.Scored version scored hits) = ⊥
 IsPlainLine (line.Opened version) = ⊥
 IsPlainLine line.More = ⊥
+IsPlainLine (line.Watching version hits) = ⊥
+IsPlainLine (line.EndWatched version hits rebuilt) = ⊥
 IsPlainLine _ = Unit {0}
 
 -- calls that leave all pins, and plain lines, which show no version but what was told
@@ -208,30 +211,30 @@ abbrev pub OneReading : Type 0
 OneReading = (text : List ℕ) (a b : Result Command LineRefusal) → IsLine text a → IsLine text b → a ≡ b
 
 -- the act is one of the command's, unless it only says something
-abbrev pub Fits : List Cursor → List TextLine → Command → Act → Type 0
-Fits cursors more order (Say note) = Unit {0}
-Fits cursors more order act = Allows cursors more (Ok order) act
+abbrev pub Fits : Standing → List TextLine → Command → Act → Type 0
+Fits standing more order (Say note) = Unit {0}
+Fits standing more order act = Allows standing more (Ok order) act
 
-fits_say : (cursors : List Cursor) (more : List TextLine) (order : Command) (act : Act) (note : Note) → act ≡ Say note
-    → Fits cursors more order act
-fits_say cursors more order act note e = subst (Fits cursors more order) (sym e) tt
+fits_say : (standing : Standing) (more : List TextLine) (order : Command) (act : Act) (note : Note) → act ≡ Say note
+    → Fits standing more order act
+fits_say standing more order act note e = subst (Fits standing more order) (sym e) tt
 
-fits_all : (cursors : List Cursor) (more : List TextLine) (order : Command) (act : Act)
-    → Allows cursors more (Ok order) act → Fits cursors more order act
-fits_all cursors more order (Say note) a = tt
-fits_all cursors more order _ a = a
+fits_all : (standing : Standing) (more : List TextLine) (order : Command) (act : Act)
+    → Allows standing more (Ok order) act → Fits standing more order act
+fits_all standing more order (Say note) a = tt
+fits_all standing more order _ a = a
 
-pub fits : OneReading → (cursors : List Cursor) (request : Request) (act : Act) (order : Command)
-    → RequestAllows cursors request act → IsCommand request order
-    → Fits cursors request.more order act
-fits reading cursors request act order (inl a) is =
-    fits_say cursors request.more order act _ a.1
-fits reading cursors request act order (inr (short, text, e, read, line, a)) is =
+pub fits : OneReading → (standing : Standing) (request : Request) (act : Act) (order : Command)
+    → RequestAllows standing request act → IsCommand request order
+    → Fits standing request.more order act
+fits reading standing request act order (inl a) is =
+    fits_say standing request.more order act _ a.1
+fits reading standing request act order (inr (short, text, e, read, line, a)) is =
     let same : is.0 ≡ text = one_text is.0 text (sym is.1 ∙ e) in
     let one : read ≡ Ok order =
     reading text read (Ok order) line (subst (λ (t : List ℕ). IsLine t (Ok order)) same is.2) in
-    fits_all cursors request.more order act
-    (subst (λ (r : Result Command LineRefusal). Allows cursors request.more r act) one a)
+    fits_all standing request.more order act
+    (subst (λ (r : Result Command LineRefusal). Allows standing request.more r act) one a)
   where
     one_text : (a b : List ℕ) → Whole a ≡ Whole b → a ≡ b
     one_text a b e = cc

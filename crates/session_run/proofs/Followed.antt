@@ -10,22 +10,24 @@ use Rattle.store_machine.specs.Searches.{At, Place}
 use Rattle.store_machine.specs.Structures.{IsNeedOf}
 use Rattle.store_machine.specs.declared.machine.Event.TheVariants as events
 use Rattle.store_machine.specs.declared.machine.Reply.TheVariants as replies
-use Rattle.session_run.specs.Acts.{Act, Advances, Allows, Asks, Close, Closed, Does, FoundData, Lines, ListedSame, ListedSimilar, Opened, RegisteredEach, RegisteredNew, RequestAllows, Says, Searched, Searches, Turn, Turned, new_cursor}
+use Rattle.session_run.specs.Acts.{Act, Advances, Allows, Asks, Close, Closed, Does, DoesAll, FoundData, Lines, ListedSame, ListedSimilar, Opened, RegisteredEach, RegisteredNew, RequestAllows, Says, Searched, Searches, Turn, Turned, new_cursor}
 use Rattle.session_run.specs.Cursors.{Calls, Cursor, IsNoName}
 use Rattle.session_run.specs.Dialogue.{AreExchanged, AreListed, AreTurned, Exchange, IsCommand, StaysOpen, hits_in}
 use Rattle.session_run.specs.Pins.{AreHeld, HeldAfter}
 use Rattle.session_run.specs.Requests.{Request}
+use Rattle.session_run.specs.Watching.{Standing}
 use Rattle.session_run.proofs.Acts.{OneReading, fits, quiet_ask, quiet_data, quiet_each, quiet_note}
 use Rattle.session_run.proofs.LookedUp.{IsLookup, looked_first, looked_pass, new_looks, same_looks, similar_looks}
 use Rattle.session_run.proofs.Passing.{IsOpen, IsTurn, PassBy, advances_fetch, advances_same, fetches_pass, open_advances, open_passes, passes-append}
+use Rattle.session_run.proofs.WatchActs.{next_apart, watch_is, watch_looks}
 use Rattle.session_run.proofs.Pinned.{AreFree, IsPinned, grouped, new_slot, next_calls, none, pinned}
 
 -- the command of a request that turns a page or closes a cursor
-pub turn_command : (cursors : List Cursor) (request : Request) (own : List ℕ) → RequestAllows cursors request (Turn own)
+pub turn_command : (standing : Standing) (request : Request) (own : List ℕ) → RequestAllows standing request (Turn own)
     → IsCommand request (command.Next own)
-turn_command cursors request own (inl a) = cc
-turn_command cursors request own (inr (short, text, e, read, line, a)) = by read line a where
-  by : (read : Result Command LineRefusal) → IsLine text read → Allows cursors request.more read (Turn own)
+turn_command standing request own (inl a) = cc
+turn_command standing request own (inr (short, text, e, read, line, a)) = by read line a where
+  by : (read : Result Command LineRefusal) → IsLine text read → Allows standing request.more read (Turn own)
       → IsCommand request (command.Next own)
   by (Err refusal) line a = cc
   by (Ok command.Empty) line a = cc
@@ -34,11 +36,11 @@ turn_command cursors request own (inr (short, text, e, read, line, a)) = by read
       (text, e, subst (λ (n : List ℕ). IsLine text (Ok (command.Next n))) (sym a) line)
   by (Ok _) line a = absurd a
 
-close_command : (cursors : List Cursor) (request : Request) (own : List ℕ) → RequestAllows cursors request (Close own)
+close_command : (standing : Standing) (request : Request) (own : List ℕ) → RequestAllows standing request (Close own)
     → IsCommand request (command.Close own)
-close_command cursors request own (inl a) = cc
-close_command cursors request own (inr (short, text, e, read, line, a)) = by read line a where
-  by : (read : Result Command LineRefusal) → IsLine text read → Allows cursors request.more read (Close own)
+close_command standing request own (inl a) = cc
+close_command standing request own (inr (short, text, e, read, line, a)) = by read line a where
+  by : (read : Result Command LineRefusal) → IsLine text read → Allows standing request.more read (Close own)
       → IsCommand request (command.Close own)
   by (Err refusal) line a = cc
   by (Ok command.Empty) line a = cc
@@ -290,46 +292,46 @@ module _ (reading : OneReading) (whole : Calls) (free : AreFree whole) (size : �
       (looked_pass f.c.slot l (new_slot _ _ free first (pinned_so f.open_since)))
 
   -- after an act that does not close it
-  follow : (calls its later : Calls) (cursors cursors' : List Cursor) (request : Request) (lines : Lines)
-      (hits more : List ℕ) (act : Act) → whole ≡ calls ++ (its ++ later) → RequestAllows cursors request act
+  follow : (calls its later : Calls) (standing : Standing) (cursors cursors' : List Cursor) (request : Request) (lines : Lines)
+      (hits more : List ℕ) (act : Act) → whole ≡ calls ++ (its ++ later) → RequestAllows standing request act
       → Does size cursors act its lines cursors' → ¬ IsCommand request (command.Close name)
       → Adds name request lines more → (f : Follows size calls cursors name pattern version hits)
       → Goes (calls ++ its) cursors' request lines (hits ++ more) f.turned f.c.place
-  follow calls its later cursors cursors' request lines hits more act w a (Says note) close adds f =
+  follow calls its later standing cursors cursors' request lines hits more act w a (Says note) close adds f =
       let q = quiet_note note in
       stays its cursors request lines more f f.front f.back f.among f.left f.right adds q.hits
       (λ is m. q.plain line.More m) (q.pass f.c.slot)
-  follow calls its later cursors cursors' request lines hits more act w a (Asks event reply said is) close adds f =
+  follow calls its later standing cursors cursors' request lines hits more act w a (Asks event reply said is) close adds f =
       let q = quiet_ask event reply said is in
       stays its cursors request lines more f f.front f.back f.among f.left f.right adds q.hits
       (λ is m. q.plain line.More m) (q.pass f.c.slot)
-  follow calls its later cursors cursors' request lines hits more act w a (RegisteredEach id records own said each)
+  follow calls its later standing cursors cursors' request lines hits more act w a (RegisteredEach id records own said each)
       close adds f =
       let q = quiet_each id 0 records its lines each in
       stays its cursors request lines more f f.front f.back f.among f.left f.right adds q.hits
       (λ is m. q.plain line.More m) (q.pass f.c.slot)
-  follow calls its later cursors cursors' request lines hits more act w a (FoundData id named reply said is) close adds f =
+  follow calls its later standing cursors cursors' request lines hits more act w a (FoundData id named reply said is) close adds f =
       let q = quiet_data id named reply said is in
       stays its cursors request lines more f f.front f.back f.among f.left f.right adds q.hits
       (λ is m. q.plain line.More m) (q.pass f.c.slot)
-  follow calls its later cursors cursors' request lines hits more act w a (Searched p own said s) close adds f =
+  follow calls its later standing cursors cursors' request lines hits more act w a (Searched p own said s) close adds f =
       let first : whole ≡ calls ++ (events.Pin, replies.Pinned s.slot s.version) ∷ _ =
       w ∙ ap (λ (l : Calls). calls ++ (l ++ later)) s.made in
       passed its cursors request lines more f f.front f.back f.among f.left f.right adds
-      (fits reading cursors request act (command.Next name) a)
+      (fits reading standing request act (command.Next name) a)
       (search_passes size f.c.slot p its lines s (new_slot _ _ free first (pinned_so f.open_since)))
-  follow calls its later cursors cursors' request lines hits more act w a (ListedSame m print own said s) close adds f =
-      looked calls its later request lines hits more w (fits reading cursors request act (command.Next name) a)
+  follow calls its later standing cursors cursors' request lines hits more act w a (ListedSame m print own said s) close adds f =
+      looked calls its later request lines hits more w (fits reading standing request act (command.Next name) a)
       (same_looks s) adds f
-  follow calls its later cursors cursors' request lines hits more act w a (RegisteredNew change m print own said s)
+  follow calls its later standing cursors cursors' request lines hits more act w a (RegisteredNew change m print own said s)
       close adds f =
-      looked calls its later request lines hits more w (fits reading cursors request act (command.Next name) a)
+      looked calls its later request lines hits more w (fits reading standing request act (command.Next name) a)
       (new_looks s) adds f
-  follow calls its later cursors cursors' request lines hits more act w a (ListedSimilar p q n print own said s)
+  follow calls its later standing cursors cursors' request lines hits more act w a (ListedSimilar p q n print own said s)
       close adds f =
-      looked calls its later request lines hits more w (fits reading cursors request act (command.Next name) a)
+      looked calls its later request lines hits more w (fits reading standing request act (command.Next name) a)
       (similar_looks s) adds f
-  follow calls its later cursors cursors' request lines hits more act w a (Opened own p want slot v new need) close
+  follow calls its later standing cursors cursors' request lines hits more act w a (Opened own p want slot v new need) close
       adds f =
       let d = new_cursor own p want slot v in
       let apart : ¬ (f.c.slot ≡ slot) = new_slot _ _ free w (pinned_so f.open_since) in
@@ -339,14 +341,14 @@ module _ (reading : OneReading) (whole : Calls) (free : AreFree whole) (size : �
       passed its cursors' request lines more f f.front (f.back ++ d ∷ [])
       (ap (λ (l : List Cursor). l ++ d ∷ []) f.among ∙ append_assoc f.front (f.c ∷ f.back) (d ∷ [])) f.left
       (others_both name f.c.slot f.back (d ∷ []) f.right (another, (λ e. apart (sym e)), tt)) adds
-      (fits reading cursors request act (command.Next name) a) (refl, refl, tt)
-  follow calls its later cursors cursors' request lines hits more act w a
+      (fits reading standing request act (command.Next name) a) (refl, refl, tt)
+  follow calls its later standing cursors cursors' request lines hits more act w a
       (Turned own before after d d' these said at advances) close adds f =
       elim (places name f.c.slot f.front f.back before after f.c d f.left f.right (sym f.among ∙ at.place)) [
         | inl s ↦
             let here : IsCommand request (command.Next name) =
             subst (λ (l : List ℕ). IsCommand request (command.Next l))
-            (sym at.named ∙ (ap (λ (x : Cursor). x.name) (sym s.1) ∙ f.named)) (turn_command cursors request own a) in
+            (sym at.named ∙ (ap (λ (x : Cursor). x.name) (sym s.1) ∙ f.named)) (turn_command standing request own a) in
             subst (λ (l : List Cursor). Goes (calls ++ its) l request lines (hits ++ more) f.turned f.c.place)
             (ap₂ (λ (l m : List Cursor). l ++ d' ∷ m) s.0 s.2)
             (goes_on its request lines more f d' here (adds_all name request lines more adds here)
@@ -357,49 +359,68 @@ module _ (reading : OneReading) (whole : Calls) (free : AreFree whole) (size : �
             let m = k.again (d' ∷ [])
             ((λ e. k.name_apart (sym same.name ∙ e)), (λ e. k.slot_apart (sym same.slot ∙ e)), tt) in
             passed its cursors' request lines more f m.0 m.1 m.2 m.3 m.4 adds
-            (λ q. k.name_apart (at.named ∙ fits reading cursors request act (command.Next name) a q))
+            (λ q. k.name_apart (at.named ∙ fits reading standing request act (command.Next name) a q))
             (fetches_pass d.slot size f.c.slot d.want d.place fetches.0 its k.slot_apart fetches.1)
       ]
-  follow calls its later cursors cursors' request lines hits more act w a (Closed own before after d at) close adds f =
+  follow calls its later standing cursors cursors' request lines hits more act w a (Closed own before after d at) close adds f =
       elim (places name f.c.slot f.front f.back before after f.c d f.left f.right (sym f.among ∙ at.place)) [
         | inl s ↦ absurd (close
             (subst (λ (l : List ℕ). IsCommand request (command.Close l))
-            (sym at.named ∙ (ap (λ (x : Cursor). x.name) (sym s.1) ∙ f.named)) (close_command cursors request own a)))
+            (sym at.named ∙ (ap (λ (x : Cursor). x.name) (sym s.1) ∙ f.named)) (close_command standing request own a)))
         | inr k ↦
             let m = k.again [] tt in
             passed its cursors' request lines more f m.0 m.1 m.2 m.3 m.4 adds
-            (fits reading cursors request act (command.Next name) a)
+            (fits reading standing request act (command.Next name) a)
             (ne_eqb d.slot f.c.slot k.slot_apart, refl, tt)
       ]
 
+  -- after any act
+  follow_any : (calls its later : Calls) (standing standing' : Standing) (request : Request) (lines : Lines)
+      (hits more : List ℕ) (act : Act) → whole ≡ calls ++ (its ++ later) → RequestAllows standing request act
+      → DoesAll size standing act its lines standing' → ¬ IsCommand request (command.Close name)
+      → Adds name request lines more → (f : Follows size calls standing.cursors name pattern version hits)
+      → Goes (calls ++ its) standing'.cursors request lines (hits ++ more) f.turned f.c.place
+  follow_any calls its later standing standing' request lines hits more act w a (inl d) close adds f =
+      follow calls its later standing standing.cursors standing'.cursors request lines hits more act w a d.0 close adds f
+  follow_any calls its later standing standing' request lines hits more act w a (inr d) close adds f =
+      let other : ¬ IsCommand request (command.Next name) =
+      λ is. next_apart standing request.more name act (fits reading standing request act (command.Next name) a is)
+      (watch_is d.0) in
+      subst (λ (l : List Cursor). Goes (calls ++ its) l request lines (hits ++ more) f.turned f.c.place) (sym d.1)
+      (elim (watch_looks d.0) [
+        | inl e ↦ passed its standing.cursors request lines more f f.front f.back f.among f.left f.right adds other
+            (subst (PassBy f.c.slot) (sym e) tt)
+        | inr l ↦ looked calls its later request lines hits more w other l adds f
+      ])
+
   -- through a dialogue
-  pub follow_all : (xs : List Exchange) (calls its later : Calls) (cursors cursors' : List Cursor) (hits more : List ℕ)
+  pub follow_all : (xs : List Exchange) (calls its later : Calls) (standing standing' : Standing) (hits more : List ℕ)
       → whole ≡ calls ++ (its ++ later)
-      → AreExchanged size cursors xs its cursors' → StaysOpen name xs → AreListed name xs more
-      → Follows size calls cursors name pattern version hits
-      → Follows size (calls ++ its) cursors' name pattern version (hits ++ more)
-  follow_all [] calls its later cursors cursors' hits more w a kept listed f =
+      → AreExchanged size standing xs its standing' → StaysOpen name xs → AreListed name xs more
+      → Follows size calls standing.cursors name pattern version hits
+      → Follows size (calls ++ its) standing'.cursors name pattern version (hits ++ more)
+  follow_all [] calls its later standing standing' hits more w a kept listed f =
       rw (a.0, a.1, listed, append-nil, append-nil) f
-  follow_all (x ∷ xs) calls its later cursors cursors' hits more w a kept listed f =
+  follow_all (x ∷ xs) calls its later standing standing' hits more w a kept listed f =
       let n = next_calls whole calls its a.0 a.1 later w a.4 in
       elim listed [
         | inl k ↦
-            let one = follow calls a.0 (a.1 ++ later) cursors a.2 x.request x.lines hits (hits_in x.lines) a.3.act n.0
+            let one = follow_any calls a.0 (a.1 ++ later) standing a.2 x.request x.lines hits (hits_in x.lines) a.3.act n.0
             a.3.allowed a.3.does kept.0 (inl (k.0, refl)) f in
-            let rest = follow_all xs (calls ++ a.0) a.1 later a.2 cursors' (hits ++ hits_in x.lines) k.1 n.1 a.5 kept.1
+            let rest = follow_all xs (calls ++ a.0) a.1 later a.2 standing' (hits ++ hits_in x.lines) k.1 n.1 a.5 kept.1
             k.3 one.0 in
-            subst (λ (l : Calls). Follows size l cursors' name pattern version (hits ++ more))
+            subst (λ (l : Calls). Follows size l standing'.cursors name pattern version (hits ++ more))
             (grouped calls its a.0 a.1 a.4)
-            (subst (λ (l : List ℕ). Follows size ((calls ++ a.0) ++ a.1) cursors' name pattern version l)
+            (subst (λ (l : List ℕ). Follows size ((calls ++ a.0) ++ a.1) standing'.cursors name pattern version l)
             (append_assoc hits (hits_in x.lines) k.1 ∙ ap (λ (l : List ℕ). hits ++ l) (sym k.2)) rest)
         | inr k ↦
-            let one = follow calls a.0 (a.1 ++ later) cursors a.2 x.request x.lines hits [] a.3.act n.0 a.3.allowed a.3.does
+            let one = follow_any calls a.0 (a.1 ++ later) standing a.2 x.request x.lines hits [] a.3.act n.0 a.3.allowed a.3.does
             kept.0 (inr (k.0, refl)) f in
-            let rest = follow_all xs (calls ++ a.0) a.1 later a.2 cursors' (hits ++ []) more n.1 a.5 kept.1 k.1 one.0
+            let rest = follow_all xs (calls ++ a.0) a.1 later a.2 standing' (hits ++ []) more n.1 a.5 kept.1 k.1 one.0
             in
-            subst (λ (l : Calls). Follows size l cursors' name pattern version (hits ++ more))
+            subst (λ (l : Calls). Follows size l standing'.cursors name pattern version (hits ++ more))
             (grouped calls its a.0 a.1 a.4)
-            (subst (λ (l : List ℕ). Follows size ((calls ++ a.0) ++ a.1) cursors' name pattern version (l ++ more))
+            (subst (λ (l : List ℕ). Follows size ((calls ++ a.0) ++ a.1) standing'.cursors name pattern version (l ++ more))
             (append-nil hits) rest)
       ]
 
@@ -408,38 +429,38 @@ module _ (reading : OneReading) (whole : Calls) (free : AreFree whole) (size : �
   Turned_to calls cursors k = (hits : List ℕ) × (f : Follows size calls cursors name pattern version hits)
       × (f.turned ≡ k) × (from : ℕ) × (f.c.place ≡ At from)
 
-  pub turn_all : (xs : List Exchange) (calls its later : Calls) (cursors cursors' : List Cursor) (k n : ℕ)
+  pub turn_all : (xs : List Exchange) (calls its later : Calls) (standing standing' : Standing) (k n : ℕ)
       → whole ≡ calls ++ (its ++ later)
-      → AreExchanged size cursors xs its cursors' → StaysOpen name xs → AreTurned name xs n
-      → Turned_to calls cursors k → Turned_to (calls ++ its) cursors' (k + n)
-  turn_all [] calls its later cursors cursors' k n w a kept turned t =
+      → AreExchanged size standing xs its standing' → StaysOpen name xs → AreTurned name xs n
+      → Turned_to calls standing.cursors k → Turned_to (calls ++ its) standing'.cursors (k + n)
+  turn_all [] calls its later standing standing' k n w a kept turned t =
       let same : calls ++ its ≡ calls = ap (λ (l : Calls). calls ++ l) a.0 ∙ append-nil calls in
       let none_more : k ≡ k + n = omega (arith, turned) in
-      subst (λ (l : Calls). Turned_to l cursors' (k + n)) (sym same)
-      (subst (λ (l : List Cursor). Turned_to calls l (k + n)) (sym a.1)
-      (subst (λ (m : ℕ). Turned_to calls cursors m) none_more t))
-  turn_all (x ∷ xs) calls its later cursors cursors' k n w a kept turned (hits, f, turns, from, at) =
+      subst (λ (l : Calls). Turned_to l standing'.cursors (k + n)) (sym same)
+      (subst (λ (l : Standing). Turned_to calls l.cursors (k + n)) (sym a.1)
+      (subst (λ (m : ℕ). Turned_to calls standing.cursors m) none_more t))
+  turn_all (x ∷ xs) calls its later standing standing' k n w a kept turned (hits, f, turns, from, at) =
       let m = next_calls whole calls its a.0 a.1 later w a.4 in
-      let step = λ (more : List ℕ) (adds : Adds name x.request x.lines more). follow calls a.0 (a.1 ++ later) cursors a.2
-      x.request x.lines hits more a.3.act m.0 a.3.allowed a.3.does kept.0 adds f in
-      subst (λ (l : Calls). Turned_to l cursors' (k + n)) (grouped calls its a.0 a.1 a.4)
+      let step = λ (more : List ℕ) (adds : Adds name x.request x.lines more). follow_any calls a.0 (a.1 ++ later) standing
+      a.2 x.request x.lines hits more a.3.act m.0 a.3.allowed a.3.does kept.0 adds f in
+      subst (λ (l : Calls). Turned_to l standing'.cursors (k + n)) (grouped calls its a.0 a.1 a.4)
       (elim turned [
         | inl p ↦
             let one = step (hits_in x.lines) (inl (p.0, refl)) in
             let s = (one.1.turns p.0).more p.1 in
             let sum : (k + 1) + p.2 ≡ k + n = omega (arith, p.3) in
-            subst (λ (q : ℕ). Turned_to ((calls ++ a.0) ++ a.1) cursors' q) sum
-            (turn_all xs (calls ++ a.0) a.1 later a.2 cursors' (k + 1) p.2 m.1 a.5 kept.1 p.4
+            subst (λ (q : ℕ). Turned_to ((calls ++ a.0) ++ a.1) standing'.cursors q) sum
+            (turn_all xs (calls ++ a.0) a.1 later a.2 standing' (k + 1) p.2 m.1 a.5 kept.1 p.4
             (hits ++ hits_in x.lines, one.0, s.0 ∙ ap (λ (q : ℕ). q + 1) turns, s.1, s.2))
         | inr (inl p) ↦
             let one = step (hits_in x.lines) (inl (p.0, refl)) in
             let s = (one.1.turns p.0).lost p.1 in
-            turn_all xs (calls ++ a.0) a.1 later a.2 cursors' k n m.1 a.5 kept.1 p.2
+            turn_all xs (calls ++ a.0) a.1 later a.2 standing' k n m.1 a.5 kept.1 p.2
             (hits ++ hits_in x.lines, one.0, s.0 ∙ turns, from, s.1 ∙ at)
         | inr (inr p) ↦
             let one = step [] (inr (p.0, refl)) in
             let s = one.1.other p.0 in
-            turn_all xs (calls ++ a.0) a.1 later a.2 cursors' k n m.1 a.5 kept.1 p.1
+            turn_all xs (calls ++ a.0) a.1 later a.2 standing' k n m.1 a.5 kept.1 p.1
             (hits ++ [], one.0, s.0 ∙ turns, from, s.1 ∙ at)
       ])
 

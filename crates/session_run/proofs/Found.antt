@@ -22,6 +22,7 @@ use Rattle.session_run.specs.Cursors.{Calls, Cursor}
 use Rattle.session_run.specs.Dialogue.{IsCommand, hits_in, likes_in}
 use Rattle.session_run.specs.Lookups.{FindsSame, FindsSimilar}
 use Rattle.session_run.specs.Requests.{Request}
+use Rattle.session_run.specs.Watching.{Standing}
 use Rattle.session_run.proofs.Acts.{OneReading, fits, quiet_ask, quiet_note}
 use Rattle.session_run.proofs.Endings.{SameEnd, end_behind, fault_or_end, same_end}
 use Rattle.session_run.proofs.Passing.{first_or_rest, hits_listed, none_in, one_in}
@@ -179,75 +180,75 @@ pub record IsPrinted (text : List ℕ) (m : Molecule) (print : List Bool) : Type
   pub print_is : IsPrint m print
 
 -- Which act the lines of a request are of: a `same` that came to its end
-pub same_by : OneReading → {size : ℕ} {cursors cursors' : List Cursor} {act : Act} {its : Calls} {lines : Lines}
-    (request : Request) (text : List ℕ) (version tried count : ℕ) → RequestAllows cursors request act
+pub same_by : OneReading → (standing : Standing) {size : ℕ} {cursors cursors' : List Cursor} {act : Act} {its : Calls} {lines : Lines}
+    (request : Request) (text : List ℕ) (version tried count : ℕ) → RequestAllows standing request act
     → Does size cursors act its lines cursors' → IsCommand request (command.Same text)
     → Contains lines (line.End version tried count)
     → (m : Molecule) × (print : List Bool) × IsPrinted text m print × ListsSame size m print its lines
-same_by reading request text version tried count a (Says note) is k = absurd ((quiet_note note).plain _ k)
-same_by reading request text version tried count a (Asks event reply said q) is k =
+same_by reading standing request text version tried count a (Says note) is k = absurd ((quiet_note note).plain _ k)
+same_by reading standing request text version tried count a (Asks event reply said q) is k =
     absurd ((quiet_ask event reply said q).plain _ k)
-same_by reading {cursors = cursors} {act = act} request text version tried count a (ListedSame m print its lines s) is k =
-    let f = fits reading cursors request act (command.Same text) a is in
+same_by reading standing {act = act} request text version tried count a (ListedSame m print its lines s) is k =
+    let f = fits reading standing request act (command.Same text) a is in
     (m, print, record { structure = f.0; print_is = f.1 }, s)
-same_by reading {cursors = cursors} {act = act} request text version tried count a (Searched p its lines s) is k =
-    absurd (fits reading cursors request act (command.Same text) a is)
-same_by reading {cursors = cursors} {act = act} request text version tried count a
-    (Opened name p want slot v new need) is k = absurd (fits reading cursors request act (command.Same text) a is)
-same_by reading {cursors = cursors} {act = act} request text version tried count a
+same_by reading standing {act = act} request text version tried count a (Searched p its lines s) is k =
+    absurd (fits reading standing request act (command.Same text) a is)
+same_by reading standing {act = act} request text version tried count a
+    (Opened name p want slot v new need) is k = absurd (fits reading standing request act (command.Same text) a is)
+same_by reading standing {act = act} request text version tried count a
     (Turned name before after c c' its lines named advances) is k =
-    absurd (fits reading cursors request act (command.Same text) a is)
-same_by reading {cursors = cursors} {act = act} request text version tried count a (Closed name before after c named) is
-    k = absurd (fits reading cursors request act (command.Same text) a is)
-same_by reading {cursors = cursors} {act = act} request text version tried count a
+    absurd (fits reading standing request act (command.Same text) a is)
+same_by reading standing {act = act} request text version tried count a (Closed name before after c named) is
+    k = absurd (fits reading standing request act (command.Same text) a is)
+same_by reading standing {act = act} request text version tried count a
     (RegisteredNew change m print its lines s) is k =
-    absurd (fits reading cursors request act (command.Same text) a is)
-same_by reading {cursors = cursors} {act = act} request text version tried count a
-    (ListedSimilar p q n print its lines s) is k = absurd (fits reading cursors request act (command.Same text) a is)
-same_by reading {cursors = cursors} {act = act} request text version tried count a
+    absurd (fits reading standing request act (command.Same text) a is)
+same_by reading standing {act = act} request text version tried count a
+    (ListedSimilar p q n print its lines s) is k = absurd (fits reading standing request act (command.Same text) a is)
+same_by reading standing {act = act} request text version tried count a
     (RegisteredEach id records its lines each) is k =
-    absurd (fits reading cursors request act (command.Same text) a is)
-same_by reading {cursors = cursors} {act = act} request text version tried count a (FoundData id name reply said q) is
-    k = absurd (fits reading cursors request act (command.Same text) a is)
+    absurd (fits reading standing request act (command.Same text) a is)
+same_by reading standing {act = act} request text version tried count a (FoundData id name reply said q) is
+    k = absurd (fits reading standing request act (command.Same text) a is)
 
 -- a `similar` that did
-pub similar_by : OneReading → {size : ℕ} {cursors cursors' : List Cursor} {act : Act} {its : Calls} {lines : Lines}
-    (request : Request) (p q k : ℕ) (text : List ℕ) (version scored count : ℕ) → RequestAllows cursors request act
+pub similar_by : OneReading → (standing : Standing) {size : ℕ} {cursors cursors' : List Cursor} {act : Act} {its : Calls} {lines : Lines}
+    (request : Request) (p q k : ℕ) (text : List ℕ) (version scored count : ℕ) → RequestAllows standing request act
     → Does size cursors act its lines cursors' → IsCommand request (command.Similar p q k text)
     → Contains lines (line.Scored version scored count)
     → (m : Molecule) × (print : List Bool) × IsPrinted text m print × ListsSimilar size p q k print its lines
-similar_by reading request p q k text version scored count a (Says note) is has =
+similar_by reading standing request p q k text version scored count a (Says note) is has =
     absurd ((quiet_note note).plain _ has)
-similar_by reading request p q k text version scored count a (Asks event reply said u) is has =
+similar_by reading standing request p q k text version scored count a (Asks event reply said u) is has =
     absurd ((quiet_ask event reply said u).plain _ has)
-similar_by reading {size} {cursors} {act = act} request p q k text version scored count a
+similar_by reading standing {size} {act = act} request p q k text version scored count a
     (ListedSimilar p' q' k' print its lines s) is has =
-    let f = fits reading cursors request act (command.Similar p q k text) a is in
+    let f = fits reading standing request act (command.Similar p q k text) a is in
     (f.3, print, record { structure = f.4; print_is = f.5 }, rw (f.0, f.1, f.2) at s)
-similar_by reading {cursors = cursors} {act = act} request p q k text version scored count a
+similar_by reading standing {act = act} request p q k text version scored count a
     (Searched pattern its lines s) is has =
-    absurd (fits reading cursors request act (command.Similar p q k text) a is)
-similar_by reading {cursors = cursors} {act = act} request p q k text version scored count a
+    absurd (fits reading standing request act (command.Similar p q k text) a is)
+similar_by reading standing {act = act} request p q k text version scored count a
     (Opened name pattern want slot v new need) is has =
-    absurd (fits reading cursors request act (command.Similar p q k text) a is)
-similar_by reading {cursors = cursors} {act = act} request p q k text version scored count a
+    absurd (fits reading standing request act (command.Similar p q k text) a is)
+similar_by reading standing {act = act} request p q k text version scored count a
     (Turned name before after c c' its lines named advances) is has =
-    absurd (fits reading cursors request act (command.Similar p q k text) a is)
-similar_by reading {cursors = cursors} {act = act} request p q k text version scored count a
+    absurd (fits reading standing request act (command.Similar p q k text) a is)
+similar_by reading standing {act = act} request p q k text version scored count a
     (Closed name before after c named) is has =
-    absurd (fits reading cursors request act (command.Similar p q k text) a is)
-similar_by reading {cursors = cursors} {act = act} request p q k text version scored count a
+    absurd (fits reading standing request act (command.Similar p q k text) a is)
+similar_by reading standing {act = act} request p q k text version scored count a
     (RegisteredNew change m print its lines s) is has =
-    absurd (fits reading cursors request act (command.Similar p q k text) a is)
-similar_by reading {cursors = cursors} {act = act} request p q k text version scored count a
+    absurd (fits reading standing request act (command.Similar p q k text) a is)
+similar_by reading standing {act = act} request p q k text version scored count a
     (ListedSame m print its lines s) is has =
-    absurd (fits reading cursors request act (command.Similar p q k text) a is)
-similar_by reading {cursors = cursors} {act = act} request p q k text version scored count a
+    absurd (fits reading standing request act (command.Similar p q k text) a is)
+similar_by reading standing {act = act} request p q k text version scored count a
     (RegisteredEach id records its lines each) is has =
-    absurd (fits reading cursors request act (command.Similar p q k text) a is)
-similar_by reading {cursors = cursors} {act = act} request p q k text version scored count a
+    absurd (fits reading standing request act (command.Similar p q k text) a is)
+similar_by reading standing {act = act} request p q k text version scored count a
     (FoundData id name reply said u) is has =
-    absurd (fits reading cursors request act (command.Similar p q k text) a is)
+    absurd (fits reading standing request act (command.Similar p q k text) a is)
 
 -- a line by which a `register-new` says what it found
 abbrev pub IsFinding : line.Reply → Type 0
@@ -256,26 +257,26 @@ IsFinding (line.Refused (refusals.Same id)) = Unit {0}
 IsFinding _ = ⊥
 
 -- no note and no call of a pin says so
-never_same : (cursors : List Cursor) (request : Request) (id : ℕ)
-    → RequestAllows cursors request (Say (Refused (refusals.Same id))) → ⊥
-never_same cursors request id (inl a) = cc
-never_same cursors request id (inr (short, text, e, read, line, a)) = by read line a where
+never_same : (standing : Standing) (request : Request) (id : ℕ)
+    → RequestAllows standing request (Say (Refused (refusals.Same id))) → ⊥
+never_same standing request id (inl a) = cc
+never_same standing request id (inr (short, text, e, read, line, a)) = by read line a where
   by : (read : Result Command LineRefusal) → IsLine text read
-      → Allows cursors request.more read (Say (Refused (refusals.Same id))) → ⊥
+      → Allows standing request.more read (Say (Refused (refusals.Same id))) → ⊥
   by (Err refusal) line a = cc
   by (Ok command.Empty) line a = cc
   by (Ok (command.RegisterSd id count)) line a = cc
   by (Ok _) line a = absurd a
 
-no_finding : (cursors : List Cursor) (request : Request) (note : Note) (said : line.Reply)
-    → RequestAllows cursors request (Say note) → Contains (note_lines note) said → IsFinding said → ⊥
-no_finding cursors request Silence said a k f = none_in said k
-no_finding cursors request (Refused refusal) said a k f =
+no_finding : (standing : Standing) (request : Request) (note : Note) (said : line.Reply)
+    → RequestAllows standing request (Say note) → Contains (note_lines note) said → IsFinding said → ⊥
+no_finding standing request Silence said a k f = none_in said k
+no_finding standing request (Refused refusal) said a k f =
     by refusal a (subst IsFinding (sym (one_in (line.Refused refusal) said k)) f) where
-      by : (r : Refusal) → RequestAllows cursors request (Say (Refused r)) → IsFinding (line.Refused r) → ⊥
-      by (refusals.Same id) a f = never_same cursors request id a
+      by : (r : Refusal) → RequestAllows standing request (Say (Refused r)) → IsFinding (line.Refused r) → ⊥
+      by (refusals.Same id) a f = never_same standing request id a
       by _ a f = f
-no_finding cursors request Fault said a k f = subst IsFinding (sym (one_in line.MemoryFault said k)) f
+no_finding standing request Fault said a k f = subst IsFinding (sym (one_in line.MemoryFault said k)) f
 
 no_pin_finding : (event : Event) (reply : Reply) (said : line.Reply) → event ≡ events.Pin → IsLineOf event reply said
     → IsFinding said → ⊥
@@ -286,35 +287,35 @@ no_pin_finding event reply said e is f =
       by _ i = i
 
 -- a `register-new` that says what it found
-pub new_by : OneReading → {size : ℕ} {cursors cursors' : List Cursor} {act : Act} {its : Calls} {lines : Lines}
-    (request : Request) (id : ℕ) (text : List ℕ) (said : line.Reply) → RequestAllows cursors request act
+pub new_by : OneReading → (standing : Standing) {size : ℕ} {cursors cursors' : List Cursor} {act : Act} {its : Calls} {lines : Lines}
+    (request : Request) (id : ℕ) (text : List ℕ) (said : line.Reply) → RequestAllows standing request act
     → Does size cursors act its lines cursors' → IsCommand request (command.RegisterNew id text) → Contains lines said
     → IsFinding said
     → (change : Change) × (m : Molecule) × (print : List Bool) × IsPrinted text m print
     × RegistersNew size change m print its lines
-new_by reading {cursors = cursors} request id text said a (Says note) is has f =
-    absurd (no_finding cursors request note said a has f)
-new_by reading {cursors = cursors} {act = act} request id text said a (Asks event reply one u) is has f =
-    absurd (no_pin_finding event reply one (fits reading cursors request act (command.RegisterNew id text) a is).0 u
+new_by reading standing request id text said a (Says note) is has f =
+    absurd (no_finding standing request note said a has f)
+new_by reading standing {act = act} request id text said a (Asks event reply one u) is has f =
+    absurd (no_pin_finding event reply one (fits reading standing request act (command.RegisterNew id text) a is).0 u
     (subst IsFinding (sym (one_in one said has)) f))
-new_by reading {cursors = cursors} {act = act} request id text said a (RegisteredNew change m print its lines s) is has
+new_by reading standing {act = act} request id text said a (RegisteredNew change m print its lines s) is has
     f =
-    let g = fits reading cursors request act (command.RegisterNew id text) a is in
+    let g = fits reading standing request act (command.RegisterNew id text) a is in
     (change, m, print, record { structure = g.1; print_is = g.2 }, s)
-new_by reading {cursors = cursors} {act = act} request id text said a (Searched pattern its lines s) is has f =
-    absurd (fits reading cursors request act (command.RegisterNew id text) a is)
-new_by reading {cursors = cursors} {act = act} request id text said a (Opened name pattern want slot v new need) is has
-    f = absurd (fits reading cursors request act (command.RegisterNew id text) a is)
-new_by reading {cursors = cursors} {act = act} request id text said a
+new_by reading standing {act = act} request id text said a (Searched pattern its lines s) is has f =
+    absurd (fits reading standing request act (command.RegisterNew id text) a is)
+new_by reading standing {act = act} request id text said a (Opened name pattern want slot v new need) is has
+    f = absurd (fits reading standing request act (command.RegisterNew id text) a is)
+new_by reading standing {act = act} request id text said a
     (Turned name before after c c' its lines named advances) is has f =
-    absurd (fits reading cursors request act (command.RegisterNew id text) a is)
-new_by reading {cursors = cursors} {act = act} request id text said a (Closed name before after c named) is has f =
-    absurd (fits reading cursors request act (command.RegisterNew id text) a is)
-new_by reading {cursors = cursors} {act = act} request id text said a (ListedSame m print its lines s) is has f =
-    absurd (fits reading cursors request act (command.RegisterNew id text) a is)
-new_by reading {cursors = cursors} {act = act} request id text said a (ListedSimilar p q k print its lines s) is has f =
-    absurd (fits reading cursors request act (command.RegisterNew id text) a is)
-new_by reading {cursors = cursors} {act = act} request id text said a (RegisteredEach own records its lines each) is has
-    f = absurd (fits reading cursors request act (command.RegisterNew id text) a is)
-new_by reading {cursors = cursors} {act = act} request id text said a (FoundData own name reply one u) is has f =
-    absurd (fits reading cursors request act (command.RegisterNew id text) a is)
+    absurd (fits reading standing request act (command.RegisterNew id text) a is)
+new_by reading standing {act = act} request id text said a (Closed name before after c named) is has f =
+    absurd (fits reading standing request act (command.RegisterNew id text) a is)
+new_by reading standing {act = act} request id text said a (ListedSame m print its lines s) is has f =
+    absurd (fits reading standing request act (command.RegisterNew id text) a is)
+new_by reading standing {act = act} request id text said a (ListedSimilar p q k print its lines s) is has f =
+    absurd (fits reading standing request act (command.RegisterNew id text) a is)
+new_by reading standing {act = act} request id text said a (RegisteredEach own records its lines each) is has
+    f = absurd (fits reading standing request act (command.RegisterNew id text) a is)
+new_by reading standing {act = act} request id text said a (FoundData own name reply one u) is has f =
+    absurd (fits reading standing request act (command.RegisterNew id text) a is)

@@ -32,3 +32,11 @@ pub mod Requested
 pub mod Registered
 pub mod Itemed
 pub mod Looked
+pub mod Standing
+pub mod Noting
+pub mod WatchActs
+pub mod Watched
+pub mod Viewed
+pub mod Brought
+pub mod Rights
+pub mod WatchTruth

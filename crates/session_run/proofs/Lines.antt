@@ -99,7 +99,7 @@ pub noted : {size : ℕ} {Allowed : Act → Type 0} {cursors : List Cursor} (not
 noted note may = record { act = Say note; allowed = may; does = Says note }
 
 -- the line that a call's reply gave
-in_line : (event : Event) (calls : Calls) (one : line.Reply) → IsLineIn event calls one
+pub in_line : (event : Event) (calls : Calls) (one : line.Reply) → IsLineIn event calls one
     → (reply : Reply) × (calls ≡ (event, reply) ∷ []) × IsLineOf event reply one
 in_line event [] one l = absurd l
 in_line event (c ∷ cs) one l =

@@ -2,6 +2,7 @@
 use Rattle.std.proofs.Common.{◌≡◌, ◌++◌, ◌∙◌, append-nil, append_assoc, ap, arith, Bool, Err, inl, inr, List, [], ◌∷◌, None, Ok, refl, Result, slice_get, Some, subst, sym, ℕ}
 use Rattle.std.proofs.lemmas.Option.{get_or_from_slice_get, slice_get-get_or, slice_get_within}
 use Rattle.chem_core.specs.Molecule.{Molecule}
+use Rattle.lookup.specs.Asked.{IsEmptyPrint}
 use Rattle.lookup.specs.Fetches as fetches
 use Rattle.lookup.specs.Fetches.{CutShort, Fetches, HeldBesides, Looks, NoneFree, Unasked, Whole, WornAfter, WornBefore, begun_calls, lookup_calls}
 use Rattle.lookup.specs.declared.same.SameList.{SameList}
@@ -24,14 +25,16 @@ use Rattle.store_machine.specs.declared.machine.Change.{Change}
 use Rattle.store_machine.specs.declared.machine.Event.TheVariants as events
 use Rattle.store_machine.specs.declared.machine.Found.{Found}
 use Rattle.store_machine.specs.declared.machine.Reply.TheVariants as replies
-use Rattle.session_run.specs.Acts.{Act, AllSame, AllSimilar, Answers, Ask, Asks, Closed, Does, Fault, FoundData, IsNew, Lines, ListedSame, ListedSimilar, MayAsk, NewLost, Opened, Refused, RegisterNew, RegisteredEach, RegisteredNew, Same, SameLost, Say, Says, Searched, Silence, Similar, SimilarLost, Turned, same_lines, similar_lines}
+use Rattle.session_run.specs.Acts.{Act, AllSame, AllSimilar, Answers, Ask, Asks, Closed, Does, DoesAll, Fault, FoundData, IsNew, Lines, ListedSame, ListedSimilar, MayAsk, NewLost, Opened, Refused, RegisterNew, RegisteredEach, RegisteredNew, Responds, Same, SameLost, Say, Says, Searched, Silence, Similar, SimilarLost, Turned, same_lines, similar_lines}
 use Rattle.session_run.specs.Cursors.{Calls, Cursor}
 use Rattle.session_run.specs.Lookups.{FindsSame, FindsSimilar, LooksUp}
 use Rattle.session_run.specs.Made.{Answered, AnsweredBy, Broken, Said, TellsAll, Unsaid, Uses, Writes}
 use Rattle.session_run.specs.Pins.{AreApart, HeldBy, MovePins, Takes}
 use Rattle.session_run.specs.Responds.{IsTextRefusal}
 use Rattle.session_run.specs.Searched.{IsFaultLine}
+use Rattle.session_run.specs.Standings.{both}
 use Rattle.session_run.specs.Texts.{IsTextFault}
+use Rattle.session_run.specs.Watching.{Standing, Watched}
 use Rattle.session_run.specs.declared.stop.Stop.{Stop}
 use Rattle.session_run.specs.declared.stop.Stop.TheVariants as stops
 use Rattle.session_run.proofs.Found.{IsPrinted}
@@ -39,6 +42,8 @@ use Rattle.session_run.proofs.Held.{apart-more, leave-apart, leave-moves}
 use Rattle.session_run.proofs.Joined.{uses-kept}
 use Rattle.session_run.proofs.Lines.{broken, noted, said}
 use Rattle.session_run.proofs.LookedUp.{fetches_leave, pin_returned}
+use Rattle.session_run.proofs.Standing.{looks_still, over-append}
+use Rattle.session_run.proofs.WatchActs.{asks_no_watch, watch_is}
 
 -- a text that is refused
 pub text_unread : {size : ℕ} {cursors : List Cursor} (Allowed : Act → Type 0) (format : Format) (text : List ℕ)
@@ -106,13 +111,13 @@ kept_on a b size want place f held =
     (fetches_leave f.slot size want _ place f.pages f.are) held in
     record { now = m.now; apart = (f.free, m.apart) }
 
-looks_up : {held : ℕ → ℕ → Type 0} {size : ℕ} {want : List Bool} {place : Place} (f : Fetches held size want place)
+pub looks_up : {held : ℕ → ℕ → Type 0} {size : ℕ} {want : List Bool} {place : Place} (f : Fetches held size want place)
     → LooksUp size want place (lookup_calls f.slot f.version f.pages)
 looks_up f = record { slot = f.slot; version = f.version; pages = f.pages; made = refl; fetches = f.are }
 
 module _ {S : Type 0} {of : meaning.Ghosts S} {old new : S} {size : ℕ} {want : List Bool} where
   -- as a session counts them
-  looked_uses : (place : Place) (f : Fetches (of.holds old) size want place)
+  pub looked_uses : (place : Place) (f : Fetches (of.holds old) size want place)
       → fetches.Makes of old new (lookup_calls f.slot f.version f.pages) → SameHeld (of.holds old) (of.holds new)
       → NotRaised (of.bounds old) (of.bounds new) → Uses of old new (lookup_calls f.slot f.version f.pages)
   looked_uses place f made held bounds = record {
@@ -134,44 +139,42 @@ module _ {S : Type 0} {of : meaning.Ghosts S} {old new : S} {size : ℕ} {want :
   )
 
   -- one that found no memory, or no pin, or the service worn
-  module _ {X : Type 0} {Is : ℕ → List Found → X → Type 0} {Allowed : Act → Type 0} {cursors : List Cursor}
-      {out out' : List ℕ} (pin : Allowed (Ask events.Pin)) (lacks : Allowed (Say Fault)) (act : Act) (may : Allowed act)
-      (lost : (place : Place) (calls : Calls) → LooksUp size want place calls
-      → Does size cursors act calls (line.MemoryFault ∷ []) cursors) where
+  module _ {X Y : Type 0} {Is : ℕ → List Found → X → Type 0} {As : Calls → Lines → Y → Type 0} {y : Y}
+      {out out' : List ℕ} (pin : As ((events.Pin, replies.NoPin) ∷ []) (line.Refused refusals.Pins ∷ []) y)
+      (lacks : As [] (line.MemoryFault ∷ []) y)
+      (lost : (place : Place) (calls : Calls) → LooksUp size want place calls → As calls (line.MemoryFault ∷ []) y) where
     pub looked_in_vain : (fault : SearchFault) (given : Result written.Reply Stop) (result : Result (Unit {0}) Stop)
         → Looks of old new size want Is (Err fault) → NotRaised (of.bounds old) (of.bounds new)
-        → IsFaultLine fault given → Writes given out out' result
-        → AnsweredBy of old new (Answers size Allowed cursors) out out' cursors result
+        → IsFaultLine fault given → Writes given out out' result → AnsweredBy of old new As out out' y result
     looked_in_vain _ given result (CutShort place f made held) bounds is w =
         said (lookup_calls f.slot f.version f.pages) line.MemoryFault result (looked_uses place f made held bounds)
-        (record { act = act; allowed = may; does = lost place _ (looks_up f) })
+        (lost place _ (looks_up f))
         (subst (λ (g : Result written.Reply Stop). Writes g out out' result) is w)
     looked_in_vain _ given result (Unasked made held) bounds is w =
-        said [] line.MemoryFault result (uses-kept [] made.made tt held bounds) (noted Fault lacks)
+        said [] line.MemoryFault result (uses-kept [] made.made tt held bounds) lacks
         (subst (λ (g : Result written.Reply Stop). Writes g out out' result) is w)
     looked_in_vain _ given result (NoneFree made held) bounds is w =
         said ((events.Pin, replies.NoPin) ∷ []) (line.Refused refusals.Pins) result
         (uses-kept ((events.Pin, replies.NoPin) ∷ []) made.made (refl, tt) held bounds)
-        (record { act = Ask events.Pin; allowed = pin; does = Asks events.Pin replies.NoPin _ refl })
+        pin
         (subst (λ (g : Result written.Reply Stop). Writes g out out' result) is w)
     looked_in_vain _ given result (WornBefore made held worn) bounds is w =
-        broken [] (line.MemoryFault ∷ []) cursors result (uses-kept [] made.made tt held bounds) worn (noted Fault lacks)
+        broken [] (line.MemoryFault ∷ []) y result (uses-kept [] made.made tt held bounds) worn lacks
         (subst (λ (g : Result written.Reply Stop). Writes g out out' result) is w)
     looked_in_vain _ given result (WornAfter place f made held worn) bounds is w =
         let e : result ≡ Err stops.Worn = subst (λ (g : Result written.Reply Stop). Writes g out out' result) is w in
-        subst (λ (r : Result (Unit {0}) Stop). AnsweredBy of old new (Answers size Allowed cursors) out out' cursors r)
-        (sym e) (Broken (record {
+        subst (λ (r : Result (Unit {0}) Stop). AnsweredBy of old new As out out' y r) (sym e) (Broken (record {
           calls = begun_calls f.slot f.version f.pages;
           whole = lookup_calls f.slot f.version f.pages;
           lines = line.MemoryFault ∷ [];
-          after = cursors;
+          after = y;
           made = record {
             makes = record { made = made.made };
             pins = kept_on (of.holds old) (of.holds new) size want place f held;
             bounds = bounds;
           };
           begins = ((events.Unpin f.slot, replies.Unpinned) ∷ [], refl);
-          is = record { act = act; allowed = may; does = lost place _ (looks_up f) };
+          is = lost place _ (looks_up f);
           worn = worn;
         }))
 
@@ -209,6 +212,44 @@ module _ {Made : Calls → Type 0} {IsWorn : Type 0} {size : ℕ} {Allowed : Act
       (ListedSimilar p q k print calls _ (AllSimilar calls list found))
       (ListedSimilar p q k print calls _ (SimilarLost calls found.want End found.none found.lookup)) t
 
+-- no pin was free
+pub no_pin : {size : ℕ} {Allowed : Act → Type 0} {cursors : List Cursor} → Allowed (Ask events.Pin)
+    → Answers size Allowed cursors ((events.Pin, replies.NoPin) ∷ []) (line.Refused refusals.Pins ∷ []) cursors
+no_pin may = record { act = Ask events.Pin; allowed = may; does = Asks events.Pin replies.NoPin _ refl }
+
+-- a lookup that came so far
+pub same_lost : {size : ℕ} {Allowed : Act → Type 0} {cursors : List Cursor} (m : Molecule) (print : List Bool)
+    → Allowed (Same m print) → (place : Place) (calls : Calls) → LooksUp size print place calls
+    → Answers size Allowed cursors calls (line.MemoryFault ∷ []) cursors
+same_lost m print may place calls l =
+    record { act = Same m print; allowed = may; does = ListedSame m print calls _ (SameLost calls place l) }
+
+pub similar_lost : {size : ℕ} {Allowed : Act → Type 0} {cursors : List Cursor} (p q k : ℕ) (print want : List Bool)
+    → Allowed (Similar p q k print) → IsEmptyPrint want → (place : Place) (calls : Calls)
+    → LooksUp size want place calls → Answers size Allowed cursors calls (line.MemoryFault ∷ []) cursors
+similar_lost p q k print want may none place calls l = record {
+  act = Similar p q k print;
+  allowed = may;
+  does = ListedSimilar p q k print calls _ (SimilarLost calls want place none l);
+}
+
+pub new_lost : {size : ℕ} {Allowed : Act → Type 0} {standing : Standing} (change : Change) (m : Molecule)
+    (print : List Bool) → Allowed (RegisterNew change m print) → (place : Place) (calls : Calls)
+    → LooksUp size print place calls → Responds size Allowed standing calls (line.MemoryFault ∷ []) standing
+new_lost {standing = standing} change m print may place calls l = record {
+  act = RegisterNew change m print;
+  allowed = may;
+  does = inl (RegisteredNew change m print calls _ (NewLost calls place l), looks_still standing.watches l);
+}
+
+pub new_pinless : {size : ℕ} {Allowed : Act → Type 0} {standing : Standing} → Allowed (Ask events.Pin)
+    → Responds size Allowed standing ((events.Pin, replies.NoPin) ∷ []) (line.Refused refusals.Pins ∷ []) standing
+new_pinless {standing = standing} may = record {
+  act = Ask events.Pin;
+  allowed = may;
+  does = inl (Asks events.Pin replies.NoPin _ refl, (standing.watches, refl, refl));
+}
+
 -- a change is committed behind a lookup that found nothing
 module _ {size : ℕ} {Allowed : Act → Type 0} {cursors : List Cursor} (change : Change) (m : Molecule) (print : List Bool)
     (calls : Calls) (list : SameList) (found : FindsSame size m print calls list) (none : list.hits.items ≡ [])
@@ -238,32 +279,48 @@ module _ {size : ℕ} {Allowed : Act → Type 0} {cursors : List Cursor} (change
   committed a (RegisteredEach id records its lines each) = absurd a
   committed a (FoundData id name reply one is) = absurd a
 
-  pub registered_from : {First Next All : Calls → Type 0} {IsWorn : Type 0} {out out' : List ℕ}
+  -- the watches follow the commit
+  behind : (w : List Watched) (x : Standing) (its : Calls) (lines : Lines)
+      → Responds size (MayAsk (events.Commit change)) (both cursors w) its lines x
+      → Responds size Allowed (both cursors w) (calls ++ its) lines (both cursors x.watches)
+  behind w x its lines r = by r.allowed r.does where
+    by : {act : Act} → MayAsk (events.Commit change) act → DoesAll size (both cursors w) act its lines x
+        → Responds size Allowed (both cursors w) (calls ++ its) lines (both cursors x.watches)
+    by may (inl d) =
+        let a = committed may d.0 in
+        record {
+          act = a.act;
+          allowed = a.allowed;
+          does = inl (a.does, over-append calls its w w x.watches (looks_still w found.lookup) d.1);
+        }
+    by may (inr d) = absurd (asks_no_watch _ _ may (watch_is d.0))
+
+  pub registered_from : {First Next All : Calls → Type 0} {IsWorn : Type 0} {out out' : List ℕ} {w w' : List Watched}
       {result : Result (Unit {0}) Stop} → ((xs ys : Calls) → First xs → Next ys → All (xs ++ ys)) → First calls
-      → Answered Next IsWorn (Answers size (MayAsk (events.Commit change)) cursors) out out' cursors result
-      → Answered All IsWorn (Answers size Allowed cursors) out out' cursors result
-  registered_from joins first (Said u did e) = Said u (record {
+      → Answered Next IsWorn (Responds size (MayAsk (events.Commit change)) (both cursors w)) out out' (both cursors w')
+      result → Answered All IsWorn (Responds size Allowed (both cursors w)) out out' (both cursors w') result
+  registered_from {w = w} {w'} joins first (Said u did e) = Said u (record {
     calls = calls ++ did.calls;
     lines = did.lines;
     made = joins calls did.calls first did.made;
-    is = committed did.is.allowed did.is.does;
+    is = behind w (both cursors w') did.calls did.lines did.is;
   }) e
-  registered_from joins first (Unsaid did) = Unsaid (record {
+  registered_from {w = w} {w'} joins first (Unsaid did) = Unsaid (record {
     calls = calls ++ did.calls;
     lines = did.lines;
     made = joins calls did.calls first did.made;
-    is = committed did.is.allowed did.is.does;
+    is = behind w (both cursors w') did.calls did.lines did.is;
   })
-  registered_from joins first (Broken w) = Broken (record {
-    calls = calls ++ w.calls;
-    whole = calls ++ w.whole;
-    lines = w.lines;
-    after = cursors;
-    made = joins calls w.calls first w.made;
+  registered_from {w = w} {w'} joins first (Broken b) = Broken (record {
+    calls = calls ++ b.calls;
+    whole = calls ++ b.whole;
+    lines = b.lines;
+    after = both cursors b.after.watches;
+    made = joins calls b.calls first b.made;
     begins = (
-      w.begins.0,
-      append_assoc calls w.calls w.begins.0 ∙ ap (λ (cs : Calls). calls ++ cs) w.begins.1,
+      b.begins.0,
+      append_assoc calls b.calls b.begins.0 ∙ ap (λ (cs : Calls). calls ++ cs) b.begins.1,
     );
-    is = committed w.is.allowed w.is.does;
-    worn = w.worn;
+    is = behind w b.after b.whole b.lines b.is;
+    worn = b.worn;
   })

@@ -53,7 +53,7 @@ pub record IsLookup (size : ℕ) (calls : Calls) : Type 0 where
   pub leave : Leave rest
   pub pass : (slot : ℕ) → PassBy slot rest
 
-alone : {size : ℕ} {want : List Bool} {place : Place} {calls : Calls} → LooksUp size want place calls → IsLookup size calls
+pub alone : {size : ℕ} {want : List Bool} {place : Place} {calls : Calls} → LooksUp size want place calls → IsLookup size calls
 alone {want = want} {place = place} {calls = calls} l = record {
   want = want;
   place = place;

@@ -9,11 +9,11 @@ use Rattle.smarts_parse.specs.Pattern.{PatternTerm}
 use Rattle.store_machine.specs.Answers.{AreAnswers, AreFound, AreMatched, IsAnswer, ids}
 use Rattle.store_machine.specs.ByCalls.{CallsGivePages, Pages}
 use Rattle.store_machine.specs.History.{Snapshot, snapshot}
-use Rattle.store_machine.specs.Laws.{IsSound, NeedsScreen, RunsGrow, SnapshotsStay}
+use Rattle.store_machine.specs.Laws.{CommitsChange, IsSound, NeedsScreen, RunsGrow, SnapshotsStay}
 use Rattle.store_machine.specs.Runs.{IsCalm, IsRun, calls_of, is_own}
 use Rattle.store_machine.specs.Searches.{ArePieces, At, End, Fetched, IsSearch, KeepsPin, Place, fetched, records_of}
 use Rattle.store_machine.specs.Structures.{IsMatched, IsNeedOf, IsScreened}
-use Rattle.store_machine.specs.Told.{PinsAreNew, SlotsWereFree}
+use Rattle.store_machine.specs.Told.{PinsAreNew, RunsAdd, SlotsWereFree}
 use Rattle.store_machine.specs.declared.machine.Event.{Event}
 use Rattle.store_machine.specs.declared.machine.Event.TheVariants.{Pin}
 use Rattle.store_machine.specs.declared.machine.Found.{Found}
@@ -28,6 +28,8 @@ use Rattle.session_run.specs.Truths.{AreAllHits}
 -- the machine's laws
 pub record Laws : Type 0 where
   pub snapshots : SnapshotsStay
+  pub commits : CommitsChange
+  pub add : RunsAdd
   pub grow : RunsGrow
   pub slots : SlotsWereFree
   pub pins : PinsAreNew
@@ -50,7 +52,7 @@ pub same_rest : (c d : Event × Reply) (cs ds : Calls) → c ∷ cs ≡ d ∷ ds
 unfolding calls_behind
 same_rest c d cs ds e = ap calls_behind e
 
-nothing_left : (c : Event × Reply) (cs : Calls) → [] ≡ c ∷ cs → ⊥
+pub nothing_left : (c : Event × Reply) (cs : Calls) → [] ≡ c ∷ cs → ⊥
 nothing_left c cs e = cc
 
 -- steps cut where some calls end
@@ -103,18 +105,18 @@ calm_parts [] back calm = (tt, calm)
 calm_parts (x ∷ xs) back calm = let r = calm_parts xs back calm.1 in ((calm.0, r.0), r.1)
 
 -- a calm run of a caller, up to some of its calls and from them on
-record Halves (own : ℕ → Bool) (s t : State) (xs ys : Calls) : Type 0 where
-  middle : State
-  front : List Step
-  back : List Step
-  to : IsRun s front middle
-  from : IsRun middle back t
-  calm_to : IsCalm front
-  calm_from : IsCalm back
-  first_calls : calls_of own front ≡ xs
-  last_calls : calls_of own back ≡ ys
+pub record Halves (own : ℕ → Bool) (s t : State) (xs ys : Calls) : Type 0 where
+  pub middle : State
+  pub front : List Step
+  pub back : List Step
+  pub to : IsRun s front middle
+  pub from : IsRun middle back t
+  pub calm_to : IsCalm front
+  pub calm_from : IsCalm back
+  pub first_calls : calls_of own front ≡ xs
+  pub last_calls : calls_of own back ≡ ys
 
-halves : (own : ℕ → Bool) (s t : State) (steps : List Step) (xs ys : Calls) → IsRun s steps t → IsCalm steps
+pub halves : (own : ℕ → Bool) (s t : State) (steps : List Step) (xs ys : Calls) → IsRun s steps t → IsCalm steps
     → calls_of own steps ≡ xs ++ ys → Halves own s t xs ys
 halves own s t steps xs ys run calm e =
     let k = cut own steps xs ys e in

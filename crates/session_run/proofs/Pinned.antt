@@ -10,12 +10,13 @@ use Rattle.store_machine.specs.declared.machine.Event.TheVariants as events
 use Rattle.store_machine.specs.declared.machine.Reply.{Reply}
 use Rattle.store_machine.specs.declared.machine.Reply.TheVariants as replies
 use Rattle.store_machine.specs.Told.{IsTold}
-use Rattle.session_run.specs.Acts.{Act, Advances, AllSame, AllSimilar, Asks, Closed, Does, Ended, FoundData, IsCutShort, IsNew, Lines, ListedSame, ListedSimilar, Lists, ListsSame, ListsSimilar, Lost, NewLost, NotNew, Opened, Paged, RegisteredEach, RegisteredNew, RegistersNew, SameLost, Says, Searched, SimilarLost, Turned, after_page, like_line, page_end}
+use Rattle.session_run.specs.Acts.{Act, Advances, AllSame, AllSimilar, Asks, Closed, Current, Does, DoesAll, DoesWatch, Ended, FoundData, HitsLost, IsCutShort, IsNew, Lines, ListedSame, ListedSimilar, Lists, ListsSame, ListsSimilar, Lost, NewLost, NotNew, Opened, Paged, Refilled, RegisteredEach, RegisteredNew, RegistersNew, SameLost, Says, Searched, SimilarLost, TakenOut, Turned, WatchLost, WatchedAll, after_page, like_line, page_end}
 use Rattle.session_run.specs.Cursors.{Calls, Cursor}
 use Rattle.session_run.specs.Dialogue.{AreExchanged, Exchange, IsShown, IsShownIn}
 use Rattle.session_run.specs.Lookups.{LooksUp}
 use Rattle.session_run.specs.Pins.{AreApart, AreHeld, HeldAfter, HeldBy, IsApart, effect}
-use Rattle.session_run.proofs.ActPins.{act_held}
+use Rattle.session_run.specs.Watching.{Standing, Watched, rebuilt_watch}
+use Rattle.session_run.proofs.ActPins.{all_held}
 use Rattle.session_run.proofs.Acts.{quiet_ask, quiet_data, quiet_each, quiet_note, told_left, told_right}
 use Rattle.session_run.proofs.Held.{after-append, after-under, apart-parts, held-at}
 use Rattle.session_run.proofs.Passing.{keeps-append}
@@ -201,23 +202,52 @@ shown_then calls v (Turned name before after c c' its lines named advances) h k 
 shown_then calls v (Closed name before after c named) h (inl n) = absurd n
 shown_then calls v (Closed name before after c named) h (inr n) = absurd n
 
+-- those that an act on watches shows
+end_watched : (hits : List ℕ) (version count rebuilt v : ℕ)
+    → IsShownIn (map line.Hit hits ++ line.EndWatched version count rebuilt ∷ []) v → v ≡ version
+end_watched hits version count rebuilt v k =
+    one (hits_shown hits (line.EndWatched version count rebuilt ∷ []) v k) where
+      one : IsShownIn (line.EndWatched version count rebuilt ∷ []) v → v ≡ version
+      one (inl n) = n
+      one (inr n) = absurd n
+
+watch_shown : {size : ℕ} {w w' : List Watched} {act : Act} {its : Calls} {lines : Lines} (v : ℕ)
+    → DoesWatch size w act its lines w' → IsShownIn lines v → IsTold its v
+watch_shown v (WatchedAll name pattern calls version hits new few found) (inl e) =
+    looked_told found.lookup version v found.version_is e
+watch_shown v (WatchedAll name pattern calls version hits new few found) (inr n) = absurd n
+watch_shown v (WatchLost name pattern calls want place need lookup) k = absurd (nothing_shown v k)
+watch_shown v (Current name w slot named) k = inl (end_watched w.hits w.version (length w.hits) w.rebuilt v k)
+watch_shown v (Refilled name w calls version hits named other found) k =
+    looked_told found.lookup version v found.version_is
+    (end_watched hits version (length hits) (rebuilt_watch version hits w).rebuilt v k)
+watch_shown v (HitsLost name w calls want place named need lookup) k = absurd (nothing_shown v k)
+watch_shown v (TakenOut name w named) (inl n) = absurd n
+watch_shown v (TakenOut name w named) (inr n) = absurd n
+
+shown_all : {size : ℕ} {standing standing' : Standing} {act : Act} (calls : Calls) {its : Calls} {lines : Lines} (v : ℕ)
+    → DoesAll size standing act its lines standing' → AreHeld (HeldAfter none calls) standing.cursors
+    → IsShownIn lines v → IsTold (calls ++ its) v
+shown_all calls v (inl d) h k = shown_then calls v d.0 h k
+shown_all calls {its} v (inr d) h k = told_right calls its v (watch_shown v d.0 k)
+
 pub grouped : (calls its own more : Calls) → its ≡ own ++ more → (calls ++ own) ++ more ≡ calls ++ its
 grouped calls its own more e = append_assoc calls own more ∙ ap (λ (l : Calls). calls ++ l) (sym e)
 
 -- and those that a dialogue shows
-pub dialogue_shown : (size : ℕ) (xs : List Exchange) (calls its : Calls) (cursors cursors' : List Cursor)
-    → AreExchanged size cursors xs its cursors' → AreApart (HeldAfter none calls) its
-    → AreHeld (HeldAfter none calls) cursors → (v : ℕ) → IsShown xs v → IsTold (calls ++ its) v
-dialogue_shown size [] calls its cursors cursors' d apart h v k = absurd k
-dialogue_shown size (x ∷ xs) calls its cursors cursors' d apart h v k =
+pub dialogue_shown : (size : ℕ) (xs : List Exchange) (calls its : Calls) (standing standing' : Standing)
+    → AreExchanged size standing xs its standing' → AreApart (HeldAfter none calls) its
+    → AreHeld (HeldAfter none calls) standing.cursors → (v : ℕ) → IsShown xs v → IsTold (calls ++ its) v
+dialogue_shown size [] calls its standing standing' d apart h v k = absurd k
+dialogue_shown size (x ∷ xs) calls its standing standing' d apart h v k =
     let held : ℕ → ℕ → Type 0 = HeldAfter none calls in
     let parts = apart-parts held d.0 d.1 (subst (AreApart held) d.4 apart) in
     let same : HeldAfter held d.0 ≡ HeldAfter none (calls ++ d.0) = sym (after-append none calls d.0) in
     subst (λ (l : Calls). IsTold l v) (grouped calls its d.0 d.1 d.4) (elim k [
-      | inl now ↦ told_left (calls ++ d.0) d.1 v (shown_then calls v d.3.does h now)
-      | inr later ↦ dialogue_shown size xs (calls ++ d.0) d.1 d.2 cursors' d.5
+      | inl now ↦ told_left (calls ++ d.0) d.1 v (shown_all calls v d.3.does h now)
+      | inr later ↦ dialogue_shown size xs (calls ++ d.0) d.1 d.2 standing' d.5
           (subst (λ (f : ℕ → ℕ → Type 0). AreApart f d.1) same parts.1)
-          (subst (λ (f : ℕ → ℕ → Type 0). AreHeld f d.2) same (act_held held d.3.does parts.0 h)) v later
+          (subst (λ (f : ℕ → ℕ → Type 0). AreHeld f d.2.cursors) same (all_held held d.3.does parts.0 h)) v later
     ])
 
 -- the calls of a dialogue behind calls

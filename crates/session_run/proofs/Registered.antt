@@ -1,5 +1,5 @@
 -- Records that are answered one after another.
-use Rattle.std.proofs.Common.{◌≡◌, ◌∙◌, ◌≤◌, ◌<◌, ◌+◌, ◌++◌, ap, append_assoc, append-nil, arith, drop, Err, false, IsSome, inr, length, List, [], ◌∷◌, None, Ok, Option, option_to_list, refl, Result, slice_get, Some, subst, suc, sym, zero, ℕ}
+use Rattle.std.proofs.Common.{◌≡◌, ◌∙◌, ◌≤◌, ◌<◌, ◌+◌, ◌++◌, ap, append_assoc, append-nil, arith, drop, Err, false, IsSome, inl, inr, length, List, [], ◌∷◌, None, Ok, Option, option_to_list, refl, Result, slice_get, Some, subst, suc, sym, zero, ℕ}
 use Rattle.std.proofs.lemmas.Grind.{flat_map-append}
 use Rattle.std.specs.Arc.{arc_value}
 use Rattle.std.specs.declared.alloc.Global.{Global}
@@ -26,13 +26,15 @@ use Rattle.store_machine.specs.declared.machine.Change.TheVariants as changes
 use Rattle.store_machine.specs.declared.machine.Event.TheVariants as events
 use Rattle.store_machine.specs.declared.machine.State.{State}
 use Rattle.store_machine.specs.declared.machine.Step.{Step}
-use Rattle.session_run.specs.Acts.{Act, Answers, AnswersBy, Ask, Asks, Does, Fault, Faults, FoundData, Lines, ListedSame, ListedSimilar, Closed, MayAsk, MayChange, MayRegister, Opened, Refused, Refuses, RegisterEach, RegisteredEach, RegisteredNew, RegistersEach, Replies, Say, Says, Searched, Silence, Turned}
+use Rattle.session_run.specs.Acts.{Act, AnswersBy, Ask, Asks, Does, Fault, Faults, FoundData, Lines, ListedSame, ListedSimilar, Closed, MayAsk, MayChange, MayRegister, Opened, Refused, Refuses, RegisterEach, RegisteredEach, RegisteredNew, RegistersEach, Replies, Responds, Say, Says, Searched, Silence, Turned}
 use Rattle.session_run.specs.Cursors.{Calls, Cursor}
 use Rattle.session_run.specs.Made.{AnsweredBy, Broken, Said, Unsaid, Uses}
 use Rattle.session_run.specs.Records.{counted, has_long}
 use Rattle.session_run.specs.Requests.{molfile_text}
 use Rattle.session_run.specs.Responds.{IsTextRefusal}
+use Rattle.session_run.specs.Standings.{Keeps, both}
 use Rattle.session_run.specs.Taken.{AreKept, AreRead, AreTaken, IsReady, Registers}
+use Rattle.session_run.specs.Watching.{AfterCalls, Standing, Watched}
 use Rattle.session_run.specs.declared.records.Kept.{Kept}
 use Rattle.session_run.specs.declared.records.Kept.TheVariants as keeps
 use Rattle.session_run.specs.declared.records.SdTexts.{SdTexts}
@@ -40,6 +42,8 @@ use Rattle.session_run.specs.declared.records.TheConstants.{MOST_SD_BYTES}
 use Rattle.session_run.specs.declared.stop.Stop.{Stop}
 use Rattle.session_run.proofs.Joined.{uses-more}
 use Rattle.session_run.proofs.Lines.{answered_as, may_change, text_is}
+use Rattle.session_run.proofs.Standing.{over-append}
+use Rattle.session_run.proofs.WatchActs.{by_commit}
 
 -- the records that are left are not called for
 abbrev faults_of : List (Option (List TextLine)) → Lines
@@ -54,7 +58,7 @@ faults_each id sum (r ∷ rs) =
 
 -- a record, and those behind it
 each_more : (id sum : ℕ) (r : Option (List TextLine)) (rs : List (Option (List TextLine))) (own more : Calls)
-    (lines others : Lines) → Registers id (sum + counted r) r own lines tt
+    (lines others : Lines) → Registers id (sum + counted r) r own lines
     → RegistersEach (suc id) (sum + counted r) rs more others
     → RegistersEach id sum (r ∷ rs) (own ++ more) (lines ++ others)
 each_more id sum r rs own more lines others (act, said, may, by, e) h =
@@ -62,66 +66,72 @@ each_more id sum r rs own more lines others (act, said, may, by, e) h =
 
 -- Records under way: the calls and lines so far, however those that are left are answered
 pub record IsUnderWay {S : Type 0} (of : meaning.Ghosts S) (old now : S) (first : ℕ)
-    (records : List (Option (List TextLine))) (out out' : List ℕ) (id sum : ℕ)
+    (records : List (Option (List TextLine))) (w w' : List Watched) (out out' : List ℕ) (id sum : ℕ)
     (rest : List (Option (List TextLine))) : Type 0 where
   pub calls : Calls
   pub lines : Lines
   pub made : Uses of old now calls
+  pub over : AfterCalls calls w w'
   pub said : out' ≡ out ++ text_of lines
   pub goes : (more : Calls) (others : Lines) → RegistersEach id sum rest more others
       → RegistersEach first 0 records (calls ++ more) (lines ++ others)
 
 -- what is answered in the end
-abbrev pub EachAnswer : ℕ → List (Option (List TextLine)) → Calls → Lines → Unit {0} → Type 0
-EachAnswer first records calls lines _ = RegistersEach first 0 records calls lines
+abbrev pub EachAnswer : ℕ → List (Option (List TextLine)) → List Watched → Calls → Lines → List Watched → Type 0
+EachAnswer first records w calls lines w' = Keeps (RegistersEach first 0 records) w calls lines w'
 
 module _ {S : Type 0} {of : meaning.Ghosts S} (first : ℕ) (records : List (Option (List TextLine))) where
-  pub way_none : (old : S) (out : List ℕ) → Uses of old old []
-      → IsUnderWay of old old first records out out first 0 records
-  way_none old out made = record {
+  pub way_none : (old : S) (w : List Watched) (out : List ℕ) → Uses of old old []
+      → IsUnderWay of old old first records w w out out first 0 records
+  way_none old w out made = record {
     calls = [];
     lines = [];
     made = made;
+    over = refl;
     said = sym (append-nil out);
     goes = λ more others h. h;
   }
 
   -- all were answered
-  pub way_done : {old now : S} {out out' : List ℕ} {id sum : ℕ}
-      → IsUnderWay of old now first records out out' id sum []
-      → AnsweredBy of old now (EachAnswer first records) out out' tt (Ok tt)
-  way_done w = Said tt (record {
-    calls = w.calls;
-    lines = w.lines;
-    made = w.made;
-    is = subst (λ (l : Lines). RegistersEach first 0 records w.calls l) (append-nil w.lines)
-        (subst (λ (cs : Calls). RegistersEach first 0 records cs (w.lines ++ [])) (append-nil w.calls)
-        (w.goes [] [] (refl, refl)));
-  }) w.said
+  pub way_done : {old now : S} {w w' : List Watched} {out out' : List ℕ} {id sum : ℕ}
+      → IsUnderWay of old now first records w w' out out' id sum []
+      → AnsweredBy of old now (EachAnswer first records w) out out' w' (Ok tt)
+  way_done u = Said tt (record {
+    calls = u.calls;
+    lines = u.lines;
+    made = u.made;
+    is = (
+      subst (λ (l : Lines). RegistersEach first 0 records u.calls l) (append-nil u.lines)
+          (subst (λ (cs : Calls). RegistersEach first 0 records cs (u.lines ++ [])) (append-nil u.calls)
+          (u.goes [] [] (refl, refl))),
+      u.over,
+    );
+  }) u.said
 
   -- a record more was answered
   pub way_more : ((a b c : S) (s t u : State) (xs ys : List Step) → of.stretch a b s xs t → of.stretch b c t ys u
       → of.stretch a c s (xs ++ ys) u)
       → ((a b : S) (s t : State) (xs : List Step) → of.stretch a b s xs t → of.at b t × IsRun s xs t × IsCalm xs)
       → ((a b : S) (s t : State) (xs : List Step) (n : ℕ) → of.stretch a b s xs t → of.owns b n ≡ of.owns a n)
-      → {old now next : S} {out out' out'' : List ℕ} {id sum : ℕ} {r : Option (List TextLine)}
-      {rs : List (Option (List TextLine))} → IsUnderWay of old now first records out out' id sum (r ∷ rs)
-      → AnsweredBy of now next (Registers id (sum + counted r) r) out' out'' tt (Ok tt)
-      → IsUnderWay of old next first records out out'' (suc id) (sum + counted r) rs
-  way_more joins lands same {out = out} {id = id} {sum} {r} {rs} w (Said u did e) = record {
-    calls = w.calls ++ did.calls;
-    lines = w.lines ++ did.lines;
-    made = uses-more joins lands same w.made did.made;
-    said = e ∙ (ap (λ t. t ++ text_of did.lines) w.said
-        ∙ (append_assoc out (text_of w.lines) (text_of did.lines)
-        ∙ ap (λ t. out ++ t) (sym (flat_map-append reply_line w.lines did.lines))));
+      → {old now next : S} {w w' w'' : List Watched} {out out' out'' : List ℕ} {id sum : ℕ} {r : Option (List TextLine)}
+      {rs : List (Option (List TextLine))} → IsUnderWay of old now first records w w' out out' id sum (r ∷ rs)
+      → AnsweredBy of now next (Keeps (Registers id (sum + counted r) r) w') out' out'' w'' (Ok tt)
+      → IsUnderWay of old next first records w w'' out out'' (suc id) (sum + counted r) rs
+  way_more joins lands same {w = w} {w'} {w''} {out = out} {id = id} {sum} {r} {rs} way (Said u did e) = record {
+    calls = way.calls ++ did.calls;
+    lines = way.lines ++ did.lines;
+    made = uses-more joins lands same way.made did.made;
+    over = over-append way.calls did.calls w w' w'' way.over did.is.1;
+    said = e ∙ (ap (λ t. t ++ text_of did.lines) way.said
+        ∙ (append_assoc out (text_of way.lines) (text_of did.lines)
+        ∙ ap (λ t. out ++ t) (sym (flat_map-append reply_line way.lines did.lines))));
     goes = λ more others h.
-        subst (λ (l : Lines). RegistersEach first 0 records ((w.calls ++ did.calls) ++ more) l)
-        (sym (append_assoc w.lines did.lines others))
-        (subst (λ (cs : Calls). RegistersEach first 0 records cs (w.lines ++ (did.lines ++ others)))
-        (sym (append_assoc w.calls did.calls more))
-        (w.goes (did.calls ++ more) (did.lines ++ others)
-        (each_more id sum r rs did.calls more did.lines others did.is h)));
+        subst (λ (l : Lines). RegistersEach first 0 records ((way.calls ++ did.calls) ++ more) l)
+        (sym (append_assoc way.lines did.lines others))
+        (subst (λ (cs : Calls). RegistersEach first 0 records cs (way.lines ++ (did.lines ++ others)))
+        (sym (append_assoc way.calls did.calls more))
+        (way.goes (did.calls ++ more) (did.lines ++ others)
+        (each_more id sum r rs did.calls more did.lines others did.is.0 h)));
   }
 
   -- no more is answered
@@ -129,70 +139,81 @@ module _ {S : Type 0} {of : meaning.Ghosts S} (first : ℕ) (records : List (Opt
       → of.stretch a c s (xs ++ ys) u)
       → ((a b : S) (s t : State) (xs : List Step) → of.stretch a b s xs t → of.at b t × IsRun s xs t × IsCalm xs)
       → ((a b : S) (s t : State) (xs : List Step) (n : ℕ) → of.stretch a b s xs t → of.owns b n ≡ of.owns a n)
-      → {old now next : S} {out out' out'' : List ℕ} {id sum : ℕ} {r : Option (List TextLine)}
+      → {old now next : S} {w w' w'' : List Watched} {out out' out'' : List ℕ} {id sum : ℕ} {r : Option (List TextLine)}
       {rs : List (Option (List TextLine))} (stop : Stop)
-      → IsUnderWay of old now first records out out' id sum (r ∷ rs)
-      → AnsweredBy of now next (Registers id (sum + counted r) r) out' out'' tt (Err stop)
-      → AnsweredBy of old next (EachAnswer first records) out out'' tt (Err stop)
-  way_stopped joins lands same {id = id} {sum} {r} {rs} stop w (Unsaid did) = Unsaid (record {
-    calls = w.calls ++ (did.calls ++ []);
-    lines = w.lines ++ (did.lines ++ faults_of rs);
-    made = uses-more joins lands same w.made
+      → IsUnderWay of old now first records w w' out out' id sum (r ∷ rs)
+      → AnsweredBy of now next (Keeps (Registers id (sum + counted r) r) w') out' out'' w'' (Err stop)
+      → AnsweredBy of old next (EachAnswer first records w) out out'' w'' (Err stop)
+  way_stopped joins lands same {w = w} {w'} {w''} {id = id} {sum} {r} {rs} stop way (Unsaid did) = Unsaid (record {
+    calls = way.calls ++ (did.calls ++ []);
+    lines = way.lines ++ (did.lines ++ faults_of rs);
+    made = uses-more joins lands same way.made
         (subst (λ (cs : Calls). Uses of _ _ cs) (sym (append-nil did.calls)) did.made);
-    is = w.goes (did.calls ++ []) (did.lines ++ faults_of rs)
-        (each_more id sum r rs did.calls [] did.lines (faults_of rs) did.is (faults_each (suc id) (sum + counted r) rs));
+    is = (
+      way.goes (did.calls ++ []) (did.lines ++ faults_of rs)
+          (each_more id sum r rs did.calls [] did.lines (faults_of rs) did.is.0
+          (faults_each (suc id) (sum + counted r) rs)),
+      over-append way.calls (did.calls ++ []) w w' w'' way.over
+          (over-append did.calls [] w' w'' w'' did.is.1 refl),
+    );
   })
-  way_stopped joins lands same {id = id} {sum} {r} {rs} stop w (Broken b) = Broken (record {
-    calls = w.calls ++ b.calls;
-    whole = w.calls ++ (b.whole ++ []);
-    lines = w.lines ++ (b.lines ++ faults_of rs);
-    after = tt;
-    made = uses-more joins lands same w.made b.made;
+  way_stopped joins lands same {w = w} {w'} {id = id} {sum} {r} {rs} stop way (Broken b) = Broken (record {
+    calls = way.calls ++ b.calls;
+    whole = way.calls ++ (b.whole ++ []);
+    lines = way.lines ++ (b.lines ++ faults_of rs);
+    after = b.after;
+    made = uses-more joins lands same way.made b.made;
     begins = (
       b.begins.0,
-      append_assoc w.calls b.calls b.begins.0
-          ∙ ap (λ (cs : Calls). w.calls ++ cs) (b.begins.1 ∙ sym (append-nil b.whole)),
+      append_assoc way.calls b.calls b.begins.0
+          ∙ ap (λ (cs : Calls). way.calls ++ cs) (b.begins.1 ∙ sym (append-nil b.whole)),
     );
-    is = w.goes (b.whole ++ []) (b.lines ++ faults_of rs)
-        (each_more id sum r rs b.whole [] b.lines (faults_of rs) b.is (faults_each (suc id) (sum + counted r) rs));
+    is = (
+      way.goes (b.whole ++ []) (b.lines ++ faults_of rs)
+          (each_more id sum r rs b.whole [] b.lines (faults_of rs) b.is.0
+          (faults_each (suc id) (sum + counted r) rs)),
+      over-append way.calls (b.whole ++ []) w w' b.after way.over
+          (over-append b.whole [] w' b.after b.after b.is.1 refl),
+    );
     worn = b.worn;
   })
 
   -- as an act
-  pub each_done : {old now : S} {out out' : List ℕ} {result : Result (Unit {0}) Stop} (size : ℕ) (cursors : List Cursor)
-      → AnsweredBy of old now (EachAnswer first records) out out' tt result
-      → AnsweredBy of old now (Answers size (λ act. act ≡ RegisterEach first records) cursors) out out' cursors result
+  pub each_done : {old now : S} {w w' : List Watched} {out out' : List ℕ} {result : Result (Unit {0}) Stop} (size : ℕ)
+      (cursors : List Cursor) → AnsweredBy of old now (EachAnswer first records w) out out' w' result
+      → AnsweredBy of old now (Responds size (λ act. act ≡ RegisterEach first records) (both cursors w)) out out'
+      (both cursors w') result
   each_done size cursors a =
-      answered_as (λ _. cursors) (λ calls lines x e.
+      answered_as (λ (w : List Watched). both cursors w) (λ calls lines x e.
       record {
         act = RegisterEach first records;
         allowed = refl;
-        does = RegisteredEach first records calls lines e;
+        does = inl (RegisteredEach first records calls lines e.0, e.1);
       }) a
 
 -- one line that is said
 pub registers_note : (id sum : ℕ) (r : Option (List TextLine)) (refusal : Refusal)
-    → MayRegister id sum r (Say (Refused refusal)) → Registers id sum r [] (line.Refused refusal ∷ []) tt
+    → MayRegister id sum r (Say (Refused refusal)) → Registers id sum r [] (line.Refused refusal ∷ [])
 registers_note id sum r refusal may = (Say (Refused refusal), line.Refused refusal, may, Refuses refusal, refl)
 
-pub registers_fault : (id sum : ℕ) (r : Option (List TextLine)) → Registers id sum r [] (line.MemoryFault ∷ []) tt
+pub registers_fault : (id sum : ℕ) (r : Option (List TextLine)) → Registers id sum r [] (line.MemoryFault ∷ [])
 registers_fault id sum r = (Say Fault, line.MemoryFault, tt, Faults, refl)
 
 -- a text that is refused
 pub registers_refused : (id sum : ℕ) (r : Option (List TextLine)) (fault : TextFault) (one : line.Reply)
     → IsReady id sum r (Some keeps.Text) (Some (Err fault)) → IsTextRefusal fault one
-    → Registers id sum r [] (one ∷ []) tt
+    → Registers id sum r [] (one ∷ [])
 registers_refused id sum r fault one (lines, e, le, short, made) is =
-    subst (λ (x : Option (List TextLine)). Registers id sum x [] (one ∷ []) tt) (sym e)
+    subst (λ (x : Option (List TextLine)). Registers id sum x [] (one ∷ [])) (sym e)
     (by fault made.refused is)
   where
     by : (f : TextFault) → IsAnswer Molfile (molfile_text lines) (Err f) → IsTextRefusal f one
-        → Registers id sum (Some lines) [] (one ∷ []) tt
+        → Registers id sum (Some lines) [] (one ∷ [])
     by faults.NoMemory h is =
-        subst (λ (l : line.Reply). Registers id sum (Some lines) [] (l ∷ []) tt) (sym is)
+        subst (λ (l : line.Reply). Registers id sum (Some lines) [] (l ∷ [])) (sym is)
         (registers_fault id sum (Some lines))
     by f h is =
-        subst (λ (l : line.Reply). Registers id sum (Some lines) [] (l ∷ []) tt) (sym is)
+        subst (λ (l : line.Reply). Registers id sum (Some lines) [] (l ∷ [])) (sym is)
         (registers_note id sum (Some lines) (refusals.Text f) (inr (le, inr (short, h))))
 
 -- what a commit did
@@ -223,11 +244,11 @@ committed change act calls lines may (RegisteredEach own records _ _ s) = absurd
 committed change act calls lines may (FoundData own name reply said is) = absurd may
 
 pub registers_committed : (id sum : ℕ) (r : Option (List TextLine)) (entry : Shared) (size : ℕ) (cursors : List Cursor)
-    → IsReady id sum r (Some keeps.Text) (Some (Ok entry)) → IsRecord (arc_value entry)
-    → (calls : Calls) (lines : Lines) (x : List Cursor)
-    → Answers size (MayAsk (events.Commit (change_of (asked.Register entry)))) cursors calls lines x
-    → Registers id sum r calls lines tt
-registers_committed id sum r entry size cursors (own, e, le, short, made) sound calls lines x a =
+    (w : List Watched) → IsReady id sum r (Some keeps.Text) (Some (Ok entry)) → IsRecord (arc_value entry)
+    → (calls : Calls) (lines : Lines) (x : Standing)
+    → Responds size (MayAsk (events.Commit (change_of (asked.Register entry)))) (both cursors w) calls lines x
+    → Keeps (Registers id sum r) w calls lines x.watches
+registers_committed id sum r entry size cursors w (own, e, le, short, made) sound calls lines x a =
     let it = arc_value entry in
     let text = molfile_text own in
     let same : changes.Register it.id it.format it.text ≡ changes.Register id Molfile text =
@@ -235,10 +256,13 @@ registers_committed id sum r entry size cursors (own, e, le, short, made) sound 
     let is : IsText Molfile text =
     subst (λ (t : List ℕ). IsText Molfile t) made.bytes
     (subst (λ (f : Format). IsText f it.text) made.molfile (text_is it sound)) in
-    let c = committed (change_of (asked.Register entry)) a.act calls lines a.allowed a.does in
-    let may = may_change _ (changes.Register id Molfile text) Molfile text same is a.act a.allowed in
-    subst (λ (k : Option (List TextLine)). Registers id sum k calls lines tt) (sym e)
-    (a.act, c.0, may_register id sum own a.act le short may, c.1, c.2)
+    let d = by_commit _ a.allowed a.does in
+    let c = committed (change_of (asked.Register entry)) a.act calls lines a.allowed d.0 in
+    let may = may_change _ (changes.Register id Molfile text) Molfile text same is a.act a.allowed in (
+      subst (λ (k : Option (List TextLine)). Registers id sum k calls lines) (sym e)
+          (a.act, c.0, may_register id sum own a.act le short may, c.1, c.2),
+      d.1,
+    )
 
 -- what is kept of the first of the records that are left
 abbrev pub head_of : {X : Type 0} → List X → Option X
@@ -294,28 +318,28 @@ read_all first (t ∷ ts) (a ∷ answers) h =
 
 -- where the records and their answers are
 pub record IsAt {S : Type 0} (of : meaning.Ghosts S) (old now : S) (first : ℕ)
-    (records : List (Option (List TextLine))) (texts : SdTexts) (out out' : List ℕ) (place : ℕ)
+    (records : List (Option (List TextLine))) (texts : SdTexts) (w w' : List Watched) (out out' : List ℕ) (place : ℕ)
     (answers : List (Result Shared TextFault)) : Type 0 where
   pub sum : ℕ
   pub rest : List (Option (List TextLine))
   pub ts : List (Vec ℕ Global)
-  pub under : IsUnderWay of old now first records out out' (first + place) sum rest
+  pub under : IsUnderWay of old now first records w w' out out' (first + place) sum rest
   pub number : place + length rest ≡ length records
   pub kept : AreKept sum rest (drop place texts.kept.items) ts
   pub read : AreRead (first + place) ts answers
 
 pub at_none : {S : Type 0} (of : meaning.Ghosts S) (old : S) (first : ℕ) (records : List (Option (List TextLine)))
-    (texts : SdTexts) (out : List ℕ) (answers : List (Result Shared TextFault)) → Uses of old old []
+    (texts : SdTexts) (w : List Watched) (out : List ℕ) (answers : List (Result Shared TextFault)) → Uses of old old []
     → AreTaken records texts → AreRead first texts.texts.items answers
-    → IsAt of old old first records texts out out 0 answers
-at_none of old first records texts out answers made taken read =
+    → IsAt of old old first records texts w w out out 0 answers
+at_none of old first records texts w out answers made taken read =
     let e : first ≡ first + 0 = omega arith in
     record {
       sum = 0;
       rest = records;
       ts = texts.texts.items;
-      under = subst (λ (n : ℕ). IsUnderWay of old old first records out out n 0 records) e
-          (way_none first records old out made);
+      under = subst (λ (n : ℕ). IsUnderWay of old old first records w w out out n 0 records) e
+          (way_none first records old w out made);
       number = omega arith;
       kept = taken.are;
       read = subst (λ (n : ℕ). AreRead n texts.texts.items answers) e read;
@@ -360,20 +384,20 @@ module _ {S : Type 0} {of : meaning.Ghosts S} (first : ℕ) (records : List (Opt
     → of.stretch a c s (xs ++ ys) u)
     (lands : (a b : S) (s t : State) (xs : List Step) → of.stretch a b s xs t → of.at b t × IsRun s xs t × IsCalm xs)
     (same : (a b : S) (s t : State) (xs : List Step) (n : ℕ) → of.stretch a b s xs t → of.owns b n ≡ of.owns a n)
-    (old now next : S) (out out' out'' : List ℕ) (place : ℕ) (answers others : List (Result Shared TextFault))
-    (kept : Option Kept) (answer : Option (Result Shared TextFault)) (kept_is : kept ≡ slice_get texts.kept.items place)
+    (old now next : S) {w w' w'' : List Watched} (out out' out'' : List ℕ) (place : ℕ)
+    (answers others : List (Result Shared TextFault)) (kept : Option Kept) (answer : Option (Result Shared TextFault)) (kept_is : kept ≡ slice_get texts.kept.items place)
     (answer_is : answer ≡ head_of answers) (others_are : others ≡ tail_of answers) where
-  pub at_more : IsAt of old now first records texts out out' place answers → place < length records
+  pub at_more : IsAt of old now first records texts w w' out out' place answers → place < length records
       → ((id sum : ℕ) (r : Option (List TextLine)) → IsReady id sum r kept answer
-      → AnsweredBy of now next (Registers id sum r) out' out'' tt (Ok tt))
-      → IsAt of old next first records texts out out'' (suc place) others
+      → AnsweredBy of now next (Keeps (Registers id sum r) w') out' out'' w'' (Ok tt))
+      → IsAt of old next first records texts w w'' out out'' (suc place) others
   at_more t within did = by t.rest t.number t.under t.kept where
     by : (rest : List (Option (List TextLine))) → place + length rest ≡ length records
-        → IsUnderWay of old now first records out out' (first + place) t.sum rest
+        → IsUnderWay of old now first records w w' out out' (first + place) t.sum rest
         → AreKept t.sum rest (drop place texts.kept.items) t.ts
-        → IsAt of old next first records texts out out'' (suc place) others
-    by [] e w k = absurd (omega (arith, e, within))
-    by (r ∷ rs) e w k =
+        → IsAt of old next first records texts w w'' out out'' (suc place) others
+    by [] e way k = absurd (omega (arith, e, within))
+    by (r ∷ rs) e way k =
         let h = ready_at first texts place answers others kept answer kept_is answer_is others_are t.sum r rs t.ts k
         t.read in
         let next_id : suc (first + place) ≡ first + suc place = omega arith in
@@ -381,35 +405,36 @@ module _ {S : Type 0} {of : meaning.Ghosts S} (first : ℕ) (records : List (Opt
           sum = t.sum + counted r;
           rest = rs;
           ts = tail_of t.ts;
-          under = subst (λ (n : ℕ). IsUnderWay of old next first records out out'' n (t.sum + counted r) rs) next_id
-              (way_more first records joins lands same w (did (first + place) (t.sum + counted r) r h.0));
+          under = subst (λ (n : ℕ). IsUnderWay of old next first records w w'' out out'' n (t.sum + counted r) rs) next_id
+              (way_more first records joins lands same way (did (first + place) (t.sum + counted r) r h.0));
           number = omega (arith, e);
           kept = h.1;
           read = h.2;
         }
 
-  pub at_stopped : (stop : Stop) → IsAt of old now first records texts out out' place answers → place < length records
+  pub at_stopped : (stop : Stop) → IsAt of old now first records texts w w' out out' place answers
+      → place < length records
       → ((id sum : ℕ) (r : Option (List TextLine)) → IsReady id sum r kept answer
-      → AnsweredBy of now next (Registers id sum r) out' out'' tt (Err stop))
-      → AnsweredBy of old next (EachAnswer first records) out out'' tt (Err stop)
+      → AnsweredBy of now next (Keeps (Registers id sum r) w') out' out'' w'' (Err stop))
+      → AnsweredBy of old next (EachAnswer first records w) out out'' w'' (Err stop)
   at_stopped stop t within did = by t.rest t.number t.under t.kept where
     by : (rest : List (Option (List TextLine))) → place + length rest ≡ length records
-        → IsUnderWay of old now first records out out' (first + place) t.sum rest
+        → IsUnderWay of old now first records w w' out out' (first + place) t.sum rest
         → AreKept t.sum rest (drop place texts.kept.items) t.ts
-        → AnsweredBy of old next (EachAnswer first records) out out'' tt (Err stop)
-    by [] e w k = absurd (omega (arith, e, within))
-    by (r ∷ rs) e w k =
+        → AnsweredBy of old next (EachAnswer first records w) out out'' w'' (Err stop)
+    by [] e way k = absurd (omega (arith, e, within))
+    by (r ∷ rs) e way k =
         let h = ready_at first texts place answers others kept answer kept_is answer_is others_are t.sum r rs t.ts k
         t.read in
-        way_stopped first records joins lands same stop w (did (first + place) (t.sum + counted r) r h.0)
+        way_stopped first records joins lands same stop way (did (first + place) (t.sum + counted r) r h.0)
 
-pub at_end : {S : Type 0} {of : meaning.Ghosts S} {old now : S} {out out' : List ℕ} (first : ℕ)
+pub at_end : {S : Type 0} {of : meaning.Ghosts S} {old now : S} {w w' : List Watched} {out out' : List ℕ} (first : ℕ)
     (records : List (Option (List TextLine))) (texts : SdTexts) (place : ℕ) (answers : List (Result Shared TextFault))
-    → IsAt of old now first records texts out out' place answers → length records ≤ place
-    → AnsweredBy of old now (EachAnswer first records) out out' tt (Ok tt)
-at_end {of = of} {old} {now} {out} {out'} first records texts place answers t all = by t.rest t.number t.under where
+    → IsAt of old now first records texts w w' out out' place answers → length records ≤ place
+    → AnsweredBy of old now (EachAnswer first records w) out out' w' (Ok tt)
+at_end {of = of} {old} {now} {w} {w'} {out} {out'} first records texts place answers t all = by t.rest t.number t.under where
   by : (rest : List (Option (List TextLine))) → place + length rest ≡ length records
-      → IsUnderWay of old now first records out out' (first + place) t.sum rest
-      → AnsweredBy of old now (EachAnswer first records) out out' tt (Ok tt)
-  by [] e w = way_done first records w
-  by (r ∷ rs) e w = absurd (omega (arith, e, all))
+      → IsUnderWay of old now first records w w' out out' (first + place) t.sum rest
+      → AnsweredBy of old now (EachAnswer first records w) out out' w' (Ok tt)
+  by [] e way = way_done first records way
+  by (r ∷ rs) e way = absurd (omega (arith, e, all))

@@ -16,12 +16,13 @@ use Rattle.shell_lang.specs.declared.command.MolfileChange.TheVariants as molfil
 use Rattle.shell_lang.specs.declared.reply.Refusal.TheVariants as refusals
 use Rattle.shell_lang.proofs.Cuts.{no_space}
 use Rattle.session_run.specs.Acts.{Act, Allows, Fault, Lines, MayChange, Refused, RegisterEach, RequestAllows, RequestAnswer, Say}
-use Rattle.session_run.specs.Cursors.{Calls, Cursor}
+use Rattle.session_run.specs.Cursors.{Calls}
 use Rattle.session_run.specs.Made.{Answered}
 use Rattle.session_run.specs.Records.{behind_record, records_in}
 use Rattle.session_run.specs.Requests.{Request, IsLong, TakesMolfile, molfile_text}
 use Rattle.session_run.specs.Responds.{IsLostLine, IsTextChange, change_by}
 use Rattle.session_run.specs.Turn.{IsNext}
+use Rattle.session_run.specs.Watching.{Standing}
 use Rattle.session_run.specs.declared.commands.TextChange.{TextChange}
 use Rattle.session_run.specs.declared.commands.Verb.{Verb}
 use Rattle.session_run.specs.declared.commands.Verb.TheVariants as verbs
@@ -29,7 +30,7 @@ use Rattle.session_run.specs.declared.records.SdTexts.{SdTexts}
 use Rattle.session_run.specs.declared.request.Molfile.TheVariants as molfiles
 use Rattle.session_run.specs.declared.request.Next.TheVariants as nexts
 use Rattle.session_run.specs.declared.stop.Stop.{Stop}
-use Rattle.session_run.proofs.Lines.{noted}
+use Rattle.session_run.proofs.Standing.{rests}
 
 -- the reply was empty before
 pub behind_nothing : {X : Type 0} {Made : Calls → Type 0} {IsWorn : Type 0} {Is : Calls → Lines → X → Type 0}
@@ -83,10 +84,10 @@ records_line request line part count e t (inr long) =
     records_apart line part count t (subst TakesMolfile e long.0)
 
 -- a line that takes no lines
-pub line_allows : (cursors : List Cursor) (request : Request) (line : List ℕ) (read : Result Command LineRefusal)
+pub line_allows : (standing : Standing) (request : Request) (line : List ℕ) (read : Result Command LineRefusal)
     → (request ≡ record { line = Whole line; more = [] }) × ¬ TakesLines line → IsLine line read → (act : Act)
-    → Allows cursors request.more read act → RequestAllows cursors request act
-line_allows cursors request line read next is act a = inr (
+    → Allows standing request.more read act → RequestAllows standing request act
+line_allows standing request line read next is act a = inr (
   subst (λ (r : Request). ¬ IsLong r) (sym next.0)
       (whole_line (record { line = Whole line; more = [] }) line refl no_lines),
   line,
@@ -97,70 +98,70 @@ line_allows cursors request line read next is act a = inr (
 )
 
 -- a line with its molfile
-pub molfile_refused : (cursors : List Cursor) (request : Request) (refusal : LineRefusal) (text : List ℕ)
+pub molfile_refused : (standing : Standing) (request : Request) (refusal : LineRefusal) (text : List ℕ)
     (any : List ℕ) (texts : SdTexts) → IsNext (nexts.WithMolfile (Err refusal) molfiles.Text) request any text texts
-    → RequestAllows cursors request (Say (Refused (refusals.Line refusal)))
-molfile_refused cursors request refusal text any texts n =
+    → RequestAllows standing request (Say (Refused (refusals.Line refusal)))
+molfile_refused standing request refusal text any texts n =
     inr (whole_line request n.0 n.1 n.4.1, n.0, n.1, Err refusal, n.3, refl)
 
-may_be : (cursors : List Cursor) (more : List TextLine) (text : List ℕ) (change : MolfileChange) (t : TextChange)
+may_be : (standing : Standing) (more : List TextLine) (text : List ℕ) (change : MolfileChange) (t : TextChange)
     (act : Act) → text ≡ molfile_text more → IsTextChange change t
     → MayChange (change_by t.verb t.id t.format text) t.format text act
-    → Allows cursors more (molfile_command (Ok change)) act
-may_be cursors more text (molfile.Register id) t act e is a =
+    → Allows standing more (molfile_command (Ok change)) act
+may_be standing more text (molfile.Register id) t act e is a =
     subst (λ (x : List ℕ). MayChange (change_by verbs.Register id Molfile x) Molfile x act) e
     (subst (λ (v : Verb). MayChange (change_by v id Molfile text) Molfile text act) is.0
     (subst (λ (i : ℕ). MayChange (change_by t.verb i Molfile text) Molfile text act) is.1
     (subst (λ (f : Format). MayChange (change_by t.verb t.id f text) f text act) is.2 a)))
-may_be cursors more text (molfile.Revise id) t act e is a =
+may_be standing more text (molfile.Revise id) t act e is a =
     subst (λ (x : List ℕ). MayChange (change_by verbs.Revise id Molfile x) Molfile x act) e
     (subst (λ (v : Verb). MayChange (change_by v id Molfile text) Molfile text act) is.0
     (subst (λ (i : ℕ). MayChange (change_by t.verb i Molfile text) Molfile text act) is.1
     (subst (λ (f : Format). MayChange (change_by t.verb t.id f text) f text act) is.2 a)))
 
-pub molfile_allows : (cursors : List Cursor) (request : Request) (change : MolfileChange) (t : TextChange)
+pub molfile_allows : (standing : Standing) (request : Request) (change : MolfileChange) (t : TextChange)
     (text : List ℕ) (any : List ℕ) (texts : SdTexts)
     → IsNext (nexts.WithMolfile (Ok change) molfiles.Text) request any text texts
     → IsTextChange change t → (act : Act) → MayChange (change_by t.verb t.id t.format text) t.format text act
-    → RequestAllows cursors request act
-molfile_allows cursors request change t text any texts n is act a = inr (
+    → RequestAllows standing request act
+molfile_allows standing request change t text any texts n is act a = inr (
   whole_line request n.0 n.1 n.4.1,
   n.0,
   n.1,
   molfile_command (Ok change),
   n.3,
-  may_be cursors request.more text change t act n.4.0 is a,
+  may_be standing request.more text change t act n.4.0 is a,
 )
 
-pub lost_answer : {size : ℕ} {cursors : List Cursor} (request : Request) (read : Result MolfileChange LineRefusal)
+pub lost_answer : {size : ℕ} {standing : Standing} (request : Request) (read : Result MolfileChange LineRefusal)
     (text : List ℕ) (any : List ℕ) (texts : SdTexts)
     → IsNext (nexts.WithMolfile read molfiles.Lost) request any text texts
-    → (said : line.Reply) → IsLostLine read said → RequestAnswer size cursors request [] (said ∷ []) cursors
-lost_answer {size} {cursors} request read text any texts n said e = by read n e where
+    → (said : line.Reply) → IsLostLine read said → RequestAnswer size standing request [] (said ∷ []) standing
+lost_answer {size} {standing} request read text any texts n said e = by read n e where
   by : (read : Result MolfileChange LineRefusal) → IsNext (nexts.WithMolfile read molfiles.Lost) request any text texts
-      → IsLostLine read said → RequestAnswer size cursors request [] (said ∷ []) cursors
+      → IsLostLine read said → RequestAnswer size standing request [] (said ∷ []) standing
   by (Ok (molfile.Register id)) n e =
-      subst (λ (l : line.Reply). RequestAnswer size cursors request [] (l ∷ []) cursors) (sym e)
-      (noted Fault (inr (whole_line request n.0 n.1 n.4, n.0, n.1, Ok (command.RegisterMol id), n.3, tt)))
+      subst (λ (l : line.Reply). RequestAnswer size standing request [] (l ∷ []) standing) (sym e)
+      (rests Fault (inr (whole_line request n.0 n.1 n.4, n.0, n.1, Ok (command.RegisterMol id), n.3, tt)))
   by (Ok (molfile.Revise id)) n e =
-      subst (λ (l : line.Reply). RequestAnswer size cursors request [] (l ∷ []) cursors) (sym e)
-      (noted Fault (inr (whole_line request n.0 n.1 n.4, n.0, n.1, Ok (command.ReviseMol id), n.3, tt)))
+      subst (λ (l : line.Reply). RequestAnswer size standing request [] (l ∷ []) standing) (sym e)
+      (rests Fault (inr (whole_line request n.0 n.1 n.4, n.0, n.1, Ok (command.ReviseMol id), n.3, tt)))
   by (Err refusal) n e =
-      subst (λ (l : line.Reply). RequestAnswer size cursors request [] (l ∷ []) cursors) (sym e)
-      (noted (Refused (refusals.Line refusal))
+      subst (λ (l : line.Reply). RequestAnswer size standing request [] (l ∷ []) standing) (sym e)
+      (rests (Refused (refusals.Line refusal))
       (inr (whole_line request n.0 n.1 n.4, n.0, n.1, Err refusal, n.3, refl)))
 
 -- a line with its records
-pub records_refused : (cursors : List Cursor) (request : Request) (count : ℕ) (refusal : LineRefusal)
+pub records_refused : (standing : Standing) (request : Request) (count : ℕ) (refusal : LineRefusal)
     (any text : List ℕ) (texts : SdTexts) → IsNext (nexts.WithRecords count (Err refusal)) request any text texts
-    → RequestAllows cursors request (Say (Refused (refusals.Line refusal)))
-records_refused cursors request count refusal any text texts n =
+    → RequestAllows standing request (Say (Refused (refusals.Line refusal)))
+records_refused standing request count refusal any text texts n =
     inr (records_line request n.0 n.1 count n.2 n.3, n.0, n.2, Err refusal, n.4, refl)
 
-pub records_allow : (cursors : List Cursor) (request : Request) (count id : ℕ) (any text : List ℕ) (texts : SdTexts)
+pub records_allow : (standing : Standing) (request : Request) (count id : ℕ) (any text : List ℕ) (texts : SdTexts)
     → IsNext (nexts.WithRecords count (Ok id)) request any text texts → (act : Act)
-    → act ≡ RegisterEach id (records_in count request.more) → RequestAllows cursors request act
-records_allow cursors request count id any text texts n act e =
+    → act ≡ RegisterEach id (records_in count request.more) → RequestAllows standing request act
+records_allow standing request count id any text texts n act e =
     inr (records_line request n.0 n.1 count n.2 n.3, n.0, n.2, Ok (command.RegisterSd id count), n.4, e)
 
 pub records_length : (count : ℕ) (lines : List TextLine) → length (records_in count lines) ≡ count

@@ -6,13 +6,14 @@ use Rattle.io_edge.specs.Sink.{AppendsPrefix}
 use Rattle.io_edge.specs.Lines.{TextLine, Reading, lines_of, lines_left}
 use Rattle.shell_lang.specs.Reply.{text_of}
 use Rattle.session_run.specs.Acts.{Lines, RequestAnswer}
-use Rattle.session_run.specs.Cursors.{Calls, Cursor}
+use Rattle.session_run.specs.Cursors.{Calls}
 use Rattle.session_run.specs.Dialogue.{AreExchanged, Exchange, replies_of, requests_of}
 use Rattle.session_run.specs.Requests.{Request, BeginWith, BeginWithAll, IsPartOfRequest}
 use Rattle.session_run.specs.Served.{IsInputFault, TakesAll, TakesAtMost, TakesExactly, WritesForTaken}
 use Rattle.session_run.specs.Serving.{AnswersTaken, Ends, IsFresh, Script, Serves}
 use Rattle.session_run.specs.Transcript.{IsDialogue, IsPrefixOf, Stops, InAnswer}
 use Rattle.session_run.specs.Turn.{ReadsOn, TakesNone, TakesPart, TakesRequest, Turns}
+use Rattle.session_run.specs.Watching.{Standing, nothing_kept}
 use Rattle.session_run.specs.declared.settings.EndStatus.{EndStatus}
 use Rattle.session_run.specs.declared.settings.EndStatus.TheVariants.{Done, SourceFault, SinkFault, NoMemory, InputTooLong, Worn}
 use Rattle.session_run.proofs.Continued.{leaves, none_more}
@@ -25,7 +26,7 @@ begin_more all lines left [] x b t =
     (left, subst (λ (l : List TextLine). BeginWith l x.request left) (sym b) t, refl)
 begin_more all lines left (y ∷ ys) x b t = (b.0, b.1, begin_more b.0 lines left ys x b.2 t)
 
-pub exchanged_more : (size : ℕ) (first between after : List Cursor) (xs : List Exchange) (x : Exchange)
+pub exchanged_more : (size : ℕ) (first between after : Standing) (xs : List Exchange) (x : Exchange)
     (calls its : Calls)
     → AreExchanged size first xs calls between → RequestAnswer size between x.request its x.lines after
     → AreExchanged size first (xs ++ x ∷ []) (calls ++ its) after
@@ -33,7 +34,7 @@ exchanged_more size first between after [] x calls its h a = (
   its,
   [],
   after,
-  subst (λ (c : List Cursor). RequestAnswer size c x.request its x.lines after) h.1 a,
+  subst (λ (c : Standing). RequestAnswer size c x.request its x.lines after) h.1 a,
   ap (λ l. l ++ its) h.0 ∙ sym (append-nil its),
   (refl, refl),
 )
@@ -54,7 +55,7 @@ replies_more (y ∷ ys) x = ap (λ l. text_of y.lines ++ l) (replies_more ys x)
 
 -- what was answered of a script, and how its source goes on, however that is
 pub record Told (size : ℕ) (input old : List ℕ) (now put : Option (List ℕ)) (reading : Reading) (calls : Calls)
-    (cursors : List Cursor) : Type 0 where
+    (standing : Standing) : Type 0 where
   pub got : List ℕ
   pub left : List ℕ
   pub done : List ℕ
@@ -64,16 +65,16 @@ pub record Told (size : ℕ) (input old : List ℕ) (now put : Option (List ℕ)
   pub split : input ≡ got ++ left
   pub begin : (rest : List ℕ) → (IsTrue reading.ended → rest ≡ [])
       → BeginWithAll (lines_of (got ++ rest)) (requests_of exchanges) (lines_left reading rest)
-  pub exchanged : AreExchanged size [] exchanges calls cursors
+  pub exchanged : AreExchanged size nothing_kept exchanges calls standing
   pub said : done ≡ replies_of exchanges
   pub ended : IsTrue reading.ended → left ≡ []
 
--- A session under way: what was left and put at its start and is now, how far its source was read, its calls and its
--- open cursors
+-- A session under way: what was left and put at its start and is now, how far its source was read, its calls, and
+-- what it keeps
 pub record IsUnderWay (size limit : ℕ) (before now put0 put : Option (List ℕ)) (reading : Reading) (calls : Calls)
-    (cursors : List Cursor) : Type 0 where
+    (standing : Standing) : Type 0 where
   pub told : (input old : List ℕ) → before ≡ Some input → put0 ≡ Some old
-      → Told size input old now put reading calls cursors
+      → Told size input old now put reading calls standing
   pub taken : (input : List ℕ) → before ≡ Some input → (got l : List ℕ) × (input ≡ got ++ l) × (now ≡ Some l)
       × (length got ≡ reading.taken) × (IsTrue reading.ended → l ≡ [])
   pub limit_is : reading.limit ≡ limit
@@ -93,10 +94,10 @@ fresh r limit e = record {
 }
 
 -- the start
-pub under_way-start : (size : ℕ) (before put : Option (List ℕ)) (r : Reading) (cursors : List Cursor) → IsFresh r
-    → cursors ≡ []
-    → IsUnderWay size r.limit before before put put r [] cursors
-under_way-start size before put r cursors fresh none = record {
+pub under_way-start : (size : ℕ) (before put : Option (List ℕ)) (r : Reading) (standing : Standing) → IsFresh r
+    → standing ≡ nothing_kept
+    → IsUnderWay size r.limit before before put put r [] standing
+under_way-start size before put r standing fresh none = record {
   told = λ input old p q. record {
     got = [];
     left = input;
@@ -126,7 +127,7 @@ appended old text (Some m) None p h = absurd h
 appended old text (Some m) (Some n) p h = let e : m ≡ old = cc in rw (h, e) refl
 
 module _ {size limit : ℕ} {before now put0 put : Option (List ℕ)} {r : Reading} {calls : Calls}
-    {cursors : List Cursor} (u : IsUnderWay size limit before now put0 put r calls cursors) where
+    {standing : Standing} (u : IsUnderWay size limit before now put0 put r calls standing) where
   -- where the source is now
   taken_on : {now' : Option (List ℕ)} {r' : Reading} {f f' : ℕ} → ReadsOn now now' f f' r r' → (input : List ℕ)
       → before ≡ Some input → (got l : List ℕ) × (input ≡ got ++ l) × (now' ≡ Some l) × (length got ≡ r'.taken)
@@ -151,11 +152,11 @@ module _ {size limit : ℕ} {before now put0 put : Option (List ℕ)} {r : Readi
 
   -- a request was answered
   pub under_way-request : (now' put' : Option (List ℕ)) (r' : Reading) (f f' : ℕ) (request : Request) (its : Calls)
-      (lines : Lines) (cursors' : List Cursor)
+      (lines : Lines) (standing' : Standing)
       → ReadsOn now now' f f' r r' → TakesRequest r r' now now' request
-      → RequestAnswer size cursors request its lines cursors' → Appends put put' (text_of lines)
-      → IsUnderWay size limit before now' put0 put' r' (calls ++ its) cursors'
-  under_way-request now' put' r' f f' request its lines cursors' reads takes answers appends = record {
+      → RequestAnswer size standing request its lines standing' → Appends put put' (text_of lines)
+      → IsUnderWay size limit before now' put0 put' r' (calls ++ its) standing'
+  under_way-request now' put' r' f f' request its lines standing' reads takes answers appends = record {
     told = λ input old p q.
         let t = u.told input old p q in
         let k = leaves t.left reads.got now now' t.left_is reads.leaves in
@@ -177,7 +178,7 @@ module _ {size limit : ℕ} {before now put0 put : Option (List ℕ)} {r : Readi
               (begin_more (lines_of (t.got ++ (reads.got ++ rest))) (lines_left r (reads.got ++ rest))
               (lines_left r' rest) t.exchanges x (t.begin (reads.got ++ rest) none)
               (takes t.left k.0 reads.got t.left_is k.1 k.2 t.ended rest met));
-          exchanged = exchanged_more size [] cursors cursors' t.exchanges x calls its t.exchanged answers;
+          exchanged = exchanged_more size nothing_kept standing standing' t.exchanges x calls its t.exchanged answers;
           said = ap (λ l. l ++ text_of lines) t.said ∙ sym (replies_more t.exchanges x);
           ended = reads.met t.left k.0 t.left_is k.1 t.ended;
         };
@@ -187,8 +188,8 @@ module _ {size limit : ℕ} {before now put0 put : Option (List ℕ)} {r : Readi
   }
 
   -- the script's requests so far
-  dialogue : (input old : List ℕ) → (t : Told size input old now put r calls cursors)
-      → IsDialogue size (lines_of input) (lines_left r t.left) calls t.done cursors
+  dialogue : (input old : List ℕ) → (t : Told size input old now put r calls standing)
+      → IsDialogue size (lines_of input) (lines_left r t.left) calls t.done standing
   dialogue input old t = record {
     exchanges = t.exchanges;
     begin = subst (λ (x : List ℕ). BeginWithAll (lines_of x) (requests_of t.exchanges) (lines_left r t.left))
@@ -197,18 +198,18 @@ module _ {size limit : ℕ} {before now put0 put : Option (List ℕ)} {r : Readi
     said = t.said;
   }
 
-  script_told : (status : EndStatus) (put' : Option (List ℕ)) (all : Calls) (cursors' : List Cursor)
+  script_told : (status : EndStatus) (put' : Option (List ℕ)) (all : Calls) (standing' : Standing)
       → ((input old : List ℕ) → before ≡ Some input → put0 ≡ Some old → (t : List ℕ) × (put' ≡ Some (old ++ t))
-      × Ends status size (lines_of input) all cursors' t)
-      → Script status size before put0 put' all cursors'
-  script_told status put' all cursors' f = by before put0 refl refl where
-    by : (b q : Option (List ℕ)) → before ≡ b → put0 ≡ q → Script status size b q put' all cursors'
+      × Ends status size (lines_of input) all standing' t)
+      → Script status size before put0 put' all standing'
+  script_told status put' all standing' f = by before put0 refl refl where
+    by : (b q : Option (List ℕ)) → before ≡ b → put0 ≡ q → Script status size b q put' all standing'
     by None q e d = tt
     by (Some input) None e d = tt
     by (Some input) (Some old) e d = f input old e d
 
   -- nothing more was put
-  put_here : (input old : List ℕ) → (t : Told size input old now put r calls cursors) → (put' : Option (List ℕ))
+  put_here : (input old : List ℕ) → (t : Told size input old now put r calls standing) → (put' : Option (List ℕ))
       → Appends put put' [] → put' ≡ Some (old ++ t.done)
   put_here input old t put' appends =
       let a : put' ≡ Some ((old ++ t.done) ++ []) = appended (old ++ t.done) [] put put' t.put_is appends in
@@ -216,40 +217,40 @@ module _ {size limit : ℕ} {before now put0 put : Option (List ℕ)} {r : Readi
 
   -- the input was answered to its end
   pub script-done : (put' : Option (List ℕ)) → TakesNone r now → Appends put put' []
-      → Script Done size before put0 put' calls cursors
-  script-done put' none appends = script_told Done put' calls cursors (λ input old p q.
+      → Script Done size before put0 put' calls standing
+  script-done put' none appends = script_told Done put' calls standing (λ input old p q.
       let t = u.told input old p q in (
         t.done,
         put_here input old t put' appends,
-        subst (λ (l : List TextLine). IsDialogue size (lines_of input) l calls t.done cursors)
+        subst (λ (l : List TextLine). IsDialogue size (lines_of input) l calls t.done standing)
             (none t.left t.left_is t.ended) (dialogue input old t),
       ))
 
   -- nothing more was asked
   answered-here : (put' : Option (List ℕ)) → Appends put put' [] → (input old : List ℕ) → before ≡ Some input
       → put0 ≡ Some old → (t : List ℕ) × (put' ≡ Some (old ++ t)) × (left : List TextLine)
-      × IsDialogue size (lines_of input) left calls t cursors
+      × IsDialogue size (lines_of input) left calls t standing
   answered-here put' appends input old p q =
       let t = u.told input old p q in
       (t.done, put_here input old t put' appends, lines_left r t.left, dialogue input old t)
 
   pub script-source_fault : (put' : Option (List ℕ)) → Appends put put' []
-      → Script SourceFault size before put0 put' calls cursors
-  script-source_fault put' appends = script_told SourceFault put' calls cursors
+      → Script SourceFault size before put0 put' calls standing
+  script-source_fault put' appends = script_told SourceFault put' calls standing
       (λ input old p q. let t = answered-here put' appends input old p q in (t.0, t.1, (t.2, t.3)))
 
   pub script-too_long : (put' : Option (List ℕ)) → Appends put put' []
-      → Script InputTooLong size before put0 put' calls cursors
-  script-too_long put' appends = script_told InputTooLong put' calls cursors
+      → Script InputTooLong size before put0 put' calls standing
+  script-too_long put' appends = script_told InputTooLong put' calls standing
       (λ input old p q. let t = answered-here put' appends input old p q in (t.0, t.1, (t.2, t.3)))
 
   -- no whole request was left
   pub answered_taken : (now' put' : Option (List ℕ)) (r' : Reading) (f f' : ℕ) → ReadsOn now now' f f' r r'
       → TakesPart r r' now now' IsPartOfRequest → Appends put put' []
-      → WritesForTaken before now' put0 put' (AnswersTaken size calls cursors)
+      → WritesForTaken before now' put0 put' (AnswersTaken size calls standing)
   answered_taken now' put' r' f f' reads part appends = by before put0 refl refl where
     by : (b q : Option (List ℕ)) → before ≡ b → put0 ≡ q
-        → WritesForTaken b now' q put' (AnswersTaken size calls cursors)
+        → WritesForTaken b now' q put' (AnswersTaken size calls standing)
     by None q e d = tt
     by (Some input) None e d = let t = taken_on reads input e in (t.0, t.1, t.2, t.3, tt)
     by (Some input) (Some old) e d =
@@ -285,7 +286,7 @@ module _ {size limit : ℕ} {before now put0 put : Option (List ℕ)} {r : Readi
   -- the next request's lines
   next_begins : (now' : Option (List ℕ)) (r' : Reading) (f f' : ℕ) (request : Request)
       → ReadsOn now now' f f' r r' → TakesRequest r r' now now' request → (input old : List ℕ)
-      → (t : Told size input old now put r calls cursors)
+      → (t : Told size input old now put r calls standing)
       → (more : List TextLine) × BeginWith (lines_left r t.left) request more
   next_begins now' r' f f' request reads takes input old t =
       let k = leaves t.left reads.got now now' t.left_is reads.leaves in (
@@ -297,12 +298,12 @@ module _ {size limit : ℕ} {before now put0 put : Option (List ℕ)} {r : Readi
 
   -- a request was answered, and a part of its reply was put
   pub stops-part : (now' put' : Option (List ℕ)) (r' : Reading) (f f' : ℕ) (request : Request) (its : Calls)
-      (lines : Lines) (cursors' : List Cursor)
+      (lines : Lines) (standing' : Standing)
       → ReadsOn now now' f f' r r' → TakesRequest r r' now now' request
-      → RequestAnswer size cursors request its lines cursors' → AppendsPrefix put put' (text_of lines)
+      → RequestAnswer size standing request its lines standing' → AppendsPrefix put put' (text_of lines)
       → (input old : List ℕ) → before ≡ Some input → put0 ≡ Some old → (t : List ℕ) × (put' ≡ Some (old ++ t))
-      × Stops size (lines_of input) (calls ++ its) t cursors'
-  stops-part now' put' r' f f' request its lines cursors' reads takes answers part input old p q =
+      × Stops size (lines_of input) (calls ++ its) t standing'
+  stops-part now' put' r' f f' request its lines standing' reads takes answers part input old p q =
       let t = u.told input old p q in
       let n = next_begins now' r' f f' request reads takes input old t in
       let a : put' ≡ Some ((old ++ t.done) ++ part.0) = appended (old ++ t.done) part.0 put put' t.put_is part.3 in (
@@ -312,7 +313,7 @@ module _ {size limit : ℕ} {before now put0 put : Option (List ℕ)} {r : Readi
           left = lines_left r t.left;
           own = calls;
           replies = t.done;
-          cursors_open = cursors;
+          kept = standing;
           answered = dialogue input old t;
           last = inr
               (request, n.0, n.1, its, lines, part.0, answers, refl, (part.1, sym part.2), refl);
@@ -321,17 +322,17 @@ module _ {size limit : ℕ} {before now put0 put : Option (List ℕ)} {r : Readi
 
   -- in the answer to a request the service was worn
   pub script-worn : (now' put' : Option (List ℕ)) (r' : Reading) (f f' : ℕ) (request : Request) (some whole : Calls)
-      (lines : Lines) (after cursors' : List Cursor)
+      (lines : Lines) (after standing' : Standing)
       → ReadsOn now now' f f' r r' → TakesRequest r r' now now' request → IsPrefixOf some whole
-      → RequestAnswer size cursors request whole lines after → Appends put put' []
-      → Script Worn size before put0 put' (calls ++ some) cursors'
-  script-worn now' put' r' f f' request some whole lines after cursors' reads takes begins answers appends =
-      script_told Worn put' (calls ++ some) cursors' (λ input old p q.
+      → RequestAnswer size standing request whole lines after → Appends put put' []
+      → Script Worn size before put0 put' (calls ++ some) standing'
+  script-worn now' put' r' f f' request some whole lines after standing' reads takes begins answers appends =
+      script_told Worn put' (calls ++ some) standing' (λ input old p q.
       let t = u.told input old p q in
       let n = next_begins now' r' f f' request reads takes input old t in (
         t.done,
         put_here input old t put' appends,
-        InAnswer (lines_left r t.left) n.0 calls whole some cursors after request lines (dialogue input old t) n.1
+        InAnswer (lines_left r t.left) n.0 calls whole some standing after request lines (dialogue input old t) n.1
             answers begins refl,
       ))
 
@@ -362,25 +363,25 @@ Rose-since a b c le (inl lt) = inl (omega arith)
 Rose-since a b c le (inr top) = inr top
 
 module _ {size limit : ℕ} {before now put0 put : Option (List ℕ)} {r : Reading} {calls : Calls}
-    {cursors : List Cursor} (u : IsUnderWay size limit before now put0 put r calls cursors)
+    {standing : Standing} (u : IsUnderWay size limit before now put0 put r calls standing)
     (Made More : Calls → Type 0) (IsWorn : Type 0) (more : (its : Calls) → Made its → More (calls ++ its))
-    (put' : Option (List ℕ)) (cursors' : List Cursor) {now' : Option (List ℕ)} {r' : Reading} {f f' : ℕ}
+    (put' : Option (List ℕ)) (standing' : Standing) {now' : Option (List ℕ)} {r' : Reading} {f f' : ℕ}
     (reads : ReadsOn now now' f f' r r') where
   -- nothing was asked in the turn
-  quiet : (end : EndStatus) → Made [] → cursors' ≡ cursors → Serves end size before now' put0 put' calls cursors
-      → (all : Calls) × More all × Serves end size before now' put0 put' all cursors'
+  quiet : (end : EndStatus) → Made [] → standing' ≡ standing → Serves end size before now' put0 put' calls standing
+      → (all : Calls) × More all × Serves end size before now' put0 put' all standing'
   quiet end made same s = (
     calls ++ [],
     more [] made,
-    subst (λ (l : Calls). Serves end size before now' put0 put' l cursors') (sym (append-nil calls))
-        (subst (λ (c : List Cursor). Serves end size before now' put0 put' calls c) (sym same) s),
+    subst (λ (l : Calls). Serves end size before now' put0 put' l standing') (sym (append-nil calls))
+        (subst (λ (c : Standing). Serves end size before now' put0 put' calls c) (sym same) s),
   )
 
   -- a turn with which the session ends
-  pub serves-turn : (end : EndStatus) → Turns size Made IsWorn (TakesRequest r r' now now') (TakesNone r now) cursors
-      cursors' put put' (Some end)
+  pub serves-turn : (end : EndStatus) → Turns size Made IsWorn (TakesRequest r r' now now') (TakesNone r now) standing
+      standing' put put' (Some end)
       → (IsInputFault end → TakesPart r r' now now' IsPartOfRequest)
-      → (all : Calls) × More all × Serves end size before now' put0 put' all cursors'
+      → (all : Calls) × More all × Serves end size before now' put0 put' all standing'
   serves-turn Done t part = quiet Done t.1 t.2 (record {
     script = script-done u put' t.0 t.3;
     taken = λ is. absurd is;
@@ -400,8 +401,8 @@ module _ {size limit : ℕ} {before now put0 put : Option (List ℕ)} {r : Readi
     more a.did.calls a.did.made,
     record {
       script = script_told u SinkFault put' (calls ++ a.did.calls)
-          cursors' (stops-part u now' put' r' f f' a.request a.did.calls
-          a.did.lines cursors' reads a.taken a.did.is t.1);
+          standing' (stops-part u now' put' r' f f' a.request a.did.calls
+          a.did.lines standing' reads a.taken a.did.is t.1);
       taken = λ is. absurd is;
     },
   )
@@ -410,8 +411,8 @@ module _ {size limit : ℕ} {before now put0 put : Option (List ℕ)} {r : Readi
     more a.did.calls a.did.made,
     record {
       script = script_told u NoMemory put' (calls ++ a.did.calls)
-          cursors' (stops-part u now' put' r' f f' a.request a.did.calls
-          a.did.lines cursors' reads a.taken a.did.is t.1);
+          standing' (stops-part u now' put' r' f f' a.request a.did.calls
+          a.did.lines standing' reads a.taken a.did.is t.1);
       taken = λ is. absurd is;
     },
   )
@@ -420,17 +421,17 @@ module _ {size limit : ℕ} {before now put0 put : Option (List ℕ)} {r : Readi
     more b.worn.calls b.worn.made,
     record {
       script = script-worn u now' put' r' f f' b.request b.worn.calls
-          b.worn.whole b.worn.lines b.worn.after cursors' reads b.taken b.worn.begins b.worn.is t.1;
+          b.worn.whole b.worn.lines b.worn.after standing' reads b.taken b.worn.begins b.worn.is t.1;
       taken = λ is. absurd is;
     },
   )
 
   -- a turn after which it goes on
-  pub under_way-turn : Turns size Made IsWorn (TakesRequest r r' now now') (TakesNone r now) cursors cursors' put put' None
-      → (all : Calls) × More all × IsUnderWay size limit before now' put0 put' r' all cursors'
+  pub under_way-turn : Turns size Made IsWorn (TakesRequest r r' now now') (TakesNone r now) standing standing' put put' None
+      → (all : Calls) × More all × IsUnderWay size limit before now' put0 put' r' all standing'
   under_way-turn t = let a = t.0 in (
     calls ++ a.did.calls,
     more a.did.calls a.did.made,
     under_way-request u now' put' r' f f' a.request a.did.calls
-        a.did.lines cursors' reads a.taken a.did.is t.1,
+        a.did.lines standing' reads a.taken a.did.is t.1,
   )

@@ -5,11 +5,12 @@ use Rattle.shell_lang.specs.Reply.{text_of}
 use Rattle.store_machine.specs.Runs.{calls_of}
 use Rattle.store_machine.specs.declared.machine.History.{History}
 use Rattle.session_run.specs.Acts.{Lines, RequestAnswer}
-use Rattle.session_run.specs.Cursors.{Calls, Cursor, unpins}
+use Rattle.session_run.specs.Cursors.{Calls, unpins}
 use Rattle.session_run.specs.Dialogue.{AreExchanged, Exchange}
 use Rattle.session_run.specs.Requests.{Request, BeginWith}
 use Rattle.session_run.specs.Transcript.{InAnswer, InClosing, IsDialogue, IsPrefixOf, IsTranscript, IsTranscriptPrefix, Stops, WornAt}
 use Rattle.session_run.specs.Served.{IsWholePrefix}
+use Rattle.session_run.specs.Watching.{Standing, nothing_kept}
 use Rattle.session_run.specs.Truths.{AreTrue, DialoguesAreTrue, IsInRun, IsTrueBeginning, IsTrueTranscript, ServicesAreTrue}
 use Rattle.session_run.specs.declared.settings.EndStatus.TheVariants.{Done, SourceFault, SinkFault, NoMemory, InputTooLong, Worn}
 use Rattle.session_run.proofs.Scripts.{begin_more, exchanged_more, replies_more}
@@ -17,79 +18,79 @@ use Rattle.session_run.proofs.Scripts.{begin_more, exchanged_more, replies_more}
 module _ (law : DialoguesAreTrue) (size : ℕ) (lines : List TextLine) (h : History) (calls : Calls)
     (r : IsInRun calls h) where
   -- the law of a dialogue whose calls are the first ones
-  true_by : (exchanges : List Exchange) (own rest : Calls) (cursors : List Cursor) → calls ≡ own ++ rest
-      → AreExchanged size [] exchanges own cursors → AreTrue h size exchanges
-  true_by exchanges own rest cursors e a =
+  true_by : (exchanges : List Exchange) (own rest : Calls) (standing : Standing) → calls ≡ own ++ rest
+      → AreExchanged size nothing_kept exchanges own standing → AreTrue h size exchanges
+  true_by exchanges own rest standing e a =
       let made : calls_of r.own r.steps ≡ own ++ (rest ++ r.more) =
       r.made ∙ (ap (λ (l : Calls). l ++ r.more) e ∙ append_assoc own rest r.more) in
       subst (λ (g : History). AreTrue g size exchanges) (sym r.is)
-      (law r.before r.after r.steps r.own size exchanges own (rest ++ r.more) cursors r.sound r.run r.calm made a)
+      (law r.before r.after r.steps r.own size exchanges own (rest ++ r.more) standing r.sound r.run r.calm made a)
 
   whole_true : (text : List ℕ) → IsTranscript size lines calls text → IsTrueTranscript h size lines calls text
-  whole_true text (own, cursors, d, all) = record {
+  whole_true text (own, standing, d, all) = record {
     own = own;
-    left_open = cursors;
+    left_kept = standing;
     dialogue = d;
-    made = (unpins cursors, sym all);
-    are_true = true_by d.exchanges own (unpins cursors) cursors all d.exchanged;
+    made = (unpins standing.cursors, sym all);
+    are_true = true_by d.exchanges own (unpins standing.cursors) standing all d.exchanged;
   }
 
   -- requests that were answered whole, by the first calls
-  begun : (left : List TextLine) (own rest : Calls) (cursors : List Cursor) (text replies : List ℕ)
-      → calls ≡ own ++ rest → IsDialogue size lines left own replies cursors → IsPrefixOf text replies
+  begun : (left : List TextLine) (own rest : Calls) (standing : Standing) (text replies : List ℕ)
+      → calls ≡ own ++ rest → IsDialogue size lines left own replies standing → IsPrefixOf text replies
       → IsTrueBeginning h size lines calls text
-  begun left own rest cursors text replies all d part = record {
+  begun left own rest standing text replies all d part = record {
     left = left;
     own = own;
     replies = replies;
-    left_open = cursors;
+    left_kept = standing;
     dialogue = d;
     said = part;
     made = (rest, sym all);
-    are_true = true_by d.exchanges own rest cursors all d.exchanged;
+    are_true = true_by d.exchanges own rest standing all d.exchanged;
   }
 
   whole_beginning_true : (text : List ℕ) → IsWholePrefix size lines calls text
       → IsTrueBeginning h size lines calls text
-  whole_beginning_true text (left, own, cursors, d, all) =
-      begun left own (unpins cursors) cursors text text all d ([], append-nil text)
+  whole_beginning_true text (left, own, standing, d, all) =
+      begun left own (unpins standing.cursors) standing text text all d ([], append-nil text)
 
   -- a part of a reply may be the last
-  stopped : (own rest : Calls) (cursors : List Cursor) (text : List ℕ) → calls ≡ own ++ rest
-      → Stops size lines own text cursors → IsTrueBeginning h size lines calls text
-  stopped own rest cursors text all stops = by stops.last where
-    d : IsDialogue size lines stops.left stops.own stops.replies stops.cursors_open
+  stopped : (own rest : Calls) (standing : Standing) (text : List ℕ) → calls ≡ own ++ rest
+      → Stops size lines own text standing → IsTrueBeginning h size lines calls text
+  stopped own rest standing text all stops = by stops.last where
+    d : IsDialogue size lines stops.left stops.own stops.replies stops.kept
     d = stops.answered
 
-    by : ((own ≡ stops.own) × (text ≡ stops.replies) × (cursors ≡ stops.cursors_open))
+    by : ((own ≡ stops.own) × (text ≡ stops.replies) × (standing ≡ stops.kept))
         ⊎ ((request : Request) × (more : List TextLine) × BeginWith stops.left request more
         × (its : Calls) × (said : Lines) × (part : List ℕ)
-        × RequestAnswer size stops.cursors_open request its said cursors
+        × RequestAnswer size stops.kept request its said standing
         × (own ≡ stops.own ++ its) × IsPrefixOf part (text_of said) × (text ≡ stops.replies ++ part))
         → IsTrueBeginning h size lines calls text
-    by (inl e) = begun stops.left stops.own rest stops.cursors_open text stops.replies
+    by (inl e) = begun stops.left stops.own rest stops.kept text stops.replies
         (all ∙ ap (λ (l : Calls). l ++ rest) e.0) d ([], append-nil text ∙ e.1)
     by (inr e) =
         let x : Exchange = record { request = e.0; lines = e.4 } in
         let part : (stops.replies ++ e.5) ++ e.8.0 ≡ stops.replies ++ text_of e.4 =
         append_assoc stops.replies e.5 e.8.0 ∙ ap (λ (l : List ℕ). stops.replies ++ l) e.8.1 in
-        begun e.1 (stops.own ++ e.3) rest cursors text (stops.replies ++ text_of e.4)
+        begun e.1 (stops.own ++ e.3) rest standing text (stops.replies ++ text_of e.4)
         (all ∙ ap (λ (l : Calls). l ++ rest) e.7)
         (record {
           exchanges = d.exchanges ++ x ∷ [];
           begin = begin_more lines stops.left e.1 d.exchanges x d.begin e.2;
-          exchanged = exchanged_more size [] stops.cursors_open cursors d.exchanges x stops.own e.3 d.exchanged e.6;
+          exchanged = exchanged_more size nothing_kept stops.kept standing d.exchanges x stops.own e.3 d.exchanged e.6;
           said = ap (λ (l : List ℕ). l ++ text_of e.4) d.said ∙ sym (replies_more d.exchanges x);
         })
         (e.8.0, ap (λ (l : List ℕ). l ++ e.8.0) e.9 ∙ part)
 
   beginning_true : (text : List ℕ) → IsTranscriptPrefix size lines calls text → IsTrueBeginning h size lines calls text
-  beginning_true text (own, cursors, stops, all) = stopped own (unpins cursors) cursors text all stops
+  beginning_true text (own, standing, stops, all) = stopped own (unpins standing.cursors) standing text all stops
 
   worn_true : (text : List ℕ) → WornAt size lines calls text → IsTrueBeginning h size lines calls text
-  worn_true text (InAnswer left more own its part cursors after request said d next answer first made) =
-      begun left own part cursors text text made d ([], append-nil text)
-  worn_true text (InClosing own part cursors stops first made) = stopped own part cursors text made stops
+  worn_true text (InAnswer left more own its part standing after request said d next answer first made) =
+      begun left own part standing text text made d ([], append-nil text)
+  worn_true text (InClosing own part standing stops first made) = stopped own part standing text made stops
 
 pub services-are-true : DialoguesAreTrue → ServicesAreTrue
 services-are-true law Done size lines calls text h r is = whole_true law size lines h calls r text is

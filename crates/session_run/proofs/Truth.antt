@@ -32,7 +32,8 @@ use Rattle.session_run.specs.Dialogue.{AreExchanged, AreListed, Exchange, GivePa
 use Rattle.session_run.specs.Lookups.{FindsSame, LooksUp}
 use Rattle.session_run.specs.Requests.{Request}
 use Rattle.session_run.specs.Texts.{IsPatternOf}
-use Rattle.session_run.specs.Truths.{AreAllHits, AreFoundSame, CursorsAreTrue, DialoguesAreTrue, IsPageOf, IsUpToDate, PagesAreTrue, RegistrationsAreTrue, SamesAreTrue, SearchesAreHits, SearchesAreTrue, SimilarsAreTrue}
+use Rattle.session_run.specs.Watching.{Standing, nothing_kept}
+use Rattle.session_run.specs.Truths.{AreAllHits, AreFoundSame, CursorsAreTrue, IsPageOf, IsUpToDate, PagesAreTrue, RegistrationsAreTrue, SamesAreTrue, SearchesAreHits, SearchesAreTrue, SimilarsAreTrue}
 use Rattle.session_run.proofs.ActPins.{dialogue_held}
 use Rattle.session_run.proofs.Acts.{OneReading, fits, quiet_ask, quiet_note}
 use Rattle.session_run.proofs.Endings.{SameEnd, advance_end, fault_or_end, no_page_said, says_more, search_end}
@@ -40,10 +41,11 @@ use Rattle.session_run.proofs.Found.{IsPrinted, NewFound, accepted_found, new_by
 use Rattle.session_run.proofs.Followed.{Follows, follow_all, follow_new, places, turn_all}
 use Rattle.session_run.proofs.Parting.{Laws, last_piece, pieces_so_far, whole_pages}
 use Rattle.session_run.proofs.Passing.{IsOpen, advances_same, fault_or_more, fetches_keep, fetches_search, hits_listed, no_hit, one_in, open_advances, page_more, page_of}
+use Rattle.session_run.proofs.WatchActs.{new_apart, next_apart, of_cursors, same_apart, search_apart, similar_apart, start_apart}
 use Rattle.session_run.proofs.Pinned.{AreFree, are_apart, dialogue_shown, next_calls, none}
 
 -- A search
-cut_calls : (before pages after : Calls) (pin unpin : Event × Reply)
+pub cut_calls : (before pages after : Calls) (pin unpin : Event × Reply)
     → before ++ ((pin ∷ (pages ++ unpin ∷ [])) ++ after) ≡ (before ++ pin ∷ pages) ++ unpin ∷ after
 cut_calls before pages after pin unpin =
     ap (λ (l : Calls). before ++ pin ∷ l) (append_assoc pages (unpin ∷ []) after)
@@ -65,13 +67,13 @@ searches-are-hits laws s t steps own size pattern before its after lines sound r
     )
 
 -- a dialogue in two parts
-exchanged_parts : (size : ℕ) (cursors cursors' : List Cursor) (xs ys : List Exchange) (calls : Calls)
-    → AreExchanged size cursors (xs ++ ys) calls cursors'
-    → (first rest : Calls) × (between : List Cursor) × (calls ≡ first ++ rest)
-    × AreExchanged size cursors xs first between × AreExchanged size between ys rest cursors'
-exchanged_parts size cursors cursors' [] ys calls a = ([], calls, cursors, refl, (refl, refl), a)
-exchanged_parts size cursors cursors' (x ∷ xs) ys calls a =
-    let r = exchanged_parts size a.2 cursors' xs ys a.1 a.5 in (
+pub exchanged_parts : (size : ℕ) (standing standing' : Standing) (xs ys : List Exchange) (calls : Calls)
+    → AreExchanged size standing (xs ++ ys) calls standing'
+    → (first rest : Calls) × (between : Standing) × (calls ≡ first ++ rest)
+    × AreExchanged size standing xs first between × AreExchanged size between ys rest standing'
+exchanged_parts size standing standing' [] ys calls a = ([], calls, standing, refl, (refl, refl), a)
+exchanged_parts size standing standing' (x ∷ xs) ys calls a =
+    let r = exchanged_parts size a.2 standing' xs ys a.1 a.5 in (
       a.0 ++ r.0,
       r.1,
       r.2,
@@ -117,35 +119,35 @@ same_board : (b : Board) (p q k : ℕ) (likes : List Offer) → b.p ≡ p → b.
 same_board b p q k likes e f g h = rw (sym e, sym f, sym g, sym h) refl
 
 -- What a request did, by its command and a line of its reply: a search with an end
-searched_by : OneReading → {size : ℕ} {cursors cursors' : List Cursor} {act : Act} {its : Calls} {lines : Lines}
-    (request : Request) (text : List ℕ) (version tried count : ℕ) → RequestAllows cursors request act
+searched_by : OneReading → (standing : Standing) {size : ℕ} {cursors cursors' : List Cursor} {act : Act} {its : Calls} {lines : Lines}
+    (request : Request) (text : List ℕ) (version tried count : ℕ) → RequestAllows standing request act
     → Does size cursors act its lines cursors' → IsCommand request (command.Search text)
     → Contains lines (line.End version tried count)
     → (pattern : PatternTerm) × IsPatternOf text pattern × Searches size pattern its lines
-searched_by reading request text version tried count a (Says note) is k = absurd ((quiet_note note).plain _ k)
-searched_by reading request text version tried count a (Asks event reply said q) is k =
+searched_by reading standing request text version tried count a (Says note) is k = absurd ((quiet_note note).plain _ k)
+searched_by reading standing request text version tried count a (Asks event reply said q) is k =
     absurd ((quiet_ask event reply said q).plain _ k)
-searched_by reading {cursors = cursors} {act = act} request text version tried count a (Searched p its lines s) is k =
-    (p, fits reading cursors request act (command.Search text) a is, s)
-searched_by reading {cursors = cursors} {act = act} request text version tried count a (Opened name p want slot v new need)
-    is k = absurd (fits reading cursors request act (command.Search text) a is)
-searched_by reading {cursors = cursors} {act = act} request text version tried count a
+searched_by reading standing {act = act} request text version tried count a (Searched p its lines s) is k =
+    (p, fits reading standing request act (command.Search text) a is, s)
+searched_by reading standing {act = act} request text version tried count a (Opened name p want slot v new need)
+    is k = absurd (fits reading standing request act (command.Search text) a is)
+searched_by reading standing {act = act} request text version tried count a
     (Turned name before after c c' its lines named advances) is k =
-    absurd (fits reading cursors request act (command.Search text) a is)
-searched_by reading {cursors = cursors} {act = act} request text version tried count a
-    (Closed name before after c named) is k = absurd (fits reading cursors request act (command.Search text) a is)
-searched_by reading {cursors = cursors} {act = act} request text version tried count a (ListedSame m print its lines s)
-    is k = absurd (fits reading cursors request act (command.Search text) a is)
-searched_by reading {cursors = cursors} {act = act} request text version tried count a
+    absurd (fits reading standing request act (command.Search text) a is)
+searched_by reading standing {act = act} request text version tried count a
+    (Closed name before after c named) is k = absurd (fits reading standing request act (command.Search text) a is)
+searched_by reading standing {act = act} request text version tried count a (ListedSame m print its lines s)
+    is k = absurd (fits reading standing request act (command.Search text) a is)
+searched_by reading standing {act = act} request text version tried count a
     (RegisteredNew change m print its lines s) is k =
-    absurd (fits reading cursors request act (command.Search text) a is)
-searched_by reading {cursors = cursors} {act = act} request text version tried count a
-    (ListedSimilar p q n print its lines s) is k = absurd (fits reading cursors request act (command.Search text) a is)
-searched_by reading {cursors = cursors} {act = act} request text version tried count a
+    absurd (fits reading standing request act (command.Search text) a is)
+searched_by reading standing {act = act} request text version tried count a
+    (ListedSimilar p q n print its lines s) is k = absurd (fits reading standing request act (command.Search text) a is)
+searched_by reading standing {act = act} request text version tried count a
     (RegisteredEach id records its lines each) is k =
-    absurd (fits reading cursors request act (command.Search text) a is)
-searched_by reading {cursors = cursors} {act = act} request text version tried count a
-    (FoundData id name reply said q) is k = absurd (fits reading cursors request act (command.Search text) a is)
+    absurd (fits reading standing request act (command.Search text) a is)
+searched_by reading standing {act = act} request text version tried count a
+    (FoundData id name reply said q) is k = absurd (fits reading standing request act (command.Search text) a is)
 
 -- a cursor that was opened
 record IsOpening (cursors : List Cursor) (its : Calls) (cursors' : List Cursor) (name text : List ℕ) (version : ℕ)
@@ -162,18 +164,18 @@ record IsOpening (cursors : List Cursor) (its : Calls) (cursors' : List Cursor) 
 one_opened : (a b : ℕ) → line.Opened a ≡ line.Opened b → a ≡ b
 one_opened a b e = cc
 
-opened_by : OneReading → {size : ℕ} {cursors cursors' : List Cursor} {act : Act} {its : Calls} {lines : Lines}
-    (request : Request) (name text : List ℕ) (version : ℕ) → RequestAllows cursors request act
+opened_by : OneReading → (standing : Standing) {size : ℕ} {cursors cursors' : List Cursor} {act : Act} {its : Calls} {lines : Lines}
+    (request : Request) (name text : List ℕ) (version : ℕ) → RequestAllows standing request act
     → Does size cursors act its lines cursors' → IsCommand request (command.Start name text)
     → Contains lines (line.Opened version) → IsOpening cursors its cursors' name text version
-opened_by reading request name text version a (Says note) is k = absurd ((quiet_note note).plain _ k)
-opened_by reading request name text version a (Asks event reply said q) is k =
+opened_by reading standing request name text version a (Says note) is k = absurd ((quiet_note note).plain _ k)
+opened_by reading standing request name text version a (Asks event reply said q) is k =
     absurd ((quiet_ask event reply said q).plain _ k)
-opened_by reading {cursors = cursors} {act = act} request name text version a (Searched p its lines s) is k =
-    absurd (fits reading cursors request act (command.Start name text) a is)
-opened_by reading {cursors = cursors} {cursors' = then} {act = act} {its = its} request name text version a
+opened_by reading standing {act = act} request name text version a (Searched p its lines s) is k =
+    absurd (fits reading standing request act (command.Start name text) a is)
+opened_by reading standing {cursors = cursors} {cursors' = then} {act = act} {its = its} request name text version a
     (Opened own p want slot v new need) is k =
-    let f = fits reading cursors request act (command.Start name text) a is in
+    let f = fits reading standing request act (command.Start name text) a is in
     subst (λ (n : List ℕ). IsOpening cursors its then n text version) f.0
     (subst (λ (n : ℕ). IsOpening cursors its then own text n)
     (one_opened v version (one_in (line.Opened v) (line.Opened version) k)) (record {
@@ -186,83 +188,83 @@ opened_by reading {cursors = cursors} {cursors' = then} {act = act} {its = its} 
       its_are = refl;
       then_are = refl;
     }))
-opened_by reading {cursors = cursors} {act = act} request name text version a
+opened_by reading standing {act = act} request name text version a
     (Turned own before after c c' its lines named advances) is k =
-    absurd (fits reading cursors request act (command.Start name text) a is)
-opened_by reading {cursors = cursors} {act = act} request name text version a (Closed own before after c named) is k =
-    absurd (fits reading cursors request act (command.Start name text) a is)
-opened_by reading {cursors = cursors} {act = act} request name text version a (ListedSame m print its lines s) is k =
-    absurd (fits reading cursors request act (command.Start name text) a is)
-opened_by reading {cursors = cursors} {act = act} request name text version a
+    absurd (fits reading standing request act (command.Start name text) a is)
+opened_by reading standing {act = act} request name text version a (Closed own before after c named) is k =
+    absurd (fits reading standing request act (command.Start name text) a is)
+opened_by reading standing {act = act} request name text version a (ListedSame m print its lines s) is k =
+    absurd (fits reading standing request act (command.Start name text) a is)
+opened_by reading standing {act = act} request name text version a
     (RegisteredNew change m print its lines s) is k =
-    absurd (fits reading cursors request act (command.Start name text) a is)
-opened_by reading {cursors = cursors} {act = act} request name text version a (ListedSimilar p q n print its lines s) is
-    k = absurd (fits reading cursors request act (command.Start name text) a is)
-opened_by reading {cursors = cursors} {act = act} request name text version a
+    absurd (fits reading standing request act (command.Start name text) a is)
+opened_by reading standing {act = act} request name text version a (ListedSimilar p q n print its lines s) is
+    k = absurd (fits reading standing request act (command.Start name text) a is)
+opened_by reading standing {act = act} request name text version a
     (RegisteredEach id records its lines each) is k =
-    absurd (fits reading cursors request act (command.Start name text) a is)
-opened_by reading {cursors = cursors} {act = act} request name text version a (FoundData id own reply said q) is k =
-    absurd (fits reading cursors request act (command.Start name text) a is)
+    absurd (fits reading standing request act (command.Start name text) a is)
+opened_by reading standing {act = act} request name text version a (FoundData id own reply said q) is k =
+    absurd (fits reading standing request act (command.Start name text) a is)
 
 -- a page of the cursor of a name
-turned_by : OneReading → {size : ℕ} {calls : Calls} {cursors cursors' : List Cursor} {act : Act} {its : Calls}
+turned_by : OneReading → (standing : Standing) {size : ℕ} {calls : Calls} {cursors cursors' : List Cursor} {act : Act} {its : Calls}
     {lines : Lines} {name : List ℕ} {pattern : PatternTerm} {opened : ℕ} {hits : List ℕ} (request : Request)
-    → RequestAllows cursors request act → Does size cursors act its lines cursors'
+    → RequestAllows standing request act → Does size cursors act its lines cursors'
     → IsCommand request (command.Next name) → GivePage lines
     → (f : Follows size calls cursors name pattern opened hits) → (d : Cursor) × Advances size f.c its lines d
-turned_by reading request a (Says note) is gives f =
+turned_by reading standing request a (Says note) is gives f =
     let q = quiet_note note in
     absurd (no_page_said (note_lines note) gives (q.plain line.More) (λ version tried count. q.plain (line.End version tried count)))
-turned_by reading request a (Asks event reply said i) is gives f =
+turned_by reading standing request a (Asks event reply said i) is gives f =
     let q = quiet_ask event reply said i in
     absurd (no_page_said (said ∷ []) gives (q.plain line.More) (λ version tried count. q.plain (line.End version tried count)))
-turned_by reading {cursors = cursors} {act = act} {name = name} request a (Searched p its lines s) is gives f =
-    absurd (fits reading cursors request act (command.Next name) a is)
-turned_by reading {cursors = cursors} {act = act} {name = name} request a (Opened own p want slot v new need) is gives f =
-    absurd (fits reading cursors request act (command.Next name) a is)
-turned_by reading {size} {cursors = cursors} {act = act} {name = name} request a
+turned_by reading standing {act = act} {name = name} request a (Searched p its lines s) is gives f =
+    absurd (fits reading standing request act (command.Next name) a is)
+turned_by reading standing {act = act} {name = name} request a (Opened own p want slot v new need) is gives f =
+    absurd (fits reading standing request act (command.Next name) a is)
+turned_by reading standing {size} {act = act} {name = name} request a
     (Turned own before after c c' its lines at advances) is gives f =
     elim (places name f.c.slot f.front f.back before after f.c c f.left f.right (sym f.among ∙ at.place)) [
       | inl s ↦ (c', subst (λ (x : Cursor). Advances size x its lines c') (sym s.1) advances)
-      | inr e ↦ absurd (e.name_apart (at.named ∙ fits reading cursors request act (command.Next name) a is))
+      | inr e ↦ absurd (e.name_apart (at.named ∙ fits reading standing request act (command.Next name) a is))
     ]
-turned_by reading {cursors = cursors} {act = act} {name = name} request a (Closed own before after c at) is gives f =
-    absurd (fits reading cursors request act (command.Next name) a is)
-turned_by reading {cursors = cursors} {act = act} {name = name} request a (ListedSame m print its lines s) is gives f =
-    absurd (fits reading cursors request act (command.Next name) a is)
-turned_by reading {cursors = cursors} {act = act} {name = name} request a (RegisteredNew change m print its lines s) is
-    gives f = absurd (fits reading cursors request act (command.Next name) a is)
-turned_by reading {cursors = cursors} {act = act} {name = name} request a (ListedSimilar p q n print its lines s) is
-    gives f = absurd (fits reading cursors request act (command.Next name) a is)
-turned_by reading {cursors = cursors} {act = act} {name = name} request a (RegisteredEach id records its lines each) is
-    gives f = absurd (fits reading cursors request act (command.Next name) a is)
-turned_by reading {cursors = cursors} {act = act} {name = name} request a (FoundData id own reply said q) is gives f =
-    absurd (fits reading cursors request act (command.Next name) a is)
+turned_by reading standing {act = act} {name = name} request a (Closed own before after c at) is gives f =
+    absurd (fits reading standing request act (command.Next name) a is)
+turned_by reading standing {act = act} {name = name} request a (ListedSame m print its lines s) is gives f =
+    absurd (fits reading standing request act (command.Next name) a is)
+turned_by reading standing {act = act} {name = name} request a (RegisteredNew change m print its lines s) is
+    gives f = absurd (fits reading standing request act (command.Next name) a is)
+turned_by reading standing {act = act} {name = name} request a (ListedSimilar p q n print its lines s) is
+    gives f = absurd (fits reading standing request act (command.Next name) a is)
+turned_by reading standing {act = act} {name = name} request a (RegisteredEach id records its lines each) is
+    gives f = absurd (fits reading standing request act (command.Next name) a is)
+turned_by reading standing {act = act} {name = name} request a (FoundData id own reply said q) is gives f =
+    absurd (fits reading standing request act (command.Next name) a is)
 
 module _ (laws : Laws) (finds : Finds) (reading : OneReading) (s t : State) (steps : List Step) (own : ℕ
-    → Bool) (size : ℕ) (exchanges : List Exchange) (calls more : Calls) (cursors : List Cursor)
+    → Bool) (size : ℕ) (exchanges : List Exchange) (calls more : Calls) (standing : Standing)
     (sound : IsSound s) (run : IsRun s steps t) (calm : IsCalm steps) (made : calls_of own steps ≡ calls ++ more)
-    (said : AreExchanged size [] exchanges calls cursors) where
-  free : AreFree (calls_of own steps)
+    (said : AreExchanged size nothing_kept exchanges calls standing) where
+  pub free : AreFree (calls_of own steps)
   free before pages later slot v v' e keeps = laws.slots s t steps own slot v v' before pages later run calm e keeps
 
   -- an exchange of the dialogue, with the calls before it
-  record Spot (before after : List Exchange) (x : Exchange) : Type 0 where
-    first : Calls
-    its : Calls
-    rest : Calls
-    here : List Cursor
-    then : List Cursor
-    to : AreExchanged size [] before first here
-    did : RequestAnswer size here x.request its x.lines then
-    from : AreExchanged size then after rest cursors
-    calls_are : calls_of own steps ≡ first ++ (its ++ (rest ++ more))
-    behind : calls_of own steps ≡ (first ++ its) ++ (rest ++ more)
+  pub record Spot (before after : List Exchange) (x : Exchange) : Type 0 where
+    pub first : Calls
+    pub its : Calls
+    pub rest : Calls
+    pub here : Standing
+    pub then : Standing
+    pub to : AreExchanged size nothing_kept before first here
+    pub did : RequestAnswer size here x.request its x.lines then
+    pub from : AreExchanged size then after rest standing
+    pub calls_are : calls_of own steps ≡ first ++ (its ++ (rest ++ more))
+    pub behind : calls_of own steps ≡ (first ++ its) ++ (rest ++ more)
 
-  spot : (before after : List Exchange) (x : Exchange) → exchanges ≡ before ++ x ∷ after → Spot before after x
+  pub spot : (before after : List Exchange) (x : Exchange) → exchanges ≡ before ++ x ∷ after → Spot before after x
   spot before after x e =
-      let p = exchanged_parts size [] cursors before (x ∷ after) calls
-      (subst (λ (l : List Exchange). AreExchanged size [] l calls cursors) e said) in
+      let p = exchanged_parts size nothing_kept standing before (x ∷ after) calls
+      (subst (λ (l : List Exchange). AreExchanged size nothing_kept l calls standing) e said) in
       let b = p.5 in
       let w : calls_of own steps ≡ p.0 ++ (p.1 ++ more) =
       made ∙ (ap (λ (l : Calls). l ++ more) p.3 ∙ append_assoc p.0 p.1 more) in
@@ -281,15 +283,17 @@ module _ (laws : Laws) (finds : Finds) (reading : OneReading) (s t : State) (ste
       }
 
   -- no version that was shown before is newer
-  no_older : (before after : List Exchange) (x : Exchange) (a : Spot before after x) (version : ℕ)
+  pub no_older : (before after : List Exchange) (x : Exchange) (a : Spot before after x) (version : ℕ)
       → IsUpToDate t.history a.first version → (v : ℕ) → IsShown before v → v ≤ version
   no_older before after x a version fresh v shown =
-      fresh.1 v (dialogue_shown size before [] a.first [] a.here a.to (are_apart free [] a.first _ a.calls_are) tt v shown)
+      fresh.1 v (dialogue_shown size before [] a.first nothing_kept a.here a.to (are_apart free [] a.first _ a.calls_are) tt v shown)
 
-  searches_true : SearchesAreTrue t.history exchanges
+  pub searches_true : SearchesAreTrue t.history exchanges
   searches_true before after x text version tried count e is k =
       let a = spot before after x e in
-      let did = searched_by reading x.request text version tried count a.did.allowed a.did.does is k in
+      let did = searched_by reading a.here x.request text version tried count a.did.allowed
+      (of_cursors (search_apart a.here x.request.more text a.did.act
+      (fits reading a.here x.request a.did.act (command.Search text) a.did.allowed is)) a.did.does) is k in
       let found = did.2 in
       let e = search_end found.place found.version found.tried found.hits x.lines version tried count found.lists k
       in
@@ -318,22 +322,24 @@ module _ (laws : Laws) (finds : Finds) (reading : OneReading) (s t : State) (ste
 
   -- the last page of the cursor of a name, in what follows its opening
   last_page : (between after : List Exchange) (y : Exchange) (name : List ℕ) (hits : List ℕ) (pattern : PatternTerm)
-      (opened version tried count : ℕ) (first rest : Calls) (here : List Cursor)
-      → calls_of own steps ≡ first ++ (rest ++ more) → AreExchanged size here (between ++ y ∷ after) rest cursors
+      (opened version tried count : ℕ) (first rest : Calls) (here : Standing)
+      → calls_of own steps ≡ first ++ (rest ++ more) → AreExchanged size here (between ++ y ∷ after) rest standing
       → StaysOpen name between
       → IsCommand y.request (command.Next name) → Contains y.lines (line.End version tried count)
       → AreListed name (between ++ y ∷ []) hits
-      → Follows size first here name pattern opened [] → AreAllHits t.history version pattern tried hits × (version ≡ opened)
+      → Follows size first here.cursors name pattern opened [] → AreAllHits t.history version pattern tried hits × (version ≡ opened)
       × (count ≡ length hits)
   last_page between after y name hits pattern opened version tried count first rest here w a kept is k list f =
-      let p = exchanged_parts size here cursors between (y ∷ after) rest a in
+      let p = exchanged_parts size here standing between (y ∷ after) rest a in
       let b = p.5 in
       let n = next_calls (calls_of own steps) first rest p.0 p.1 more w p.3 in
       let parts = listed_parts name between y hits list is in
       let g = follow_all reading (calls_of own steps) free size name pattern opened between first p.0
       (p.1 ++ more) here p.2 [] parts.0 n.0 p.4 kept parts.1 f in
       let m = next_calls (calls_of own steps) (first ++ p.0) p.1 b.0 b.1 more n.1 b.4 in
-      let turn = turned_by reading y.request b.3.allowed b.3.does is (inr (version, tried, count, k)) g in
+      let turn = turned_by reading p.2 y.request b.3.allowed
+      (of_cursors (next_apart p.2 y.request.more name b.3.act
+      (fits reading p.2 y.request b.3.act (command.Next name) b.3.allowed is)) b.3.does) is (inr (version, tried, count, k)) g in
       let same = advances_same turn.1 in
       let end = advance_end version tried count turn.1 k in
       let next = open_advances turn.1 g.open_since in (
@@ -347,19 +353,21 @@ module _ (laws : Laws) (finds : Finds) (reading : OneReading) (s t : State) (ste
 
   -- the cursor that an exchange opened
   begin : (before after : List Exchange) (x : Exchange) (name text : List ℕ) (version : ℕ) (a : Spot before after x)
-      → (o : IsOpening a.here a.its a.then name text version)
-      → (f : Follows size (a.first ++ a.its) a.then name o.pattern version []) × (f.turned ≡ 0) × (f.c.place ≡ At 0)
+      → (o : IsOpening a.here.cursors a.its a.then.cursors name text version)
+      → (f : Follows size (a.first ++ a.its) a.then.cursors name o.pattern version []) × (f.turned ≡ 0) × (f.c.place ≡ At 0)
   begin before after x name text version a o =
       subst (λ (l : List Cursor). (f : Follows size (a.first ++ a.its) l name o.pattern version []) × (f.turned ≡ 0)
       × (f.c.place ≡ At 0)) (sym o.then_are)
-      (follow_new reading (calls_of own steps) free size name o.pattern version a.first a.its (a.rest ++ more) a.here
+      (follow_new reading (calls_of own steps) free size name o.pattern version a.first a.its (a.rest ++ more) a.here.cursors
       o.want o.slot a.calls_are o.its_are
-      (dialogue_held none size before a.first [] a.here a.to (are_apart free [] a.first _ a.calls_are) tt) o.new o.need)
+      (dialogue_held none size before a.first nothing_kept a.here a.to (are_apart free [] a.first _ a.calls_are) tt) o.new o.need)
 
-  cursors_true : CursorsAreTrue t.history exchanges
+  pub cursors_true : CursorsAreTrue t.history exchanges
   cursors_true before between after x y name text hits version0 version tried count e start k kept next end list =
       let a = spot before (between ++ y ∷ after) x e in
-      let o = opened_by reading x.request name text version0 a.did.allowed a.did.does start k in
+      let o = opened_by reading a.here x.request name text version0 a.did.allowed
+      (of_cursors (start_apart a.here x.request.more name text a.did.act
+      (fits reading a.here x.request a.did.act (command.Start name text) a.did.allowed start)) a.did.does) start k in
       let r = last_page between after y name hits o.pattern version0 version tried count (a.first ++ a.its) a.rest a.then
       a.behind a.from kept next end list (begin before (between ++ y ∷ after) x name text version0 a o).0 in
       let fresh : IsUpToDate t.history a.first version0 =
@@ -410,19 +418,23 @@ module _ (laws : Laws) (finds : Finds) (reading : OneReading) (s t : State) (ste
         },
   )
 
-  pages_true : PagesAreTrue t.history size exchanges
+  pub pages_true : PagesAreTrue t.history size exchanges
   pages_true before between after x y name text version k e start o kept turned next gives =
       let a = spot before (between ++ y ∷ after) x e in
-      let opening = opened_by reading x.request name text version a.did.allowed a.did.does start o in
+      let opening = opened_by reading a.here x.request name text version a.did.allowed
+      (of_cursors (start_apart a.here x.request.more name text a.did.act
+      (fits reading a.here x.request a.did.act (command.Start name text) a.did.allowed start)) a.did.does) start o in
       let f = begin before (between ++ y ∷ after) x name text version a opening in
-      let p = exchanged_parts size a.then cursors between (y ∷ after) a.rest a.from in
+      let p = exchanged_parts size a.then standing between (y ∷ after) a.rest a.from in
       let b = p.5 in
       let first : Calls = a.first ++ a.its in
       let n = next_calls (calls_of own steps) first a.rest p.0 p.1 more a.behind p.3 in
       let g = turn_all reading (calls_of own steps) free size name opening.pattern version between first p.0
       (p.1 ++ more) a.then p.2 0 k n.0 p.4 kept turned ([], f.0, f.1, 0, f.2) in
       let m = next_calls (calls_of own steps) (first ++ p.0) p.1 b.0 b.1 more n.1 b.4 in
-      let turn = turned_by reading y.request b.3.allowed b.3.does next gives g.1 in
+      let turn = turned_by reading p.2 y.request b.3.allowed
+      (of_cursors (next_apart p.2 y.request.more name b.3.act
+      (fits reading p.2 y.request b.3.act (command.Next name) b.3.allowed next)) b.3.does) next gives g.1 in
       let k_is : 0 + k ≡ k = omega arith in
       let page = page_true (first ++ p.0) b.0 (b.1 ++ more) g.1.c turn.0 y.lines g.0 g.3 g.1.turned m.1 g.4 gives turn.1
       g.1.open_since in
@@ -463,10 +475,12 @@ module _ (laws : Laws) (finds : Finds) (reading : OneReading) (s t : State) (ste
       finds.sames s t size l.slot l.version l.pages m print list (in_run first its rest w l)
       (finds.molecules Smiles text m p.structure) p.print_is.bits found.is
 
-  sames_true : SamesAreTrue t.history exchanges
+  pub sames_true : SamesAreTrue t.history exchanges
   sames_true before after x text version tried count e is k =
       let a = spot before after x e in
-      let did = same_by reading x.request text version tried count a.did.allowed a.did.does is k in
+      let did = same_by reading a.here x.request text version tried count a.did.allowed
+      (of_cursors (same_apart a.here x.request.more text a.did.act
+      (fits reading a.here x.request a.did.act (command.Same text) a.did.allowed is)) a.did.does) is k in
       let r = same_found version tried count did.3 k in
       let l = r.found.lookup in
       let all = all_same a.first a.its (a.rest ++ more) a.calls_are did.2 r.found in
@@ -514,23 +528,29 @@ module _ (laws : Laws) (finds : Finds) (reading : OneReading) (s t : State) (ste
         };
       }
 
-  registrations_true : RegistrationsAreTrue t.history exchanges
+  pub registrations_true : RegistrationsAreTrue t.history exchanges
   registrations_true before after x id text e is =
       let a = spot before after x e in (
         λ v k.
-            let did = new_by reading x.request id text (line.Accepted v) a.did.allowed a.did.does is k tt in
+            let did = new_by reading a.here x.request id text (line.Accepted v) a.did.allowed
+            (of_cursors (new_apart a.here x.request.more id text a.did.act
+            (fits reading a.here x.request a.did.act (command.RegisterNew id text) a.did.allowed is)) a.did.does) is k tt in
             found_same before after x a did.3 (accepted_found v did.4 k),
         λ same k.
-            let did = new_by reading x.request id text (line.Refused (refusals.Same same)) a.did.allowed a.did.does is k tt
+            let did = new_by reading a.here x.request id text (line.Refused (refusals.Same same)) a.did.allowed
+            (of_cursors (new_apart a.here x.request.more id text a.did.act
+            (fits reading a.here x.request a.did.act (command.RegisterNew id text) a.did.allowed is)) a.did.does) is k tt
             in
             let n = refused_found same did.4 k in
             (n.0, found_same before after x a did.3 n.1),
       )
 
-  similars_true : SimilarsAreTrue t.history exchanges
+  pub similars_true : SimilarsAreTrue t.history exchanges
   similars_true before after x p q n text version scored count e is k =
       let a = spot before after x e in
-      let did = similar_by reading x.request p q n text version scored count a.did.allowed a.did.does is k in
+      let did = similar_by reading a.here x.request p q n text version scored count a.did.allowed
+      (of_cursors (similar_apart a.here x.request.more p q n text a.did.act
+      (fits reading a.here x.request a.did.act (command.Similar p q n text) a.did.allowed is)) a.did.does) is k in
       let r = similar_found version scored count did.3 k in
       let l = r.found.lookup in
       let all = finds.similars s t size l.slot l.version p q n l.pages r.found.want text did.0 did.1 r.list
@@ -551,14 +571,3 @@ module _ (laws : Laws) (finds : Finds) (reading : OneReading) (s t : State) (ste
         },
         no_older before after x a version (subst (λ (v : ℕ). IsUpToDate t.history a.first v) version_is fresh),
       )
-
-pub dialogues-are-true : Laws → Finds → OneReading → DialoguesAreTrue
-dialogues-are-true laws finds reading s t steps own size exchanges calls more cursors sound run calm made said = record {
-  searches = searches_true laws finds reading s t steps own size exchanges calls more cursors sound run calm made said;
-  cursors = cursors_true laws finds reading s t steps own size exchanges calls more cursors sound run calm made said;
-  pages = pages_true laws finds reading s t steps own size exchanges calls more cursors sound run calm made said;
-  sames = sames_true laws finds reading s t steps own size exchanges calls more cursors sound run calm made said;
-  registrations = registrations_true laws finds reading s t steps own size exchanges calls more cursors sound run calm
-      made said;
-  similars = similars_true laws finds reading s t steps own size exchanges calls more cursors sound run calm made said;
-}

@@ -6,7 +6,7 @@ use Rattle.io_edge.specs.Sink.{AppendsPrefix}
 use Rattle.shell_lang.specs.Reply.{text_of}
 use Rattle.store_core.specs.Calls.{SameHeld}
 use Rattle.store_core.specs.declared.service.Service as meaning
-use Rattle.session_run.specs.Acts.{Act, Answers, RequestAnswer}
+use Rattle.session_run.specs.Acts.{Act, RequestAnswer, Responds}
 use Rattle.session_run.specs.Cursors.{Calls, Cursor}
 use Rattle.session_run.specs.Made.{Answered, Broken, Did, Said, Unsaid, Uses}
 use Rattle.session_run.specs.Pins.{AreHeld, HeldAfter, SameOthers}
@@ -14,13 +14,14 @@ use Rattle.session_run.specs.Responds.{KeepsPins}
 use Rattle.session_run.specs.Requests.{Request}
 use Rattle.session_run.specs.Served.{IsInputFault}
 use Rattle.session_run.specs.Turn.{IsNext, Puts, Replies, Takes, TakesRequest, Turns}
+use Rattle.session_run.specs.Watching.{Standing}
 use Rattle.session_run.specs.declared.stop.Stop.TheVariants as stops
 use Rattle.session_run.specs.declared.records.SdTexts.{SdTexts}
 use Rattle.session_run.specs.declared.request.Next.{Next}
 use Rattle.session_run.specs.declared.request.Next.TheVariants as nexts
 use Rattle.session_run.specs.declared.settings.EndStatus.{EndStatus}
 use Rattle.session_run.specs.declared.settings.EndStatus.TheVariants.{Done, SourceFault, SinkFault, NoMemory, InputTooLong, Worn}
-use Rattle.session_run.proofs.ActPins.{act_held, act_others}
+use Rattle.session_run.proofs.ActPins.{all_held, all_others}
 use Rattle.session_run.proofs.Held.{held-same, same_others, same_others-more}
 
 -- nothing is a prefix of what might have been put
@@ -28,33 +29,33 @@ none_put : (put : Option (List ℕ)) (text : List ℕ) (put' : Option (List ℕ)
     → AppendsPrefix put put' text
 none_put put text put' a = ([], text, refl, a)
 
-module _ {size : ℕ} {Made : Calls → Type 0} {IsWorn : Type 0} (request : Request) {cursors cursors' : List Cursor}
+module _ {size : ℕ} {Made : Calls → Type 0} {IsWorn : Type 0} (request : Request) {standing standing' : Standing}
     (put put' : Option (List ℕ)) where
   -- a reply that was put, or not
   pub replied : {out : List ℕ} (faults faults' : ℕ) (end : Option EndStatus)
-      → Answered Made IsWorn (RequestAnswer size cursors request) [] out cursors' (Ok tt)
+      → Answered Made IsWorn (RequestAnswer size standing request) [] out standing' (Ok tt)
       → Puts put put' out faults faults' end
-      → Replies size Made IsWorn request cursors cursors' put put' end
+      → Replies size Made IsWorn request standing standing' put put' end
   replied f f' None (Said u did e) p = (did, subst (λ (t : List ℕ). Appends put put' t) e p)
   replied f f' (Some SinkFault) (Said u did e) p = (did, subst (λ (t : List ℕ). AppendsPrefix put put' t) e p.0)
   replied f f' (Some NoMemory) (Said u did e) p = (did, none_put put (text_of did.lines) put' p)
   replied f f' (Some _) a p = absurd p
 
   -- no reply
-  pub unsaid : {out : List ℕ} → Answered Made IsWorn (RequestAnswer size cursors request) [] out cursors' (Err stops.NoMemory)
-      → Appends put put' [] → Replies size Made IsWorn request cursors cursors' put put' (Some NoMemory)
+  pub unsaid : {out : List ℕ} → Answered Made IsWorn (RequestAnswer size standing request) [] out standing' (Err stops.NoMemory)
+      → Appends put put' [] → Replies size Made IsWorn request standing standing' put put' (Some NoMemory)
   unsaid (Unsaid did) a = (did, none_put put (text_of did.lines) put' a)
 
-  pub unanswered : {out : List ℕ} → Answered Made IsWorn (RequestAnswer size cursors request) [] out cursors' (Err stops.Worn)
-      → Appends put put' [] → Replies size Made IsWorn request cursors cursors' put put' (Some Worn)
+  pub unanswered : {out : List ℕ} → Answered Made IsWorn (RequestAnswer size standing request) [] out standing' (Err stops.Worn)
+      → Appends put put' [] → Replies size Made IsWorn request standing standing' put put' (Some Worn)
   unanswered (Broken w) a = (w, a)
 
 -- what was put of a request's reply, as a turn
-module _ (size : ℕ) (Made : Calls → Type 0) (IsWorn : Type 0) (request : Request) (cursors cursors' : List Cursor)
+module _ (size : ℕ) (Made : Calls → Type 0) (IsWorn : Type 0) (request : Request) (standing standing' : Standing)
     (put put' : Option (List ℕ)) where
   pub turn_replied : (Taken : Request → Type 0) (AtEnd : Type 0) (end : Option EndStatus) → Taken request
-      → Replies size Made IsWorn request cursors cursors' put put' end
-      → Turns size Made IsWorn Taken AtEnd cursors cursors' put put' end
+      → Replies size Made IsWorn request standing standing' put put' end
+      → Turns size Made IsWorn Taken AtEnd standing standing' put put' end
   turn_replied Taken AtEnd None taken r = (record { request = request; taken = taken; did = r.0 }, r.1)
   turn_replied Taken AtEnd (Some SinkFault) taken r = (record { request = request; taken = taken; did = r.0 }, r.1)
   turn_replied Taken AtEnd (Some NoMemory) taken r = (record { request = request; taken = taken; did = r.0 }, r.1)
@@ -63,7 +64,7 @@ module _ (size : ℕ) (Made : Calls → Type 0) (IsWorn : Type 0) (request : Req
 
   -- with a reply no session ends for want of bytes
   pub no_input_fault : (P : Type 0) (end : Option EndStatus)
-      → Replies size Made IsWorn request cursors cursors' put put' end
+      → Replies size Made IsWorn request standing standing' put put' end
       → IfSome end (λ (e : EndStatus). IsInputFault e → P)
   no_input_fault P None r = tt
   no_input_fault P (Some SourceFault) r = absurd r
@@ -82,36 +83,36 @@ takes_request (nexts.WithRecords count first) old new before after text records 
 
 -- What an answer does to pins
 did_keeps : {S : Type 0} {of : meaning.Ghosts S} {a b : S} {size : ℕ} {Allowed : Act → Type 0}
-    {cursors cursors' : List Cursor} → Did (Uses of a b) (Answers size Allowed cursors) cursors' → AreHeld (of.holds a) cursors
-    → KeepsPins (of.holds a) cursors (of.holds b) cursors'
-did_keeps {of = of} {a = a} {b = b} {cursors = cursors} {cursors' = cursors'} d h =
+    {standing standing' : Standing} → Did (Uses of a b) (Responds size Allowed standing) standing' → AreHeld (of.holds a) standing.cursors
+    → KeepsPins (of.holds a) standing.cursors (of.holds b) standing'.cursors
+did_keeps {of = of} {a = a} {b = b} {standing = standing} {standing' = standing'} d h =
     let then = HeldAfter (of.holds a) d.calls in
     record {
-      are_held = held-same then (of.holds b) cursors' d.made.pins.now
-          (act_held (of.holds a) d.is.does d.made.pins.apart h);
-      others = same_others-more (of.holds a) then (of.holds b) cursors cursors' cursors'
-          (act_others (of.holds a) d.is.does d.made.pins.apart) (same_others then (of.holds b) cursors' d.made.pins.now);
+      are_held = held-same then (of.holds b) standing'.cursors d.made.pins.now
+          (all_held (of.holds a) d.is.does d.made.pins.apart h);
+      others = same_others-more (of.holds a) then (of.holds b) standing.cursors standing'.cursors standing'.cursors
+          (all_others (of.holds a) d.is.does d.made.pins.apart) (same_others then (of.holds b) standing'.cursors d.made.pins.now);
     }
 
-none_keeps : {S : Type 0} {of : meaning.Ghosts S} {a b : S} {cursors cursors' : List Cursor} → Uses of a b []
-    → cursors' ≡ cursors → AreHeld (of.holds a) cursors → KeepsPins (of.holds a) cursors (of.holds b) cursors'
-none_keeps {of = of} {a = a} {b = b} {cursors = cursors} made same h =
-    subst (λ (l : List Cursor). KeepsPins (of.holds a) cursors (of.holds b) l) (sym same) (record {
-      are_held = held-same (of.holds a) (of.holds b) cursors made.pins.now h;
-      others = same_others (of.holds a) (of.holds b) cursors made.pins.now;
+none_keeps : {S : Type 0} {of : meaning.Ghosts S} {a b : S} {standing standing' : Standing} → Uses of a b []
+    → standing' ≡ standing → AreHeld (of.holds a) standing.cursors → KeepsPins (of.holds a) standing.cursors (of.holds b) standing'.cursors
+none_keeps {of = of} {a = a} {b = b} {standing = standing} made same h =
+    subst (λ (k : Standing). KeepsPins (of.holds a) standing.cursors (of.holds b) k.cursors) (sym same) (record {
+      are_held = held-same (of.holds a) (of.holds b) standing.cursors made.pins.now h;
+      others = same_others (of.holds a) (of.holds b) standing.cursors made.pins.now;
     })
 
 pub turn_keeps : {S : Type 0} (of : meaning.Ghosts S) (a b : S) (size : ℕ) (Taken : Request → Type 0) (AtEnd : Type 0)
-    (cursors cursors' : List Cursor) (put put' : Option (List ℕ)) (end : Option EndStatus)
-    → Turns size (Uses of a b) (of.worn b) Taken AtEnd cursors cursors' put put' end → (end ≡ Some Worn → ⊥)
-    → AreHeld (of.holds a) cursors → KeepsPins (of.holds a) cursors (of.holds b) cursors'
-turn_keeps of a b size Taken AtEnd cursors cursors' put put' None t lives h = did_keeps t.0.did h
-turn_keeps of a b size Taken AtEnd cursors cursors' put put' (Some Done) t lives h = none_keeps t.1 t.2 h
-turn_keeps of a b size Taken AtEnd cursors cursors' put put' (Some SourceFault) t lives h = none_keeps t.0 t.1 h
-turn_keeps of a b size Taken AtEnd cursors cursors' put put' (Some InputTooLong) t lives h = none_keeps t.0 t.1 h
-turn_keeps of a b size Taken AtEnd cursors cursors' put put' (Some SinkFault) t lives h = did_keeps t.0.did h
-turn_keeps of a b size Taken AtEnd cursors cursors' put put' (Some NoMemory) t lives h = did_keeps t.0.did h
-turn_keeps of a b size Taken AtEnd cursors cursors' put put' (Some Worn) t lives h = absurd (lives refl)
+    (standing standing' : Standing) (put put' : Option (List ℕ)) (end : Option EndStatus)
+    → Turns size (Uses of a b) (of.worn b) Taken AtEnd standing standing' put put' end → (end ≡ Some Worn → ⊥)
+    → AreHeld (of.holds a) standing.cursors → KeepsPins (of.holds a) standing.cursors (of.holds b) standing'.cursors
+turn_keeps of a b size Taken AtEnd standing standing' put put' None t lives h = did_keeps t.0.did h
+turn_keeps of a b size Taken AtEnd standing standing' put put' (Some Done) t lives h = none_keeps t.1 t.2 h
+turn_keeps of a b size Taken AtEnd standing standing' put put' (Some SourceFault) t lives h = none_keeps t.0 t.1 h
+turn_keeps of a b size Taken AtEnd standing standing' put put' (Some InputTooLong) t lives h = none_keeps t.0 t.1 h
+turn_keeps of a b size Taken AtEnd standing standing' put put' (Some SinkFault) t lives h = did_keeps t.0.did h
+turn_keeps of a b size Taken AtEnd standing standing' put put' (Some NoMemory) t lives h = did_keeps t.0.did h
+turn_keeps of a b size Taken AtEnd standing standing' put put' (Some Worn) t lives h = absurd (lives refl)
 
 pub keeps_more : (a b c : ℕ → ℕ → Type 0) (xs ys zs : List Cursor) → KeepsPins a xs b ys → KeepsPins b ys c zs
     → KeepsPins a xs c zs

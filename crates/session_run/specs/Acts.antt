@@ -1,8 +1,8 @@
 -- For callers: what is done for a request and how it is answered. An act makes calls, with their replies in order, has
--- reply lines, and leaves cursors open. A command allows some acts.
+-- reply lines, and leaves cursors and watches. A command allows some acts.
 -- Want of memory may take the place of a reply; the request has then done nothing, but a search may have listed some of
 -- its hits.
-use Rattle.std.specs.Prelude.{◌≡◌, ◌⊎◌, ◌≤◌, ◌<◌, ℕ, suc, ◌+◌, Bool, true, false, if◌then◌else◌, List, [], ◌∷◌, ◌++◌, length, map, Option, None, Some, Result, Ok, Err}
+use Rattle.std.specs.Prelude.{◌≡◌, ◌≢◌, ◌⊎◌, ◌≤◌, ◌<◌, ℕ, suc, ◌+◌, Bool, true, false, if◌then◌else◌, List, [], ◌∷◌, ◌++◌, length, map, Option, None, Some, Result, Ok, Err}
 use Rattle.chem_core.specs.Molecule.{Molecule}
 use Rattle.io_edge.specs.Lines.{TextLine, Whole}
 use Rattle.lookup.specs.Asked.{IsEmptyPrint}
@@ -33,11 +33,12 @@ use Rattle.store_machine.specs.declared.machine.Reply.TheVariants as replies
 use Rattle.store_machine.specs.declared.machine.Status.{Status}
 use Rattle.store_machine.specs.declared.machine.Status.TheVariants as status
 use Rattle.session_run.specs.Cursors.{Calls, Cursor, IsNoName, IsSearched}
-use Rattle.session_run.specs.Lookups.{FindsSame, FindsSimilar, LooksUp}
+use Rattle.session_run.specs.Lookups.{FindsHits, FindsSame, FindsSimilar, LooksUp}
 use Rattle.session_run.specs.declared.records.TheConstants.{MOST_SD_BYTES}
 use Rattle.session_run.specs.Records.{counted, data_of, has_long, records_in}
 use Rattle.session_run.specs.Requests.{Request, IsLong, molfile_text}
 use Rattle.session_run.specs.Texts.{IsTextFault, IsPatternOf, IsPatternFault}
+use Rattle.session_run.specs.Watching.{AfterCalls, IsUnwatched, Standing, Watched, new_watch, rebuilt_in, rebuilt_watch, watch_of, without}
 
 -- reply lines
 abbrev pub Lines : Type 0
@@ -69,6 +70,9 @@ pub data Act : Type 0 where
   Similar : (p q k : ℕ) (print : List Bool) → Act
   RegisterEach : (id : ℕ) (records : List (Option (List TextLine))) → Act
   FindData : (id : ℕ) (name : List ℕ) → Act
+  Watch : (name : List ℕ) (pattern : PatternTerm) → Act
+  ListHits : (name : List ℕ) → Act
+  Unwatch : (name : List ℕ) → Act
 
 -- what an identifier is, as `show` says it
 abbrev pub shown : ℕ → Option Status → line.Reply
@@ -277,6 +281,39 @@ pub data Does (size : ℕ) (cursors : List Cursor) : Act → Calls → Lines →
   FoundData : (id : ℕ) (name : List ℕ) (reply : Reply) (said : line.Reply) (is : IsDataLine id name reply said)
       → Does size cursors (FindData id name) ((events.Look id, reply) ∷ []) (said ∷ []) cursors
 
+-- the lines of the hits of a watch
+abbrev pub hit_lines : ℕ → List ℕ → ℕ → Lines
+hit_lines version hits rebuilt = map line.Hit hits ++ line.EndWatched version (length hits) rebuilt ∷ []
+
+abbrev pub watch_lines : Watched → Lines
+watch_lines w = hit_lines w.version w.hits w.rebuilt
+
+-- What an act does with these watches: its calls, its lines, and the watches then. A pattern is watched from its hits at
+-- the version that was pinned on; its hits are listed where they are of the version that was pinned, else they are
+-- searched anew; or memory ran out, in a search that came so far, or for the lines
+pub data DoesWatch (size : ℕ) (watches : List Watched) : Act → Calls → Lines → List Watched → Type 0 where
+  WatchedAll : (name : List ℕ) (pattern : PatternTerm) (calls : Calls) (version : ℕ) (hits : List ℕ)
+      (new : IsUnwatched watches name) (few : length watches < 16) (found : FindsHits size pattern calls version hits)
+      → DoesWatch size watches (Watch name pattern) calls (line.Watching version (length hits) ∷ [])
+      (watches ++ new_watch name pattern version hits ∷ [])
+  WatchLost : (name : List ℕ) (pattern : PatternTerm) (calls : Calls) (want : List Bool) (place : Place)
+      (need : IsNeedOf pattern want) (lookup : LooksUp size want place calls)
+      → DoesWatch size watches (Watch name pattern) calls (line.MemoryFault ∷ []) watches
+  Current : (name : List ℕ) (w : Watched) (slot : ℕ) (named : watch_of name watches ≡ Some w)
+      → DoesWatch size watches (ListHits name)
+      ((events.Pin, replies.Pinned slot w.version) ∷ (events.Unpin slot, replies.Unpinned) ∷ []) (watch_lines w) watches
+  Refilled : (name : List ℕ) (w : Watched) (calls : Calls) (version : ℕ) (hits : List ℕ)
+      (named : watch_of name watches ≡ Some w) (other : version ≢ w.version)
+      (found : FindsHits size w.pattern calls version hits)
+      → DoesWatch size watches (ListHits name) calls (watch_lines (rebuilt_watch version hits w))
+      (map (rebuilt_in name version hits) watches)
+  HitsLost : (name : List ℕ) (w : Watched) (calls : Calls) (want : List Bool) (place : Place)
+      (named : watch_of name watches ≡ Some w) (need : IsNeedOf w.pattern want)
+      (lookup : LooksUp size want place calls)
+      → DoesWatch size watches (ListHits name) calls (line.MemoryFault ∷ []) watches
+  TakenOut : (name : List ℕ) (w : Watched) (named : watch_of name watches ≡ Some w)
+      → DoesWatch size watches (Unwatch name) [] (line.Unwatched ∷ []) (without name watches)
+
 -- The acts that a command allows. A call with no text to look at
 abbrev pub MayAsk : Event → Act → Type 0
 MayAsk event (Say Fault) = Unit {0}
@@ -346,45 +383,89 @@ MayFind id name (Say Fault) = Unit {0}
 MayFind id name (FindData own_id own_name) = (own_id ≡ id) × (own_name ≡ name)
 MayFind id name _ = ⊥
 
--- by what the line is read as, with the lines that it may take
-abbrev pub Allows : List Cursor → List TextLine → Result Command LineRefusal → Act → Type 0
-Allows cursors more (Err refusal) act = act ≡ Say (Refused (refusals.Line refusal))
-Allows cursors more (Ok command.Empty) act = act ≡ Say Silence
-Allows cursors more (Ok (command.Register id text)) act =
-    MayChange (changes.Register id Smiles text) Smiles text act
-Allows cursors more (Ok (command.Revise id text)) act = MayChange (changes.Revise id Smiles text) Smiles text act
-Allows cursors more (Ok (command.RegisterMol id)) act =
-    MayChange (changes.Register id Molfile (molfile_text more)) Molfile (molfile_text more) act
-Allows cursors more (Ok (command.ReviseMol id)) act =
-    MayChange (changes.Revise id Molfile (molfile_text more)) Molfile (molfile_text more) act
-Allows cursors more (Ok (command.RegisterSd id count)) act = act ≡ RegisterEach id (records_in count more)
-Allows cursors more (Ok (command.Withdraw id)) act = MayAsk (events.Commit (changes.Withdraw id)) act
-Allows cursors more (Ok (command.Show id)) act = MayAsk (events.Look id) act
-Allows cursors more (Ok (command.Data id name)) act = MayFind id name act
-Allows cursors more (Ok (command.RegisterNew id text)) act = MayRegisterNew id text act
-Allows cursors more (Ok (command.Search text)) act = MaySearch text act
-Allows cursors more (Ok (command.Same text)) act = MaySame text act
-Allows cursors more (Ok (command.Similar p q k text)) act = MaySimilar p q k text act
-Allows cursors more (Ok (command.Start name text)) act = MayOpen cursors name text act
-Allows cursors more (Ok (command.Next name)) act = MayTurn cursors name act
-Allows cursors more (Ok (command.Close name)) act = MayClose cursors name act
-Allows cursors more (Ok command.Prune) act = MayAsk events.Prune act
-Allows cursors more (Ok command.Stats) act = MayAsk events.Stats act
+-- a pattern is watched, where the name is free, fewer than 16 are watched, and a pin is free
+abbrev pub MayWatch : List Watched → List ℕ → List ℕ → Act → Type 0
+MayWatch watches name text (Say Fault) = Unit {0}
+MayWatch watches name text (Say (Refused (refusals.Pattern fault))) = IsPatternFault text fault
+MayWatch watches name text (Say (Refused refusals.Watch)) =
+    (pattern : PatternTerm) × IsPatternOf text pattern × ¬ IsUnwatched watches name
+MayWatch watches name text (Say (Refused refusals.Watches)) =
+    (pattern : PatternTerm) × IsPatternOf text pattern × IsUnwatched watches name × (16 ≤ length watches)
+MayWatch watches name text (Ask event) = (event ≡ events.Pin) × (pattern : PatternTerm) × IsPatternOf text pattern
+    × IsUnwatched watches name × (length watches < 16)
+MayWatch watches name text (Watch own pattern) = (own ≡ name) × IsPatternOf text pattern
+MayWatch watches name text _ = ⊥
 
--- one of the acts was done that are allowed
+-- the hits of the watch of a name are listed, where a pin is free, or it is watched no more
+abbrev pub MayHits : List Watched → List ℕ → Act → Type 0
+MayHits watches name (Say Fault) = Unit {0}
+MayHits watches name (Say (Refused refusals.Watch)) = IsUnwatched watches name
+MayHits watches name (Ask event) = (event ≡ events.Pin) × ¬ IsUnwatched watches name
+MayHits watches name (ListHits own) = own ≡ name
+MayHits watches name _ = ⊥
+
+abbrev pub MayUnwatch : List Watched → List ℕ → Act → Type 0
+MayUnwatch watches name (Say (Refused refusals.Watch)) = IsUnwatched watches name
+MayUnwatch watches name (Unwatch own) = own ≡ name
+MayUnwatch watches name _ = ⊥
+
+-- by what the line is read as, with the lines that it may take
+abbrev pub Allows : Standing → List TextLine → Result Command LineRefusal → Act → Type 0
+Allows standing more (Err refusal) act = act ≡ Say (Refused (refusals.Line refusal))
+Allows standing more (Ok command.Empty) act = act ≡ Say Silence
+Allows standing more (Ok (command.Register id text)) act =
+    MayChange (changes.Register id Smiles text) Smiles text act
+Allows standing more (Ok (command.Revise id text)) act = MayChange (changes.Revise id Smiles text) Smiles text act
+Allows standing more (Ok (command.RegisterMol id)) act =
+    MayChange (changes.Register id Molfile (molfile_text more)) Molfile (molfile_text more) act
+Allows standing more (Ok (command.ReviseMol id)) act =
+    MayChange (changes.Revise id Molfile (molfile_text more)) Molfile (molfile_text more) act
+Allows standing more (Ok (command.RegisterSd id count)) act = act ≡ RegisterEach id (records_in count more)
+Allows standing more (Ok (command.Withdraw id)) act = MayAsk (events.Commit (changes.Withdraw id)) act
+Allows standing more (Ok (command.Show id)) act = MayAsk (events.Look id) act
+Allows standing more (Ok (command.Data id name)) act = MayFind id name act
+Allows standing more (Ok (command.RegisterNew id text)) act = MayRegisterNew id text act
+Allows standing more (Ok (command.Search text)) act = MaySearch text act
+Allows standing more (Ok (command.Same text)) act = MaySame text act
+Allows standing more (Ok (command.Similar p q k text)) act = MaySimilar p q k text act
+Allows standing more (Ok (command.Start name text)) act = MayOpen standing.cursors name text act
+Allows standing more (Ok (command.Next name)) act = MayTurn standing.cursors name act
+Allows standing more (Ok (command.Close name)) act = MayClose standing.cursors name act
+Allows standing more (Ok (command.Watch name text)) act = MayWatch standing.watches name text act
+Allows standing more (Ok (command.Hits name)) act = MayHits standing.watches name act
+Allows standing more (Ok (command.Unwatch name)) act = MayUnwatch standing.watches name act
+Allows standing more (Ok command.Prune) act = MayAsk events.Prune act
+Allows standing more (Ok command.Stats) act = MayAsk events.Stats act
+
+-- one of the acts was done that are allowed, by the cursors
 pub record Answers (size : ℕ) (Allowed : Act → Type 0) (cursors : List Cursor) (calls : Calls) (lines : Lines)
     (cursors' : List Cursor) : Type 0 where
   pub act : Act
   pub allowed : Allowed act
   pub does : Does size cursors act calls lines cursors'
 
+-- what an act does with all that is kept: by the cursors, and the watches follow the commits among its calls; or by the
+-- watches, and the cursors stay
+abbrev pub DoesAll : ℕ → Standing → Act → Calls → Lines → Standing → Type 0
+DoesAll size standing act calls lines standing' =
+    (Does size standing.cursors act calls lines standing'.cursors
+    × AfterCalls calls standing.watches standing'.watches)
+    ⊎ (DoesWatch size standing.watches act calls lines standing'.watches × (standing'.cursors ≡ standing.cursors))
+
+-- one was done by all that is kept
+pub record Responds (size : ℕ) (Allowed : Act → Type 0) (standing : Standing) (calls : Calls) (lines : Lines)
+    (standing' : Standing) : Type 0 where
+  pub act : Act
+  pub allowed : Allowed act
+  pub does : DoesAll size standing act calls lines standing'
+
 -- a line that is too long, among those of its molfile too, is refused before all else
-abbrev pub RequestAllows : List Cursor → Request → Act → Type 0
-RequestAllows cursors request act =
+abbrev pub RequestAllows : Standing → Request → Act → Type 0
+RequestAllows standing request act =
     (IsLong request × (act ≡ Say (Refused refusals.Long)))
     ⊎ (¬ IsLong request × (line : List ℕ) × (request.line ≡ Whole line) × (read : Result Command LineRefusal)
-    × IsLine line read × Allows cursors request.more read act)
+    × IsLine line read × Allows standing request.more read act)
 
-abbrev pub RequestAnswer : ℕ → List Cursor → Request → Calls → Lines → List Cursor → Type 0
-RequestAnswer size cursors request calls lines cursors' =
-    Answers size (RequestAllows cursors request) cursors calls lines cursors'
+abbrev pub RequestAnswer : ℕ → Standing → Request → Calls → Lines → Standing → Type 0
+RequestAnswer size standing request calls lines standing' =
+    Responds size (RequestAllows standing request) standing calls lines standing'

@@ -7,21 +7,22 @@ use Rattle.shell_lang.specs.Reply as line
 use Rattle.shell_lang.specs.Reply.{text_of}
 use Rattle.similar_find.specs.Board.{Offer}
 use Rattle.session_run.specs.Acts.{Lines, RequestAnswer}
-use Rattle.session_run.specs.Cursors.{Calls, Cursor}
+use Rattle.session_run.specs.Cursors.{Calls}
 use Rattle.session_run.specs.Requests.{Request}
+use Rattle.session_run.specs.Watching.{Standing}
 
 -- a request, and the lines of its reply
 pub record Exchange : Type 0 where
   pub request : Request
   pub lines : Lines
 
--- the requests were answered one after another by these calls, each by its lines, and these cursors are then open
-abbrev pub AreExchanged : ℕ → List Cursor → List Exchange → Calls → List Cursor → Type 0
-AreExchanged size cursors [] calls cursors' = (calls ≡ []) × (cursors' ≡ cursors)
-AreExchanged size cursors (x ∷ xs) calls cursors' =
-    (own more : Calls) × (between : List Cursor)
-    × RequestAnswer size cursors x.request own x.lines between × (calls ≡ own ++ more)
-    × AreExchanged size between xs more cursors'
+-- the requests were answered one after another by these calls, each by its lines, and this is kept then
+abbrev pub AreExchanged : ℕ → Standing → List Exchange → Calls → Standing → Type 0
+AreExchanged size standing [] calls standing' = (calls ≡ []) × (standing' ≡ standing)
+AreExchanged size standing (x ∷ xs) calls standing' =
+    (own more : Calls) × (between : Standing)
+    × RequestAnswer size standing x.request own x.lines between × (calls ≡ own ++ more)
+    × AreExchanged size between xs more standing'
 
 abbrev pub requests_of : List Exchange → List Request
 requests_of exchanges = map (λ x. x.request) exchanges
@@ -74,6 +75,11 @@ abbrev pub StaysOpen : List ℕ → List Exchange → Type 0
 StaysOpen name [] = Unit {0}
 StaysOpen name (x ∷ xs) = ¬ IsCommand x.request (command.Close name) × StaysOpen name xs
 
+-- no request takes the watch of the name out
+abbrev pub StaysWatched : List ℕ → List Exchange → Type 0
+StaysWatched name [] = Unit {0}
+StaysWatched name (x ∷ xs) = ¬ IsCommand x.request (command.Unwatch name) × StaysWatched name xs
+
 -- the line shows this version
 abbrev pub ShowsVersion : line.Reply → ℕ → Type 0
 ShowsVersion (line.Accepted version) v = v ≡ version
@@ -83,6 +89,8 @@ ShowsVersion (line.End version tried hits) v = v ≡ version
 ShowsVersion (line.Scored version scored hits) v = v ≡ version
 ShowsVersion (line.Opened version) v = v ≡ version
 ShowsVersion (line.Counts version live withdrawn kept pins) v = v ≡ version
+ShowsVersion (line.Watching version hits) v = v ≡ version
+ShowsVersion (line.EndWatched version hits rebuilt) v = v ≡ version
 ShowsVersion _ v = ⊥
 
 abbrev pub IsShownIn : Lines → ℕ → Type 0

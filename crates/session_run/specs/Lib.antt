@@ -2,6 +2,7 @@ pub mod Requests
 pub mod Records
 pub mod Texts
 pub mod Cursors
+pub mod Watching
 pub mod Lookups
 pub mod Acts
 pub mod Taken
@@ -17,3 +18,5 @@ pub mod Serving
 pub mod Searched
 pub mod Dialogue
 pub mod Truths
+pub mod Standings
+pub mod Kept

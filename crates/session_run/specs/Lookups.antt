@@ -1,11 +1,15 @@
 -- For callers: the calls of a lookup, and what it found by them.
 use Rattle.std.specs.Prelude.{◌≡◌, Bool, List, ℕ}
+use Rattle.std.specs.List.Sorted.{IsStrictlyIncreasing}
 use Rattle.chem_core.specs.Molecule.{Molecule}
 use Rattle.lookup.specs.Asked.{IsEmptyPrint}
 use Rattle.lookup.specs.Fetches.{AreFetches, lookup_calls}
 use Rattle.lookup.specs.Lists.{IsSameList, IsSimilarList}
 use Rattle.lookup.specs.declared.same.SameList.{SameList}
 use Rattle.lookup.specs.declared.similar.SimilarList.{SimilarList}
+use Rattle.smarts_parse.specs.Pattern.{PatternTerm}
+use Rattle.store_machine.specs.Answers.{AreMatched}
+use Rattle.store_machine.specs.Structures.{IsNeedOf}
 use Rattle.store_machine.specs.Searches.{At, End, Place, fetched, records_of}
 use Rattle.session_run.specs.Cursors.{Calls}
 
@@ -28,3 +32,12 @@ pub record FindsSimilar (size p q k : ℕ) (print : List Bool) (calls : Calls) (
   pub none : IsEmptyPrint want
   pub lookup : LooksUp size want End calls
   pub is : IsSimilarList p q k print lookup.version (records_of (fetched lookup.slot lookup.pages)) list
+
+-- a lookup of what a pattern needs, to its end, and the hits, ascending
+pub record FindsHits (size : ℕ) (pattern : PatternTerm) (calls : Calls) (version : ℕ) (hits : List ℕ) : Type 0 where
+  pub want : List Bool
+  pub need : IsNeedOf pattern want
+  pub lookup : LooksUp size want End calls
+  pub version_is : version ≡ lookup.version
+  pub matched : AreMatched pattern (records_of (fetched lookup.slot lookup.pages)) hits
+  pub ascending : IsStrictlyIncreasing hits

@@ -1,10 +1,11 @@
 -- For callers: what a session wrote for a script, where the source tells its bytes and the sink what was put.
 use Rattle.std.specs.Prelude.{◌≡◌, ◌≤◌, ℕ, List, [], ◌++◌, length, Option, Some, IfSome}
 use Rattle.io_edge.specs.Lines.{TextLine, lines_of, whole_lines}
-use Rattle.session_run.specs.Cursors.{Calls, Cursor, unpins}
+use Rattle.session_run.specs.Cursors.{Calls, unpins}
 use Rattle.session_run.specs.Dialogue.{AreExchanged, Exchange, replies_of, requests_of}
 use Rattle.session_run.specs.Requests.{AreAllWhole}
 use Rattle.session_run.specs.Transcript.{IsDialogue, IsTranscript, IsTranscriptPrefix, WornAt}
+use Rattle.session_run.specs.Watching.{Standing, nothing_kept}
 use Rattle.session_run.specs.declared.settings.EndStatus.{EndStatus}
 use Rattle.session_run.specs.declared.settings.EndStatus.TheVariants.{Done, InputTooLong, SourceFault, Worn}
 
@@ -35,8 +36,8 @@ TakesAll before after = IfSome before (λ old. after ≡ Some [])
 -- Some first requests of a script were answered whole, and nothing of the next one was called or written. The pins that
 -- are still held are given back
 abbrev pub IsWholePrefix : ℕ → List TextLine → Calls → List ℕ → Type 0
-IsWholePrefix size lines calls text = (left : List TextLine) × (own : Calls) × (cursors : List Cursor)
-    × IsDialogue size lines left own text cursors × (calls ≡ own ++ unpins cursors)
+IsWholePrefix size lines calls text = (left : List TextLine) × (own : Calls) × (standing : Standing)
+    × IsDialogue size lines left own text standing × (calls ≡ own ++ unpins standing.cursors)
 
 -- the source failed, or its bytes are too many
 abbrev pub IsInputFault : EndStatus → Type 0
@@ -48,9 +49,9 @@ IsInputFault _ = ⊥
 -- pins that are still held are given back. A line counts once its LF was taken
 abbrev pub IsAllOfTaken : ℕ → Calls → List ℕ → List ℕ → Type 0
 IsAllOfTaken size calls got text =
-    (exchanges : List Exchange) × (own : Calls) × (cursors : List Cursor)
-    × AreAllWhole (whole_lines got) (requests_of exchanges) × AreExchanged size [] exchanges own cursors
-    × (text ≡ replies_of exchanges) × (calls ≡ own ++ unpins cursors)
+    (exchanges : List Exchange) × (own : Calls) × (standing : Standing)
+    × AreAllWhole (whole_lines got) (requests_of exchanges) × AreExchanged size nothing_kept exchanges own standing
+    × (text ≡ replies_of exchanges) × (calls ≡ own ++ unpins standing.cursors)
 
 -- What was served of a script, by how the session ended: all of it, or a beginning, whose requests were answered whole
 -- where the source failed or its bytes are too many

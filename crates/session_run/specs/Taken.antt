@@ -85,6 +85,6 @@ AreRead id (t ∷ texts) (a ∷ answers) = IsMade id t.items a × AreRead (suc i
 
 -- a record is registered under the identifier, or is refused, by one line, where the texts up to and with it count so
 -- many bytes
-abbrev pub Registers : ℕ → ℕ → Option (List TextLine) → Calls → Lines → Unit {0} → Type 0
-Registers id sum r calls lines _ = (act : Act) × (said : line.Reply) × MayRegister id sum r act
+abbrev pub Registers : ℕ → ℕ → Option (List TextLine) → Calls → Lines → Type 0
+Registers id sum r calls lines = (act : Act) × (said : line.Reply) × MayRegister id sum r act
     × AnswersBy act calls said × (lines ≡ said ∷ [])

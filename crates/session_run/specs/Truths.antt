@@ -1,5 +1,5 @@
--- For callers: the laws of what a session lists. Its searches and cursors list the hits that the history has, and its
--- lookups the structures that are the same or most similar there, whatever others did meanwhile.
+-- For callers: the laws of what a session lists. Its searches, cursors and watches list the hits that the history has,
+-- and its lookups the structures that are the same or most similar there, whatever others did meanwhile.
 use Rattle.std.specs.Prelude.{◌≡◌, ◌≤◌, ◌<◌, ◌↔◌, ◌*◌, ℕ, Bool, Contains, List, [], ◌∷◌, ◌++◌, drop, length, take}
 use Rattle.chem_core.specs.Molecule.{Molecule}
 use Rattle.io_edge.specs.Lines.{TextLine}
@@ -24,11 +24,12 @@ use Rattle.store_machine.specs.declared.machine.State.{State}
 use Rattle.store_machine.specs.declared.machine.Step.{Step}
 use Rattle.store_machine.specs.Told.{IsTold}
 use Rattle.session_run.specs.Acts.{Lines, Searches}
-use Rattle.session_run.specs.Cursors.{Calls, Cursor}
-use Rattle.session_run.specs.Dialogue.{AreExchanged, AreListed, AreTurned, Exchange, GivePage, IsCommand, IsShown, StaysOpen, hits_in, likes_in}
+use Rattle.session_run.specs.Cursors.{Calls}
+use Rattle.session_run.specs.Dialogue.{AreExchanged, AreListed, AreTurned, Exchange, GivePage, IsCommand, IsShown, StaysOpen, StaysWatched, hits_in, likes_in}
 use Rattle.session_run.specs.Served.{IsServed}
 use Rattle.session_run.specs.Texts.{IsPatternOf}
 use Rattle.session_run.specs.Transcript.{IsDialogue, IsPrefixOf}
+use Rattle.session_run.specs.Watching.{Standing, nothing_kept}
 use Rattle.session_run.specs.declared.settings.EndStatus.{EndStatus}
 use Rattle.session_run.specs.declared.settings.EndStatus.TheVariants.{Done}
 
@@ -175,7 +176,35 @@ SimilarsAreTrue h exchanges =
     → IsTrueSimilarList h p q k text version scored count (likes_in x.lines)
     × ((v : ℕ) → IsShown before v → v ≤ version)
 
--- every search, every cursor and every lookup of the dialogue, by pages of a size, told what the history has
+-- what was found of a pattern that is watched, for its text: the hits at a version, and their number
+pub record IsTrueWatch (h : History) (text : List ℕ) (version count : ℕ) (hits : List ℕ) : Type 0 where
+  pub pattern : PatternTerm
+  pub is : IsPatternOf text pattern
+  pub are : AreHits h version pattern hits
+  pub length_is : count ≡ length hits
+
+-- each `watch` that was answered told how many hits there are, at a version no older than any that a line before it
+-- shows
+abbrev pub WatchingsAreTrue : History → List Exchange → Type 0
+WatchingsAreTrue h exchanges =
+    (before after : List Exchange) (x : Exchange) (name text : List ℕ) (version count : ℕ)
+    → exchanges ≡ before ++ x ∷ after
+    → IsCommand x.request (command.Watch name text) → Contains x.lines (line.Watching version count)
+    → (hits : List ℕ) × IsTrueWatch h text version count hits × ((v : ℕ) → IsShown before v → v ≤ version)
+
+-- Each `hits` that came to its end listed the hits of the pattern that is watched under its name, whoever committed
+-- meanwhile, at a version no older than any that a line before it shows
+abbrev pub WatchesAreTrue : History → List Exchange → Type 0
+WatchesAreTrue h exchanges =
+    (before between after : List Exchange) (x y : Exchange) (name text : List ℕ) (first found version count rebuilt : ℕ)
+    → exchanges ≡ before ++ x ∷ (between ++ y ∷ after)
+    → IsCommand x.request (command.Watch name text) → Contains x.lines (line.Watching first found)
+    → StaysWatched name between
+    → IsCommand y.request (command.Hits name) → Contains y.lines (line.EndWatched version count rebuilt)
+    → IsTrueWatch h text version count (hits_in y.lines)
+    × ((v : ℕ) → IsShown (before ++ x ∷ between) v → v ≤ version)
+
+-- every search, every cursor, every lookup and every watch of the dialogue, by pages of a size, told what the history has
 pub record AreTrue (h : History) (size : ℕ) (exchanges : List Exchange) : Type 0 where
   pub searches : SearchesAreTrue h exchanges
   pub cursors : CursorsAreTrue h exchanges
@@ -183,22 +212,24 @@ pub record AreTrue (h : History) (size : ℕ) (exchanges : List Exchange) : Type
   pub sames : SamesAreTrue h exchanges
   pub registrations : RegistrationsAreTrue h exchanges
   pub similars : SimilarsAreTrue h exchanges
+  pub watchings : WatchingsAreTrue h exchanges
+  pub watches : WatchesAreTrue h exchanges
 
 -- a dialogue over a part of a run that begins at a sound state
 abbrev pub DialoguesAreTrue : Type 0
 DialoguesAreTrue =
     (s t : State) (steps : List Step) (own : ℕ → Bool) (size : ℕ) (exchanges : List Exchange) (calls more : Calls)
-    (cursors : List Cursor)
+    (standing : Standing)
     → IsSound s → IsRun s steps t → IsCalm steps → calls_of own steps ≡ calls ++ more
-    → AreExchanged size [] exchanges calls cursors → AreTrue t.history size exchanges
+    → AreExchanged size nothing_kept exchanges calls standing → AreTrue t.history size exchanges
 
 -- A transcript that is true by a history: the text is the replies of a true dialogue over all the lines, and the calls
 -- of the dialogue are the first of these
 pub record IsTrueTranscript (h : History) (size : ℕ) (lines : List TextLine) (calls : Calls) (text : List ℕ)
     : Type 0 where
   pub own : Calls
-  pub left_open : List Cursor
-  pub dialogue : IsDialogue size lines [] own text left_open
+  pub left_kept : Standing
+  pub dialogue : IsDialogue size lines [] own text left_kept
   pub made : IsPrefixOf own calls
   pub are_true : AreTrue h size dialogue.exchanges
 
@@ -208,8 +239,8 @@ pub record IsTrueBeginning (h : History) (size : ℕ) (lines : List TextLine) (c
   pub left : List TextLine
   pub own : Calls
   pub replies : List ℕ
-  pub left_open : List Cursor
-  pub dialogue : IsDialogue size lines left own replies left_open
+  pub left_kept : Standing
+  pub dialogue : IsDialogue size lines left own replies left_kept
   pub said : IsPrefixOf text replies
   pub made : IsPrefixOf own calls
   pub are_true : AreTrue h size dialogue.exchanges

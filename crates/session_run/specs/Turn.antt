@@ -13,11 +13,12 @@ use Rattle.io_edge.specs.declared.lines.LineFault.TheVariants as line_faults
 use Rattle.shell_lang.specs.Command.{IsLine, StartsMolfile, TakesLines, TakesRecords, molfile_command, records_command}
 use Rattle.shell_lang.specs.Reply.{text_of}
 use Rattle.session_run.specs.Acts.{RequestAnswer}
-use Rattle.session_run.specs.Cursors.{Calls, Cursor}
+use Rattle.session_run.specs.Cursors.{Calls}
 use Rattle.session_run.specs.Made.{Did, WornIn}
 use Rattle.session_run.specs.Records.{records_in}
 use Rattle.session_run.specs.Requests.{Request, BeginWith, BeginWithMolfile, BeginWithRecords, HasNoEnd, IsLong, molfile_text}
 use Rattle.session_run.specs.Taken.{AreTaken, IsOne, IsRecordPart, record_of}
+use Rattle.session_run.specs.Watching.{Standing}
 use Rattle.session_run.specs.declared.records.Part.{Part}
 use Rattle.session_run.specs.declared.records.SdTexts.{SdTexts}
 use Rattle.session_run.specs.declared.request.Next.{Next}
@@ -129,48 +130,48 @@ Takes next old new before after text records =
 
 -- a request was read and answered
 pub record Answers (size : ℕ) (Made : Calls → Type 0) (Taken : Request → Type 0)
-    (cursors cursors' : List Cursor) : Type 0 where
+    (standing standing' : Standing) : Type 0 where
   pub request : Request
   pub taken : Taken request
-  pub did : Did Made (RequestAnswer size cursors request) cursors'
+  pub did : Did Made (RequestAnswer size standing request) standing'
 
 -- a request was read, and in its answer the service was worn
 pub record Breaks (size : ℕ) (Made : Calls → Type 0) (IsWorn : Type 0) (Taken : Request → Type 0)
-    (cursors : List Cursor) : Type 0 where
+    (standing : Standing) : Type 0 where
   pub request : Request
   pub taken : Taken request
-  pub worn : WornIn Made IsWorn (RequestAnswer size cursors request)
+  pub worn : WornIn Made IsWorn (RequestAnswer size standing request)
 
 -- What a turn does, by how the session ends with it, if it does
-abbrev pub Turns : ℕ → (Calls → Type 0) → Type 0 → (Request → Type 0) → Type 0 → List Cursor → List Cursor
+abbrev pub Turns : ℕ → (Calls → Type 0) → Type 0 → (Request → Type 0) → Type 0 → Standing → Standing
     → Option (List ℕ) → Option (List ℕ) → Option EndStatus → Type 0
-Turns size Made IsWorn Taken AtEnd cursors cursors' put put' None =
-    (a : Answers size Made Taken cursors cursors') × Appends put put' (text_of a.did.lines)
-Turns size Made IsWorn Taken AtEnd cursors cursors' put put' (Some Done) =
-    AtEnd × Made [] × (cursors' ≡ cursors) × Appends put put' []
-Turns size Made IsWorn Taken AtEnd cursors cursors' put put' (Some SourceFault) =
-    Made [] × (cursors' ≡ cursors) × Appends put put' []
-Turns size Made IsWorn Taken AtEnd cursors cursors' put put' (Some InputTooLong) =
-    Made [] × (cursors' ≡ cursors) × Appends put put' []
-Turns size Made IsWorn Taken AtEnd cursors cursors' put put' (Some SinkFault) =
-    (a : Answers size Made Taken cursors cursors') × AppendsPrefix put put' (text_of a.did.lines)
-Turns size Made IsWorn Taken AtEnd cursors cursors' put put' (Some NoMemory) =
-    (a : Answers size Made Taken cursors cursors') × AppendsPrefix put put' (text_of a.did.lines)
-Turns size Made IsWorn Taken AtEnd cursors cursors' put put' (Some Worn) =
-    Breaks size Made IsWorn Taken cursors × Appends put put' []
+Turns size Made IsWorn Taken AtEnd standing standing' put put' None =
+    (a : Answers size Made Taken standing standing') × Appends put put' (text_of a.did.lines)
+Turns size Made IsWorn Taken AtEnd standing standing' put put' (Some Done) =
+    AtEnd × Made [] × (standing' ≡ standing) × Appends put put' []
+Turns size Made IsWorn Taken AtEnd standing standing' put put' (Some SourceFault) =
+    Made [] × (standing' ≡ standing) × Appends put put' []
+Turns size Made IsWorn Taken AtEnd standing standing' put put' (Some InputTooLong) =
+    Made [] × (standing' ≡ standing) × Appends put put' []
+Turns size Made IsWorn Taken AtEnd standing standing' put put' (Some SinkFault) =
+    (a : Answers size Made Taken standing standing') × AppendsPrefix put put' (text_of a.did.lines)
+Turns size Made IsWorn Taken AtEnd standing standing' put put' (Some NoMemory) =
+    (a : Answers size Made Taken standing standing') × AppendsPrefix put put' (text_of a.did.lines)
+Turns size Made IsWorn Taken AtEnd standing standing' put put' (Some Worn) =
+    Breaks size Made IsWorn Taken standing × Appends put put' []
 
 -- What the answer to a request does and what is put of it, by how the session ends with it, if it does
-abbrev pub Replies : ℕ → (Calls → Type 0) → Type 0 → Request → List Cursor → List Cursor → Option (List ℕ) → Option (List ℕ)
+abbrev pub Replies : ℕ → (Calls → Type 0) → Type 0 → Request → Standing → Standing → Option (List ℕ) → Option (List ℕ)
     → Option EndStatus → Type 0
-Replies size Made IsWorn request cursors cursors' put put' None =
-    (did : Did Made (RequestAnswer size cursors request) cursors') × Appends put put' (text_of did.lines)
-Replies size Made IsWorn request cursors cursors' put put' (Some SinkFault) =
-    (did : Did Made (RequestAnswer size cursors request) cursors') × AppendsPrefix put put' (text_of did.lines)
-Replies size Made IsWorn request cursors cursors' put put' (Some NoMemory) =
-    (did : Did Made (RequestAnswer size cursors request) cursors') × AppendsPrefix put put' (text_of did.lines)
-Replies size Made IsWorn request cursors cursors' put put' (Some Worn) =
-    WornIn Made IsWorn (RequestAnswer size cursors request) × Appends put put' []
-Replies size Made IsWorn request cursors cursors' put put' (Some _) = ⊥
+Replies size Made IsWorn request standing standing' put put' None =
+    (did : Did Made (RequestAnswer size standing request) standing') × Appends put put' (text_of did.lines)
+Replies size Made IsWorn request standing standing' put put' (Some SinkFault) =
+    (did : Did Made (RequestAnswer size standing request) standing') × AppendsPrefix put put' (text_of did.lines)
+Replies size Made IsWorn request standing standing' put put' (Some NoMemory) =
+    (did : Did Made (RequestAnswer size standing request) standing') × AppendsPrefix put put' (text_of did.lines)
+Replies size Made IsWorn request standing standing' put put' (Some Worn) =
+    WornIn Made IsWorn (RequestAnswer size standing request) × Appends put put' []
+Replies size Made IsWorn request standing standing' put put' (Some _) = ⊥
 
 -- what was put of a reply
 abbrev pub Puts : Option (List ℕ) → Option (List ℕ) → List ℕ → ℕ → ℕ → Option EndStatus → Type 0

@@ -1,24 +1,28 @@
 //! Commands of one call: changes of the store, `show`, `prune` and `stats`.
-ghost use Rattle.std.specs.Prelude.{◌≡◌, IfOk, List, ℕ};
+ghost use Rattle.std.specs.Prelude.{◌≡◌, IfOk, List, OnOk, true, ℕ};
 ghost use Rattle.std.specs.Arc.{arc_value};
 ghost use Rattle.shell_lang.specs.Reply.{reply_of};
 ghost use Rattle.store_core.specs.Calls.{NeedsNone, is_worn, is_worn_out};
-ghost use Rattle.store_core.specs.Replies.{IsLookOf, change_of, commit_calls, look_calls, prune_calls, stats_calls};
+ghost use Rattle.store_core.specs.Replies.{IsLookOf, IsSoundChange, change_of, commit_calls, look_calls, prune_calls, stats_calls};
 ghost use Rattle.store_core.specs.declared.words.Change as asked;
 ghost use Rattle.store_machine.specs.declared.machine.Event.TheVariants as event;
 ghost use Rattle.store_machine.specs.History.{IsId};
-ghost use Rattle.session_run.specs.Acts.{Answers, MayAsk, MayChange};
+ghost use Rattle.session_run.specs.Acts.{Answers, MayAsk, MayChange, Responds};
 ghost use Rattle.session_run.specs.Cursors.{Cursor};
 ghost use Rattle.session_run.specs.Made.{AnsweredBy, Gives};
 ghost use Rattle.session_run.specs.Responds.{IsTextRefusal, change_by};
+ghost use Rattle.session_run.specs.Standings.{IsNotedBy, both, watched_all};
+ghost use Rattle.session_run.specs.Watching.{AreNoted};
 
 use crate::say::{say, say_given, say_long};
 use crate::stop::Stop;
 use crate::texts::record_is_sound;
-use mol_finish::{Format, TextFault};
+use mol_finish::{Format, TextFault, one_structure};
 use shell_lang::{Refusal, Reply};
+use std::alloc::AllocError;
 use std::sync::Arc;
 use store_core::{CallFault, Change, CommitFault, Look, Record, Recorder, Service, Stats};
+use watch_list::Watches;
 
 /// A change to a text.
 #[derive(Clone, Copy, Debug, PartialEq, Eq)]
@@ -38,6 +42,7 @@ pub struct TextChange {
 /// Commits a change to a text. The text is looked at first.
 pub fn change_text<S: Service>(
     recorder: &mut Recorder,
+    watches: &mut Watches,
     service: &mut S,
     change: TextChange,
     text: &[u8],
@@ -45,15 +50,16 @@ pub fn change_text<S: Service>(
 ) -> Result<(), Stop>
     requires { IsId change.id }
     ensures { (size : ℕ) (cursors : List Cursor) → AnsweredBy S.Service service.old service.new
-        (Answers size (MayChange (change_by change.verb change.id change.format text.now) change.format text.now) cursors)
-        out.old.items out.new.items cursors result }
+        (Responds size (MayChange (change_by change.verb change.id change.format text.now) change.format text.now)
+        (both cursors (watched_all watches.old.watches)))
+        out.old.items out.new.items (both cursors (watched_all watches.new.watches)) result }
 {
     let record = match recorder.record(change.id, change.format, text) {
         Ok(record) => record,
         Err(fault) => return say(&refuse_text(fault), out),
     };
     record_is_sound(&record);
-    commit(service, change_to(change.verb, record), out)
+    commit(watches, service, change_to(change.verb, record), out)
 }
 
 // The change that a verb makes.
@@ -66,13 +72,78 @@ fn change_to(verb: Verb, entry: Arc<Record>) -> Change
     }
 }
 
-/// Commits a change.
-pub fn commit<S: Service>(service: &mut S, change: Change, out: &mut Vec<u8>) -> Result<(), Stop>
+/// Commits a change, and brings the watches over it. The memory for that is taken first.
+pub fn commit<S: Service>(
+    watches: &mut Watches,
+    service: &mut S,
+    change: Change,
+    out: &mut Vec<u8>,
+) -> Result<(), Stop>
     ensures { (size : ℕ) (cursors : List Cursor) → AnsweredBy S.Service service.old service.new
-        (Answers size (MayAsk (event.Commit (change_of change))) cursors) out.old.items out.new.items cursors result }
+        (Responds size (MayAsk (event.Commit (change_of change))) (both cursors (watched_all watches.old.watches)))
+        out.old.items out.new.items (both cursors (watched_all watches.new.watches)) result }
 {
+    let Ok(second) = prepare(watches, &change) else {
+        return say(&Reply::MemoryFault, out);
+    };
     let answer = service.commit(change);
+    note(watches, answer, &second);
     say_given(commit_line(answer), out)
+}
+
+// Memory for bringing the watches over a change, and the change once more, which shares the record.
+fn prepare(watches: &mut Watches, change: &Change) -> Result<Change, AllocError>
+    ensures watches { watches.new.watches ≡ watches.old.watches }
+    ensures reserved { OnOk result (watches.new.reserved ≡ true) }
+    ensures change { IfOk result (λ second. change_of second ≡ change_of change.now) }
+{
+    watches.reserve()?;
+    share(change)
+}
+
+// The change once more.
+fn share(change: &Change) -> Result<Change, AllocError>
+    ensures { IfOk result (λ second. change_of second ≡ change_of change.now) }
+{
+    match change {
+        Change::Register(record) => Ok(Change::Register(Arc::try_clone(record)?)),
+        Change::Revise(record) => Ok(Change::Revise(Arc::try_clone(record)?)),
+        Change::Withdraw(id) => Ok(Change::Withdraw(*id)),
+    }
+}
+
+// Brings the watches over a commit, where it was made.
+fn note(watches: &mut Watches, answer: Result<u32, CommitFault>, change: &Change)
+    requires { watches.old.reserved ≡ true }
+    ensures { IsNotedBy answer (change_of change.now) (watched_all watches.old.watches)
+        (watched_all watches.new.watches) }
+{
+    match answer {
+        Ok(version) => note_version(watches, version, change),
+        Err(_) => {}
+    }
+}
+
+// Brings the watches over the commit of a version. No commit is version 0.
+fn note_version(watches: &mut Watches, version: u32, change: &Change)
+    requires { watches.old.reserved ≡ true }
+    ensures { AreNoted version (change_of change.now) (watched_all watches.old.watches)
+        (watched_all watches.new.watches) }
+{
+    one_structure();
+    change_is_sound(change);
+    let is_none = version == 0;
+    if is_none {
+        return;
+    }
+    watches.note(version, change);
+}
+
+// A law: the record of a change is one.
+fn change_is_sound(change: &Change)
+    ensures { IsSoundChange change.now }
+{
+    let _ = change.id();
 }
 
 // The line of a commit.

@@ -21,6 +21,7 @@ mod search;
 mod settings;
 mod stop;
 mod texts;
+mod watches;
 
 pub use laws::{dialogues_are_true, searches_are_hits, services_are_true};
 pub use respond::Responder;

@@ -6,10 +6,11 @@ ghost use Rattle.shell_lang.specs.Reply.{text_of};
 ghost use Rattle.shell_lang.specs.Written.{Extends};
 ghost use Rattle.store_machine.specs.History.{IsId};
 ghost use Rattle.store_machine.specs.declared.machine.Change.TheVariants as change;
-ghost use Rattle.session_run.specs.Acts.{Answers, MayRegisterNew, MaySame, MaySimilar, like_line, same_lines, similar_lines};
+ghost use Rattle.session_run.specs.Acts.{Answers, MayRegisterNew, MaySame, MaySimilar, Responds, like_line, same_lines, similar_lines};
 ghost use Rattle.session_run.specs.Cursors.{Cursor};
 ghost use Rattle.session_run.specs.Made.{AnsweredBy, TellsAll};
 ghost use Rattle.session_run.specs.Responds.{IsFit};
+ghost use Rattle.session_run.specs.Standings.{both, watched_all};
 
 use crate::commands::{commit, refuse_text};
 use crate::cursors::Cursors;
@@ -23,6 +24,7 @@ use mol_finish::Format;
 use shell_lang::{Refusal, Reply, reply_text};
 use std::alloc::AllocError;
 use store_core::{Change, Recorder, Service};
+use watch_list::Watches;
 
 /// What `similar` asks for: at most `k` hits, that have at least `p / q` of the bits in common.
 #[derive(Clone, Copy, Debug, PartialEq, Eq)]
@@ -60,6 +62,7 @@ pub fn same<S: Service>(
 pub fn register_new<S: Service>(
     recorder: &mut Recorder,
     cursors: &Cursors,
+    watches: &mut Watches,
     service: &mut S,
     id: u32,
     text: &[u8],
@@ -68,8 +71,9 @@ pub fn register_new<S: Service>(
     requires fit { IsFit cursors.now }
     requires id { IsId id }
     ensures { (here : List Cursor) → AnsweredBy S.Service service.old service.new
-        (Answers cursors.now.settings.page (MayRegisterNew id text.now) here)
-        out.old.items out.new.items here result }
+        (Responds cursors.now.settings.page (MayRegisterNew id text.now)
+        (both here (watched_all watches.old.watches)))
+        out.old.items out.new.items (both here (watched_all watches.new.watches)) result }
 {
     let record = match recorder.record(id, Format::Smiles, text) {
         Ok(record) => record,
@@ -79,7 +83,7 @@ pub fn register_new<S: Service>(
     match find_same(cursors.alloc, service, &record, cursors.settings.page) {
         Ok(list) => match list.hits.first() {
             Some(id) => say(&Reply::Refused(Refusal::Same { id: *id }), out),
-            None => commit(service, Change::Register(record), out),
+            None => commit(watches, service, Change::Register(record), out),
         },
         Err(fault) => say_given(fault_line(fault), out),
     }
@@ -183,8 +187,8 @@ fn push_likes(likes: &[(u32, u32, u32)], out: &mut Vec<u8>) -> Result<(), AllocE
     Ok(())
 }
 
-// A count as a line has it. No store has so many records that it has none.
-fn count(len: usize) -> Result<u32, AllocError>
+/// A count as a line has it. No store has so many records that it has none.
+pub fn count(len: usize) -> Result<u32, AllocError>
     ensures { IfOk result (λ n. n ≡ len) }
 {
     match u32::try_from(len) {

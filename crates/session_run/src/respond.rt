@@ -4,14 +4,13 @@ ghost use Rattle.io_edge.specs.Lines.{TextLine, Whole};
 ghost use Rattle.shell_lang.specs.Command.{IsLine, Spells, StartsMolfile, TakesLines, TakesRecords, molfile_command, records_command};
 ghost use Rattle.shell_lang.specs.CommandView.{command_of};
 ghost use Rattle.shell_lang.specs.Reply.{reply_of};
-ghost use Rattle.session_run.specs.Acts.{Allows, Answers, RequestAnswer};
+ghost use Rattle.session_run.specs.Acts.{Allows, RequestAnswer, Responds};
 ghost use Rattle.session_run.specs.Made.{AnsweredBy};
 ghost use Rattle.session_run.specs.Opened.{opened};
 ghost use Rattle.session_run.specs.Requests.{Request};
-ghost use Rattle.session_run.specs.Cursors.{Cursor};
 ghost use Rattle.session_run.specs.Responds.{IsFit, IsLostLine, IsReady, IsTextChange};
+ghost use Rattle.session_run.specs.Standings.{standing_of};
 ghost use Rattle.session_run.specs.Turn.{IsNext};
-ghost use Rattle.session_run.specs.Walks.{cursors_of};
 ghost use Rattle.session_run.specs.declared.request.Next.TheVariants as next;
 
 use crate::commands::{TextChange, Verb, change_text, commit, prune, show, stats};
@@ -25,18 +24,21 @@ use crate::say::say;
 use crate::sd::register_sd;
 use crate::settings::Settings;
 use crate::stop::Stop;
+use crate::watches::{hits, unwatch, watch};
 use mol_finish::Format;
 use par_search::Meter;
 use shell_lang::{Command, LineRefusal, MolfileChange, Refusal, Reply, read_command};
 use std::alloc::{AllocError, Global};
 use std::thread::Threads;
 use store_core::{Change, Recorder, Service};
+use watch_list::Watches;
 
-/// What answers requests: the open cursors, and buffers that are reused for each request.
+/// What answers requests: the open cursors, the watches, and buffers that are reused for each request.
 #[derive(Drop)]
 pub struct Responder {
     recorder: Recorder,
     pub cursors: Cursors,
+    pub watches: Watches,
     /// The text of the molfile that the request under way has.
     pub molfile: Vec<u8>,
     /// The records that the request under way has.
@@ -46,14 +48,16 @@ pub struct Responder {
 }
 
 impl Responder {
-    /// Without cursors.
+    /// Without cursors and watches.
     pub fn new(alloc: Global, settings: Settings) -> Result<Responder, AllocError>
         ensures settings { IfOk result (λ responder. responder.cursors.settings ≡ settings) }
         ensures none { IfOk result (λ responder. opened responder.cursors ≡ []) }
+        ensures unwatched { IfOk result (λ responder. responder.watches.watches ≡ []) }
     {
         Ok(Responder {
             recorder: Recorder::new(alloc),
             cursors: Cursors::new(alloc, settings),
+            watches: Watches::new(alloc),
             molfile: Vec::new(alloc),
             records: SdTexts::new(alloc),
             out: Vec::with_capacity(alloc, ROOM)?,
@@ -74,8 +78,8 @@ impl Responder {
             self.old.records }
         ensures answered { (request : Request) → IsNext next request line.now self.old.molfile.items
             self.old.records → AnsweredBy S.Service service.old service.new
-            (RequestAnswer self.old.cursors.settings.page (cursors_of (opened self.old.cursors)) request)
-            [] self.new.out.items (cursors_of (opened self.new.cursors)) result }
+            (RequestAnswer self.old.cursors.settings.page (standing_of self.old) request)
+            [] self.new.out.items (standing_of self.new) result }
         ensures fit { IsFit self.new.cursors }
         ensures settings { self.new.cursors.settings ≡ self.old.cursors.settings }
     {
@@ -100,9 +104,9 @@ impl Responder {
         requires ready { IsReady S.Service service.old self.old.cursors }
         requires alone { ¬ TakesLines line.now }
         ensures answered { AnsweredBy S.Service service.old service.new
-            (RequestAnswer self.old.cursors.settings.page (cursors_of (opened self.old.cursors))
+            (RequestAnswer self.old.cursors.settings.page (standing_of self.old)
             (record { line = Whole line.now; more = [] }))
-            [] self.new.out.items (cursors_of (opened self.new.cursors)) result }
+            [] self.new.out.items (standing_of self.new) result }
         ensures fit { IsFit self.new.cursors }
         ensures settings { self.new.cursors.settings ≡ self.old.cursors.settings }
     {
@@ -113,13 +117,15 @@ impl Responder {
         }
     }
 
-    /// Forgets all cursors, and gives no pin back.
+    /// Forgets all cursors and watches, and gives no pin back.
     pub fn forget(&mut self)
         ensures none { opened self.new.cursors ≡ [] }
+        ensures unwatched { self.new.watches.watches ≡ [] }
         ensures fit { IsFit self.old.cursors → IsFit self.new.cursors }
         ensures settings { self.new.cursors.settings ≡ self.old.cursors.settings }
     {
         self.cursors.by_name.clear();
+        self.watches = Watches::new(self.cursors.alloc);
     }
 
     // Executes a command that takes no lines.
@@ -133,10 +139,9 @@ impl Responder {
         requires ready { IsReady S.Service service.old self.old.cursors }
         requires line { (line : List ℕ) × Spells line (command_of command) × ¬ TakesLines line }
         ensures answered { (more : List TextLine) → AnsweredBy S.Service service.old service.new
-            (Answers self.old.cursors.settings.page
-            (Allows (cursors_of (opened self.old.cursors)) more (Ok (command_of command.entry)))
-            (cursors_of (opened self.old.cursors)))
-            self.old.out.items self.new.out.items (cursors_of (opened self.new.cursors)) result }
+            (Responds self.old.cursors.settings.page
+            (Allows (standing_of self.old) more (Ok (command_of command.entry))) (standing_of self.old))
+            self.old.out.items self.new.out.items (standing_of self.new) result }
         ensures fit { IsFit self.new.cursors }
         ensures settings { self.new.cursors.settings ≡ self.old.cursors.settings }
     {
@@ -148,7 +153,14 @@ impl Responder {
                     id,
                     format: Format::Smiles,
                 };
-                change_text(&mut self.recorder, service, change, text, &mut self.out)
+                change_text(
+                    &mut self.recorder,
+                    &mut self.watches,
+                    service,
+                    change,
+                    text,
+                    &mut self.out,
+                )
             }
             Command::Revise { id, text } => {
                 let change = TextChange {
@@ -156,9 +168,21 @@ impl Responder {
                     id,
                     format: Format::Smiles,
                 };
-                change_text(&mut self.recorder, service, change, text, &mut self.out)
+                change_text(
+                    &mut self.recorder,
+                    &mut self.watches,
+                    service,
+                    change,
+                    text,
+                    &mut self.out,
+                )
             }
-            Command::Withdraw { id } => commit(service, Change::Withdraw(id), &mut self.out),
+            Command::Withdraw { id } => commit(
+                &mut self.watches,
+                service,
+                Change::Withdraw(id),
+                &mut self.out,
+            ),
             Command::Show { id } => show(service, id, &mut self.out),
             Command::Data { id, name } => find_data(service, id, name, &mut self.out),
             Command::Search { pattern } => {
@@ -175,6 +199,7 @@ impl Responder {
             Command::RegisterNew { id, text } => register_new(
                 &mut self.recorder,
                 &self.cursors,
+                &mut self.watches,
                 service,
                 id,
                 text,
@@ -196,6 +221,22 @@ impl Responder {
             }
             Command::Next { name } => self.cursors.next(rt, service, meter, name, &mut self.out),
             Command::Close { name } => self.cursors.close(service, name, &mut self.out),
+            Command::Watch { name, text } => watch(
+                &self.cursors,
+                &mut self.watches,
+                service,
+                name,
+                text,
+                &mut self.out,
+            ),
+            Command::Hits { name } => hits(
+                &self.cursors,
+                &mut self.watches,
+                service,
+                name,
+                &mut self.out,
+            ),
+            Command::Unwatch { name } => unwatch(&mut self.watches, name, &mut self.out),
             Command::Prune => prune(service, &mut self.out),
             Command::Stats => stats(service, &mut self.out),
             Command::RegisterMol { .. } => unreachable!(),
@@ -215,8 +256,8 @@ impl Responder {
         ensures answered { (request : Request) (line : List ℕ)
             → IsNext (next.WithMolfile read molfile) request line self.old.molfile.items self.old.records
             → AnsweredBy S.Service service.old service.new
-            (RequestAnswer self.old.cursors.settings.page (cursors_of (opened self.old.cursors)) request)
-            self.old.out.items self.new.out.items (cursors_of (opened self.new.cursors)) result }
+            (RequestAnswer self.old.cursors.settings.page (standing_of self.old) request)
+            self.old.out.items self.new.out.items (standing_of self.new) result }
         ensures cursors { self.new.cursors ≡ self.old.cursors }
     {
         match molfile {
@@ -227,6 +268,7 @@ impl Responder {
                     let change = text_change(change);
                     change_text(
                         &mut self.recorder,
+                        &mut self.watches,
                         service,
                         change,
                         &self.molfile,
@@ -251,8 +293,8 @@ impl Responder {
         ensures answered { (request : Request)
             → IsNext (next.WithRecords count first) request [] self.old.molfile.items self.old.records
             → AnsweredBy S.Service service.old service.new
-            (RequestAnswer self.old.cursors.settings.page (cursors_of (opened self.old.cursors)) request)
-            self.old.out.items self.new.out.items (cursors_of (opened self.new.cursors)) result }
+            (RequestAnswer self.old.cursors.settings.page (standing_of self.old) request)
+            self.old.out.items self.new.out.items (standing_of self.new) result }
         ensures cursors { self.new.cursors ≡ self.old.cursors }
     {
         let result = self.register_records(rt, service, count, first);
@@ -273,12 +315,20 @@ impl Responder {
         ensures answered { (request : Request)
             → IsNext (next.WithRecords count first) request [] self.old.molfile.items self.old.records
             → AnsweredBy S.Service service.old service.new
-            (RequestAnswer self.old.cursors.settings.page (cursors_of (opened self.old.cursors)) request)
-            self.old.out.items self.new.out.items (cursors_of (opened self.new.cursors)) result }
+            (RequestAnswer self.old.cursors.settings.page (standing_of self.old) request)
+            self.old.out.items self.new.out.items (standing_of self.new) result }
         ensures cursors { self.new.cursors ≡ self.old.cursors }
     {
         match first {
-            Ok(first) => register_sd(rt, service, first, count, &self.records, &mut self.out),
+            Ok(first) => register_sd(
+                rt,
+                &mut self.watches,
+                service,
+                first,
+                count,
+                &self.records,
+                &mut self.out,
+            ),
             Err(refusal) => say(&Reply::Refused(Refusal::Line(refusal)), &mut self.out),
         }
     }

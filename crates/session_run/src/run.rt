@@ -10,6 +10,7 @@ ghost use Rattle.session_run.specs.Requests.{IsPartOfRequest, Request};
 ghost use Rattle.session_run.specs.Responds.{IsFit, IsReady, KeepsPins};
 ghost use Rattle.session_run.specs.Served.{IsInputFault, IsServedBy, TakesAll, TakesAtMost, TakesExactly};
 ghost use Rattle.session_run.specs.Serving.{IsFresh, Serves};
+ghost use Rattle.session_run.specs.Standings.{standing_of};
 ghost use Rattle.session_run.specs.Turn.{IsNext, Puts, ReadsOn, Replies, TakesNone, TakesPart, TakesRequest, Turns};
 ghost use Rattle.session_run.specs.Walks.{cursors_of};
 
@@ -72,6 +73,7 @@ fn serve_to_end<R: Threads + Sync, S: Service, I: Source, O: Sink, M: Meter>(
 ) -> EndStatus
     requires fit { IsFit responder.old.cursors }
     requires none { opened responder.old.cursors ≡ [] }
+    requires unwatched { responder.old.watches.watches ≡ [] }
     requires fresh { IsFresh lines.old }
     ensures serves { (calls : Calls) × Uses S.Service service.old service.new calls
         × IsServedBy result responder.old.cursors.settings.page (I.left source.old) (I.left source.new)
@@ -107,10 +109,11 @@ fn serve<R: Threads + Sync, S: Service, I: Source, O: Sink, M: Meter>(
 ) -> EndStatus
     requires fit { IsFit responder.old.cursors }
     requires none { opened responder.old.cursors ≡ [] }
+    requires unwatched { responder.old.watches.watches ≡ [] }
     requires fresh { IsFresh lines.old }
     ensures serves { (calls : Calls) × Uses S.Service service.old service.new calls
         × Serves result responder.old.cursors.settings.page (I.left source.old) (I.left source.new)
-        (O.written sink.old) (O.written sink.new) calls (cursors_of (opened responder.new.cursors)) }
+        (O.written sink.old) (O.written sink.new) calls (standing_of responder.new) }
     ensures pins { result ≢ EndStatus.Worn
         → KeepsPins (S.holds service.old) [] (S.holds service.new) (cursors_of (opened responder.new.cursors)) }
     ensures worn { result ≡ EndStatus.Worn → S.worn service.new }
@@ -142,7 +145,7 @@ fn turn<R: Threads + Sync, S: Service, I: Source, O: Sink, M: Meter>(
     ensures turns { Turns responder.old.cursors.settings.page (Uses S.Service service.old service.new)
         (S.worn service.new) (TakesRequest lines.old lines.new (I.left source.old) (I.left source.new))
         (TakesNone lines.old (I.left source.old))
-        (cursors_of (opened responder.old.cursors)) (cursors_of (opened responder.new.cursors))
+        (standing_of responder.old) (standing_of responder.new)
         (O.written sink.old) (O.written sink.new) result }
     ensures part { IfSome result (λ end. IsInputFault end
         → TakesPart lines.old lines.new (I.left source.old) (I.left source.new) IsPartOfRequest) }
@@ -189,7 +192,7 @@ fn answer_and_put<R: Threads + Sync, S: Service, O: Sink, M: Meter>(
     ensures replies { (request : Request) → IsNext next request line.now responder.old.molfile.items
         responder.old.records → Replies responder.old.cursors.settings.page
         (Uses S.Service service.old service.new) (S.worn service.new) request
-        (cursors_of (opened responder.old.cursors)) (cursors_of (opened responder.new.cursors))
+        (standing_of responder.old) (standing_of responder.new)
         (O.written sink.old) (O.written sink.new) result }
     ensures fit { IsFit responder.new.cursors }
     ensures settings { responder.new.cursors.settings ≡ responder.old.cursors.settings }

@@ -2,9 +2,10 @@
 ghost use Rattle.std.specs.Prelude.{◌≡◌, ◌<◌, ◌+◌, List, Option, Some, length, ℕ};
 ghost use Rattle.io_edge.specs.Lines.{TextLine};
 ghost use Rattle.shell_lang.specs.Command.{AreIds};
-ghost use Rattle.session_run.specs.Acts.{Answers, RegisterEach};
+ghost use Rattle.session_run.specs.Acts.{RegisterEach, Responds};
 ghost use Rattle.session_run.specs.Cursors.{Cursor};
 ghost use Rattle.session_run.specs.Made.{AnsweredBy};
+ghost use Rattle.session_run.specs.Standings.{Keeps, both, watched_all};
 ghost use Rattle.session_run.specs.Taken.{AreRead, AreTaken, IsReady, Registers};
 ghost use Rattle.store_machine.specs.History.{IsId};
 
@@ -20,6 +21,7 @@ use std::alloc::Global;
 use std::sync::Arc;
 use std::thread::Threads;
 use store_core::{Change, Record, Service};
+use watch_list::Watches;
 
 // What making a record answered.
 type Made = Result<Arc<Record>, TextFault>;
@@ -27,6 +29,7 @@ type Made = Result<Arc<Record>, TextFault>;
 /// Registers records under identifiers from the first on, and answers each by one line.
 pub fn register_sd<R: Threads + Sync, S: Service>(
     rt: &R,
+    watches: &mut Watches,
     service: &mut S,
     first: u32,
     count: u32,
@@ -37,14 +40,15 @@ pub fn register_sd<R: Threads + Sync, S: Service>(
     requires taken { (records : List (Option (List TextLine))) × (length records ≡ count) × AreTaken records texts.now }
     ensures { (records : List (Option (List TextLine))) → length records ≡ count → AreTaken records texts.now
         → (size : ℕ) (cursors : List Cursor) → AnsweredBy S.Service service.old service.new
-        (Answers size (λ act. act ≡ RegisterEach first records) cursors) out.old.items out.new.items cursors result }
+        (Responds size (λ act. act ≡ RegisterEach first records) (both cursors (watched_all watches.old.watches)))
+        out.old.items out.new.items (both cursors (watched_all watches.new.watches)) result }
 {
     let made = read_all(rt, first, texts);
     let mut answers = made.into_iter();
     let mut place = 0;
     while place < count {
         let kept = texts.kept_at(place);
-        match register_one(service, kept, answers.next(), out) {
+        match register_one(watches, service, kept, answers.next(), out) {
             Ok(()) => place += 1,
             Err(stop) => return Err(stop),
         }
@@ -65,19 +69,22 @@ fn read_all<R: Threads + Sync>(rt: &R, first: u32, texts: &SdTexts) -> Vec<Made>
 
 // Answers a record by what is kept of it and what making it answered. Where one of these is lost, memory ran out.
 fn register_one<S: Service>(
+    watches: &mut Watches,
     service: &mut S,
     kept: Option<Kept>,
     answer: Option<Made>,
     out: &mut Vec<u8>,
 ) -> Result<(), Stop>
     ensures { (id sum : ℕ) (r : Option (List TextLine)) → IsReady id sum r kept answer
-        → AnsweredBy S.Service service.old service.new (Registers id sum r) out.old.items out.new.items tt result }
+        → AnsweredBy S.Service service.old service.new
+        (Keeps (Registers id sum r) (watched_all watches.old.watches)) out.old.items out.new.items
+        (watched_all watches.new.watches) result }
 {
     let Some(kept) = kept else {
         return say(&Reply::MemoryFault, out);
     };
     match kept {
-        Kept::Text => register_made(service, answer, out),
+        Kept::Text => register_made(watches, service, answer, out),
         Kept::Refused(refusal) => say(&Reply::Refused(refusal), out),
         Kept::Lost => say(&Reply::MemoryFault, out),
     }
@@ -85,17 +92,20 @@ fn register_one<S: Service>(
 
 // Answers a record by what making it answered.
 fn register_made<S: Service>(
+    watches: &mut Watches,
     service: &mut S,
     answer: Option<Made>,
     out: &mut Vec<u8>,
 ) -> Result<(), Stop>
     ensures { (id sum : ℕ) (r : Option (List TextLine)) → IsReady id sum r (Some Kept.Text) answer
-        → AnsweredBy S.Service service.old service.new (Registers id sum r) out.old.items out.new.items tt result }
+        → AnsweredBy S.Service service.old service.new
+        (Keeps (Registers id sum r) (watched_all watches.old.watches)) out.old.items out.new.items
+        (watched_all watches.new.watches) result }
 {
     match answer {
         Some(Ok(record)) => {
             record_is_sound(&record);
-            commit(service, Change::Register(record), out)
+            commit(watches, service, Change::Register(record), out)
         }
         Some(Err(fault)) => say(&refuse_text(fault), out),
         None => say(&Reply::MemoryFault, out),

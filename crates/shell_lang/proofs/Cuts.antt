@@ -12,7 +12,7 @@ use Rattle.shell_lang.specs.declared.command.LineRefusal.TheVariants as refusals
 use Rattle.shell_lang.specs.declared.command.TheConstants.{LARGEST_DENOMINATOR, MOST_SIMILAR}
 use Rattle.shell_lang.specs.Word.{word_text}
 use Rattle.store_machine.specs.History.{IsId}
-use Rattle.shell_lang.specs.Command.{Command, Empty, Register, RegisterNew, Revise, RegisterMol, ReviseMol, RegisterSd, Withdraw, Show, Data, Search, Same, Similar, Start, Next, Close, Prune, Stats, AreIds, IsNameByte, IsName, IsSimilarity, Spells, HasNoSpace, HasIdentifierPart, TakesRecords, IsLine}
+use Rattle.shell_lang.specs.Command.{Command, Empty, Register, RegisterNew, Revise, RegisterMol, ReviseMol, RegisterSd, Withdraw, Show, Data, Search, Same, Similar, Start, Next, Close, Watch, Hits, Unwatch, Prune, Stats, AreIds, IsNameByte, IsName, IsSimilarity, Spells, HasNoSpace, HasIdentifierPart, TakesRecords, IsLine}
 use Rattle.shell_lang.specs.Cut.{Follows, IdentifierPart, FirstPart, IsRest}
 
 own : IsNumeralModel (AllDigits 10) (digits_value 10)
@@ -86,6 +86,9 @@ one_word words.Similar words.Similar e = refl
 one_word words.Open words.Open e = refl
 one_word words.Next words.Next e = refl
 one_word words.Close words.Close e = refl
+one_word words.Watch words.Watch e = refl
+one_word words.Hits words.Hits e = refl
+one_word words.Unwatch words.Unwatch e = refl
 one_word w v e = absurd (let k = ap key e in omega arith)
 
 -- the bytes of a text that is written out, none of which is a space
@@ -120,6 +123,9 @@ follows words.Similar rest (Similar p q k text) h = (h.0, ap (λ (r : List ℕ).
 follows words.Open rest (Start name pattern) h = (h.0, ap (λ (r : List ℕ). codes "open" ++ 32 ∷ r) h.1)
 follows words.Next rest (Next name) h = (h.0, ap (λ (r : List ℕ). codes "next" ++ 32 ∷ r) h.1)
 follows words.Close rest (Close name) h = (h.0, ap (λ (r : List ℕ). codes "close" ++ 32 ∷ r) h.1)
+follows words.Watch rest (Watch name text) h = (h.0, ap (λ (r : List ℕ). codes "watch" ++ 32 ∷ r) h.1)
+follows words.Hits rest (Hits name) h = (h.0, ap (λ (r : List ℕ). codes "hits" ++ 32 ∷ r) h.1)
+follows words.Unwatch rest (Unwatch name) h = (h.0, ap (λ (r : List ℕ). codes "unwatch" ++ 32 ∷ r) h.1)
 follows w rest c h = absurd h
 
 pub part_follows : (w : Word) (rest part : List ℕ) → IdentifierPart w rest part →
@@ -190,6 +196,10 @@ cut_of line (Start name pattern) h =
     inr (record { word = words.Open; rest = name ++ 32 ∷ pattern; is = h.1; follows = (h.0, refl) })
 cut_of line (Next name) h = inr (record { word = words.Next; rest = name; is = h.1; follows = (h.0, refl) })
 cut_of line (Close name) h = inr (record { word = words.Close; rest = name; is = h.1; follows = (h.0, refl) })
+cut_of line (Watch name text) h =
+    inr (record { word = words.Watch; rest = name ++ 32 ∷ text; is = h.1; follows = (h.0, refl) })
+cut_of line (Hits name) h = inr (record { word = words.Hits; rest = name; is = h.1; follows = (h.0, refl) })
+cut_of line (Unwatch name) h = inr (record { word = words.Unwatch; rest = name; is = h.1; follows = (h.0, refl) })
 
 pub record IsPartCut (line part : List ℕ) : Type 0 where
   pub word : Word

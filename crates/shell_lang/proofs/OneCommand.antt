@@ -8,7 +8,7 @@ use Rattle.shell_lang.specs.declared.command.LineRefusal.{LineRefusal}
 use Rattle.shell_lang.specs.declared.command.LineRefusal.TheVariants as refusals
 use Rattle.shell_lang.specs.Word.{word_text}
 use Rattle.store_machine.specs.History.{IsId}
-use Rattle.shell_lang.specs.Command.{Command, Empty, Register, RegisterNew, Revise, RegisterMol, ReviseMol, RegisterSd, Withdraw, Show, Data, Search, Same, Similar, Start, Next, Close, Prune, Stats, AreIds, IsCount, IsNoFirst, IsNoIdentifier, IsSimilarity, HasNoSpace, Spells, HasIdentifierPart, TakesRecords, IsLine}
+use Rattle.shell_lang.specs.Command.{Command, Empty, Register, RegisterNew, Revise, RegisterMol, ReviseMol, RegisterSd, Withdraw, Show, Data, Search, Same, Similar, Start, Next, Close, Watch, Hits, Unwatch, Prune, Stats, AreIds, IsCount, IsNoFirst, IsNoIdentifier, IsSimilarity, HasNoSpace, Spells, HasIdentifierPart, TakesRecords, IsLine}
 use Rattle.shell_lang.specs.Cut.{Follows, IdentifierPart}
 use Rattle.shell_lang.proofs.Cuts.{same_number, no_space, no_space_first, no_space_named, one_split, one_cut, one_word, word_space, cut_of, part_cut_of, spelled_after, has_space, not_alone}
 
@@ -32,6 +32,9 @@ kind (Same text) = 14
 kind (Similar p q k text) = 15
 kind (RegisterSd id count) = 16
 kind (Data id name) = 17
+kind (Watch name text) = 18
+kind (Hits name) = 19
+kind (Unwatch name) = 20
 
 abbrev kind_after : Word → ℕ
 kind_after words.Register = 1
@@ -49,6 +52,9 @@ kind_after words.Same = 14
 kind_after words.Similar = 15
 kind_after words.RegisterSd = 16
 kind_after words.Data = 17
+kind_after words.Watch = 18
+kind_after words.Hits = 19
+kind_after words.Unwatch = 20
 
 follow_kind : (w : Word) (rest : List ℕ) (c : Command) → Follows w rest c → kind c ≡ kind_after w
 follow_kind words.Register rest (Register id text) h = refl
@@ -66,6 +72,9 @@ follow_kind words.Similar rest (Similar p q k text) h = refl
 follow_kind words.Open rest (Start name pattern) h = refl
 follow_kind words.Next rest (Next name) h = refl
 follow_kind words.Close rest (Close name) h = refl
+follow_kind words.Watch rest (Watch name text) h = refl
+follow_kind words.Hits rest (Hits name) h = refl
+follow_kind words.Unwatch rest (Unwatch name) h = refl
 follow_kind w rest c h = absurd h
 
 -- which of the lines without a space it is
@@ -97,6 +106,9 @@ kind_without_space line (Similar p q k text) n h = absurd (n (has_space line (co
 kind_without_space line (Start name pattern) n h = absurd (n (has_space line (codes "open") (name ++ 32 ∷ pattern) h.1))
 kind_without_space line (Next name) n h = absurd (n (has_space line (codes "next") name h.1))
 kind_without_space line (Close name) n h = absurd (n (has_space line (codes "close") name h.1))
+kind_without_space line (Watch name text) n h = absurd (n (has_space line (codes "watch") (name ++ 32 ∷ text) h.1))
+kind_without_space line (Hits name) n h = absurd (n (has_space line (codes "hits") name h.1))
+kind_without_space line (Unwatch name) n h = absurd (n (has_space line (codes "unwatch") name h.1))
 
 same_kind : (line : List ℕ) (c d : Command) → Spells line c → Spells line d → kind c ≡ kind d
 same_kind line c d p q =
@@ -185,10 +197,16 @@ same_command line (Similar a b c t) (Similar d e f u) p q =
     cc
 same_command line (Next t) (Next u) p q = ap Next (behind (codes "next") line _ _ p.1 q.1)
 same_command line (Close t) (Close u) p q = ap Close (behind (codes "close") line _ _ p.1 q.1)
+same_command line (Hits t) (Hits u) p q = ap Hits (behind (codes "hits") line _ _ p.1 q.1)
+same_command line (Unwatch t) (Unwatch u) p q = ap Unwatch (behind (codes "unwatch") line _ _ p.1 q.1)
 same_command line (Start a t) (Start b u) p q =
     let same =
     one_split a b t u (no_space_named a p.0) (no_space_named b q.0) (behind (codes "open") line _ _ p.1 q.1) in
     ap (λ (w : List ℕ). Start w t) same.0 ∙ ap (λ (w : List ℕ). Start b w) same.1
+same_command line (Watch a t) (Watch b u) p q =
+    let same =
+    one_split a b t u (no_space_named a p.0) (no_space_named b q.0) (behind (codes "watch") line _ _ p.1 q.1) in
+    ap (λ (w : List ℕ). Watch w t) same.0 ∙ ap (λ (w : List ℕ). Watch b w) same.1
 same_command line c d p q = absurd (let k = same_kind line c d p q in omega arith)
 
 -- a part that is no identifier stands where none does
@@ -213,6 +231,9 @@ no_part words.Similar rest part c h p none = p
 no_part words.Open rest part c h p none = p
 no_part words.Next rest part c h p none = p
 no_part words.Close rest part c h p none = p
+no_part words.Watch rest part c h p none = p
+no_part words.Hits rest part c h p none = p
+no_part words.Unwatch rest part c h p none = p
 no_part w rest part c h p none = h
 
 -- no command has a part for an identifier that is none

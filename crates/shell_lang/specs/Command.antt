@@ -27,6 +27,9 @@ pub data Command : Type 0 where
   Start : (name pattern : List ℕ) → Command
   Next : (name : List ℕ) → Command
   Close : (name : List ℕ) → Command
+  Watch : (name text : List ℕ) → Command
+  Hits : (name : List ℕ) → Command
+  Unwatch : (name : List ℕ) → Command
   Prune : Command
   Stats : Command
 
@@ -37,7 +40,7 @@ IsNoIdentifier part = (id : ℕ) → IsId id → part ≢ decimal id
 abbrev pub IsNameByte : ℕ → Type 0
 IsNameByte b = ((48 ≤ b) × (b ≤ 57)) ⊎ (((65 ≤ b) × (b ≤ 90)) ⊎ (((97 ≤ b) × (b ≤ 122)) ⊎ (b ≡ 95)))
 
--- the name of a cursor
+-- the name of a cursor or of a watch
 pub record IsName (name : List ℕ) : Type 0 where
   pub some : 1 ≤ length name
   pub short : length name ≤ LONGEST_NAME
@@ -78,6 +81,9 @@ Spells line (Similar p q k text) =
 Spells line (Start name pattern) = IsName name × (line ≡ codes "open" ++ 32 ∷ (name ++ 32 ∷ pattern))
 Spells line (Next name) = IsName name × (line ≡ codes "next" ++ 32 ∷ name)
 Spells line (Close name) = IsName name × (line ≡ codes "close" ++ 32 ∷ name)
+Spells line (Watch name text) = IsName name × (line ≡ codes "watch" ++ 32 ∷ (name ++ 32 ∷ text))
+Spells line (Hits name) = IsName name × (line ≡ codes "hits" ++ 32 ∷ name)
+Spells line (Unwatch name) = IsName name × (line ≡ codes "unwatch" ++ 32 ∷ name)
 Spells line Prune = line ≡ codes "prune"
 Spells line Stats = line ≡ codes "stats"
 

@@ -5,7 +5,7 @@ use Rattle.shell_lang.specs.declared.command.Command as read
 use Rattle.shell_lang.specs.declared.command.Command.TheVariants as variants
 use Rattle.shell_lang.specs.declared.command.TakenLines.{TakenLines}
 use Rattle.shell_lang.specs.declared.command.TakenLines.TheVariants as taken
-use Rattle.shell_lang.specs.Command.{Command, Empty, Register, RegisterNew, Revise, RegisterMol, ReviseMol, RegisterSd, Withdraw, Show, Data, Search, Same, Similar, Start, Next, Close, Prune, Stats, IsLine, StartsMolfile, TakesRecords, molfile_command, records_command}
+use Rattle.shell_lang.specs.Command.{Command, Empty, Register, RegisterNew, Revise, RegisterMol, ReviseMol, RegisterSd, Withdraw, Show, Data, Search, Same, Similar, Start, Next, Close, Watch, Hits, Unwatch, Prune, Stats, IsLine, StartsMolfile, TakesRecords, molfile_command, records_command}
 
 abbrev pub command_of : read.Command → Command
 command_of variants.Empty = Empty
@@ -24,6 +24,9 @@ command_of (variants.Similar p q k text) = Similar p q k text.now
 command_of (variants.Start name pattern) = Start name.now pattern.now
 command_of (variants.Next name) = Next name.now
 command_of (variants.Close name) = Close name.now
+command_of (variants.Watch name text) = Watch name.now text.now
+command_of (variants.Hits name) = Hits name.now
+command_of (variants.Unwatch name) = Unwatch name.now
 command_of variants.Prune = Prune
 command_of variants.Stats = Stats
 

@@ -6,7 +6,7 @@ use Rattle.shell_lang.specs.declared.word.Word.TheVariants as words
 use Rattle.shell_lang.specs.declared.command.LineRefusal.{LineRefusal}
 use Rattle.shell_lang.specs.declared.command.LineRefusal.TheVariants as refusals
 use Rattle.store_machine.specs.History.{IsId}
-use Rattle.shell_lang.specs.Command.{Command, Register, RegisterNew, Revise, RegisterMol, ReviseMol, RegisterSd, Withdraw, Show, Data, Search, Same, Similar, Start, Next, Close, AreIds, IsCount, IsNoFirst, IsNoIdentifier, IsName, IsSimilarity, HasNoSpace}
+use Rattle.shell_lang.specs.Command.{Command, Register, RegisterNew, Revise, RegisterMol, ReviseMol, RegisterSd, Withdraw, Show, Data, Search, Same, Similar, Start, Next, Close, Watch, Hits, Unwatch, AreIds, IsCount, IsNoFirst, IsNoIdentifier, IsName, IsSimilarity, HasNoSpace}
 
 -- a line with this first word and this rest is the command
 abbrev pub Follows : Word → List ℕ → Command → Type 0
@@ -27,6 +27,9 @@ Follows words.Similar rest (Similar p q k text) =
 Follows words.Open rest (Start name pattern) = IsName name × (rest ≡ name ++ 32 ∷ pattern)
 Follows words.Next rest (Next name) = IsName name × (rest ≡ name)
 Follows words.Close rest (Close name) = IsName name × (rest ≡ name)
+Follows words.Watch rest (Watch name text) = IsName name × (rest ≡ name ++ 32 ∷ text)
+Follows words.Hits rest (Hits name) = IsName name × (rest ≡ name)
+Follows words.Unwatch rest (Unwatch name) = IsName name × (rest ≡ name)
 Follows word rest command = ⊥
 
 -- the rest is a part for an identifier, and a text behind it where the word has one

@@ -33,6 +33,9 @@ pub data Reply : Type 0 where
   Opened : (version : ℕ) → Reply
   More : Reply
   Closed : Reply
+  Watching : (version hits : ℕ) → Reply
+  EndWatched : (version hits rebuilt : ℕ) → Reply
+  Unwatched : Reply
   Pruned : (count : ℕ) → Reply
   Counts : (version live withdrawn kept pins : ℕ) → Reply
   Refused : Refusal → Reply
@@ -81,6 +84,8 @@ refusal_words refusals.SdLimit = codes "refused sd limit"
 refusal_words (refusals.Text fault) = text_words fault
 refusal_words (refusals.Pattern fault) = pattern_words fault
 refusal_words refusals.Cursor = codes "refused cursor"
+refusal_words refusals.Watch = codes "refused watch"
+refusal_words refusals.Watches = codes "refused watches"
 refusal_words (refusals.Same id) = codes "refused same " ++ decimal id
 refusal_words refusals.Known = codes "refused known"
 refusal_words refusals.Absent = codes "refused absent"
@@ -128,6 +133,13 @@ abbrev pub scored_words : ℕ → ℕ → ℕ → List ℕ
 scored_words version scored hits =
     codes "end at " ++ (decimal version ++ (codes " scored " ++ (decimal scored ++ (codes " hits " ++ decimal hits))))
 
+abbrev pub watching_words : ℕ → ℕ → List ℕ
+watching_words version hits = codes "watching " ++ (decimal version ++ (codes " hits " ++ decimal hits))
+
+abbrev pub watched_words : ℕ → ℕ → ℕ → List ℕ
+watched_words version hits rebuilt =
+    codes "end at " ++ (decimal version ++ (codes " hits " ++ (decimal hits ++ (codes " rebuilt " ++ decimal rebuilt))))
+
 abbrev pub live_words : ℕ → ℕ → List ℕ
 live_words version live = codes "stats version " ++ (decimal version ++ (codes " live " ++ decimal live))
 
@@ -155,6 +167,9 @@ reply_words (Scored version scored hits) = scored_words version scored hits
 reply_words (Opened version) = codes "opened " ++ decimal version
 reply_words More = codes "more"
 reply_words Closed = codes "closed"
+reply_words (Watching version hits) = watching_words version hits
+reply_words (EndWatched version hits rebuilt) = watched_words version hits rebuilt
+reply_words Unwatched = codes "unwatched"
 reply_words (Pruned count) = codes "pruned " ++ decimal count
 reply_words (Counts version live withdrawn kept pins) = count_words version live withdrawn kept pins
 reply_words (Refused refusal) = refusal_words refusal
@@ -181,6 +196,9 @@ reply_of (replies.Scored version scored hits) = Scored version scored hits
 reply_of (replies.Opened version) = Opened version
 reply_of replies.More = More
 reply_of replies.Closed = Closed
+reply_of (replies.Watching version hits) = Watching version hits
+reply_of (replies.EndWatched version hits rebuilt) = EndWatched version hits rebuilt
+reply_of replies.Unwatched = Unwatched
 reply_of (replies.Pruned count) = Pruned count
 reply_of (replies.Counts n) = Counts n.version n.live n.withdrawn n.kept n.pins
 reply_of (replies.Refused refusal) = Refused refusal

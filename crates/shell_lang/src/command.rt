@@ -14,7 +14,7 @@ use crate::word::{Word, are_same};
 use chem_text::decimal;
 use store_machine::LAST_IDENTIFIER;
 
-/// The most bytes of a cursor's name.
+/// The most bytes of the name of a cursor or of a watch.
 pub const LONGEST_NAME: usize = 32;
 
 /// The greatest Q of `similar`.
@@ -100,6 +100,19 @@ pub enum Command<'a> {
     },
     /// `close NAME`
     Close {
+        name: &'a [u8],
+    },
+    /// `watch NAME SMARTS`
+    Watch {
+        name: &'a [u8],
+        text: &'a [u8],
+    },
+    /// `hits NAME`
+    Hits {
+        name: &'a [u8],
+    },
+    /// `unwatch NAME`
+    Unwatch {
         name: &'a [u8],
     },
     /// `prune`
@@ -251,6 +264,16 @@ fn with_rest(word: Word, rest: &[u8]) -> Result<Command<'_>, LineRefusal>
             name: name_alone(rest)?,
         }),
         Word::Close => Ok(Command::Close {
+            name: name_alone(rest)?,
+        }),
+        Word::Watch => {
+            let (name, text) = name_and_text(rest)?;
+            Ok(Command::Watch { name, text })
+        }
+        Word::Hits => Ok(Command::Hits {
+            name: name_alone(rest)?,
+        }),
+        Word::Unwatch => Ok(Command::Unwatch {
             name: name_alone(rest)?,
         }),
     }

@@ -1,7 +1,7 @@
 //! Reply lines.
 ghost use Rattle.std.specs.Prelude.{◌≡◌, ◌==◌, ◌≤◌, ◌∷◌, [], ◌++◌, OnOk, OnErr, length, count_by, if◌then◌else◌};
 ghost use Rattle.std.specs.Fmt.{decimal};
-ghost use Rattle.shell_lang.specs.Reply.{Data, ended, line_count, text_part, molfile_lines, record_words, like_words, scored_words, live_words, kept_words, count_words, reply_of, reply_line, text_words, smiles_words, molfile_words, pattern_words};
+ghost use Rattle.shell_lang.specs.Reply.{Data, ended, line_count, text_part, molfile_lines, record_words, like_words, scored_words, watching_words, watched_words, live_words, kept_words, count_words, reply_of, reply_line, text_words, smiles_words, molfile_words, pattern_words};
 ghost use Rattle.shell_lang.specs.Written.{Extends};
 
 use crate::command::LineRefusal;
@@ -64,6 +64,20 @@ pub enum Reply {
     More,
     /// The cursor is closed.
     Closed,
+    /// A pattern is watched from now on: the version that was searched, and how many identifiers match there.
+    Watching {
+        version: u32,
+        hits: u32,
+    },
+    /// The end of the list of a watch: its version, how many identifiers were listed, and how often a listing had to
+    /// search anew.
+    EndWatched {
+        version: u32,
+        hits: u32,
+        rebuilt: u32,
+    },
+    /// The pattern is no longer watched.
+    Unwatched,
     /// How many entries a prune dropped.
     Pruned {
         count: u32,
@@ -98,6 +112,10 @@ pub enum Refusal {
     Pattern(SmartsFault),
     /// No cursor has the name, or one has it already.
     Cursor,
+    /// No watch has the name, or one has it already.
+    Watch,
+    /// As many patterns are watched as there may be, 16.
+    Watches,
     /// A live record has the structure already, and `id` is the least of them.
     Same { id: u32 },
     /// The identifier was registered before.
@@ -200,6 +218,13 @@ impl Reply {
             Reply::Opened { version } => push_number(out, "opened ", *version),
             Reply::More => push(out, "more"),
             Reply::Closed => push(out, "closed"),
+            Reply::Watching { version, hits } => push_watching(*version, *hits, out),
+            Reply::EndWatched {
+                version,
+                hits,
+                rebuilt,
+            } => push_watched(*version, *hits, *rebuilt, out),
+            Reply::Unwatched => push(out, "unwatched"),
             Reply::Pruned { count } => push_number(out, "pruned ", *count),
             Reply::Counts(stats) => push_stats(*stats, out),
             Reply::Refused(refusal) => refusal.push_words(out),
@@ -226,6 +251,8 @@ impl Refusal {
             Refusal::Text(fault) => push_text_fault(fault, out),
             Refusal::Pattern(fault) => push(out, pattern_fault(fault)),
             Refusal::Cursor => push(out, "refused cursor"),
+            Refusal::Watch => push(out, "refused watch"),
+            Refusal::Watches => push(out, "refused watches"),
             Refusal::Same { id } => push_number(out, "refused same ", id),
             Refusal::Known => push(out, "refused known"),
             Refusal::Absent => push(out, "refused absent"),
@@ -256,6 +283,26 @@ fn push_scored(version: u32, scored: u32, hits: u32, out: &mut Vec<u8>) -> Resul
     push_number(out, "end at ", version)?;
     push_number(out, " scored ", scored)?;
     push_number(out, " hits ", hits)
+}
+
+// Appends a new watch.
+fn push_watching(version: u32, hits: u32, out: &mut Vec<u8>) -> Result<(), AllocError>
+    ensures ok { OnOk result (out.new.items ≡ out.old.items ++ watching_words version hits) }
+    ensures err { OnErr result (Extends out.old.items out.new.items) }
+{
+    push_number(out, "watching ", version)?;
+    push_number(out, " hits ", hits)
+}
+
+// Appends the end of the list of a watch.
+fn push_watched(version: u32, hits: u32, rebuilt: u32, out: &mut Vec<u8>) -> Result<(), AllocError>
+    ensures ok { OnOk result (out.new.items
+        ≡ out.old.items ++ watched_words version hits rebuilt) }
+    ensures err { OnErr result (Extends out.old.items out.new.items) }
+{
+    push_number(out, "end at ", version)?;
+    push_number(out, " hits ", hits)?;
+    push_number(out, " rebuilt ", rebuilt)
 }
 
 // Appends the words of a live record, without the lines of a molfile.

@@ -22,9 +22,12 @@ pub(crate) enum Word {
     Open,
     Next,
     Close,
+    Watch,
+    Hits,
+    Unwatch,
 }
 
-const WORDS: [Word; 15] = [
+const WORDS: [Word; 18] = [
     Word::Register,
     Word::RegisterNew,
     Word::Revise,
@@ -40,6 +43,9 @@ const WORDS: [Word; 15] = [
     Word::Open,
     Word::Next,
     Word::Close,
+    Word::Watch,
+    Word::Hits,
+    Word::Unwatch,
 ];
 
 impl Word {
@@ -83,6 +89,9 @@ impl Word {
             Word::Open => "open",
             Word::Next => "next",
             Word::Close => "close",
+            Word::Watch => "watch",
+            Word::Hits => "hits",
+            Word::Unwatch => "unwatch",
         }
     }
 }

@@ -10,7 +10,7 @@ use Rattle.std.specs.Str.{bytes_eq}
 use Rattle.store_core.specs.declared.words.Change.{Change}
 use Rattle.watch_list.specs.Entries.{EntryTerm, watches_in}
 use Rattle.watch_list.specs.Notes.{IsNoted}
-use Rattle.watch_list.specs.Watches.{AreWatches, Watch, filled, is_named, is_other, watch_of}
+use Rattle.watch_list.specs.Watches.{AreWatches, Watch, filled, is_named, is_other, refilled, watch_of}
 
 abbrev names : List Watch → List (List ℕ)
 names ws = map (λ w. w.name) ws
@@ -43,7 +43,7 @@ filled-names name version hits (w ∷ ws) =
     ap (λ n. n ∷ names (map (filled name version hits) ws)) (by_test (is_named name w))
     ∙ ap (λ ns. w.name ∷ ns) (filled-names name version hits ws)
   where
-    by_test : (b : Bool) → (cond b (record w { version = version; hits = hits }) w).name ≡ w.name
+    by_test : (b : Bool) → (cond b (refilled version hits w) w).name ≡ w.name
     by_test true = refl
     by_test false = refl
 

@@ -6,7 +6,7 @@ use Rattle.std.specs.List.{position_from}
 use Rattle.std.specs.Option.{is_some, option_copied}
 use Rattle.std.proofs.Math.ListN.{set}
 use Rattle.watch_list.specs.Entries.{EntryTerm, place_of, watches_in}
-use Rattle.watch_list.specs.Watches.{Watch, filled, is_named, watch_of}
+use Rattle.watch_list.specs.Watches.{Watch, filled, is_named, refilled, watch_of}
 
 abbrev names_in : List EntryTerm → List (List ℕ)
 names_in es = map (λ w. w.name) (watches_in es)
@@ -39,7 +39,7 @@ others-unfilled : (name : List ℕ) (version : ℕ) (hits : List ℕ) (es : List
     → map (filled name version hits) (watches_in es) ≡ watches_in es
 others-unfilled name version hits [] h = refl
 others-unfilled name version hits (e ∷ es) h =
-    ap (λ b. cond b (record e.watch { version = version; hits = hits }) e.watch
+    ap (λ b. cond b (refilled version hits e.watch) e.watch
     ∷ map (filled name version hits) (watches_in es)) (unnamed name e.watch (h zero [] (omega arith)))
     ∙ ap (λ ws. e.watch ∷ ws) (others-unfilled name version hits es (others-tail name e es h))
 
@@ -48,7 +48,7 @@ pub record IsFound (name : List ℕ) (es : List EntryTerm) (i : ℕ) : Type 0 wh
   pub within : i < length es
   pub watch : (d : EntryTerm) → watch_of name (watches_in es) ≡ Some (get_or es i d).watch
   pub filled_is : AreDistinct es → (version : ℕ) (hits : List ℕ) (e d : EntryTerm)
-      → e.watch ≡ record (get_or es i d).watch { version = version; hits = hits }
+      → e.watch ≡ refilled version hits (get_or es i d).watch
       → map (filled name version hits) (watches_in es) ≡ watches_in (set es i e)
 
 found-first : (name : List ℕ) (e : EntryTerm) (es : List EntryTerm) → is_named name e.watch ≡ true
@@ -59,9 +59,9 @@ found-first name e es named =
       within = omega arith;
       watch = λ d. ap (λ b. cond b (Some e.watch) (watch_of name (watches_in es))) named;
       filled_is = λ apart version hits f d is. ap (λ b.
-          cond b (record e.watch { version = version; hits = hits }) e.watch
+          cond b (refilled version hits e.watch) e.watch
           ∷ map (filled name version hits) (watches_in es)) named
-          ∙ ap (λ ws. record e.watch { version = version; hits = hits } ∷ ws)
+          ∙ ap (λ ws. refilled version hits e.watch ∷ ws)
           (others-unfilled name version hits es (λ i d lt is. others-behind e es apart i d lt (same ∙ is)))
           ∙ ap (λ (w : Watch). w ∷ watches_in es) (sym is);
     }
@@ -71,7 +71,7 @@ found-later : (name : List ℕ) (e : EntryTerm) (es : List EntryTerm) (i : ℕ) 
 found-later name e es i unnamed found = record {
   within = omega (arith, found.within);
   watch = λ d. ap (λ b. cond b (Some e.watch) (watch_of name (watches_in es))) unnamed ∙ found.watch d;
-  filled_is = λ apart version hits f d is. ap (λ b. cond b (record e.watch { version = version; hits = hits }) e.watch
+  filled_is = λ apart version hits f d is. ap (λ b. cond b (refilled version hits e.watch) e.watch
       ∷ map (filled name version hits) (watches_in es)) unnamed
       ∙ ap (λ ws. e.watch ∷ ws) (found.filled_is (distinct-tail e es apart) version hits f d is);
 }

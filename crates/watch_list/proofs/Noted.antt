@@ -14,6 +14,7 @@ pub left-alone : (version : ℕ) (change : Asked) (old new : Watch) → new ≡ 
 left-alone version change old new same other = record {
   name = ap (λ (w : Watch). w.name) same;
   pattern = ap (λ (w : Watch). w.pattern) same;
+  fills = ap (λ (w : Watch). w.fills) same;
   moved = λ next. absurd (other next);
   other = λ _. same;
 }
@@ -21,11 +22,12 @@ left-alone version change old new same other = record {
 -- one at the version before
 pub brought : OneStructure → SnapshotsStay → CommitsChange → (version : ℕ) (change : Asked) (old new : Watch)
     → IsSoundChange change → old.version + 1 ≡ version → new.name ≡ old.name → new.pattern ≡ old.pattern
-    → new.version ≡ version → IsListAfter (pattern_of old.pattern) change old.hits new.hits
+    → new.fills ≡ old.fills → new.version ≡ version → IsListAfter (pattern_of old.pattern) change old.hits new.hits
     → IsNoted version change old new
-brought one stay make version change old new sound next name pattern at list = record {
+brought one stay make version change old new sound next name pattern fills at list = record {
   name = name;
   pattern = pattern;
+  fills = fills;
   moved = λ _. record {
     version_is = at;
     list = list;

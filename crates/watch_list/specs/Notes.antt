@@ -50,5 +50,6 @@ pub record IsMoved (version : ℕ) (change : Asked) (old new : Watch) : Type 0 w
 pub record IsNoted (version : ℕ) (change : Asked) (old new : Watch) : Type 0 where
   pub name : new.name ≡ old.name
   pub pattern : new.pattern ≡ old.pattern
+  pub fills : new.fills ≡ old.fills
   pub moved : old.version + 1 ≡ version → IsMoved version change old new
   pub other : old.version + 1 ≢ version → new ≡ old

@@ -3,7 +3,7 @@ ghost use Rattle.std.specs.Prelude.{◌≡◌, ◌≤◌, ◌<◌, OnOk, length,
 ghost use Rattle.std.specs.List.Sorted.{IsStrictlyIncreasing};
 ghost use Rattle.smarts_parse.specs.Pattern.{pattern_of};
 ghost use Rattle.smarts_parse.specs.Sound.{IsSoundPattern};
-ghost use Rattle.watch_list.specs.Watches.{is_named};
+ghost use Rattle.watch_list.specs.Watches.{is_named, refilled};
 ghost use Rattle.watch_list.specs.Notes.{IsNoted};
 ghost use Rattle.watch_list.specs.Entries.{HasRoom};
 
@@ -16,14 +16,15 @@ use std::marker::Model;
 use store_core::Change;
 use store_machine::{commits_change, snapshots_stay};
 
-/// A pattern that is watched under a name, with its hits at a version, ascending. Contracts see the watch, and for how
-/// many hits there is room.
+/// A pattern that is watched under a name, with its hits at a version, ascending, and how often another list was filled
+/// in. Contracts see the watch, and for how many hits there is room.
 #[derive(Drop)]
 pub struct Entry {
     name: Vec<u8>,
     pattern: Pattern,
     version: u32,
     hits: Vec<u32>,
+    fills: u32,
 }
 
 impl Model for Entry {
@@ -41,7 +42,13 @@ impl Model for Entry {
     ghost coded = { Prim.hlevel (codes, pattern_contract.the_row.coded) };
 
     ghost view = { λ e. record {
-      watch = record { name = e.name.items; pattern = e.pattern; version = e.version; hits = e.hits.items };
+      watch = record {
+        name = e.name.items;
+        pattern = e.pattern;
+        version = e.version;
+        hits = e.hits.items;
+        fills = e.fills;
+      };
       room = vec_capacity e.hits;
     } };
 
@@ -49,18 +56,19 @@ impl Model for Entry {
 }
 
 impl Entry {
-    /// Takes no memory.
+    /// A watch whose list is its first. Takes no memory.
     pub fn new(name: Vec<u8>, pattern: Pattern, version: u32, hits: Vec<u32>) -> Entry
         requires sound { IsSoundPattern (pattern_of pattern) }
         requires ascending { IsStrictlyIncreasing hits.items }
         ensures { result.watch
-            ≡ record { name = name.items; pattern = pattern; version = version; hits = hits.items } }
+            ≡ record { name = name.items; pattern = pattern; version = version; hits = hits.items; fills = 0 } }
     {
         Entry {
             name,
             pattern,
             version,
             hits,
+            fills: 0,
         }
     }
 
@@ -90,13 +98,21 @@ impl Entry {
         &self.hits
     }
 
+    /// How often another list was filled in.
+    pub fn fills(&self) -> u32
+        ensures { result ≡ self.now.watch.fills }
+    {
+        self.fills
+    }
+
     /// Another list, of a version. Takes no memory.
     pub fn fill(&mut self, version: u32, hits: Vec<u32>)
         requires { IsStrictlyIncreasing hits.items }
-        ensures { self.new.watch ≡ record self.old.watch { version = version; hits = hits.items } }
+        ensures { self.new.watch ≡ refilled version hits.items self.old.watch }
     {
         self.version = version;
         self.hits = hits;
+        self.fills = self.fills.saturating_add(1);
     }
 
     /// Room for one hit more.

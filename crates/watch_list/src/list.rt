@@ -59,6 +59,13 @@ impl Watches {
         }
     }
 
+    /// How many there are, at most 16. Takes no memory.
+    pub fn len(&self) -> usize
+        ensures { result ≡ length self.now.watches }
+    {
+        self.entries.len()
+    }
+
     /// One watch more: a pattern under a new name, with a list of hits at a version. Fails only for want of memory;
     /// then the watches are as they were. What was reserved may be used up.
     pub fn add(
@@ -73,7 +80,8 @@ impl Watches {
         requires sound { IsSoundPattern (pattern_of pattern) }
         requires ascending { IsStrictlyIncreasing hits.items }
         ensures ok { OnOk result (self.new.watches ≡ self.old.watches
-            ++ record { name = name.now; pattern = pattern; version = version; hits = hits.items } ∷ []) }
+            ++ record { name = name.now; pattern = pattern; version = version; hits = hits.items; fills = 0 }
+            ∷ []) }
         ensures err { OnErr result (self.new.watches ≡ self.old.watches) }
     {
         let name = Vec::from_slice(self.alloc, name)?;
@@ -133,8 +141,17 @@ impl Watches {
         Some(entry.pattern())
     }
 
-    /// Gives the watch of a name another list, of a version. All else stays, but what was reserved may be used up.
-    /// Takes no memory.
+    /// How often `fill` gave the watch of a name another list: 4,294,967,295 stands for that often and more. `None`
+    /// exactly where there is none. Takes no memory.
+    pub fn fills(&self, name: &[u8]) -> Option<u32>
+        ensures { result ≡ option_map (λ (w : Watch). w.fills) (watch_of name.now self.now.watches) }
+    {
+        let entry = entry_of(&self.entries, name)?;
+        Some(entry.fills())
+    }
+
+    /// Gives the watch of a name another list, of a version, and counts it. All else stays, but what was reserved may
+    /// be used up. Takes no memory.
     pub fn fill(&mut self, name: &[u8], version: u32, hits: Vec<u32>)
         requires watched { IsSome (watch_of name.now self.old.watches) }
         requires ascending { IsStrictlyIncreasing hits.items }

@@ -71,16 +71,49 @@ fn lines_are_read_by_their_parts(rt: HostRuntime) {
         ("similar 4294967297 2 10 CO", Some(Syntax)),
         ("similar 1 18446744073709551618 10 CO", Some(Syntax)),
         ("similar 1 2 18446744073709551626 CO", Some(Syntax)),
+        ("prune", None),
+        ("prune ", Some(Syntax)),
+        (" stats", Some(Syntax)),
+        ("Stats", Some(Syntax)),
+    ] {
+        assert_eq!(rt; read_command(line.as_bytes()).err(), refusal, "at {line}");
+    }
+}
+
+#[test]
+fn lines_on_cursors_and_watches_are_read_by_their_parts(rt: HostRuntime) {
+    use LineRefusal::Syntax;
+    for (line, refusal) in [
         ("open s ", None),
         ("open  C", Some(Syntax)),
         ("open a-b C(", Some(Syntax)),
         ("next s", None),
         ("next s ", Some(Syntax)),
         ("close ", Some(Syntax)),
-        ("prune", None),
-        ("prune ", Some(Syntax)),
-        (" stats", Some(Syntax)),
-        ("Stats", Some(Syntax)),
+        ("watch s C", None),
+        ("watch s ", None),
+        ("watch s  C", None),
+        ("watch Abcdefghijklmnopqrstuvwxyz_01234 C", None),
+        ("watch Abcdefghijklmnopqrstuvwxyz_012345 C", Some(Syntax)),
+        ("watch", Some(Syntax)),
+        ("watch ", Some(Syntax)),
+        ("watch s", Some(Syntax)),
+        ("watch  C", Some(Syntax)),
+        ("watch  s C", Some(Syntax)),
+        ("watch a-b C", Some(Syntax)),
+        ("watches s C", Some(Syntax)),
+        ("hits s", None),
+        ("hits", Some(Syntax)),
+        ("hits ", Some(Syntax)),
+        ("hits  s", Some(Syntax)),
+        ("hits s ", Some(Syntax)),
+        ("hits s C", Some(Syntax)),
+        ("hits a-b", Some(Syntax)),
+        ("unwatch s", None),
+        ("unwatch", Some(Syntax)),
+        ("unwatch ", Some(Syntax)),
+        ("unwatch s ", Some(Syntax)),
+        ("unwatch a-b", Some(Syntax)),
     ] {
         assert_eq!(rt; read_command(line.as_bytes()).err(), refusal, "at {line}");
     }
@@ -189,6 +222,22 @@ fn parts_are_given(rt: HostRuntime) {
                 name: b"s",
                 pattern: b"C C"
             })
+        )
+    );
+    assert!(rt;
+        matches!(
+            read_command(b"watch s C C"),
+            Ok(Command::Watch {
+                name: b"s",
+                text: b"C C"
+            })
+        )
+    );
+    assert!(rt; matches!(read_command(b"hits s"), Ok(Command::Hits { name: b"s" })));
+    assert!(rt;
+        matches!(
+            read_command(b"unwatch s"),
+            Ok(Command::Unwatch { name: b"s" })
         )
     );
     assert!(rt;

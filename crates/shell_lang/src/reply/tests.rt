@@ -62,12 +62,30 @@ fn replies_are_written(rt: HostRuntime) -> Result<(), Fail> {
         (Reply::Opened { version: 5 }, "opened 5\n"),
         (Reply::More, "more\n"),
         (Reply::Closed, "closed\n"),
+        (
+            Reply::Watching {
+                version: 5,
+                hits: 2,
+            },
+            "watching 5 hits 2\n",
+        ),
+        (
+            Reply::EndWatched {
+                version: 5,
+                hits: 2,
+                rebuilt: 1,
+            },
+            "end at 5 hits 2 rebuilt 1\n",
+        ),
+        (Reply::Unwatched, "unwatched\n"),
         (Reply::Pruned { count: 3 }, "pruned 3\n"),
         (
             Reply::Counts(STATS),
             "stats version 5 live 2 withdrawn 1 kept 4 pins 0\n",
         ),
         (Reply::Refused(Refusal::Cursor), "refused cursor\n"),
+        (Reply::Refused(Refusal::Watch), "refused watch\n"),
+        (Reply::Refused(Refusal::Watches), "refused watches\n"),
         (Reply::Refused(Refusal::Same { id: 1 }), "refused same 1\n"),
         (Reply::Refused(Refusal::SdCut), "refused sd cut\n"),
         (Reply::Refused(Refusal::SdLimit), "refused sd limit\n"),

@@ -3,7 +3,7 @@ use Rattle.io_edge.specs.Lines.{done_bytes}
 use Rattle.session_run.specs.Turn.{TakesNone}
 use Rattle.session_run.specs.declared.settings.Settings.{Settings}
 use Rattle.drill_run.specs.Turns.{Ends, GoesOn, TakesLine, TakesNoLine, WorldTerm}
-use Rattle.drill_run.specs.Views.{cursors_in}
+use Rattle.drill_run.specs.Views.{kept_in}
 use Rattle.drill_run.proofs.Scripts.{drilled, rose-since, takes_all, takes_whole, takes_within, under_way-line, under_way-start}
 use Rattle.drill_run.proofs.Turning.{read_on}
 use Rattle.drill_run.proofs.run.serve.Goals as goal
@@ -26,9 +26,9 @@ loop-after-preserved g c =
       ready = then.ready;
       settings = then.settings ∙ i.settings;
       under_way = under_way-line i.under_way then.reads then.goes.0 c.in-Ok.after
-          (cursors_in c.turn.new.sessions.responders.items) (g.O.Sink.written c.turn.new.sink) then.goes.1
+          (kept_in c.turn.new.sessions.responders.items) (g.O.Sink.written c.turn.new.sink) then.goes.1
           (subst (λ (n : Settings). GoesOn n.page then.goes.0 c.loop-after.world c.in-Ok.after
-          (cursors_in c.loop-after.sessions.responders.items) (cursors_in c.turn.new.sessions.responders.items)
+          (kept_in c.loop-after.sessions.responders.items) (kept_in c.turn.new.sessions.responders.items)
           (g.O.Sink.written c.loop-after.sink) (g.O.Sink.written c.turn.new.sink)) i.settings then.goes.2)
           (then.progress (λ e. cc) (λ e. cc) (λ e. cc)) c.requires.limit;
       source_count = omega (arith, i.source_count, then.reads.count);
@@ -51,7 +51,7 @@ returns-in-Err-clause-drills g c =
     drilled i.under_way then.reads c.in-Err.end (g.O.Sink.written c.turn.new.sink) c.requires.limit
     (subst (λ (n : Settings). Ends n.page (TakesLine c.loop-after.lines c.turn.new.lines before after)
     (TakesNone c.loop-after.lines before) (TakesNoLine c.loop-after.lines c.turn.new.lines before after)
-    c.loop-after.world (cursors_in c.loop-after.sessions.responders.items) (g.O.Sink.written c.loop-after.sink)
+    c.loop-after.world (kept_in c.loop-after.sessions.responders.items) (g.O.Sink.written c.loop-after.sink)
     (g.O.Sink.written c.turn.new.sink) c.in-Err.end) i.settings then.ends) on.0 on.1
 
 pub returns-in-Err-clause-source_fault : goal.returns-in-Err-clause-source_fault

@@ -1,9 +1,11 @@
-use Rattle.session_run.proofs.Truth.{dialogues-are-true}
+use Rattle.session_run.proofs.WatchTruth.{dialogues-are-true}
 use Rattle.session_run.proofs.laws.dialogues_are_true.Goals as goal
 
 pub returns : goal.returns
 returns c = dialogues-are-true (record {
   snapshots = c.snapshots_stay.ensures;
+  commits = c.commits_change.ensures;
+  add = c.replies_tell.ensures.commits;
   grow = c.runs_grow.ensures;
   slots = c.replies_tell.ensures.slots;
   pins = c.replies_tell.ensures.pins;

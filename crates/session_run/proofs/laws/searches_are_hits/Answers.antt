@@ -4,6 +4,8 @@ use Rattle.session_run.proofs.laws.searches_are_hits.Goals as goal
 pub returns : goal.returns
 returns c = searches-are-hits (record {
   snapshots = c.snapshots_stay.ensures;
+  commits = c.commits_change.ensures;
+  add = c.replies_tell.ensures.commits;
   grow = c.runs_grow.ensures;
   slots = c.replies_tell.ensures.slots;
   pins = c.replies_tell.ensures.pins;

@@ -1,4 +1,4 @@
-use Rattle.std.proofs.Common.{◌≡◌, [], refl, subst}
+use Rattle.std.proofs.Common.{◌≡◌, [], inl, refl, subst}
 use Rattle.std.specs.Arc.{arc_value}
 use Rattle.mol_finish.specs.declared.fault.Format.TheVariants.{Smiles}
 use Rattle.shell_lang.specs.Reply.{reply_of}
@@ -7,17 +7,18 @@ use Rattle.shell_lang.specs.declared.reply.Refusal.TheVariants as refusals
 use Rattle.store_machine.specs.declared.machine.Change.{Change}
 use Rattle.store_machine.specs.declared.machine.Change.TheVariants as changes
 use Rattle.store_machine.specs.declared.machine.Event.TheVariants as events
-use Rattle.session_run.specs.Acts.{MayAsk, MayRegisterNew, NewLost, NotNew, RegisterNew, RegisteredNew}
+use Rattle.session_run.specs.Acts.{Fault, MayAsk, MayRegisterNew, NotNew, RegisterNew, RegisteredNew}
 use Rattle.session_run.proofs.Joined.{uses-more, uses-none}
-use Rattle.session_run.proofs.Lines.{allowed_as, said}
-use Rattle.session_run.proofs.Looked.{first_none, first_some, looked_in_vain, looked_whole, printed_of, registered_from, text_unread}
+use Rattle.session_run.proofs.Lines.{said}
+use Rattle.session_run.proofs.Looked.{first_none, first_some, looked_in_vain, looked_whole, new_lost, new_pinless, printed_of, registered_from, text_unread}
+use Rattle.session_run.proofs.Standing.{at_rest, looks_still, responds_as, rests}
 use Rattle.session_run.proofs.lookups.register_new.Goals as goal
 
 pub returns-in-Err : goal.returns-in-Err
 returns-in-Err g c here =
     said [] (reply_of c.refuse_text.result) c.say.result (uses-none g.met.S.Service.stays c.args.service.now)
-    (text_unread (MayRegisterNew c.args.id c.args.text.now) Smiles c.args.text.now c.in-Err.fault _ tt
-    (λ f h. h) c.in-Err.ensures.fault c.refuse_text.ensures) c.say.ensures
+    (at_rest (text_unread (MayRegisterNew c.args.id c.args.text.now) Smiles c.args.text.now c.in-Err.fault _ tt
+    (λ f h. h) c.in-Err.ensures.fault c.refuse_text.ensures)) c.say.ensures
 
 pub returns-in-Some : goal.returns-in-Some
 returns-in-Some g c here =
@@ -35,8 +36,11 @@ returns-in-Some g c here =
     said l.0 (line.Refused (refusals.Same id)) c.say-in-Some.result l.1 (record {
       act = RegisterNew change m print;
       allowed = (refl, p.structure, p.print_is);
-      does = RegisteredNew change m print l.0 _
-          (NotNew l.0 list id first.0 (record { lookup = l.2; is = l.3 }) first.1);
+      does = inl (
+        RegisteredNew change m print l.0 _
+            (NotNew l.0 list id first.0 (record { lookup = l.2; is = l.3 }) first.1),
+        looks_still _ l.2,
+      );
     }) c.say-in-Some.ensures
 
 pub returns-in-None : goal.returns-in-None
@@ -57,7 +61,7 @@ returns-in-None g c here =
     rw (made.id, made.format, made.text) in
     registered_from change m print l.0 list (record { lookup = l.2; is = l.3 }) none (refl, p.structure, p.print_is)
     (λ xs ys a b. uses-more g.met.S.Service.joins g.met.S.Service.lands g.met.S.Service.same a b) l.1
-    (allowed_as (λ act a. subst (λ (x : Change). MayAsk (events.Commit x) act) same a) (c.commit.ensures _ here))
+    (responds_as (λ act a. subst (λ (x : Change). MayAsk (events.Commit x) act) same a) (c.commit.ensures _ here))
 
 pub returns-in-Err-find_same : goal.returns-in-Err-find_same
 returns-in-Err-find_same g c here =
@@ -67,7 +71,6 @@ returns-in-Err-find_same g c here =
     let m = c.deref-2.result.now.mol in
     let print = c.deref-2.result.now.print in
     let change = changes.Register c.args.id Smiles c.args.text.now in
-    looked_in_vain (refl, (m, p.structure)) tt (RegisterNew change m print) (refl, p.structure, p.print_is)
-    (λ place calls l. RegisteredNew change m print calls _ (NewLost calls place l)) c.in-Err-find_same.fault
-    c.fault_line.result c.say_given.result c.in-Err-find_same.ensures.looks c.find_same.ensures.bounds
+    looked_in_vain (new_pinless (refl, (m, p.structure))) (rests Fault tt)
+    (new_lost change m print (refl, p.structure, p.print_is)) c.in-Err-find_same.fault c.fault_line.result c.say_given.result c.in-Err-find_same.ensures.looks c.find_same.ensures.bounds
     c.fault_line.ensures c.say_given.ensures

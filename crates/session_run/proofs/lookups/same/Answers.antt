@@ -2,10 +2,10 @@ use Rattle.std.proofs.Common.{[], refl}
 use Rattle.std.specs.Arc.{arc_value}
 use Rattle.mol_finish.specs.declared.fault.Format.TheVariants.{Smiles}
 use Rattle.shell_lang.specs.Reply.{reply_of}
-use Rattle.session_run.specs.Acts.{ListedSame, MaySame, Same, SameLost}
+use Rattle.session_run.specs.Acts.{Fault, MaySame}
 use Rattle.session_run.proofs.Joined.{uses-none}
-use Rattle.session_run.proofs.Lines.{said}
-use Rattle.session_run.proofs.Looked.{looked_in_vain, looked_whole, printed_of, same_listed, text_unread}
+use Rattle.session_run.proofs.Lines.{noted, said}
+use Rattle.session_run.proofs.Looked.{looked_in_vain, looked_whole, no_pin, printed_of, same_listed, same_lost, text_unread}
 use Rattle.session_run.proofs.lookups.same.Goals as goal
 
 pub returns-in-Err : goal.returns-in-Err
@@ -33,7 +33,7 @@ returns g c here =
     c.in-Ok.ensures.text in
     let m = c.deref-2.result.now.mol in
     let print = c.deref-2.result.now.print in
-    looked_in_vain (refl, (m, p.structure)) tt (Same m print) (p.structure, p.print_is)
-    (λ place calls l. ListedSame m print calls _ (SameLost calls place l)) c.in-Err-find_same.fault c.fault_line.result
+    looked_in_vain (no_pin (refl, (m, p.structure))) (noted Fault tt) (same_lost m print (p.structure, p.print_is))
+    c.in-Err-find_same.fault c.fault_line.result
     c.say_given.result c.in-Err-find_same.ensures.looks c.find_same.ensures.bounds c.fault_line.ensures
     c.say_given.ensures

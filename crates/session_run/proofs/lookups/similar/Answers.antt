@@ -2,10 +2,10 @@ use Rattle.std.proofs.Common.{[], refl}
 use Rattle.std.specs.Arc.{arc_value}
 use Rattle.mol_finish.specs.declared.fault.Format.TheVariants.{Smiles}
 use Rattle.shell_lang.specs.Reply.{reply_of}
-use Rattle.session_run.specs.Acts.{ListedSimilar, MaySimilar, Similar, SimilarLost}
+use Rattle.session_run.specs.Acts.{Fault, MaySimilar}
 use Rattle.session_run.proofs.Joined.{uses-none}
-use Rattle.session_run.proofs.Lines.{said}
-use Rattle.session_run.proofs.Looked.{looked_in_vain, looked_whole, printed_of, similar_listed, text_unread}
+use Rattle.session_run.proofs.Lines.{noted, said}
+use Rattle.session_run.proofs.Looked.{looked_in_vain, looked_whole, no_pin, printed_of, similar_listed, similar_lost, text_unread}
 use Rattle.session_run.proofs.lookups.similar.Goals as goal
 
 pub returns-in-Err : goal.returns-in-Err
@@ -41,7 +41,7 @@ returns g c here =
     let q = c.args.asked.q in
     let k = c.args.asked.k in
     let looks = c.in-Err-find_similar.ensures.looks in
-    looked_in_vain (refl, (m, of.structure)) tt (Similar p q k print) (refl, refl, refl, m, of.structure, of.print_is)
-    (λ place calls l. ListedSimilar p q k print calls _ (SimilarLost calls looks.0 place looks.1 l))
+    looked_in_vain (no_pin (refl, (m, of.structure))) (noted Fault tt)
+    (similar_lost p q k print looks.0 (refl, refl, refl, m, of.structure, of.print_is) looks.1)
     c.in-Err-find_similar.fault c.fault_line.result c.say_given.result looks.2 c.find_similar.ensures.bounds
     c.fault_line.ensures c.say_given.ensures

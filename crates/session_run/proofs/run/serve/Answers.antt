@@ -1,10 +1,13 @@
-use Rattle.std.proofs.Common.{◌≡◌, ◌∙◌, [], ap, arith, List, None, refl, Some, subst, sym}
+use Rattle.std.proofs.Common.{◌≡◌, ◌∙◌, [], ap, ap₂, arith, List, None, refl, Some, subst, sym}
+use Rattle.watch_list.specs.Watches.{Watch}
 use Rattle.session_run.specs.Cursors.{Cursor}
 use Rattle.session_run.specs.Made.{Uses}
 use Rattle.session_run.specs.Opened.{opened}
 use Rattle.session_run.specs.Responds.{KeepsPins}
 use Rattle.session_run.specs.Turn.{TakesNone, TakesRequest, Turns}
+use Rattle.session_run.specs.Standings.{both, standing_of, watched_all}
 use Rattle.session_run.specs.Walks.{cursors_of}
+use Rattle.session_run.specs.declared.cursors.Cursor as rust
 use Rattle.session_run.specs.declared.settings.EndStatus.{EndStatus}
 use Rattle.session_run.specs.declared.settings.EndStatus.TheVariants.{Worn}
 use Rattle.session_run.specs.declared.settings.Settings.{Settings}
@@ -32,7 +35,9 @@ loop-end-init g c =
         [],
         uses-none g.met.S.Service.stays s,
         under_way-start _ (g.I.Source.left c.args.source.now) (g.O.Sink.written c.args.sink.now) c.args.lines.now
-            (cursors_of (opened c.args.responder.now.cursors)) c.requires.fresh none,
+            (standing_of c.args.responder.now) c.requires.fresh
+            (ap₂ (λ (l : List rust.Cursor) (w : List Watch). both (cursors_of l) (watched_all w)) c.requires.none
+            c.requires.unwatched),
       );
       pins = subst (λ (l : List Cursor). KeepsPins held [] held l) (sym none)
           (record { are_held = tt; others = same_others held held [] (same_held held) });
@@ -47,8 +52,8 @@ loop-end-preserved g c =
     let last = c.turn.new.service in
     let i = c.loop-end.invariant in
     let then = c.in_default.ensures in
-    let here = cursors_of (opened c.loop-end.responder.cursors) in
-    let there = cursors_of (opened c.turn.new.responder.cursors) in
+    let here = standing_of c.loop-end.responder in
+    let there = standing_of c.turn.new.responder in
     record {
       fit = then.fit;
       settings = then.settings ∙ i.settings;
@@ -59,7 +64,7 @@ loop-end-preserved g c =
           (TakesRequest c.loop-end.lines c.turn.new.lines (g.I.Source.left c.loop-end.source)
           (g.I.Source.left c.turn.new.source)) (TakesNone c.loop-end.lines (g.I.Source.left c.loop-end.source)) here
           there (g.O.Sink.written c.loop-end.sink) (g.O.Sink.written c.turn.new.sink) None) i.settings then.turns);
-      pins = keeps_more (g.S.Service.holds first) (g.S.Service.holds middle) (g.S.Service.holds last) [] here there
+      pins = keeps_more (g.S.Service.holds first) (g.S.Service.holds middle) (g.S.Service.holds last) [] here.cursors there.cursors
           i.pins (turn_keeps g.S.Service middle last c.loop-end.responder.cursors.settings.page
           (TakesRequest c.loop-end.lines c.turn.new.lines (g.I.Source.left c.loop-end.source)
           (g.I.Source.left c.turn.new.source)) (TakesNone c.loop-end.lines (g.I.Source.left c.loop-end.source)) here
@@ -80,8 +85,8 @@ returns-in-Some-clause-serves g c =
     let last = c.turn.new.service in
     let i = c.loop-end.invariant in
     let then = c.in-Some.ensures in
-    let here = cursors_of (opened c.loop-end.responder.cursors) in
-    let there = cursors_of (opened c.turn.new.responder.cursors) in
+    let here = standing_of c.loop-end.responder in
+    let there = standing_of c.turn.new.responder in
     serves-turn i.under_way.2 (Uses g.S.Service middle last) (Uses g.S.Service c.args.service.now last)
     (g.S.Service.worn last) (λ its m. uses-more g.met.S.Service.joins g.met.S.Service.lands g.met.S.Service.same
     i.under_way.1 m) (g.O.Sink.written c.turn.new.sink) there then.reads c.in-Some.end
@@ -96,9 +101,9 @@ returns-in-Some-clause-pins g c = λ n.
     let middle = c.loop-end.service in
     let last = c.turn.new.service in
     let i = c.loop-end.invariant in
-    let here = cursors_of (opened c.loop-end.responder.cursors) in
-    let there = cursors_of (opened c.turn.new.responder.cursors) in
-    keeps_more (g.S.Service.holds c.args.service.now) (g.S.Service.holds middle) (g.S.Service.holds last) [] here there
+    let here = standing_of c.loop-end.responder in
+    let there = standing_of c.turn.new.responder in
+    keeps_more (g.S.Service.holds c.args.service.now) (g.S.Service.holds middle) (g.S.Service.holds last) [] here.cursors there.cursors
     i.pins (turn_keeps g.S.Service middle last _ _ _ here there _ _ (Some c.in-Some.end) c.in-Some.ensures.turns
     (λ e. n (some-end c.in-Some.end _ e)) i.pins.are_held)
 

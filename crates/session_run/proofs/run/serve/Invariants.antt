@@ -4,6 +4,7 @@ use Rattle.session_run.specs.Cursors.{Calls}
 use Rattle.session_run.specs.Made.{Uses}
 use Rattle.session_run.specs.Opened.{opened}
 use Rattle.session_run.specs.Responds.{IsFit, KeepsPins}
+use Rattle.session_run.specs.Standings.{standing_of}
 use Rattle.session_run.specs.Walks.{cursors_of}
 use Rattle.session_run.proofs.Scripts.{IsUnderWay}
 use Rattle.session_run.proofs.run.serve.Given as goal
@@ -15,7 +16,7 @@ invariant-loop-end g l = record {
   under_way : (calls : Calls) × Uses g.S.Service l.fn.service l.service calls
       × IsUnderWay l.fn.responder.cursors.settings.page l.fn.lines.limit (g.I.Source.left l.fn.source)
       (g.I.Source.left l.source) (g.O.Sink.written l.fn.sink) (g.O.Sink.written l.sink) l.lines calls
-      (cursors_of (opened l.responder.cursors));
+      (standing_of l.responder);
   pins : KeepsPins (g.S.Service.holds l.fn.service) [] (g.S.Service.holds l.service)
       (cursors_of (opened l.responder.cursors));
   source_count : g.I.Source.faults l.fn.source ≤ g.I.Source.faults l.source;

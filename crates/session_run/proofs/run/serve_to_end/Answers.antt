@@ -4,6 +4,7 @@ use Rattle.session_run.specs.Made.{Uses}
 use Rattle.session_run.specs.Opened.{opened}
 use Rattle.session_run.specs.Pins.{HeldAfter}
 use Rattle.session_run.specs.Serving.{Serves}
+use Rattle.session_run.specs.Standings.{standing_of}
 use Rattle.session_run.specs.Walks.{cursors_of}
 use Rattle.session_run.specs.declared.settings.EndStatus.{EndStatus}
 use Rattle.session_run.proofs.Closing.{served-closed, served-closing, served-worn}
@@ -26,11 +27,11 @@ returns-in-Worn-clause-serves g c =
     let after = g.I.Source.left c.serve-end.new.source in
     let put = g.O.Sink.written c.args.sink.now in
     let put' = g.O.Sink.written c.serve-end.new.sink in
-    let cursors = cursors_of (opened c.serve-end.new.responder.cursors) in (
+    let standing = standing_of c.serve-end.new.responder in (
       u.0,
       u.1,
-      served-worn size input after put put' u.0 cursors
-          (subst (λ (e : EndStatus). Serves e size input after put put' u.0 cursors) c.in-Worn.is u.2),
+      served-worn size input after put put' u.0 standing
+          (subst (λ (e : EndStatus). Serves e size input after put put' u.0 standing) c.in-Worn.is u.2),
     )
 
 pub returns-in-Worn-clause-worn : goal.returns-in-Worn-clause-worn
@@ -39,10 +40,10 @@ returns-in-Worn-clause-worn g c = λ e. c.serve-end.ensures.worn c.in-Worn.is
 pub returns-in-Ok-clause-serves : goal.returns-in-Ok-clause-serves
 returns-in-Ok-clause-serves g c =
     let u = c.serve-end.ensures.serves in
-    let cursors = cursors_of (opened c.serve-end.new.responder.cursors) in (
-      u.0 ++ unpins cursors,
+    let standing = standing_of c.serve-end.new.responder in (
+      u.0 ++ unpins standing.cursors,
       uses-more g.met.S.Service.joins g.met.S.Service.lands g.met.S.Service.same u.1 c.in-Ok.ensures,
-      served-closed c.serve-end.result _ _ _ _ _ u.0 cursors c.in_default.not-Worn u.2,
+      served-closed c.serve-end.result _ _ _ _ _ u.0 standing c.in_default.not-Worn u.2,
     )
 
 pub returns-in-Ok-clause-pins : goal.returns-in-Ok-clause-pins
@@ -65,10 +66,10 @@ returns-in-Err-clause-serves g c =
     let u = c.serve-end.ensures.serves in
     let p = returned_part (Uses g.S.Service c.serve-end.new.service c.close_all.new.service)
     (g.S.Service.worn c.close_all.new.service) (cursors_of (opened c.serve-end.new.responder.cursors)) _ c.in-Err.ensures in
-    let cursors = cursors_of (opened c.serve-end.new.responder.cursors) in (
+    let standing = standing_of c.serve-end.new.responder in (
       u.0 ++ p.0,
       uses-more g.met.S.Service.joins g.met.S.Service.lands g.met.S.Service.same u.1 p.1,
-      served-closing c.serve-end.result _ _ _ _ _ u.0 p.0 cursors c.in_default.not-Worn p.2 u.2,
+      served-closing c.serve-end.result _ _ _ _ _ u.0 p.0 standing c.in_default.not-Worn p.2 u.2,
     )
 
 pub returns-in-Err-clause-worn : goal.returns-in-Err-clause-worn

@@ -1,10 +1,9 @@
 use Rattle.std.proofs.Common.{ap, Err, Ok, refl}
 use Rattle.std.proofs.KnownBytes.{Appends-nil}
 use Rattle.session_run.specs.Made.{Uses}
-use Rattle.session_run.specs.Opened.{opened}
 use Rattle.session_run.specs.Requests.{IsPartOfRequest}
+use Rattle.session_run.specs.Standings.{standing_of}
 use Rattle.session_run.specs.Turn.{TakesNone, TakesPart, TakesRequest}
-use Rattle.session_run.specs.Walks.{cursors_of}
 use Rattle.session_run.proofs.Joined.{uses-none}
 use Rattle.session_run.proofs.Turning.{no_input_fault, takes_request, turn_replied}
 use Rattle.session_run.proofs.run.turn.Goals as goal
@@ -58,7 +57,7 @@ returns-in_default-clause-turns g c =
     turn_replied c.args.responder.now.cursors.settings.page
     (Uses g.S.Service c.args.service.now c.answer_and_put.new.service)
     (g.S.Service.worn c.answer_and_put.new.service) t.0
-    (cursors_of (opened c.args.responder.now.cursors)) (cursors_of (opened c.answer_and_put.new.responder.cursors))
+    (standing_of c.args.responder.now) (standing_of c.answer_and_put.new.responder)
     (g.O.Sink.written c.args.sink.now) (g.O.Sink.written c.answer_and_put.new.sink)
     (TakesRequest c.args.lines.now c.next_request.new.lines before after) (TakesNone c.args.lines.now before)
     c.answer_and_put.result t.1 (c.answer_and_put.ensures.replies t.0 (rw c.text.ensures t.2))
@@ -72,7 +71,7 @@ returns-in_default-clause-part g c =
     no_input_fault c.args.responder.now.cursors.settings.page
     (Uses g.S.Service c.args.service.now c.answer_and_put.new.service)
     (g.S.Service.worn c.answer_and_put.new.service) t.0
-    (cursors_of (opened c.args.responder.now.cursors)) (cursors_of (opened c.answer_and_put.new.responder.cursors))
+    (standing_of c.args.responder.now) (standing_of c.answer_and_put.new.responder)
     (g.O.Sink.written c.args.sink.now) (g.O.Sink.written c.answer_and_put.new.sink)
     (TakesPart c.args.lines.now c.next_request.new.lines before after IsPartOfRequest) c.answer_and_put.result
     (c.answer_and_put.ensures.replies t.0 (rw c.text.ensures t.2))

@@ -2,6 +2,7 @@ use Rattle.std.proofs.Common.{◌≡◌, ◌∙◌, ◌+◌, ap, arith, length, 
 use Rattle.std.specs.Vec.Iter.{into_iter_items}
 use Rattle.mol_finish.specs.declared.fault.TextFault.{TextFault}
 use Rattle.store_core.specs.Records.{Shared}
+use Rattle.session_run.specs.Standings.{watched_all}
 use Rattle.session_run.specs.Taken.{AreRead}
 use Rattle.session_run.proofs.Joined.{uses-none}
 use Rattle.session_run.proofs.Registered.{IsAt, at_end, at_more, at_none, at_stopped, each_done, popped}
@@ -15,7 +16,8 @@ loop-place-init g c =
     c.read_all-made.ensures in
     record {
       goes = λ records e taken.
-          at_none g.S.Service c.args.service.now c.args.first records c.args.texts.now c.args.out.now.items
+          at_none g.S.Service c.args.service.now c.args.first records c.args.texts.now
+          (watched_all c.args.watches.now.watches) c.args.out.now.items
           (into_iter_items c.into_iter-answers.result) (uses-none g.met.S.Service.stays c.args.service.now) taken read;
       len = c.into_iter-answers.ensures.len
           ∙ (c.read_all-made.result.ok.0 ∙ ap (λ (l : List (Result Shared TextFault)). length l) (sym items));
@@ -32,7 +34,8 @@ loop-place-preserved g c =
     record {
       goes = λ records e taken.
           subst (λ (n : ℕ). IsAt g.S.Service c.args.service.now c.register_one.new.service c.args.first records
-          c.args.texts.now c.args.out.now.items c.register_one.new.out.items n others) step
+          c.args.texts.now (watched_all c.args.watches.now.watches) (watched_all c.register_one.new.watches.watches)
+          c.args.out.now.items c.register_one.new.out.items n others) step
           (at_more {of = g.S.Service} c.args.first records c.args.texts.now g.met.S.Service.joins
           g.met.S.Service.lands g.met.S.Service.same c.args.service.now c.loop-place.service
           c.register_one.new.service c.args.out.now.items c.loop-place.out.items c.register_one.new.out.items

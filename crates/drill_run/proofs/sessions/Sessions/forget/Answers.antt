@@ -2,7 +2,7 @@ use Rattle.std.proofs.Common.{◌≡◌, ◌≤◌, ◌<◌, ◌++◌, ◌∙◌
 use Rattle.std.proofs.Math.Seq.{take-append_seam}
 use Rattle.session_run.specs.declared.respond.Responder.{Responder}
 use Rattle.drill_run.specs.Turns.{IsSessionOf}
-use Rattle.drill_run.proofs.Making.{AreForgotten, forgotten-all, forgotten-more, get-all, same-none, set-all}
+use Rattle.drill_run.proofs.Making.{AreForgotten, forgotten-all, forgotten-more, get-all, keeps-none, same-none, set-all}
 use Rattle.drill_run.proofs.sessions.Sessions.forget.Goals as goal
 
 pub loop-responder-preserved : goal.loop-responder-preserved
@@ -21,7 +21,8 @@ loop-responder-preserved c =
           (c.forget.ensures.fit was.0, c.forget.ensures.settings ∙ was.1);
       number = length-set items k c.forget.new.self ∙ i.number;
       none = subst (λ (n : ℕ). AreForgotten n (set items k c.forget.new.self)) (sym (add-one k))
-          (forgotten-more k items c.forget.new.self less i.none c.forget.ensures.none);
+          (forgotten-more k items c.forget.new.self less i.none
+          (keeps-none c.forget.new.self c.forget.ensures.none c.forget.ensures.unwatched));
     }
 
 pub returns-clause-none : goal.returns-clause-none

@@ -1,12 +1,12 @@
-use Rattle.std.proofs.Common.{◌≡◌, List, [], add-one, arith, subst, sym, suc, ℕ}
+use Rattle.std.proofs.Common.{◌≡◌, List, add-one, arith, subst, sym, suc, ℕ}
 use Rattle.session_run.specs.Pins.{AreHeld}
 use Rattle.session_run.specs.declared.respond.Responder.{Responder}
 use Rattle.store_core.specs.Stored.{HoldsPin}
-use Rattle.drill_run.specs.Dialogue.{AllCursors}
-use Rattle.drill_run.specs.Drilled.{no_cursors}
+use Rattle.drill_run.specs.Dialogue.{AllKept}
+use Rattle.drill_run.specs.Drilled.{all_empty}
 use Rattle.drill_run.specs.Turns.{all_of}
-use Rattle.drill_run.specs.Views.{cursors_in}
-use Rattle.drill_run.proofs.Making.{AreNew, new-more, new-none, session-new}
+use Rattle.drill_run.specs.Views.{kept_in}
+use Rattle.drill_run.proofs.Making.{AreNew, keeps-none, new-more, new-none, session-new}
 use Rattle.drill_run.proofs.sessions.Sessions.new.Goals as goal
 
 pub loop-init : goal.loop-init
@@ -20,7 +20,7 @@ loop-preserved c =
     (new-more c.args.settings c.loop.counter c.loop.responders.items responder c.loop.invariant
     (session-new c.args.settings responder c.requires.some_workers c.requires.few_workers c.requires.some
     c.requires.few c.in_ok-responder.ensures.settings c.in_ok-responder.ensures.none)
-    c.in_ok-responder.ensures.none))
+    (keeps-none responder c.in_ok-responder.ensures.none c.in_ok-responder.ensures.unwatched)))
 
 pub returns-clause-none : goal.returns-clause-none
 returns-clause-none c =
@@ -30,11 +30,11 @@ returns-clause-none c =
 pub returns-clause-ready : goal.returns-clause-ready
 returns-clause-ready c = λ world s stands.
     let all : c.loop.counter ≡ 16 = omega arith in
-    let none : cursors_in c.loop.responders.items ≡ no_cursors = rw all at c.loop.invariant.none in
+    let none : kept_in c.loop.responders.items ≡ all_empty = rw all at c.loop.invariant.none in
     record {
       state = s;
       stands = stands;
       number = rw all at c.loop.invariant.number;
       fit = c.loop.invariant.fit;
-      held = subst (λ (l : AllCursors). AreHeld (HoldsPin world.memory) (all_of l)) (sym none) tt;
+      held = subst (λ (l : AllKept). AreHeld (HoldsPin world.memory) (all_of l)) (sym none) tt;
     }

@@ -1,11 +1,11 @@
-use Rattle.std.proofs.Common.{◌∙◌, ap, length, refl, subst, sym}
+use Rattle.std.proofs.Common.{◌∙◌, ap, length, subst, sym}
 use Rattle.std.specs.List.{AllByRecursion}
 use Rattle.std.specs.Prelude.{Vec}
 use Rattle.std.specs.declared.alloc.Global.{Global}
 use Rattle.drill_core.specs.Worlds.{left_on}
 use Rattle.session_run.specs.declared.respond.Responder.{Responder}
 use Rattle.drill_run.specs.Turns.{IsSessionOf}
-use Rattle.drill_run.specs.Views.{cursors_in}
+use Rattle.drill_run.specs.Views.{kept_in}
 use Rattle.drill_run.proofs.Answering.{opened-by, unopened}
 use Rattle.drill_run.proofs.sessions.Sessions.reopen.Goals as goal
 
@@ -18,7 +18,7 @@ returns-in-Ok c = λ line reads.
     (ap (λ (l : Vec Responder Global). length l.items) left ∙ c.forget.ensures.number)
     (subst (λ (l : Vec Responder Global). AllByRecursion (IsSessionOf c.args.self.now.settings) l.items) (sym left)
     c.forget.ensures.fit)
-    (ap (λ (l : Vec Responder Global). cursors_in l.items) left ∙ c.forget.ensures.none)
+    (ap (λ (l : Vec Responder Global). kept_in l.items) left ∙ c.forget.ensures.none)
     (c.say_version.ensures.settings ∙ c.forget.ensures.settings) c.say_version.result
     (rw c.forget.ensures.out at c.say_version.ensures.ok)
 

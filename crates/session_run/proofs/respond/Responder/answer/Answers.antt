@@ -3,8 +3,9 @@ use Rattle.shell_lang.specs.Reply as line
 use Rattle.shell_lang.specs.declared.reply.Refusal.TheVariants as refusals
 use Rattle.session_run.specs.Acts.{Refused}
 use Rattle.session_run.proofs.Joined.{uses-none}
-use Rattle.session_run.proofs.Lines.{noted, said}
+use Rattle.session_run.proofs.Lines.{said}
 use Rattle.session_run.proofs.Requested.{behind_nothing}
+use Rattle.session_run.proofs.Standing.{rests}
 use Rattle.session_run.proofs.respond.Responder.answer.Goals as goal
 
 pub answer_line-requires-clause-ready : goal.answer_line-requires-clause-ready
@@ -25,7 +26,7 @@ pub returns-in-Long-clause-answered : goal.returns-in-Long-clause-answered
 returns-in-Long-clause-answered g c request next =
     behind_nothing c.clear.ensures.items (said [] (line.Refused refusals.Long) c.say.result
     (uses-none g.met.S.Service.stays c.args.service.now)
-    (noted (Refused refusals.Long) (inl (rw c.in-Long.is at next, refl))) c.say.ensures)
+    (rests (Refused refusals.Long) (inl (rw c.in-Long.is at next, refl))) c.say.ensures)
 
 pub returns-in-Line-clause-answered : goal.returns-in-Line-clause-answered
 returns-in-Line-clause-answered g c request next =

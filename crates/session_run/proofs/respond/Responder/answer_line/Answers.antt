@@ -5,9 +5,11 @@ use Rattle.shell_lang.specs.Reply as line
 use Rattle.shell_lang.specs.declared.reply.Refusal.TheVariants as refusals
 use Rattle.session_run.specs.Acts.{Refused, Say}
 use Rattle.session_run.specs.Requests.{Request}
+use Rattle.session_run.specs.Standings.{standing_of}
 use Rattle.session_run.proofs.Joined.{uses-none}
-use Rattle.session_run.proofs.Lines.{allowed_as, noted, said}
+use Rattle.session_run.proofs.Lines.{said}
 use Rattle.session_run.proofs.Requested.{behind_nothing, line_allows}
+use Rattle.session_run.proofs.Standing.{responds_as, rests}
 use Rattle.session_run.proofs.respond.Responder.answer_line.Goals as goal
 
 pub execute-requires-clause-ready : goal.execute-requires-clause-ready
@@ -19,7 +21,7 @@ execute-requires-clause-line g c _ _ = (c.args.line.now, c.in-Ok.ensures, c.requ
 pub returns-in-Ok-clause-answered : goal.returns-in-Ok-clause-answered
 returns-in-Ok-clause-answered g c =
     let request : Request = record { line = Whole c.args.line.now; more = [] } in
-    behind_nothing c.clear.ensures.items (allowed_as (line_allows _ request c.args.line.now
+    behind_nothing c.clear.ensures.items (responds_as (line_allows (standing_of c.args.self.now) request c.args.line.now
     (Ok (command_of c.in-Ok.command)) (refl, c.requires.alone) c.in-Ok.ensures) (c.execute.ensures.answered []))
 
 pub returns-in-Err-clause-answered : goal.returns-in-Err-clause-answered
@@ -27,5 +29,5 @@ returns-in-Err-clause-answered g c =
     let request : Request = record { line = Whole c.args.line.now; more = [] } in
     behind_nothing c.clear.ensures.items (said [] (line.Refused (refusals.Line c.in-Err.refusal)) c.say.result
     (uses-none g.met.S.Service.stays c.args.service.now)
-    (noted (Refused (refusals.Line c.in-Err.refusal)) (line_allows _ request c.args.line.now (Err c.in-Err.refusal)
+    (rests (Refused (refusals.Line c.in-Err.refusal)) (line_allows (standing_of c.args.self.now) request c.args.line.now (Err c.in-Err.refusal)
     (refl, c.requires.alone) c.in-Err.ensures (Say (Refused (refusals.Line c.in-Err.refusal))) refl)) c.say.ensures)

@@ -1,9 +1,11 @@
 use Rattle.std.proofs.Common.{[], append-nil, refl, sym}
+use Rattle.store_machine.specs.declared.machine.Event.TheVariants as events
 use Rattle.session_run.specs.Acts.{Silence}
 use Rattle.session_run.specs.Made.{Said}
 use Rattle.session_run.proofs.Joined.{uses-none}
-use Rattle.session_run.proofs.Lines.{noted}
 use Rattle.session_run.proofs.Requested.{spells_register_mol, spells_register_sd, spells_revise_mol}
+use Rattle.session_run.proofs.Standing.{asks_none, close_none, find_none, keeps_all, open_none, rests, same_none, search_none, similar_none, turn_none}
+use Rattle.session_run.proofs.Watched.{unwatched}
 use Rattle.session_run.proofs.respond.Responder.execute.Goals as goal
 
 pub returns-in-Empty-clause-answered : goal.returns-in-Empty-clause-answered
@@ -12,7 +14,7 @@ returns-in-Empty-clause-answered g c more =
       calls = [];
       lines = [];
       made = uses-none g.met.S.Service.stays c.args.service.now;
-      is = noted Silence refl;
+      is = rests Silence refl;
     }) (sym (append-nil c.args.self.now.out.items)))
 
 pub returns-in-Register-clause-answered : goal.returns-in-Register-clause-answered
@@ -25,37 +27,47 @@ pub returns-in-Withdraw-clause-answered : goal.returns-in-Withdraw-clause-answer
 returns-in-Withdraw-clause-answered g c more = rw c.in-Withdraw.is (c.commit.ensures _ _)
 
 pub returns-in-Show-clause-answered : goal.returns-in-Show-clause-answered
-returns-in-Show-clause-answered g c more = rw c.in-Show.is (c.show.ensures _ _)
+returns-in-Show-clause-answered g c more = rw c.in-Show.is (keeps_all _ (asks_none (events.Look _) tt) (c.show.ensures _ _))
 
 pub returns-in-Data-clause-answered : goal.returns-in-Data-clause-answered
-returns-in-Data-clause-answered g c more = rw c.in-Data.is (c.find_data.ensures _ _)
+returns-in-Data-clause-answered g c more = rw c.in-Data.is (keeps_all _ (find_none _ _) (c.find_data.ensures _ _))
 
 pub returns-in-Prune-clause-answered : goal.returns-in-Prune-clause-answered
-returns-in-Prune-clause-answered g c more = rw c.in-Prune.is (c.prune.ensures _ _)
+returns-in-Prune-clause-answered g c more = rw c.in-Prune.is (keeps_all _ (asks_none events.Prune tt) (c.prune.ensures _ _))
 
 pub returns-in-Stats-clause-answered : goal.returns-in-Stats-clause-answered
-returns-in-Stats-clause-answered g c more = rw c.in-Stats.is (c.stats.ensures _ _)
+returns-in-Stats-clause-answered g c more = rw c.in-Stats.is (keeps_all _ (asks_none events.Stats tt) (c.stats.ensures _ _))
 
 pub returns-in-Search-clause-answered : goal.returns-in-Search-clause-answered
-returns-in-Search-clause-answered g c more = rw c.in-Search.is (c.search.ensures _)
+returns-in-Search-clause-answered g c more = rw c.in-Search.is (keeps_all _ (search_none _) (c.search.ensures _))
 
 pub returns-in-Same-clause-answered : goal.returns-in-Same-clause-answered
-returns-in-Same-clause-answered g c more = rw c.in-Same.is (c.same.ensures _)
+returns-in-Same-clause-answered g c more = rw c.in-Same.is (keeps_all _ (same_none _) (c.same.ensures _))
 
 pub returns-in-RegisterNew-clause-answered : goal.returns-in-RegisterNew-clause-answered
 returns-in-RegisterNew-clause-answered g c more = rw c.in-RegisterNew.is (c.register_new.ensures _)
 
 pub returns-in-Similar-clause-answered : goal.returns-in-Similar-clause-answered
-returns-in-Similar-clause-answered g c more = rw c.in-Similar.is (c.similar.ensures _)
+returns-in-Similar-clause-answered g c more = rw c.in-Similar.is (keeps_all _ (similar_none _ _ _ _) (c.similar.ensures _))
 
 pub returns-in-Start-clause-answered : goal.returns-in-Start-clause-answered
-returns-in-Start-clause-answered g c more = rw c.in-Start.is c.open.ensures.answered
+returns-in-Start-clause-answered g c more = rw c.in-Start.is (keeps_all _ (open_none _ _ _) c.open.ensures.answered)
 
 pub returns-in-Next-clause-answered : goal.returns-in-Next-clause-answered
-returns-in-Next-clause-answered g c more = rw c.in-Next.is c.next.ensures.answered
+returns-in-Next-clause-answered g c more = rw c.in-Next.is (keeps_all _ (turn_none _ _) c.next.ensures.answered)
 
 pub returns-in-Close-clause-answered : goal.returns-in-Close-clause-answered
-returns-in-Close-clause-answered g c more = rw c.in-Close.is c.close.ensures.answered
+returns-in-Close-clause-answered g c more = rw c.in-Close.is (keeps_all _ (close_none _ _) c.close.ensures.answered)
+
+pub returns-in-Watch-clause-answered : goal.returns-in-Watch-clause-answered
+returns-in-Watch-clause-answered g c more = rw c.in-Watch.is (c.watch.ensures _)
+
+pub returns-in-Hits-clause-answered : goal.returns-in-Hits-clause-answered
+returns-in-Hits-clause-answered g c more = rw c.in-Hits.is (c.hits.ensures _)
+
+pub returns-in-Unwatch-clause-answered : goal.returns-in-Unwatch-clause-answered
+returns-in-Unwatch-clause-answered g c more =
+    rw c.in-Unwatch.is (unwatched _ (uses-none g.met.S.Service.stays c.args.service.now) c.unwatch.ensures)
 
 pub change_text-requires : goal.change_text-requires
 change_text-requires g c = let s = rw c.in-Register.is at c.requires.line.1 in s.0

@@ -20,4 +20,7 @@ returns c w = elim w as (λ v. word_text v ≡ c.args.bytes.now → ⊥) [
   | words.Open ↦ c.loop-word.invariant 12 words.Open (omega arith)
   | words.Next ↦ c.loop-word.invariant 13 words.Next (omega arith)
   | words.Close ↦ c.loop-word.invariant 14 words.Close (omega arith)
+  | words.Watch ↦ c.loop-word.invariant 15 words.Watch (omega arith)
+  | words.Hits ↦ c.loop-word.invariant 16 words.Hits (omega arith)
+  | words.Unwatch ↦ c.loop-word.invariant 17 words.Unwatch (omega arith)
 ]

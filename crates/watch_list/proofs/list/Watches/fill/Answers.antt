@@ -1,6 +1,6 @@
 use Rattle.std.proofs.Common.{◌≡◌, ◌∙◌, ap, arith, is_some, length, List, map, subst, sym, true}
 use Rattle.watch_list.specs.Entries.{EntryTerm, watches_in}
-use Rattle.watch_list.specs.Watches.{AreWatches, WatchesTerm, filled, watch_of}
+use Rattle.watch_list.specs.Watches.{AreWatches, WatchesTerm, filled, refilled, watch_of}
 use Rattle.watch_list.proofs.Kept.{filled-names, same-names}
 use Rattle.watch_list.proofs.Named.{found, lost}
 use Rattle.watch_list.proofs.list.Watches.fill.Goals as goal
@@ -19,7 +19,7 @@ invariant_of-self c =
     let hits = c.args.hits.items in
     let at = found name es c.deref.result.now c.in-Some.place c.deref.ensures.value c.in-Some.ensures in
     let put = at.filled_is c.self.invariant.distinct version hits c.fill.new.self c.index_mut-entry.result.now
-    (c.fill.ensures ∙ ap (λ (x : EntryTerm). record x.watch { version = version; hits = hits })
+    (c.fill.ensures ∙ ap (λ (x : EntryTerm). refilled version hits x.watch)
     c.index_mut-entry.ensures.value) in
     subst AreWatches put (same-names (watches_in es) (map (filled name version hits) (watches_in es))
     (filled-names name version hits (watches_in es)) c.self.invariant)
@@ -32,7 +32,7 @@ returns-in-Some c =
     let hits = c.args.hits.items in
     let at = found name es c.deref.result.now c.in-Some.place c.deref.ensures.value c.in-Some.ensures in
     let put = at.filled_is c.self.invariant.distinct version hits c.fill.new.self c.index_mut-entry.result.now
-    (c.fill.ensures ∙ ap (λ (x : EntryTerm). record x.watch { version = version; hits = hits })
+    (c.fill.ensures ∙ ap (λ (x : EntryTerm). refilled version hits x.watch)
     c.index_mut-entry.ensures.value) in
     sym put ∙ ap (λ (w : WatchesTerm). map (filled name version hits) w.watches) c.self.view_is
 

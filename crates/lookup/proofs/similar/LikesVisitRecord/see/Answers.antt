@@ -1,7 +1,7 @@
 use Rattle.std.proofs.Common.{Bool, List, subst}
 use Rattle.lookup.specs.Asked.{IsScored}
 use Rattle.lookup.proofs.Offered.{offered-none-of, offered-on}
-use Rattle.lookup.proofs.similar.LikesVisit.see.Goals as goal
+use Rattle.lookup.proofs.similar.LikesVisitRecord.see.Goals as goal
 
 pub returns-then-u-eq0 : goal.returns-then-u-eq0
 returns-then-u-eq0 c = λ start before seen.

@@ -2,7 +2,7 @@ use Rattle.std.proofs.Common.{◌++◌, ◌∙◌, [], ◌∷◌, ap, sym}
 use Rattle.std.proofs.lemmas.Bool.{false≢true}
 use Rattle.exact_find.specs.Same.{IsSame}
 use Rattle.lookup.proofs.Picked.{passed-by, picked-on}
-use Rattle.lookup.proofs.same.SamesVisit.see.Goals as goal
+use Rattle.lookup.proofs.same.SamesVisitRecord.see.Goals as goal
 
 pub returns-in_ok-push : goal.returns-in_ok-push
 returns-in_ok-push c = λ start before seen.
