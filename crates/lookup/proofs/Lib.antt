@@ -1,6 +1,4 @@
 pub mod Held
-pub mod Joined
-pub mod Paged
 pub mod Seen
 pub mod Walking
 pub mod Looked

@@ -15,7 +15,8 @@ use Rattle.lookup.specs.Fetches.{Calls, Fetches, HeldBesides, Looks, LooksUnless
 use Rattle.lookup.specs.Fetches.{CutShort, Failed, Known, Looked, NoneFree, Unasked, Whole, WornAfter, WornBefore}
 use Rattle.lookup.specs.Walks.{IsPinnedFrom, Saw, Walked, Walks}
 use Rattle.lookup.specs.declared.pages.Seen.{Seen}
-use Rattle.lookup.proofs.Held.{held-same, held_on, kept_on, none_taken, not_raised-same, returned}
+use Rattle.par_search.proofs.Held.{held-same, not_raised-same}
+use Rattle.lookup.proofs.Held.{held_on, kept_on, none_taken, returned}
 
 abbrev pub result_as : {X Y E : Type 0} → (X → Y) → Result X E → Result Y E
 result_as f (Ok x) = Ok (f x)

@@ -14,10 +14,11 @@ use Rattle.store_machine.specs.declared.machine.Event.TheVariants.{Fetch}
 use Rattle.store_machine.specs.declared.machine.Found.{Found}
 use Rattle.store_machine.specs.declared.machine.Reply.{Reply}
 use Rattle.store_machine.specs.declared.machine.Reply.TheVariants as replies
+use Rattle.par_search.specs.Fetches.{ArePages}
+use Rattle.par_search.proofs.Held.{held-more, held-same, not_raised-more, not_raised-same}
+use Rattle.par_search.proofs.Paged.{fetches_lost, fetches_page, pages_more, records_page}
 use Rattle.lookup.specs.Fetches.{AreFetches, Calls, Makes}
 use Rattle.lookup.specs.Walks.{Saw, Walks}
-use Rattle.lookup.proofs.Held.{held-more, held-same, not_raised-more, not_raised-same}
-use Rattle.lookup.proofs.Paged.{ArePages, fetches_lost, fetches_page, pages_more, records_page}
 use Rattle.lookup.proofs.Seen.{saw-more, saw-none}
 
 -- the calls so far, each answered by a page, and what was seen of the pages
@@ -68,7 +69,7 @@ module _ {S V G : Type 0} {of : meaning.Ghosts S} (has_seen : V → G → V → 
       record {
         pages = w.pages ++ call ∷ [];
         made = joins old now new w.pages (call ∷ []) w.made made;
-        are = fetches_page slot size from want w.pages (founds page) last w.answered w.are;
+        are = fetches_page slot size from want (At 0) w.pages (founds page) last w.answered w.are;
         answered = pages_more w.pages (Fetch slot want from size) (founds page) last w.answered;
         saw = subst (λ (l : List Found). Saw has_seen given first then l) (sym all)
             (saw-more has_seen given first seen then (records_of (fetched slot w.pages)) (founds page) w.saw saw);
@@ -139,7 +140,7 @@ module _ {S V G : Type 0} {of : meaning.Ghosts S} (has_seen : V → G → V → 
     record {
       pages = w.pages ++ (Fetch slot want from size, replies.Page (founds page) last) ∷ [];
       made = joins old now new w.pages _ w.made made;
-      are = fetches_page slot size from want w.pages (founds page) last w.answered w.are;
+      are = fetches_page slot size from want (At 0) w.pages (founds page) last w.answered w.are;
       held = held-more (of.holds old) (of.holds now) (of.holds new) w.held held;
       bounds = not_raised-more (of.bounds old) (of.bounds now) (of.bounds new) w.bounds bounds;
     },
@@ -165,7 +166,7 @@ module _ {S V G : Type 0} {of : meaning.Ghosts S} (has_seen : V → G → V → 
     record {
       pages = w.pages ++ (Fetch slot want from size, replies.NoMemory) ∷ [];
       made = joins old now new w.pages _ w.made made;
-      are = fetches_lost slot size from want w.pages w.answered w.are;
+      are = fetches_lost slot size from want (At 0) w.pages w.answered w.are;
       held = held-more (of.holds old) (of.holds now) (of.holds new) w.held held;
       bounds = not_raised-more (of.bounds old) (of.bounds now) (of.bounds new) w.bounds bounds;
     },

@@ -1,34 +1,14 @@
 -- For callers: the calls of a lookup, and its answers by them.
-use Rattle.std.specs.Prelude.{◌≡◌, ◌≢◌, ◌⊎◌, ◌↔◌, ◌++◌, ℕ, Bool, List, [], ◌∷◌, None, Option, Some, Result, Ok, Err, if◌then◌else◌}
+use Rattle.std.specs.Prelude.{◌≡◌, ◌≢◌, ◌⊎◌, ◌↔◌, ◌++◌, ℕ, Bool, List, [], ◌∷◌, None, Option, Some, Result, Ok, Err}
+pub use Rattle.par_search.specs.Fetches.{AreFetches, Calls, Makes}
 use Rattle.par_search.specs.declared.fault.SearchFault.{SearchFault}
 use Rattle.par_search.specs.declared.fault.SearchFault.TheVariants as faults
-use Rattle.store_core.specs.Calls as core
 use Rattle.store_core.specs.Calls.{SameHeld}
 use Rattle.store_core.specs.declared.service.Service as meaning
-use Rattle.store_machine.specs.Searches.{Place, At, End, fetched, past, records_of}
-use Rattle.store_machine.specs.declared.machine.Event.{Event}
-use Rattle.store_machine.specs.declared.machine.Event.TheVariants.{Fetch, Pin, Unpin}
+use Rattle.store_machine.specs.Searches.{Place, At, End, fetched, records_of}
+use Rattle.store_machine.specs.declared.machine.Event.TheVariants.{Pin, Unpin}
 use Rattle.store_machine.specs.declared.machine.Found.{Found}
-use Rattle.store_machine.specs.declared.machine.Reply.{Reply}
-use Rattle.store_machine.specs.declared.machine.Reply.TheVariants.{NoMemory, NoPin, Page, Pinned, Unpinned}
-use Rattle.store_machine.specs.declared.machine.State.{State}
-
--- calls of a service with their replies, in order
-abbrev pub Calls : Type 0
-Calls = List (Event × Reply)
-
--- from one value of a service to a later one its caller's own calls are these
-pub record Makes {S : Type 0} (of : meaning.Ghosts S) (old new : S) (calls : Calls) : Type 0 where
-  pub made : (s : State) → of.at old s → core.Calls of.stretch (of.owns old) old new s calls
-
--- Fetches of one pin by pages of a size, from one place of a search to another: each from where the one before it
--- ended. One that found no memory is the last, and the search stands where it was
-abbrev pub AreFetches : ℕ → ℕ → List Bool → Place → Calls → Place → Type 0
-AreFetches slot size want place [] place' = place' ≡ place
-AreFetches slot size want place (c ∷ cs) place' = (from : ℕ) × (place ≡ At from) × (c.0 ≡ Fetch slot want from size)
-    × (((c.1 ≡ NoMemory) × (cs ≡ []) × (place' ≡ place))
-    ⊎ ((records : List Found) × (last : Bool) × (c.1 ≡ Page records last)
-    × AreFetches slot size want (if last then End else At (past from records)) cs place'))
+use Rattle.store_machine.specs.declared.machine.Reply.TheVariants.{NoPin, Pinned, Unpinned}
 
 -- a pin that was taken in a slot that held none, and fetches of it, from the beginning to a place
 pub record Fetches (held : ℕ → ℕ → Type 0) (size : ℕ) (want : List Bool) (place : Place) : Type 0 where

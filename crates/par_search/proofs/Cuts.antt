@@ -11,11 +11,11 @@ use Rattle.store_core.specs.Records.{Shared, found_of, founds}
 use Rattle.par_search.specs.Flags.{AreFlagged, AreFlags, WorkerTerm, piece_of}
 use Rattle.par_search.proofs.Shares.{shares-cover}
 
-one-more : (i size : ℕ) → (i + 1) * size ≡ i * size + size
+pub one-more : (i size : ℕ) → (i + 1) * size ≡ i * size + size
 one-more i size = omega arith
 
 -- what is behind one piece more
-pub rest-next : (i size : ℕ) (xs rest behind : List Shared) → rest ≡ drop (i * size) xs → behind ≡ drop size rest
+pub rest-next : {X : Type 0} (i size : ℕ) (xs rest behind : List X) → rest ≡ drop (i * size) xs → behind ≡ drop size rest
     → behind ≡ drop ((i + 1) * size) xs
 rest-next i size xs rest behind e f =
     f ∙ ap (drop size) e ∙ drop-drop size (i * size) xs ∙ ap (λ n. drop n xs) (sym (one-more i size))
@@ -44,11 +44,11 @@ at-least : (length k n q : ℕ) → length ≤ q * k → k ≤ n → length ≤ 
 at-least length k n q covers le = let times : k * q ≤ n * q = mul-le-mul_right q le in omega (arith, covers, times)
 
 -- all pieces together are all records
-pub all-taken : (k n size : ℕ) (records : List Shared) → 1 ≤ k → k ≤ n → size ≡ div_ceil (length records) k
-    → take (n * size) records ≡ records
-all-taken k n size records some le is =
-    take_all (n * size) records (subst (λ s. length records ≤ n * s) (sym is)
-    (at-least (length records) k n (div_ceil (length records) k) (shares-cover (length records) k some) le))
+pub all-taken : {X : Type 0} (k n size : ℕ) (items : List X) → 1 ≤ k → k ≤ n → size ≡ div_ceil (length items) k
+    → take (n * size) items ≡ items
+all-taken k n size items some le is =
+    take_all (n * size) items (subst (λ s. length items ≤ n * s) (sym is)
+    (at-least (length items) k n (div_ceil (length items) k) (shares-cover (length items) k some) le))
 
 pub cut-lengths : (size : ℕ) (rest piece behind : List Shared) → piece ≡ take size rest → behind ≡ drop size rest
     → length piece + length behind ≡ length rest

@@ -1,7 +1,13 @@
 pub mod Cuts
+pub mod Fetching
 pub mod Flagged
+pub mod Held
+pub mod Joined
+pub mod Joining
 pub mod LastOne
 pub mod Matched
+pub mod Paged
 pub mod Rooming
-pub mod Shares
 pub mod Rooms
+pub mod Shares
+pub mod Small

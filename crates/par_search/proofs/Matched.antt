@@ -1,5 +1,5 @@
 -- Those of some records that a pattern matches, with more records behind them.
-use Rattle.std.proofs.Common.{◌≡◌, ◌↔◌, ◌+◌, ◌++◌, ◌<◌, ◌∙◌, ap, append-nil, append_assoc, Bool, false, get_or, inl, inr, length, List, [], ◌∷◌, map, refl, subst, sym, take, true, ℕ}
+use Rattle.std.proofs.Common.{◌≡◌, ◌↔◌, ◌+◌, ◌++◌, ◌<◌, ◌≤◌, ◌∙◌, ap, append-nil, append_assoc, arith, Bool, false, get_or, inl, inr, length, List, [], ◌∷◌, map, refl, subst, sym, take, true, ℕ}
 use Rattle.std.proofs.lemmas.List.{map_more}
 use Rattle.std.specs.Arc.{arc_value}
 use Rattle.chem_core.specs.Molecule.{Molecule}
@@ -25,6 +25,13 @@ matched-append p [] ys hits more m n = subst (λ (l : List ℕ). AreMatched p ys
 matched-append p (x ∷ xs) ys hits more (inl m) n =
     inl (m.0, m.1 ++ more, ap (λ l. l ++ more) m.2, matched-append p xs ys m.1 more m.3 n)
 matched-append p (x ∷ xs) ys hits more (inr m) n = inr (m.0, matched-append p xs ys hits more m.1 n)
+
+-- no more are matched than there are
+pub matched_few : (p : PatternTerm) (records : List Found) (hits : List ℕ) → AreMatched p records hits
+    → length hits ≤ length records
+matched_few p [] hits m = omega (arith, ap length m)
+matched_few p (r ∷ rs) hits (inl m) = let k = matched_few p rs m.1 m.3 in omega (arith, k, ap length m.2)
+matched_few p (r ∷ rs) hits (inr m) = let k = matched_few p rs hits m.1 in omega (arith, k)
 
 -- one record more, which is matched
 pub put-on : OneStructure → (p : PatternTerm) (xs : List Found) (r : RecordTerm) (hits : List ℕ) (flag : Bool)
@@ -63,6 +70,30 @@ flag-of p piece flags i r flag less is all f =
     (flag-at p piece flags i r all less) in
     subst (λ b. (b ≡ true) ↔ Matches p (arc_value r).mol) (sym f) here
 
+pub hit-by : OneStructure
+    → (p : PatternTerm) (before : List Found) (piece : List Shared) (i : ℕ) (r : Shared) (flag : Bool) (id : ℕ)
+    (hits new : List ℕ)
+    → i < length piece → r ≡ get_or piece i r → ((flag ≡ true) ↔ Matches p (arc_value r).mol) → flag ≡ true
+    → IsRecord (arc_value r) → id ≡ (arc_value r).id
+    → new ≡ hits ++ id ∷ [] → AreMatched p (before ++ founds (take i piece)) hits
+    → AreMatched p (before ++ founds (take (i + 1) piece)) new
+hit-by one p before piece i r flag id hits new less is right set sound same e m =
+    let put : AreMatched p ((before ++ founds (take i piece)) ++ found_of (arc_value r) ∷ [])
+    (hits ++ (arc_value r).id ∷ []) =
+    put-on one p (before ++ founds (take i piece)) (arc_value r) hits flag sound right set m in
+    let here : AreMatched p (before ++ founds (take (i + 1) piece)) (hits ++ (arc_value r).id ∷ []) =
+    subst (λ l. AreMatched p l (hits ++ (arc_value r).id ∷ [])) (founds-more before piece i r less is) put in
+    subst (λ l. AreMatched p (before ++ founds (take (i + 1) piece)) l) (sym (e ∙ ap (λ n. hits ++ n ∷ []) same)) here
+
+pub no-hit-by : OneStructure
+    → (p : PatternTerm) (before : List Found) (piece : List Shared) (i : ℕ) (r : Shared) (flag : Bool) (hits : List ℕ)
+    → i < length piece → r ≡ get_or piece i r → ((flag ≡ true) ↔ Matches p (arc_value r).mol) → flag ≡ false
+    → IsRecord (arc_value r)
+    → AreMatched p (before ++ founds (take i piece)) hits → AreMatched p (before ++ founds (take (i + 1) piece)) hits
+no-hit-by one p before piece i r flag hits less is right unset sound m =
+    subst (λ l. AreMatched p l hits) (founds-more before piece i r less is)
+    (passed-by one p (before ++ founds (take i piece)) (arc_value r) hits flag sound right unset m)
+
 pub hit : OneStructure
     → (p : PatternTerm) (before : List Found) (piece : List Shared) (flags : List Bool) (i : ℕ) (r : Shared)
     (flag : Bool) (id : ℕ) (hits new : List ℕ)
@@ -71,13 +102,8 @@ pub hit : OneStructure
     → new ≡ hits ++ id ∷ [] → AreMatched p (before ++ founds (take i piece)) hits
     → AreMatched p (before ++ founds (take (i + 1) piece)) new
 hit one p before piece flags i r flag id hits new less is all f set sound same e m =
-    let put : AreMatched p ((before ++ founds (take i piece)) ++ found_of (arc_value r) ∷ [])
-    (hits ++ (arc_value r).id ∷ []) =
-    put-on one p (before ++ founds (take i piece)) (arc_value r) hits flag sound
-    (flag-of p piece flags i r flag less is all f) set m in
-    let here : AreMatched p (before ++ founds (take (i + 1) piece)) (hits ++ (arc_value r).id ∷ []) =
-    subst (λ l. AreMatched p l (hits ++ (arc_value r).id ∷ [])) (founds-more before piece i r less is) put in
-    subst (λ l. AreMatched p (before ++ founds (take (i + 1) piece)) l) (sym (e ∙ ap (λ n. hits ++ n ∷ []) same)) here
+    hit-by one p before piece i r flag id hits new less is (flag-of p piece flags i r flag less is all f) set sound same
+    e m
 
 pub no-hit : OneStructure
     → (p : PatternTerm) (before : List Found) (piece : List Shared) (flags : List Bool) (i : ℕ) (r : Shared)
@@ -86,6 +112,4 @@ pub no-hit : OneStructure
     → IsRecord (arc_value r)
     → AreMatched p (before ++ founds (take i piece)) hits → AreMatched p (before ++ founds (take (i + 1) piece)) hits
 no-hit one p before piece flags i r flag hits less is all f unset sound m =
-    subst (λ l. AreMatched p l hits) (founds-more before piece i r less is)
-    (passed-by one p (before ++ founds (take i piece)) (arc_value r) hits flag sound
-    (flag-of p piece flags i r flag less is all f) unset m)
+    no-hit-by one p before piece i r flag hits less is (flag-of p piece flags i r flag less is all f) unset sound m

@@ -1,47 +1,91 @@
--- Matching leaves the room as it was.
-use Rattle.std.proofs.Common.{◌≡◌, ◌<◌, ◌≤◌, ◌∙◌, All, ap, arith, get_or, length, List, map, subst, sym, vec_capacity, ℕ}
+-- Fetching and matching leave the room as it was.
+use Rattle.std.proofs.Common.{◌≡◌, ◌*◌, ◌<◌, ◌≤◌, ◌∙◌, All, ap, arith, get_or, length, List, [], ◌∷◌, map, set, subst, suc, sym, vec_capacity, zero, ℕ}
 use Rattle.std.proofs.lemmas.List.{get_or-map, length-map}
 use Rattle.std.specs.Int.{div_ceil}
+use Rattle.store_core.specs.Records.{PageTerm}
 use Rattle.par_search.specs.Flags.{WorkerTerm}
 use Rattle.par_search.specs.Rooms.{IsRoom, SameRoom}
 use Rattle.par_search.specs.declared.room.Room.{Room}
+use Rattle.par_search.specs.declared.worker.TheConstants.{MOST_RECORDS}
+use Rattle.par_search.proofs.Shares.{share-grows}
 
 abbrev pub rooms : List WorkerTerm → List ℕ
 rooms ws = map {B = ℕ} (λ w. w.room) ws
 
-same-length : (xs ys : List WorkerTerm) → rooms ys ≡ rooms xs → length ys ≡ length xs
-same-length xs ys e =
-    let room : WorkerTerm → ℕ = λ w. w.room in
-    sym (length-map ys room) ∙ ap (λ l. length l) e ∙ length-map xs room
+abbrev pub shares : List WorkerTerm → List ℕ
+shares ws = map {B = ℕ} (λ w. w.share) ws
 
-rooms-kept : (q : ℕ) (xs ys : List WorkerTerm) → rooms ys ≡ rooms xs → All (λ (w : WorkerTerm). q ≤ w.room) xs
-    → All (λ (w : WorkerTerm). q ≤ w.room) ys
-rooms-kept q xs ys e all i d less =
-    let room : WorkerTerm → ℕ = λ w. w.room in
-    let there : i < length xs = omega (arith, less, same-length xs ys e) in
-    let is : (get_or xs i d).room ≡ (get_or ys i d).room =
-    sym (get_or-map room xs i d 0 there) ∙ ap (λ l. get_or l i 0) (sym e) ∙ get_or-map room ys i d 0 less in
+abbrev pub page_rooms : List PageTerm → List ℕ
+page_rooms ps = map {B = ℕ} (λ p. p.room) ps
+
+same-length : {X : Type 0} (f : X → ℕ) (xs ys : List X) → map f ys ≡ map f xs → length ys ≡ length xs
+same-length f xs ys e = sym (length-map ys f) ∙ ap (λ l. length l) e ∙ length-map xs f
+
+pub kept : {X : Type 0} (f : X → ℕ) (q : ℕ) (xs ys : List X) → map f ys ≡ map f xs → All (λ x. q ≤ f x) xs
+    → All (λ x. q ≤ f x) ys
+kept f q xs ys e all i d less =
+    let there : i < length xs = omega (arith, less, same-length f xs ys e) in
+    let is : f (get_or xs i d) ≡ f (get_or ys i d) =
+    sym (get_or-map f xs i d 0 there) ∙ ap (λ l. get_or l i 0) (sym e) ∙ get_or-map f ys i d 0 less in
     subst (λ n. q ≤ n) is (all i d there)
 
+-- a page in the place of one with as much room
+pub rooms-set : (ps : List PageTerm) (i : ℕ) (p d : PageTerm) → i < length ps → p.room ≡ (get_or ps i d).room
+    → page_rooms (set ps i p) ≡ page_rooms ps
+rooms-set [] i p d less e = absurd (omega (arith, less))
+rooms-set (x ∷ xs) zero p d less e = ap (λ n. n ∷ page_rooms xs) e
+rooms-set (x ∷ xs) (suc i) p d less e = ap (λ l. x.room ∷ l) (rooms-set xs i p d (omega (arith, less)) e)
+
+-- room for pieces of a page is room for pieces of fewer records
+pub pieces-fit : (n size : ℕ) (ws vs : List WorkerTerm) → vs ≡ ws → 1 ≤ length ws → n ≤ size
+    → All (λ (w : WorkerTerm). div_ceil size (length ws) ≤ w.room) ws
+    → All (λ (w : WorkerTerm). div_ceil n (length vs) ≤ w.room) vs
+pieces-fit n size ws vs e some le all =
+    subst (λ (l : List WorkerTerm). All (λ (w : WorkerTerm). div_ceil n (length l) ≤ w.room) l) (sym e)
+    (λ i d less. let grows = share-grows n size (length ws) some le in omega (arith, grows, all i d less))
+
+-- room for shares of a full batch is room for shares of fewer records
+pub shares-fit : (n most : ℕ) (ws vs : List WorkerTerm) → vs ≡ ws → 1 ≤ length ws → n ≤ most
+    → All (λ (w : WorkerTerm). div_ceil most (length ws) ≤ w.share) ws
+    → All (λ (w : WorkerTerm). div_ceil n (length vs) ≤ w.share) vs
+shares-fit n most ws vs e some le all =
+    subst (λ (l : List WorkerTerm). All (λ (w : WorkerTerm). div_ceil n (length l) ≤ w.share) l) (sym e)
+    (λ i d less. let grows = share-grows n most (length ws) some le in omega (arith, grows, all i d less))
+
 pub kept-room : (old new : Room) → IsRoom old → new.size ≡ old.size → old.page.room ≡ new.page.room
+    → page_rooms new.batch.items ≡ page_rooms old.batch.items
     → vec_capacity new.hits ≡ vec_capacity old.hits
-    → rooms new.workers.items ≡ rooms old.workers.items → SameRoom old new
-kept-room old new h size page hits workers =
-    let n = same-length old.workers.items new.workers.items workers in
-    let all = rooms-kept
-    (div_ceil old.size (length old.workers.items)) old.workers.items new.workers.items workers h.workers in
+    → rooms new.workers.items ≡ rooms old.workers.items → shares new.workers.items ≡ shares old.workers.items
+    → SameRoom old new
+kept-room old new h size page batch hits workers share =
+    let n = same-length (λ (w : WorkerTerm). w.room) old.workers.items new.workers.items workers in
+    let m = same-length (λ (p : PageTerm). p.room) old.batch.items new.batch.items batch in
     record {
       size = size;
+      batch = m;
       room = record {
         some = omega (arith, h.some, size);
         few = omega (arith, h.few, size);
         some_workers = omega (arith, h.some_workers, n);
         few_workers = omega (arith, h.few_workers, n);
+        few_pages = omega (arith, h.few_pages, m);
         page = omega (arith, h.page, page, size);
+        batch = subst (λ s. All (λ (p : PageTerm). s ≤ p.room) new.batch.items) (sym size)
+            (kept (λ (p : PageTerm). p.room) old.size old.batch.items new.batch.items batch h.batch);
         hits = omega (arith, h.hits, hits, size);
+        batch_hits = subst (λ k. k * MOST_RECORDS ≤ vec_capacity new.hits) (sym m)
+            (subst (λ k. length old.batch.items * MOST_RECORDS ≤ k) (sym hits) h.batch_hits);
         workers =
             subst (λ k. All (λ (w : WorkerTerm). div_ceil new.size k ≤ w.room) new.workers.items) (sym n)
             (subst (λ s. All (λ (w : WorkerTerm). div_ceil s (length old.workers.items) ≤ w.room) new.workers.items)
-            (sym size) all);
+            (sym size) (kept (λ (w : WorkerTerm). w.room) (div_ceil old.size (length old.workers.items))
+            old.workers.items new.workers.items workers h.workers));
+        shares =
+            subst (λ k. All (λ (w : WorkerTerm). div_ceil (length new.batch.items * MOST_RECORDS) k ≤ w.share)
+            new.workers.items) (sym n)
+            (subst (λ b. All (λ (w : WorkerTerm). div_ceil (b * MOST_RECORDS) (length old.workers.items) ≤ w.share)
+            new.workers.items) (sym m) (kept (λ (w : WorkerTerm). w.share)
+            (div_ceil (length old.batch.items * MOST_RECORDS) (length old.workers.items))
+            old.workers.items new.workers.items share h.shares));
       };
     }

@@ -6,10 +6,12 @@ use Rattle.smarts_parse.specs.Embedding.{Matches}
 use Rattle.smarts_parse.specs.Pattern.{PatternTerm}
 use Rattle.store_core.specs.Records.{Shared}
 
--- its flags, and for how many there is room
+-- its flags, and for how many there is room; the hits of its share, and for how many there is room
 pub record WorkerTerm : Type 0 where
   pub flags : List Bool
   pub room : ℕ
+  pub hits : List ℕ
+  pub share : ℕ
 
 -- for each record, in order, whether the pattern matches it
 abbrev pub AreFlags : PatternTerm → List Shared → List Bool → Type 0
@@ -18,9 +20,9 @@ AreFlags pattern (r ∷ rs) [] = ⊥
 AreFlags pattern (r ∷ rs) (flag ∷ flags) =
     ((flag ≡ true) ↔ Matches pattern (arc_value r).mol) × AreFlags pattern rs flags
 
--- the records of a piece, where all are of this size but the last, and those behind it are empty
-abbrev pub piece_of : ℕ → ℕ → List Shared → List Shared
-piece_of size k records = take size (drop (k * size) records)
+-- what is in a piece, where all are of this size but the last, and those behind it are empty
+abbrev pub piece_of : {X : Type 0} → ℕ → ℕ → List X → List X
+piece_of size k items = take size (drop (k * size) items)
 
 -- each worker has the flags of its piece, where each takes an equal share of the records
 abbrev pub AreFlagged : PatternTerm → List Shared → List WorkerTerm → Type 0

@@ -1,6 +1,9 @@
+pub mod Batches
 pub mod Faults
+pub mod Fetches
 pub mod Flags
 pub mod Hits
 pub mod Moves
 pub mod Rooms
 pub mod Searches
+pub mod Shares

@@ -16,13 +16,15 @@ use Rattle.par_search.specs.declared.fault.SearchFault.TheVariants as fault
 use Rattle.par_search.specs.declared.room.PageHits.{PageHits}
 use Rattle.par_search.specs.declared.worker.TheConstants.{MOST_RECORDS}
 
--- what is searched for, what that needs of a print, the pin, the size of a page, and where the search is
+-- what is searched for, what that needs of a print, the pin, the size of a page, how many pages are searched together,
+-- and where the search is
 pub record SearchTerm : Type 0 where
   pub pattern : Pattern
   pub want : List Bool
   pub slot : ℕ
   pub version : ℕ
   pub size : ℕ
+  pub most : ℕ
   pub place : Place
 
 -- the pattern is sound, what is wanted is its need, and a page has 1 to 256 records

@@ -37,6 +37,7 @@ pub fn match_pieces<R: Threads + Sync, M: Meter>(
     requires sound { IsSoundPattern (pattern_of pattern.now) }
     ensures flags { AreFlagged (pattern_of pattern.now) records.now workers.new }
     ensures room { map {B = ℕ} (λ w. w.room) workers.new ≡ map {B = ℕ} (λ w. w.room) workers.old }
+    ensures share { map {B = ℕ} (λ w. w.share) workers.new ≡ map {B = ℕ} (λ w. w.share) workers.old }
 {
     let threads = workers.len();
     let size = records.len().div_ceil(threads);
@@ -51,6 +52,7 @@ pub fn match_pieces<R: Threads + Sync, M: Meter>(
             ensures flags { AreFlags (pattern_of pattern.entry.now) (piece_of size number records.entry.now)
                 worker.new.flags }
             ensures room { worker.new.room ≡ worker.old.room }
+            ensures share { worker.new.share ≡ worker.old.share }
         { match_piece(records, size, number, pattern, worker, meter) },
     );
 }
@@ -69,6 +71,7 @@ fn match_piece<M: Meter>(
     requires sound { IsSoundPattern (pattern_of pattern.now) }
     ensures flags { AreFlags (pattern_of pattern.now) (piece_of size number records.now) worker.new.flags }
     ensures room { worker.new.room ≡ worker.old.room }
+    ensures share { worker.new.share ≡ worker.old.share }
 {
     let piece = piece_at(records, size, number);
     if !piece.is_empty() {
@@ -77,17 +80,17 @@ fn match_piece<M: Meter>(
     worker.mark(piece, pattern);
 }
 
-// The records of one piece.
-fn piece_at(records: &[Arc<Record>], size: usize, number: usize) -> &[Arc<Record>]
-    ensures { result.now ≡ piece_of size number records.now }
+// What is in one piece.
+fn piece_at<T>(items: &[T], size: usize, number: usize) -> &[T]
+    ensures { result.now ≡ piece_of size number items.now }
 {
-    let start = number.saturating_mul(size).min(records.len());
-    let end = start + size.min(records.len() - start);
-    &records[start..end]
+    let start = number.saturating_mul(size).min(items.len());
+    let end = start + size.min(items.len() - start);
+    &items[start..end]
 }
 
 // The first piece of this size, and the records behind it.
-fn cut(records: &[Arc<Record>], size: usize) -> (&[Arc<Record>], &[Arc<Record>])
+pub(crate) fn cut(records: &[Arc<Record>], size: usize) -> (&[Arc<Record>], &[Arc<Record>])
     ensures piece { result.0.now ≡ take size records.now }
     ensures behind { result.1.now ≡ drop size records.now }
 {

@@ -1,5 +1,5 @@
-//! The memory of a search: a page, workers, and the hits of the page.
-ghost use Rattle.std.specs.Prelude.{◌≡◌, ◌≤◌, ◌<◌, [], All, IfOk, OnErr, length, true, vec_len};
+//! The memory of a search: a page, a batch of pages, workers, and the hits.
+ghost use Rattle.std.specs.Prelude.{◌≡◌, ◌≤◌, ◌<◌, [], All, IfOk, IfSome, OnErr, length, take, true, vec_len};
 ghost use Rattle.std.specs.Arc.{arc_value};
 ghost use Rattle.std.specs.Int.{div_ceil};
 ghost use Rattle.smarts_parse.specs.Pattern.{pattern_of};
@@ -11,13 +11,18 @@ ghost use Rattle.store_core.specs.Calls.{Calls, NotRaised, SameHeld, WornAs, is_
 ghost use Rattle.store_core.specs.Records.{Shared, founds};
 ghost use Rattle.store_core.specs.Replies.{fetch_calls};
 ghost use Rattle.par_search.specs.Rooms.{HasNothing, IsRoom, SameRoom};
+ghost use Rattle.par_search.specs.Searches.{place_of};
+ghost use Rattle.par_search.specs.Shares.{AreSmall, HasFetched, records_in};
+ghost use Rattle.par_search.specs.declared.batch.TheConstants.{MOST_PAGES};
 ghost use Rattle.par_search.specs.declared.pieces.TheConstants.{MOST_WORKERS};
 ghost use Rattle.par_search.specs.declared.worker.TheConstants.{MOST_RECORDS};
 
+use crate::batch::{BatchHits, Fetched, fetch_pages};
 use crate::calls::fetch;
+use crate::find::{find_in_shares, join_hits};
 use crate::meter::Meter;
 use crate::pieces::{list_hits, match_pieces};
-use crate::worker::Worker;
+use crate::worker::{MOST_RECORDS, Worker};
 use chem_core::Print;
 use smarts_parse::Pattern;
 use snap_registry::Pin;
@@ -36,30 +41,35 @@ pub struct PageHits<'a> {
     pub last: bool,
 }
 
-/// Room for pages of this many records, and for matching them.
+/// Room for a page of this many records, for a batch of pages that are searched together, and for matching them.
 #[derive(Drop)]
 pub struct Room {
     pub size: u32,
     pub page: Page,
+    pub batch: Vec<Page>,
     pub workers: Vec<Worker>,
     pub hits: Vec<u32>,
 }
 
 impl Room {
-    /// Takes the memory.
-    pub fn reserve(alloc: Global, workers: u32, size: u32) -> Result<Room, AllocError>
+    /// Takes the memory, for this many workers, and for batches of at most this many pages.
+    pub fn reserve(alloc: Global, workers: u32, size: u32, most: u32) -> Result<Room, AllocError>
         requires some_workers { 1 ≤ workers }
         requires few_workers { workers ≤ MOST_WORKERS }
         requires some { 1 ≤ size }
         requires few { size ≤ MOST_RECORDS }
+        requires few_pages { most ≤ MOST_PAGES }
         ensures room { IfOk result (λ room. IsRoom room) }
         ensures size { IfOk result (λ room. room.size ≡ size) }
+        ensures most { IfOk result (λ room. vec_len room.batch ≡ most) }
     {
+        let share = (most * MOST_RECORDS).div_ceil(workers) as usize;
         Ok(Room {
             size,
             page: Page::reserve(alloc, size)?,
-            workers: reserve_workers(alloc, workers, size.div_ceil(workers))?,
-            hits: Vec::with_capacity(alloc, size as usize)?,
+            batch: reserve_pages(alloc, most, size)?,
+            workers: reserve_workers(alloc, workers, size.div_ceil(workers), share)?,
+            hits: Vec::with_capacity(alloc, size.max(most * MOST_RECORDS) as usize)?,
         })
     }
 
@@ -99,6 +109,61 @@ impl Room {
         list_hits(self.page.records(), &self.workers, &mut self.hits);
     }
 
+    /// Fetches pages into the batch, one behind the other.
+    pub fn fetch_batch<S: Service>(
+        &mut self,
+        service: &mut S,
+        pin: &Pin,
+        want: &Print,
+        from: Option<u32>,
+    ) -> Fetched
+        requires held { S.holds service.old pin.now.slot pin.now.version }
+        requires room { IsRoom self.old }
+        requires from { IfSome from (λ n. n ≤ 1000000000) }
+        ensures fetched { HasFetched S.Service service.old service.new pin.now.slot self.old.size want.now
+            (place_of from) self.new.batch.items result }
+        ensures room { SameRoom self.old self.new }
+    {
+        fetch_pages(service, pin, want, self.size, from, &mut self.batch)
+    }
+
+    /// Matches the records of the pages of the batch that were fetched.
+    pub fn match_batch<R: Threads + Sync, M: Meter>(
+        &mut self,
+        rt: &R,
+        fetched: &Fetched,
+        pattern: &Pattern,
+        meter: &M,
+    )
+        requires room { IsRoom self.old }
+        requires within { fetched.now.count ≤ vec_len self.old.batch }
+        requires small { AreSmall (take fetched.now.count self.old.batch.items) }
+        requires tried { fetched.now.tried ≡ length (records_in (take fetched.now.count self.old.batch.items)) }
+        requires sound { IsSoundPattern (pattern_of pattern.now) }
+        ensures matched { AreMatched (pattern_of pattern.now)
+            (founds (records_in (take fetched.now.count self.old.batch.items))) self.new.hits.items }
+        ensures room { SameRoom self.old self.new }
+    {
+        let pages = &self.batch[..fetched.count];
+        find_in_shares(rt, pages, fetched.tried, pattern, &mut self.workers, meter);
+        join_hits(&self.workers, &mut self.hits);
+    }
+
+    /// What was found in the pages that were fetched.
+    pub fn found(&self, fetched: Fetched) -> BatchHits<'_>
+        ensures hits { result.hits.now ≡ self.now.hits.items }
+        ensures tried { result.tried ≡ fetched.tried }
+        ensures from { result.from ≡ fetched.from }
+        ensures fault { result.fault ≡ fetched.fault }
+    {
+        BatchHits {
+            hits: &self.hits,
+            tried: fetched.tried,
+            from: fetched.from,
+            fault: fetched.fault,
+        }
+    }
+
     /// The page and its hits.
     pub fn shown(&self, last: bool) -> PageHits<'_>
         requires room { IsRoom self.now }
@@ -130,16 +195,36 @@ impl Room {
     }
 }
 
-// So many workers, each for pieces of this size.
-fn reserve_workers(alloc: Global, number: u32, piece: u32) -> Result<Vec<Worker>, AllocError>
+// So many workers, each for pieces and for shares of these sizes.
+fn reserve_workers(
+    alloc: Global,
+    number: u32,
+    piece: u32,
+    share: usize,
+) -> Result<Vec<Worker>, AllocError>
     requires some { 1 ≤ piece }
     requires few { piece ≤ MOST_RECORDS }
     ensures number { IfOk result (λ workers. vec_len workers ≡ number) }
     ensures room { IfOk result (λ workers. All (λ w. piece ≤ w.room) workers.items) }
+    ensures share { IfOk result (λ workers. All (λ w. share ≤ w.share) workers.items) }
 {
     let mut workers = Vec::with_capacity(alloc, number as usize)?;
     for _place in 0..number {
-        workers.push(Worker::reserve(alloc, piece)?)?;
+        workers.push(Worker::reserve_for(alloc, piece, share)?)?;
     }
     Ok(workers)
+}
+
+// So many pages of this size.
+fn reserve_pages(alloc: Global, number: u32, size: u32) -> Result<Vec<Page>, AllocError>
+    requires some { 1 ≤ size }
+    requires few { size ≤ MOST_RECORDS }
+    ensures number { IfOk result (λ pages. vec_len pages ≡ number) }
+    ensures room { IfOk result (λ pages. All (λ p. size ≤ p.room) pages.items) }
+{
+    let mut pages = Vec::with_capacity(alloc, number as usize)?;
+    for _place in 0..number {
+        pages.push(Page::reserve(alloc, size)?)?;
+    }
+    Ok(pages)
 }

@@ -10,12 +10,15 @@ ghost use Rattle.store_machine.specs.Searches.{End};
 ghost use Rattle.store_machine.specs.declared.machine.State.{State};
 ghost use Rattle.store_core.specs.Calls.{Calls, NotRaised, SameHeld, WornAs};
 ghost use Rattle.store_core.specs.Records.{Shared, founds};
+ghost use Rattle.par_search.specs.Batches.{IsBatch, MovesBehind};
 ghost use Rattle.par_search.specs.Searches.{HasBegun, IsBegun, IsReturned, IsSearch, close_calls, is_worn, next_calls, place_after, place_of, start_calls};
 ghost use Rattle.par_search.specs.Moves.{IsEnded, Moves};
+ghost use Rattle.par_search.specs.declared.batch.TheConstants.{MOST_PAGES};
 ghost use Rattle.par_search.specs.declared.fault.SearchFault.TheVariants.{NoMemory, Pins, Worn};
 ghost use Rattle.par_search.specs.declared.pieces.TheConstants.{MOST_WORKERS};
 ghost use Rattle.par_search.specs.declared.worker.TheConstants.{MOST_RECORDS};
 
+use crate::batch::BatchHits;
 use crate::fault::SearchFault;
 use crate::meter::Meter;
 use crate::room::{PageHits, Room};
@@ -30,7 +33,8 @@ use std::thread::Threads;
 use store_core::{CallFault, Record, Service};
 
 /// A search by the pages of one pin. Contracts see its pattern, what the pattern needs of a print, its pin, the size of
-/// its pages, and where it is: at the identifier from which it fetches next, or at its end.
+/// its pages, how many of them it searches together, and where it is: at the identifier from which it fetches next, or
+/// at its end.
 #[derive(Drop)]
 pub struct Search {
     pattern: Pattern,
@@ -41,7 +45,7 @@ pub struct Search {
 }
 
 impl Model for Search {
-    ghost use Rattle.std.specs.Prelude.{IfSome, ◌≤◌};
+    ghost use Rattle.std.specs.Prelude.{IfSome, vec_len, ◌≤◌};
     ghost use Rattle.std.specs.Coded.{codes};
     ghost use Rattle.smarts_parse.specs.contracts.pattern.Pattern as pattern_contract;
     ghost use Rattle.par_search.specs.Rooms.{IsRoom};
@@ -57,6 +61,7 @@ impl Model for Search {
       slot = s.pin.slot;
       version = s.pin.version;
       size = s.room.size;
+      most = vec_len s.room.batch;
       place = place_of s.from;
     } };
 
@@ -66,14 +71,15 @@ impl Model for Search {
       slot = s.pin.slot;
       version = s.pin.version;
       size = s.room.size;
+      most = vec_len s.room.batch;
       place = place_of s.from;
     })
         × IsRoom s.room × IfSome s.from (λ from. from ≤ 1000000000) };
 }
 
 impl Search {
-    /// Takes all memory, for this many workers, 1 to 16, and for pages of this many records, 1 to 256. Then pins the
-    /// head.
+    /// Takes all memory, for this many workers, 1 to 16, and for pages of this many records, 1 to 256, one at a time.
+    /// Then pins the head.
     pub fn start<S: Service>(
         alloc: Global,
         service: &mut S,
@@ -89,6 +95,36 @@ impl Search {
         ensures call { (s : State) → S.at service.old s
             → Calls S.stretch (S.owns service.old) service.old service.new s (start_calls result) }
         ensures begun { IfOk result (λ search. HasBegun pattern page search) }
+        ensures most { IfOk result (λ search. search.most ≡ 0) }
+        ensures memory { result ≡ Err NoMemory → service.new ≡ service.old }
+        ensures worn { result ≢ Err NoMemory → WornAs (S.worn service.old) (S.worn service.new) (is_worn result) }
+        ensures held { (slot version : ℕ)
+            → S.holds service.new slot version ↔ (S.holds service.old slot version ⊎ IsBegun result slot version) }
+        ensures apart { (slot version other : ℕ) → IsBegun result slot version → S.holds service.old slot other → ⊥ }
+        ensures bounds { NotRaised (S.bounds service.old) (S.bounds service.new) }
+    {
+        Search::start_batched(alloc, service, pattern, workers, page, 0)
+    }
+
+    /// The same, for batches of at most this many pages as well, 0 to 16.
+    pub fn start_batched<S: Service>(
+        alloc: Global,
+        service: &mut S,
+        pattern: Pattern,
+        workers: u32,
+        page: u32,
+        most: u32,
+    ) -> Result<Search, SearchFault>
+        requires sound { IsSoundPattern (pattern_of pattern) }
+        requires some_workers { 1 ≤ workers }
+        requires few_workers { workers ≤ MOST_WORKERS }
+        requires some { 1 ≤ page }
+        requires few { page ≤ MOST_RECORDS }
+        requires few_pages { most ≤ MOST_PAGES }
+        ensures call { (s : State) → S.at service.old s
+            → Calls S.stretch (S.owns service.old) service.old service.new s (start_calls result) }
+        ensures begun { IfOk result (λ search. HasBegun pattern page search) }
+        ensures most { IfOk result (λ search. search.most ≡ most) }
         ensures memory { result ≡ Err NoMemory → service.new ≡ service.old }
         ensures worn { result ≢ Err NoMemory → WornAs (S.worn service.old) (S.worn service.new) (is_worn result) }
         ensures held { (slot version : ℕ)
@@ -97,7 +133,7 @@ impl Search {
         ensures bounds { NotRaised (S.bounds service.old) (S.bounds service.new) }
     {
         let want = need(&pattern);
-        let room = Room::reserve(alloc, workers, page)?;
+        let room = Room::reserve(alloc, workers, page, most)?;
         match service.pin() {
             Ok(Some(pin)) => Ok(Search {
                 pattern,
@@ -142,6 +178,29 @@ impl Search {
         Ok(self.room.shown(last))
     }
 
+    /// The next pages, as many as are searched together, and their hits: fetches one behind the other, then matching.
+    /// Behind the last page no call is made. After a fault what was fetched before it is searched all the same, and the
+    /// search goes on from there.
+    pub fn next_pages<R: Threads + Sync, S: Service, M: Meter>(
+        &mut self,
+        rt: &R,
+        service: &mut S,
+        meter: &M,
+    ) -> BatchHits<'_>
+        requires held { S.holds service.old self.old.slot self.old.version }
+        ensures batch { IsBatch S.Service service.old service.new self.old result }
+        ensures* moves { sem 𝓛 (MovesBehind self.entry result) }
+        ensures held { SameHeld (S.holds service.old) (S.holds service.new) }
+        ensures bounds { NotRaised (S.bounds service.old) (S.bounds service.new) }
+    {
+        let fetched = self
+            .room
+            .fetch_batch(service, &self.pin, &self.want, self.from);
+        self.room.match_batch(rt, &fetched, &self.pattern, meter);
+        self.from = fetched.from;
+        self.room.found(fetched)
+    }
+
     /// The version that is searched.
     pub fn version(&self) -> u32
         ensures version { result ≡ self.now.version }
@@ -171,7 +230,7 @@ impl Search {
 }
 
 // Where a search goes on after a page that was fetched from an identifier on.
-fn next_from(last: bool, from: u32, records: &[Arc<Record>]) -> Option<u32>
+pub(crate) fn next_from(last: bool, from: u32, records: &[Arc<Record>]) -> Option<u32>
     requires in_range { All (λ (r : Shared). IsId (arc_value r).id) records.now }
     requires from { from ≤ 1000000000 }
     ensures place { place_of result ≡ place_after from (founds records.now) last }

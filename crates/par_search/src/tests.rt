@@ -6,7 +6,7 @@ use crate::{Meter, NoMeter, Search};
 use matcher::{Scratch, first};
 use mol_finish::Format;
 use smarts_parse::parse;
-use std::alloc::Global;
+use std::alloc::{AllocError, Global};
 use std::sync::atomic::{AtomicU32, Ordering};
 use std::test::Fail;
 use std::thread;
@@ -62,6 +62,82 @@ fn three_records_come_by_pages_of_two(rt: HostRuntime) -> Result<(), Fail> {
     assert!(rt; is_next(&rt, &mut store, &mut search, &NoMeter, &[3], 1, true));
     assert!(rt; is_next(&rt, &mut store, &mut search, &NoMeter, &[], 0, true));
     assert!(rt; search.close(&mut store).is_ok());
+    Ok(())
+}
+
+// Appends the hits of the next pages. Answers from where the search goes on, and how many records were tried.
+fn add_next<R: Threads + Sync>(
+    rt: &R,
+    store: &mut Store,
+    search: &mut Search,
+    all: &mut Vec<u32>,
+) -> Result<(Option<u32>, u32), AllocError>
+    requires { HoldsPin store.old search.old.slot search.old.version }
+    ensures { HoldsPin store.new search.new.slot search.new.version }
+{
+    let batch = search.next_pages(rt, store, &NoMeter);
+    if batch.fault.is_some() {
+        return Err(AllocError);
+    }
+    all.extend_from_slice(batch.hits)?;
+    Ok((batch.from, batch.tried))
+}
+
+// Of forty alkanes each third is hexane. Pages of one record are searched by sixteen, and pages of 256 are one.
+#[test]
+fn batches_have_the_hits_of_their_pages(rt: HostRuntime) -> Result<(), Fail> {
+    let alloc = rt.alloc();
+    let mut store = Store::fresh(alloc, 100);
+    let mut want = Vec::new(alloc);
+    for id in 1..41_u32 {
+        let text: &[u8] = if id % 3 == 0 { b"CCCCCC" } else { b"CCCCC" };
+        assert!(rt; register(alloc, &mut store, id, text));
+        if id % 3 == 0 {
+            want.push(id)?;
+        }
+    }
+    let rows: [(u32, u32, &[(Option<u32>, u32)]); 6] = [
+        (
+            1,
+            1,
+            &[(Some(17), 16), (Some(33), 16), (None, 8), (None, 0)],
+        ),
+        (
+            4,
+            1,
+            &[(Some(17), 16), (Some(33), 16), (None, 8), (None, 0)],
+        ),
+        (
+            16,
+            1,
+            &[(Some(17), 16), (Some(33), 16), (None, 8), (None, 0)],
+        ),
+        (3, 2, &[(Some(33), 32), (None, 8), (None, 0)]),
+        (1, 256, &[(None, 40), (None, 0)]),
+        (4, 256, &[(None, 40), (None, 0)]),
+    ];
+    for (workers, page, steps) in rows {
+        let Ok(pattern) = parse(alloc, b"CCCCCC") else {
+            assert!(rt; false);
+            return Ok(());
+        };
+        let Ok(mut search) = Search::start_batched(alloc, &mut store, pattern, workers, page, 16)
+        else {
+            assert!(rt; false);
+            return Ok(());
+        };
+        let mut all = Vec::new(alloc);
+        for step in steps {
+            let told = add_next(&rt, &mut store, &mut search, &mut all)?;
+            assert_eq!(rt; told, *step, "{workers} workers, pages of {page}");
+        }
+        assert_eq!(rt;
+            all.as_slice(),
+            want.as_slice(),
+            "{workers} workers, pages of {page}"
+        );
+        assert!(rt; search.close(&mut store).is_ok());
+    }
     Ok(())
 }
 

@@ -1,25 +1,35 @@
-//! A worker: memory for matching, and for each record of its piece whether the pattern matches it.
-ghost use Rattle.std.specs.Prelude.{◌≡◌, ◌≤◌, [], IfOk, length};
+//! A worker: memory for matching, and for each record of its piece whether the pattern matches it, or the hits of its
+//! share of some pages' records.
+ghost use Rattle.std.specs.Prelude.{◌≡◌, ◌≤◌, ◌+◌, ◌++◌, [], IfOk, List, drop, length, take, vec_capacity};
+ghost use Rattle.matcher.specs.Prepared.{IsPreparedFor};
 ghost use Rattle.smarts_parse.specs.Pattern.{pattern_of};
 ghost use Rattle.smarts_parse.specs.Sound.{IsSoundPattern};
+ghost use Rattle.store_core.specs.Records.{founds};
+ghost use Rattle.store_machine.specs.Answers.{AreMatched};
+ghost use Rattle.store_machine.specs.declared.machine.Found.{Found};
 ghost use Rattle.par_search.specs.Flags.{AreFlags};
+ghost use Rattle.par_search.specs.Shares.{records_in};
 ghost use Rattle.par_search.specs.declared.worker.TheConstants.{MOST_RECORDS};
 
+use crate::pieces::cut;
 use matcher::Scratch;
+use mol_finish::one_structure;
 use smarts_parse::Pattern;
 use std::alloc::{AllocError, Global};
 use std::marker::Model;
 use std::sync::Arc;
-use store_core::Record;
+use store_core::{Page, Record};
 
 /// The most records of a page.
 pub const MOST_RECORDS: u32 = 256;
 
-/// Memory for matching the records of one piece. Contracts see its flags, and for how many there is room.
+/// Memory for matching the records of one piece, or of one share. Contracts see its flags and its hits, and for
+/// how many of each there is room.
 #[derive(Drop)]
 pub struct Worker {
     scratch: Scratch,
     flags: Vec<bool>,
+    hits: Vec<u32>,
 }
 
 impl Model for Worker {
@@ -28,7 +38,12 @@ impl Model for Worker {
 
     ghost Value = { WorkerTerm };
 
-    ghost view = { λ w. record { flags = w.flags.items; room = vec_capacity w.flags } };
+    ghost view = { λ w. record {
+      flags = w.flags.items;
+      room = vec_capacity w.flags;
+      hits = w.hits.items;
+      share = vec_capacity w.hits;
+    } };
 }
 
 impl Worker {
@@ -39,9 +54,25 @@ impl Worker {
         ensures empty { IfOk result (λ worker. worker.flags ≡ []) }
         ensures room { IfOk result (λ worker. piece ≤ worker.room) }
     {
+        Worker::reserve_for(alloc, piece, 0)
+    }
+
+    // One for shares of so many records as well.
+    pub(crate) fn reserve_for(alloc: Global, piece: u32, share: usize) -> Result<Worker, AllocError>
+        requires some { 1 ≤ piece }
+        requires few { piece ≤ MOST_RECORDS }
+        ensures empty { IfOk result (λ worker. worker.flags ≡ []) }
+        ensures room { IfOk result (λ worker. piece ≤ worker.room) }
+        ensures share { IfOk result (λ worker. share ≤ worker.share) }
+    {
         let scratch = Scratch::reserve(alloc)?;
         let flags = Vec::with_capacity(alloc, piece as usize)?;
-        Ok(Worker { scratch, flags })
+        let hits = Vec::with_capacity(alloc, share)?;
+        Ok(Worker {
+            scratch,
+            flags,
+            hits,
+        })
     }
 
     /// For each record of its last piece, in order, whether the pattern matches it.
@@ -51,18 +82,68 @@ impl Worker {
         self.flags.as_slice()
     }
 
+    // The identifiers of the records of its last share that the pattern matches, in order.
+    pub(crate) fn hits(&self) -> &[u32]
+        ensures { result.now ≡ self.now.hits }
+    {
+        self.hits.as_slice()
+    }
+
     // Matches the records of a piece. Takes no memory.
     pub(crate) fn mark(&mut self, piece: &[Arc<Record>], pattern: &Pattern)
         requires sound { IsSoundPattern (pattern_of pattern.now) }
         requires room { length piece.now ≤ self.old.room }
         ensures flags { AreFlags (pattern_of pattern.now) piece.now self.new.flags }
         ensures room { self.new.room ≡ self.old.room }
+        ensures share { self.new.share ≡ self.old.share }
     {
         self.scratch.prepare(pattern);
         self.flags.clear();
         for record in piece {
             let flag = self.scratch.has(pattern, record.mol());
             self.flags.push_reserved(flag);
+        }
+    }
+
+    // Finds the hits of a share: of so many records of these pages, from this one on. Takes no memory.
+    pub(crate) fn find(&mut self, pages: &[Page], start: usize, count: usize, pattern: &Pattern)
+        requires sound { IsSoundPattern (pattern_of pattern.now) }
+        requires room { count ≤ self.old.share }
+        ensures found { AreMatched (pattern_of pattern.now) (founds (take count (drop start (records_in pages.now))))
+            self.new.hits }
+        ensures room { self.new.room ≡ self.old.room }
+        ensures share { self.new.share ≡ self.old.share }
+    {
+        self.scratch.prepare(pattern);
+        self.hits.clear();
+        let mut skip = start;
+        let mut left = count;
+        for page in pages {
+            let (passed, behind) = cut(page.records(), skip);
+            let (part, _) = cut(behind, left);
+            skip -= passed.len();
+            left -= part.len();
+            find_in(&mut self.scratch, part, pattern, &mut self.hits);
+        }
+    }
+}
+
+// Adds the identifiers of those records that the pattern matches.
+fn find_in(scratch: &mut Scratch, records: &[Arc<Record>], pattern: &Pattern, hits: &mut Vec<u32>)
+    requires sound { IsSoundPattern (pattern_of pattern.now) }
+    requires prepared { IsPreparedFor (pattern_of pattern.now) scratch.old }
+    requires room { length hits.old.items + length records.now ≤ vec_capacity hits.old }
+    ensures prepared { IsPreparedFor (pattern_of pattern.now) scratch.new }
+    ensures matched { (before : List Found) → AreMatched (pattern_of pattern.now) before hits.old.items
+        → AreMatched (pattern_of pattern.now) (before ++ founds records.now) hits.new.items }
+    ensures few { length hits.new.items ≤ length hits.old.items + length records.now }
+    ensures capacity { vec_capacity hits.new ≡ vec_capacity hits.old }
+{
+    one_structure();
+    for record in records {
+        let id = record.id();
+        if scratch.has(pattern, record.mol()) {
+            hits.push_reserved(id);
         }
     }
 }

@@ -1,3 +1,4 @@
+pub mod Batches
 pub mod Joined
 pub mod Held
 pub mod Continued

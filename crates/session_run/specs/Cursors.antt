@@ -1,6 +1,6 @@
 -- For callers: the calls of a session, and the cursors that are open in it.
 use Rattle.std.specs.Prelude.{◌≡◌, ◌≢◌, ℕ, Bool, List, ◌∷◌, ◌++◌, length, map, All}
-use Rattle.lookup.specs.Fetches.{AreFetches}
+use Rattle.par_search.specs.Fetches.{AreFetches}
 use Rattle.smarts_parse.specs.Pattern.{PatternTerm}
 use Rattle.store_core.specs.Calls as core
 use Rattle.store_machine.specs.Answers.{AreMatched}

@@ -1,5 +1,6 @@
 -- For private clauses alone: a search with its counts, and how it goes on by a page whose hits are written.
-use Rattle.std.specs.Prelude.{◌≡◌, ◌⊎◌, ◌<◌, ℕ, ◌+◌, Bool, true, false, List, [], ◌∷◌, ◌++◌, get_or, length, map, Result, Ok, Err}
+use Rattle.std.specs.Prelude.{◌≡◌, ◌⊎◌, ◌<◌, ℕ, ◌+◌, Bool, true, false, List, [], ◌∷◌, ◌++◌, get_or, length, map, Option, None, Some, Result, Ok, Err}
+use Rattle.par_search.specs.Fetches.{AreFetches, ArePages}
 use Rattle.par_search.specs.Searches.{SearchTerm, place_after}
 use Rattle.par_search.specs.declared.fault.SearchFault.{SearchFault}
 use Rattle.par_search.specs.declared.fault.SearchFault.TheVariants as faults
@@ -7,7 +8,7 @@ use Rattle.shell_lang.specs.Reply as line
 use Rattle.shell_lang.specs.Reply.{reply_line, text_of}
 use Rattle.smarts_parse.specs.Pattern.{pattern_of}
 use Rattle.store_machine.specs.Answers.{AreMatched}
-use Rattle.store_machine.specs.Searches.{At, End}
+use Rattle.store_machine.specs.Searches.{At, End, fetched, records_of}
 use Rattle.store_machine.specs.declared.machine.Event.TheVariants as events
 use Rattle.store_machine.specs.declared.machine.Found.{Found}
 use Rattle.store_machine.specs.declared.machine.Reply.TheVariants as replies
@@ -15,6 +16,8 @@ use Rattle.session_run.specs.Acts.{Advances, Lines, page_end}
 use Rattle.session_run.specs.Cursors.{Calls, Cursor, IsSearched}
 use Rattle.session_run.specs.Made.{Tells}
 use Rattle.session_run.specs.declared.cursors.Cursor as rust
+use Rattle.session_run.specs.declared.listing.Progress.{Progress}
+use Rattle.session_run.specs.declared.listing.Progress.TheVariants as goes
 use Rattle.session_run.specs.declared.listing.Shown.{Shown}
 use Rattle.session_run.specs.declared.listing.Walk.{Walk}
 use Rattle.session_run.specs.declared.stop.Stop.{Stop}
@@ -76,6 +79,47 @@ abbrev pub Counts : Walk → Walk → Result Shown SearchFault → Type 0
 Counts old new (Ok shown) = (new.tried ≡ old.tried + shown.tried) × (new.hits ≡ old.hits + shown.hits)
 Counts old new (Err fault) = (new.tried ≡ old.tried) × (new.hits ≡ old.hits)
 
+-- pages from one place of a search to another, by these calls. All their hits were written, or some, and then the last
+-- fetch may have found no memory
+pub record Stretch (Made : Calls → Type 0) (old new : SearchTerm) (tried count : ℕ) (out : List ℕ) (whole : Bool)
+    (out' : List ℕ) : Type 0 where
+  pub pages : Calls
+  pub hits : List ℕ
+  pub made : Made pages
+  pub fetches : AreFetches old.slot old.size old.want old.place pages new.place
+  pub count_is : tried ≡ length (records_of (fetched old.slot pages))
+  pub matched : AreMatched (pattern_of old.pattern) (records_of (fetched old.slot pages)) hits
+  pub moved : new ≡ record old { place = new.place }
+  pub length_is : count ≡ length hits
+  pub written : AreWritten whole hits out out'
+  pub answered : whole ≡ true → ArePages pages
+
+-- a batch of pages, by how the search goes on
+abbrev pub GoesOn : (Calls → Type 0) → Type 0 → SearchTerm → SearchTerm → ℕ → ℕ → List ℕ → List ℕ → Progress → Type 0
+GoesOn Made IsWorn old new tried count out out' goes.More = Stretch Made old new tried count out true out'
+GoesOn Made IsWorn old new tried count out out' goes.Ended =
+    Stretch Made old new tried count out true out' × (new.place ≡ End)
+GoesOn Made IsWorn old new tried count out out' goes.Short = Stretch Made old new tried count out false out'
+GoesOn Made IsWorn old new tried count out out' goes.Worn = Stretch Made old new tried count out false out' × IsWorn
+
+-- which is counted
+pub record Goes (Made : Calls → Type 0) (IsWorn : Type 0) (old new : Walk) (out out' : List ℕ) (progress : Progress)
+    : Type 0 where
+  pub tried : ℕ
+  pub count : ℕ
+  pub goes : GoesOn Made IsWorn old.search new.search tried count out out' progress
+  pub tried_is : new.tried ≡ old.tried + tried
+  pub hits_is : new.hits ≡ old.hits + count
+
+-- by the fault of the last fetch, whether all hits were written, and from where the next page is fetched
+abbrev pub progress_by : Option SearchFault → Bool → Option ℕ → Progress
+progress_by (Some faults.Worn) whole from = goes.Worn
+progress_by (Some faults.NoMemory) whole from = goes.Short
+progress_by (Some faults.Pins) whole from = goes.Short
+progress_by None false from = goes.Short
+progress_by None true (Some n) = goes.More
+progress_by None true None = goes.Ended
+
 -- the search as contracts of cursors see it
 abbrev pub cursor_of : rust.Cursor → Cursor
 cursor_of c = record {
@@ -115,11 +159,6 @@ EndsPage c (Ok shown) out out' (Err stops.Worn) = ⊥
 EndsPage c (Err faults.NoMemory) out out' result = Tells line.MemoryFault out out' result
 EndsPage c (Err faults.Pins) out out' result = Tells line.MemoryFault out out' result
 EndsPage c (Err faults.Worn) out out' result = result ≡ Err stops.Worn
-
--- all of these calls were answered by pages
-abbrev pub ArePages : Calls → Type 0
-ArePages [] = Unit {0}
-ArePages (c ∷ cs) = (records : List Found) × (last : Bool) × (c.1 ≡ replies.Page records last) × ArePages cs
 
 -- pages from the beginning on, by these calls. All their hits were written, or some, and then the last fetch may have
 -- found no memory

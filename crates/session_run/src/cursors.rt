@@ -21,7 +21,7 @@ use crate::settings::Settings;
 use crate::stop::Stop;
 use crate::texts::read_pattern;
 use indexmap::IndexMap;
-use par_search::{Meter, SearchFault};
+use par_search::{MOST_PAGES, Meter, SearchFault};
 use shell_lang::{Refusal, Reply, reply_text};
 use std::alloc::{AllocError, Global};
 use std::thread::Threads;
@@ -34,7 +34,8 @@ pub struct Cursor {
     pub walk: Walk,
 }
 
-/// The searches of the open cursors by name, in order of opening, and how a search is done.
+/// The searches of the open cursors by name, in order of opening, and how a search is done. A cursor has room for one
+/// page at a time; a search that is listed at once fetches its pages in batches.
 #[derive(Drop)]
 pub struct Cursors {
     pub alloc: Global,
@@ -72,7 +73,7 @@ impl Cursors {
             Ok(pattern) => pattern,
             Err(fault) => return say(&refuse_pattern(fault), out),
         };
-        match begin(self.alloc, service, &self.settings, pattern) {
+        match begin(self.alloc, service, &self.settings, pattern, MOST_PAGES) {
             Ok(walk) => list(rt, service, meter, walk, out),
             Err(fault) => say_given(fault_line(fault), out),
         }
@@ -103,7 +104,7 @@ impl Cursors {
         let Ok(own_name) = self.room_for(name) else {
             return say(&Reply::MemoryFault, out);
         };
-        match begin(self.alloc, service, &self.settings, pattern) {
+        match begin(self.alloc, service, &self.settings, pattern, 0) {
             Ok(walk) => self.add(own_name, walk, out),
             Err(fault) => say_given(fault_line(fault), out),
         }

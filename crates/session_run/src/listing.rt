@@ -1,10 +1,10 @@
 //! The pages of a search, listed: their hits as reply lines, and counts of what was tried and listed.
-ghost use Rattle.std.specs.Prelude.{◌≡◌, ◌++◌, ◌||◌, IfSome, OnErr, OnOk, map, not};
+ghost use Rattle.std.specs.Prelude.{◌≡◌, ◌++◌, IfSome, OnErr, OnOk, map};
 ghost use Rattle.shell_lang.specs.Reply as line;
 ghost use Rattle.shell_lang.specs.Reply.{reply_of, text_of};
 ghost use Rattle.session_run.specs.Made.{Uses};
 ghost use Rattle.session_run.specs.Searched.{IsNew};
-ghost use Rattle.session_run.specs.Walks.{ArePartlyWritten, Counts, Listed, Pages};
+ghost use Rattle.session_run.specs.Walks.{ArePartlyWritten, Counts, Goes, GoesOn, Listed, Pages, progress_by};
 
 use crate::stop::Stop;
 use par_search::{Meter, Search, SearchFault};
@@ -15,6 +15,9 @@ use store_core::{MOST_COMMITS, Service};
 
 /// Room for the lines of a page, 14 bytes each and 256 at most, and for some lines more.
 pub const ROOM: usize = 4_096;
+
+/// Room for the lines of a batch of pages, and for some lines more.
+pub const BATCH_ROOM: usize = 16 * ROOM;
 
 // No store has so many identifiers.
 const MOST_TRIED: u64 = 4_294_967_296;
@@ -37,13 +40,25 @@ pub struct Shown {
     pub whole: bool,
 }
 
-impl Shown {
-    // Whether nothing is to be listed behind it.
-    fn ends(&self) -> bool
-        ensures { result ≡ self.now.last || not self.now.whole }
-    {
-        self.last || !self.whole
-    }
+/// How a search goes on behind a batch of pages.
+#[derive(Clone, Copy, Debug, PartialEq, Eq)]
+pub enum Progress {
+    /// All hits were written, and pages follow.
+    More,
+    /// All hits were written, and no page follows.
+    Ended,
+    /// A fetch found no memory, or there was no room for all hits.
+    Short,
+    /// The service is worn.
+    Worn,
+}
+
+/// What a batch of pages gave: how many identifiers were tried and how many are hits, and how the search goes on.
+#[derive(Clone, Copy, Debug, PartialEq, Eq)]
+pub struct ShownBatch {
+    pub tried: u32,
+    pub hits: u32,
+    pub progress: Progress,
 }
 
 impl Walk {
@@ -71,7 +86,7 @@ impl Walk {
         Ok(shown)
     }
 
-    /// Lists all pages. It answers whether all hits were written.
+    /// Lists all pages, batch by batch. It answers whether all hits were written.
     pub fn list_all<R: Threads + Sync, S: Service, M: Meter>(
         &mut self,
         rt: &R,
@@ -85,18 +100,39 @@ impl Walk {
             self.old self.new out.old.items out.new.items result }
     {
         for _ in 0..MOST_COMMITS {
-            match self.page(rt, service, meter, out) {
-                Ok(shown) => {
-                    if shown.ends() {
-                        return Ok(shown.whole);
-                    }
-                }
-                Err(SearchFault::Worn) => return Err(Stop::Worn),
-                Err(SearchFault::NoMemory) => return Ok(false),
-                Err(SearchFault::Pins) => return Ok(false),
+            match self.batch(rt, service, meter, out) {
+                Progress::More => {}
+                Progress::Ended => return Ok(true),
+                Progress::Short => return Ok(false),
+                Progress::Worn => return Err(Stop::Worn),
             }
         }
         Ok(false)
+    }
+
+    // Fetches a batch of pages and writes their hits. The room is taken first.
+    fn batch<R: Threads + Sync, S: Service, M: Meter>(
+        &mut self,
+        rt: &R,
+        service: &mut S,
+        meter: &M,
+        out: &mut Vec<u8>,
+    ) -> Progress
+        requires held { S.holds service.old self.old.search.slot self.old.search.version }
+        ensures { Goes (Uses S.Service service.old service.new) (S.worn service.new)
+            self.old self.new out.old.items out.new.items result }
+    {
+        let is_over = self.tried > MOST_TRIED || self.hits > MOST_TRIED;
+        if is_over {
+            return Progress::Short;
+        }
+        if out.reserve(BATCH_ROOM).is_err() {
+            return Progress::Short;
+        }
+        let shown = list_batch(&mut self.search, rt, service, meter, out);
+        self.tried += u64::from(shown.tried);
+        self.hits += u64::from(shown.hits);
+        shown.progress
     }
 
     /// The line at the search's end. `None`: a count has no line.
@@ -137,6 +173,42 @@ fn list_page<R: Threads + Sync, S: Service, M: Meter>(
             })
         }
         Err(fault) => Err(fault),
+    }
+}
+
+// A batch of pages, whose hits are written.
+fn list_batch<R: Threads + Sync, S: Service, M: Meter>(
+    search: &mut Search,
+    rt: &R,
+    service: &mut S,
+    meter: &M,
+    out: &mut Vec<u8>,
+) -> ShownBatch
+    requires held { S.holds service.old search.old.slot search.old.version }
+    ensures { GoesOn (Uses S.Service service.old service.new) (S.worn service.new)
+        search.old search.new result.tried result.hits out.old.items out.new.items result.progress }
+{
+    let batch = search.next_pages(rt, service, meter);
+    let whole = push_hits(batch.hits, out).is_ok();
+    ShownBatch {
+        tried: batch.tried,
+        hits: batch.hits.len() as u32,
+        progress: progress_after(batch.fault, whole, batch.from),
+    }
+}
+
+// How a search goes on, by the fault of its last fetch, whether all hits were written, and from where it fetches next.
+fn progress_after(fault: Option<SearchFault>, whole: bool, from: Option<u32>) -> Progress
+    ensures { result ≡ progress_by fault whole from }
+{
+    match fault {
+        Some(SearchFault::Worn) => Progress::Worn,
+        Some(_) => Progress::Short,
+        None if !whole => Progress::Short,
+        None => match from {
+            Some(_) => Progress::More,
+            None => Progress::Ended,
+        },
     }
 }
 

@@ -18,23 +18,32 @@ use std::alloc::Global;
 use std::thread::Threads;
 use store_core::Service;
 
-/// Begins a search for a pattern, at the head.
+/// Begins a search for a pattern, at the head, by single pages and by batches of at most this many.
 pub fn begin<S: Service>(
     alloc: Global,
     service: &mut S,
     settings: &Settings,
     pattern: Pattern,
+    most: u32,
 ) -> Result<Walk, SearchFault>
     requires some_workers { 1 ≤ settings.now.workers }
     requires few_workers { settings.now.workers ≤ 16 }
     requires some { 1 ≤ settings.now.page }
     requires few { settings.now.page ≤ 256 }
+    requires few_pages { most ≤ 16 }
     requires sound { IsSoundPattern (pattern_of pattern) }
     ensures begins { Begins (Uses S.Service service.old service.new) (S.worn service.new) result }
     ensures begun { IfOk result (λ walk. HasBegun pattern settings.now.page walk.search) }
     ensures new { IfOk result (λ walk. IsNew walk) }
 {
-    match Search::start(alloc, service, pattern, settings.workers, settings.page) {
+    match Search::start_batched(
+        alloc,
+        service,
+        pattern,
+        settings.workers,
+        settings.page,
+        most,
+    ) {
         Ok(search) => Ok(Walk {
             search,
             tried: 0,

@@ -5,8 +5,8 @@ use Rattle.lookup.specs.Fetches.{Failed, Looked, Unasked}
 use Rattle.lookup.specs.Lists.{IsHitList}
 use Rattle.lookup.specs.declared.hits.HitList.{HitList}
 use Rattle.lookup.specs.declared.pages.Seen.{Seen}
-use Rattle.lookup.proofs.Held.{held-same}
-use Rattle.lookup.proofs.Joined.{makes-none}
+use Rattle.par_search.proofs.Held.{held-same}
+use Rattle.par_search.proofs.Joined.{makes-none}
 use Rattle.lookup.proofs.Looked.{looked-fault, looked-none, looked-some, looks-as, looks-fault, looks-short}
 use Rattle.lookup.proofs.hits.find_newer_hits.Goals as goal
 

@@ -3,8 +3,9 @@ use Rattle.par_search.specs.Faults.{fault_of}
 use Rattle.snap_registry.specs.declared.Pin.{Pin}
 use Rattle.lookup.specs.Fetches.{Failed, Looked, NoneFree, Unasked}
 use Rattle.lookup.specs.Walks.{IsPinnedFrom}
-use Rattle.lookup.proofs.Held.{held-same, none_taken, not_raised-more}
-use Rattle.lookup.proofs.Joined.{makes-more, makes-none}
+use Rattle.par_search.proofs.Held.{held-same, not_raised-more}
+use Rattle.lookup.proofs.Held.{none_taken}
+use Rattle.par_search.proofs.Joined.{makes-more, makes-none}
 use Rattle.lookup.proofs.Looked.{SeenAll, left_known, left_worn, looks-is, pin_failed, same-fault}
 use Rattle.lookup.proofs.Walking.{says-worn}
 use Rattle.lookup.proofs.pages.see_newer.Goals as goal

@@ -2,7 +2,7 @@ use Rattle.std.proofs.Common.{◌∙◌, ap, arith, Bool, length, List, subst}
 use Rattle.store_core.specs.Records.{Shared, founds}
 use Rattle.store_machine.specs.Searches.{past}
 use Rattle.lookup.specs.Walks.{Saw}
-use Rattle.lookup.proofs.Joined.{makes-more, makes-none}
+use Rattle.par_search.proofs.Joined.{makes-more, makes-none}
 use Rattle.lookup.proofs.Walking.{says-worn, walked-cut, walked-failed, walked-last, walked-short, walking-none, walking-on}
 use Rattle.lookup.proofs.pages.see_pages.Goals as goal
 

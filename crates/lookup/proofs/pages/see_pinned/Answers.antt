@@ -2,8 +2,8 @@ use Rattle.std.proofs.Common.{◌≡◌, false, refl, Result, subst, true, ℕ}
 use Rattle.par_search.specs.Faults.{fault_of}
 use Rattle.store_core.specs.declared.words.CallFault.{CallFault}
 use Rattle.lookup.specs.Walks.{Walks}
-use Rattle.lookup.proofs.Held.{not_raised-more}
-use Rattle.lookup.proofs.Joined.{makes-more}
+use Rattle.par_search.proofs.Held.{not_raised-more}
+use Rattle.par_search.proofs.Joined.{makes-more}
 use Rattle.lookup.proofs.Looked.{SeenFrom, any-walked, looked_all, looked_short, looked_worn, same-fault}
 use Rattle.lookup.proofs.Walking.{Gave, says-worn}
 use Rattle.lookup.proofs.pages.see_pinned.Goals as goal

@@ -3,8 +3,8 @@ use Rattle.lookup.specs.Fetches.{Unasked}
 use Rattle.lookup.specs.Lists.{IsSameList}
 use Rattle.lookup.specs.declared.pages.Seen.{Seen}
 use Rattle.lookup.specs.declared.same.SameList.{SameList}
-use Rattle.lookup.proofs.Held.{held-same}
-use Rattle.lookup.proofs.Joined.{makes-none}
+use Rattle.par_search.proofs.Held.{held-same}
+use Rattle.par_search.proofs.Joined.{makes-none}
 use Rattle.lookup.proofs.Looked.{looks-as, looks-want}
 use Rattle.lookup.proofs.same.find_same.Goals as goal
 

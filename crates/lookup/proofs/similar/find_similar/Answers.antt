@@ -3,8 +3,8 @@ use Rattle.lookup.specs.Fetches.{Unasked}
 use Rattle.lookup.specs.Lists.{IsSimilarList}
 use Rattle.lookup.specs.declared.pages.Seen.{Seen}
 use Rattle.lookup.specs.declared.similar.SimilarList.{SimilarList}
-use Rattle.lookup.proofs.Held.{held-same}
-use Rattle.lookup.proofs.Joined.{makes-none}
+use Rattle.par_search.proofs.Held.{held-same}
+use Rattle.par_search.proofs.Joined.{makes-none}
 use Rattle.lookup.proofs.Looked.{looks-as}
 use Rattle.lookup.proofs.Offered.{offered-none, similar-list}
 use Rattle.lookup.proofs.similar.find_similar.Goals as goal

@@ -6,4 +6,5 @@ abbrev pub invariant-loop-place : goal.invariant-loop-place
 invariant-loop-place l = record {
   number : vec_len l.workers ≡ l._place;
   room : All (λ (w : WorkerTerm). l.piece ≤ w.room) l.workers.items;
+  share : All (λ (w : WorkerTerm). l.share ≤ w.share) l.workers.items;
 }

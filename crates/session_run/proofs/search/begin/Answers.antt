@@ -17,5 +17,5 @@ returns-in-Ok-clause-begins g c =
 
 pub returns-in-Err-clause-begins : goal.returns-in-Err-clause-begins
 returns-in-Err-clause-begins g c =
-    unstarted g.S.Service c.args.service.now c.start.new.service c.in-Err.fault c.in-Err.ensures.call c.in-Err.ensures.held c.in-Err.ensures.bounds
+    unstarted g.S.Service c.args.service.now c.start_batched.new.service c.in-Err.fault c.in-Err.ensures.call c.in-Err.ensures.held c.in-Err.ensures.bounds
     (start_worn c.in-Err.fault _ _ c.in-Err.ensures.worn)

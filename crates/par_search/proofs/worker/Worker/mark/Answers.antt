@@ -35,4 +35,5 @@ loop-record-preserved c =
         c.loop-record.invariant.count,
       );
       room = c.push_reserved.ensures.capacity ∙ c.loop-record.invariant.room;
+      share = c.loop-record.invariant.share;
     }

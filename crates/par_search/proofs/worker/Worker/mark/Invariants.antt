@@ -10,4 +10,5 @@ invariant-loop-record l = record {
   flags : AreFlags (pattern_of l.pattern) (take l.record-index l.piece) l.self-inside.flags.items;
   count : length l.self-inside.flags.items ≡ l.record-index;
   room : vec_capacity l.self-inside.flags ≡ l.fn.self.room;
+  share : vec_capacity l.self-inside.hits ≡ l.fn.self.share;
 }

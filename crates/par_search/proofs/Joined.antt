@@ -6,7 +6,7 @@ use Rattle.store_machine.specs.declared.machine.Event.{Event}
 use Rattle.store_machine.specs.declared.machine.Reply.{Reply}
 use Rattle.store_machine.specs.declared.machine.State.{State}
 use Rattle.store_machine.specs.declared.machine.Step.{Step}
-use Rattle.lookup.specs.Fetches.{Calls, Makes}
+use Rattle.par_search.specs.Fetches.{Calls, Makes}
 
 chosen : (b : Bool) (c : Event × Reply) (xs ys zs : Calls) → zs ≡ xs ++ ys
     → (if b then c ∷ zs else zs) ≡ (if b then c ∷ xs else xs) ++ ys

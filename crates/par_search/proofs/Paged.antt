@@ -9,29 +9,35 @@ use Rattle.store_machine.specs.declared.machine.Event.TheVariants.{Fetch}
 use Rattle.store_machine.specs.declared.machine.Found.{Found}
 use Rattle.store_machine.specs.declared.machine.Reply.{Reply}
 use Rattle.store_machine.specs.declared.machine.Reply.TheVariants as replies
-use Rattle.lookup.specs.Fetches.{AreFetches, Calls}
-
--- all of these calls were answered by pages
-abbrev pub ArePages : Calls → Type 0
-ArePages [] = Unit {0}
-ArePages (c ∷ cs) = (records : List Found) × (last : Bool) × (c.1 ≡ replies.Page records last) × ArePages cs
+use Rattle.par_search.specs.Fetches.{AreFetches, ArePages, Calls}
 
 pub records-append : (fs gs : List Fetched) → records_of (fs ++ gs) ≡ records_of fs ++ records_of gs
 records-append [] gs = refl
 records-append (f ∷ fs) gs = ap (λ l. f.records ++ l) (records-append fs gs)
     ∙ sym (append_assoc f.records (records_of fs) (records_of gs))
 
+pub fetched-append : (slot : ℕ) (xs ys : Calls) → fetched slot (xs ++ ys) ≡ fetched slot xs ++ fetched slot ys
+fetched-append slot xs ys = filter_map-append (λ (c : Event × Reply). page_in slot c.0 c.1) xs ys
+
+pub pages-append : (xs ys : Calls) → ArePages xs → ArePages ys → ArePages (xs ++ ys)
+pages-append [] ys p q = q
+pages-append (x ∷ xs) ys p q = (p.0, p.1, p.2, pages-append xs ys p.3 q)
+
 pub pages_more : (cs : Calls) (e : Event) (records : List Found) (last : Bool) → ArePages cs
     → ArePages (cs ++ (e, replies.Page records last) ∷ [])
-pages_more [] e records last h = (records, last, refl, tt)
-pages_more (c ∷ cs) e records last h = (h.0, h.1, h.2, pages_more cs e records last h.3)
+pages_more cs e records last p = pages-append cs ((e, replies.Page records last) ∷ []) p (records, last, refl, tt)
 
 no_page_lost : (r : Reply) (records : List Found) (last : Bool) → r ≡ replies.Page records last → r ≡ replies.NoMemory
     → ⊥
 no_page_lost r records last p q = cc
 
+-- a fetch that found no memory gave no page
+pub pages_lost : (cs : Calls) (e : Event) → ArePages (cs ++ (e, replies.NoMemory) ∷ []) → ⊥
+pages_lost [] e p = no_page_lost replies.NoMemory p.0 p.1 p.2 refl
+pages_lost (c ∷ cs) e p = pages_lost cs e p.3
+
 -- more fetches behind pages
-fetches-append : (slot size : ℕ) (want : List Bool) (a b d : Place) (xs ys : Calls) → ArePages xs
+pub fetches-append : (slot size : ℕ) (want : List Bool) (a b d : Place) (xs ys : Calls) → ArePages xs
     → AreFetches slot size want a xs b → AreFetches slot size want b ys d → AreFetches slot size want a (xs ++ ys) d
 fetches-append slot size want a b d [] ys p h k = subst (λ (q : Place). AreFetches slot size want q ys d) h k
 fetches-append slot size want a b d (x ∷ xs) ys p (from, at, is, inl lost) k =
@@ -39,24 +45,21 @@ fetches-append slot size want a b d (x ∷ xs) ys p (from, at, is, inl lost) k =
 fetches-append slot size want a b d (x ∷ xs) ys p (from, at, is, inr h) k =
     (from, at, is, inr (h.0, h.1, h.2, fetches-append slot size want (cond h.1 End (At (past from h.0))) b d xs ys p.3 h.3 k))
 
-fetched-append : (slot : ℕ) (xs ys : Calls) → fetched slot (xs ++ ys) ≡ fetched slot xs ++ fetched slot ys
-fetched-append slot xs ys = filter_map-append (λ (c : Event × Reply). page_in slot c.0 c.1) xs ys
-
 -- a page more
-pub fetches_page : (slot size from : ℕ) (want : List Bool) (pages : Calls) (records : List Found) (last : Bool)
-    → ArePages pages → AreFetches slot size want (At 0) pages (At from)
-    → AreFetches slot size want (At 0) (pages ++ (Fetch slot want from size, replies.Page records last) ∷ [])
+pub fetches_page : (slot size from : ℕ) (want : List Bool) (start : Place) (pages : Calls) (records : List Found)
+    (last : Bool) → ArePages pages → AreFetches slot size want start pages (At from)
+    → AreFetches slot size want start (pages ++ (Fetch slot want from size, replies.Page records last) ∷ [])
     (cond last End (At (past from records)))
-fetches_page slot size from want pages records last all h =
-    fetches-append slot size want (At 0) (At from) (cond last End (At (past from records))) pages _ all h
+fetches_page slot size from want start pages records last all h =
+    fetches-append slot size want start (At from) (cond last End (At (past from records))) pages _ all h
     (from, refl, refl, inr (records, last, refl, refl))
 
 -- a fetch that found no memory
-pub fetches_lost : (slot size from : ℕ) (want : List Bool) (pages : Calls)
-    → ArePages pages → AreFetches slot size want (At 0) pages (At from)
-    → AreFetches slot size want (At 0) (pages ++ (Fetch slot want from size, replies.NoMemory) ∷ []) (At from)
-fetches_lost slot size from want pages all h =
-    fetches-append slot size want (At 0) (At from) (At from) pages _ all h
+pub fetches_lost : (slot size from : ℕ) (want : List Bool) (start : Place) (pages : Calls)
+    → ArePages pages → AreFetches slot size want start pages (At from)
+    → AreFetches slot size want start (pages ++ (Fetch slot want from size, replies.NoMemory) ∷ []) (At from)
+fetches_lost slot size from want start pages all h =
+    fetches-append slot size want start (At from) (At from) pages _ all h
     (from, refl, refl, inl (refl, refl, refl))
 
 -- the records with those of a page more
@@ -72,3 +75,11 @@ records_page slot size from want pages records last =
     fetched-append slot pages (call ∷ []) ∙ ap (λ l. fetched slot pages ++ l) one in
     ap records_of all ∙ (records-append (fetched slot pages) (f ∷ [])
     ∙ ap (λ l. records_of (fetched slot pages) ++ l) (append-nil records))
+
+-- which are those that there are, where it found no memory
+pub records_lost : (slot size from : ℕ) (want : List Bool) (pages : Calls)
+    → records_of (fetched slot (pages ++ (Fetch slot want from size, replies.NoMemory) ∷ []))
+    ≡ records_of (fetched slot pages)
+records_lost slot size from want pages =
+    ap records_of (fetched-append slot pages ((Fetch slot want from size, replies.NoMemory) ∷ [])
+    ∙ append-nil (fetched slot pages))

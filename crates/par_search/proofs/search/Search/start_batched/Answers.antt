@@ -1,4 +1,4 @@
-use Rattle.par_search.proofs.search.Search.start.Goals as goal
+use Rattle.par_search.proofs.search.Search.start_batched.Goals as goal
 
 pub returns-in-Ok-Some-clause-apart : goal.returns-in-Ok-Some-clause-apart
 returns-in-Ok-Some-clause-apart g c = λ slot version other taken.

@@ -1,0 +1,83 @@
+//! Pages that are fetched one behind the other, to be searched together.
+ghost use Rattle.std.specs.Prelude.{◌≡◌, ◌≤◌, All, IfSome, length, map, ℕ};
+ghost use Rattle.store_core.specs.Records.{PageTerm};
+ghost use Rattle.par_search.specs.Searches.{place_of};
+ghost use Rattle.par_search.specs.Shares.{HasFetched};
+ghost use Rattle.par_search.specs.declared.batch.TheConstants.{MOST_PAGES};
+ghost use Rattle.par_search.specs.declared.worker.TheConstants.{MOST_RECORDS};
+
+use crate::calls::fetch;
+use crate::fault::SearchFault;
+use crate::search::next_from;
+use chem_core::Print;
+use snap_registry::Pin;
+use store_core::{Page, Service};
+
+/// The most pages that are searched together.
+pub const MOST_PAGES: u32 = 16;
+
+/// What was found in pages that were fetched one behind the other: the identifiers of those records that the pattern
+/// matches, in order, how many records were tried, from where the search goes on, `None` at its end, and why no more
+/// pages were fetched, where a fetch failed. What was fetched before it is searched all the same.
+#[derive(Drop)]
+pub struct BatchHits<'a> {
+    pub hits: &'a [u32],
+    pub tried: u32,
+    pub from: Option<u32>,
+    pub fault: Option<SearchFault>,
+}
+
+/// How many pages were fetched, how many records they have, from where the next one is fetched, `None` behind the last
+/// one, and the fault of a fetch that failed.
+#[derive(Clone, Copy, Debug, PartialEq, Eq)]
+pub struct Fetched {
+    pub count: usize,
+    pub tried: u32,
+    pub from: Option<u32>,
+    pub fault: Option<SearchFault>,
+}
+
+/// Fetches a page into each place in turn, until no page follows or a fetch fails.
+pub fn fetch_pages<S: Service>(
+    service: &mut S,
+    pin: &Pin,
+    want: &Print,
+    size: u32,
+    from: Option<u32>,
+    pages: &mut [Page],
+) -> Fetched
+    requires held { S.holds service.old pin.now.slot pin.now.version }
+    requires some { 1 ≤ size }
+    requires few { size ≤ MOST_RECORDS }
+    requires few_pages { length pages.old ≤ MOST_PAGES }
+    requires room { All (λ (p : PageTerm). size ≤ p.room) pages.old }
+    requires from { IfSome from (λ n. n ≤ 1000000000) }
+    ensures fetched { HasFetched S.Service service.old service.new pin.now.slot size want.now
+        (place_of from) pages.new result }
+    ensures room { map {B = ℕ} (λ p. p.room) pages.new ≡ map {B = ℕ} (λ p. p.room) pages.old }
+{
+    let mut fetched = Fetched {
+        count: 0,
+        tried: 0,
+        from,
+        fault: None,
+    };
+    for page in pages.iter_mut() {
+        let Some(start) = fetched.from else {
+            return fetched;
+        };
+        match fetch(service, pin, want, start, size, page) {
+            Ok(last) => {
+                let records = page.records();
+                fetched.count += 1;
+                fetched.tried += records.len() as u32;
+                fetched.from = next_from(last, start, records);
+            }
+            Err(fault) => {
+                fetched.fault = Some(SearchFault::from(fault));
+                return fetched;
+            }
+        }
+    }
+    fetched
+}
