@@ -1,5 +1,5 @@
 -- What lines do to a world and to the sessions.
-use Rattle.std.proofs.Common.{◌≡◌, ◌≤◌, ◌<◌, ◌+◌, ◌-◌, ◌++◌, ◌∙◌, ap, arith, Err, get_or, inl, inr, length, List, [], ◌∷◌, map, Ok, Option, refl, Result, set, Some, subst, suc, sym, true, zero, ℕ}
+use Rattle.std.proofs.Common.{◌≡◌, ◌≤◌, ◌<◌, ◌+◌, ◌-◌, ◌++◌, ◌∙◌, ap, arith, Err, get_or, inl, inr, length, List, [], ◌∷◌, map, Ok, Option, refl, Result, set, Some, subst, suc, sym, zero, ℕ}
 use Rattle.std.specs.List.{AllByRecursion}
 use Rattle.std.specs.Prelude.{IfOk, IsErr, OnErr, OnOk, Vec}
 use Rattle.std.specs.declared.alloc.Global.{Global}

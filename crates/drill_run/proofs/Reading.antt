@@ -1,5 +1,5 @@
 -- A line of a drill is read in one way.
-use Rattle.std.proofs.Common.{◌≡◌, ◌≢◌, ◌≤◌, ◌<◌, ◌++◌, ◌∙◌, ◌^◌, ap, arith, codes, Contains, decimal, List, [], ◌∷◌, refl, slice_index, subst, suc, sym, zero, ℕ}
+use Rattle.std.proofs.Common.{◌≡◌, ◌≢◌, ◌≤◌, ◌<◌, ◌++◌, ◌∙◌, ◌^◌, ap, arith, codes, Contains, decimal, List, [], ◌∷◌, refl, subst, suc, sym, zero, ℕ}
 use Rattle.std.specs.List.{All}
 use Rattle.std.specs.Str.Parse.{AllDigits, digits_value}
 use Rattle.std.proofs.lemmas.Fmt.{digits_decimal}

@@ -1,5 +1,5 @@
 -- A drill under way, line by line, and how it ends.
-use Rattle.std.proofs.Common.{◌≡◌, ◌⊎◌, ◌≤◌, ◌<◌, ◌+◌, ◌^◌, ◌++◌, ◌∙◌, ap, append-nil, append_assoc, arith, false, IfSome, inl, inr, IsTrue, length, length-append, List, [], ◌∷◌, None, Option, refl, Some, subst, sym, ℕ}
+use Rattle.std.proofs.Common.{◌≡◌, ◌≤◌, ◌<◌, ◌+◌, ◌^◌, ◌++◌, ◌∙◌, ap, append-nil, append_assoc, arith, false, IfSome, inl, inr, IsTrue, length, length-append, List, [], ◌∷◌, None, Option, refl, Some, subst, sym, ℕ}
 use Rattle.std.specs.Io.KnownBytes.{Appends}
 use Rattle.std.proofs.KnownBytes.{Appends-trans}
 use Rattle.disk_edge.specs.Failures.{bound_of}
@@ -7,7 +7,7 @@ use Rattle.io_edge.specs.Faults.{Rose}
 use Rattle.io_edge.specs.Lines as io
 use Rattle.io_edge.specs.Lines.{AwaitsBytes, Reading, TextLine, done_bytes, lines_left, whole_lines}
 use Rattle.session_run.specs.Cursors.{Calls}
-use Rattle.session_run.specs.Served.{IsInputFault, TakesAll, TakesAtMost, TakesExactly, Writes, WritesForTaken}
+use Rattle.session_run.specs.Served.{TakesAll, TakesAtMost, TakesExactly, Writes, WritesForTaken}
 use Rattle.session_run.specs.Serving.{IsFresh}
 use Rattle.session_run.specs.Turn.{ReadsOn, TakesNone}
 use Rattle.session_run.specs.declared.settings.EndStatus.{EndStatus}
@@ -15,11 +15,11 @@ use Rattle.session_run.specs.declared.settings.EndStatus.TheVariants.{Done, Sour
 use Rattle.session_run.proofs.Continued.{leaves, none_more}
 use Rattle.session_run.proofs.Wholes.{one_left, same_before, whole_and_one}
 use Rattle.store_disk.specs.InMemory.{StandsInMemory}
-use Rattle.drill_run.specs.Causes.{AreCaused, MayFail, Tally, faults_in, nothing_set, tally_after}
+use Rattle.drill_run.specs.Causes.{AreCaused, Tally, nothing_set, tally_after}
 use Rattle.drill_run.specs.Dialogue.{AllKept, AreExchanged, Exchange, calls_of, lines_of, replies_of}
-use Rattle.drill_run.specs.Drilled.{IsAllOfTaken, IsBegun, IsDialogue, IsDialoguePrefix, IsDrilled, IsDrilledBy, Runs, RunsTo, all_empty}
+use Rattle.drill_run.specs.Drilled.{IsAllOfTaken, IsDialogue, IsDialoguePrefix, IsDrilled, IsDrilledBy, Runs, RunsTo, all_empty}
 use Rattle.drill_run.specs.Lines.{DrillLine, Empty, Session, Stop, Fail, Reopen}
-use Rattle.drill_run.specs.Turns.{BreaksOff, Ends, GoesOn, IsSmall, IsTallied, TakesLine, TakesNoLine, WorldTerm}
+use Rattle.drill_run.specs.Turns.{BreaksOff, Ends, GoesOn, IsTallied, TakesLine, TakesNoLine, WorldTerm}
 use Rattle.drill_run.proofs.Events.{runs-more, runs-none, runs-under}
 use Rattle.drill_run.proofs.Lists.{calls_more, caused_more, exchanged_more, lines_more, replies_more, tally_more, tally_of}
 use Rattle.drill_run.proofs.Tallies.{tally-new}

@@ -1,7 +1,6 @@
 -- What a turn does, by what was read and put.
-use Rattle.std.proofs.Common.{◌≡◌, ◌++◌, ◌∙◌, append-nil, Err, List, [], ◌∷◌, Ok, Option, refl, Result, sym, ℕ}
+use Rattle.std.proofs.Common.{◌≡◌, ◌++◌, ◌∙◌, append-nil, Err, List, [], Ok, Option, refl, Result, sym, ℕ}
 use Rattle.std.specs.Prelude.{IfErr, IfOk}
-use Rattle.std.specs.Io.KnownBytes.{Appends}
 use Rattle.io_edge.specs.Lines.{Reading, TextLine}
 use Rattle.io_edge.specs.NextLine.{OnLine}
 use Rattle.io_edge.specs.declared.lines.Line.{Line}

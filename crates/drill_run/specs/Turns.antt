@@ -1,5 +1,5 @@
 -- For private clauses alone: what a turn of a drill does, and when the next can be done.
-use Rattle.std.specs.Prelude.{◌≡◌, ◌≤◌, ◌<◌, ◌+◌, ◌^◌, ℕ, IsSomeAnd, List, [], ◌∷◌, ◌++◌, length, Option, Some, Result, Ok, Err, true}
+use Rattle.std.specs.Prelude.{◌≡◌, ◌≤◌, ◌<◌, ◌+◌, ◌^◌, ℕ, IsSomeAnd, List, [], ◌∷◌, ◌++◌, length, Option, Result, Ok, Err, true}
 use Rattle.std.specs.Io.KnownBytes.{Appends}
 use Rattle.std.specs.List.{AllByRecursion}
 use Rattle.std.specs.declared.alloc.AllocError.{AllocError}
@@ -11,16 +11,14 @@ use Rattle.io_edge.specs.declared.lines.Line.{Line}
 use Rattle.io_edge.specs.declared.lines.Line.TheVariants as one
 use Rattle.session_run.specs.Acts.{Lines}
 use Rattle.session_run.specs.Cursors.{Calls, Cursor, Makes}
-use Rattle.session_run.specs.Opened.{opened}
 use Rattle.session_run.specs.Pins.{AreHeld, MovePins}
 use Rattle.session_run.specs.Responds.{IsFit}
-use Rattle.session_run.specs.Turn.{ReadsLines, TakesNone}
+use Rattle.session_run.specs.Turn.{ReadsLines}
 use Rattle.session_run.specs.Watching.{Standing}
 use Rattle.session_run.specs.declared.respond.Responder.{Responder}
 use Rattle.session_run.specs.declared.settings.EndStatus.{EndStatus}
 use Rattle.session_run.specs.declared.settings.EndStatus.TheVariants.{Done, SourceFault, SinkFault, NoMemory, InputTooLong, Worn}
 use Rattle.session_run.specs.declared.settings.Settings.{Settings}
-use Rattle.shell_lang.specs.Reply.{text_of}
 use Rattle.store_core.specs.Calls.{NotRaised}
 use Rattle.store_core.specs.Stored.{HoldsPin}
 use Rattle.store_machine.specs.declared.machine.State.{State}

@@ -13,11 +13,11 @@ abbrev pub one_in : {X : Type 0} → (X → Bool) → Option X → ℕ
 one_in p None = 0
 one_in p (Some x) = one_if (p x)
 
-both-hold : (a b : Bool) → T (a && b) → T a × T b
+pub both-hold : (a b : Bool) → T (a && b) → T a × T b
 both-hold true b h = (tt, h)
 both-hold false b h = absurd h
 
-less-of : (x y : ℕ) (o : Ordering) → o ≡ nat_cmp x y → T (is_lt o) → x < y
+pub less-of : (x y : ℕ) (o : Ordering) → o ≡ nat_cmp x y → T (is_lt o) → x < y
 less-of x y Less e h = ranked x y Less e
 less-of x y Equal e h = absurd h
 less-of x y Greater e h = absurd h
@@ -34,7 +34,7 @@ module _ {X : Type 0} where
       (apart k e.0 (let less = less-of a e.0 (nat_cmp a e.0) refl parts.0 in omega (arith, le, less)))
       ∙ find-below k a es le parts.1
 
-  count-cons : (p : X → Bool) (e : ℕ × X) (es : List (ℕ × X))
+  pub count-cons : (p : X → Bool) (e : ℕ × X) (es : List (ℕ × X))
       → count_by (λ x. p x.1) (e ∷ es) ≡ one_if (p e.1) + count_by (λ x. p x.1) es
   count-cons p e es = sum_by-cons (λ (x : ℕ × X). cond (p x.1) 1 0) e es
 

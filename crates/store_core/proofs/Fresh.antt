@@ -23,10 +23,10 @@ no-state v id status e = never status (sym (ap (λ m. get m id) (none-taken v) �
     never : (status : Status) → None ≡ Some status → ⊥
     never status q = cc
 
-none-in : {X : Type 0} (x : X) → Contains [] x → ⊥
+pub none-in : {X : Type 0} (x : X) → Contains [] x → ⊥
 none-in x c = omega (arith, c.1)
 
-no-entries : (es : List (ℕ × Status)) → length es ≡ 0 → es ≡ []
+pub no-entries : (es : List (ℕ × Status)) → length es ≡ 0 → es ≡ []
 no-entries [] e = refl
 no-entries (x ∷ xs) e = absurd (omega (arith, e))
 
@@ -45,7 +45,7 @@ empty-sound commits = record {
   made = λ _ entry k. absurd (none-in entry k);
 }
 
-none-counted : (p : Status → Bool) (es : List (ℕ × Status)) → length es ≡ 0 → 0 ≡ count_by (λ e. p e.1) es
+pub none-counted : (p : Status → Bool) (es : List (ℕ × Status)) → length es ≡ 0 → 0 ≡ count_by (λ e. p e.1) es
 none-counted p [] e = refl
 none-counted p (x ∷ xs) e = absurd (omega (arith, e))
 
@@ -57,7 +57,7 @@ empty-chain commits id =
       records = λ k c. absurd (none-in k c);
     }
 
-empty-lists : Lists [] []
+pub empty-lists : Lists [] []
 empty-lists = record {
   distinct = λ i j d less within. absurd (omega (arith, within));
   exactly = λ e. ((λ c. absurd (none-in e c)), (λ h. absurd (none-in h.0 h.1)));

@@ -1,4 +1,5 @@
 mod Advances
+mod Based
 mod Bits
 mod Commits
 mod Counts

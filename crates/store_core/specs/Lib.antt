@@ -1,3 +1,4 @@
+pub mod Based
 pub mod Calls
 pub mod Kept
 pub mod Only

@@ -2,15 +2,16 @@
 //!
 //! It keeps no history. A commit and a look read the latest entry of one identifier. A fetch goes from one identifier
 //! to the next that has an entry whose print holds what is wanted. A prune goes over the entries once.
-ghost use Rattle.std.specs.Prelude.{◌≡◌, ◌≤◌, ◌+◌, ◌++◌, [], All, drop, false, IfErr, IfOk, length, MatchOption, None, OnErr, OnOk, Some, true};
+ghost use Rattle.std.specs.Prelude.{◌≡◌, ◌≤◌, ◌<◌, ◌+◌, ◌^◌, ◌++◌, [], All, drop, false, IfErr, IfOk, IfSome, length, MatchOption, None, OnErr, OnOk, option_copied, option_map, Some, true};
 ghost use Rattle.std.specs.Arc.{arc_value};
 ghost use Rattle.store_machine.specs.History.{IsId, snapshot};
 ghost use Rattle.store_machine.specs.Machine.{IsPage, committed};
 ghost use Rattle.store_machine.specs.declared.machine.State.{State};
+ghost use Rattle.store_core.specs.Based.{IsBefore, IsGiven, based};
 ghost use Rattle.store_core.specs.Calls.{Calls, NotRaised, SameHeld, WornAs, is_worn, is_worn_out};
-ghost use Rattle.store_core.specs.Kept.{HasPrint, kept_of, record_of};
+ghost use Rattle.store_core.specs.Kept.{HasPrint, kept_of, record_of, status_in};
 ghost use Rattle.store_core.specs.Prepared.{IsPrepared, IsWhy};
-ghost use Rattle.store_core.specs.Records.{Shared, founds};
+ghost use Rattle.store_core.specs.Records.{IsRecord, Shared, founds};
 ghost use Rattle.store_core.specs.Replies.{change_of, fetch_calls};
 ghost use Rattle.store_core.specs.Steps.{AreSteps};
 ghost use Rattle.store_core.specs.Stored.{HoldsPin, IsAt, Served, StandsFor, Stretches, empty, served};
@@ -87,6 +88,48 @@ impl Store {
             live: 0,
             withdrawn: 0,
         }
+    }
+
+    /// A store at the version of a base of which no state was given yet. It takes as many commits as a store may have.
+    /// Takes no memory.
+    pub fn at_base(alloc: Global, version: u32) -> Store
+        requires { version ≤ MOST_COMMITS }
+        ensures stands { StandsFor result (based version []) }
+        ensures version { result.version ≡ version }
+    {
+        Store {
+            kept: KeptEntries::new(alloc),
+            registry: Registry::new(),
+            version,
+            limit: MOST_COMMITS,
+            live: 0,
+            withdrawn: 0,
+        }
+    }
+
+    /// Gives it the state of an identifier, with the version that made it. Identifiers come in ascending order. After
+    /// want of memory it stands for the same.
+    pub fn put_base(
+        &mut self,
+        id: u32,
+        made_at: u32,
+        entry: Option<Arc<Record>>,
+    ) -> Result<(), AllocError>
+        requires in_range { IsId id }
+        requires since { 1 ≤ made_at }
+        requires until { made_at ≤ self.old.version }
+        requires own { IfSome entry (λ r. (arc_value r).id ≡ id) }
+        requires before { IsBefore self.old id }
+        ensures given { OnOk result (IsGiven self.old self.new id (status_in made_at entry)) }
+        ensures err { OnErr result ((s : Served) → StandsFor self.old s → StandsFor self.new s) }
+        ensures version { self.new.version ≡ self.old.version }
+    {
+        self.kept.reserve(id, own_print(&entry))?;
+        let (live, withdrawn) = one_more(&entry, self.live, self.withdrawn);
+        self.live = live;
+        self.withdrawn = withdrawn;
+        self.kept.add(id, made_at, entry);
+        Ok(())
     }
 
     /// The version of the head. Takes no memory.
@@ -284,6 +327,33 @@ impl Service for Store {
     ghost lands = { lands };
 
     ghost same = { same };
+}
+
+// The print of a record, where there is one. It is a sound one.
+fn own_print(entry: &Option<Arc<Record>>) -> Option<&Print>
+    ensures print { option_copied result ≡ option_map (λ (r : Shared). (arc_value r).print) entry.now }
+    ensures sound { IfSome entry.now (λ r. IsRecord (arc_value r)) }
+{
+    match entry {
+        Some(record) => {
+            let _ = record.id();
+            Some(record.print())
+        }
+        None => None,
+    }
+}
+
+// Live and withdrawn identifiers with one more, which is live where it has a record.
+fn one_more(entry: &Option<Arc<Record>>, live: u32, withdrawn: u32) -> (u32, u32)
+    requires { live + withdrawn < 2 ^ 30 }
+    ensures { MatchOption entry.now
+        ((result.0 ≡ live) × (result.1 ≡ withdrawn + 1))
+        (λ _. (result.0 ≡ live + 1) × (result.1 ≡ withdrawn)) }
+{
+    match entry {
+        Some(_) => (live + 1, withdrawn),
+        None => (live, withdrawn + 1),
+    }
 }
 
 // The record that was found, where its print holds what is wanted.

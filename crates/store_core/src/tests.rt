@@ -8,7 +8,7 @@ ghost use Rattle.store_core.specs.Records.{IsRecord};
 ghost use Rattle.store_core.specs.Stored.{HoldsPin};
 
 use crate::laws::laws;
-use crate::{Change, Page, Record, Service, Steps, Store};
+use crate::{Change, CommitFault, Look, Page, Record, Service, Stats, Steps, Store};
 use chem_core::Print;
 use mol_finish::{Format, one_structure};
 use snap_registry::Pin;
@@ -21,6 +21,7 @@ use std::test::Fail;
 // A record of a SMILES.
 fn record(alloc: Global, id: u32, text: &[u8]) -> Result<Arc<Record>, Fail>
     requires { IsId id }
+    ensures { IfOk result (λ r. (arc_value r).id ≡ id) }
 {
     Ok(Record::make(alloc, id, Format::Smiles, text)?)
 }
@@ -209,5 +210,47 @@ fn a_pin_reads_its_version_and_a_prune_drops_the_rest(rt: HostRuntime) -> Result
     assert!(rt; has_both(alloc, &mut store, &pin)?);
     store.unpin(pin)?;
     assert_eq!(rt; store.prune()?, 2);
+    Ok(())
+}
+
+// A store at version 5 with methane, made at 3, and an identifier that was withdrawn at 5.
+fn with_base(alloc: Global) -> Result<Store, Fail> {
+    let mut store = Store::at_base(alloc, 5);
+    store.put_base(1, 3, Some(record(alloc, 1, b"C")?))?;
+    store.put_base(7, 5, None)?;
+    Ok(store)
+}
+
+// The version that made a live identifier.
+fn live_since(store: &mut Store, id: u32) -> Result<Option<u32>, Fail> {
+    match store.look(id)? {
+        Look::Live { version, .. } => Ok(Some(version)),
+        _ => Ok(None),
+    }
+}
+
+#[test]
+fn a_store_goes_on_from_its_base(rt: HostRuntime) -> Result<(), Fail> {
+    let alloc = rt.alloc();
+    let mut store = with_base(alloc)?;
+    let counts = Stats {
+        version: 5,
+        live: 1,
+        withdrawn: 1,
+        kept: 2,
+        pins: 0,
+    };
+    assert_eq!(rt; store.stats()?, counts);
+    assert_eq!(rt; live_since(&mut store, 1)?, Some(3));
+    assert_eq!(rt; live_since(&mut store, 7)?, None);
+    assert_eq!(rt;
+        store.commit(Change::Withdraw(7)),
+        Err(CommitFault::Withdrawn)
+    );
+    assert_eq!(rt;
+        store.commit(Change::Revise(record(alloc, 1, b"CC")?)),
+        Ok(6)
+    );
+    assert_eq!(rt; live_since(&mut store, 1)?, Some(6));
     Ok(())
 }

@@ -11,3 +11,5 @@ mod Recovered
 mod Replayed
 mod Rows
 mod Steps
+mod TwoDisks
+mod OnePair

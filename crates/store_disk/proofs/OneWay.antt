@@ -12,15 +12,14 @@ use Rattle.store_machine.specs.History.{AreAllowed, IsAllowed, IsHistory, IsVali
 use Rattle.store_machine.specs.declared.machine.Change.{Change}
 use Rattle.store_machine.specs.declared.machine.Change.TheVariants.{Register, Revise, Withdraw}
 use Rattle.store_machine.specs.declared.machine.History.{History}
-use Rattle.store_machine.specs.declared.machine.Status.{Status}
 use Rattle.store_disk.specs.Loads.{Damages, MayFollow, OpensTo}
 use Rattle.store_disk.specs.Payloads.{history_of, logged_change, logged_format, payload, payloads, stored_format, told}
 
-same-format : (f : Format) → stored_format (logged_format f) ≡ f
+pub same-format : (f : Format) → stored_format (logged_format f) ≡ f
 same-format Smiles = refl
 same-format Molfile = refl
 
-logged-told : (c : Change) → told (logged_change c) ≡ c
+pub logged-told : (c : Change) → told (logged_change c) ≡ c
 logged-told (Register id format text) = ap (λ f. Register id f text) (same-format format)
 logged-told (Revise id format text) = ap (λ f. Revise id f text) (same-format format)
 logged-told (Withdraw id) = refl

@@ -5,3 +5,4 @@ pub mod Payloads
 pub mod Puts
 pub mod Replays
 pub mod Stored
+pub mod TwoDisks

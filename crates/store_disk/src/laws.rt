@@ -1,20 +1,30 @@
 //! What the bytes of a disk open to, as laws of any bytes and of any store, and the law on which the store's proofs
 //! stand.
-ghost use Rattle.std.specs.Prelude.{◌≡◌, ◌≤◌, ◌++◌, List, length, ℕ};
+ghost use Rattle.std.specs.Prelude.{◌≡◌, ◌≤◌, ◌<◌, ◌+◌, ◌-◌, ◌++◌, [], ◌∷◌, List, length, None, slice_index_or, Some, ℕ};
+ghost use Rattle.std.specs.FinMap.{entries};
 ghost use Rattle.disk_edge.specs.Disk.{IfTold};
-ghost use Rattle.journal_core.specs.Records.{IsNoJournal, header, text};
-ghost use Rattle.store_machine.specs.History.{IsHistory};
-ghost use Rattle.store_machine.specs.Laws.{RunsStaySound};
-ghost use Rattle.store_machine.specs.Machine.{Recovers};
+ghost use Rattle.disk_pair.specs.Gives.{empty_copy};
+ghost use Rattle.disk_pair.specs.Pairs.{History as Written, MayShow, with_base, with_commit};
+ghost use Rattle.disk_pair.specs.Term.{OfEachPair, next_header};
+ghost use Rattle.journal_core.specs.Fronts.{IsFront, IsOpen};
+ghost use Rattle.journal_core.specs.Records.{IsNoJournal, header, prefix, text};
+ghost use Rattle.journal_core.specs.declared.format.TheConstants.{CLOSED};
+ghost use Rattle.store_core.specs.Stored.{StoreTerm as Memory};
+ghost use Rattle.store_machine.specs.History.{IsHistory, head};
+ghost use Rattle.store_machine.specs.Laws.{IsSound, RunsStaySound};
+ghost use Rattle.store_machine.specs.Machine.{Recovers, committed, copying, now, replaced};
 ghost use Rattle.store_machine.specs.Owners.{SameButOwners};
+ghost use Rattle.store_machine.specs.declared.machine.Change.{Change};
 ghost use Rattle.store_machine.specs.declared.machine.History.{History};
 ghost use Rattle.store_machine.specs.declared.machine.State.{State};
 ghost use Rattle.store_disk.specs.Loads.{Damages, MayLeave, OpensAfter, OpensTo};
 ghost use Rattle.store_disk.specs.OnDisk.{IsPlain, StandsFor, StoreTerm};
-ghost use Rattle.store_disk.specs.Payloads.{payloads};
+ghost use Rattle.store_disk.specs.Payloads.{payload, payloads};
+ghost use Rattle.store_disk.specs.TwoDisks.{PairOpensAfter, PairOpensTo, StandsForPair, history_of, lacking, on_pair, whole_copy};
 
-use commit_log::a_log_reads_one_way;
+use commit_log::{a_base_reads_one_way, a_log_reads_one_way};
 use disk_edge::Disk;
+use disk_pair::{Pair, a_crash_leaves_one, a_pair_opens_one_way};
 use journal_core::{a_text_opens, bytes_open_one_way};
 use store_machine::{rebases_keep, runs_stay_sound};
 
@@ -55,6 +65,87 @@ pub fn what_is_left_is_recovered<D: Disk>()
 {
     rebases_keep();
 }
+
+/// What two disks may show of a state after a crash is what the machine may recover.
+pub fn what_two_disks_show_is_recovered()
+    ensures { (s : State) (x : Written) → MayShow (on_pair s) x → (h : History) × (generation : ℕ)
+        × Recovers s h generation × (x ≡ history_of generation h) }
+{}
+
+/// Each two images that a crash now may leave of a store's two disks open to what the machine may recover.
+pub fn a_standing_pair_opens<D: Disk>(pair: &Pair<D>)
+    ensures { (memory : Memory) (s : State)
+        → StandsForPair D.model (record { memory = memory; pair = pair.now }) s
+        → OfEachPair D.model pair.now (PairOpensAfter s) }
+{
+    rebases_keep();
+    runs_stay_sound();
+    a_crash_leaves_one(pair);
+}
+
+/// Two disks open to one history, in one generation.
+pub fn two_disks_open_one_way()
+    ensures { (h k : History) (g j : ℕ) (a b : List ℕ) → PairOpensTo h g a b → PairOpensTo k j a b
+        → (h ≡ k) × (g ≡ j) }
+{
+    a_log_reads_one_way();
+    a_base_reads_one_way();
+    a_pair_opens_one_way();
+}
+
+/// A history that was written on one of two disks is what they open to where the other one is not open.
+pub fn what_was_written_on_one_of_two_opens()
+    ensures first { (h : History) (generation : ℕ) (front rest b : List ℕ) → IsHistory h
+        → head h ≤ 16777215
+        → IsFront (history_of generation h).header (history_of generation h).base front → ¬ IsOpen b
+        → PairOpensTo h generation (prefix front (payloads h) ++ CLOSED ∷ rest) b }
+    ensures second { (h : History) (generation : ℕ) (front rest a : List ℕ) → IsHistory h
+        → head h ≤ 16777215
+        → IsFront (history_of generation h).header (history_of generation h).base front → ¬ IsOpen a
+        → PairOpensTo h generation a (prefix front (payloads h) ++ CLOSED ∷ rest) }
+{
+    a_pair_opens_one_way();
+}
+
+/// What two disks have at the states that a commit, the start of a copy and its finish leave.
+pub fn what_two_disks_have_after()
+    ensures committed { (s : State) (c : Change) → IsSound s
+        → on_pair (committed s c) ≡ record (on_pair s) {
+          now = with_commit (on_pair s).now (payload c);
+          commit = None;
+          finish = None;
+        } }
+    ensures started { (s : State) → let left = length (entries (now s)) in
+        on_pair (record (copying s (head s.history) left) { finish = None }) ≡ record (on_pair s) {
+          finish = None;
+          copy = Some (empty_copy (next_header (on_pair s).now.header (head s.history) left));
+        } }
+    ensures replaced { (s : State) (version : ℕ) → on_pair (replaced s version) ≡ record {
+      now = whole_copy s version;
+      commit = None;
+      finish = None;
+      copy = None;
+    } }
+{
+    rebases_keep();
+}
+
+/// A copy that lacks each of its items is empty, and one that lacks none is whole. It lacks a commit more that is made
+/// meanwhile. With its next item, a base record or behind all of them a commit, it lacks one less.
+pub fn copies_go_on()
+    ensures begins { (whole : Written) → whole.commits ≡ []
+        → lacking (length whole.base) whole ≡ empty_copy whole.header }
+    ensures ends { (whole : Written) → lacking 0 whole ≡ whole }
+    ensures meanwhile { (left : ℕ) (whole : Written) (payload : List ℕ)
+        → lacking (left + 1) (with_commit whole payload) ≡ lacking left whole }
+    ensures next_base { (left : ℕ) (whole : Written) → length whole.commits ≤ left
+        → left < length whole.base + length whole.commits
+        → lacking left whole ≡ with_base (lacking (left + 1) whole)
+        (slice_index_or whole.base (length whole.base + length whole.commits - (left + 1)) []) }
+    ensures next_commit { (left : ℕ) (whole : Written) → left < length whole.commits
+        → lacking left whole ≡ with_commit (lacking (left + 1) whole)
+        (slice_index_or whole.commits (length whole.commits - (left + 1)) []) }
+{}
 
 /// Whose the pins are makes no difference: a store stands for a state as for one with other owners.
 pub fn stores_ask_no_owner<D: Disk>()

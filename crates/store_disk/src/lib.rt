@@ -17,7 +17,9 @@ mod tests;
 
 pub use disks::Disks;
 pub use laws::{
-    a_standing_store_opens, a_store_opens_one_way, stores_ask_no_owner, what_is_left_is_recovered,
-    what_was_written_opens,
+    a_standing_pair_opens, a_standing_store_opens, a_store_opens_one_way, copies_go_on,
+    stores_ask_no_owner, two_disks_open_one_way, what_is_left_is_recovered,
+    what_two_disks_have_after, what_two_disks_show_is_recovered,
+    what_was_written_on_one_of_two_opens, what_was_written_opens,
 };
 pub use store::Store;

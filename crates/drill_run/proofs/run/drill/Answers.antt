@@ -1,4 +1,4 @@
-use Rattle.std.proofs.Common.{◌≡◌, ap, subst, ℕ}
+use Rattle.std.proofs.Common.{ap, subst, ℕ}
 use Rattle.io_edge.specs.Lines.{Reading}
 use Rattle.session_run.specs.Cursors.{Calls}
 use Rattle.session_run.specs.Served.{TakesAtMost, TakesExactly}

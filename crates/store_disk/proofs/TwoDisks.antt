@@ -1,0 +1,258 @@
+-- What two disks have of a state: what a crash may show of it, and how a copy goes on.
+use Rattle.std.proofs.Common.{◌≡◌, ◌+◌, ◌++◌, ◌-◌, ◌<◌, ◌≤◌, ◌∙◌, ap, arith, get_or, inl, inr, length, length-append, List, [], ◌∷◌, map, MatchOption, nat_cmp, None, Option, option_map, refl, Some, subst, sym, take, ℕ}
+use Rattle.std.proofs.lemmas.List.{drop_all, length-map, map-append, take-append-le, take_all, take_more}
+use Rattle.std.specs.FinMap.{empty as none, entries, len-empty, len-entries}
+use Rattle.disk_pair.specs.Gives.{empty_copy}
+use Rattle.disk_pair.specs.Term.{OfEachPair, Paired, next_header}
+use Rattle.disk_edge.specs.Disk.{DiskModel}
+use Rattle.disk_pair.specs.Stands.{StandsFor}
+use Rattle.disk_pair.specs.Pairs.{History as Written, MayShow, PairOpens, PairOpensTo as MayOpen, State as PairState, with_base, with_commit}
+use Rattle.journal_core.specs.Fronts.{IsOpenAt, no_base, second_format}
+use Rattle.store_core.specs.Stored.{StoreTerm as Memory, empty}
+use Rattle.store_machine.specs.History.{IsHistory, grown, head, rebase}
+use Rattle.store_machine.specs.Kept.{IsPast}
+use Rattle.store_machine.specs.Laws.{IsSound, RunsStaySound}
+use Rattle.store_machine.specs.Machine.{MayAdd, MayFinish, Recovers, committed, crashed, copying, now, on_disk, one_more}
+use Rattle.store_machine.specs.Rebases.{RebasesGrow, RebasesKeepHeads}
+use Rattle.store_machine.specs.declared.machine.Event.TheVariants.{Crash}
+use Rattle.store_machine.specs.declared.machine.Reply.TheVariants.{Crashed}
+use Rattle.store_machine.specs.declared.machine.Change.{Change}
+use Rattle.store_machine.specs.declared.machine.Copying.{Copying}
+use Rattle.store_machine.specs.declared.machine.History.{History}
+use Rattle.store_machine.specs.declared.machine.State.{State}
+use Rattle.store_machine.specs.declared.machine.Status.{Status}
+use Rattle.store_disk.specs.Payloads.{payload, payloads}
+use Rattle.store_disk.specs.TwoDisks.{IsServing, PairDamages, PairOpensAfter, StandsForPair, base_payload, copy_so_far, history_of, lacking, on_pair, whole_copy}
+
+none-some : {X : Type 0} {x : X} → None ≡ Some x → ⊥
+none-some e = cc
+
+abbrev in-some : {X : Type 0} → X → Option X → X
+in-some x None = x
+in-some x (Some y) = y
+
+-- a commit more
+pub grown-written : (generation : ℕ) (h : History) (c : Change)
+    → with_commit (history_of generation h) (payload c) ≡ history_of generation (grown h (c ∷ []))
+grown-written generation h c = ap (λ (ps : List (List ℕ)). record (history_of generation h) { commits = ps })
+    (sym (map-append payload h.commits (c ∷ [])))
+
+-- the history is one that the machine may recover
+abbrev pub IsRecovered : State → Written → Type 0
+IsRecovered s x = (h : History) × (generation : ℕ) × Recovers s h generation × (x ≡ history_of generation h)
+
+doubt-recovered : (s : State) (p : List ℕ) (o : Option Change) → s.doubt ≡ o → option_map payload o ≡ Some p
+    → IsRecovered s (with_commit (history_of s.generation (on_disk s)) p)
+doubt-recovered s p None is doubt = absurd (none-some doubt)
+doubt-recovered s p (Some c) is doubt = (
+  grown (on_disk s) (c ∷ []),
+  s.generation,
+  inr (inl (c, is, refl, refl)),
+  ap (λ (q : List ℕ). with_commit (history_of s.generation (on_disk s)) q) (sym (ap (in-some p) doubt))
+      ∙ grown-written s.generation (on_disk s) c,
+)
+
+finish-recovered : (s : State) (x : Written) (o : Option ℕ) → s.finish ≡ o → option_map (whole_copy s) o ≡ Some x
+    → IsRecovered s x
+finish-recovered s x None is finish = absurd (none-some finish)
+finish-recovered s x (Some version) is finish = (
+  rebase s.history version,
+  s.generation + 1,
+  inr (inr (version, inl is, refl, refl)),
+  sym (ap (in-some x) finish),
+)
+
+same-recovered : (s : State) (x y : Written) → x ≡ y → IsRecovered s y → IsRecovered s x
+same-recovered s x y e r = (r.0, r.1, r.2, e ∙ r.3)
+
+pub shown-recovered : (s : State) (x : Written) → MayShow (on_pair s) x → IsRecovered s x
+shown-recovered s x (inl e) = (on_disk s, s.generation, inl (refl, refl), e)
+shown-recovered s x (inr (inl (p, doubt, e))) = same-recovered s x _ e (doubt-recovered s p s.doubt refl doubt)
+shown-recovered s x (inr (inr finish)) = finish-recovered s x s.finish refl finish
+
+-- a copy by the numbers of its items
+abbrev part : ℕ → ℕ → Written → Written
+part bases commits whole = record whole { base = take bases whole.base; commits = take commits whole.commits }
+
+same-part : (a b c d : ℕ) (whole : Written) → a ≡ b → c ≡ d → part a c whole ≡ part b d whole
+same-part a b c d whole e f = λ i. part (e i) (f i) whole
+
+pub begins : (whole : Written) → whole.commits ≡ [] → lacking (length whole.base) whole ≡ empty_copy whole.header
+begins whole none =
+    let no : length whole.commits ≡ 0 = ap (λ (l : List (List ℕ)). length l) none in
+    same-part (length whole.base + length whole.commits - length whole.base) 0
+    (length whole.commits - length whole.base) 0 whole (omega (arith, no)) (omega (arith, no))
+
+pub ends : (whole : Written) → lacking 0 whole ≡ whole
+ends whole =
+    let b = take_all (length whole.base + length whole.commits - 0) whole.base (omega arith) in
+    let c = take_all (length whole.commits - 0) whole.commits (omega arith) in
+    λ i. record whole { base = b i; commits = c i }
+
+pub meanwhile : (left : ℕ) (whole : Written) (p : List ℕ)
+    → lacking (left + 1) (with_commit whole p) ≡ lacking left whole
+meanwhile left whole p =
+    let more = length-append whole.commits (p ∷ []) in
+    let bases : length whole.base + length (whole.commits ++ p ∷ []) - (left + 1)
+    ≡ length whole.base + length whole.commits - left = omega (arith, more) in
+    let commits : length (whole.commits ++ p ∷ []) - (left + 1) ≡ length whole.commits - left = omega (arith, more) in
+    let c = ap (λ n. take n (whole.commits ++ p ∷ [])) commits
+    ∙ take-append-le (length whole.commits - left) whole.commits (p ∷ []) (omega arith) in
+    λ i. record whole { base = take (bases i) whole.base; commits = c i }
+
+pub next-base : (left : ℕ) (whole : Written) → length whole.commits ≤ left
+    → left < length whole.base + length whole.commits
+    → lacking left whole ≡ with_base (lacking (left + 1) whole)
+    (get_or whole.base (length whole.base + length whole.commits - (left + 1)) [])
+next-base left whole past some =
+    let n = length whole.base + length whole.commits - (left + 1) in
+    let one : length whole.base + length whole.commits - left ≡ n + 1 = omega (arith, some) in
+    let b = ap (λ k. take k whole.base) one ∙ take_more whole.base n [] (omega (arith, past, some)) in
+    let c : length whole.commits - left ≡ length whole.commits - (left + 1) = omega (arith, past) in
+    λ i. record whole { base = b i; commits = take (c i) whole.commits }
+
+pub next-commit : (left : ℕ) (whole : Written) → left < length whole.commits
+    → lacking left whole ≡ with_commit (lacking (left + 1) whole)
+    (get_or whole.commits (length whole.commits - (left + 1)) [])
+next-commit left whole some =
+    let n = length whole.commits - (left + 1) in
+    let one : length whole.commits - left ≡ n + 1 = omega (arith, some) in
+    let c = ap (λ k. take k whole.commits) one ∙ take_more whole.commits n [] (omega (arith, some)) in
+    let b = take_all (length whole.base + length whole.commits - left) whole.base (omega (arith, some))
+    ∙ sym (take_all (length whole.base + length whole.commits - (left + 1)) whole.base (omega (arith, some))) in
+    λ i. record whole { base = b i; commits = c i }
+
+copy-meanwhile : RebasesGrow → (s : State) (c : Change) (o : Option Copying)
+    → MatchOption o (Unit {0}) (λ copy. IsPast s copy.version)
+    → option_map (copy_so_far (committed s c)) (option_map one_more o) ≡ option_map (copy_so_far s) o
+copy-meanwhile grow s c None past = refl
+copy-meanwhile grow s c (Some copy) past =
+    let more = ap (λ (h : History). history_of (s.generation + 1) h) (grow s.history (c ∷ []) copy.version past.1)
+    ∙ sym (grown-written (s.generation + 1) (rebase s.history copy.version) c) in
+    ap (λ (w : Written). Some (lacking (copy.left + 1) w)) more
+    ∙ ap (λ (w : Written). Some w) (meanwhile copy.left (whole_copy s copy.version) (payload c))
+
+pub after-commit : RebasesGrow → (s : State) (c : Change) → IsSound s
+    → on_pair (committed s c) ≡ record (on_pair s) {
+      now = with_commit (on_pair s).now (payload c);
+      commit = None;
+      finish = None;
+    }
+after-commit grow s c sound =
+    let now = ap (λ (h : History). history_of s.generation h) (grow s.history (c ∷ []) s.base sound.bases.base.1)
+    ∙ sym (grown-written s.generation (on_disk s) c) in
+    let copy = copy-meanwhile grow s c s.copy sound.bases.copy in
+    λ i. record { now = now i; commit = None; finish = None; copy = copy i }
+
+pub after-start : (s : State) → on_pair (record (copying s (head s.history) (length (entries (now s)))) { finish = None })
+    ≡ record (on_pair s) {
+      finish = None;
+      copy = Some (empty_copy (next_header (on_pair s).now.header (head s.history) (length (entries (now s)))));
+    }
+after-start s =
+    let whole = whole_copy s (head s.history) in
+    let size : length (map base_payload (entries (now s))) ≡ length (entries (now s)) = length-map (entries (now s))
+    base_payload in
+    let none : payloads (rebase s.history (head s.history)) ≡ [] = ap (λ (cs : List Change). map payload cs)
+    (drop_all (head s.history - s.history.version) s.history.commits (omega arith)) in
+    let copy : lacking (length (entries (now s))) whole ≡ empty_copy whole.header =
+    ap (λ n. lacking n whole) (sym size) ∙ begins whole none in
+    λ i. record {
+      now = (on_pair s).now;
+      commit = (on_pair s).commit;
+      finish = None;
+      copy = Some (copy i);
+    }
+
+-- Examples. No bytes are no open disk
+none-open : (k : ℕ) → IsOpenAt k [] → k ≤ 0
+none-open k (inl o) = omega (arith, o.1)
+none-open k (inr o) = absurd (omega (arith, o.0))
+
+-- a disk of format 2 of which the base has version 16,777,216, beside one that is not open
+abbrev late-bytes : List ℕ
+late-bytes = second_format ++ 0 ∷ 0 ∷ 0 ∷ 0 ∷ 0 ∷ 0 ∷ 0 ∷ 1 ∷ 0 ∷ 0 ∷ 0 ∷ 0 ∷ []
+
+late-is-damaged : PairDamages 12 late-bytes []
+late-is-damaged = record {
+  read = late-bytes;
+  picks = inl ((0, inr (omega arith, refl, refl), none-open), refl);
+  damages = inl (record {
+    header = record { generation = 0; base_version = 16777216; base_count = 0 };
+    is = inr (omega arith, refl, refl);
+    late = omega arith;
+    place = refl;
+  });
+}
+
+-- a new store has no base and no commits
+fresh-on-pair : (commits : ℕ) → on_pair (empty commits) ≡ record {
+  now = record { header = no_base; base = []; commits = [] };
+  commit = None;
+  finish = None;
+  copy = None;
+}
+fresh-on-pair commits = ap (λ (b : List (ℕ × Status)). record {
+  now = history_of 0 (record { base = b; version = 0; commits = [] });
+  commit = None;
+  finish = None;
+  copy = None;
+}) (nothing (entries none) (sym (len-entries none) ∙ len-empty nat_cmp Status))
+  where
+    nothing : (es : List (ℕ × Status)) → length es ≡ 0 → es ≡ []
+    nothing [] e = refl
+    nothing (x ∷ xs) e = absurd (omega (arith, e))
+
+-- what may be recovered is a history that a store may have
+recovered-history : RunsStaySound → (s : State) (h : History) (g : ℕ) → Recovers s h g → IsSound s → IsHistory h
+recovered-history law s h g r sound = (law s (crashed s h g) (record {
+  owner = 0;
+  event = Crash;
+  reply = Crashed;
+  before = s;
+  after = crashed s h g;
+  begin = record
+      { a = 0; b = 0 };
+  end = record { a = 0; b = 0 };
+} ∷ []) (refl, (r, refl), refl) sound).history
+
+past-finish : (s : State) (version : ℕ) → MayFinish s version → IsSound s → IsPast s version
+past-finish s version (inl is) sound = subst (λ (o : Option ℕ). MatchOption o (Unit {0}) (IsPast s)) is sound.bases.finish
+past-finish s version (inr is) sound =
+    subst (λ (o : Option Copying). MatchOption o (Unit {0}) (λ copy. IsPast s copy.version)) is sound.bases.copy
+
+recovered-few : RebasesKeepHeads → (memory : Memory) (s : State) (h : History) (g : ℕ) → Recovers s h g
+    → IsServing memory s → head h ≤ 16777215
+recovered-few heads memory s h g (inl (is, at)) m =
+    let past = m.sound.bases.base in
+    let same = ap head is ∙ heads s.history s.base past.0 past.1 in
+    omega (arith, same, m.stands.version, m.stands.within)
+recovered-few heads memory s h g (inr (inl (c, doubt, is, at))) m =
+    let past = m.sound.bases.base in
+    let same = heads s.history s.base past.0 past.1 in
+    let more = length-append (on_disk s).commits (c ∷ []) in
+    let may = subst (λ (o : Option Change). MatchOption o (Unit {0}) (MayAdd s)) doubt m.sound.doubt in
+    let room = may.2 in
+    let last = ap head is in
+    omega (arith, same, more, last, room, m.stands.limit, m.stands.most)
+recovered-few heads memory s h g (inr (inr (version, may, is, at))) m =
+    let past = past-finish s version may m.sound in
+    let same = ap head is ∙ heads s.history version past.0 past.1 in
+    omega (arith, same, m.stands.version, m.stands.within)
+
+pub pair-opens : RunsStaySound → RebasesKeepHeads → {D : Type 0} (model : DiskModel D) (pair : Paired D)
+    → ((t : PairState) → StandsFor model pair t → OfEachPair model pair (MayOpen (MayShow t)))
+    → (memory : Memory) (s : State) → StandsForPair model (record { memory = memory; pair = pair }) s
+    → OfEachPair model pair (PairOpensAfter s)
+pair-opens law heads model pair leaves memory s stands = λ l is m it x y i j.
+    let opens = leaves (on_pair s) stands.pair l is m it x y i j in
+    let r = shown-recovered s opens.0 opens.1 in (
+      r.0,
+      r.1,
+      r.2,
+      record {
+        history = recovered-history law s r.0 r.1 r.2 stands.memory.sound;
+        few = recovered-few heads memory s r.0 r.1 r.2 stands.memory;
+        opens = subst (λ (w : Written). PairOpens w x y) r.3 opens.2;
+      },
+    )
