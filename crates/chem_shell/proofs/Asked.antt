@@ -1,5 +1,5 @@
 -- Options, numbers and plans, in other words.
-use Rattle.std.proofs.Common.{◌≡◌, ◌≢◌, ◌<◌, ◌≤◌, ◌^◌, ◌∙◌, ℕ, List, [], ◌∷◌, Option, Some, None, Result, Ok, Err, refl, sym, ap, subst, inl, inr, arith, codes, decimal, option_map, get_or, if◌then◌else◌, ◌==◌, length, map}
+use Rattle.std.proofs.Common.{◌≡◌, ◌≢◌, ◌<◌, ◌≤◌, ◌^◌, ◌∙◌, ℕ, List, [], ◌∷◌, Option, Some, None, Result, Ok, Err, refl, sym, ap, subst, inl, inr, arith, codes, decimal, option_map, get_or, if◌then◌else◌, ◌==◌, length}
 use Rattle.std.specs.Prelude.{unwrap_or, IfErr, OnErr}
 use Rattle.std.proofs.lemmas.Fmt.{decimal_injective}
 use Rattle.std.proofs.lemmas.List.{length-map}
@@ -11,7 +11,7 @@ use Rattle.chem_shell.specs.declared.request.Verb.{Verb}
 use Rattle.chem_shell.specs.declared.request.Verb.TheVariants.{Mem, Init, Run, Serve, Bulk, Drill}
 use Rattle.chem_shell.specs.declared.words.TheConstants.{LAST_SEED, MOST_STRUCTURES}
 use Rattle.chem_shell.specs.Done.{HasEnds}
-use Rattle.chem_shell.specs.Words.{AreSizes, Asks, AsksFor, HasScripts, IsBulk, IsInMemory, IsInit, IsNumber, IsRow, IsRunOf, IsServe, IsSetting, IsWithinLimits, chemdb_app, texts}
+use Rattle.chem_shell.specs.Words.{AreSizes, Asks, AsksFor, HasScripts, IsBulk, IsInMemory, IsInit, IsNumber, IsRow, IsRunOf, IsServe, IsSetting, IsWithinLimits, chemdb_app}
 
 pub none_of_image : {X Y : Type 0} (f : X → Y) (o : Option X) (v : Option Y) → option_map f o ≡ v → v ≡ None → o ≡ None
 none_of_image f None v same none = refl

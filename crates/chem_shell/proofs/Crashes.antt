@@ -1,9 +1,9 @@
 -- What a crash leaves at a moment of a step of a run on a disk: a run's history is what its steps acknowledged.
-use Rattle.std.proofs.Common.{◌≡◌, ◌⊎◌, ◌++◌, ◌∙◌, ap, append-nil, append_assoc, inl, inr, List, [], ◌∷◌, refl, Some, subst, sym, ℕ}
+use Rattle.std.proofs.Common.{◌≡◌, ◌++◌, ◌∙◌, ap, append-nil, append_assoc, inl, inr, List, [], ◌∷◌, refl, subst, sym, ℕ}
 use Rattle.disk_edge.specs.Disk.{DiskModel}
 use Rattle.std.specs.List.{AllByRecursion}
 use Rattle.store_disk.specs.Loads.{OpensTo}
-use Rattle.store_disk.specs.Stored.{IsTimed, MayShow, Shows}
+use Rattle.store_disk.specs.Stored.{IsTimed, MayShow}
 use Rattle.store_machine.specs.History.{grown}
 use Rattle.store_machine.specs.Runs.{IsCalm, IsRun}
 use Rattle.store_machine.specs.Told.{RunsAdd, acknowledged}

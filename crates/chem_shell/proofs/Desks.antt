@@ -1,8 +1,8 @@
 -- What many ends at desks of one hall leave, in the words of the top call.
-use Rattle.std.proofs.Common.{◌≡◌, ◌≢◌, ◌⊎◌, ◌∙◌, ◌<◌, ◌≤◌, ◌^◌, ◌+◌, ◌++◌, ◌==◌, if◌then◌else◌, true, false, zero, suc, Bool, ℕ, List, [], ◌∷◌, Option, None, Some, IfSome, option_map, length, map, refl, sym, ap, subst, inl, inr, append-nil, arith}
+use Rattle.std.proofs.Common.{◌≡◌, ◌≢◌, ◌⊎◌, ◌∙◌, ◌<◌, ◌≤◌, ◌^◌, ◌+◌, ◌++◌, if◌then◌else◌, true, false, suc, Bool, ℕ, List, [], ◌∷◌, Option, None, option_map, length, map, refl, sym, ap, subst, inl, inr, append-nil, arith}
 use Rattle.std.proofs.lemmas.Bool.{cases_lt}
 use Rattle.std.proofs.lemmas.List.Elements.{All-nil, All-cons}
-use Rattle.std.specs.Prelude.{All, Contains, slice_index_or}
+use Rattle.std.specs.Prelude.{All, slice_index_or}
 use Rattle.std.specs.List.{AllZip}
 use Rattle.disk_edge.specs.Disk.{DiskModel, IfTold}
 use Rattle.io_edge.specs.declared.sinks.Sink as put
@@ -40,7 +40,6 @@ use Rattle.chem_shell.specs.Serving.{IsScriptServed}
 use Rattle.chem_shell.specs.OnDisk.{AreAtDesks, AreOnDisk, ServesAtDesk, ServesOn}
 use Rattle.chem_shell.specs.Words.{settings_of}
 use Rattle.chem_shell.specs.declared.request.Plan.{Plan}
-use Rattle.chem_shell.specs.Status.{IsEndStatus}
 use Rattle.chem_shell.proofs.Ends.{IsOfEnd}
 use Rattle.chem_shell.proofs.Loaded.{on_this_disk}
 use Rattle.chem_shell.proofs.Opened.{no_doubt, one_opened}

@@ -1,5 +1,5 @@
 -- What is left where ends were served, and where none was.
-use Rattle.std.proofs.Common.{◌≡◌, ◌≢◌, ◌⊎◌, ◌∙◌, ◌≤◌, ℕ, List, Option, [], length, map, refl, sym, ap, subst, inl, inr, arith}
+use Rattle.std.proofs.Common.{◌≡◌, ◌∙◌, ℕ, List, Option, map, refl, sym, subst, inl, inr, arith}
 use Rattle.std.specs.Prelude.{All}
 use Rattle.std.specs.List.{AllZip}
 use Rattle.disk_edge.specs.Disk.{DiskModel, Faulted, IfTold}
@@ -14,7 +14,6 @@ use Rattle.store_disk.specs.declared.disks.Disks.{Disks}
 use Rattle.chem_shell.specs.Done.{IsDone, Leaves}
 use Rattle.chem_shell.specs.Ends.{with_status}
 use Rattle.chem_shell.specs.Loading.{HasCauses, HasEndCauses, IsCausedBy}
-use Rattle.chem_shell.specs.OnDisk.{IsRefused}
 use Rattle.chem_shell.specs.Status.{first_fault, IsLoadStatus}
 use Rattle.chem_shell.specs.declared.outcome.Outcome.{Outcome}
 use Rattle.chem_shell.specs.declared.request.Plan.{Plan}

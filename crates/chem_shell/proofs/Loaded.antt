@@ -1,5 +1,5 @@
 -- A session over a store that was loaded: what the disk then has.
-use Rattle.std.proofs.Common.{◌≡◌, ◌≤◌, ◌∙◌, ℕ, List, [], refl, subst, sym, ap, append-nil, arith, true}
+use Rattle.std.proofs.Common.{◌≡◌, ◌∙◌, ℕ, List, [], refl, subst, sym, ap, append-nil, arith, true}
 use Rattle.disk_edge.specs.Disk.{DiskModel, IfTold}
 use Rattle.journal_core.specs.Looks.{Narrows}
 use Rattle.session_run.specs.Cursors.{Calls}

@@ -5,7 +5,6 @@ use Rattle.std.specs.FinMap.{get}
 use Rattle.disk_edge.specs.Disk.{DiskModel}
 use Rattle.store_core.specs.Kept.{HasEntry}
 use Rattle.store_core.specs.Stored as memory
-use Rattle.store_core.specs.Stored.{served}
 use Rattle.store_disk.specs.OnDisk.{Has, StandsFor, StoreTerm}
 use Rattle.store_disk.specs.Payloads.{payload, payloads}
 use Rattle.store_machine.specs.History.{head, made_at, snapshot}

@@ -1,9 +1,9 @@
 -- What a session put of a script: whole transcripts, beginnings, and what is true of them.
-use Rattle.std.proofs.Common.{◌≡◌, ◌≢◌, ◌∙◌, ℕ, List, [], ◌∷◌, ◌++◌, Option, None, Some, IfSome, refl, sym, ap, subst, inl, inr, append-nil, arith, true}
+use Rattle.std.proofs.Common.{◌≡◌, ◌≢◌, ℕ, List, [], ◌∷◌, ◌++◌, Option, None, Some, IfSome, refl, sym, ap, inl, inr, append-nil, arith}
 use Rattle.io_edge.specs.Lines.{TextLine, lines_of}
 use Rattle.session_run.specs.Cursors.{Calls}
 use Rattle.session_run.specs.Served as session
-use Rattle.session_run.specs.Served.{TakesAll, TakesAtMost, Writes, WritesForTaken}
+use Rattle.session_run.specs.Served.{TakesAll, TakesAtMost, Writes}
 use Rattle.session_run.specs.Transcript as script
 use Rattle.session_run.specs.Truths.{AreTrue, IsInRun, IsTrueBeginning, IsTrueService, ServicesAreTrue}
 use Rattle.session_run.specs.Watching.{nothing_kept}

@@ -1,5 +1,5 @@
 -- A run over disks in memory on which no failure is set: no call of it is answered that a disk failed.
-use Rattle.std.proofs.Common.{◌≡◌, ◌&&◌, ap, arith, Bool, cond, inl, inr, List, [], ◌∷◌, length, None, Option, refl, Some, subst, sym, true, ℕ}
+use Rattle.std.proofs.Common.{◌≡◌, ◌&&◌, ap, arith, Bool, cond, inl, inr, List, [], ◌∷◌, None, Option, refl, Some, subst, sym, true, ℕ}
 use Rattle.std.specs.List.{AllByRecursion}
 use Rattle.disk_edge.specs.Failures.{bound_of}
 use Rattle.disk_edge.specs.Medium.{Medium, model}

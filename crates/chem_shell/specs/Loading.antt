@@ -1,5 +1,5 @@
 -- For private clauses alone: the causes of the statuses.
-use Rattle.std.specs.Prelude.{◌≡◌, ◌≢◌, ◌⊎◌, ℕ, List, Option}
+use Rattle.std.specs.Prelude.{◌≡◌, ◌≢◌, ℕ, List, Option}
 use Rattle.disk_edge.specs.Disk.{DiskModel, Faulted, IfTold}
 use Rattle.io_edge.specs.Faults.{Rose}
 use Rattle.journal_core.specs.Records.{IsNoJournal}

@@ -1,5 +1,5 @@
 -- Replies with the number of their session, byte by byte.
-use Rattle.std.proofs.Common.{◌≡◌, ◌++◌, ◌∙◌, append_assoc, decimal, false, List, [], ◌∷◌, sym, true, ℕ}
+use Rattle.std.proofs.Common.{◌≡◌, ◌++◌, ◌∙◌, append_assoc, decimal, false, List, [], ◌∷◌, true, ℕ}
 use Rattle.std.specs.Prelude.{◌==◌}
 use Rattle.drill_run.specs.Numbers.{numbered_from}
 

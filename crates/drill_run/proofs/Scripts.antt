@@ -5,7 +5,7 @@ use Rattle.std.proofs.KnownBytes.{Appends-trans}
 use Rattle.disk_edge.specs.Failures.{bound_of}
 use Rattle.io_edge.specs.Faults.{Rose}
 use Rattle.io_edge.specs.Lines as io
-use Rattle.io_edge.specs.Lines.{AwaitsBytes, Reading, TextLine, done_bytes, lines_left, whole_lines}
+use Rattle.io_edge.specs.Lines.{Reading, TextLine, done_bytes, lines_left, whole_lines}
 use Rattle.session_run.specs.Cursors.{Calls}
 use Rattle.session_run.specs.Served.{TakesAll, TakesAtMost, TakesExactly, Writes, WritesForTaken}
 use Rattle.session_run.specs.Serving.{IsFresh}

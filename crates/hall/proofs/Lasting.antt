@@ -1,5 +1,5 @@
 -- What a pass has seen stays a run.
-use Rattle.std.proofs.Common.{◌≡◌, ◌≤◌, ◌++◌, ◌∙◌, ap, arith, length, List, [], refl, subst, sym, ⊎_elim, ℕ}
+use Rattle.std.proofs.Common.{◌≡◌, ◌++◌, ◌∙◌, ap, arith, length, List, refl, subst, sym, ⊎_elim}
 use Rattle.disk_edge.specs.Disk.{DiskModel}
 use Rattle.store_disk.specs.OnDisk.{StoreTerm}
 use Rattle.store_machine.proofs.Joins.{calms-join, runs-join}

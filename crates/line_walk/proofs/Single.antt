@@ -5,7 +5,7 @@ use Rattle.std.specs.List.{AllByRecursion, position_or_len, position, remove}
 use Rattle.std.specs.Prelude.{slice_index_or}
 use Rattle.line_walk.specs.declared.pairs.Mark.{Mark}
 use Rattle.line_walk.specs.Held.{AreSingle}
-use Rattle.line_walk.proofs.Lists.{all_push, all_filter, agree, agree_from, differ_from}
+use Rattle.line_walk.proofs.Lists.{all_push, all_filter, agree_from, differ_from}
 
 filter_single : {K : Type 0} (b : Bool) (x : Mark K) (ys : List (Mark K)) → AllByRecursion (λ y. y.number ≢ x.number) ys
     → AreSingle ys → AreSingle (cond b (x ∷ ys) ys)

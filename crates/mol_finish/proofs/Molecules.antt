@@ -1,5 +1,5 @@
 -- The structure of a text is a molecule.
-use Rattle.std.proofs.Common.{◌≡◌, ◌≤◌, ℕ, List, Ok, sym, subst}
+use Rattle.std.proofs.Common.{◌≤◌, ℕ, List, Ok, sym, subst}
 use Rattle.std.specs.List.{All}
 use Rattle.chem_core.specs.Molecule.{Molecule, IsMolecule}
 use Rattle.chem_core.specs.Sketch.{SketchTerm}
@@ -10,7 +10,6 @@ use Rattle.valence.specs.Filled.{filled}
 use Rattle.valence.specs.Suppressed.{suppressed}
 use Rattle.mol_finish.specs.declared.fault.Format.{Format}
 use Rattle.mol_finish.specs.declared.fault.Format.TheVariants.{Smiles, Molfile}
-use Rattle.mol_finish.specs.Meant.{meant}
 use Rattle.mol_finish.specs.Structure.{IsSketchOf, HasMolecule}
 use Rattle.mol_finish.proofs.Meaning.{meant-molecule}
 

@@ -1,17 +1,15 @@
 -- Pages that are fetched one behind the other.
-use Rattle.std.proofs.Common.{◌≡◌, ◌≢◌, ◌+◌, ◌*◌, ◌++◌, ◌<◌, ◌≤◌, ◌∙◌, ap, append-nil, arith, Bool, cond, Err, IfSome, length, length-append, List, [], ◌∷◌, None, Ok, Option, refl, set, Some, subst, sym, take, true, ℕ}
+use Rattle.std.proofs.Common.{◌≡◌, ◌≢◌, ◌+◌, ◌*◌, ◌++◌, ◌<◌, ◌≤◌, ◌∙◌, ap, append-nil, arith, Bool, Err, IfSome, length, length-append, List, [], ◌∷◌, None, Ok, Option, refl, set, Some, subst, sym, take, true, ℕ}
 use Rattle.std.proofs.lemmas.List.{length-take-le, take_more_set}
-use Rattle.std.specs.Arc.{arc_value}
 use Rattle.store_core.specs.Calls.{NotRaised, SameHeld, is_worn}
-use Rattle.store_core.specs.Records.{PageTerm, Shared, found_of, founds}
+use Rattle.store_core.specs.Records.{PageTerm, Shared, founds}
 use Rattle.store_core.specs.Replies.{fetch_calls}
 use Rattle.store_core.specs.declared.service.Service as meaning
 use Rattle.store_core.specs.declared.words.CallFault.{CallFault}
 use Rattle.store_core.specs.declared.words.CallFault.TheVariants as call
-use Rattle.store_machine.specs.Searches.{At, End, Place, fetched, past, records_of}
+use Rattle.store_machine.specs.Searches.{At, Place, fetched, records_of}
 use Rattle.store_machine.specs.declared.machine.Event.{Event}
 use Rattle.store_machine.specs.declared.machine.Event.TheVariants.{Fetch}
-use Rattle.store_machine.specs.declared.machine.Found.{Found}
 use Rattle.store_machine.specs.declared.machine.Reply.{Reply}
 use Rattle.store_machine.specs.declared.machine.Reply.TheVariants as replies
 use Rattle.par_search.specs.Batches.{AreAnswered}

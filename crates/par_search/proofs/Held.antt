@@ -1,5 +1,5 @@
 -- Pins and bounds along calls that follow each other.
-use Rattle.std.proofs.Common.{◌≡◌, arith, None, Option, Some, ℕ}
+use Rattle.std.proofs.Common.{arith, None, Option, Some, ℕ}
 use Rattle.store_core.specs.Calls.{NotAbove, NotRaised, SameHeld}
 
 not_above-same : (a : Option ℕ) → NotAbove a a

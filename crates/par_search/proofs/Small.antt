@@ -1,7 +1,7 @@
 -- How many records are in pages.
 use Rattle.std.proofs.Common.{◌≡◌, ◌*◌, ◌++◌, ◌≤◌, append-nil, arith, length, length-append, List, [], ◌∷◌, suc, take, zero, ℕ}
 use Rattle.std.proofs.lemmas.Grind.{flat_map-append}
-use Rattle.store_core.specs.Records.{PageTerm, Shared}
+use Rattle.store_core.specs.Records.{PageTerm}
 use Rattle.par_search.specs.Shares.{AreSmall, records_in}
 use Rattle.par_search.specs.declared.worker.TheConstants.{MOST_RECORDS}
 

@@ -1,5 +1,5 @@
 -- For callers: pages that are fetched one behind the other and searched together.
-use Rattle.std.specs.Prelude.{◌≡◌, ◌≢◌, ℕ, List, None, Option, Some, length}
+use Rattle.std.specs.Prelude.{◌≡◌, ◌≢◌, None, Option, Some, length}
 use Rattle.std.specs.Borrow.{Fml, MutBor}
 use Rattle.std.specs.Io.BufRead.{Rests}
 use Rattle.smarts_parse.specs.Pattern.{pattern_of}

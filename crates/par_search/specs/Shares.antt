@@ -1,5 +1,5 @@
 -- For private clauses alone: pages that were fetched, and shares of their records, each searched by its worker.
-use Rattle.std.specs.Prelude.{◌≡◌, ◌≢◌, ◌≤◌, ◌*◌, Bool, IfSome, List, [], ◌∷◌, None, Some, length, slice_get, take, ℕ}
+use Rattle.std.specs.Prelude.{◌≡◌, ◌≢◌, ◌≤◌, Bool, IfSome, List, [], ◌∷◌, None, Some, length, slice_get, take, ℕ}
 use Rattle.std.specs.Int.{div_ceil}
 use Rattle.std.specs.List.{flat_map}
 use Rattle.smarts_parse.specs.Pattern.{PatternTerm}

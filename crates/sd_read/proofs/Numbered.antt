@@ -1,5 +1,5 @@
 -- Answers to texts that are numbered from 0, as answers under identifiers.
-use Rattle.std.proofs.Common.{◌≡◌, ℕ, ◌+◌, ◌%◌, ◌^◌, ◌<◌, ◌≤◌, Bor, List, [], ◌∷◌, length, map, subst, sym, ap, arith}
+use Rattle.std.proofs.Common.{◌≡◌, ℕ, ◌+◌, ◌%◌, ◌^◌, ◌<◌, Bor, List, [], ◌∷◌, length, map, subst, arith}
 use Rattle.std.specs.Prelude.{Result}
 use Rattle.std.specs.List.{AllZip, enumerate_from}
 use Rattle.std.specs.declared.vec.Vec.{Vec}

@@ -1,5 +1,5 @@
 -- The data items of a record's text (CTfile formats, SDfile). For callers.
-use Rattle.std.specs.Prelude.{ℕ, suc, ◌==◌, not, Bool, true, false, List, [], ◌∷◌, length, take, drop, position, find, Option, Some, None, is_some, option_map, option_and_then, codes, if◌then◌else◌}
+use Rattle.std.specs.Prelude.{ℕ, suc, ◌==◌, not, Bool, true, false, List, [], ◌∷◌, length, take, drop, position, find, Option, None, is_some, option_map, option_and_then, codes, if◌then◌else◌}
 use Rattle.std.specs.List.{cons_option}
 use Rattle.std.specs.Str.{bytes_eq}
 use Rattle.molfile_read.specs.Properties.{begins, is_end}

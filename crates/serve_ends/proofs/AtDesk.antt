@@ -1,12 +1,11 @@
 -- A session at a desk, as an end's.
-use Rattle.std.proofs.Common.{◌≡◌, ◌∙◌, ap, arith, Option, refl, Some, subst, sym, ℕ}
+use Rattle.std.proofs.Common.{◌≡◌, ◌∙◌, ap, arith, refl, Some, subst, sym, ℕ}
 use Rattle.io_edge.specs.declared.sinks.Sink as put
 use Rattle.io_edge.specs.declared.sources.Source as taken
 use Rattle.session_run.specs.Cursors.{Calls, Makes}
 use Rattle.session_run.specs.declared.settings.EndStatus.{EndStatus}
 use Rattle.session_run.specs.declared.settings.EndStatus.TheVariants as status
 use Rattle.session_run.specs.declared.settings.Settings.{Settings}
-use Rattle.store_machine.specs.declared.machine.State.{State}
 use Rattle.turn_gate.specs.Numbers.{has}
 use Rattle.hall.specs.declared.desk.Desk.{Desk}
 use Rattle.hall.specs.declared.hall.Hall.{Hall}

@@ -1,5 +1,5 @@
 -- A commit of a run is one of its history's, and hits of a version, brought over its commit, are the hits of the next one.
-use Rattle.std.proofs.Common.{◌≡◌, ◌≢◌, ◌↔◌, ◌+◌, ◌++◌, ◌∙◌, ap, ap₂, append_assoc, arith, Bool, cond, Contains, false, inl, inr, length, length-append, List, [], ◌∷◌, nat_cmp, None, Option, refl, Some, subst, sym, true, ℕ}
+use Rattle.std.proofs.Common.{◌≡◌, ◌≢◌, ◌↔◌, ◌+◌, ◌++◌, ◌∙◌, ap, ap₂, append_assoc, arith, Bool, cond, Contains, false, inl, inr, length-append, List, [], ◌∷◌, nat_cmp, None, Option, refl, Some, subst, sym, true, ℕ}
 use Rattle.std.proofs.lemmas.Bool.{cases_eq}
 use Rattle.std.specs.Cmp.{nat_cmp_total}
 use Rattle.std.specs.FinMap.{get, get-insert, insert}

@@ -1,6 +1,6 @@
 -- Watches by their names: where each was right, each is right after a commit and after an act, and one that is not taken
 -- out keeps its pattern.
-use Rattle.std.proofs.Common.{◌≡◌, ◌≢◌, ◌⊎◌, ◌+◌, ◌++◌, ◌∙◌, ap, Bool, bytes_eq, cond, false, filter, inl, inr, List, [], ◌∷◌, map, None, not, Option, option_map, refl, Some, subst, sym, true, ℕ}
+use Rattle.std.proofs.Common.{◌≡◌, ◌≢◌, ◌⊎◌, ◌+◌, ◌++◌, ◌∙◌, ap, Bool, bytes_eq, cond, false, inl, inr, List, [], ◌∷◌, map, None, not, Option, option_map, refl, Some, subst, sym, true, ℕ}
 use Rattle.std.proofs.lemmas.Bool.{cases_eq, cond-false, cond-true}
 use Rattle.std.proofs.lemmas.Slice.Eq.{bytes_eq-Decides}
 use Rattle.smarts_parse.specs.Pattern.{PatternTerm}
@@ -9,7 +9,7 @@ use Rattle.store_machine.specs.Laws.{CommitsChange, SnapshotsStay}
 use Rattle.store_machine.specs.declared.machine.Change.{Change}
 use Rattle.store_machine.specs.declared.machine.History.{History}
 use Rattle.watch_list.specs.Notes.{IsCommit}
-use Rattle.session_run.specs.Watching.{AreNoted, IsNoted, Watched, is_of, new_watch, rebuilt_in, rebuilt_watch, watch_of, without}
+use Rattle.session_run.specs.Watching.{AreNoted, IsNoted, Watched, is_of, rebuilt_in, rebuilt_watch, watch_of, without}
 use Rattle.session_run.proofs.Brought.{brought-over, committed}
 
 pub none_some : (w : Watched) → None ≡ Some w → ⊥

@@ -1,5 +1,5 @@
 -- A watch that is seen, and what is answered of it.
-use Rattle.std.proofs.Common.{◌≡◌, ◌≢◌, ◌++◌, ◌+◌, ◌-◌, ◌^◌, ◌∙◌, ap, Bool, cond, Err, false, filter, inl, inr, List, [], ◌∷◌, map, MatchOption, min, None, not, Ok, Option, refl, Result, Some, subst, sym, true, ℕ}
+use Rattle.std.proofs.Common.{◌≡◌, ◌≢◌, ◌++◌, ◌+◌, ◌-◌, ◌^◌, ◌∙◌, ap, Bool, cond, false, filter, inl, inr, List, [], ◌∷◌, MatchOption, min, None, not, Ok, Option, refl, Result, Some, subst, sym, true, ℕ}
 use Rattle.std.proofs.lemmas.List.{map-append}
 use Rattle.std.specs.Prelude.{is_some}
 use Rattle.lookup.specs.Fetches.{LooksUnless}
@@ -19,8 +19,8 @@ use Rattle.store_machine.specs.declared.machine.Reply.TheVariants as replies
 use Rattle.watch_list.specs.Watches as list
 use Rattle.watch_list.specs.Watches.{Watch}
 use Rattle.session_run.specs.Acts.{MayHits, Responds, hit_lines}
-use Rattle.session_run.specs.Cursors.{Calls, Cursor}
-use Rattle.session_run.specs.Kept.{Adds, Fills, IsViewOf, TellsHits, Unwatches}
+use Rattle.session_run.specs.Cursors.{Cursor}
+use Rattle.session_run.specs.Kept.{Fills, IsViewOf, TellsHits, Unwatches}
 use Rattle.session_run.specs.Made.{AnsweredBy, Tells}
 use Rattle.session_run.specs.Standings.{both, watched, watched_all}
 use Rattle.session_run.specs.Watching.{IsUnwatched, Watched, new_watch, watch_of}

@@ -1,5 +1,5 @@
 -- The acts on watches: their calls are none or those of a lookup, and no other command allows them.
-use Rattle.std.proofs.Common.{◌≡◌, ◌⊎◌, inl, inr, List, [], ◌∷◌, refl, ℕ}
+use Rattle.std.proofs.Common.{◌≡◌, ◌⊎◌, inl, inr, List, [], refl, ℕ}
 use Rattle.io_edge.specs.Lines.{TextLine}
 use Rattle.shell_lang.specs.Command as command
 use Rattle.store_machine.specs.Searches.{At}
@@ -7,7 +7,7 @@ use Rattle.store_machine.specs.declared.machine.Change.{Change}
 use Rattle.store_machine.specs.declared.machine.Event.{Event}
 use Rattle.store_machine.specs.declared.machine.Event.TheVariants as events
 use Rattle.session_run.specs.Acts.{Act, Current, Does, DoesAll, DoesWatch, HitsLost, Lines, ListHits, MayAsk, Refilled, TakenOut, Unwatch, Watch, WatchLost, WatchedAll}
-use Rattle.session_run.specs.Cursors.{Calls, Cursor}
+use Rattle.session_run.specs.Cursors.{Calls}
 use Rattle.session_run.specs.Watching.{AfterCalls, Standing, Watched}
 use Rattle.session_run.proofs.Acts.{Fits}
 use Rattle.session_run.proofs.LookedUp.{IsLookup, alone}

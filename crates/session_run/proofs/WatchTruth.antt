@@ -1,5 +1,5 @@
 -- Dialogues over a run: what their watches told and listed is the history's answer.
-use Rattle.std.proofs.Common.{◌≡◌, ◌≢◌, ◌++◌, ◌∙◌, ap, append_assoc, Bool, Contains, inl, inr, length, List, [], ◌∷◌, map, None, Ok, refl, Result, Some, Err, subst, sym, ℕ}
+use Rattle.std.proofs.Common.{◌≡◌, ◌≢◌, ◌++◌, ◌∙◌, ap, append_assoc, Bool, Contains, inl, inr, length, List, [], ◌∷◌, Ok, refl, Result, Some, Err, subst, sym, ℕ}
 use Rattle.io_edge.specs.Lines.{Whole}
 use Rattle.shell_lang.specs.Command as command
 use Rattle.shell_lang.specs.Command.{Command, IsLine}
@@ -10,17 +10,15 @@ use Rattle.store_machine.specs.Answers.{AreHits}
 use Rattle.store_machine.specs.Laws.{IsSound}
 use Rattle.store_machine.specs.Runs.{IsCalm, IsRun, calls_of}
 use Rattle.store_machine.specs.Searches.{At, End, fetched, records_of}
-use Rattle.store_machine.specs.declared.machine.Change.{Change}
 use Rattle.store_machine.specs.declared.machine.Event.{Event}
 use Rattle.store_machine.specs.declared.machine.Event.TheVariants as events
-use Rattle.store_machine.specs.declared.machine.History.{History}
 use Rattle.store_machine.specs.declared.machine.Reply.{Reply}
 use Rattle.store_machine.specs.declared.machine.Reply.TheVariants as replies
 use Rattle.store_machine.specs.declared.machine.State.{State}
 use Rattle.store_machine.specs.declared.machine.Step.{Step}
 use Rattle.session_run.specs.Acts.{Act, Allows, Asks, Closed, Current, Does, DoesAll, DoesWatch, FoundData, HitsLost, Lines, ListedSame, ListedSimilar, Opened, Refilled, RegisteredEach, RegisteredNew, RequestAllows, Says, Searched, TakenOut, Turned, Unwatch, WatchLost, WatchedAll, watch_lines}
 use Rattle.session_run.specs.Cursors.{Calls, Cursor}
-use Rattle.session_run.specs.Dialogue.{AreExchanged, Exchange, IsCommand, IsShown, StaysWatched, hits_in}
+use Rattle.session_run.specs.Dialogue.{AreExchanged, Exchange, IsCommand, StaysWatched, hits_in}
 use Rattle.session_run.specs.Lookups.{FindsHits}
 use Rattle.session_run.specs.Requests.{Request}
 use Rattle.session_run.specs.Texts.{IsPatternOf}
@@ -32,7 +30,7 @@ use Rattle.session_run.proofs.Parting.{Laws, whole_pages}
 use Rattle.session_run.proofs.Passing.{behind_hits, fetches_keep, fetches_search, hits_listed, one_in}
 use Rattle.session_run.proofs.Pinned.{next_calls}
 use Rattle.session_run.proofs.Rights.{IsKeptAs, IsRight, added_kept, added_new, added_right, none_some, noted_kept, noted_right, rebuilt_found, rebuilt_kept, rebuilt_right, same_some, without_kept, without_right}
-use Rattle.session_run.proofs.Truth.{Finds, Spot, cursors_true, cut_calls, exchanged_parts, no_older, pages_true, registrations_true, sames_true, searches_true, similars_true, spot}
+use Rattle.session_run.proofs.Truth.{Finds, cursors_true, cut_calls, exchanged_parts, no_older, pages_true, registrations_true, sames_true, searches_true, similars_true, spot}
 
 -- the command of a request that takes a watch out
 unwatch_command : (standing : Standing) (request : Request) (own : List ℕ)

@@ -1,12 +1,12 @@
 -- What the acts on watches answer, by what was found and told.
-use Rattle.std.proofs.Common.{◌≡◌, ◌≢◌, ◌<◌, ◌++◌, ◌+◌, ◌-◌, ◌^◌, ◌∙◌, ap, Bool, cond, Err, filter, find, inl, inr, length, List, [], ◌∷◌, map, min, None, not, Ok, Option, option_map, refl, Result, Some, subst, sym, true, false, ℕ}
-use Rattle.lookup.specs.Fetches.{Known, Looks, LooksUnless}
+use Rattle.std.proofs.Common.{◌≡◌, ◌≢◌, ◌<◌, ◌++◌, ◌+◌, ◌∙◌, ap, Bool, cond, filter, inl, inr, length, List, [], ◌∷◌, map, None, not, Ok, Option, option_map, refl, Result, Some, subst, sym, true, false, ℕ}
+use Rattle.lookup.specs.Fetches.{Known, LooksUnless}
 use Rattle.lookup.specs.Lists.{IsHitList}
 use Rattle.lookup.specs.declared.hits.HitList.{HitList}
 use Rattle.shell_lang.specs.Reply as line
 use Rattle.shell_lang.specs.Reply.{text_of}
 use Rattle.shell_lang.specs.declared.reply.Refusal.TheVariants as refusals
-use Rattle.smarts_parse.specs.Pattern.{PatternTerm, pattern_of}
+use Rattle.smarts_parse.specs.Pattern.{PatternTerm}
 use Rattle.store_core.specs.Calls.{NotRaised}
 use Rattle.store_core.specs.declared.service.Service as meaning
 use Rattle.store_machine.specs.Searches.{At, End, Place, fetched, records_of}
@@ -16,17 +16,17 @@ use Rattle.store_machine.specs.declared.machine.Found.{Found}
 use Rattle.store_machine.specs.declared.machine.Reply.TheVariants as replies
 use Rattle.watch_list.specs.Watches as list
 use Rattle.watch_list.specs.Watches.{Watch}
-use Rattle.session_run.specs.Acts.{Act, Current, DoesAll, HitsLost, ListHits, MayUnwatch, Refilled, Refused, Responds, TakenOut, Unwatch, WatchLost, WatchedAll, hit_lines, watch_lines}
+use Rattle.session_run.specs.Acts.{Act, Current, DoesAll, HitsLost, ListHits, MayUnwatch, Refilled, Refused, Responds, TakenOut, Unwatch, WatchLost, WatchedAll, watch_lines}
 use Rattle.session_run.specs.Acts as act
 use Rattle.session_run.specs.Cursors.{Calls, Cursor}
-use Rattle.session_run.specs.Kept.{Adds, Fills, TellsHits, Unwatches}
+use Rattle.session_run.specs.Kept.{Adds, TellsHits, Unwatches}
 use Rattle.session_run.specs.Lookups.{FindsHits, LooksUp}
 use Rattle.session_run.specs.Made.{Answered, Said, Tells, Uses}
 use Rattle.session_run.specs.Standings.{both, watched, watched_all}
-use Rattle.session_run.specs.Watching.{IsUnwatched, Standing, Watched, is_of, new_watch, rebuilt_in, rebuilt_watch, watch_of, without}
+use Rattle.session_run.specs.Watching.{IsUnwatched, Standing, Watched, rebuilt_in, rebuilt_watch, watch_of, without}
 use Rattle.session_run.specs.declared.stop.Stop.{Stop}
 use Rattle.session_run.proofs.Lines.{said}
-use Rattle.session_run.proofs.Looked.{looked_uses, looked_whole, looks_up}
+use Rattle.session_run.proofs.Looked.{looked_uses, looks_up}
 use Rattle.session_run.proofs.Standing.{rests}
 
 -- Watches as contracts of callers see them

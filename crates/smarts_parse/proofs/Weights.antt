@@ -3,7 +3,7 @@ use Rattle.std.proofs.Common.{◌≡◌, ℕ, ◌+◌, ◌≤◌, List, [], ◌�
 use Rattle.std.proofs.lemmas.List.{length-append}
 use Rattle.std.specs.List.{flat_map}
 use Rattle.line_walk.specs.Tree as walk
-use Rattle.line_walk.specs.Tree.{Node, Joint, Tail, stop, next, branch}
+use Rattle.line_walk.specs.Tree.{Node, Tail, stop, next, branch}
 use Rattle.line_walk.specs.Follow.{Begins}
 use Rattle.line_walk.specs.Places.{Placed, placed_from, placed_at, placed_nodes, joined_to, size_of, atoms_by}
 use Rattle.smarts_words.specs.Bracket.{Atom, star, aromatic, aliphatic, organic, lower, bracket, atom_text, IsAtom, value_of_atom, Inside, hydro, low, end_text, bracket_text, expression_text}

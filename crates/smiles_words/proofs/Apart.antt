@@ -1,6 +1,6 @@
 -- What SMILES owes the walk: first bytes tell its atoms and bond symbols apart, and what is spelled alike is the same,
 -- where what follows may follow.
-use Rattle.std.proofs.Common.{◌≡◌, ℕ, inl, inr, List, [], ◌∷◌, ◌++◌, cond, ◌==◌, refl, sym, ◌∙◌, ap}
+use Rattle.std.proofs.Common.{◌≡◌, ℕ, List, [], ◌∷◌, ◌++◌, cond, ◌==◌, refl, sym, ◌∙◌, ap}
 use Rattle.chem_core.specs.Organic.{Organic, boron, carbon, nitrogen, oxygen, phosphorus, sulfur, fluorine, chlorine, bromine, iodine, symbol_bytes}
 use Rattle.line_walk.specs.Follow.{Begins, IsApart}
 use Rattle.smiles_words.specs.Atom.{Lower, lower_b, lower_c, lower_n, lower_o, lower_p, lower_s, lower_se, lower_as, lower_bytes, IsOrganicLower, AtomText, star, organic, aromatic, bracket, atom_text, IsAtomText}

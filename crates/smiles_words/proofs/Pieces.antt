@@ -3,7 +3,7 @@ use Rattle.std.proofs.Common.{◌≡◌, ℕ, zero, suc, ◌+◌, ◌<◌, ◌�
 use Rattle.std.specs.List.{AllByRecursion}
 use Rattle.std.specs.Fmt.{decimal}
 use Rattle.std.proofs.lemmas.Fmt.{decimal_injective}
-use Rattle.smiles_words.specs.Atom.{IsDigit, ChiralClass, th, al, sp, tb, oh, class_bytes, most_of, Chiral, none, one, two, numbered, chiral_text, IsChiral, Hydrogens, unwritten, single, counted, hydrogens_text, hydrogen_count, Sign, plus, minus, sign_byte, Charge, neutral, run, amount, signed, charge_text, charge_value, value_of, IsCharge, class_text, IsClass, Lower, lower_b, lower_c, lower_n, lower_o, lower_p, lower_s, lower_se, lower_as, lower_number, Symbol, element, lower, symbol_text, symbol_number, AreHydrogens, Bracket, bracket_text}
+use Rattle.smiles_words.specs.Atom.{IsDigit, ChiralClass, th, al, sp, tb, oh, class_bytes, most_of, Chiral, none, one, two, numbered, chiral_text, IsChiral, Hydrogens, unwritten, single, counted, hydrogens_text, hydrogen_count, Sign, plus, minus, sign_byte, Charge, neutral, run, amount, signed, charge_text, charge_value, value_of, IsCharge, class_text, IsClass, Lower, lower_b, lower_c, lower_n, lower_o, lower_p, lower_s, lower_se, lower_as, lower_number, Symbol, element, lower, symbol_number, AreHydrogens}
 use Rattle.smiles_words.specs.Parts.{written_hydrogens}
 use Rattle.smiles_words.specs.Follow.{NoDigitFirst, AfterClass, AfterCharge, AfterHydrogens, AfterChiral, AfterSymbol}
 use Rattle.smiles_words.proofs.Bytes.{goes_within, goes_no_digit}

@@ -1,7 +1,7 @@
 -- Counts of faults and their bounds, as a service tells them.
 use Rattle.std.proofs.Common.{◌≡◌, ◌≤◌, arith, inl, inr, None, Option, refl, Some, ℕ}
 use Rattle.disk_edge.specs.Disk as disk
-use Rattle.disk_edge.specs.Disk.{Bounded, Counts}
+use Rattle.disk_edge.specs.Disk.{Bounded}
 use Rattle.store_core.specs.Calls.{NotAbove}
 use Rattle.store_machine.specs.Machine.{Rose}
 

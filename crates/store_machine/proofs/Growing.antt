@@ -1,5 +1,5 @@
 -- The history grows by what is acknowledged: with each call, and so with each run of calls.
-use Rattle.std.proofs.Common.{◌≡◌, ◌++◌, ◌∙◌, ap, append-nil, append_assoc, Bool, false, inl, inr, List, [], ◌∷◌, None, refl, Some, sym, true, ℕ}
+use Rattle.std.proofs.Common.{◌≡◌, ◌++◌, ◌∙◌, ap, append-nil, append_assoc, Bool, false, List, [], ◌∷◌, None, refl, Some, sym, true, ℕ}
 use Rattle.std.proofs.lemmas.Bool.{true≢false}
 use Rattle.store_machine.specs.History.{grown}
 use Rattle.store_machine.specs.Laws.{RunsGrow}

@@ -1,5 +1,5 @@
 -- Runs that follow each other are one.
-use Rattle.std.proofs.Common.{List, [], ◌∷◌, subst}
+use Rattle.std.proofs.Common.{[], ◌∷◌, subst}
 use Rattle.store_machine.specs.Runs.{CalmsJoin, IsRun, RunsJoin}
 
 pub runs-join : RunsJoin

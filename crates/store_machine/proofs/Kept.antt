@@ -1,5 +1,5 @@
 -- Each row of the table keeps that what is needed is kept, and that each version in use is one that the history has.
-use Rattle.std.proofs.Common.{refl, ◌≡◌, ◌+◌, ◌++◌, ◌≤◌, ◌⊎◌, ◌∙◌, ap, append_assoc, arith, Bool, Contains, filter, inl, inr, le_of_eq, List, [], ◌∷◌, map, MatchOption, None, Option, option_map, Some, subst, sym, ℕ}
+use Rattle.std.proofs.Common.{refl, ◌≡◌, ◌+◌, ◌++◌, ◌⊎◌, ◌∙◌, ap, append_assoc, arith, Bool, Contains, filter, inl, inr, le_of_eq, List, [], ◌∷◌, map, MatchOption, None, Option, option_map, Some, subst, sym, ℕ}
 use Rattle.std.specs.FinMap.{get}
 use Rattle.std.proofs.lemmas.List.{map-append}
 use Rattle.std.proofs.lemmas.List.Elements.{Contains-append_cases, Contains-append_left, Contains-append_right, Contains-push}

@@ -1,8 +1,8 @@
 -- The entries that a history has made: those of the states of its snapshots, and each is no later than the state that
 -- follows it.
-use Rattle.std.proofs.Common.{ap, ◌≡◌, ◌+◌, ◌++◌, ◌-◌, ◌<◌, ◌≤◌, ◌⊎◌, ◌∙◌, arith, cond, false, inl, inr, length, List, [], ◌∷◌, nat_cmp, None, Option, refl, Some, subst, suc, sym, take, true, zero, ℕ}
+use Rattle.std.proofs.Common.{ap, ◌≡◌, ◌+◌, ◌++◌, ◌-◌, ◌<◌, ◌≤◌, ◌⊎◌, ◌∙◌, arith, cond, false, inl, inr, length, List, [], ◌∷◌, nat_cmp, Option, refl, Some, subst, suc, sym, take, true, zero, ℕ}
 use Rattle.std.specs.Cmp.{nat_cmp_total}
-use Rattle.std.specs.FinMap.{from_entries, get, get-empty, get-insert, insert}
+use Rattle.std.specs.FinMap.{get, get-insert, insert}
 use Rattle.std.specs.Ordering.{eq_by_cmp}
 use Rattle.std.proofs.lemmas.Bool.{cond-true}
 use Rattle.store_machine.specs.History.{AreAllowed, IsHistory, IsId, IsValid, Snapshot, after_change, after_changes, base_states, id_of, made_at, snapshot}

@@ -1,5 +1,5 @@
 -- Along a run the pin is held, and every page of its fetches is read from the snapshot that it was taken at.
-use Rattle.std.proofs.Common.{◌≡◌, ◌&&◌, ◌++◌, ◌-◌, ◌==◌, ◌≤◌, ◌∙◌, ap, ap₂, arith, Bool, cond, eqb-true, false, length-append, List, [], ◌∷◌, None, refl, Some, subst, sym, true, ℕ}
+use Rattle.std.proofs.Common.{◌≡◌, ◌&&◌, ◌-◌, ◌==◌, ◌≤◌, ◌∙◌, ap, ap₂, arith, Bool, cond, eqb-true, false, length-append, List, [], ◌∷◌, None, refl, Some, subst, sym, true, ℕ}
 use Rattle.std.proofs.lemmas.List.{take-append-le}
 use Rattle.std.specs.List.{AllByRecursion, cons_option}
 use Rattle.store_machine.specs.History.{Snapshot, after_changes, base_states, grown, head, snapshot}

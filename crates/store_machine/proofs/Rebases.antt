@@ -4,7 +4,7 @@ use Rattle.std.proofs.lemmas.List.{drop-drop}
 use Rattle.std.specs.Cmp.{nat_cmp_total}
 use Rattle.std.specs.FinMap.{entries, from_entries, get, get-entries, get-from_entries, get-insert, insert, nat_cmp-IsAntisymmetric, same_map}
 use Rattle.std.specs.Ordering.{eq_by_cmp}
-use Rattle.store_machine.specs.History.{AreAllowed, HasText, IsBased, IsHistory, IsValid, Snapshot, after_change, after_changes, base_states, head, rebase, snapshot}
+use Rattle.store_machine.specs.History.{AreAllowed, HasText, IsHistory, IsValid, Snapshot, after_change, after_changes, base_states, head, rebase, snapshot}
 use Rattle.store_machine.specs.Rebases.{BasesReadBack, LaterRebasesStand, RebasesGrow, RebasesKeepAllowed, RebasesKeepHeads, RebasesKeepSnapshots, RebasesStay}
 use Rattle.store_machine.specs.declared.machine.Change.{Change}
 use Rattle.store_machine.specs.declared.machine.Change.TheVariants.{Register, Revise, Withdraw}

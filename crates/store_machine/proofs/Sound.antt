@@ -1,8 +1,8 @@
 -- Every state of a run is sound.
 use Rattle.std.proofs.Common.{◌≡◌, ◌+◌, ◌++◌, ◌<◌, ◌==◌, ◌∙◌, ap, arith, Bool, Contains, false, filter, inl, inr, List, [], ◌∷◌, map, MatchOption, None, not, Option, refl, Some, subst, sym, true, ℕ}
 use Rattle.std.proofs.lemmas.Bool.{cond_both, true≢false}
-use Rattle.store_machine.specs.History.{IsAllowed, IsHistory, Snapshot, grown, head, id_of, rebase, snapshot}
-use Rattle.store_machine.specs.Kept.{IsNeeded, IsPast, copied, in_use}
+use Rattle.store_machine.specs.History.{IsAllowed, IsHistory, Snapshot, grown, head, id_of, snapshot}
+use Rattle.store_machine.specs.Kept.{IsNeeded, IsPast, in_use}
 use Rattle.store_machine.specs.Laws.{IsSound, RunsStaySound}
 use Rattle.store_machine.specs.Machine.{AreNeeded, Becomes, CommitGives, CompactGives, CrashGives, DoubtAfter, EndsDoubts, Gives, GivesUp, MayAdd, MayFinish, OpenGives, PinGives, PruneGives, Recovers, SlotsApart, StaysOrEnds, TakesSome, UnpinGives, committed, copying, on_disk, pin_in, pinned, replaced, unpinned}
 use Rattle.store_machine.specs.Made.{HasMade, KeepsMade}

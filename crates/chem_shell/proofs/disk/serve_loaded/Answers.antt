@@ -3,7 +3,6 @@ use Rattle.session_run.specs.Served.{IsServedBy, TakesAtMost}
 use Rattle.session_run.specs.Truths.{IsInRun}
 use Rattle.session_run.specs.declared.settings.Settings.{Settings}
 use Rattle.store_machine.specs.declared.machine.State.{State}
-use Rattle.chem_shell.specs.OnDisk.{RunsOn}
 use Rattle.chem_shell.proofs.Loaded.{in_run, on_this_disk}
 use Rattle.chem_shell.proofs.Transcripts.{script_of, served_true}
 use Rattle.chem_shell.proofs.disk.serve_loaded.Goals as goal

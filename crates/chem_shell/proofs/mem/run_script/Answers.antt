@@ -4,7 +4,6 @@ use Rattle.session_run.specs.Truths.{IsInRun}
 use Rattle.session_run.specs.declared.settings.Settings.{Settings}
 use Rattle.store_core.specs.Stored.{empty}
 use Rattle.store_machine.specs.declared.machine.State.{State}
-use Rattle.store_disk.specs.Stored.{Stretches}
 use Rattle.disk_edge.specs.Medium.{model}
 use Rattle.chem_shell.proofs.Loaded.{in_run}
 use Rattle.chem_shell.proofs.Transcripts.{none_taken, served_none, served_true}

@@ -1,4 +1,4 @@
-use Rattle.std.proofs.Common.{rules, ◌≡◌, ◌≢◌, ◌<◌, ◌+◌, ◌∙◌, List, [], ◌∷◌, add-one, arith, get_or, length, map, refl, sym, ap, subst, take, zero, suc, ℕ}
+use Rattle.std.proofs.Common.{rules, ◌≡◌, ◌≢◌, ◌<◌, ◌∙◌, List, [], ◌∷◌, add-one, arith, get_or, length, map, sym, ap, subst, take, zero, suc, ℕ}
 use Rattle.std.proofs.lemmas.Bool.Decides.{nat_tests}
 use Rattle.serve_ends.specs.declared.end.End.{End}
 use Rattle.chem_shell.specs.Status.{first_fault}

@@ -1,10 +1,9 @@
-use Rattle.std.proofs.Common.{◌≡◌, ◌∙◌, List, OnErr, OnOk, Result, map, refl, ap, sym, subst, inl, inr}
+use Rattle.std.proofs.Common.{◌≡◌, ◌∙◌, OnErr, OnOk, map, refl, ap, sym, subst, inr}
 use Rattle.journal_core.specs.Looks.{Narrows}
 use Rattle.session_run.specs.declared.settings.Settings.{Settings}
 use Rattle.serve_ends.specs.Serving.{Serving}
-use Rattle.serve_ends.specs.declared.end.End.{End}
 use Rattle.store_disk.specs.OnDisk.{StoreTerm}
-use Rattle.hall.specs.Passes.{Ends, known}
+use Rattle.hall.specs.Passes.{Ends}
 use Rattle.hall.specs.declared.hall.HallPass.{HallPass}
 use Rattle.chem_shell.specs.Ends.{with_status}
 use Rattle.chem_shell.specs.Status.{first_fault}

@@ -1,4 +1,4 @@
-use Rattle.std.proofs.Common.{◌≡◌, refl, ap, ◌∙◌, sym, inl, inr, Err}
+use Rattle.std.proofs.Common.{refl, ap, ◌∙◌, sym, inl, inr, Err}
 use Rattle.std.proofs.lemmas.Bool.{eqb-false}
 use Rattle.chem_shell.specs.Ends.{with_status}
 use Rattle.chem_shell.specs.Loading.{HasEndCauses}

@@ -1,4 +1,3 @@
-use Rattle.std.proofs.lemmas.Result.{IfOk-weaker}
 use Rattle.chem_shell.specs.Words.{texts}
 use Rattle.chem_shell.proofs.Asked.{scripts_of_plan}
 use Rattle.chem_shell.proofs.words.plan.Goals as goal

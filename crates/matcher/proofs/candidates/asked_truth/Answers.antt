@@ -1,7 +1,6 @@
 use Rattle.std.proofs.Common.{arith}
 use Rattle.std.proofs.lemmas.Bool.{iff_false}
 use Rattle.smarts_mean.specs.Table.{HoldsIn}
-use Rattle.smarts_parse.specs.Pattern.{Prim}
 use Rattle.matcher.proofs.HalfTruths.{half_all, half_false, half_none, half_true, half_whole, next_inside}
 use Rattle.matcher.proofs.candidates.asked_truth.Goals as goal
 

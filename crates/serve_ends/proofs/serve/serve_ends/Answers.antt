@@ -1,5 +1,5 @@
 -- What was split off, served and joined is one part of the history.
-use Rattle.std.proofs.Common.{◌≡◌, ◌<◌, ◌∙◌, ap, arith, get_or, length, List, map, subst, sym, ℕ}
+use Rattle.std.proofs.Common.{◌≡◌, ◌<◌, ◌∙◌, ap, arith, get_or, length, map, subst, sym, ℕ}
 use Rattle.std.proofs.lemmas.List.{length-map, with_items_is}
 use Rattle.hall.specs.Passes.{known}
 use Rattle.serve_ends.specs.Slots.{CanServe, Joins, WasServed, splits}

@@ -1,6 +1,5 @@
 -- The session's calls are a stretch at the desk.
 use Rattle.std.proofs.Common.{◌∙◌, ap, refl, Some, subst, sym}
-use Rattle.hall.specs.Desks.{pass_of}
 use Rattle.hall.specs.Passes.{IsOf}
 use Rattle.serve_ends.proofs.AtDesk.{of-there, was-served, worn-from}
 use Rattle.serve_ends.proofs.slot.serve_end.Goals as goal

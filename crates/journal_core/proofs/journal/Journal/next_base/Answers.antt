@@ -6,7 +6,7 @@ use Rattle.journal_core.specs.Fronts.{IsNoBase, front_of}
 use Rattle.journal_core.specs.Journal.{Reads}
 use Rattle.journal_core.specs.LookLaws.{still_exactly}
 use Rattle.journal_core.specs.RecordLaws.{prefix_nil}
-use Rattle.journal_core.specs.Records.{body, prefix}
+use Rattle.journal_core.specs.Records.{body}
 use Rattle.journal_core.specs.declared.header.Header.{Header}
 use Rattle.journal_core.specs.Standing.{Standing}
 use Rattle.journal_core.proofs.FrontLaws.{at_front, front_push}

@@ -1,4 +1,4 @@
-use Rattle.std.proofs.Common.{◌≡◌, ◌↔◌, ◌++◌, ◌∙◌, [], ◌∷◌, ap, IsTrue, List, subst, sym, ℕ}
+use Rattle.std.proofs.Common.{◌↔◌, ◌++◌, ◌∙◌, [], ◌∷◌, ap, IsTrue, List, subst, sym, ℕ}
 use Rattle.chem_core.specs.Molecule.{Molecule}
 use Rattle.smarts_parse.specs.Embedding.{Matches}
 use Rattle.smarts_parse.specs.Pattern.{pattern_of}
