@@ -7,7 +7,7 @@ use Rattle.std.proofs.lemmas.List.Quantifiers.{all_pairs_push}
 use Rattle.std.proofs.lemmas.List.Sums.{sum_by-cons, count_by-le-length}
 use Rattle.std.proofs.lemmas.Nat.{mod_below}
 use Rattle.chem_core.specs.Bits.{HasBit}
-use Rattle.path_print.specs.Path.{Family, View, string_of, hash_of, lesser, bit_of, IsPath}
+use Rattle.path_print.specs.Path.{◌>>=◌, Family, View, string_of, hash_of, lesser, bit_of, IsPath}
 use Rattle.path_print.specs.Texts.{IsBitFrom, IsCounted, SetsBits, grown, last_of}
 use Rattle.path_print.specs.Sheets.{AreSet}
 use Rattle.path_print.proofs.Grown.{distinct_turned, length-grown}

@@ -2,7 +2,7 @@
 use Rattle.std.specs.Prelude.{◌≡◌, ◌≢◌, ◌⊎◌, ◌↔◌, ℕ, zero, suc, ◌+◌, ◌-◌, ◌*◌, ◌/◌, ◌%◌, ◌^◌, ◌<◌, ◌≤◌, Bool, List, [], ◌∷◌, ◌++◌, length, slice_index, reverse, AllPairs, Option, Some, IfSome, option_map}
 use Rattle.chem_core.specs.Bits.{HasBit}
 use Rattle.path_print.specs.declared.known.Known.{Known}
-use Rattle.path_print.specs.Path.{Family, exact, plain, label_of, View, string_of, hash_of, bit_of, IsPath}
+use Rattle.path_print.specs.Path.{◌>>=◌, Family, exact, plain, label_of, View, string_of, hash_of, bit_of, IsPath}
 
 -- a string in both directions
 pub record TextTerm : Type 0 where
