@@ -1,15 +1,17 @@
 -- Lists one after another: one more, and one of them read back.
-use Rattle.std.proofs.Common.{ℕ, ◌+◌, ◌-◌, ◌++◌, ◌<◌, ◌≤◌, ◌≡◌, List, [], ◌∷◌, drop, get_or, inl, inr, length, refl, slice_range, sym, take, ap, subst, ◌∙◌, arith}
+use Rattle.std.proofs.Common.{ℕ, suc, zero, ◌+◌, ◌-◌, ◌++◌, ◌<◌, ◌≤◌, ◌≡◌, List, [], ◌∷◌, drop, get_or, inl, inr, length, refl, slice_range, take, ap, ◌∙◌, arith}
 use Rattle.std.proofs.lemmas.Bool.{cases_lt}
-use Rattle.std.proofs.lemmas.List.{drop-append-le, get_or-append_right, get_or_append_left, length-append, length-drop, get_or_default, length-take, take-append-le, take_all, take_more}
+use Rattle.std.proofs.lemmas.List.{drop-append-le, get_or_default, get_or_past, length-append, length-drop, take-append-le, take_all, take_more}
 use Rattle.std.proofs.Math.Seq.{drop-append_seam}
 use Rattle.chem_core.specs.Graph.{AreNeighbourLists, AreNeighbours, Ends}
-use Rattle.chem_core.specs.Inside.{AreInTurn}
+use Rattle.chem_core.specs.Inside.{AreInTurn, end_of}
 
-get_or-end : {Y : Type 0} (xs : List Y) (x : Y) (n : ℕ) (d : Y) → length xs ≡ n → get_or (xs ++ x ∷ []) n d ≡ x
-get_or-end xs x n d count =
-    let none : n - n ≡ 0 = omega arith in
-    get_or-append_right xs (x ∷ []) n n d count (omega arith) ∙ ap (λ k. get_or (x ∷ []) k d) none
+-- what stands behind the last is the new one, up to then the default
+get_or-more : {Y : Type 0} (xs : List Y) (x d : Y) (k : ℕ) → k ≤ length xs → get_or (xs ++ x ∷ []) k d ≡ get_or xs k x
+get_or-more [] x d zero h = refl
+get_or-more [] x d (suc k) h = absurd (omega arith)
+get_or-more (y ∷ xs) x d zero h = refl
+get_or-more (y ∷ xs) x d (suc k) h = get_or-more xs x d k (omega arith)
 
 module _ {X : Type 0} where
   -- what stands before an end is not touched by what comes behind it
@@ -27,39 +29,42 @@ module _ {X : Type 0} where
       ∙ (ap (λ n. take n more) count ∙ take_all (length more) more (omega arith))
 
   -- one list more
-  pub turn-more : (lists : List (List X)) (more : List X) (items : List X) (starts : List ℕ) (end : ℕ)
-      → AreInTurn lists items starts → get_or starts (length lists) 0 ≡ length items
-      → end ≡ length items + length more
-      → AreInTurn (lists ++ more ∷ []) (items ++ more) (starts ++ end ∷ [])
-  turn-more lists more items starts end turn last is =
+  pub turn-more : (lists : List (List X)) (more : List X) (items : List X) (starts : List ℕ)
+      → AreInTurn lists items starts
+      → AreInTurn (lists ++ more ∷ []) (items ++ more) (starts ++ length items ∷ [])
+  turn-more lists more items starts turn =
       let n : ℕ = length lists in
-      let long = turn.count in
+      let long : length starts ≡ n = turn.count in
       let size = length-append items more in
-      let now : get_or (starts ++ end ∷ []) (n + 1) 0 ≡ end =
-      get_or-end starts end (n + 1) 0 long in
+      let end : ℕ = length (items ++ more) in
       record {
-        count = omega (arith, long, length-append starts (end ∷ []), length-append lists (more ∷ []));
+        count = omega (arith, long, length-append starts (length items ∷ []), length-append lists (more ∷ []));
         each = λ k within. elim (cases_lt k n) [
           | inl less ↦
               let here = turn.each k less in
-              let from : get_or (starts ++ end ∷ []) k 0 ≡ get_or starts k 0 =
-              get_or_append_left starts (end ∷ []) 0 k (omega (arith, less, long)) in
-              let to : get_or (starts ++ end ∷ []) (k + 1) 0 ≡ get_or starts (k + 1) 0 =
-              get_or_append_left starts (end ∷ []) 0 (k + 1) (omega (arith, less, long)) in
+              let from : get_or (starts ++ length items ∷ []) k 0 ≡ get_or starts k 0 =
+              get_or-more starts (length items) 0 k (omega (arith, less, long))
+              ∙ get_or_default starts k (length items) 0 (omega (arith, less, long)) in
+              let to : get_or (starts ++ length items ∷ []) (k + 1) end ≡ end_of items starts k =
+              get_or-more starts (length items) end (k + 1) (omega (arith, less, long)) in
               let same : get_or (lists ++ more ∷ []) k [] ≡ get_or lists k [] =
-              get_or_append_left lists (more ∷ []) [] k less in
+              get_or-more lists more [] k (omega (arith, less)) ∙ get_or_default lists k more [] less in
               rw (from, to, same) (
                 here.0,
                 omega (arith, here.1, size),
-                range-before items more (get_or starts k 0) (get_or starts (k + 1) 0) here.0 here.1 ∙ here.2,
+                range-before items more (get_or starts k 0) (end_of items starts k) here.0 here.1 ∙ here.2,
               )
           | inr past ↦
               let is_last : k ≡ n = omega (arith, past, within, length-append lists (more ∷ [])) in
-              let from : get_or (starts ++ end ∷ []) n 0 ≡ length items =
-              get_or_append_left starts (end ∷ []) 0 n (omega (arith, long)) ∙ last in
+              let from : get_or (starts ++ length items ∷ []) n 0 ≡ length items =
+              get_or-more starts (length items) 0 n (omega (arith, long))
+              ∙ get_or_past starts n (length items) (omega (arith, long)) in
+              let to : get_or (starts ++ length items ∷ []) (n + 1) end ≡ length items + length more =
+              get_or_past (starts ++ length items ∷ []) (n + 1) end
+              (omega (arith, long, length-append starts (length items ∷ []))) ∙ size in
               let there : get_or (lists ++ more ∷ []) n [] ≡ more =
-              get_or-end lists more n [] refl in
-              rw (is_last, from, now, there, is) (
+              get_or-more lists more [] n (omega arith) ∙ get_or_past lists n more (omega arith) in
+              rw (is_last, from, to, there) (
                 omega arith,
                 omega (arith, size),
                 range-behind items more,
@@ -70,28 +75,18 @@ module _ {X : Type 0} where
   -- the same where the lists are the first of some
   pub turn-step : (lists : List (List X)) (i : ℕ) (more items items' : List X) (starts starts' : List ℕ)
       → i < length lists → get_or lists i [] ≡ more → AreInTurn (take i lists) items starts
-      → get_or starts i 0 ≡ length items → items' ≡ items ++ more → starts' ≡ starts ++ length items' ∷ []
-      → AreInTurn (take (i + 1) lists) items' starts' × (get_or starts' (i + 1) 0 ≡ length items')
-  turn-step lists i more items items' starts starts' within is turn last grown said =
-      let before : length (take i lists) ≡ i = length-take i lists ∙ omega (arith, within) in
+      → items' ≡ items ++ more → starts' ≡ starts ++ length items ∷ []
+      → AreInTurn (take (i + 1) lists) items' starts'
+  turn-step lists i more items items' starts starts' within is turn grown said =
       let list : take (i + 1) lists ≡ take i lists ++ more ∷ [] =
       take_more lists i [] within ∙ ap (λ x. take i lists ++ x ∷ []) is in
-      let size : length items' ≡ length items + length more = ap length grown ∙ length-append items more in
-      let next = turn-more (take i lists) more items starts (length items') turn
-      (ap (λ k. get_or starts k 0) before ∙ last) size in
-      let long : length starts ≡ i + 1 = turn.count ∙ ap (λ n. n + 1) before in (
-        rw (list, said) (subst (λ l. AreInTurn (take i lists ++ more ∷ []) l (starts ++ length items' ∷ [])) (sym grown) next),
-        ap (λ l. get_or l (i + 1) 0) said ∙ get_or-end starts (length items') (i + 1) 0 long,
-      )
+      rw (list, grown, said) (turn-more (take i lists) more items starts turn)
 
--- the neighbours of an atom, between its start and the next one's
+-- the neighbours of an atom, between its start and its end
 pub list-at : (ends : Ends) (n : ℕ) (items : List (ℕ × ℕ)) (starts : List ℕ)
     → (lists : List (List (ℕ × ℕ))) × AreNeighbourLists ends n lists × AreInTurn lists items starts
-    → (a from to : ℕ) → a < n → from ≡ get_or starts a from → to ≡ get_or starts (a + 1) to
+    → (a from to : ℕ) → a < n → from ≡ get_or starts a 0 → to ≡ end_of items starts a
     → AreNeighbours ends a (slice_range items from to)
 list-at ends n items starts (lists, are, turn) a from to within start end =
     let there : a < length lists = omega (arith, within, are.count) in
-    let first : from ≡ get_or starts a 0 = start ∙ get_or_default starts a from 0 (omega (arith, there, turn.count)) in
-    let last : to ≡ get_or starts (a + 1) 0 =
-    end ∙ get_or_default starts (a + 1) to 0 (omega (arith, there, turn.count)) in
-    rw (first, last, (turn.each a there).2) (are.each a within)
+    rw (start, end, (turn.each a there).2) (are.each a within)

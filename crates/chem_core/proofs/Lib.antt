@@ -2,6 +2,7 @@ pub mod Ascending
 pub mod Counts
 pub mod Degrees
 pub mod Elements
+pub mod Facts
 pub mod Neighbours
 pub mod Prints
 pub mod Shared

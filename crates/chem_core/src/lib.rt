@@ -2,6 +2,7 @@
 //! of the elements. The definitions that contracts share stand in `specs/`.
 #![tactic(auto)]
 
+mod bits;
 mod element;
 mod limits;
 mod mol;

@@ -1,13 +1,15 @@
 //! Molecules: atoms and bonds as they are meant, each atom's neighbours, what lies on rings, and components.
-ghost use Rattle.std.specs.Prelude.{◌≡◌, ◌↔◌, ◌+◌, ◌<◌, ◌≤◌, ◌∷◌, ℕ, All, List, [], length, map, replicate, take, Contains, IsPermutation, IsTrue, nat_lt, position, unwrap_or, IfOk, OnOk};
+ghost use Rattle.std.specs.Prelude.{◌≡◌, ◌↔◌, ◌+◌, ◌<◌, ◌≤◌, ◌∷◌, ℕ, All, List, [], false, length, map, replicate, take, Contains, IsPermutation, IsTrue, nat_lt, position, slice_index_or, unwrap_or, IfOk, OnOk};
 ghost use Rattle.std.specs.List.Sorted.{IsStrictlyIncreasing};
 ghost use Rattle.chem_core.specs.Graph.{Ends, IsSimpleGraph, AreNeighbours, AreNeighbourLists, IsRingBond, IsSmallestRing, degree};
 ghost use Rattle.chem_core.specs.Molecule.{IsMolecule, bond_ends, ends_of};
 ghost use Rattle.chem_core.specs.Inside.{AreInTurn};
 ghost use Rattle.chem_core.specs.RingFacts.{AreRingBonds, AreSmallestRings};
 ghost use Rattle.chem_core.specs.Component.{Reaches, IsComponent, AreComponents};
+ghost use Rattle.chem_core.specs.Words.{bits_of};
 
-use crate::limits::{MOST_ATOMS, MOST_NEIGHBOURS};
+use crate::bits::{has_bit, set_bit};
+use crate::limits::{MOST_ATOMS, MOST_BONDS, MOST_NEIGHBOURS};
 use smallvec::SmallVec;
 use std::alloc::{AllocError, Global};
 use std::marker::Model;
@@ -50,6 +52,20 @@ pub struct Bond {
 // The neighbours of an atom, each with the bond to it, while they are gathered.
 type Neighbours = SmallVec<(u16, u16), 4>;
 
+// A set of bonds, a bit for each. Up to 128 bonds take no block of memory.
+type BondSet = SmallVec<u64, 2>;
+
+/// What is worked out for an atom. These lie together in one block of memory, since a catalogue has many molecules.
+#[derive(Clone, Copy, Debug)]
+struct AtomFacts {
+    // where its neighbours begin among those of all atoms
+    first_neighbour: u16,
+    // the length of its smallest ring, 0 where it is in none
+    smallest_ring: u16,
+    // the least atom of its component
+    component: u16,
+}
+
 /// A molecule: atoms and bonds as they are meant, for each atom its neighbours and its component, and what lies on
 /// rings.
 ///
@@ -60,16 +76,12 @@ type Neighbours = SmallVec<(u16, u16), 4>;
 pub struct Mol {
     atoms: Vec<Atom>,
     bonds: Vec<Bond>,
-    // the neighbours of all atoms in turn
+    // what is worked out for each atom
+    facts: Vec<AtomFacts>,
+    // the neighbours of all atoms in turn: those of an atom end where the next one's begin
     neighbours: Vec<(u16, u16)>,
-    // for each atom where its neighbours begin, and where the last one's end
-    starts: Vec<u16>,
-    // for each bond whether it is a ring bond
-    bond_in_ring: Vec<bool>,
-    // for each atom the length of its smallest ring, 0 where it is in none
-    atom_small: Vec<u16>,
-    // for each atom the least atom of its component
-    component: Vec<u16>,
+    // which bonds are ring bonds
+    ring_bonds: BondSet,
 }
 
 impl Model for Mol {
@@ -81,8 +93,8 @@ impl Model for Mol {
 
     ghost use Rattle.chem_core.specs.Inside.{IsSoundInside};
 
-    ghost invariant = { λ m. IsSoundInside m.atoms.items m.bonds.items m.neighbours.items m.starts.items
-        m.bond_in_ring.items m.atom_small.items m.component.items };
+    ghost invariant = { λ m. IsSoundInside m.atoms.items m.bonds.items m.facts.items m.neighbours.items
+        m.ring_bonds.items };
 }
 
 impl Mol {
@@ -104,15 +116,14 @@ impl Mol {
         ensures { IfOk result (λ mol. mol ≡ record { atoms = atoms.items; bonds = bonds.items }) }
     {
         let lists = neighbour_lists(alloc, atoms.len(), &bonds)?;
-        let (neighbours, starts) = in_turn(alloc, &lists, 2 * bonds.len())?;
+        let (facts, neighbours) = in_turn(alloc, &lists, 2 * bonds.len(), &atom_small, &component)?;
+        let ring_bonds = bond_set(alloc, &bond_in_ring)?;
         Ok(Mol {
             atoms,
             bonds,
+            facts,
             neighbours,
-            starts,
-            bond_in_ring,
-            atom_small,
-            component,
+            ring_bonds,
         })
     }
 
@@ -140,8 +151,8 @@ impl Mol {
         ensures valid { IsMolecule self.now }
     {
         let place = usize::from(atom);
-        let start = usize::from(self.starts[place]);
-        let end = usize::from(self.starts[place + 1]);
+        let start = usize::from(self.facts[place].first_neighbour);
+        let end = neighbours_end(&self.facts, place, self.neighbours.len());
         &self.neighbours[start..end]
     }
 
@@ -150,7 +161,7 @@ impl Mol {
         requires { bond < length self.now.bonds }
         ensures { IsTrue result ↔ IsRingBond (ends_of self.now) bond }
     {
-        self.bond_in_ring[usize::from(bond)]
+        has_bit(&self.ring_bonds, bond)
     }
 
     /// The length of the smallest ring through the atom at a place; 0 where it is in none.
@@ -158,7 +169,7 @@ impl Mol {
         requires { atom < length self.now.atoms }
         ensures { IsSmallestRing (ends_of self.now) atom result }
     {
-        self.atom_small[usize::from(atom)]
+        self.facts[usize::from(atom)].smallest_ring
     }
 
     /// The component of the atom at a place, named by its least atom: the least to which a walk along bonds leads.
@@ -166,7 +177,7 @@ impl Mol {
         requires { atom < length self.now.atoms }
         ensures { IsComponent (ends_of self.now) atom result }
     {
-        self.component[usize::from(atom)]
+        self.facts[usize::from(atom)].component
     }
 }
 
@@ -181,6 +192,16 @@ pub fn same_component()
     ensures { (ends : Ends) (a b c d : ℕ) → IsComponent ends a c → IsComponent ends b d
         → (c ≡ d) ↔ Reaches ends a b }
 {}
+
+// Where the neighbours of the atom at a place end, among those of all atoms, of which there are `count`.
+fn neighbours_end(facts: &[AtomFacts], place: usize, count: usize) -> usize
+    requires { place < length facts.now }
+    ensures { result ≡ slice_index_or (map (λ f. f.first_neighbour) facts.now) (place + 1) count }
+{
+    facts
+        .get(place + 1)
+        .map_or(count, |next| usize::from(next.first_neighbour))
+}
 
 // For each atom its neighbours, found in one pass over the bonds.
 fn neighbour_lists(
@@ -199,24 +220,50 @@ fn neighbour_lists(
     Ok(lists)
 }
 
-// The lists one after another, with room for so many pairs at first, and where each begins and the last one ends.
+// The lists one after another, with room for so many pairs at first, and what is kept for each atom: where its list
+// begins, its smallest ring and its component.
 fn in_turn(
     alloc: Global,
     lists: &[Neighbours],
     room: usize,
-) -> Result<(Vec<(u16, u16)>, Vec<u16>), AllocError>
+    smallest_rings: &[u16],
+    components: &[u16],
+) -> Result<(Vec<AtomFacts>, Vec<(u16, u16)>), AllocError>
     requires few { length lists.now ≤ MOST_ATOMS }
     requires short { All (λ v. length v.items ≤ MOST_NEIGHBOURS) lists.now }
-    ensures { IfOk result (λ r. AreInTurn (map (λ v. v.items) lists.now) r.0.items r.1.items) }
+    requires rings { length smallest_rings.now ≡ length lists.now }
+    requires components { length components.now ≡ length lists.now }
+    ensures turn { IfOk result (λ r. AreInTurn (map (λ v. v.items) lists.now) r.1.items
+        (map (λ f. f.first_neighbour) r.0.items)) }
+    ensures rings { IfOk result (λ r. map (λ f. f.smallest_ring) r.0.items ≡ smallest_rings.now) }
+    ensures components { IfOk result (λ r. map (λ f. f.component) r.0.items ≡ components.now) }
 {
-    let mut pairs = Vec::with_capacity(alloc, room)?;
-    let mut starts = Vec::with_capacity(alloc, lists.len() + 1)?;
-    starts.push(0)?;
-    for list in lists {
+    let mut facts = Vec::with_capacity(alloc, lists.len())?;
+    let mut pairs: Vec<(u16, u16)> = Vec::with_capacity(alloc, room)?;
+    for (place, list) in lists.iter().enumerate() {
+        facts.push(AtomFacts {
+            first_neighbour: pairs.len() as u16,
+            smallest_ring: smallest_rings[place],
+            component: components[place],
+        })?;
         pairs.extend_from_slice(list.as_slice())?;
-        starts.push(pairs.len() as u16)?;
     }
-    Ok((pairs, starts))
+    Ok((facts, pairs))
+}
+
+// The bonds at whose places the flags are set.
+fn bond_set(alloc: Global, flags: &[bool]) -> Result<BondSet, AllocError>
+    requires { length flags.now ≤ MOST_BONDS }
+    ensures { IfOk result (λ set. (bond : ℕ) → bond < length flags.now
+        → slice_index_or (bits_of set.items) bond false ≡ slice_index_or flags.now bond false) }
+{
+    let mut set = SmallVec::from_elem(alloc, 0, flags.len().div_ceil(64))?;
+    for (bond, flag) in flags.iter().enumerate() {
+        if *flag {
+            set_bit(&mut set, bond as u16);
+        }
+    }
+    Ok(set)
 }
 
 fn empty_lists(alloc: Global, count: usize) -> Result<Vec<Neighbours>, AllocError>

@@ -4,6 +4,7 @@ ghost use Rattle.std.specs.Prelude.{◌≡◌, ◌↔◌, ◌⊎◌, ℕ, ◌^�
 ghost use Rattle.chem_core.specs.Bits.{HasBit, set_bits, shared_bits};
 ghost use Rattle.chem_core.specs.Words.{bits_of};
 
+use crate::bits::{has_bit, set_bit};
 use std::marker::Model;
 
 /// A fingerprint: 1024 bits, numbered from 0, each set where a structure has one of the features that fall on it
@@ -37,7 +38,7 @@ impl Print {
         ensures value { self.new ≡ slice_set self.old bit true }
         ensures length { length self.new ≡ 1024 }
     {
-        self.words[usize::from(bit / 64)] |= 1 << (bit % 64);
+        set_bit(&mut self.words, bit);
     }
 
     /// Whether a bit is set. No print has a bit of a number above 1023.
@@ -45,10 +46,7 @@ impl Print {
         ensures value { IsTrue result ↔ HasBit self.now bit }
         ensures length { length self.now ≡ 1024 }
     {
-        match self.words.get(usize::from(bit / 64)) {
-            Some(word) => (*word >> (bit % 64)) & 1 == 1,
-            None => false,
-        }
+        has_bit(&self.words, bit)
     }
 
     /// Whether every bit of `need` is set in this print.

@@ -1,6 +1,5 @@
 -- How many ends a call has, by its words.
 use Rattle.std.proofs.Common.{◌≡◌, ◌∙◌, refl, ℕ, List, [], ◌∷◌, length, map, sym, ap, subst, arith}
-use Rattle.std.specs.List.{AllZip}
 use Rattle.clap.specs.Words.{Text}
 use Rattle.chem_shell.specs.Done.{HasEnds}
 use Rattle.chem_shell.specs.declared.request.Plan.{Plan}
@@ -37,8 +36,3 @@ none_of_length (x ∷ xs) none = absurd (omega (arith, none))
 
 pub none_mapped : {A B : Type 0} (f : A → B) (xs : List A) (ys : List B) → length xs ≡ 0 → ys ≡ map f xs → ys ≡ []
 none_mapped f xs ys none is = is ∙ ap (map f) (none_of_length xs none)
-
-pub zip_none : {A : Type 0} (R : A → A → Type 0) (xs ys : List A) → length xs ≡ 0 → ys ≡ xs → AllZip R xs ys
-zip_none R [] [] none is = tt
-zip_none R [] (y ∷ ys) none is = absurd (omega (arith, ap length is))
-zip_none R (x ∷ xs) ys none is = absurd (omega (arith, none))

@@ -3,17 +3,16 @@ use Rattle.std.proofs.Common.{◌≡◌, ◌⊎◌, ◌≤◌, ◌==◌, if◌th
 use Rattle.disk_edge.specs.Disk.{DiskModel}
 use Rattle.std.specs.Prelude.{All}
 use Rattle.std.specs.List.{AllZip}
-use Rattle.std.proofs.lemmas.List.Elements.{All-nil, All-cons, All-head, All-tail}
-use Rattle.io_edge.specs.Faults.{Rose}
+use Rattle.std.proofs.lemmas.List.Elements.{All-head, All-tail}
 use Rattle.journal_core.specs.Looks.{Narrows}
 use Rattle.serve_ends.specs.declared.end.End.{End}
-use Rattle.serve_ends.specs.declared.status.TheConstants.{SOURCE_FAULT, SINK_FAULT, INPUT_TOO_LONG, WORN}
+use Rattle.serve_ends.specs.declared.status.TheConstants.{WORN}
 use Rattle.store_disk.specs.declared.disks.Disks.{Disks}
 use Rattle.chem_shell.specs.declared.outcome.Outcome.{Outcome}
 use Rattle.chem_shell.specs.declared.request.Plan.{Plan}
 use Rattle.chem_shell.specs.declared.request.Verb.{Verb}
 use Rattle.chem_shell.specs.Done.{Leaves}
-use Rattle.chem_shell.specs.Status.{first_fault, IsCreationStatus, IsEndStatus, IsLoadStatus, IsSinkStatus}
+use Rattle.chem_shell.specs.Status.{first_fault, IsEndStatus, IsLoadStatus}
 use Rattle.chem_shell.specs.Ends.{with_status}
 use Rattle.chem_shell.specs.Loading.{HasCauses, HasEndCauses}
 use Rattle.chem_shell.specs.OnDisk.{IsRefused}
@@ -25,26 +24,12 @@ zip_weaker R Q f [] (y ∷ ys) h = absurd h
 zip_weaker R Q f (x ∷ xs) [] h = absurd h
 zip_weaker R Q f (x ∷ xs) (y ∷ ys) h = (f x y h.0, zip_weaker R Q f xs ys h.1)
 
-pub zip_right : {A B : Type 0} (R : A → B → Type 0) (P : B → Type 0) → ((x : A) (y : B) → R x y → P y)
-    → (xs : List A) (ys : List B) → AllZip R xs ys → All P ys
-zip_right R P f [] [] h = All-nil P
-zip_right R P f [] (y ∷ ys) h = absurd h
-zip_right R P f (x ∷ xs) [] h = absurd h
-zip_right R P f (x ∷ xs) (y ∷ ys) h = All-cons P y ys (f x y h.0) (zip_right R P f xs ys h.1)
-
 pub zip_mapped : {A : Type 0} (R : A → A → Type 0) (f : A → A) → ((x : A) → R x (f x)) → (xs ys : List A)
     → ys ≡ map f xs → AllZip R xs ys
 zip_mapped {A = A} R f g xs ys e = subst (AllZip R xs) (sym e) (go xs) where
   go : (xs : List A) → AllZip R xs (map f xs)
   go [] = tt
   go (x ∷ xs) = (g x, go xs)
-
-pub all_mapped : {A : Type 0} (P : A → Type 0) (f : A → A) → ((x : A) → P (f x)) → (xs ys : List A) → ys ≡ map f xs
-    → All P ys
-all_mapped {A = A} P f g xs ys e = subst (All P) (sym e) (go xs) where
-  go : (xs : List A) → All P (map f xs)
-  go [] = All-nil P
-  go (x ∷ xs) = All-cons P (f x) (map f xs) (g x) (go xs)
 
 -- where all ends have one status, it is the first that is not 0
 pub first_alike : {S K : Type 0} (ends : List (End S K)) (n : ℕ) → 1 ≤ length ends
@@ -70,24 +55,6 @@ first_is P done [] all = done
 first_is P done (n ∷ ns) all =
     either P (n == 0) (first_fault ns) n (first_is P done ns (All-tail P n ns all)) (All-head P n ns all)
 
--- no status of an end from which nothing is taken is its source's
-no_source_fault : (n : ℕ) → IsSinkStatus n → n ≡ SOURCE_FAULT → ⊥
-no_source_fault n (inl a) e = omega arith
-no_source_fault n (inr (inl a)) e = omega arith
-no_source_fault n (inr (inr a)) e = omega arith
-
-no_long_input : (n : ℕ) → IsSinkStatus n → n ≡ INPUT_TOO_LONG → ⊥
-no_long_input n (inl a) e = omega arith
-no_long_input n (inr (inl a)) e = omega arith
-no_long_input n (inr (inr a)) e = omega arith
-
--- no creation has the status of words that ask for nothing
-pub never_created_usage : (n : ℕ) → IsCreationStatus n → n ≡ 2 → ⊥
-never_created_usage n (inl a) e = omega arith
-never_created_usage n (inr (inl a)) e = omega arith
-never_created_usage n (inr (inr (inl a))) e = omega arith
-never_created_usage n (inr (inr (inr a))) e = omega arith
-
 -- the statuses of a loading that is refused
 load_between : (n : ℕ) → IsLoadStatus n → (5 ≤ n) × (n ≤ 8)
 load_between n (inl a) = (omega arith, omega arith)
@@ -101,11 +68,6 @@ never_loaded_usage n is e = omega (arith, load_between n is, e)
 -- a status that an end's session has
 abbrev pub IsOfEnd : ℕ → Type 0
 IsOfEnd n = IsEndStatus n ⊎ (n ≡ WORN)
-
-sink_is_of_end : (n : ℕ) → IsSinkStatus n → IsOfEnd n
-sink_is_of_end n (inl a) = inl (inl a)
-sink_is_of_end n (inr (inl a)) = inl (inr (inr (inl a)))
-sink_is_of_end n (inr (inr a)) = inl (inr (inr (inr (inl a))))
 
 -- it comes of no disk
 pub no_usage : (n : ℕ) → IsOfEnd n → n ≡ 2 → ⊥
@@ -123,17 +85,6 @@ of_no_disk n (inl (inr (inr (inl a)))) least most = omega arith
 of_no_disk n (inl (inr (inr (inr (inl a))))) least most = omega arith
 of_no_disk n (inl (inr (inr (inr (inr a))))) least most = omega arith
 of_no_disk n (inr a) least most = omega arith
-
--- the causes of an end's statuses, where nothing is taken from it
-pub sink_causes : {S K : Type 0} (left : S → Option (List ℕ)) (source_faults : S → ℕ) (sink_faults : K → ℕ)
-    (old new : End S K) → IsSinkStatus new.status
-    → (new.status ≡ SINK_FAULT → Rose (sink_faults old.sink) (sink_faults new.sink))
-    → HasEndCauses left source_faults sink_faults old new
-sink_causes left source_faults sink_faults old new status fault = record {
-  source_fault = λ e. absurd (no_source_fault new.status status e);
-  sink_fault = fault;
-  input_too_long = λ e. absurd (no_long_input new.status status e);
-}
 
 -- where the store was not loaded, no status of an end is its own objects'
 pub load_causes : {S K : Type 0} (left : S → Option (List ℕ)) (source_faults : S → ℕ) (sink_faults : K → ℕ)

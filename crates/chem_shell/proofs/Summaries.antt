@@ -1,10 +1,8 @@
 -- What `bulk` puts.
 use Rattle.std.proofs.Common.{◌≡◌, ◌∙◌, ℕ, List, [], ◌++◌, Option, None, Some, Result, Ok, Err, Vec, IfOk, refl, sym, ap, subst, append-nil}
 use Rattle.std.specs.declared.alloc.Global.{Global}
-use Rattle.std.specs.Io.KnownBytes.{Appends}
 use Rattle.chem_gen.specs.Script.{script_of}
 use Rattle.chem_gen.specs.Summary.{summary_of}
-use Rattle.io_edge.specs.Sink.{AppendsPrefix}
 use Rattle.session_run.specs.Cursors.{Calls}
 use Rattle.session_run.specs.Served.{Writes}
 use Rattle.session_run.specs.declared.settings.EndStatus.TheVariants.{Done}
@@ -13,20 +11,6 @@ use Rattle.chem_shell.specs.Serving.{IsScriptServed}
 use Rattle.chem_shell.specs.Summed.{IsSummary, IsSummaryPrefix, WritesNothing}
 use Rattle.chem_shell.specs.declared.request.Plan.{Plan}
 use Rattle.chem_shell.proofs.Asked.{SamePlan, some_same}
-
-pub writes_all : (before after : Option (List ℕ)) (text : List ℕ) (P : List ℕ → Type 0) → Appends before after text
-    → P text → Writes before after P
-writes_all None after text P appends is = tt
-writes_all (Some old) None text P appends is = absurd appends
-writes_all (Some old) (Some new) text P appends is = (text, ap Some appends, is)
-
-pub writes_prefix : (plan : Plan) (before after : Option (List ℕ)) (text : List ℕ) → AppendsPrefix before after text
-    → IsSummary plan text → Writes before after (IsSummaryPrefix plan)
-writes_prefix plan before after text part is =
-    writes_all before after part.0 (IsSummaryPrefix plan) part.3 (text, (part.1, sym part.2), is)
-
-pub writes_nothing : (before after : Option (List ℕ)) → Appends before after [] → WritesNothing before after
-writes_nothing before after appends = writes_all before after [] (λ text. text ≡ []) appends refl
 
 -- where nothing was put
 pub nothing_unmoved : (before : Option (List ℕ)) → WritesNothing before before

@@ -29,10 +29,10 @@ impl Model for FileDisk {
 }
 
 impl FileDisk {
-    /// The regular file of this path, for reading and writing, under an exclusive lock that the disk holds. With `create`
-    /// it is made where nothing is there, and its folder is synced. Where the path names something else, another holds
-    /// the lock, or a standard stream is closed, so that the file would stand for it, each call of the disk fails; no
-    /// byte of anything was changed then.
+    /// The regular file of this path, for reading and writing, under an exclusive lock that the disk holds. With
+    /// `create` it is made where nothing is there, and its folder is synced. Where the path names something else,
+    /// another holds the lock, or a standard stream is closed, so that the file would stand for it, each call of the
+    /// disk fails; no byte of anything was changed then.
     pub fn at<R: Files<File = File>>(rt: &R, path: &str, create: bool) -> FileDisk
         ensures { result ≡ 0 }
     {

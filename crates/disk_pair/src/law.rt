@@ -12,8 +12,8 @@ ghost use Rattle.disk_pair.specs.Term.{OfEachPair};
 use crate::pair::Pair;
 use disk_edge::Disk;
 
-/// Two disks open to one history. Where one of them is open, one is read. What was written on one disk, behind which any
-/// bytes may stand, is read where the other one is not open.
+/// Two disks open to one history. Where one of them is open, one is read. What was written on one disk, behind which
+/// any bytes may stand, is read where the other one is not open.
 pub fn a_pair_opens_one_way()
     ensures one_history { (h k : History) (a b : List ℕ) → PairOpens h a b → PairOpens k a b → h ≡ k }
     ensures some { (a b : List ℕ) → IsOpen a ⊎ IsOpen b → (c : List ℕ) × Picks a b c }

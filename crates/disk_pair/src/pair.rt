@@ -1,6 +1,6 @@
 //! Two disks on which commits are made, and a copy on the one that is not read. `append` reads in the order of a commit
-//! that no crash undoes: a finish that may be in doubt is ended first, since the copy lacks the commit; then the journal
-//! takes it.
+//! that no crash undoes: a finish that may be in doubt is ended first, since the copy lacks the commit; then the
+//! journal takes it.
 
 ghost use Rattle.std.specs.Prelude.{◌≡◌, ◌<◌, ◌≤◌, ◌+◌, ◌^◌, ◌⊎◌, [], Bool, Option, false, true, ℕ, List, Some, None, length, not, is_some, OnErr, OnOk};
 ghost use Rattle.disk_edge.specs.Disk.{Faulted, IfTold, OnFailed};
@@ -140,8 +140,8 @@ impl<D: Disk + Drop> Pair<D> {
         outcome
     }
 
-    /// Adds a base record to the running copy, a payload of 1 to 1,048,576 bytes. Where the disk fails, the copy is given
-    /// up, and its disk is not open. Where memory runs out, it goes on as it was.
+    /// Adds a base record to the running copy, a payload of 1 to 1,048,576 bytes. Where the disk fails, the copy is
+    /// given up, and its disk is not open. Where memory runs out, it goes on as it was.
     pub fn put_base(&mut self, payload: &[u8]) -> Result<(), PutFault>
         requires left { LacksBase (progress_of self.old.other) }
         requires some { 1 ≤ length payload.now }
@@ -202,9 +202,9 @@ impl<D: Disk + Drop> Pair<D> {
         outcome
     }
 
-    /// Ends the running copy, which has all its base records, and the commits that were made meanwhile. At `Ok` its disk
-    /// is the current one, and the other one is idle: each crash from then on leaves the copy. Where the disk fails, the
-    /// copy is given up; with `doubt` a crash may leave it. Where memory runs out, it goes on as it was.
+    /// Ends the running copy, which has all its base records, and the commits that were made meanwhile. At `Ok` its
+    /// disk is the current one, and the other one is idle: each crash from then on leaves the copy. Where the disk
+    /// fails, the copy is given up; with `doubt` a crash may leave it. Where memory runs out, it goes on as it was.
     pub fn finish(&mut self) -> Result<(), PutFault>
         requires based { IsBased (progress_of self.old.other) }
 

@@ -34,10 +34,6 @@ one_above None b n h k = absurd k
 one_above (Some m) None n h k = absurd h
 one_above (Some m) (Some l) n h k = omega (arith, h, k)
 
-no_stop : (n : ℕ) → (n ≡ 0 → ⊥) → 1 ≤ n
-no_stop zero h = absurd (h refl)
-no_stop (suc n) h = omega arith
-
 -- events of a session's line
 pub tally-session : (t : Tally) (old new : Failures) (calls : Calls) → Tallies t old → IsSmall t
     → NotAbove (bound_of old) (bound_of new)
@@ -58,10 +54,6 @@ tally-session t old new calls h small bound counted = by t.stops refl where
       × Tallies (record t { faults = t.faults + faults_in calls }) new
   by zero e = let a = after e in (inr (inr (omega (arith, a.1, a.2))), λ z. ((after z).0, (after z).1))
   by (suc n) e = (inr (inl (omega (arith, e))), λ z. absurd (omega (arith, e, z)))
-
--- no event
-pub tally-none : (t : Tally) → MayFail t 0
-tally-none t = inl refl
 
 pub tally-stop : (t : Tally) (new : Failures) → Tallies (record t { stops = t.stops + 1 }) new
 tally-stop t new = λ e. absurd (omega (arith, e))

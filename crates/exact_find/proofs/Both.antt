@@ -1,5 +1,5 @@
 -- The colours of both sides are kept by each map that goes on from the pairs.
-use Rattle.std.proofs.Common.{◌≡◌, ◌≢◌, ℕ, ◌+◌, ◌-◌, ◌*◌, ◌%◌, ◌^◌, ◌<◌, ◌≤◌, inl, inr, List, [], ◌∷◌, ◌++◌, length, take, set, get_or, map, sum, slice_get, Some, pos, false, refl, sym, ap, ◌∙◌, subst, arith}
+use Rattle.std.proofs.Common.{◌≡◌, ◌≢◌, ℕ, ◌+◌, ◌-◌, ◌*◌, ◌%◌, ◌^◌, ◌<◌, ◌≤◌, inl, inr, List, [], ◌∷◌, ◌++◌, length, take, set, get_or, map, sum, slice_get, Some, pos, false, refl, sym, ap, ◌∙◌, arith}
 use Rattle.std.proofs.lemmas.Bool.{cases_eq}
 use Rattle.std.proofs.lemmas.List.{get_or-set_same, get_or-set_other, get_or-take, length-take-le}
 use Rattle.std.proofs.lemmas.Option.{slice_get-get_or, slice_get_within}
@@ -81,20 +81,6 @@ codes-kept m n f g c d is too all left right = λ x inside.
     left x atom.0 atom.1 ∙ ap (λ k. k * 13 + degree (ends_of m) x) (same_code atom.0 to.0 to.2)
     ∙ ap (λ k. atom_code to.0 * 13 + k) same ∙ sym (right (f x) to.0 to.1)
 
--- a list of all atoms
-pub all-in : (n : ℕ) (list : List ℕ) → n ≤ length list → ((x : ℕ) → x < n → get_or list x 0 ≡ x)
-    → AreInRange n (take n list)
-all-in n list room is =
-    let long : length (take n list) ≡ n = length-take-le n list room in
-    let read : (i : ℕ) → i < n → get_or (take n list) i 0 ≡ i = λ i h. get_or-take n list i 0 h ∙ is i h in
-    record {
-      within = λ i h. let less : i < n = omega arith in subst (λ z. z < n) (sym (read i less)) less;
-      apart = λ i j h l same.
-          let less : i < n = omega arith in
-          let lower : j < n = omega arith in
-          sym (read i less) ∙ same ∙ read j lower;
-    }
-
 pub all-matched : (m n : Molecule) (f g : ℕ → ℕ) (list other : List ℕ) → length m.atoms ≤ length list
     → length n.atoms ≤ length other → ((x : ℕ) → x < length m.atoms → get_or list x 0 ≡ x)
     → ((x : ℕ) → x < length n.atoms → get_or other x 0 ≡ x) → IsMap m n f g
@@ -157,13 +143,6 @@ pair-within m n ps a b partial has =
 pub last-pair : (ps : List (ℕ × ℕ)) → 0 < length ps
     → Has ps (get_or ps (length ps - 1) (0, 0)).0 (get_or ps (length ps - 1) (0, 0)).1
 last-pair ps some = (length ps - 1, omega arith, refl)
-
--- what is below the atoms is below the most atoms
-pub in-room : (n most : ℕ) (list : List ℕ) → n ≤ most → AreInRange n list → AreInRange most list
-in-room n most list few is = record {
-  within = λ i h. let below = is.within i h in omega arith;
-  apart = is.apart;
-}
 
 -- where the colours of two atoms differ, no map takes one to the other
 pub rough-refused : (m n : Molecule) (ps : List (ℕ × ℕ)) (a b : ℕ) (rl rr : List ℕ) (i j v w : ℕ)

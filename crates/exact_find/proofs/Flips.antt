@@ -24,11 +24,6 @@ flipped ps = record {
       (has.0, within, ap turn (sym (flip-at ps has.0 within) ∙ has.2));
 }
 
--- no pair with the atom, by places
-pub none-paired : (ps : List (ℕ × ℕ)) (a : ℕ) → ((k : ℕ) → k < length ps → (get_or ps k (0, 0)).0 ≢ a) → IsPaired ps a
-    → ⊥
-none-paired ps a none has = none has.1.0 has.1.1 (ap (λ (p : ℕ × ℕ). p.0) has.1.2)
-
 pub none-paired_back : (ps : List (ℕ × ℕ)) (a : ℕ) → ((k : ℕ) → k < length ps → (get_or ps k (0, 0)).1 ≢ a)
     → IsPaired (flip ps) a → ⊥
 none-paired_back ps a none has =

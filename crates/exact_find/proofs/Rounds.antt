@@ -1,10 +1,9 @@
 -- A round of colours is kept by each map that keeps the colours before, and the sums of both sides are the same.
-use Rattle.std.proofs.Common.{◌≡◌, ℕ, zero, suc, ◌+◌, ◌-◌, ◌%◌, ◌^◌, ◌<◌, ◌≤◌, inl, inr, List, [], ◌∷◌, ◌++◌, length, take, get_or, map, sum, sym, ap, ◌∙◌, subst, arith, length-append}
+use Rattle.std.proofs.Common.{◌≡◌, ℕ, zero, suc, ◌+◌, ◌-◌, ◌%◌, ◌^◌, ◌<◌, ◌≤◌, inl, inr, List, [], ◌∷◌, ◌++◌, length, get_or, map, sum, sym, ap, ◌∙◌, subst, arith, length-append}
 use Rattle.std.specs.List.Sorted.{IsStrictlyIncreasing}
-use Rattle.std.proofs.Math.Nat.{mod-add-mod}
 use Rattle.std.proofs.Math.Seq.{get_or-append_seam}
 use Rattle.std.proofs.lemmas.Bool.{cases_lt}
-use Rattle.std.proofs.lemmas.List.{map-append, length-map, get_or-map, get_or_append_left, take_more}
+use Rattle.std.proofs.lemmas.List.{length-map, get_or-map, get_or_append_left}
 use Rattle.chem_core.specs.declared.mol.BondKind.{BondKind}
 use Rattle.chem_core.specs.Graph.{AreNeighbours}
 use Rattle.chem_core.specs.Molecule.{Molecule, IsMolecule, ends_of}
@@ -17,17 +16,6 @@ use Rattle.exact_find.proofs.Maps.{turned}
 use Rattle.exact_find.proofs.Near.{near_bond, near_each, one_kind}
 use Rattle.exact_find.proofs.Onto.{IsOneToOne, find_below}
 use Rattle.exact_find.proofs.Steps.{Decided}
-use Rattle.exact_find.proofs.Sums.{sum_more}
-
--- one summand more
-pub total-more : (f : ℕ → ℕ) (xs : List ℕ) (i s v : ℕ) → i < length xs → v ≡ f (get_or xs i 0)
-    → s ≡ sum (map f (take i xs)) % 2 ^ 64 → (s + v) % 2 ^ 64 ≡ sum (map f (take (i + 1) xs)) % 2 ^ 64
-total-more f xs i s v within is before =
-    let old : List ℕ = map f (take i xs) in
-    let x : ℕ = get_or xs i 0 in
-    ap (λ n. (n + v) % 2 ^ 64) before ∙ mod-add-mod (sum old) (2 ^ 64) v ∙ ap (λ n. (sum old + n) % 2 ^ 64) is
-    ∙ ap (λ n. n % 2 ^ 64) (sym (sum_more old (f x))) ∙ ap (λ zs. sum zs % 2 ^ 64) (sym (map-append f (take i xs) (x ∷ [])))
-    ∙ ap (λ zs. sum (map f zs) % 2 ^ 64) (sym (take_more xs i 0 within))
 
 -- the place that was found, or 0
 place_of : (f : ℕ → ℕ) (y n : ℕ) → Decided ((x : ℕ) × (x < n) × (f x ≡ y)) → ℕ

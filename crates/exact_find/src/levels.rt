@@ -11,8 +11,8 @@ pub const FAR: u16 = 0xFFFF;
 /// The level of an atom in a pair. It is not passed.
 pub const IN_PAIR: u16 = 0xFFFE;
 
-/// Lists the atoms that hang on an atom, that atom first, and sets their levels: how many bonds lead to them. Bonds lead
-/// through atoms that are `FAR` before. Returns how many atoms there are.
+/// Lists the atoms that hang on an atom, that atom first, and sets their levels: how many bonds lead to them. Bonds
+/// lead through atoms that are `FAR` before. Returns how many atoms there are.
 pub fn reach(mol: &Mol, start: u16, levels: &mut [u16], list: &mut [u16]) -> usize
     requires molecule { IsMolecule mol.now }
     requires in_range { start < length mol.now.atoms }

@@ -39,9 +39,10 @@ impl SameScratch {
 /// Whether the molecules are the same structure: some one-to-one map of their atoms keeps element, isotope, charge,
 /// hydrogens and whether an atom is aromatic, and takes the bonds of one to the bonds of the other, with their kinds.
 ///
-/// Takes no memory. Where several atoms can be the partner of one, the colours of what hangs on them are compared: levels
-/// from that atom, then six rounds over neighbours. So most pairs fail at once that cannot be. The worst case still
-/// takes exponential time: graphs by Cai, Fürer and Immerman, and large symmetric graphs of which few bonds differ.
+/// Takes no memory. Where several atoms can be the partner of one, the colours of what hangs on them are compared:
+/// levels from that atom, then six rounds over neighbours. So most pairs fail at once that cannot be. The worst case
+/// still takes exponential time: graphs by Cai, Fürer and Immerman, and large symmetric graphs of which few bonds
+/// differ.
 pub fn same(left: &Mol, right: &Mol, scratch: &mut SameScratch) -> bool
     ensures { IsTrue result ↔ IsSame left.now right.now }
 {

@@ -16,8 +16,8 @@ const PIECE: usize = 16 * 1024;
 // How often a call that a signal interrupted is made again.
 const TRIES: u32 = 1_000_000;
 
-/// A reader of std as a source. Each error of the reader is a fault, but an interrupted call is made again. Over a reader
-/// whose bytes std's clauses know, it tells what is left. Over a file or a terminal it tells nothing.
+/// A reader of std as a source. Each error of the reader is a fault, but an interrupted call is made again. Over a
+/// reader whose bytes std's clauses know, it tells what is left. Over a file or a terminal it tells nothing.
 #[derive(Drop)]
 pub struct StdSource<R> {
     reader: R,

@@ -1,5 +1,5 @@
 -- The classes at which recursive parts are asked: more of them, and enough.
-use Rattle.std.proofs.Common.{◌≡◌, ℕ, ◌<◌, List, length, get_or, set, slice_get, slice_index, Some, All, bit_or, sym, ap, ◌∙◌, subst, inl, inr, refl}
+use Rattle.std.proofs.Common.{◌≡◌, ℕ, ◌<◌, List, length, get_or, set, slice_get, slice_index, Some, All, bit_or, sym, ap, ◌∙◌, subst, inl, inr}
 use Rattle.std.specs.Int.{bit_at}
 use Rattle.std.proofs.lemmas.Bool.{cases_eq}
 use Rattle.std.proofs.lemmas.List.{get_or-set_other, get_or-set_same}
@@ -37,11 +37,6 @@ names_below S n (Prim p) below all = names_prim_below S n p below all
 names_below S n (Not e) below all = names_below S n e below all
 names_below S n (And e f) below all = (names_below S n e below.0 all, names_below S n f below.1 all)
 names_below S n (Or e f) below all = (names_below S n e below.0 all, names_below S n f below.1 all)
-
--- a primitive that names no part
-pub names_none : (S : ℕ → Type 0) (p : AtomPrim) → ((k : ℕ) → p ≡ atoms.Rec k → ⊥) → PrimNames S p
-names_none S (atoms.Rec k) h = absurd (h k refl)
-names_none S _ h = tt
 
 -- classes are added to a word of a list
 pub within_set : (old : List ℕ) (n classes : ℕ) → n < length old

@@ -1,5 +1,5 @@
 -- An expression is true only at atoms of its classes.
-use Rattle.std.proofs.Common.{◌≡◌, ◌⊎◌, ℕ, ◌<◌, take, ◌++◌, ◌∷◌, [], Bool, true, false, bit_and, bit_or, List, length, get_or, slice_index, All, pos, Some, slice_get, sym, ap, ◌∙◌, subst, arith, inl, inr, refl}
+use Rattle.std.proofs.Common.{◌≡◌, ◌⊎◌, ℕ, ◌<◌, take, Bool, true, false, bit_and, bit_or, List, length, get_or, slice_index, All, pos, Some, slice_get, sym, ap, ◌∙◌, subst, arith, inl, inr, refl}
 use Rattle.std.specs.Int.{bit_at}
 use Rattle.std.proofs.lemmas.Nat.Bits.{bit_at_and, bit_at_or, bit_at_ones, bit_at-lt, bit_at-zero}
 use Rattle.std.proofs.lemmas.List.{get_or-take, length-take-le}
@@ -13,9 +13,8 @@ use Rattle.smarts_parse.specs.Pattern.{GraphTerm, Term, Prim, Not, And, Or}
 use Rattle.smarts_parse.specs.Truth.{AtomPrimTrue, AtomTrue}
 use Rattle.matcher.specs.Class.{class_at, class_of, Covers, MayBe, PrimMayBe}
 use Rattle.matcher.specs.declared.plan.EarlierBonds.{EarlierBonds}
-use Rattle.matcher.specs.Partial.{IsPartial, Parts}
+use Rattle.matcher.specs.Partial.{Parts}
 use Rattle.matcher.specs.Plan.{IsReady, step_at}
-use Rattle.matcher.proofs.Partials.{IsPartial-last}
 
 pub class_below : (number : ℕ) (aromatic : Bool) → class_at number aromatic < 64
 class_below number true = omega arith
@@ -65,18 +64,6 @@ stands_in parts m a classes e covers within h =
     let x = get_or m.atoms a no_element in
     covers (class_of x) (class_below x.number x.aromatic)
     (may_be_true parts e m a x (slice_get-get_or m.atoms a no_element within) h)
-
--- and one that stands at the next place of a graph is of the classes of its step
-pub stands_next : (parts : Parts) (g : GraphTerm) (m : Molecule) (steps : List EarlierBonds) (front : List ℕ) (atom : ℕ)
-    → IsReady g steps → length front < length g.atoms → atom < length m.atoms
-    → IsPartial parts g m (front ++ atom ∷ [])
-    → bit_at (step_at steps (length front)).classes (class_of (get_or m.atoms atom no_element)) ≡ 1
-stands_next parts g m steps front atom ready few within p =
-    let e : Term AtomPrim = get_or g.atoms (length front) (Prim atoms.Any) in
-    let last = IsPartial-last parts g m front atom p in
-    stands_in parts m atom (step_at steps (length front)).classes e
-    (ready.covered (length front) few (Prim atoms.Any)) within
-    (last.1 e (slice_get-get_or g.atoms (length front) (Prim atoms.Any) few))
 
 -- the same of any place of an embedding
 pub stands_at : (parts : Parts) (g : GraphTerm) (m : Molecule) (steps : List EarlierBonds) (image : List ℕ) (place atom : ℕ)

@@ -1,7 +1,9 @@
 -- Embeddings that have some atoms already: where the next place may stand.
 use Rattle.std.proofs.Common.{◌≡◌, ◌⊎◌, ℕ, ◌<◌, ◌≤◌, List, Contains, length, map, max, take, set, slice_index, get_or, sym, ap, ◌∙◌, subst, arith, inl, inr}
+use Rattle.std.specs.Int.{bit_at}
 use Rattle.std.proofs.lemmas.Bool.{cases_eq, cases_order}
-use Rattle.std.proofs.lemmas.List.{get_or-map, get_or_default, get_or-set_other, get_or-set_same, get_or-take, length-map, length-take-le}
+use Rattle.std.proofs.lemmas.List.{get_or-map, get_or_default, get_or-set_other, get_or-set_same, get_or-take, length-map, length-set, length-take-le}
+use Rattle.std.proofs.lemmas.Nat.Bits.{bit_at-zero}
 use Rattle.chem_core.specs.Graph.{AreNeighbours, JoinsAt}
 use Rattle.chem_core.specs.Molecule.{ends_of}
 use Rattle.smarts_parse.specs.declared.pattern.PatBond.{PatBond}
@@ -10,7 +12,7 @@ use Rattle.smarts_parse.specs.Embedding.{BondEmbeds}
 use Rattle.smarts_parse.specs.Pattern.{BondTerm, Prim, bond_of, graph_of, term_of}
 use Rattle.smarts_parse.specs.Truth.{BondTrue}
 use Rattle.matcher.specs.declared.fit.Task.{Task}
-use Rattle.matcher.specs.Hunt.{Asks, Continues}
+use Rattle.matcher.specs.Hunt.{AreTaken, Asks, Continues}
 use Rattle.matcher.specs.Task.{Embeds, IsReadyTask}
 use Rattle.matcher.proofs.Joins.{among_neighbours, joined_back, neighbour_joined, one_bond}
 use Rattle.matcher.proofs.Plans.{high_below}
@@ -138,3 +140,46 @@ none_taken task taken whole n all none h = record {
   embeds = h;
   agrees = λ q l at. let free = none q (omega (arith, h.one_each)) in absurd (omega arith);
 }
+
+-- no atom is taken yet
+pub none_used : (task : Task) (taken : List ℕ) → AreTaken task 0 taken
+none_used task taken a t = absurd (omega (arith, bit_at-zero a, t))
+
+-- a free place takes an atom
+pub used_more : (task : Task) (taken : List ℕ) (used new place atom : ℕ) → place < length task.graph.now.atoms.items
+    → length task.graph.now.atoms.items ≤ length taken → length task.mol.now.atoms ≤ slice_index taken place
+    → atom < length task.mol.now.atoms → AreTaken task used taken
+    → ((a : ℕ) → bit_at new a ≡ 1 → (a ≡ atom) ⊎ (bit_at used a ≡ 1)) → AreTaken task new (set taken place atom)
+used_more task taken used new place atom l room free in_range old more a t =
+    let n = length task.graph.now.atoms.items in
+    let size : length (take n (set taken place atom)) ≡ n = length-take-le n (set taken place atom)
+    (omega (arith, room, length-set taken place atom)) in
+    elim (more a t) [
+      | inl same ↦ (
+        subst (λ k. k < length task.mol.now.atoms) (sym same) in_range,
+        (
+          place,
+          omega (arith, size, l),
+          get_or-take n (set taken place atom) place a l ∙ get_or-set_same taken place atom a (omega arith)
+              ∙ sym same,
+        ),
+      )
+      | inr before ↦
+          let w = old a before in
+          let q : ℕ = w.1.0 in
+          let within : q < n = omega (arith, w.1.1, length-take-le n taken room) in
+          let read : slice_index taken q ≡ a = sym (get_or-take n taken q 0 within)
+          ∙ get_or_default (take n taken) q 0 a w.1.1 ∙ w.1.2 in
+          let apart : q ≡ place → ⊥ = λ e.
+          let moved : slice_index taken q ≡ slice_index taken place = ap (λ i. slice_index taken i) e in
+          let inside = w.0 in
+          omega arith in (
+            w.0,
+            (
+              q,
+              omega (arith, size, within),
+              get_or-take n (set taken place atom) q a within ∙ get_or-set_other taken place q atom a apart
+                  ∙ sym (get_or-take n taken q a within) ∙ w.1.2,
+            ),
+          )
+    ]

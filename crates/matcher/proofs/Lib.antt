@@ -1,5 +1,6 @@
 pub mod Joins
 pub mod Partials
+pub mod Leans
 pub mod Leasts
 pub mod Plans
 pub mod Layouts

@@ -107,10 +107,11 @@ embedded task image j x y e joined =
     ]
 
 -- all neighbours are near
-pub near_reach : (task : Task) (marks : List Bool) (near : List ℕ) → AreNear task.mol.now near → IsReach task marks near
+pub near_reach : (task : Task) (marks : List Bool) (near : List ℕ) → ((j : ℕ) → IsMarked marks j → AreNear task.mol.now near)
+    → IsReach task marks near
 near_reach task marks near all image e j x y marked joined =
     let there = embedded task image j x y e joined in
-    all there.0 (slice_index image x) (slice_index image y) there.1
+    all j marked there.0 (slice_index image x) (slice_index image y) there.1
 
 -- neighbours by ring bonds are near by bonds on rings
 pub ring_reach : (task : Task) (marks : List Bool) (near : List ℕ) → AreOnRings task marks

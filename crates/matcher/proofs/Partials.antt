@@ -3,7 +3,7 @@ use Rattle.std.proofs.Common.{◌≡◌, ◌≢◌, ℕ, ◌<◌, ◌≤◌, Lis
 use Rattle.std.proofs.lemmas.Bool.{cases_lt}
 use Rattle.std.proofs.Math.ListN.{get_or-append}
 use Rattle.std.proofs.Math.Seq.{get_or-append_seam}
-use Rattle.std.proofs.lemmas.List.{append-nil, get_or-map, get_or_default, get_or_push, length-map, length-take-le, length_push}
+use Rattle.std.proofs.lemmas.List.{get_or-map, get_or_default, get_or_push, length-map, length-take-le, length_push}
 use Rattle.std.proofs.lemmas.List.Elements.{All-push}
 use Rattle.std.proofs.lemmas.List.Quantifiers.{all_pairs_push}
 use Rattle.std.proofs.lemmas.Option.{slice_get_within}
@@ -246,16 +246,6 @@ embeds_joined m front atom bond high apart =
       ),
     ))
     (cases_lt bond.a bond.b)
-
--- with all atoms placed there is nothing more to place
-pub CanComplete-whole : (parts : Parts) (g : GraphTerm) (m : Molecule) (image : List ℕ)
-    → All (λ e. (e.0 < length g.atoms) × (e.1 < length g.atoms)) (pattern_ends g) → length image ≡ length g.atoms
-    → IsPartial parts g m image → CanComplete parts g m image
-CanComplete-whole parts g m image ends full h = (
-  [],
-  subst (IsEmbedding parts g m) (sym (append-nil image))
-      (IsPartial-whole parts g m image ends full h),
-)
 
 -- what can be completed begins with a partial embedding
 pub IsPartial-from_completion : (parts : Parts) (g : GraphTerm) (m : Molecule) (image : List ℕ)

@@ -14,16 +14,6 @@ use Rattle.matcher.specs.Plan.{ArePlanned, AreCovered, IsReady, step_at}
 abbrev pub empty : EarlierBonds
 empty = record { from = 0; to = 0; classes = 0 }
 
-pub planned_none : (bonds : List BondTerm) (atoms : ℕ) (steps : List EarlierBonds) → atoms ≤ length steps
-    → ((k : ℕ) → k < atoms → (step_at steps k).to ≡ 0) → ArePlanned bonds 0 atoms steps
-planned_none bonds atoms steps room none = record {
-  room = room;
-  within = λ k d l. absurd (omega arith);
-  ends = λ k l. let e = none k l in omega arith;
-  proper = λ k l. inl (none k l);
-  first = λ k d l lt. let e = none k l in absurd (omega arith);
-}
-
 -- one bond more
 pub planned_more : (bonds : List BondTerm) (n atoms : ℕ) (steps : List EarlierBonds) (h : ℕ) (next : EarlierBonds) (bond : BondTerm)
     → ArePlanned bonds n atoms steps → n < length bonds → ((d : BondTerm) → get_or bonds n d ≡ bond)

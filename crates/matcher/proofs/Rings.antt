@@ -332,11 +332,14 @@ way_longer task from next to above bond old new last lower bound joined w others
 }
 
 -- nothing is marked
-pub no_marks : (task : Task) (n : ℕ) → AreOnRings task (replicate n false)
-no_marks task n j marked = absurd (false≢true (sym (none j) ∙ marked))
+pub not_marked : (n j : ℕ) → IsMarked (replicate n false) j → ⊥
+not_marked n j marked = false≢true (sym none ∙ marked)
   where
-    none : (j : ℕ) → get_or (replicate n false) j false ≡ false
-    none j = elim (cases_lt j n) [
+    none : get_or (replicate n false) j false ≡ false
+    none = elim (cases_lt j n) [
       | inl low ↦ get_or-replicate n j false false low
       | inr high ↦ get_or_past (replicate n false) j false (omega (arith, length-replicate n false))
     ]
+
+pub no_marks : (task : Task) (n : ℕ) → AreOnRings task (replicate n false)
+no_marks task n j marked = absurd (not_marked n j marked)

@@ -1,5 +1,6 @@
 -- For private clauses alone: embeddings that have some atoms already. A place is taken where the image has an atom.
-use Rattle.std.specs.Prelude.{◌≡◌, ℕ, ◌<◌, ◌≤◌, List, length, slice_index, slice_index_or}
+use Rattle.std.specs.Prelude.{◌≡◌, ℕ, ◌<◌, ◌≤◌, List, Contains, length, slice_index, slice_index_or, take}
+use Rattle.std.specs.Int.{bit_at}
 use Rattle.chem_core.specs.Graph.{JoinsAt}
 use Rattle.chem_core.specs.Molecule.{ends_of}
 use Rattle.smarts_parse.specs.Pattern.{BondTerm, graph_of}
@@ -28,3 +29,8 @@ abbrev pub Asks : Task → List ℕ → ℕ → ℕ → ℕ → Type 0
 Asks task taken place from bond = (d : BondTerm) (image : List ℕ) → Continues task taken image
     → (b : ℕ) × JoinsAt (ends_of task.mol.now) b from (slice_index image place)
     × BondTrue (slice_index_or (graph_of task.graph.now).bonds bond d).expr task.mol.now b
+
+-- the bits of a word are atoms of the molecule at which places stand
+abbrev pub AreTaken : Task → ℕ → List ℕ → Type 0
+AreTaken task used taken = (a : ℕ) → bit_at used a ≡ 1
+    → (a < length task.mol.now.atoms) × Contains (take (length task.graph.now.atoms.items) taken) a

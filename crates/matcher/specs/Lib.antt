@@ -1,6 +1,7 @@
 pub mod Class
 pub mod Hunt
 pub mod Candidates
+pub mod Lean
 pub mod Least
 pub mod Narrow
 pub mod Partial

@@ -17,6 +17,7 @@ use crate::fit::Task;
 use crate::grouping::Grouping;
 use crate::hunt::{is_whole, may_continue};
 use crate::lay::{Placement, is_rare, lay, start_at};
+use crate::lean::place_least;
 use crate::narrow::Narrowing;
 use crate::parts::note_parts;
 use crate::plan::{EarlierBonds, is_loose};
@@ -24,7 +25,6 @@ use crate::prepare::{Prepared, only_part};
 use crate::refusal::{has_bond, is_crowded, lacks_atom};
 use crate::ring::lacks_ring;
 use crate::scratch::{Memory, Scratch};
-use crate::search::extend;
 use chem_core::Mol;
 use smarts_parse::{Expr, Graph, Pattern};
 
@@ -138,7 +138,7 @@ fn exists(
     if let Some(found) = seek(&task, candidates, order, &mut memory.stops, image) {
         return found;
     }
-    extend(&task, candidates, image, &mut memory.choices, 0)
+    place_least(&task, candidates, image, &mut memory.choices)
 }
 
 // Whether the graph has an embedding, where searches in orders of their own find it out. One from its first place is
@@ -220,7 +220,7 @@ fn finds_none(task: &Task, candidates: &Candidates, order: &[Placement], image: 
     for place in 0..task.graph.atoms.len() {
         image[place] = no_atom;
     }
-    !may_continue(task, candidates, order, image, 0)
+    !may_continue(task, candidates, order, image, 0, 0)
 }
 
 // Leaves the least embedding at the front of the image, if there is one.
@@ -253,7 +253,7 @@ fn find(pattern: &Pattern, prepared: &Prepared, mol: &Mol, memory: &mut Memory) 
         return false;
     }
     let image = &mut memory.image;
-    extend(&task, &memory.candidates, image, &mut memory.choices, 0)
+    place_least(&task, &memory.candidates, image, &mut memory.choices)
 }
 
 // Whether it is found before any search that the graph has no embedding. If not, the candidates of its places are

@@ -21,6 +21,9 @@ use std::alloc::{AllocError, Global};
 /// the first block of atoms, then those for the second.
 pub const MOST_WORDS: usize = 16 * MOST_PLACES;
 
+/// The most atoms of a molecule for which one word has a bit each.
+pub const MOST_BITS: usize = 64;
+
 /// The candidates of the places of a graph. There is room for every graph and molecule within the limits.
 #[derive(Debug, Drop)]
 pub struct Candidates {
@@ -143,8 +146,8 @@ fn place_truth(task: &Task, block: usize, place: usize) -> u64
     truth(expr, task.mol, task.table, block, within)
 }
 
-// The word with all atoms of a block.
-fn all_in(mol: &Mol, block: usize) -> u64
+/// The word with all atoms of a block.
+pub fn all_in(mol: &Mol, block: usize) -> u64
     requires { block < 16 }
     ensures { (i : ℕ) → i < 64 → bit_at result i ≡ 1 ↔ 64 * block + i < length mol.now.atoms }
 {

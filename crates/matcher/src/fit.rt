@@ -3,7 +3,7 @@ ghost use Rattle.std.specs.Prelude.{◌≡◌, ◌<◌, ◌≤◌, ◌≢◌, �
 ghost use Rattle.chem_core.specs.Graph.{JoinsAt};
 ghost use Rattle.chem_core.specs.Molecule.{ends_of};
 ghost use Rattle.smarts_parse.specs.Embedding.{BondEmbeds};
-ghost use Rattle.smarts_parse.specs.Pattern.{bond_of, term_of};
+ghost use Rattle.smarts_parse.specs.Pattern.{bond_of, graph_of, term_of};
 ghost use Rattle.smarts_parse.specs.Truth.{BondTrue};
 ghost use Rattle.matcher.specs.Candidates.{IsTrueAt};
 ghost use Rattle.matcher.specs.Task.{FirstEmbeds, IsPlaced, IsReadyTask};
@@ -40,7 +40,26 @@ pub fn fits(task: &Task, front: &[u16], atom: u16) -> bool
     if !keeps_groups(task, front, front.len(), atom) {
         return false;
     }
+    closes(task, front, atom)
+}
+
+/// Whether the bonds of the next atom to earlier ones embed with it there. The first of them is known to, and is not
+/// looked at again. Mostly there is no other.
+#[inline(always)]
+pub fn closes(task: &Task, front: &[u16], atom: u16) -> bool
+    requires ready { IsReadyTask task.now }
+    requires few { length front.now < length task.now.graph.now.atoms.items }
+    requires in_range { All (λ a. a < length task.now.mol.now.atoms) front.now }
+    requires first { FirstEmbeds task.now (length front.now) front.now atom }
+    ensures { IsTrue result ↔ All
+        (λ bond. max bond.a bond.b ≡ length front.now → BondEmbeds task.now.mol.now (front.now ++ atom ∷ []) bond)
+        (graph_of task.now.graph.now).bonds }
+{
     let step = task.steps[front.len()];
+    let count = step.to.saturating_sub(step.from);
+    if count <= 1 {
+        return true;
+    }
     let others = step.others(&task.graph.bonds);
     bonds_embed(others, task.mol, front, atom)
 }

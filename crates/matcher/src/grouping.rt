@@ -8,7 +8,7 @@ ghost use Rattle.matcher.specs.Task.{Completes, IsReadyTask};
 use crate::candidates::Candidates;
 use crate::fit::Task;
 use crate::group::{begins_group, lacks_room};
-use crate::hunt::may_continue;
+use crate::hunt::{may_continue, with_taken};
 use crate::lay::{EVERY_BOND, NO_BOND, NO_PLACEMENT, Placement};
 use crate::plan::EarlierBonds;
 use crate::planned::MOST_PLACES;
@@ -128,6 +128,7 @@ impl Grouping {
             candidates,
             &self.stops[place + 1..end],
             &mut self.image,
+            with_taken(0, atom),
             0,
         )
     }

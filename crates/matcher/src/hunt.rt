@@ -2,19 +2,21 @@
 //! stand; a place is taken where the image has an atom of the molecule.
 //!
 //! Nothing is promised where the search comes to its end, but where it does not, there is no embedding.
-ghost use Rattle.std.specs.Prelude.{◌∷◌, ◌++◌, ◌≡◌, ◌<◌, ◌≤◌, ◌⊎◌, [], ℕ, List, false, length, slice_index, IfSome, IsTrue};
-ghost use Rattle.matcher.specs.Hunt.{Asks, Continues, IsFree, stop_at};
+ghost use Rattle.std.specs.Prelude.{◌∷◌, ◌++◌, ◌≡◌, ◌<◌, ◌≤◌, ◌⊎◌, [], ℕ, List, false, length, slice_index, Contains, IfSome, IsTrue};
+ghost use Rattle.std.specs.Int.{bit_at};
+ghost use Rattle.matcher.specs.Hunt.{AreTaken, Asks, Continues, IsFree, stop_at};
 ghost use Rattle.matcher.specs.Candidates.{AreCandidates};
 ghost use Rattle.matcher.specs.Task.{Completes, IsPlaced, IsReadyTask};
 
-use crate::candidates::Candidates;
+use crate::candidates::{Candidates, MOST_BITS, has};
 use crate::fit::{Task, are_joined_by, first_embeds, fits, is_new};
 use crate::group::keeps_groups;
 use crate::lay::{EVERY_BOND, NO_BOND, Placement};
 use smarts_mean::bond_true;
 use smarts_parse::PatBond;
 
-/// Whether the stops that are left may be placed. If not, the image is as before.
+/// Whether the stops that are left may be placed. If not, the image is as before. In a molecule of at most 64 atoms the
+/// word has the atoms that are taken.
 ///
 /// The calls go as deep as there are stops.
 #[cycle(hunt)]
@@ -23,10 +25,12 @@ pub fn may_continue(
     candidates: &Candidates,
     stops: &[Placement],
     image: &mut [u16],
+    used: u64,
     placed: usize,
 ) -> bool
     requires ready { IsReadyTask task.now }
     requires room { length task.now.graph.now.atoms.items ≤ length image.old }
+    requires used { AreTaken task.now used image.old }
     requires placed { placed ≤ length stops.now }
     requires candidates { AreCandidates task.now candidates.now.words.items }
     ensures kept { result ≡ false → image.new ≡ image.old }
@@ -41,8 +45,8 @@ pub fn may_continue(
         return true;
     }
     match atom_before(task, image, stop) {
-        Some(from) => continues_near(task, candidates, stops, image, placed, from),
-        None => continues_anywhere(task, candidates, stops, image, placed),
+        Some(from) => continues_near(task, candidates, stops, image, used, placed, from),
+        None => continues_anywhere(task, candidates, stops, image, used, placed),
     }
 }
 
@@ -53,10 +57,12 @@ fn continues_anywhere(
     candidates: &Candidates,
     stops: &[Placement],
     image: &mut [u16],
+    used: u64,
     placed: usize,
 ) -> bool
     requires ready { IsReadyTask task.now }
     requires room { length task.now.graph.now.atoms.items ≤ length image.old }
+    requires used { AreTaken task.now used image.old }
     requires placed { placed < length stops.now }
     requires free { IsFree task.now stops.now placed image.old }
     requires candidates { AreCandidates task.now candidates.now.words.items }
@@ -68,7 +74,7 @@ fn continues_anywhere(
         if !candidates.has(place, atom) {
             continue;
         }
-        if continues_at(task, candidates, stops, image, placed, atom) {
+        if continues_at(task, candidates, stops, image, used, placed, atom) {
             return true;
         }
     }
@@ -82,11 +88,13 @@ fn continues_near(
     candidates: &Candidates,
     stops: &[Placement],
     image: &mut [u16],
+    used: u64,
     placed: usize,
     from: u16,
 ) -> bool
     requires ready { IsReadyTask task.now }
     requires room { length task.now.graph.now.atoms.items ≤ length image.old }
+    requires used { AreTaken task.now used image.old }
     requires placed { placed < length stops.now }
     requires free { IsFree task.now stops.now placed image.old }
     requires from { from < length task.now.mol.now.atoms }
@@ -106,7 +114,7 @@ fn continues_near(
         if !bond_true(&bond.expr, task.mol, *by) {
             continue;
         }
-        if continues_at(task, candidates, stops, image, placed, *atom) {
+        if continues_at(task, candidates, stops, image, used, placed, *atom) {
             return true;
         }
     }
@@ -120,11 +128,13 @@ fn continues_at(
     candidates: &Candidates,
     stops: &[Placement],
     image: &mut [u16],
+    used: u64,
     placed: usize,
     atom: u16,
 ) -> bool
     requires ready { IsReadyTask task.now }
     requires room { length task.now.graph.now.atoms.items ≤ length image.old }
+    requires used { AreTaken task.now used image.old }
     requires placed { placed < length stops.now }
     requires free { IsFree task.now stops.now placed image.old }
     requires atom { atom < length task.now.mol.now.atoms }
@@ -134,13 +144,20 @@ fn continues_at(
         → slice_index whole (stop_at stops.now placed).place ≡ atom → ⊥ }
 {
     let stop = stops[placed];
-    if !may_take(task, image, stop, atom) {
+    if !may_take(task, image, used, stop, atom) {
         return false;
     }
     let place = usize::from(stop.place);
     let before = image[place];
     image[place] = atom;
-    if may_continue(task, candidates, stops, image, placed + 1) {
+    if may_continue(
+        task,
+        candidates,
+        stops,
+        image,
+        with_taken(used, atom),
+        placed + 1,
+    ) {
         return true;
     }
     image[place] = before;
@@ -148,9 +165,10 @@ fn continues_at(
 }
 
 // Whether the place of a stop, of which the atom is a candidate, may stand there.
-fn may_take(task: &Task, image: &[u16], stop: Placement, atom: u16) -> bool
+fn may_take(task: &Task, image: &[u16], used: u64, stop: Placement, atom: u16) -> bool
     requires ready { IsReadyTask task.now }
     requires room { length task.now.graph.now.atoms.items ≤ length image.now }
+    requires used { AreTaken task.now used image.now }
     requires place { stop.place < length task.now.graph.now.atoms.items }
     requires free { length task.now.mol.now.atoms ≤ slice_index image.now stop.place }
     requires atom { atom < length task.now.mol.now.atoms }
@@ -158,13 +176,36 @@ fn may_take(task: &Task, image: &[u16], stop: Placement, atom: u16) -> bool
         → slice_index whole stop.place ≡ atom → ⊥ }
 {
     let places = task.graph.atoms.len();
-    if !is_new(&image[..places], atom) {
+    if !may_be_new(task, &image[..places], used, atom) {
         return false;
     }
     if !keeps_groups(task, &image[..places], usize::from(stop.place), atom) {
         return false;
     }
     stop.bond == NO_BOND || closes(task, image, stop, atom)
+}
+
+// Whether the atom is none of those of the places. In a molecule of at most 64 atoms the word has these.
+fn may_be_new(task: &Task, places: &[u16], used: u64, atom: u16) -> bool
+    requires used { (a : ℕ) → bit_at used a ≡ 1 → Contains places.now a }
+    requires atom { atom < length task.now.mol.now.atoms }
+    ensures { result ≡ false → ¬ ¬ Contains places.now atom }
+{
+    if task.mol.atoms().len() > MOST_BITS {
+        return is_new(places, atom);
+    }
+    !has(used, atom)
+}
+
+/// The word of the atoms that are taken with one more, if it has a bit for that one.
+pub fn with_taken(used: u64, atom: u16) -> u64
+    ensures { (a : ℕ) → bit_at result a ≡ 1 → (a ≡ atom) ⊎ (bit_at used a ≡ 1) }
+{
+    if usize::from(atom) < MOST_BITS {
+        used | (1 << atom)
+    } else {
+        used
+    }
 }
 
 // Whether the bonds of the place of a stop to places that are taken, but for the stop's own, may lie so: each of them,

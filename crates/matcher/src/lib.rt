@@ -20,6 +20,7 @@ mod group;
 mod grouping;
 mod hunt;
 mod lay;
+mod lean;
 mod narrow;
 mod parts;
 mod plan;

@@ -1,22 +1,20 @@
-//! Fewer candidates of the places of a graph, in a molecule of at most 64 atoms. One that has fewer neighbours among the
-//! candidates of the places next to it than there are such places is no candidate (Ullmann 1976; Solnon 2010). Where a
-//! place has none left, the graph has no embedding.
+//! Fewer candidates of the places of a graph, in a molecule of at most 64 atoms. One that has fewer neighbours among
+//! the candidates of the places next to it than there are such places is no candidate (Ullmann 1976; Solnon 2010).
+//! Where a place has none left, the graph has no embedding.
 ghost use Rattle.std.specs.Prelude.{◌≡◌, ◌≢◌, ◌<◌, ◌≤◌, ◌↔◌, [], ℕ, bit_and, count_ones, false, length, slice_index, slice_index_or, vec_len, IsTrue};
 ghost use Rattle.std.specs.Int.{bit_at};
 ghost use Rattle.smarts_parse.specs.Pattern.{graph_of};
 ghost use Rattle.matcher.specs.Candidates.{AreCandidates};
 ghost use Rattle.matcher.specs.Narrow.{AreNear, AreRingNear, HasAround, IsNarrowed, IsReach, around_at, more_around};
+ghost use Rattle.matcher.specs.Ring.{IsMarked};
 ghost use Rattle.matcher.specs.Task.{Completes, IsReadyTask};
 
-use crate::candidates::{Candidates, MOST_WORDS};
+use crate::candidates::{Candidates, MOST_BITS, MOST_WORDS};
 use crate::fit::Task;
 use crate::planned::MOST_PLACES;
 use crate::ring::mark_rings;
 use chem_core::Mol;
 use std::alloc::{AllocError, Global};
-
-/// The most atoms of a molecule whose candidates are kept.
-const MOST_BITS: usize = 64;
 
 /// From as many places of a graph on its candidates are narrowed.
 const MANY_PLACES: usize = 6;
@@ -140,12 +138,12 @@ impl Reach {
     fn note(&mut self, task: &Task)
         requires ready { IsReadyTask task.now }
         requires few { length task.now.mol.now.atoms ≤ 64 }
-        ensures { IsNoted task.now self.new.on_ring.items self.new.near.items self.new.ring_near.items }
+        ensures { IsNoted task.now self.new.on_ring.items self.new.is_open.items self.new.near.items
+            self.new.ring_near.items }
     {
         mark_rings(task, &mut self.on_ring);
         let open = !has_all(task, &self.on_ring);
-        self.is_open.fill(open);
-        note_neighbours(task.mol, &mut self.near);
+        note_open(task.mol, open, &mut self.is_open, &mut self.near);
         note_ring_neighbours(task.mol, &mut self.ring_near);
     }
 
@@ -155,7 +153,8 @@ impl Reach {
         requires room { length words.old ≡ MOST_WORDS }
         requires around { length around.old ≡ 256 }
         requires few { length task.now.mol.now.atoms ≤ 64 }
-        requires noted { IsNoted task.now self.now.on_ring.items self.now.near.items self.now.ring_near.items }
+        requires noted { IsNoted task.now self.now.on_ring.items self.now.is_open.items self.now.near.items
+            self.now.ring_near.items }
         requires candidates { AreCandidates task.now words.old }
         ensures refused { IsTrue result → ¬ Completes task.now [] }
         ensures candidates { AreCandidates task.now words.new }
@@ -174,13 +173,26 @@ impl Reach {
         requires room { length words.old ≡ MOST_WORDS }
         requires around { length around.old ≡ 256 }
         requires few { length task.now.mol.now.atoms ≤ 64 }
-        requires noted { IsNoted task.now self.now.on_ring.items self.now.near.items self.now.ring_near.items }
+        requires noted { IsNoted task.now self.now.on_ring.items self.now.is_open.items self.now.near.items
+            self.now.ring_near.items }
         requires candidates { AreCandidates task.now words.old }
         ensures refused { IsTrue result → ¬ Completes task.now [] }
         ensures candidates { AreCandidates task.now words.new }
     {
         narrow_all(task, &self.on_ring, &self.ring_near, around, words)
             || narrow_all(task, &self.is_open, &self.near, around, words)
+    }
+}
+
+// Notes the same for all bonds of the graph: whether some are open. Only by these are all neighbours near.
+fn note_open(mol: &Mol, open: bool, is_open: &mut [bool], near: &mut [u64])
+    requires atoms { length mol.now.atoms ≤ 64 }
+    requires room { length near.old ≡ 64 }
+    ensures { (j : ℕ) → IsMarked is_open.new j → AreNear mol.now near.new }
+{
+    is_open.fill(open);
+    if open {
+        note_neighbours(mol, near);
     }
 }
 

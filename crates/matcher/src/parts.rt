@@ -13,10 +13,10 @@ ghost use Rattle.matcher.specs.Prepared.{IsPrepared};
 
 use crate::class::may_be;
 use crate::fit::Task;
+use crate::lean::place_from;
 use crate::plan::EarlierBonds;
 use crate::prepare::Prepared;
 use crate::scratch::Memory;
-use crate::search::extend_at;
 use crate::second::with_second;
 use chem_core::Mol;
 use smarts_parse::{Graph, Pattern};
@@ -142,5 +142,5 @@ fn begins_at(
     };
     let image = &mut memory.image;
     let choices = &mut memory.choices;
-    extend_at(&task, &memory.candidates, image, choices, 0, atom)
+    place_from(&task, &memory.candidates, image, choices, atom)
 }

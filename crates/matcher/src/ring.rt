@@ -13,8 +13,8 @@ use crate::class::may_be;
 use crate::fit::Task;
 use crate::narrow::may_narrow;
 
-/// Whether a ring of the graph can lie at no ring of the molecule, as far as lengths and classes show. It is not asked of
-/// a graph of few bonds, which mostly has no ring, and not where candidates may be narrowed: that shows more.
+/// Whether a ring of the graph can lie at no ring of the molecule, as far as lengths and classes show. It is not asked
+/// of a graph of few bonds, which mostly has no ring, and not where candidates may be narrowed: that shows more.
 pub fn lacks_ring(task: &Task) -> bool
     requires { IsReadyTask task.now }
     ensures { IsTrue result → ¬ Completes task.now [] }

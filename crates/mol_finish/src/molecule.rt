@@ -11,8 +11,8 @@ use chem_core::{Atom, Bond, BondKind, Mol, Sketch, SketchAtom, SketchBond, Sketc
 use ring_find::Rings;
 use std::alloc::{AllocError, Global};
 
-/// The molecule that a sketch means, given its aromatic atoms and bonds, its valences and its rings. Fails only for want
-/// of memory.
+/// The molecule that a sketch means, given its aromatic atoms and bonds, its valences and its rings. Fails only for
+/// want of memory.
 pub(crate) fn molecule(
     alloc: Global,
     sketch: &Sketch,

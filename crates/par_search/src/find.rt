@@ -18,8 +18,8 @@ use std::thread::Threads;
 use store_core::Page;
 
 /// Searches pages of so many records together. The records are shared among the workers, as many to each, the last ones
-/// fewer or none, and each share is searched in a thread of its own, where one can be made; one record alone needs none.
-/// The meter is told of each share that has records. Takes no memory.
+/// fewer or none, and each share is searched in a thread of its own, where one can be made; one record alone needs
+/// none. The meter is told of each share that has records. Takes no memory.
 pub fn find_in_shares<R: Threads + Sync, M: Meter>(
     rt: &R,
     pages: &[Page],

@@ -3,8 +3,8 @@
 //!
 //! A search takes all its memory before its pin, so that only a fetch can fail later. The records of a page are cut
 //! into pieces, one for each worker. Where several pages are fetched one behind the other, each worker searches a share
-//! of all their records, so that threads are made once for all. That the pages of a pin are together the hits is a law of the
-//! machine.
+//! of all their records, so that threads are made once for all. That the pages of a pin are together the hits is a law
+//! of the machine.
 #![tactic(auto)]
 
 mod batch;

@@ -1,7 +1,7 @@
 //! Paths under way: the atoms so far, and the text in each family of labels.
 //!
-//! A path grows from its middle atom at its two ends in turn: it goes on to one more atom and is turned, so that it goes
-//! on at its other end next. So each path comes up once, and few are begun in vain.
+//! A path grows from its middle atom at its two ends in turn: it goes on to one more atom and is turned, so that it
+//! goes on at its other end next. So each path comes up once, and few are begun in vain.
 ghost use Rattle.std.specs.Prelude.{◌≡◌, ◌<◌, ◌≤◌, ◌+◌, ◌⊎◌, ◌↔◌, ◌∷◌, length, take, reverse, Contains, None, IsTrue, IfSome, IfNone, option_map};
 ghost use Rattle.chem_core.specs.Bits.{HasBit};
 ghost use Rattle.path_print.specs.Path.{bit_of};

@@ -1,7 +1,8 @@
 //! The string of a path in its two directions, kept as two numbers, and what the hash of each is the remainder of.
 //!
 //! A path grows and is turned. So the string there, which grows at its end, and its hash with it, is the string back of
-//! the longer path. The string back grows in front: the new bytes weigh as much as all bytes behind them make them weigh.
+//! the longer path. The string back grows in front: the new bytes weigh as much as all bytes behind them make them
+//! weigh.
 ghost use Rattle.std.specs.Prelude.{◌≡◌, ◌<◌, ◌≤◌, ◌+◌, ◌*◌, ◌%◌, length};
 ghost use Rattle.path_print.specs.Path.{bit_of};
 ghost use Rattle.path_print.specs.Texts.{of_label, longer_text};

@@ -115,8 +115,8 @@ impl Block {
         };
     }
 
-    /// Puts a pair into a full block, whose pairs from some index on move to a block without pairs. New pairs behind the
-    /// others, or before them, leave full blocks behind.
+    /// Puts a pair into a full block, whose pairs from some index on move to a block without pairs. New pairs behind
+    /// the others, or before them, leave full blocks behind.
     pub fn insert_split(&mut self, entry: Screened, upper: &mut Block)
         requires full { ROOM ≤ length self.old }
         requires ascending { Ascend 0 self.old }

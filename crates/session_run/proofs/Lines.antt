@@ -85,14 +85,6 @@ answered_as to f (Broken w) = Broken (record {
   worn = w.worn;
 })
 
--- by acts that are allowed more
-pub allowed_as : {Made : Calls → Type 0} {IsWorn : Type 0} {size : ℕ} {Allowed More : Act → Type 0}
-    {cursors x : List Cursor} {out out' : List ℕ} {result : Result (Unit {0}) Stop}
-    → ((act : Act) → Allowed act → More act) → Answered Made IsWorn (Answers size Allowed cursors) out out' x result
-    → Answered Made IsWorn (Answers size More cursors) out out' x result
-allowed_as f a =
-    answered_as (λ x. x) (λ calls lines x b. record { act = b.act; allowed = f b.act b.allowed; does = b.does }) a
-
 -- a note
 pub noted : {size : ℕ} {Allowed : Act → Type 0} {cursors : List Cursor} (note : Note) → Allowed (Say note)
     → Answers size Allowed cursors [] (note_lines note) cursors

@@ -1,5 +1,5 @@
 //! A table of the atoms at which recursive parts hold: a bit for each part and atom, in words of 64.
-ghost use Rattle.std.specs.Prelude.{◌≡◌, ◌≢◌, ◌↔◌, ℕ, ◌+◌, ◌*◌, ◌/◌, ◌<◌, ◌==◌, ◌&&◌, if◌then◌else◌, false, IfOk};
+ghost use Rattle.std.specs.Prelude.{◌≡◌, ◌↔◌, ℕ, ◌+◌, ◌*◌, ◌/◌, ◌<◌, false, IfOk};
 ghost use Rattle.std.specs.Int.{bit_at};
 ghost use Rattle.smarts_mean.specs.Table.{HoldsIn, holds_at};
 
@@ -69,29 +69,5 @@ impl RecTable {
             → holds_at self.new p a ≡ holds_at self.old p a }
     {
         self.words[ROW * usize::from(part) + block] = word;
-    }
-
-    /// Notes whether the part holds at the atom.
-    pub fn put(&mut self, part: u16, atom: u16, holds: bool)
-        requires part { part < MOST_PARTS }
-        requires atom { atom < MOST_ATOMS }
-        ensures { (p a : ℕ) → p < MOST_PARTS → a < MOST_ATOMS
-            → holds_at self.new p a ≡ (if (p == part) && (a == atom) then holds else holds_at self.old p a) }
-    {
-        let place = ROW * usize::from(part) + usize::from(atom / 64);
-        self.words[place] = with_bit(self.words[place], atom % 64, holds);
-    }
-}
-
-// The word with one bit as given.
-fn with_bit(word: u64, bit: u16, value: bool) -> u64
-    requires { bit < 64 }
-    ensures here { (bit_at result bit == 1) ≡ value }
-    ensures others { (i : ℕ) → i < 64 → i ≢ bit → bit_at result i ≡ bit_at word i }
-{
-    if value {
-        word | (1 << bit)
-    } else {
-        word & !(1 << bit)
     }
 }

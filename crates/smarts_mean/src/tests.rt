@@ -40,7 +40,7 @@ fn primitives_at_one_atom(rt: HostRuntime) -> Result<(), Fail> {
     assert!(rt; atom_true(&Expr::Prim(AtomPrim::NoRing), &mol, 0, &table));
     assert!(rt; !atom_true(&Expr::Prim(AtomPrim::Charge(-1)), &mol, 0, &table));
     assert!(rt; !atom_true(&part, &mol, 0, &table));
-    table.put(63, 0, true);
+    table.put_block(63, 0, 1);
     assert!(rt; atom_true(&part, &mol, 0, &table));
     Ok(())
 }

@@ -80,9 +80,9 @@ pub struct Copying {
     pub left: u32,
 }
 
-/// A state of the machine: `base` and `generation` are those of the disk that is read, `doubt` a commit and `finish` the
-/// version of a copy of which nobody knows whether the disks have them. Between a Crash and the next Open nothing is
-/// served.
+/// A state of the machine: `base` and `generation` are those of the disk that is read, `doubt` a commit and `finish`
+/// the version of a copy of which nobody knows whether the disks have them. Between a Crash and the next Open nothing
+/// is served.
 pub struct State {
     pub history: History,
     pub limit: u32,

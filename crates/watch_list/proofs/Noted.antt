@@ -1,5 +1,5 @@
 -- A watch over a commit.
-use Rattle.std.proofs.Common.{◌≡◌, ◌≢◌, ◌+◌, ap, ℕ}
+use Rattle.std.proofs.Common.{◌≡◌, ◌+◌, ℕ}
 use Rattle.smarts_parse.specs.Pattern.{pattern_of}
 use Rattle.store_core.specs.Replies.{IsSoundChange}
 use Rattle.store_core.specs.declared.words.Change.{Change as Asked}
@@ -7,17 +7,6 @@ use Rattle.store_machine.specs.Laws.{CommitsChange, SnapshotsStay}
 use Rattle.watch_list.specs.Notes.{IsListAfter, IsNoted}
 use Rattle.watch_list.specs.Watches.{Watch}
 use Rattle.watch_list.proofs.Right.{OneStructure, stays-right}
-
--- one at another version
-pub left-alone : (version : ℕ) (change : Asked) (old new : Watch) → new ≡ old → old.version + 1 ≢ version
-    → IsNoted version change old new
-left-alone version change old new same other = record {
-  name = ap (λ (w : Watch). w.name) same;
-  pattern = ap (λ (w : Watch). w.pattern) same;
-  fills = ap (λ (w : Watch). w.fills) same;
-  moved = λ next. absurd (other next);
-  other = λ _. same;
-}
 
 -- one at the version before
 pub brought : OneStructure → SnapshotsStay → CommitsChange → (version : ℕ) (change : Asked) (old new : Watch)

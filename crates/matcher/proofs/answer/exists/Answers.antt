@@ -10,9 +10,9 @@ returns-then-is_refused c = (
 
 pub returns : goal.returns
 returns c = (
-  λ t. (take (length c.args.graph.now.atoms.items) c.extend.new.image, (c.extend.ensures.found t).embeds),
-  λ w. elim (cases_Bool c.extend.result) [
+  λ t. (take (length c.args.graph.now.atoms.items) c.place_least.new.image, (c.place_least.ensures.found t).embeds),
+  λ w. elim (cases_Bool c.place_least.result) [
     | inl yes' ↦ yes'
-    | inr no' ↦ absurd (c.extend.ensures.none no' w)
+    | inr no' ↦ absurd (c.place_least.ensures.none no' w)
   ],
 )

@@ -13,16 +13,16 @@ returns-clause-found c =
     let p = pattern_of c.args.pattern.now in
     let m = c.args.mol.now in
     let n = length c.args.pattern.now.top.atoms.items in
-    let same : length c.extend.new.image ≡ c.note_parts.new.memory.image.len = omega
-    (arith, c.deref_mut.ensures.len, c.extend.auto.image) in
+    let same : length c.place_least.new.image ≡ c.note_parts.new.memory.image.len = omega
+    (arith, c.deref_mut.ensures.len, c.place_least.auto.image) in
     λ t. subst (λ xs. IsLeast p m (take n xs))
-    (sym (take_all c.note_parts.new.memory.image.len c.extend.new.image _ (sym same)))
+    (sym (take_all c.note_parts.new.memory.image.len c.place_least.new.image _ (sym same)))
     (least_of p m c.args.prepared.now.wanted.classes.items c.note_parts.new.memory.table
-    (take n c.extend.new.image) c.requires.sound c.requires.prepared.wanted
+    (take n c.place_least.new.image) c.requires.sound c.requires.prepared.wanted
     (subst (λ k. AreNoted p.recs m c.args.prepared.now.wanted.classes.items k
     c.note_parts.new.memory.table)
     (omega (arith, length-map c.args.pattern.now.recs.items graph_of, c.args.pattern.now.recs.ok.0))
-    c.note_parts.ensures) (c.extend.ensures.found t))
+    c.note_parts.ensures) (c.place_least.ensures.found t))
 
 pub returns-clause-none : goal.returns-clause-none
 returns-clause-none c = λ f.
@@ -33,7 +33,7 @@ returns-clause-none c = λ f.
     (omega (arith, length-map c.args.pattern.now.recs.items graph_of, c.args.pattern.now.recs.ok.0))
     c.note_parts.ensures in
     none_of p m c.args.prepared.now.wanted.classes.items c.note_parts.new.memory.table c.requires.sound
-    c.requires.prepared.wanted noted (c.extend.ensures.none f)
+    c.requires.prepared.wanted noted (c.place_least.ensures.none f)
 
 pub returns-then-is_refused-clause-none : goal.returns-then-is_refused-clause-none
 returns-then-is_refused-clause-none c =

@@ -2,7 +2,7 @@ use Rattle.std.proofs.Common.{◌≡◌, ◌∙◌, arith, length, sym}
 use Rattle.std.proofs.lemmas.Bool.{not-true}
 use Rattle.std.proofs.lemmas.List.{length-map}
 use Rattle.smarts_parse.specs.Pattern.{term_of}
-use Rattle.matcher.proofs.Hunts.{none_taken}
+use Rattle.matcher.proofs.Hunts.{none_taken, none_used}
 use Rattle.matcher.proofs.answer.finds_none.Goals as goal
 
 pub returns : goal.returns
@@ -14,3 +14,6 @@ returns c = λ t w.
     let free = rw c.atoms.ensures.value at c.loop-place.invariant in
     c.may_continue.ensures.none (not-true _ t) w.0
     (none_taken task c.loop-place.image w.0 c.loop-place.place (all ∙ sym (length-map items term_of)) free w.1)
+
+pub may_continue-requires-clause-used : goal.may_continue-requires-clause-used
+may_continue-requires-clause-used c = none_used c.args.task.now c.loop-place.image

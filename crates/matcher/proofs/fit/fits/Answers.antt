@@ -1,21 +1,11 @@
 -- A new atom, its expression true, its bonds embedded.
-use Rattle.std.proofs.Common.{◌≡◌, ◌≢◌, ◌<◌, ◌++◌, ◌∷◌, [], length, max, refl, subst, sym}
+use Rattle.std.proofs.Common.{◌<◌, length, subst, sym}
 use Rattle.std.proofs.lemmas.List.{length-map}
 use Rattle.smarts_mean.specs.Table.{HoldsIn}
-use Rattle.smarts_parse.specs.Embedding.{BondEmbeds}
 use Rattle.smarts_parse.specs.Pattern.{graph_of, term_of}
 use Rattle.matcher.proofs.Groups.{keeps_next, next_keeps}
 use Rattle.matcher.proofs.Partials.{IsPartial-last, IsPartial-push}
-use Rattle.matcher.proofs.Plans.{all_of_step, step_of_all}
-use Rattle.matcher.proofs.Places.{all_apart}
 use Rattle.matcher.proofs.fit.fits.Goals as goal
-
-pub bonds_embed-requires-clause-apart : goal.bonds_embed-requires-clause-apart
-bonds_embed-requires-clause-apart c =
-    let g = graph_of c.args.task.now.graph.now in
-    rw (c.others-others.ensures, c.deref.ensures.value)
-    (step_of_all c.args.task.now.graph.now.bonds.items g (λ bond. bond.a ≢ bond.b) _ _ refl
-    (all_apart g c.requires.ready.searchable.apart))
 
 pub returns-then-not-is_new : goal.returns-then-not-is_new
 returns-then-not-is_new c = (
@@ -45,17 +35,10 @@ returns c =
     let m = task.mol.now in
     let parts = HoldsIn task.table.now in
     let front = c.args.front.now in
-    let bonds = task.graph.now.bonds.items in
-    let left = subst (λ n. length front < n) (sym (length-map task.graph.now.atoms.items term_of)) c.requires.few in
-    let rest = rw c.deref.ensures.value at c.others-others.ensures in (
+    let left = subst (λ n. length front < n) (sym (length-map task.graph.now.atoms.items term_of)) c.requires.few in (
       λ t. IsPartial-push parts g m front c.args.atom c.requires.partial left c.requires.in_range
-          (c.is_new.ensures.0 c.if-not-is_new.false) c.requires.holds
-          (all_of_step bonds g task.steps.now (length front) (BondEmbeds m (front ++ c.args.atom ∷ [])) refl
-          c.requires.ready (rw rest at (c.bonds_embed.ensures.0 t)) c.requires.first)
+          (c.is_new.ensures.0 c.if-not-is_new.false) c.requires.holds (c.closes.ensures.0 t)
           (keeps_next task front c.args.atom c.requires.partial
           (c.keeps_groups.ensures.0 c.if-not-keeps_groups.false)),
-      λ p.
-          let last = IsPartial-last parts g m front c.args.atom p in
-          c.bonds_embed.ensures.1 (rw rest (step_of_all bonds g (λ bond. max bond.a bond.b ≡ length front
-          → BondEmbeds m (front ++ c.args.atom ∷ []) bond) _ _ refl last.2)),
+      λ p. c.closes.ensures.1 (IsPartial-last parts g m front c.args.atom p).2,
     )

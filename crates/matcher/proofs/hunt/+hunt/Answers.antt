@@ -1,11 +1,11 @@
 -- Each atom is tried in turn.
 use Rattle.std.proofs.Common.{◌≡◌, ◌∙◌, ◌<◌, ap, arith, below_more, get_or, length, refl, rules, set, slice_index, subst, sym}
 use Rattle.std.proofs.lemmas.Bool.{iff_false}
-use Rattle.std.proofs.lemmas.List.{length-map, set-get_or, set-set}
+use Rattle.std.proofs.lemmas.List.{length-map, length-set, set-get_or, set-set}
 use Rattle.smarts_parse.specs.Pattern.{term_of}
-use Rattle.matcher.specs.Hunt.{IsFree, stop_at}
+use Rattle.matcher.specs.Hunt.{AreTaken, IsFree, stop_at}
 use Rattle.matcher.proofs.Standing.{cannot_stand}
-use Rattle.matcher.proofs.Hunts.{not_near, nowhere_near, taken_more}
+use Rattle.matcher.proofs.Hunts.{not_near, nowhere_near, taken_more, used_more}
 use Rattle.matcher.proofs.Joins.{joins_in_range, neighbour_joined}
 use Rattle.matcher.proofs.hunt.+hunt.Goals as goal
 
@@ -77,13 +77,16 @@ continues_near-continues_at-requires t c =
         (
           omega (arith, c.requires.room, ap length c.loop-atom.invariant.kept),
           (
-            c.requires.placed,
+            subst (AreTaken c.args.task.now c.args.used) (sym c.loop-atom.invariant.kept) c.requires.used,
             (
-              subst (IsFree c.args.task.now c.args.stops.now c.args.placed)
-                  (sym c.loop-atom.invariant.kept) c.requires.free,
+              c.requires.placed,
               (
-                (joins_in_range m _ _ _ c.neighbours-neighbours.ensures.valid joined).1,
-                c.requires.candidates,
+                subst (IsFree c.args.task.now c.args.stops.now c.args.placed)
+                    (sym c.loop-atom.invariant.kept) c.requires.free,
+                (
+                  (joins_in_range m _ _ _ c.neighbours-neighbours.ensures.valid joined).1,
+                  c.requires.candidates,
+                ),
               ),
             ),
           ),
@@ -118,3 +121,21 @@ continues_anywhere-returns-clause-none t c = λ _ whole h.
     let there = h.embeds.in_range place 0 few in
     c.loop-atom.invariant.none (slice_index whole place)
     (omega (arith, there, ap length c.atoms.ensures.value, c.loop-atom-test.false)) whole h refl
+
+pub continues_at-may_continue-requires : goal.continues_at-may_continue-requires
+continues_at-may_continue-requires t c = (
+  search rules,
+  (
+    c.requires.ready,
+    (
+      omega (arith, c.requires.room, length-set c.args.image.now c.from-place.result c.args.atom),
+      (
+        used_more c.args.task.now c.args.image.now c.args.used c.with_taken.result c.from-place.result c.args.atom
+            (omega (arith, c.requires.free.place, c.from-place.ensures)) c.requires.room
+            (omega (arith, c.requires.free.free, ap (λ k. slice_index c.args.image.now k) c.from-place.ensures))
+            c.requires.atom c.requires.used c.with_taken.ensures,
+        (omega (arith, c.requires.placed), c.requires.candidates),
+      ),
+    ),
+  ),
+)

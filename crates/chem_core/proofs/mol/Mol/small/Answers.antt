@@ -1,0 +1,14 @@
+use Rattle.std.proofs.Common.{◌<◌, length, sym, subst}
+use Rattle.chem_core.specs.Graph.{IsSmallestRing}
+use Rattle.chem_core.specs.Molecule.{bond_ends}
+use Rattle.chem_core.proofs.Facts.{kept-at}
+use Rattle.chem_core.proofs.mol.Mol.small.Goals as goal
+
+pub returns : goal.returns
+returns c =
+    let within = subst (λ m. c.args.atom < length m.atoms) (sym c.self.view_is) c.requires in
+    let ends = bond_ends c.self.inside.bonds.items in
+    let kept = c.self.invariant.smallest in
+    rw (← c.self.view_is)
+    (kept-at (λ f. f.smallest_ring) (IsSmallestRing ends) _ _ kept.one_each kept.each _ _ within
+    (rw c.from.ensures at c.index.ensures))
